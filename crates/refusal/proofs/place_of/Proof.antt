@@ -1,0 +1,170 @@
+use borrow.Author.Needs.{needs}
+use Rattle.refusal.proofs.place_of.Statement.{statement}
+use Rattle.refusal.proofs.place_of.Tie as tie
+use Rattle.refusal.proofs.place_of.Reads as reads
+use Rattle.refusal.proofs.place_of.Lts as lts
+
+-- src/lib.rt:89:31
+enum-known-r : tie.Need-enum-known-r
+enum-known-r c = search needs
+
+-- src/lib.rt:90:26
+enum-known-r-2 : tie.Need-enum-known-r-2
+enum-known-r-2 c = search needs
+
+-- src/lib.rt:91:29
+enum-known-r-3 : tie.Need-enum-known-r-3
+enum-known-r-3 c = search needs
+
+-- src/lib.rt:92:28
+enum-known-r-4 : tie.Need-enum-known-r-4
+enum-known-r-4 c = search needs
+
+-- src/lib.rt:93:31
+enum-known-r-5 : tie.Need-enum-known-r-5
+enum-known-r-5 c = search needs
+
+-- src/lib.rt:94:36
+enum-known-r-6 : tie.Need-enum-known-r-6
+enum-known-r-6 c = search needs
+
+-- src/lib.rt:95:35
+enum-known-r-7 : tie.Need-enum-known-r-7
+enum-known-r-7 c = search needs
+
+-- src/lib.rt:96:30
+enum-known-r-8 : tie.Need-enum-known-r-8
+enum-known-r-8 c = search needs
+
+-- src/lib.rt:97:27
+enum-known-r-9 : tie.Need-enum-known-r-9
+enum-known-r-9 c = search needs
+
+-- src/lib.rt:98:27
+enum-known-r-10 : tie.Need-enum-known-r-10
+enum-known-r-10 c = search needs
+
+-- src/lib.rt:99:28
+enum-known-r-11 : tie.Need-enum-known-r-11
+enum-known-r-11 c = search needs
+
+-- src/lib.rt:100:27
+enum-known-r-12 : tie.Need-enum-known-r-12
+enum-known-r-12 c = search needs
+
+-- src/lib.rt:101:27
+enum-known-r-13 : tie.Need-enum-known-r-13
+enum-known-r-13 c = search needs
+
+-- src/lib.rt:102:31
+enum-told : tie.Need-enum-told
+enum-told c = search needs
+
+-- src/lib.rt:103:32
+enum-told-2 : tie.Need-enum-told-2
+enum-told-2 c = search needs
+
+-- src/lib.rt:104:29
+enum-told-3 : tie.Need-enum-told-3
+enum-told-3 c = search needs
+
+-- src/lib.rt:85:1
+returns : tie.Need-returns
+returns c = rw (c .before .r .given .1)
+
+-- src/lib.rt:85:1
+returns-2 : tie.Need-returns-2
+returns-2 c = rw (c .before .r2 .given .1)
+
+-- src/lib.rt:85:1
+returns-3 : tie.Need-returns-3
+returns-3 c = rw (c .before .r3 .given .1)
+
+-- src/lib.rt:85:1
+returns-4 : tie.Need-returns-4
+returns-4 c = rw (c .before .r4 .given .1)
+
+-- src/lib.rt:85:1
+returns-5 : tie.Need-returns-5
+returns-5 c = rw (c .before .r5 .given .1)
+
+-- src/lib.rt:85:1
+returns-6 : tie.Need-returns-6
+returns-6 c = rw (c .before .r6 .given .1)
+
+-- src/lib.rt:85:1
+returns-7 : tie.Need-returns-7
+returns-7 c = rw (c .before .r7 .given .1)
+
+-- src/lib.rt:85:1
+returns-8 : tie.Need-returns-8
+returns-8 c = rw (c .before .r8 .given .1)
+
+-- src/lib.rt:85:1
+returns-9 : tie.Need-returns-9
+returns-9 c = rw (c .before .r9 .given .1)
+
+-- src/lib.rt:85:1
+returns-10 : tie.Need-returns-10
+returns-10 c = rw (c .before .r10 .given .1)
+
+-- src/lib.rt:85:1
+returns-11 : tie.Need-returns-11
+returns-11 c = rw (c .before .r11 .given .1)
+
+-- src/lib.rt:85:1
+returns-12 : tie.Need-returns-12
+returns-12 c = rw (c .before .r12 .given .1)
+
+-- src/lib.rt:85:1
+returns-13 : tie.Need-returns-13
+returns-13 c = rw (c .before .r13 .given .1)
+
+-- src/lib.rt:85:1
+returns-14 : tie.Need-returns-14
+returns-14 c = search needs
+
+-- src/lib.rt:85:1
+returns-15 : tie.Need-returns-15
+returns-15 c = search needs
+
+-- src/lib.rt:85:1
+returns-16 : tie.Need-returns-16
+returns-16 c = search needs
+
+pub place-of-spec : {M : Type 1} → statement M
+place-of-spec =
+    tie.close
+    (tie.spec
+    enum-known-r
+    enum-known-r-2
+    enum-known-r-3
+    enum-known-r-4
+    enum-known-r-5
+    enum-known-r-6
+    enum-known-r-7
+    enum-known-r-8
+    enum-known-r-9
+    enum-known-r-10
+    enum-known-r-11
+    enum-known-r-12
+    enum-known-r-13
+    enum-told
+    enum-told-2
+    enum-told-3
+    returns
+    returns-2
+    returns-3
+    returns-4
+    returns-5
+    returns-6
+    returns-7
+    returns-8
+    returns-9
+    returns-10
+    returns-11
+    returns-12
+    returns-13
+    returns-14
+    returns-15
+    returns-16)

@@ -1,0 +1,112 @@
+// The numbers a caller gets back, the limits, and the two-case answers that stand for the Rust's `Option`. Every crate of the
+// layout speaks of these through this one.
+ghost use mathlib.Core.Path.{_≡_};
+ghost use Rattle.refusal.specs.Refusals.{numberOf, placeOf};
+
+// The limits of document 01's table that no type carries by itself. The others are types: a size, an offset, an alignment
+// and a bank position are `u32`, an address unit is `u16`, a pass limit `u8`.
+pub const MAX_BANKS: u64 = 16;
+
+pub const MAX_START: u64 = 1_099_511_627_776;
+
+pub const MAX_POSITION: u64 = 4_294_967_295;
+
+pub const MAX_OFFER: u64 = 8_589_934_590;
+
+pub const MAX_NODES: u64 = 4_096;
+
+pub const MAX_ROWS: u64 = 16;
+
+pub const MAX_STORED: u64 = 512;
+
+// A bank's number that may be absent: the Rust's `Option<usize>` in a bank.
+pub enum Opt {
+    None,
+    Some(u32),
+}
+
+// A position in the output, or none: the Rust's `Option<usize>` of a span.
+pub enum Offset {
+    None,
+    At(u64),
+}
+
+// Why a call was refused. A case carries its place; one that carries nothing has place 0.
+pub enum Refusal {
+    BankCount,
+    BankNumber(u64),
+    BanksOverlap(u64, u64),
+    Malformed(u64),
+    PositionPast(u64),
+    NegativeAlignment(u64),
+    LabelOffBoundary(u64),
+    Unresolved,
+    DefaultBank(u64),
+    PastBank(u64),
+    NoOutput(u64),
+    Overlap(u64, u64),
+    StoreFull(u64),
+    TooShort(u64),
+    BadStore(u64),
+    BadPart,
+}
+
+// Whether a call is refused, where nothing else is to be said.
+pub enum Verdict {
+    Accepted,
+    Refused(Refusal),
+}
+
+// A refusal's place: two banks, a stored start and size, or one number.
+pub enum Place {
+    One(u64),
+    Two(u64, u64),
+}
+
+// The refusal's number in document 01's table.
+pub fn number(r: Refusal) -> u64
+    ensures { λ n. ⌜ n ≡ numberOf r ⌝ }
+{
+    match r {
+        Refusal::BankCount => 1,
+        Refusal::BankNumber(_) => 2,
+        Refusal::BanksOverlap(_, _) => 3,
+        Refusal::Malformed(_) => 4,
+        Refusal::PositionPast(_) => 5,
+        Refusal::NegativeAlignment(_) => 6,
+        Refusal::LabelOffBoundary(_) => 7,
+        Refusal::Unresolved => 8,
+        Refusal::DefaultBank(_) => 9,
+        Refusal::PastBank(_) => 10,
+        Refusal::NoOutput(_) => 11,
+        Refusal::Overlap(_, _) => 12,
+        Refusal::StoreFull(_) => 13,
+        Refusal::TooShort(_) => 14,
+        Refusal::BadStore(_) => 15,
+        Refusal::BadPart => 16,
+    }
+}
+
+// The refusal's place.
+pub fn place_of(r: Refusal) -> Place
+    ensures { λ p. ⌜ p ≡ placeOf r ⌝ }
+{
+    match r {
+        Refusal::BanksOverlap(a, b) => Place::Two(a, b),
+        Refusal::Overlap(start, size) => Place::Two(start, size),
+        Refusal::BankNumber(p) => Place::One(p),
+        Refusal::Malformed(p) => Place::One(p),
+        Refusal::PositionPast(p) => Place::One(p),
+        Refusal::NegativeAlignment(p) => Place::One(p),
+        Refusal::LabelOffBoundary(p) => Place::One(p),
+        Refusal::DefaultBank(p) => Place::One(p),
+        Refusal::PastBank(p) => Place::One(p),
+        Refusal::NoOutput(p) => Place::One(p),
+        Refusal::StoreFull(p) => Place::One(p),
+        Refusal::TooShort(p) => Place::One(p),
+        Refusal::BadStore(p) => Place::One(p),
+        Refusal::BankCount => Place::One(0),
+        Refusal::Unresolved => Place::One(0),
+        Refusal::BadPart => Place::One(0),
+    }
+}
