@@ -1,5 +1,19 @@
-// The bank record and the table of banks.
+// The bank record and the table of banks: refusals 1, 2 and 3, and the fill's length.
+use refusal::MAX_BANKS;
+use refusal::MAX_START;
 use refusal::Opt;
+use refusal::Refusal;
+use refusal::Verdict;
+ghost use mathlib.Core.Path.{_≡_};
+ghost use Prim.Native.Nat.{_+_, _≤_, _<_};
+ghost use lib.ListN.{take, drop, getD};
+ghost use Rattle.refusal.specs.Limits.{maxBanks, maxOffer};
+ghost use Rattle.bankdef.specs.Numbers.{isZero, bankFault};
+ghost use Rattle.bankdef.specs.Overlap.{rangesOverlap, pairOverlaps};
+ghost use Rattle.bankdef.specs.Search.{firstWhere};
+ghost use Rattle.bankdef.specs.Check.{firstPair, noBank};
+ghost use Rattle.bankdef.specs.Fill.{filledBy, fillLength};
+ghost use Rattle.bankdef.specs.Unique.{MagnitudeIs, VerdictIs, FillIs};
 
 // A bank: address unit in bits, start address, and, each optional, size in bits, output offset and label alignment; and
 // whether its range is filled. The types carry document 01's limits, but for a unit of 0 and the start's range.
@@ -16,4 +30,196 @@ pub struct Bankdef {
 pub struct Bankdefs {
     pub defs: [Bankdef; 16],
     pub len: u64,
+}
+
+// A signed number's distance from 0. The least `i64` has no `-x`, but each negative number has a `-1 - x`.
+pub fn magnitude(x: i64) -> u64
+    ensures { λ r. ⌜ MagnitudeIs x r ⌝ }
+{
+    if x < 0 {
+        let less = -1 - x;
+        (less as u64) + 1
+    } else {
+        x as u64
+    }
+}
+
+// Whether a size is there and is 0.
+fn is_zero(size: Opt) -> bool
+    ensures { λ r. ⌜ r ≡ isZero size ⌝ }
+{
+    match size {
+        Opt::None => false,
+        Opt::Some(bits) => bits == 0,
+    }
+}
+
+// Whether a number of the bank is beyond its limit, or the bank is filled and has size 0.
+fn at_fault(b: Bankdef) -> bool
+    ensures { λ r. ⌜ r ≡ bankFault b ⌝ }
+{
+    let unit = b.unit;
+    if unit == 0 {
+        return true;
+    }
+    let start = b.start;
+    if MAX_START < magnitude(start) {
+        return true;
+    }
+    let fill = b.fill;
+    let size = b.size;
+    fill && is_zero(size)
+}
+
+// The first of the table's `n` banks that is at fault, or `n` where none is.
+fn first_fault(banks: Bankdefs, n: usize) -> usize
+    requires { ⌜ n ≤ maxBanks ⌝ }
+    ensures { λ r. ⌜ r ≡ firstWhere bankFault (take n (banks .defs)) ⌝ }
+{
+    for i in 0..n {
+        let b = banks.defs[i];
+        if at_fault(b) {
+            return i;
+        }
+    }
+    n
+}
+
+// The bit after the last of `size` bits from `offset`.
+fn end(offset: u32, size: u32) -> u64
+    ensures { λ r. ⌜ r ≡ offset + size ⌝ }
+{
+    (offset as u64) + (size as u64)
+}
+
+// Whether two ranges of the output overlap: of `m` bits from `o` and of `n` bits from `p`; one without size has no end.
+fn ranges_overlap(o: u32, m: Opt, p: u32, n: Opt) -> bool
+    ensures { λ r. ⌜ r ≡ rangesOverlap o m p n ⌝ }
+{
+    match m {
+        Opt::None => match n {
+            Opt::None => true,
+            Opt::Some(n) => (o as u64) < end(p, n),
+        },
+        Opt::Some(m) => match n {
+            Opt::None => (p as u64) < end(o, m),
+            Opt::Some(n) => (p as u64) < end(o, m) && (o as u64) < end(p, n),
+        },
+    }
+}
+
+// Whether two banks overlap: both with an offset, and their ranges do.
+fn overlaps(a: Bankdef, b: Bankdef) -> bool
+    ensures { λ r. ⌜ r ≡ pairOverlaps a b ⌝ }
+{
+    let first = a.offset;
+    let second = b.offset;
+    match first {
+        Opt::None => false,
+        Opt::Some(o) => match second {
+            Opt::None => false,
+            Opt::Some(p) => {
+                let m = a.size;
+                let n = b.size;
+                ranges_overlap(o, m, p, n)
+            }
+        },
+    }
+}
+
+// The first of the table's `n` banks after bank `i` that overlaps it, or `n` where none does.
+fn first_overlap_after(banks: Bankdefs, n: usize, i: usize) -> usize
+    requires { ⌜ (i < n) × (n ≤ maxBanks) ⌝ }
+    ensures { λ r. ⌜ r ≡ i + 1 + firstWhere (pairOverlaps (getD (banks .defs) i noBank)) (drop (i + 1) (take n (banks .defs))) ⌝ }
+{
+    let a = banks.defs[i];
+    for j in i + 1..n {
+        let b = banks.defs[j];
+        if overlaps(a, b) {
+            return j;
+        }
+    }
+    n
+}
+
+// The first pair of the table's `n` banks that overlaps, in rising order. Bank 0 is in no pair.
+fn check_bank_overlap(banks: Bankdefs, n: usize) -> Verdict
+    requires { ⌜ n ≤ maxBanks ⌝ }
+    ensures { λ r. ⌜ r ≡ firstPair 1 (drop 1 (take n (banks .defs))) ⌝ }
+{
+    for i in 1..n {
+        let j = first_overlap_after(banks, n, i);
+        if j < n {
+            return Verdict::Refused(Refusal::BanksOverlap(i as u64, j as u64));
+        }
+    }
+    Verdict::Accepted
+}
+
+// Whether the table is refused: its count, the numbers of each bank, the pairs.
+pub fn check(banks: Bankdefs) -> Verdict
+    ensures { λ r. ⌜ VerdictIs banks r ⌝ }
+{
+    let len = banks.len;
+    if len == 0 {
+        return Verdict::Refused(Refusal::BankCount);
+    }
+    if MAX_BANKS < len {
+        return Verdict::Refused(Refusal::BankCount);
+    }
+    let n = len as usize;
+    let fault = first_fault(banks, n);
+    if fault < n {
+        return Verdict::Refused(Refusal::BankNumber(fault as u64));
+    }
+    check_bank_overlap(banks, n)
+}
+
+// The image's length after the bank's fill, from `length` before it. The bank's last bit is document 01's h, so its end is h + 1, and
+// `length` is below h where `length + 1` is below the end; that asks for no h where a bank ends at 0.
+fn filled(b: Bankdef, length: u64) -> u64
+    requires { ⌜ length ≤ maxOffer ⌝ }
+    ensures { λ r. ⌜ r ≡ filledBy (b .fill) (b .size) (b .offset) length ⌝ }
+    ensures { λ r. ⌜ r ≤ maxOffer ⌝ }
+{
+    let fill = b.fill;
+    if !fill {
+        return length;
+    }
+    let size = b.size;
+    let Opt::Some(size) = size else {
+        return length;
+    };
+    let offset = b.offset;
+    let Opt::Some(offset) = offset else {
+        return length;
+    };
+    let end = end(offset, size);
+    if length + 1 < end { end } else { length }
+}
+
+// The length that fill gives an empty image, over the table's first `n` banks in order.
+fn fill_banks(banks: Bankdefs, n: usize) -> u64
+    requires { ⌜ n ≤ maxBanks ⌝ }
+    ensures { λ r. ⌜ r ≡ fillLength (take n (banks .defs)) ⌝ }
+    ensures { λ r. ⌜ r ≤ maxOffer ⌝ }
+{
+    let mut length = 0;
+    for i in 0..n {
+        let b = banks.defs[i];
+        length = filled(b, length);
+    }
+    length
+}
+
+// The length that fill gives an empty image: every bank of the table, bank 0 too. A table has no bank past the sixteenth.
+pub fn fill_length(banks: Bankdefs) -> u64
+    ensures { λ r. ⌜ FillIs banks r ⌝ }
+{
+    let len = banks.len;
+    if len < MAX_BANKS {
+        fill_banks(banks, len as usize)
+    } else {
+        fill_banks(banks, MAX_BANKS as usize)
+    }
 }

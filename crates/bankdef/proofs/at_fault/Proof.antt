@@ -1,0 +1,55 @@
+-- `bankdef::at_fault` meets its contract: at each return the tests that led there decide the parts of `bankFault`, the start's by its
+-- magnitude.
+use mathlib.Core.Path.{_≡_, ap, _∙_}
+use mathlib.Core.Bool.{_&&_}
+use Prim.Native.Nat.{_≤_, _<_}
+use borrow.Author.Needs.{needs}
+use borrow.Author.Tests.{eq-eqb, ne-eqb, le-leb, lt-leb}
+use native.Mathlib.Omega.{arith}
+use mir.Syntax.{w64}
+use mir.Val.{SFits}
+use mir.ValLaws.{toZ-ofZ}
+use lib.IntN.{natAbs}
+use Rattle.refusal.specs.Limits.{maxStart}
+use Rattle.bankdef.specs.Numbers.{isZero, bankFault, start-by-magnitude}
+use Rattle.bankdef.proofs.at_fault.Statement.{statement}
+use Rattle.bankdef.proofs.at_fault.Tie as tie
+
+-- what the call of `magnitude` tells of the bank's start
+magnitude-of : (c : tie.After-magnitude) → c .magnitude .result ≡ natAbs (c .before .before .before .args .b .start)
+magnitude-of c =
+    let start = c .before .before .before .args .b .start in
+    let fits : SFits w64 start = record { sfits = c .before .struct-told .given .1 .0 .1 } in
+    c .magnitude .ensures ∙ ap natAbs (toZ-ofZ w64 start fits)
+
+returns : tie.Need-returns
+returns c = rw (eq-eqb (c .before .args .b .unit) 0 (c .if1 .taken))
+
+magnitude-requires : tie.Need-magnitude-requires
+magnitude-requires c κs = search needs
+
+returns-2 : tie.Need-returns-2
+returns-2 c =
+    let b = c .before .before .before .before .args .b in
+    let past : maxStart < natAbs (b .start) = omega (arith, c .if2 .taken, magnitude-of (c .before)) in
+    rw (ne-eqb (b .unit) 0 (c .before .before .before .if1 .left), start-by-magnitude (b .start), lt-leb (natAbs (b .start)) maxStart past)
+
+-- where the unit and the start are sound, the fill and the size are left
+rest : (c : tie.Else2) → bankFault (c .before .before .before .before .args .b) ≡ (c .before .before .before .before .args .b .fill && isZero (c .before .before .before .before .args .b .size))
+rest c =
+    let b = c .before .before .before .before .args .b in
+    let within : natAbs (b .start) ≤ maxStart = omega (arith, c .if2 .left, magnitude-of (c .before)) in
+    rw (ne-eqb (b .unit) 0 (c .before .before .before .if1 .left), start-by-magnitude (b .start), le-leb (natAbs (b .start)) maxStart within)
+
+is-zero-requires : tie.Need-is-zero-requires
+is-zero-requires c κs = search needs
+
+returns-3 : tie.Need-returns-3
+returns-3 c = rw (rest (c .before .before), c .before .if3 .taken) (c .is-zero .ensures)
+
+returns-4 : tie.Need-returns-4
+returns-4 c = rw (rest (c .before), c .if3 .left)
+
+pub at-fault-spec : {M : Type 1} → statement M
+at-fault-spec =
+    tie.close (tie.spec returns magnitude-requires returns-2 is-zero-requires returns-3 returns-4)

@@ -1,0 +1,40 @@
+-- The cases of document 01 that speak of banks and are marked P, as one statement.
+use mathlib.Core.Path.{_≡_, refl}
+use mathlib.Core.Bool.{Bool, true, false}
+use mathlib.Core.List.{_∷_}
+use Prim.Native.Nat.{ℕ}
+use lib.IntN.{pos}
+use lib.ListN.{replicate}
+use Rattle.refusal.specs.Refusals.{numberOf}
+use Rattle.refusal.specs.declared.Opt.{Opt}
+use Rattle.refusal.specs.declared.Opt.the-variants.{None, Some}
+use Rattle.refusal.specs.declared.Refusal.the-variants.{BanksOverlap}
+use Rattle.refusal.specs.declared.Verdict.{Verdict}
+use Rattle.refusal.specs.declared.Verdict.the-variants.{Accepted, Refused}
+use Rattle.bankdef.specs.declared.Bankdef.{Bankdef}
+use Rattle.bankdef.specs.declared.Bankdefs.{Bankdefs}
+use Rattle.bankdef.specs.Search.{firstWhere}
+use Rattle.bankdef.specs.Check.{noBank, banksOf, firstPair, checkOf}
+use Rattle.bankdef.specs.Fill.{fillFrom, fillLength}
+
+-- a bank of eight-bit units from address 0, by its offset, size and fill
+abbrev pub bank : Opt → Opt → Bool → Bankdef
+bank offset size fill = record { unit = 8; start = pos 0; size = size; offset = offset; align = None; fill = fill }
+
+-- a table of bank 0 and two more
+abbrev pub table : Bankdef → Bankdef → Bankdefs
+table a b = record { defs = bank (Some 0) None false ∷ a ∷ b ∷ replicate 13 noBank; len = 3 }
+
+-- the verdict on two banks by offset and size
+abbrev pub two : ℕ → Opt → ℕ → Opt → Verdict
+two o m p n = checkOf (table (bank (Some o) m false) (bank (Some p) n false))
+
+-- the fill's length where one bank is filled, from offset 0
+abbrev pub alone : ℕ → ℕ
+alone size = fillLength (banksOf (table (bank (Some 0) (Some size) true) (bank None None false)))
+
+-- "banks (offset 0, size 8), (8, 8): apart. (0, 9), (8, 8): 3. (8, 8), (0, no size): 3. (0, 8), (8, no size): apart." "fill alone,
+-- offset 0: size 1 gives length 0, size 2 gives 2."
+pub bank-cases : (two 0 (Some 8) 8 (Some 8) ≡ Accepted) × (two 0 (Some 9) 8 (Some 8) ≡ Refused (BanksOverlap 1 2)) × (two 8 (Some 8) 0 None ≡ Refused (BanksOverlap 1 2)) × (two 0 (Some 8) 8 None ≡ Accepted) × (numberOf (BanksOverlap 1 2) ≡ 3) × (alone 1 ≡ 0) × (alone 2 ≡ 2)
+unfolding firstWhere firstPair fillFrom
+bank-cases = (refl, refl, refl, refl, refl, refl, refl)

@@ -1,0 +1,12 @@
+pub mod Bools
+pub mod Integers
+pub mod Search
+pub mod Numbers
+pub mod Overlap
+pub mod Check
+pub mod Pairs
+pub mod Refused
+pub mod SharedBit
+pub mod Fill
+pub mod Cases
+pub mod Unique
