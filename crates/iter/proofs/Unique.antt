@@ -1,0 +1,63 @@
+-- Uniqueness: each public function's own contract has one outcome. `Learnt` is what the check reads off a function's `ensures` for its callers, so that a looser clause breaks its line here.
+use Prim.Native.Nat.{ℕ}
+use mathlib.Core.List.{List}
+use mathlib.Core.Path.{_≡_}
+use borrow.Fn.Kinds.{PK, RK, Out, Dens, resT, endedOf}
+use contract.Lifetimes.{Lfts}
+use denote.Triple.Clauses.{AtExit}
+use Rattle.refusal.specs.Pick.{determined}
+use Rattle.iter.proofs.alignment.bits_until_alignment.Kinds as bits-until-alignment-kinds
+use Rattle.iter.proofs.alignment.bits_until_alignment.Reads as bits-until-alignment-reads
+use Rattle.iter.proofs.alignment.is_tellable.Kinds as is-tellable-kinds
+use Rattle.iter.proofs.alignment.is_tellable.Reads as is-tellable-reads
+use Rattle.iter.proofs.places.get_address.Kinds as get-address-kinds
+use Rattle.iter.proofs.places.get_address.Reads as get-address-reads
+use Rattle.iter.proofs.places.get_output_position.Kinds as get-output-position-kinds
+use Rattle.iter.proofs.places.get_output_position.Reads as get-output-position-reads
+use Rattle.iter.proofs.places.on_boundary.Kinds as on-boundary-kinds
+use Rattle.iter.proofs.places.on_boundary.Reads as on-boundary-reads
+use Rattle.iter.proofs.steps.advance.Kinds as advance-kinds
+use Rattle.iter.proofs.steps.advance.Reads as advance-reads
+use Rattle.iter.proofs.steps.bank_after.Kinds as bank-after-kinds
+use Rattle.iter.proofs.steps.bank_after.Reads as bank-after-reads
+use Rattle.iter.proofs.steps.seen.Kinds as seen-kinds
+use Rattle.iter.proofs.steps.seen.Reads as seen-reads
+use Rattle.iter.proofs.steps.start.Kinds as start-kinds
+use Rattle.iter.proofs.steps.start.Reads as start-reads
+use Rattle.iter.proofs.steps.step.Kinds as step-kinds
+use Rattle.iter.proofs.steps.step.Reads as step-reads
+
+-- two outcomes that meet a contract for the same arguments are equal
+abbrev pub OneOutcome : (n : ℕ) (ps : List (PK n)) (r : RK n) → Out n ps r → Type 0
+OneOutcome n ps r met =
+    (κs : Lfts n) (a : Dens κs ps) (x y : resT r κs .Denot) (e f : AtExit (endedOf n ps r) κs) → met κs a x e → met κs a y f → x ≡ y
+
+pub bits-until-alignment-unique : OneOutcome 0 bits-until-alignment-kinds.ps bits-until-alignment-kinds.r bits-until-alignment-reads.Learnt
+bits-until-alignment-unique κs a x y e f p q = determined p q
+
+pub is-tellable-unique : OneOutcome 0 is-tellable-kinds.ps is-tellable-kinds.r is-tellable-reads.Learnt
+is-tellable-unique κs a x y e f p q = determined p q
+
+pub get-address-unique : OneOutcome 0 get-address-kinds.ps get-address-kinds.r get-address-reads.Learnt
+get-address-unique κs a x y e f p q = determined p q
+
+pub get-output-position-unique : OneOutcome 0 get-output-position-kinds.ps get-output-position-kinds.r get-output-position-reads.Learnt
+get-output-position-unique κs a x y e f p q = determined p q
+
+pub on-boundary-unique : OneOutcome 0 on-boundary-kinds.ps on-boundary-kinds.r on-boundary-reads.Learnt
+on-boundary-unique κs a x y e f p q = determined p q
+
+pub advance-unique : OneOutcome 0 advance-kinds.ps advance-kinds.r advance-reads.Learnt
+advance-unique κs a x y e f p q = determined p q
+
+pub bank-after-unique : OneOutcome 0 bank-after-kinds.ps bank-after-kinds.r bank-after-reads.Learnt
+bank-after-unique κs a x y e f p q = determined p q
+
+pub seen-unique : OneOutcome 0 seen-kinds.ps seen-kinds.r seen-reads.Learnt
+seen-unique κs a x y e f p q = determined p q
+
+pub start-unique : OneOutcome 0 start-kinds.ps start-kinds.r start-reads.Learnt
+start-unique κs a x y e f p q = determined p q
+
+pub step-unique : OneOutcome 0 step-kinds.ps step-kinds.r step-reads.Learnt
+step-unique κs a x y e f p q = determined p q

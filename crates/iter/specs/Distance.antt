@@ -1,0 +1,41 @@
+-- The distance to an alignment, over the integers (document 01, "The walk").
+use Prim.Native.Nat.{ℕ, _-_, _%_}
+use mathlib.Core.Bool.{Bool, not, _&&_}
+use lib.Dec.{eqb, leb}
+use lib.IntN.{ℤ, pos, negsuc, _+ℤ_, _*ℤ_}
+use Rattle.refusal.specs.Limits.{maxStart}
+use Rattle.refusal.specs.Pick.{pick}
+use Rattle.refusal.specs.declared.Refusal.the-variants.{Malformed, NegativeAlignment}
+use Rattle.bankdef.specs.declared.Bankdef.{Bankdef}
+use Rattle.iter.specs.declared.Distance.{Distance}
+use Rattle.iter.specs.declared.Distance.the-variants.{Bits, Refused}
+
+-- how far an address is from 0
+abbrev pub sizeOf : ℤ → ℕ
+sizeOf (pos n) = n
+sizeOf (negsuc n) = Prim.Native.Nat.suc n
+
+-- "address unit: 1 to 65,535 bits; start address: -2^40 to 2^40": a bank whose addresses can be told. (The unit's upper limit is its type's.)
+abbrev pub tellable : Bankdef → Bool
+tellable def = not (eqb (def .unit) 0) && leb (sizeOf (def .start)) maxStart
+
+-- "start × unit + position"
+abbrev pub addressInBits : Bankdef → ℕ → ℤ
+addressInBits def position = (def .start *ℤ pos (def .unit)) +ℤ pos position
+
+-- "with r the remainder .. by A, it is 0 for r = 0 and A - r for others"
+abbrev pub gap : ℕ → ℕ → ℕ
+gap r a = pick (eqb r 0) 0 (a - r)
+
+-- "6: a negative address in bits meets a nonzero alignment"
+abbrev pub toAlignment : ℤ → ℕ → ℕ → Distance
+toAlignment (pos bits) a node = Bits (gap (bits % a) a)
+toAlignment (negsuc n) a node = Refused (NegativeAlignment node)
+
+-- "The distance to alignment A is 0 for A = 0. Otherwise, with r the remainder of start × unit + position by A, it is 0 for r = 0 and A - r for others."
+-- `node` is the place of a refusal: 0 in a call of its own.
+unfoldable pub distanceOf : Bankdef → ℕ → ℕ → ℕ → Distance
+distanceOf def position a node =
+    pick (tellable def)
+    (pick (eqb a 0) (Bits 0) (toAlignment (addressInBits def position) a node))
+    (Refused (Malformed node))

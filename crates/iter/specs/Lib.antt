@@ -1,0 +1,12 @@
+pub mod Address
+pub mod Agrees
+pub mod Aligned
+pub mod Cases
+pub mod Distance
+pub mod Known
+pub mod Signs
+pub mod Step
+pub mod StepCases
+pub mod StepFacts
+pub mod Told
+pub mod WithinLimit

@@ -1,0 +1,95 @@
+-- A step of the walk: what a node sees, and how it moves its bank's position (document 01, "The walk").
+use Prim.Native.Nat.{ℕ, _+_}
+use mathlib.Core.Bool.{Bool, true, _&&_, _||_}
+use lib.Dec.{eqb, leb, ltb}
+use lib.ListN.{getD, set, replicate}
+use Rattle.refusal.specs.Limits.{maxBanks, maxPosition}
+use Rattle.refusal.specs.Pick.{pick}
+use Rattle.refusal.specs.declared.Refusal.the-variants.{Malformed, PositionPast}
+use Rattle.refusal.specs.declared.Opt.{Opt}
+use Rattle.refusal.specs.declared.Opt.the-variants.{None, Some}
+use Rattle.bankdef.specs.declared.Bankdef.{Bankdef}
+use Rattle.iter.specs.Distance.{distanceOf}
+use Rattle.iter.specs.declared.Distance.{Distance}
+use Rattle.iter.specs.declared.Distance.the-variants.{Bits, Refused as NoDistance}
+use Rattle.iter.specs.declared.Pos.{Pos}
+use Rattle.iter.specs.declared.Node.{Node}
+use Rattle.iter.specs.declared.Walk.{Walk}
+use Rattle.iter.specs.declared.Stepped.{Stepped}
+use Rattle.iter.specs.declared.Moved.{Moved}
+use Rattle.iter.specs.declared.Moved.the-variants.{To, Refused}
+
+-- "Each bank's position starts at 0, known"
+abbrev pub origin : Pos
+origin = record { position = 0; known = true }
+
+-- "Each bank's position starts at 0, known .. The walk begins in bank 0."
+unfoldable pub startOf : Walk
+startOf = record { at = replicate maxBanks origin; bank = 0 }
+
+-- "5: a position would pass 4,294,967,295"
+abbrev pub movedBy : Pos → ℕ → Bool → ℕ → Moved
+movedBy at bits known node =
+    pick (leb (at .position + bits) maxPosition)
+    (To (record { position = at .position + bits; known = known }))
+    (Refused (PositionPast node))
+
+abbrev pub movedByDistance : Pos → Distance → Bool → ℕ → Moved
+movedByDistance at (Bits bits) known node = movedBy at bits known node
+movedByDistance at (NoDistance why) known node = Refused why
+
+-- "8 adds the distance to alignment"
+abbrev pub alignedTo : Bankdef → Pos → ℕ → Bool → ℕ → Moved
+alignedTo def at a known node = movedByDistance at (distanceOf def (at .position) a node) known node
+
+-- "a symbol (label or constant) of depth 0": kinds 2 and 3, whose operand is a depth
+abbrev pub outermostSymbol : Node → Bool
+outermostSymbol node = (eqb (node .kind) 2 || eqb (node .kind) 3) && eqb (node .operand) 0
+
+abbrev pub labelAligned : Bankdef → Opt → Pos → ℕ → Moved
+labelAligned def None at node = To at
+labelAligned def (Some a) at node = alignedTo def at a (at .known) node
+
+-- "A node sees its bank's position before its own advance, except that a symbol (label or constant) of depth 0 in a bank with label alignment is aligned first."
+unfoldable pub seenOf : Bankdef → Pos → Node → Moved
+seenOf def at node = pick (outermostSymbol node) (labelAligned def (def .align) at (node .index)) (To at)
+
+-- "state (0 resolved, 1 stable, 2 unresolved)"
+abbrev pub resolved : Node → Bool
+resolved node = eqb (node .state) 0
+
+-- "Afterwards 4 to 7 add their number, 8 adds the distance to alignment, 9 sets the position. Known-ness: 4, 6, 7, 8 keep it only if state is 0; 5 and symbols leave it; 9 makes it so
+-- exactly if state is 0." "Any other kind number is refused."
+unfoldable pub advancedOf : Bankdef → Pos → Node → Moved
+advancedOf def at node =
+    pick (eqb (node .kind) 5) (movedBy at (node .number) (at .known) (node .index))
+    (pick (leb 4 (node .kind) && leb (node .kind) 7) (movedBy at (node .number) (at .known && resolved node) (node .index))
+    (pick (eqb (node .kind) 8) (alignedTo def at (node .number) (at .known && resolved node) (node .index))
+    (pick (eqb (node .kind) 9) (To (record { position = node .number; known = resolved node }))
+    (pick (leb (node .kind) 10) (To at)
+    (Refused (Malformed (node .index)))))))
+
+-- "1 bank switch": "The operand is a bank for 1"
+abbrev pub bankAfter : ℕ → Node → ℕ
+bankAfter bank node = pick (eqb (node .kind) 1) (node .operand) bank
+
+-- "Each bank's position .. is kept through switches."
+abbrev pub kept : Walk → ℕ → Pos → Walk
+kept walk bank p = record { at = set (walk .at) bank p; bank = bank }
+
+abbrev pub steppedTo : Walk → ℕ → Pos → Moved → Stepped
+steppedTo walk bank p (To q) = record { seen = To p; walk = kept walk bank q }
+steppedTo walk bank p (Refused why) = record { seen = Refused why; walk = walk }
+
+abbrev pub steppedFrom : Bankdef → Walk → ℕ → Node → Moved → Stepped
+steppedFrom def walk bank node (To p) = steppedTo walk bank p (advancedOf def p node)
+steppedFrom def walk bank node (Refused why) = record { seen = Refused why; walk = walk }
+
+-- A step over a node: the bank that it stands in, what it sees there, and the walk after its own advance. `def` is the record of the bank that the node stands in, which for a
+-- switch is the one switched to. A step that is refused leaves the walk as it was.
+unfoldable pub stepOf : Bankdef → Walk → Node → Stepped
+stepOf def walk node =
+    let bank = bankAfter (walk .bank) node in
+    pick (ltb bank maxBanks)
+    (steppedFrom def walk bank node (seenOf def (getD (walk .at) bank origin) node))
+    (record { seen = Refused (Malformed (node .index)); walk = walk })
