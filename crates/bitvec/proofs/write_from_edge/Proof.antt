@@ -1,0 +1,41 @@
+-- `bitvec::write_from_edge` writes two runs: the whole bytes, then the bits that are left.
+use Prim.Native.Nat.{_+_, _*_, _/_, _%_}
+use native.Mathlib.Omega.{arith}
+use Rattle.bitvec.proofs.Pieces.{two-runs}
+use borrow.Author.Needs.{needs}
+use Rattle.bitvec.proofs.write_from_edge.Statement.{statement}
+use Rattle.bitvec.proofs.write_from_edge.Tie as tie
+
+write-bytes-requires : tie.Need-write-bytes-requires
+write-bytes-requires c κs = search needs
+
+add-put-bits : tie.Need-add-put-bits
+add-put-bits c = search needs
+
+add-put-bits-2 : tie.Need-add-put-bits-2
+add-put-bits-2 c = search needs
+
+put-bits-requires : tie.Need-put-bits-requires
+put-bits-requires c κs = search needs
+
+same-length : tie.Need-same-length
+same-length c = search needs
+
+returns : tie.Need-returns
+returns c =
+    let a = c .before .before .before .before .before .before .before .before .before .before .args in
+    two-runs (a .image .now) (c .before .before .before .before .before .before .write-bytes .last .0) (c .before .before .put-bits .last .0)
+    (8 * a .j) (a .values .now) (8 * a .k + a .s) (8 * (a .size / 8)) (a .size % 8) (a .size) (8 * (a .j + a .size / 8) + 0)
+    (8 * (a .k + a .size / 8) + a .s) (c .before .before .before .before .before .before .write-bytes .ensures)
+    (c .before .before .put-bits .ensures) (omega arith) (omega arith) (omega arith)
+
+pub write-from-edge-spec : {M : Type 1} → statement M
+write-from-edge-spec =
+    tie.close
+    (tie.spec
+    write-bytes-requires
+    add-put-bits
+    add-put-bits-2
+    put-bits-requires
+    same-length
+    returns)

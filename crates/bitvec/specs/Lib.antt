@@ -1,0 +1,10 @@
+pub mod Lists
+pub mod Within
+pub mod Numeral
+pub mod Bits
+pub mod Clear
+pub mod Written
+pub mod Part
+pub mod HexDigits
+pub mod Steps
+pub mod Unique
