@@ -42,7 +42,7 @@ pub get-address-unique : OneOutcome 0 get-address-kinds.ps get-address-kinds.r g
 get-address-unique κs a x y e f p q = determined p q
 
 pub get-output-position-unique : OneOutcome 0 get-output-position-kinds.ps get-output-position-kinds.r get-output-position-reads.Learnt
-get-output-position-unique κs a x y e f p q = determined p q
+get-output-position-unique κs a x y e f p q = determined (p .0) (q .0)
 
 pub on-boundary-unique : OneOutcome 0 on-boundary-kinds.ps on-boundary-kinds.r on-boundary-reads.Learnt
 on-boundary-unique κs a x y e f p q = determined p q

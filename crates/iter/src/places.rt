@@ -6,6 +6,9 @@ use refusal::Offset;
 use refusal::Opt;
 use refusal::Refusal;
 ghost use mathlib.Core.Path.{_≡_};
+ghost use Prim.Native.Nat.{ℕ, _≤_};
+ghost use Rattle.refusal.specs.Limits.{maxOffer};
+ghost use Rattle.refusal.specs.declared.Offset.the-variants.{At as Out};
 ghost use Rattle.iter.specs.Address.{addressOf, onBoundary, outputPosition};
 
 // "The address is the start plus the whole units in the position". `node` is the place of a refusal.
@@ -32,9 +35,10 @@ pub fn on_boundary(def: Bankdef, position: u32) -> bool
     position % unit == 0
 }
 
-// "the output position is offset plus position"
+// "the output position is offset plus position", which is no further than an offer's position can be
 pub fn get_output_position(def: Bankdef, position: u32) -> Offset
     ensures { λ r. ⌜ r ≡ outputPosition def position ⌝ }
+    ensures { λ r. ⌜ ((o : ℕ) → r ≡ Out o → o ≤ maxOffer) ⌝ }
 {
     let offset = def.offset;
     match offset {
