@@ -1,0 +1,4 @@
+pub mod Laws
+pub mod Ordered
+pub mod Room
+pub mod Walking

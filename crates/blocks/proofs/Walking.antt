@@ -1,0 +1,129 @@
+-- Where a walk stands after some spans: the blocks that the running one and the spans left still make, stored behind those that are
+-- written, are the blocks of the whole walk.
+use mathlib.Core.Path.{_≡_, refl, ap, _∙_}
+use mathlib.Core.Bool.{Bool, true, false}
+use mathlib.Core.List.{List, [], _∷_, _++_, map, map-append}
+use Prim.Native.Nat.{ℕ, suc, _+_, _*_, _%_, _≤_, _<_}
+use native.Mathlib.Nat.{add-zero, le-antisymm}
+use native.Mathlib.Numerals.{add-one}
+use native.Mathlib.Omega.{arith}
+use lib.Dec.{eqb}
+use lib.ListN.{length, getD, drop, set, length-append, length-map}
+use lib.Seq.{sets, length-sets, drop-cons, drop-length}
+use Rattle.refusal.specs.declared.Offset.the-variants.{None, At}
+use Rattle.refusal.specs.Limits.{maxNodes, maxOffer, maxPosition}
+use Rattle.refusal.specs.Pick.{pick}
+use Rattle.blocks.specs.declared.Block.{Block}
+use Rattle.blocks.specs.Keys.{spanAt}
+use Rattle.blocks.specs.Offsets.{offsetOf}
+use Rattle.blocks.specs.Outcome.{origins, sizes}
+use Rattle.blocks.specs.Put.{Put}
+use Rattle.blocks.specs.Spans.{Span}
+use Rattle.blocks.specs.Walk.{block, endOf, kept, closed, joined, blocksFrom}
+
+-- Stored in two goes.
+sets-append : (l xs ys : List ℕ) (n : ℕ) → sets l n (xs ++ ys) ≡ sets (sets l n xs) (n + length xs) ys
+sets-append l [] ys n = rw add-zero
+sets-append l (x ∷ xs) ys n =
+    let e : n + suc (length xs) ≡ suc n + length xs = omega arith in
+    sets-append (set l n x) xs ys (suc n) ∙ rw e
+
+-- What is left to store after `xs` are stored.
+module _ (column : Block → ℕ) (xs ys : List Block) (l l′ : List ℕ) (n n′ : ℕ) (e : n′ ≡ n + length xs) (s : l′ ≡ sets l n (map column xs)) where
+  pub stored : sets l′ n′ (map column ys) ≡ sets l n (map column (xs ++ ys))
+  stored = rw (s, e, map-append, sets-append, length-map)
+
+closed-few : (b : Block) (o : ℕ) → length (closed b (At o)) ≤ 1
+closed-few b o = go (eqb o (endOf b)) (eqb (b .size) 0)
+  where
+    go : (p q : Bool) → length (pick p [] (pick q [] (b ∷ []))) ≤ 1
+    go true q = omega arith
+    go false true = omega arith
+    go false false = omega arith
+
+joined-small : (b : Block) (o size i : ℕ) → b .origin ≤ maxOffer → b .size ≤ i * maxPosition → o ≤ maxOffer → size ≤ maxPosition
+    → ((joined b (At o) size) .origin ≤ maxOffer) × ((joined b (At o) size) .size ≤ (i + 1) * maxPosition)
+joined-small b o size i h k p q = go (eqb o (endOf b))
+  where
+    go : (t : Bool) → ((pick t (block (b .origin) (b .size + size)) (block o size)) .origin ≤ maxOffer)
+        × ((pick t (block (b .origin) (b .size + size)) (block o size)) .size ≤ (i + 1) * maxPosition)
+    go true = (h, omega arith)
+    go false = (p, omega arith)
+
+-- the keys, the spans, and what is lent for the blocks
+module _ (keys words lengths os₀ ss₀ : List ℕ) where
+  abbrev left : ℕ → List Span
+  left i = map (spanAt words lengths) (drop i keys)
+
+  abbrev all : List Block
+  all = blocksFrom (block 0 0) (map (spanAt words lengths) keys)
+
+  pub record Walking (b : Block) (count : ℕ) (os ss : List ℕ) (i : ℕ) : Type 0 where
+    pub at : i ≤ length keys
+    pub few : count ≤ i
+    pub origin : b .origin ≤ maxOffer
+    pub size : b .size ≤ i * maxPosition
+    pub counted : count + length (blocksFrom b (left i)) ≡ length all
+    pub first : sets os count (origins (blocksFrom b (left i))) ≡ sets os₀ 0 (origins all)
+    pub second : sets ss count (sizes (blocksFrom b (left i))) ≡ sets ss₀ 0 (sizes all)
+    pub long : length os ≡ length os₀
+    pub long₂ : length ss ≡ length ss₀
+
+  pub walking-starts : Walking (block 0 0) 0 os₀ ss₀ 0
+  walking-starts = record { at = omega arith; few = omega arith; origin = omega arith; size = omega arith; counted = omega arith; first = refl; second = refl; long = refl; long₂ = refl }
+
+  module _ (b : Block) (count : ℕ) (os ss : List ℕ) (i : ℕ) (w : Walking b count os ss i) where
+    module _ (more : i < length keys) where
+      -- the next span
+      abbrev word : ℕ
+      word = getD words (getD keys i 0 % maxNodes) 0
+
+      abbrev length′ : ℕ
+      length′ = getD lengths (getD keys i 0 % maxNodes) 0
+
+      next : blocksFrom b (left i) ≡ closed b (offsetOf word) ++ blocksFrom (joined b (offsetOf word) length′) (left (i + 1))
+      unfolding blocksFrom
+      next = rw (drop-cons keys i 0 more, add-one)
+
+      pub walking-past : offsetOf word ≡ None → Walking b count os ss (i + 1)
+      walking-past e =
+          let same : blocksFrom b (left i) ≡ blocksFrom b (left (i + 1)) = next ∙ rw e in
+          record {
+            at = omega arith;
+            few = omega (arith, w .few);
+            origin = w .origin;
+            size = omega (arith, w .size);
+            counted = rw same at (w .counted);
+            first = rw same at (w .first);
+            second = rw same at (w .second);
+            long = w .long;
+            long₂ = w .long₂;
+          }
+
+      pub walking-on : (o : ℕ) → offsetOf word ≡ At o → o ≤ maxOffer → length′ ≤ maxPosition → (count′ : ℕ) (os′ ss′ : List ℕ) → Put (closed b (At o)) count os ss count′ os′ ss′
+          → Walking (joined b (At o) length′) count′ os′ ss′ (i + 1)
+      walking-on o e h k count′ os′ ss′ p =
+          let rest = blocksFrom (joined b (At o) length′) (left (i + 1)) in
+          let cut : blocksFrom b (left i) ≡ closed b (At o) ++ rest = next ∙ rw e in
+          record {
+            at = omega arith;
+            few = omega (arith, w .few, p .counted, closed-few b o);
+            origin = joined-small b o length′ i (w .origin) (w .size) h k .0;
+            size = joined-small b o length′ i (w .origin) (w .size) h k .1;
+            counted = omega (arith, p .counted, length-append (closed b (At o)) rest, rw cut at (w .counted));
+            first = stored (λ x. x .origin) (closed b (At o)) rest os os′ count count′ (p .counted) (p .first) ∙ (rw cut at (w .first));
+            second = stored (λ x. x .size) (closed b (At o)) rest ss ss′ count count′ (p .counted) (p .second) ∙ (rw cut at (w .second));
+            long = ap length (p .first) ∙ length-sets os count (origins (closed b (At o))) ∙ w .long;
+            long₂ = ap length (p .second) ∙ length-sets ss count (sizes (closed b (At o))) ∙ w .long₂;
+          }
+
+    pub walking-ends : length keys ≤ i → (count′ : ℕ) (os′ ss′ : List ℕ) → Put (kept b) count os ss count′ os′ ss′ → Put all 0 os₀ ss₀ count′ os′ ss′
+    unfolding blocksFrom
+    walking-ends h count′ os′ ss′ p =
+        let done : i ≡ length keys = le-antisymm (w .at) h in
+        let nil : blocksFrom b (left i) ≡ kept b = rw (done, drop-length keys) in
+        record {
+          counted = p .counted ∙ (rw nil at (w .counted)) ∙ omega arith;
+          first = p .first ∙ (rw nil at (w .first));
+          second = p .second ∙ (rw nil at (w .second));
+        }

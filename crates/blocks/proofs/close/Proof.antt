@@ -1,0 +1,36 @@
+-- `close` meets its contract: a span at the running end closes nothing, another what is kept of the block.
+use borrow.Author.Needs.{needs}
+use mathlib.Core.Path.{sym, _∙_}
+use Rattle.blocks.proofs.Laws.{closed-none, closed-kept}
+use Rattle.blocks.proofs.close.Statement.{statement}
+use Rattle.blocks.proofs.close.Tie as tie
+
+end-of-requires : tie.Need-end-of-requires
+end-of-requires c κs = search needs
+
+returns : tie.Need-returns
+returns c =
+    let d = c .before in
+    let a = d .before .before .before .args in
+    closed-none (a .block) (a .offset) (c .if1 .taken ∙ d .end-of .ensures) (a .count) (a .block-offsets .now) (a .block-sizes .now)
+
+push-requires : tie.Need-push-requires
+push-requires c κs = search needs
+
+same-length : tie.Need-same-length
+same-length c = search needs
+
+same-length-2 : tie.Need-same-length-2
+same-length-2 c = search needs
+
+returns-2 : tie.Need-returns-2
+returns-2 c =
+    let p = c .before .before .before .before in
+    let e = p .before .before .before in
+    let d = e .before in
+    let a = d .before .before .before .args in
+    rw (closed-kept (a .block) (a .offset) (λ q. e .if1 .left (q ∙ sym (d .end-of .ensures)))) (p .push .ensures)
+
+pub close-spec : {M : Type 1} → statement M
+close-spec =
+    tie.close (tie.spec end-of-requires returns push-requires same-length same-length-2 returns-2)

@@ -1,0 +1,196 @@
+-- `walk` meets its contract: each turn passes a span over or takes it, by the laws of `Walking`.
+use borrow.Author.Needs.{needs}
+use mathlib.Core.Path.{_≡_, sym, ap, subst⁻¹, _∙_}
+use mathlib.Core.Bool.{true}
+use Prim.Native.Nat.{ℕ, _-_, _%_, _<_, _≤_}
+use native.Mathlib.Omega.{arith}
+use lib.ListN.{length, getD}
+use Rattle.refusal.specs.Limits.{maxNodes, maxPosition}
+use Rattle.blocks.specs.Offsets.{offsetOf}
+use Rattle.blocks.specs.Spans.{offsetWithin}
+use Rattle.blocks.proofs.Laws.{at-most, within-parts}
+use Rattle.blocks.proofs.Walking.{Walking, walking-starts, walking-past, walking-on, walking-ends}
+use Rattle.blocks.proofs.walk.Statement.{statement}
+use Rattle.blocks.proofs.walk.Tie as tie
+
+abbrev Inv-loop : tie.InvT-loop
+Inv-loop keys offsets sizes block-offsets₀ block-sizes₀ current₀ count₀ i₀ i-end block-offsets block-sizes current count i =
+    Walking keys offsets sizes block-offsets₀ block-sizes₀ current count block-offsets block-sizes i
+
+abbrev μ-loop : tie.MeasureT-loop
+μ-loop keys offsets sizes block-offsets₀ block-sizes₀ current₀ count₀ i₀ i-end block-offsets block-sizes current count i =
+    length keys - i
+
+-- the function's start and the loop's head, seen from the loop and from behind the call of `offset_of`
+abbrev start : tie.At-loop Inv-loop μ-loop → tie.Start Inv-loop μ-loop
+start c = c .before .before .before .before .before .before
+
+abbrev head : tie.After-offset-of Inv-loop μ-loop → tie.At-loop Inv-loop μ-loop
+head c = c .before .before .before .before .before
+
+-- the place of the span that the turn takes, and that it is one
+abbrev place : tie.At-loop Inv-loop μ-loop → ℕ
+place h = getD (start h .args .keys .now) (h .loop .i) 0 % maxNodes
+
+is-placed : (c : tie.After-place-of Inv-loop μ-loop) → c .place-of .result < length (start (c .before .before .before) .args .offsets .now)
+is-placed c =
+    let h = c .before .before .before in
+    rw (c .place-of .ensures) (start h .pre .placed (h .loop .i) (c .before .before .loop-test .taken))
+
+-- the offset answer is that of the span at this place
+offset-is : (c : tie.After-offset-of Inv-loop μ-loop) → offsetOf (getD (start (head c) .args .offsets .now) (place (head c)) 0) ≡ c .offset-of .result
+offset-is c = sym (c .offset-of .ensures ∙ ap (λ (k : ℕ). offsetOf (getD (start (head c) .args .offsets .now) k 0)) (c .before .before .place-of .ensures))
+
+-- the span at this place is within its limits
+span-within : (c : tie.After-offset-of Inv-loop μ-loop)
+    → (offsetWithin (offsetOf (getD (start (head c) .args .offsets .now) (place (head c)) 0)) ≡ true) × (getD (start (head c) .args .sizes .now) (place (head c)) 0 ≤ maxPosition)
+span-within c =
+    let h = head c in
+    within-parts (getD (start h .args .offsets .now) (place h) 0) (getD (start h .args .sizes .now) (place h) 0)
+    (start h .pre .limited (place h) (start h .pre .placed (h .loop .i) (c .before .before .before .before .loop-test .taken)))
+
+size-small : (c : tie.After-offset-of Inv-loop μ-loop) → getD (start (head c) .args .sizes .now) (c .before .before .place-of .result) 0 ≤ maxPosition
+size-small c = subst⁻¹ (λ (k : ℕ). getD (start (head c) .args .sizes .now) k 0 ≤ maxPosition) (c .before .before .place-of .ensures) (span-within c .1)
+
+-- the offset answer, seen from behind the call of `close`
+abbrev answered : tie.After-close Inv-loop μ-loop → tie.After-offset-of Inv-loop μ-loop
+answered c = c .before .before .before .before .before .before
+
+loop-holds : tie.Need-loop-holds Inv-loop μ-loop
+loop-holds c =
+    let a = c .before .before .before .before .before .args in
+    walking-starts (a .keys .now) (a .offsets .now) (a .sizes .now) (a .block-offsets .now) (a .block-sizes .now)
+
+mul-place-of : tie.Need-mul-place-of Inv-loop μ-loop
+mul-place-of c = search needs
+
+shared-slice-read-place-of : tie.Need-shared-slice-read-place-of Inv-loop μ-loop
+shared-slice-read-place-of c = search needs
+
+place-of-requires : tie.Need-place-of-requires Inv-loop μ-loop
+place-of-requires c κs = search needs
+
+mul-offset-of : tie.Need-mul-offset-of Inv-loop μ-loop
+mul-offset-of c = let h = is-placed c in omega (arith, h, start (c .before .before .before) .good)
+
+shared-slice-read-offset-of : tie.Need-shared-slice-read-offset-of Inv-loop μ-loop
+shared-slice-read-offset-of c = is-placed (c .before)
+
+offset-of-requires : tie.Need-offset-of-requires Inv-loop μ-loop
+offset-of-requires c κs = search needs
+
+enum-known-offset : tie.Need-enum-known-offset Inv-loop μ-loop
+enum-known-offset c = search needs
+
+enum-told : tie.Need-enum-told Inv-loop μ-loop
+enum-told c = search needs
+
+add-i : tie.Need-add-i Inv-loop μ-loop
+add-i c = search needs
+
+loop-less : tie.Need-loop-less Inv-loop μ-loop
+loop-less c = search needs
+
+loop-again : tie.Need-loop-again Inv-loop μ-loop
+loop-again c =
+    let d = c .before .before in
+    let a = start (head d) .args in
+    let l = head d .loop in
+    walking-past (a .keys .now) (a .offsets .now) (a .sizes .now) (a .block-offsets .now) (a .block-sizes .now) (l .current) (l .count) (l .block-offsets) (l .block-sizes) (l .i) (l .inv)
+    (d .before .before .before .before .loop-test .taken)
+    (offset-is d ∙ c .enum-told .given .1)
+
+close-requires : tie.Need-close-requires Inv-loop μ-loop
+close-requires c κs = search needs
+
+mul-join : tie.Need-mul-join Inv-loop μ-loop
+mul-join c = search needs
+
+shared-slice-read-join : tie.Need-shared-slice-read-join Inv-loop μ-loop
+shared-slice-read-join c =
+    let d = answered (c .before .before .before .before .before) in
+    rw (← (start (head d) .pre .paired)) (is-placed (d .before .before))
+
+join-requires : tie.Need-join-requires Inv-loop μ-loop
+join-requires c κs =
+    let d = answered (c .before .before .before .before .before) in
+    let l = head d .loop in
+    let s = size-small d in
+    omega (arith, l .inv .origin, l .inv .size, d .before .before .before .before .loop-test .taken, start (head d) .pre .few)
+
+add-i-2 : tie.Need-add-i-2 Inv-loop μ-loop
+add-i-2 c = search needs
+
+loop-less-2 : tie.Need-loop-less-2 Inv-loop μ-loop
+loop-less-2 c = search needs
+
+loop-again-2 : tie.Need-loop-again-2 Inv-loop μ-loop
+loop-again-2 c =
+    let k = c .before .before .before .before .before .before in
+    let d = answered k in
+    let o = k .before .before .before .before .offset .given in
+    let a = start (head d) .args in
+    let l = head d .loop in
+    let is = offset-is d ∙ o .1 in
+    rw (c .join .ensures, d .before .before .place-of .ensures)
+    (walking-on (a .keys .now) (a .offsets .now) (a .sizes .now) (a .block-offsets .now) (a .block-sizes .now) (l .current) (l .count) (l .block-offsets) (l .block-sizes) (l .i) (l .inv)
+    (d .before .before .before .before .loop-test .taken)
+    (o .0 .0)
+    is
+    (at-most (offsetOf (getD (a .offsets .now) (place (head d)) 0)) (o .0 .0) is (span-within d .0))
+    (span-within d .1)
+    (k .close .result)
+    (k .close .last .1 .1 .1 .0)
+    (k .close .last .1 .1 .1 .1 .0)
+    (k .close .ensures))
+
+push-requires : tie.Need-push-requires Inv-loop μ-loop
+push-requires c κs = search needs
+
+same-length : tie.Need-same-length Inv-loop μ-loop
+same-length c = search needs
+
+same-length-2 : tie.Need-same-length-2 Inv-loop μ-loop
+same-length-2 c = search needs
+
+returns : tie.Need-returns Inv-loop μ-loop
+returns c =
+    let p = c .before .before .before .before in
+    let e = p .before .before .before in
+    let a = start (e .before) .args in
+    let l = e .before .loop in
+    walking-ends (a .keys .now) (a .offsets .now) (a .sizes .now) (a .block-offsets .now) (a .block-sizes .now) (l .current) (l .count) (l .block-offsets) (l .block-sizes) (l .i) (l .inv) (e .loop-test .left)
+    (p .push .result)
+    (p .push .last .1 .1 .0)
+    (p .push .last .1 .1 .1 .0)
+    (p .push .ensures)
+
+pub walk-spec : {M : Type 1} → statement M
+walk-spec =
+    tie.close
+    (tie.spec
+    Inv-loop
+    μ-loop
+    loop-holds
+    mul-place-of
+    shared-slice-read-place-of
+    place-of-requires
+    mul-offset-of
+    shared-slice-read-offset-of
+    offset-of-requires
+    enum-known-offset
+    enum-told
+    add-i
+    loop-less
+    loop-again
+    close-requires
+    mul-join
+    shared-slice-read-join
+    join-requires
+    add-i-2
+    loop-less-2
+    loop-again-2
+    push-requires
+    same-length
+    same-length-2
+    returns)

@@ -1,0 +1,13 @@
+pub mod Bits
+pub mod Cases
+pub mod Count
+pub mod Keys
+pub mod Measure
+pub mod Offsets
+pub mod Outcome
+pub mod Put
+pub mod Rising
+pub mod Row
+pub mod Spans
+pub mod Unique
+pub mod Walk

@@ -1,0 +1,34 @@
+-- A span's offset as one word, the way in which spans are lent: the largest word stands for none.
+use mathlib.Core.Path.{_≡_, refl, sym}
+use mathlib.Core.Bool.{Bool, true, false}
+use Prim.Native.Nat.{ℕ, _<_}
+use native.Mathlib.Omega.{arith}
+use borrow.Author.Tests.{eqb-true, ne-eqb}
+use lib.Dec.{eqb}
+use Rattle.refusal.specs.declared.Offset.{Offset}
+use Rattle.refusal.specs.declared.Offset.the-variants.{None, At}
+use Rattle.refusal.specs.Pick.{pick}
+
+abbrev pub noOffset : ℕ
+noOffset = 18446744073709551615
+
+abbrev pub offsetOf : ℕ → Offset
+offsetOf word = pick (eqb word noOffset) None (At word)
+
+abbrev pub wordOf : Offset → ℕ
+wordOf None = noOffset
+wordOf (At o) = o
+
+-- A word comes back from its offset, and an offset within the limits from its word.
+pub word-of-offset : (word : ℕ) → wordOf (offsetOf word) ≡ word
+word-of-offset word = go (eqb word noOffset) refl
+  where
+    go : (t : Bool) → eqb word noOffset ≡ t → wordOf (pick t None (At word)) ≡ word
+    go true e = sym (eqb-true word noOffset e)
+    go false e = refl
+
+pub none-of-word : offsetOf (wordOf None) ≡ None
+none-of-word = refl
+
+pub at-of-word : (o : ℕ) → o < noOffset → offsetOf (wordOf (At o)) ≡ At o
+at-of-word o h = rw (ne-eqb o noOffset (λ e. omega arith))

@@ -1,0 +1,66 @@
+-- What a call of `get_blocks` gives.
+use mathlib.Core.Path.{_≡_}
+use mathlib.Core.Bool.{Bool, false}
+use mathlib.Core.List.{List, _++_, map}
+use Prim.Native.Nat.{ℕ}
+use lib.Dec.{leb}
+use lib.ListN.{length, drop}
+use Rattle.refusal.specs.declared.Refusal.the-variants.{Malformed, TooShort}
+use Rattle.refusal.specs.declared.Place.{Place}
+use Rattle.refusal.specs.declared.Place.the-variants.{One}
+use Rattle.refusal.specs.Pick.{pick}
+use Rattle.refusal.specs.Refusals.{numberOf, placeOf}
+use Rattle.blocks.specs.declared.Block.{Block}
+use Rattle.blocks.specs.declared.Blocks.{Blocks}
+use Rattle.blocks.specs.declared.Blocks.the-variants.{Found, Refused}
+use Rattle.blocks.specs.Spans.{spansOf, acceptable}
+use Rattle.blocks.specs.Walk.{blocksOf}
+
+-- The columns in which blocks are lent and written.
+abbrev pub origins : List Block → List ℕ
+origins = map (λ b. b .origin)
+
+abbrev pub sizes : List Block → List ℕ
+sizes = map (λ b. b .size)
+
+-- "After success, lent spans, blocks and hex keep their old contents past what was written."
+abbrev pub over : List ℕ → List ℕ → List ℕ
+over new old = new ++ drop (length new) old
+
+abbrev pub roomFor : List Block → List ℕ → List ℕ → Bool
+roomFor blocks origins₀ sizes₀ = pick (leb (length blocks) (length origins₀)) (leb (length blocks) (length sizes₀)) false
+
+-- "14 comes last", "a lent output is too short: .. blocks 2": what is answered, and what is lent afterwards.
+abbrev pub answerOf : List Block → List ℕ → List ℕ → Blocks
+answerOf blocks origins₀ sizes₀ = pick (roomFor blocks origins₀ sizes₀) (Found (length blocks)) (Refused (TooShort 2))
+
+abbrev pub originsAfter : List Block → List ℕ → List ℕ → List ℕ
+originsAfter blocks origins₀ sizes₀ = pick (roomFor blocks origins₀ sizes₀) (over (origins blocks) origins₀) origins₀
+
+abbrev pub sizesAfter : List Block → List ℕ → List ℕ → List ℕ
+sizesAfter blocks origins₀ sizes₀ = pick (roomFor blocks origins₀ sizes₀) (over (sizes blocks) sizes₀) sizes₀
+
+pub record Written (blocks : List Block) (origins₀ sizes₀ : List ℕ) (r : Blocks) (origins₁ sizes₁ : List ℕ) : Type 0 where
+  pub answer : r ≡ answerOf blocks origins₀ sizes₀
+  pub first : origins₁ ≡ originsAfter blocks origins₀ sizes₀
+  pub second : sizes₁ ≡ sizesAfter blocks origins₀ sizes₀
+
+-- An answer in document 01's figures: the refusal's number and place, 0 where nothing is refused, and how many blocks there are.
+pub record Told : Type 0 where
+  pub number : ℕ
+  pub place : Place
+  pub blocks : ℕ
+
+abbrev pub told : ℕ → Place → ℕ → Told
+told number place blocks = record { number = number; place = place; blocks = blocks }
+
+abbrev pub toldBy : Blocks → Told
+toldBy (Found n) = told 0 (One 0) n
+toldBy (Refused r) = told (numberOf r) (placeOf r) 0
+
+-- A call of `get_blocks`: "Block and hex calls try 4 .., then 14", and a refusal "changes nothing lent".
+pub record Contract (words lengths origins₀ sizes₀ : List ℕ) (r : Blocks) (origins₁ sizes₁ : List ℕ) : Type 0 where
+  pub answer : r ≡ pick (acceptable words lengths) (answerOf (blocksOf (spansOf words lengths)) origins₀ sizes₀) (Refused (Malformed 0))
+  pub figures : toldBy r ≡ pick (acceptable words lengths) (pick (roomFor (blocksOf (spansOf words lengths)) origins₀ sizes₀) (told 0 (One 0) (length (blocksOf (spansOf words lengths)))) (told 14 (One 2) 0)) (told 4 (One 0) 0)
+  pub first : origins₁ ≡ pick (acceptable words lengths) (originsAfter (blocksOf (spansOf words lengths)) origins₀ sizes₀) origins₀
+  pub second : sizes₁ ≡ pick (acceptable words lengths) (sizesAfter (blocksOf (spansOf words lengths)) origins₀ sizes₀) sizes₀
