@@ -1,0 +1,114 @@
+-- `form::read_rows` meets its contract. The invariant: the rows passed stand in the lists, and behind them their old contents.
+use Prim.Native.Nat.{_+_, _-_, _*_, _≤_}
+use mathlib.Core.Path.{_≡_, refl, _∙_}
+use mathlib.Core.List.{_++_}
+use native.Mathlib.Nat.{mul-le-mul-right, zero-mul}
+use native.Mathlib.Omega.{arith}
+use lib.ListN.{length, drop}
+use Rattle.form.specs.Lists.{cells}
+use Rattle.form.specs.Words.{byte, word32}
+use Rattle.form.proofs.Cells.{cells-turn}
+use Rattle.form.proofs.read_rows.Statement.{statement}
+use Rattle.form.proofs.read_rows.Tie as tie
+
+abbrev Inv-loop : tie.InvT-loop
+Inv-loop file at nodes rows numbers₀ states₀ r₀ numbers states r =
+    (r ≤ rows)
+    × (length numbers ≡ length numbers₀)
+    × (length states ≡ length states₀)
+    × (numbers ≡ cells (word32 file) nodes (at + 3) r ++ drop (r * nodes) numbers₀)
+    × (states ≡ cells (byte file) nodes (at + 7) r ++ drop (r * nodes) states₀)
+
+abbrev μ-loop : tie.MeasureT-loop
+μ-loop file at nodes rows numbers₀ states₀ r₀ numbers states r = rows - r
+
+-- the next row ends where the last of them ends, or before
+behind : (c : tie.In-loop Inv-loop μ-loop) → (c .before .loop .r + 1) * (3 + 5 * c .before .before .before .before .before .args .nodes) ≤ c .before .before .before .before .before .args .rows * (3 + 5 * c .before .before .before .before .before .args .nodes)
+behind c = mul-le-mul-right (3 + 5 * c .before .before .before .before .before .args .nodes) (omega arith)
+
+loop-holds : tie.Need-loop-holds Inv-loop μ-loop
+unfolding cells
+loop-holds c =
+    let a = c .before .before .before .args in
+    (omega arith, refl, refl, rw (zero-mul (a .nodes)) refl, rw (zero-mul (a .nodes)) refl)
+
+mul-p : tie.Need-mul-p Inv-loop μ-loop
+mul-p c = omega (arith, behind c)
+
+add-p : tie.Need-add-p Inv-loop μ-loop
+add-p c = omega (arith, behind c)
+
+mul-p-2 : tie.Need-mul-p-2 Inv-loop μ-loop
+mul-p-2 c = omega (arith, behind c)
+
+add-p-2 : tie.Need-add-p-2 Inv-loop μ-loop
+add-p-2 c = omega (arith, behind c)
+
+add-read-columns : tie.Need-add-read-columns Inv-loop μ-loop
+add-read-columns c = omega (arith, behind c)
+
+add-read-columns-2 : tie.Need-add-read-columns-2 Inv-loop μ-loop
+add-read-columns-2 c = omega (arith, behind c)
+
+mul-read-columns : tie.Need-mul-read-columns Inv-loop μ-loop
+mul-read-columns c = omega (arith, behind c)
+
+read-columns-requires : tie.Need-read-columns-requires Inv-loop μ-loop
+read-columns-requires c κs =
+    let room = behind (c .before .before) in
+    let fits = mul-le-mul-right (c .before .before .before .before .before .before .before .args .nodes) (c .before .before .loop-test .taken) in
+    (omega arith, (omega arith, (omega arith, omega arith)))
+
+add-r : tie.Need-add-r Inv-loop μ-loop
+add-r c = omega arith
+
+loop-less : tie.Need-loop-less Inv-loop μ-loop
+loop-less c = omega arith
+
+loop-again : tie.Need-loop-again Inv-loop μ-loop
+loop-again c =
+    let a = c .before .before .before .before .before .before .before .before .before .before .before .before .args in
+    let r = c .before .before .before .before .before .before .before .before .loop .r in
+    let k = c .before .before .before .before .before .before .before .before .loop .inv in
+    let file = a .file .now in
+    let p = a .at + r * (3 + 5 * a .nodes) in (
+      omega arith,
+      c .before .before .before .before .read-columns .kept .1 .1 .1 .1 .1 .1 .0 ∙ k .1,
+      c .before .before .before .before .read-columns .kept .1 .1 .1 .1 .1 .1 .1 .0 ∙ k .2,
+      c .before .before .before .before .read-columns .ensures .0 ∙ rw (k .3) (cells-turn (word32 file) (a .nodes) (a .at + 3) r (p + 3) (a .numbers .now) (omega arith)),
+      c .before .before .before .before .read-columns .ensures .1 ∙ rw (k .4) (cells-turn (byte file) (a .nodes) (a .at + 7) r (p + 7) (a .states .now) (omega arith)),
+    )
+
+same-length : tie.Need-same-length Inv-loop μ-loop
+same-length c = c .before .loop .inv .1
+
+same-length-2 : tie.Need-same-length-2 Inv-loop μ-loop
+same-length-2 c = c .before .loop .inv .2
+
+returns : tie.Need-returns Inv-loop μ-loop
+returns c =
+    let k = c .before .loop .inv in
+    let e : c .before .loop .r ≡ c .before .before .before .before .before .args .rows = omega arith in
+    (k .3 ∙ rw e refl, k .4 ∙ rw e refl)
+
+pub read-rows-spec : {M : Type 1} → statement M
+read-rows-spec =
+    tie.close
+    (tie.spec
+    Inv-loop
+    μ-loop
+    loop-holds
+    mul-p
+    add-p
+    mul-p-2
+    add-p-2
+    add-read-columns
+    add-read-columns-2
+    mul-read-columns
+    read-columns-requires
+    add-r
+    loop-less
+    loop-again
+    same-length
+    same-length-2
+    returns)

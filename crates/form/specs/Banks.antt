@@ -1,0 +1,60 @@
+-- The banks of a file. Document 01: "1 bank (unit 2 bytes, signed start 8, size 4, offset 4, label alignment 4, flags 1: size 1, offset
+-- 2, label alignment 4, fill 8)". "A number whose flag is clear is not read."
+use mathlib.Core.Bool.{Bool, false}
+use mathlib.Core.List.{List, _++_}
+use mathlib.Core.Path.{_≡_}
+use Prim.Native.Nat.{ℕ, _+_, _-_, _/_, _%_, min}
+use lib.Dec.{eqb}
+use lib.IntN.{pos}
+use lib.ListN.{replicate}
+use mir.Syntax.{w64}
+use mir.Val.{toZ}
+use Rattle.refusal.specs.Limits.{maxBanks}
+use Rattle.refusal.specs.Pick.{pick}
+use Rattle.refusal.specs.declared.Opt.{Opt}
+use Rattle.refusal.specs.declared.Opt.the-variants.{None, Some}
+use Rattle.bankdef.specs.declared.Bankdef.{Bankdef}
+use Rattle.bankdef.specs.declared.Bankdefs.{Bankdefs}
+use Rattle.form.specs.Words.{byte, word16, word32, word64}
+use Rattle.form.specs.Columns.{column}
+use Rattle.form.specs.Shape.{bankCount}
+
+-- Whether a flag is set: each flag is a power of two.
+abbrev pub isSet : ℕ → ℕ → Bool
+isSet flags flag = eqb (flags / flag % 2) 1
+
+-- A number that is there where its flag is set.
+abbrev pub optOf : ℕ → ℕ → ℕ → Opt
+optOf flags flag n = pick (isSet flags flag) (Some n) None
+
+-- The bank whose field starts at `at`, three bytes before its payload. `toZ w64` reads eight bytes as two's complement.
+unfoldable pub bankAt : List ℕ → ℕ → Bankdef
+bankAt file at =
+    record {
+      unit = word16 file (at + 3);
+      start = toZ w64 (word64 file (at + 5));
+      size = optOf (byte file (at + 25)) 1 (word32 file (at + 13));
+      offset = optOf (byte file (at + 25)) 2 (word32 file (at + 17));
+      align = optOf (byte file (at + 25)) 4 (word32 file (at + 21));
+      fill = isSet (byte file (at + 25)) 8;
+    }
+
+-- The first `n` banks of a file.
+abbrev pub banksIn : List ℕ → ℕ → List Bankdef
+banksIn file n = column (bankAt file) 26 0 n
+
+-- What stands in a table behind its banks.
+abbrev pub noBank : Bankdef
+noBank = record { unit = 0; start = pos 0; size = None; offset = None; align = None; fill = false }
+
+-- The table of a file: its first 16 banks, and how many it has.
+abbrev pub tableOf : List ℕ → Bankdefs
+tableOf file =
+    record {
+      defs = banksIn file (min (bankCount file) maxBanks) ++ replicate (maxBanks - min (bankCount file) maxBanks) noBank;
+      len = bankCount file;
+    }
+
+-- What reading the banks promises: every entry of the table, and the count.
+abbrev pub TableIs : List ℕ → Bankdefs → Type 0
+TableIs file answer = answer ≡ tableOf file

@@ -1,0 +1,9 @@
+pub mod Banks
+pub mod Columns
+pub mod Example
+pub mod Fields
+pub mod Lists
+pub mod Shape
+pub mod Unique
+pub mod Words
+pub mod Writer

@@ -1,0 +1,10 @@
+pub mod BuildLaws
+pub mod ItemBits
+pub mod OfferLaws
+pub mod OwnBits
+pub mod Placements
+pub mod PlanLaws
+pub mod SettledLaws
+pub mod WritingFit
+pub mod WritingOver
+pub mod WritingSteps

@@ -1,0 +1,34 @@
+-- `is_placed` meets its contract, test by test.
+use mathlib.Core.Path.{sym, _∙_}
+use borrow.Author.Tests.{eq-eqb, ne-eqb}
+use lib.Dec.{eqb}
+use Rattle.output.specs.Placing.{isWritten}
+use Rattle.output.proofs.Placements.{or-middle}
+use borrow.Author.Needs.{needs}
+use Rattle.output.proofs.placing.is_placed.Statement.{statement}
+use Rattle.output.proofs.placing.is_placed.Tie as tie
+use Rattle.output.proofs.placing.is_placed.Reads as reads
+use Rattle.output.proofs.placing.is_placed.Lts as lts
+use Rattle.output.proofs.placing.is_written.Reads as is-written-reads
+
+-- src/placing.rt:28:9
+returns : tie.Need-returns
+returns c = rw (eq-eqb (c .before .before .args .node .kind) 2 (c .if1 .taken))
+
+-- src/placing.rt:30:8
+is-written-requires : tie.Need-is-written-requires
+is-written-requires c κs = search needs
+
+-- src/placing.rt:31:9
+returns-2 : tie.Need-returns-2
+returns-2 c =
+    let n = c .before .before .before .before .args .node in
+    sym (or-middle (eqb (n .kind) 2) (isWritten n) (eqb (n .kind) 7) (sym (c .before .is-written .ensures) ∙ c .if2 .taken))
+
+-- src/placing.rt:24:1
+returns-3 : tie.Need-returns-3
+returns-3 c =
+    rw (ne-eqb (c .before .before .before .before .before .args .node .kind) 2 (c .before .before .before .if1 .left), sym (c .before .before .is-written .ensures) ∙ c .before .if2 .left)
+
+pub is-placed-spec : {M : Type 1} → statement M
+is-placed-spec = tie.close (tie.spec returns is-written-requires returns-2 returns-3)

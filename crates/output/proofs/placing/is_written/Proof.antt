@@ -1,0 +1,17 @@
+-- `is_written` meets its contract: the two tests of the definition.
+use borrow.Author.Tests.{le-leb, lt-leb}
+use Rattle.output.proofs.placing.is_written.Statement.{statement}
+use Rattle.output.proofs.placing.is_written.Tie as tie
+use Rattle.output.proofs.placing.is_written.Reads as reads
+use Rattle.output.proofs.placing.is_written.Lts as lts
+
+-- src/placing.rt:36:1
+returns : tie.Need-returns
+returns c = rw (le-leb 4 (c .before .args .node .kind) (c .if1 .taken))
+
+-- src/placing.rt:36:1
+returns-2 : tie.Need-returns-2
+returns-2 c = rw (lt-leb 4 (c .before .args .node .kind) (c .if1 .left))
+
+pub is-written-spec : {M : Type 1} → statement M
+is-written-spec = tie.close (tie.spec returns returns-2)

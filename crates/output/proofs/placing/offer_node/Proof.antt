@@ -1,0 +1,78 @@
+-- `offer_node` meets its contract: one law for each way that a node's offer goes.
+use mathlib.Core.Path.{_≡_, refl, sym, subst, _∙_}
+use Prim.Native.Nat.{_≤_}
+use native.Mathlib.Omega.{arith}
+use borrow.Author.Tests.{ne-eqb}
+use Rattle.refusal.specs.Limits.{maxPosition}
+use Rattle.refusal.specs.declared.Offset.{Offset}
+use Rattle.overlap_checker.specs.Interval.{interval, Within}
+use Rattle.overlap_lent.specs.Lent.{held}
+use Rattle.output.specs.Placing.{offerAt}
+use Rattle.output.specs.Plan.{Goes}
+use Rattle.output.proofs.OfferLaws.{goes-nowhere, goes-label, goes-offered, label-accepted, other-offered}
+use borrow.Author.Needs.{needs}
+use Rattle.output.proofs.placing.offer_node.Statement.{statement}
+use Rattle.output.proofs.placing.offer_node.Tie as tie
+use Rattle.output.proofs.placing.offer_node.Reads as reads
+use Rattle.output.proofs.placing.offer_node.Lts as lts
+use Rattle.overlap_lent.proofs.offer.Reads as offer-reads
+
+-- src/placing.rt:122:25
+enum-told : tie.Need-enum-told
+enum-told c = search needs
+
+-- src/placing.rt:123:20
+enum-known-out : tie.Need-enum-known-out
+enum-known-out c = search needs
+
+-- src/placing.rt:125:17
+returns : tie.Need-returns
+returns c =
+    let s = c .before .before .before .before .before in
+    let a = s .args in
+    let known = c .before .before .before .out .given in
+    rw (known .1) (
+      label-accepted (held (a .positions .now) (a .sizes .now) (a .count)) (known .0 .0) (a .node) (c .if1 .taken),
+      goes-label (a .positions .now) (a .sizes .now) (a .count) (known .0 .0) (a .node) (s .pre .0) (c .if1 .taken),
+    )
+
+-- src/placing.rt:132:17
+cast-offer : tie.Need-cast-offer
+cast-offer c = search needs
+
+-- src/placing.rt:127:13
+offer-requires : tie.Need-offer-requires
+offer-requires c κs =
+    let s = c .before .before .before .before .before .before .before .before in
+    let known = c .before .before .before .before .before .before .out .given in
+    (s .pre .0, (s .pre .1 .1 (known .0 .0) (known .1), search needs))
+
+-- a node's number is within an offer's limits, by its type
+small : (c : tie.After-struct-known2) → c .before .before .before .before .before .before .before .before .args .node .number ≤ maxPosition
+small c = search needs
+
+-- src/placing.rt:108:1
+returns-2 : tie.Need-returns-2
+returns-2 c =
+    let s = c .before .before in
+    let a = s .args in
+    rw (c .enum-told .given .1) (refl, goes-nowhere (a .positions .now) (a .sizes .now) (a .count) (a .node) (s .pre .0))
+
+-- src/placing.rt:108:1
+returns-3 : tie.Need-returns-3
+returns-3 c =
+    let s = c .before .before .before .before .before .before .before .before .before in
+    let a = s .args in
+    let known = c .before .before .before .before .before .before .before .out .given in
+    let other = ne-eqb (a .node .kind) 2 (c .before .before .before .before .if1 .left) in
+    let within : Within (interval (known .0 .0) (a .node .number)) = (s .pre .1 .1 (known .0 .0) (known .1), small (c .before)) in
+    rw (known .1) (
+      c .offer .ensures .0 ∙ other-offered (held (a .positions .now) (a .sizes .now) (a .count)) (known .0 .0) (a .node) other,
+      goes-offered (a .positions .now) (a .sizes .now) (a .count) (s .pre .0) (known .0 .0) (a .node) (s .pre .1 .0) other within
+          (c .offer .result) (c .offer .last .0) (c .offer .last .1 .0) (c .offer .ensures .0) (c .offer .ensures .1 .0) (c .offer .ensures .1 .1),
+    )
+
+pub offer-node-spec : {M : Type 1} → statement M
+offer-node-spec =
+    tie.close
+    (tie.spec enum-told enum-known-out returns cast-offer offer-requires returns-2 returns-3)

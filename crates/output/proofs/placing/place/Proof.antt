@@ -1,0 +1,104 @@
+-- `place` meets its contract: one law for each way through the tests.
+use mathlib.Core.Path.{_≡_, sym, _∙_}
+use borrow.Author.Tests.{not-true, not-false}
+use Rattle.overlap_lent.specs.Lent.{held}
+use Rattle.output.proofs.OfferLaws.{goes-unplaced, goes-refused, verdict-stopped, verdict-unplaced, verdict-checked, verdict-offered}
+use borrow.Author.Needs.{needs}
+use Rattle.output.proofs.placing.place.Statement.{statement}
+use Rattle.output.proofs.placing.place.Tie as tie
+use Rattle.output.proofs.placing.place.Reads as reads
+use Rattle.output.proofs.placing.place.Lts as lts
+use Rattle.output.proofs.placing.check_place.Reads as check-place-reads
+use Rattle.output.proofs.placing.is_placed.Reads as is-placed-reads
+use Rattle.output.proofs.placing.offer_node.Reads as offer-node-reads
+
+-- src/placing.rt:160:24
+enum-known-seen : tie.Need-enum-known-seen
+enum-known-seen c = search needs
+
+-- src/placing.rt:161:19
+enum-known-seen-2 : tie.Need-enum-known-seen-2
+enum-known-seen-2 c = search needs
+
+-- src/placing.rt:162:17
+is-placed-requires : tie.Need-is-placed-requires
+is-placed-requires c κs = search needs
+
+-- src/placing.rt:163:17
+returns : tie.Need-returns
+returns c =
+    let s = c .before .before .before .before .before in
+    let a = s .args in
+    let known = c .before .before .before .seen2 .given in
+    let none = sym (c .before .is-placed .ensures) ∙ not-true _ (c .if1 .taken) in (
+      verdict-unplaced (a .banks) (a .bank) (a .def) (held (a .positions .now) (a .sizes .now) (a .count)) (a .node) (a .seen) (known .0 .0) (known .1) none,
+      goes-unplaced (a .positions .now) (a .sizes .now) (a .count) (a .out) (a .node) (s .pre .0) none,
+    )
+
+-- src/placing.rt:165:17
+check-place-requires : tie.Need-check-place-requires
+check-place-requires c κs = search needs
+
+-- src/placing.rt:167:34
+enum-known-checked : tie.Need-enum-known-checked
+enum-known-checked c = search needs
+
+-- src/placing.rt:168:60
+enum-told : tie.Need-enum-told
+enum-told c = search needs
+
+-- src/placing.rt:168:38
+offer-node-requires : tie.Need-offer-node-requires
+offer-node-requires c κs =
+    let s = c .before .before .before .before .before .before .before .before .before .before in
+    (s .pre .0, (sym (c .before .before .before .before .before .before .is-placed .ensures) ∙ not-false _ (c .before .before .before .before .before .if1 .left), s .pre .1 .1))
+
+-- src/placing.rt:142:1
+returns-2 : tie.Need-returns-2
+returns-2 c =
+    let a = c .before .before .before .args in
+    let known = c .before .seen .given in (
+      verdict-stopped (a .banks) (a .bank) (a .def) (held (a .positions .now) (a .sizes .now) (a .count)) (a .node) (a .seen) (known .0 .0) (known .1),
+      goes-refused (a .positions .now) (a .sizes .now) (a .count) (a .out) (a .node) (known .0 .0),
+    )
+
+-- src/placing.rt:142:1
+returns-3 : tie.Need-returns-3
+returns-3 c =
+    let s = c .before .before .before .before .before .before .before .before .before in
+    let a = s .args in
+    let known = c .before .before .before .before .before .before .before .seen2 .given in
+    let placed = sym (c .before .before .before .before .before .is-placed .ensures) ∙ not-false _ (c .before .before .before .before .if1 .left) in
+    let why = c .before .checked .given in (
+      verdict-checked (a .banks) (a .bank) (a .def) (held (a .positions .now) (a .sizes .now) (a .count)) (a .node) (a .seen) (known .0 .0) (known .1) placed (a .out) (s .pre .1 .0)
+          (c .before .before .before .check-place .result) (c .before .before .before .check-place .ensures) (why .0 .0) (why .1),
+      goes-refused (a .positions .now) (a .sizes .now) (a .count) (a .out) (a .node) (why .0 .0),
+    )
+
+-- src/placing.rt:142:1
+returns-4 : tie.Need-returns-4
+returns-4 c =
+    let s = c .before .before .before .before .before .before .before .before .before .before .before in
+    let a = s .args in
+    let known = c .before .before .before .before .before .before .before .before .before .seen2 .given in
+    let placed = sym (c .before .before .before .before .before .before .before .is-placed .ensures) ∙ not-false _ (c .before .before .before .before .before .before .if1 .left) in (
+      verdict-offered (a .banks) (a .bank) (a .def) (held (a .positions .now) (a .sizes .now) (a .count)) (a .node) (a .seen) (known .0 .0) (known .1) placed (a .out) (s .pre .1 .0)
+          (c .before .before .before .before .before .check-place .result) (c .before .before .before .before .before .check-place .ensures) (c .before .before .before .enum-told .given .1) (c .offer-node .result) (c .offer-node .ensures .0),
+      c .offer-node .ensures .1,
+    )
+
+pub place-spec : {M : Type 1} → statement M
+place-spec =
+    tie.close
+    (tie.spec
+    enum-known-seen
+    enum-known-seen-2
+    is-placed-requires
+    returns
+    check-place-requires
+    enum-known-checked
+    enum-told
+    offer-node-requires
+    returns-2
+    returns-3
+    returns-4)

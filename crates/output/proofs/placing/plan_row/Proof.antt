@@ -1,0 +1,136 @@
+-- `plan_row` meets its contract. The loop's invariant is `Going`: each node is met by a law of PlanLaws.
+use mathlib.Core.Path.{_≡_, refl, sym, _∙_}
+use Prim.Native.Nat.{ℕ, _-_, _<_}
+use native.Mathlib.Omega.{arith}
+use borrow.Author.Needs.{needs}
+use Rattle.output.specs.Plan.{Going, programOf, rowOf}
+use Rattle.output.proofs.PlanLaws.{begins, settles, goes-on, ends, out-seen}
+use Rattle.output.proofs.placing.plan_row.Statement.{statement}
+use Rattle.output.proofs.placing.plan_row.Tie as tie
+use Rattle.output.proofs.placing.plan_row.Reads as reads
+use Rattle.output.proofs.placing.plan_row.Lts as lts
+use Rattle.iter.proofs.start.Reads as start-reads
+use Rattle.output.proofs.placing.count_after.Reads as count-after-reads
+use Rattle.output.proofs.placing.length_after.Reads as length-after-reads
+use Rattle.output.proofs.placing.place.Reads as place-reads
+use Rattle.output.proofs.placing.spans_after.Reads as spans-after-reads
+use Rattle.output.proofs.visits.visit_node.Reads as visit-node-reads
+
+abbrev Inv-loop : tie.InvT-loop
+Inv-loop banks kinds operands first numbers states fill positions₀ sizes₀ count₀ walk₀ reach₀ spans₀ i₀ positions sizes count walk reach spans i =
+    Going (programOf banks kinds operands first) (rowOf numbers states) fill i walk positions sizes count reach spans
+
+abbrev μ-loop : tie.MeasureT-loop
+μ-loop banks kinds operands first numbers states fill positions₀ sizes₀ count₀ walk₀ reach₀ spans₀ i₀ positions sizes count walk reach spans i =
+    lib.ListN.length kinds - i
+
+-- src/placing.rt:267:9
+start-requires : tie.Need-start-requires Inv-loop μ-loop
+start-requires c κs = search needs
+
+-- src/placing.rt:271:5
+loop-holds : tie.Need-loop-holds Inv-loop μ-loop
+loop-holds c =
+    let s = c .before .before .before .before .before .before in
+    begins (programOf (s .args .banks) (s .args .kinds .now) (s .args .operands .now) (s .args .first .now)) (rowOf (s .args .numbers .now) (s .args .states .now)) (s .args .fill) (c .start .result) (c .start .ensures) (s .pre .0)
+
+-- src/placing.rt:272:13
+visit-node-requires : tie.Need-visit-node-requires Inv-loop μ-loop
+visit-node-requires c κs = search needs
+
+-- src/placing.rt:277:13
+place-requires : tie.Need-place-requires Inv-loop μ-loop
+place-requires c κs =
+    let loop = c .before .before .before .before .before .before in
+    let a = c .before .before .before .before .before .before .before .before .before .before .before .before .before .args in
+    let p = programOf (a .banks) (a .kinds .now) (a .operands .now) (a .first .now) in
+    let row = rowOf (a .numbers .now) (a .states .now) in
+    let at = loop .loop in
+    let visit = c .before .before .before .before .visit-node in
+    (at .inv .sound, (out-seen p row (at .walk) (at .i) (visit .result) (visit .ensures .0), visit .ensures .1))
+
+-- src/placing.rt:289:13
+enum-told : tie.Need-enum-told Inv-loop μ-loop
+enum-told c = search needs
+
+-- src/placing.rt:289:13
+returns : tie.Need-returns Inv-loop μ-loop
+returns c =
+    let loop = c .before .before .before .before .before .before .before .before .before in
+    let a = c .before .before .before .before .before .before .before .before .before .before .before .before .before .before .before .before .args in
+    let p = programOf (a .banks) (a .kinds .now) (a .operands .now) (a .first .now) in
+    let row = rowOf (a .numbers .now) (a .states .now) in
+    let at = loop .loop in
+    let visit = c .before .before .before .before .before .before .before .visit-node in
+    let placed = c .before .before .place in
+    let told = c .enum-told .given in
+    settles p row (a .fill) (at .i) (at .walk) (at .positions) (at .sizes) (at .count) (at .reach) (at .spans) (at .inv) (visit .result) (visit .ensures .0) (placed .result) (placed .ensures .0)
+    (told .0 .0) (c .before .before .before .before .before .before .before .before .loop-test .taken) (told .1)
+
+enum-told-2 : tie.Need-enum-told-2 Inv-loop μ-loop
+enum-told-2 c = search needs
+
+-- src/placing.rt:295:9
+count-after-requires : tie.Need-count-after-requires Inv-loop μ-loop
+count-after-requires c κs = omega (arith, c .before .before .before .before .before .before .before .before .before .loop .inv .sound .few)
+
+-- src/placing.rt:296:9
+length-after-requires : tie.Need-length-after-requires Inv-loop μ-loop
+length-after-requires c κs = (c .before .before .before .before .before .before .before .before .visit-node .ensures .1, c .before .before .before .before .before .before .before .before .before .before .loop .inv .low)
+
+-- src/placing.rt:297:9
+spans-after-requires : tie.Need-spans-after-requires Inv-loop μ-loop
+spans-after-requires c κs = omega (arith, c .before .before .before .before .before .before .before .before .before .before .before .loop .inv .few, c .before .before .before .before .before .before .before .before .before .before .before .loop .inv .within, c .before .before .before .before .before .before .before .before .before .before .before .before .before .before .before .before .before .before .pre .1)
+
+-- src/placing.rt:299:9
+add-i : tie.Need-add-i Inv-loop μ-loop
+add-i c = omega (arith, c .before .before .before .before .before .before .before .before .before .before .before .before .loop-test .taken, c .before .before .before .before .before .before .before .before .before .before .before .before .before .before .before .before .before .before .before .before .pre .1)
+
+-- src/placing.rt:271:5
+loop-less : tie.Need-loop-less Inv-loop μ-loop
+loop-less c = omega (arith, c .before .before .before .before .before .before .before .before .before .before .before .before .loop-test .taken)
+
+-- src/placing.rt:271:5
+loop-again : tie.Need-loop-again Inv-loop μ-loop
+loop-again c =
+    let loop = c .before .before .before .before .before .before .before .before .before .before .before .before .before in
+    let a = c .before .before .before .before .before .before .before .before .before .before .before .before .before .before .before .before .before .before .before .before .args in
+    let p = programOf (a .banks) (a .kinds .now) (a .operands .now) (a .first .now) in
+    let row = rowOf (a .numbers .now) (a .states .now) in
+    let at = loop .loop in
+    let visit = c .before .before .before .before .before .before .before .before .before .before .before .visit-node in
+    let placed = c .before .before .before .before .before .before .place in
+    goes-on p row (a .fill) (at .i) (at .walk) (at .positions) (at .sizes) (at .count) (at .reach) (at .spans) (at .inv) (visit .result) (visit .ensures .0) (placed .result) (placed .ensures .0)
+    (c .before .before .before .before .before .before .before .before .before .before .before .before .loop-test .taken) (c .before .before .before .before .enum-told2 .given .1) _ _ _ _ _ (placed .ensures .1) (c .before .before .before .count-after .ensures) (c .before .before .length-after .ensures .0) (c .before .before .length-after .ensures .1)
+    (c .before .spans-after .ensures)
+
+-- src/placing.rt:252:1
+returns-2 : tie.Need-returns-2 Inv-loop μ-loop
+returns-2 c =
+    let loop = c .before in
+    let a = c .before .before .before .before .before .before .before .before .args in
+    let p = programOf (a .banks) (a .kinds .now) (a .operands .now) (a .first .now) in
+    let row = rowOf (a .numbers .now) (a .states .now) in
+    let at = loop .loop in
+    ends p row (a .fill) (at .i) (at .walk) (at .positions) (at .sizes) (at .count) (at .reach) (at .spans) (at .inv) (c .loop-test .left)
+
+pub plan-row-spec : {M : Type 1} → statement M
+plan-row-spec =
+    tie.close
+    (tie.spec
+    Inv-loop
+    μ-loop
+    start-requires
+    loop-holds
+    visit-node-requires
+    place-requires
+    enum-told
+    returns
+    enum-told-2
+    count-after-requires
+    length-after-requires
+    spans-after-requires
+    add-i
+    loop-less
+    loop-again
+    returns-2)

@@ -1,0 +1,167 @@
+// The public build: the passes, the first walk, then, once nothing can be refused any more, the second.
+use crate::Build;
+use crate::Output;
+use crate::placing::plan_row;
+use crate::writing::write_image;
+use crate::writing::write_spans;
+use bankdef::Bankdefs;
+use refusal::Refusal;
+use refusal::Verdict;
+use resolver::Settled;
+ghost use mathlib.Core.Path.{_≡_};
+ghost use mathlib.Core.Bool.{true};
+ghost use Prim.Native.Nat.{ℕ, _+_, _*_, _-_, _≤_, _<_, min};
+ghost use lib.Dec.{ltb};
+ghost use lib.ListN.{length};
+ghost use Rattle.refusal.specs.Limits.{maxNodes, maxRows};
+ghost use Rattle.bankdef.specs.Check.{banksOf};
+ghost use Rattle.bankdef.specs.Fill.{fillLength};
+ghost use Rattle.resolver.specs.Lists.{lists};
+ghost use Rattle.resolver.specs.Once.{node};
+ghost use Rattle.output.specs.Placing.{isWritten};
+ghost use Rattle.output.specs.Plan.{programOf, rowOf, maxEnd};
+ghost use Rattle.output.specs.Image.{InValues};
+ghost use Rattle.output.specs.Output.{RowBuilt, Builds};
+
+// Whether an image of so many bytes has fewer bits. Whole bytes are compared, so that no product can wrap.
+fn lacks_bytes(bytes: u64, bits: u64) -> bool
+    requires { ⌜ bits ≤ maxEnd ⌝ }
+    ensures { λ r. ⌜ r ≡ ltb (8 * bytes) bits ⌝ }
+{
+    bytes < (bits + 7) / 8
+}
+
+fn shorter(a: u64, b: u64) -> u64
+    ensures { λ r. ⌜ r ≡ min a b ⌝ }
+{
+    if a < b { a } else { b }
+}
+
+// The build over the row of the last pass. "14 comes last: image, then spans."
+fn build_row(
+    banks: Bankdefs,
+    kinds: &[u8],
+    operands: &[u32],
+    first: &[u32],
+    numbers: &[u32],
+    states: &[u8],
+    values: &[u8],
+    k: u64,
+    image: &mut [u8],
+    addresses: &mut [i64],
+    offsets: &mut [u64],
+    sizes: &mut [u64],
+) -> Build
+    requires { ⌜ length (now kinds) ≤ maxNodes ⌝ }
+    requires { ⌜ InValues (programOf banks (now kinds) (now operands) (now first)) (rowOf (now numbers) (now states)) (length (now values)) (length (now kinds)) ⌝ }
+    ensures { λ r. ⌜ RowBuilt (programOf banks (now (kinds .entry)) (now (operands .entry)) (now (first .entry))) (rowOf (now (numbers .entry)) (now (states .entry))) (fillLength (banksOf banks)) k (now (values .entry)) (now (image .entry)) (now (addresses .entry)) (now (offsets .entry)) (now (sizes .entry)) r (now (image .exit)) (now (addresses .exit)) (now (offsets .exit)) (now (sizes .exit)) ⌝ }
+{
+    let fill = bankdef::fill_length(banks);
+    let plan = plan_row(banks, kinds, operands, first, numbers, states, fill);
+    let verdict = plan.verdict;
+    if let Verdict::Refused(why) = verdict {
+        return Build::Refused(why);
+    }
+    let length = plan.length;
+    let spans = plan.spans;
+    if lacks_bytes(image.len() as u64, length) {
+        return Build::Refused(Refusal::TooShort(0));
+    }
+    let two = shorter(offsets.len() as u64, sizes.len() as u64);
+    let places = shorter(addresses.len() as u64, two);
+    if places < spans {
+        return Build::Refused(Refusal::TooShort(1));
+    }
+    write_image(
+        banks,
+        kinds,
+        operands,
+        first,
+        numbers,
+        states,
+        values,
+        image,
+    );
+    write_spans(
+        banks,
+        kinds,
+        operands,
+        first,
+        numbers,
+        states,
+        addresses,
+        offsets,
+        sizes,
+    );
+    Build::Done { k, length, spans }
+}
+
+// Where the row of a pass begins in the lists. "Pass n reads row n, or the last row if there are fewer." Rows are counted from 0.
+fn row_start(rows: u64, passes: u64, n: usize) -> usize
+    requires { ⌜ (1 ≤ rows) × (rows ≤ maxRows) × (n ≤ maxNodes) ⌝ }
+    ensures { λ r. ⌜ r ≡ (min passes rows - 1) * n ⌝ }
+    ensures { λ r. ⌜ r + n ≤ rows * n ⌝ }
+{
+    let last = shorter(passes, rows);
+    if last == 0 {
+        return 0;
+    }
+    ((last - 1) as usize) * n
+}
+
+// The build: the answer of document 01, and, accepted, the image and the spans. A refused build changes nothing that is lent.
+pub fn build_output(
+    banks: Bankdefs,
+    kinds: &[u8],
+    operands: &[u32],
+    numbers: &[u32],
+    states: &[u8],
+    rows: u64,
+    values: &[u8],
+    limit: u8,
+    image: &mut [u8],
+    addresses: &mut [i64],
+    offsets: &mut [u64],
+    sizes: &mut [u64],
+) -> Output
+    ensures { λ r. ⌜ Builds banks (lists (now (kinds .entry)) (now (operands .entry)) (now (numbers .entry)) (now (states .entry)) rows (now (values .entry))) limit (now (image .entry)) (now (addresses .entry)) (now (offsets .entry)) (now (sizes .entry)) r (now (image .exit)) (now (addresses .exit)) (now (offsets .exit)) (now (sizes .exit)) ⌝ }
+{
+    let resolution = resolver::resolve(
+        banks,
+        kinds,
+        operands,
+        numbers,
+        states,
+        rows,
+        values,
+        limit,
+    );
+    let settled = resolution.settled;
+    let passes = resolution.passes;
+    match settled {
+        Settled::Refused(why) => Output {
+            build: Build::Refused(why),
+            passes,
+        },
+        Settled::At(k) => {
+            let n = kinds.len();
+            let a = row_start(rows, passes, n);
+            let e = a + n;
+            let build = build_row(
+                banks,
+                kinds,
+                operands,
+                &numbers[0..n],
+                &numbers[a..e],
+                &states[a..e],
+                values,
+                k,
+                image,
+                addresses,
+                offsets,
+                sizes,
+            );
+            Output { build, passes }
+        }
+    }
+}

@@ -1,0 +1,147 @@
+// The second walk, which writes: the image's bits and the spans, once everything is decided.
+use crate::placing::is_span;
+use crate::placing::is_written;
+use crate::placing::size_of;
+use crate::visits::visit_node;
+use bankdef::Bankdef;
+use bankdef::Bankdefs;
+use iter::Address;
+use iter::Moved;
+use iter::Node;
+use refusal::Offset;
+ghost use mathlib.Core.Path.{_≡_};
+ghost use mathlib.Core.Bool.{true};
+ghost use Prim.Native.Nat.{_+_, _≤_, _<_};
+ghost use lib.ListN.{length, set};
+ghost use Rattle.refusal.specs.Pick.{pick};
+ghost use Rattle.blocks.specs.Offsets.{wordOf};
+ghost use Rattle.iter.specs.Address.{addressOf};
+ghost use Rattle.output.specs.Visits.{seenPos};
+ghost use Rattle.output.specs.Placing.{isWritten, sizeOf};
+ghost use Rattle.output.specs.Spans.{isSpan, told, spansTo, over, addresses as addressesOf, words as wordsOf, sizes as sizesOf};
+ghost use Rattle.output.specs.Plan.{programOf, rowOf};
+ghost use Rattle.output.specs.Image.{writtenAt, imageTo, FitsAt, Fit};
+
+// The position that a node sees, in bits.
+fn position_of(seen: Moved) -> u32
+    ensures { λ r. ⌜ r ≡ seenPos seen .position ⌝ }
+{
+    match seen {
+        Moved::To(at) => at.position,
+        Moved::Refused(_) => 0,
+    }
+}
+
+// The address of the position that a node sees, in whole units. A sound table has one for every bank, and an accepted walk one
+// for every node.
+fn address_of(def: Bankdef, seen: Moved, index: u64) -> i64
+    ensures { λ r. ⌜ r ≡ told (addressOf def (seenPos seen .position) index) ⌝ }
+{
+    match iter::get_address(def, position_of(seen), index) {
+        Address::At(address) => address,
+        Address::Refused(_) => 0,
+    }
+}
+
+// A written item's bits, at its place in the image; any other node leaves the image as it is.
+fn write_item(node: Node, out: Offset, values: &[u8], image: &mut [u8])
+    requires { ⌜ FitsAt node out (length (now values)) (length (now image)) ⌝ }
+    ensures { λ _. ⌜ now (image .exit) ≡ pick (isWritten node) (writtenAt (now (image .entry)) out (now (values .entry)) node) (now (image .entry)) ⌝ }
+{
+    if !is_written(node) {
+        return;
+    }
+    match out {
+        Offset::None => {}
+        Offset::At(o) => {
+            bitvec::write_bits(image, o, values, node.operand as u64, node.number as u64);
+        }
+    }
+}
+
+// The image of a row: all clear, then each written item's bits.
+pub fn write_image(
+    banks: Bankdefs,
+    kinds: &[u8],
+    operands: &[u32],
+    first: &[u32],
+    numbers: &[u32],
+    states: &[u8],
+    values: &[u8],
+    image: &mut [u8],
+)
+    requires { ⌜ Fit (programOf banks (now kinds) (now operands) (now first)) (rowOf (now numbers) (now states)) (length (now values)) (length (now image)) (length (now kinds)) ⌝ }
+    ensures { λ _. ⌜ now (image .exit) ≡ imageTo (programOf banks (now (kinds .entry)) (now (operands .entry)) (now (first .entry))) (rowOf (now (numbers .entry)) (now (states .entry))) (now (values .entry)) (length (now (image .entry))) (length (now (kinds .entry))) ⌝ }
+{
+    bitvec::clear(image);
+    let mut walk = iter::start();
+    let mut i = 0;
+    while i < kinds.len() {
+        let v = visit_node(banks, kinds, operands, first, numbers, states, walk, i);
+        let node = v.node;
+        let out = v.out;
+        write_item(node, out, values, image);
+        walk = v.walk;
+        i += 1;
+    }
+}
+
+// Node's span into each of the three lists, at `count`, where the node has one. Answers how many there are then.
+fn put_span(
+    node: Node,
+    def: Bankdef,
+    seen: Moved,
+    out: Offset,
+    count: usize,
+    addresses: &mut [i64],
+    offsets: &mut [u64],
+    sizes: &mut [u64],
+) -> usize
+    requires { ⌜ (isSpan node ≡ true → (count < length (now addresses)) × (count < length (now offsets)) × (count < length (now sizes))) ⌝ }
+    ensures count { λ r. ⌜ r ≡ pick (isSpan node) (count + 1) count ⌝ }
+    ensures addresses { λ r. ⌜ now (addresses .exit) ≡ pick (isSpan node) (set (now (addresses .entry)) count (told (addressOf def (seenPos seen .position) (node .index)))) (now (addresses .entry)) ⌝ }
+    ensures offsets { λ r. ⌜ now (offsets .exit) ≡ pick (isSpan node) (set (now (offsets .entry)) count (wordOf out)) (now (offsets .entry)) ⌝ }
+    ensures sizes { λ r. ⌜ now (sizes .exit) ≡ pick (isSpan node) (set (now (sizes .entry)) count (sizeOf node)) (now (sizes .entry)) ⌝ }
+{
+    if !is_span(node) {
+        return count;
+    }
+    addresses[count] = address_of(def, seen, node.index);
+    offsets[count] = blocks::word_of(out);
+    sizes[count] = size_of(node);
+    count + 1
+}
+
+// The spans of a row, in node order; the lists keep their old contents past them.
+pub fn write_spans(
+    banks: Bankdefs,
+    kinds: &[u8],
+    operands: &[u32],
+    first: &[u32],
+    numbers: &[u32],
+    states: &[u8],
+    addresses: &mut [i64],
+    offsets: &mut [u64],
+    sizes: &mut [u64],
+)
+    requires { ⌜ length (spansTo (programOf banks (now kinds) (now operands) (now first)) (rowOf (now numbers) (now states)) (length (now kinds))) ≤ length (now addresses) ⌝ }
+    requires { ⌜ length (spansTo (programOf banks (now kinds) (now operands) (now first)) (rowOf (now numbers) (now states)) (length (now kinds))) ≤ length (now offsets) ⌝ }
+    requires { ⌜ length (spansTo (programOf banks (now kinds) (now operands) (now first)) (rowOf (now numbers) (now states)) (length (now kinds))) ≤ length (now sizes) ⌝ }
+    ensures addresses { λ _. ⌜ now (addresses .exit) ≡ over (addressesOf (spansTo (programOf banks (now (kinds .entry)) (now (operands .entry)) (now (first .entry))) (rowOf (now (numbers .entry)) (now (states .entry))) (length (now (kinds .entry))))) (now (addresses .entry)) ⌝ }
+    ensures offsets { λ _. ⌜ now (offsets .exit) ≡ over (wordsOf (spansTo (programOf banks (now (kinds .entry)) (now (operands .entry)) (now (first .entry))) (rowOf (now (numbers .entry)) (now (states .entry))) (length (now (kinds .entry))))) (now (offsets .entry)) ⌝ }
+    ensures sizes { λ _. ⌜ now (sizes .exit) ≡ over (sizesOf (spansTo (programOf banks (now (kinds .entry)) (now (operands .entry)) (now (first .entry))) (rowOf (now (numbers .entry)) (now (states .entry))) (length (now (kinds .entry))))) (now (sizes .entry)) ⌝ }
+{
+    let mut walk = iter::start();
+    let mut count = 0;
+    let mut i = 0;
+    while i < kinds.len() {
+        let v = visit_node(banks, kinds, operands, first, numbers, states, walk, i);
+        let node = v.node;
+        let def = v.def;
+        let seen = v.seen;
+        let out = v.out;
+        count = put_span(node, def, seen, out, count, addresses, offsets, sizes);
+        walk = v.walk;
+        i += 1;
+    }
+}

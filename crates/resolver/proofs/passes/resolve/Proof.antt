@@ -1,0 +1,64 @@
+-- The banks' verdict, the lists' verdict, and the passes, which the accepted lists make sound.
+use Rattle.resolver.specs.Lists.{Lists, lists}
+use Rattle.resolver.proofs.Accepted.{accepted-rows, banks-refused, lists-refused, both-accepted}
+use borrow.Author.Needs.{needs}
+use Rattle.resolver.proofs.passes.resolve.Statement.{statement}
+use Rattle.resolver.proofs.passes.resolve.Tie as tie
+
+abbrev given : tie.Start → Lists
+given s = lists (s .args .kinds .now) (s .args .operands .now) (s .args .numbers .now) (s .args .states .now) (s .args .rows) (s .args .values .now)
+
+check-requires : tie.Need-check-requires
+check-requires c κs = search needs
+
+enum-known-why : tie.Need-enum-known-why
+enum-known-why c = search needs
+
+turned-away-requires : tie.Need-turned-away-requires
+turned-away-requires c κs = search needs
+
+enum-told : tie.Need-enum-told
+enum-told c = search needs
+
+check-lists-requires : tie.Need-check-lists-requires
+check-lists-requires c κs = search needs
+
+enum-known-why-2 : tie.Need-enum-known-why-2
+enum-known-why-2 c = search needs
+
+turned-away-requires-2 : tie.Need-turned-away-requires-2
+turned-away-requires-2 c κs = search needs
+
+enum-told-2 : tie.Need-enum-told-2
+enum-told-2 c = search needs
+
+resolve-iteratively-requires : tie.Need-resolve-iteratively-requires
+resolve-iteratively-requires c κs =
+    let s = c .before .before .before .before .before .before .before .before .before .before .before in
+    accepted-rows (s .args .banks .len) (given s) (c .before .before .check-lists .ensures) (c .enum-told2 .given .1)
+
+returns : tie.Need-returns
+returns c = let s = c .before .before .before .before .before .before .before .before .before .before in banks-refused (s .args .banks) (given s) (s .args .limit) (c .before .before .before .before .check .ensures) (c .before .before .why .given .1) (c .turned-away .ensures)
+
+returns-2 : tie.Need-returns-2
+returns-2 c = let s = c .before .before .before .before .before .before .before .before .before .before .before .before .before in lists-refused (s .args .banks) (given s) (s .args .limit) (c .before .before .before .before .before .before .before .check .ensures) (c .before .before .before .before .before .enum-told .given .1) (c .before .before .before .before .check-lists .ensures) (c .before .before .why2 .given .1) (c .turned-away2 .ensures)
+
+returns-3 : tie.Need-returns-3
+returns-3 c = let s = c .before .before .before .before .before .before .before .before .before .before .before .before in both-accepted (s .args .banks) (given s) (s .args .limit) (c .before .before .before .before .before .before .check .ensures) (c .before .before .before .before .enum-told .given .1) (c .before .before .before .check-lists .ensures) (c .before .enum-told2 .given .1) (c .resolve-iteratively .ensures)
+
+pub resolve-spec : {M : Type 1} → statement M
+resolve-spec =
+    tie.close
+    (tie.spec
+    check-requires
+    enum-known-why
+    turned-away-requires
+    enum-told
+    check-lists-requires
+    enum-known-why-2
+    turned-away-requires-2
+    enum-told-2
+    resolve-iteratively-requires
+    returns
+    returns-2
+    returns-3)

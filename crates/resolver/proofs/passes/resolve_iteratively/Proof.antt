@@ -1,0 +1,108 @@
+-- Every pass before n is unresolved. Past the rows the passes repeat themselves, so that the loop may end before the limit.
+use mathlib.Core.Bool.{Bool, false}
+use Prim.Native.Nat.{ℕ, _-_, _≤_}
+use mathlib.Core.List.{[]}
+use native.Mathlib.Omega.{arith}
+use borrow.Author.Needs.{needs}
+use Rattle.resolver.specs.Lists.{Lists, lists}
+use Rattle.resolver.specs.Passes.{passAt}
+use Rattle.resolver.specs.Repeats.{repeats}
+use Rattle.resolver.specs.declared.Pass.{Pass}
+use Rattle.resolver.proofs.Settling.{Unsettled, none-yet, nor-this, no-limit, refused-pass, settled-pass, limit-pass}
+use Rattle.resolver.proofs.passes.resolve_iteratively.Statement.{statement}
+use Rattle.resolver.proofs.passes.resolve_iteratively.Tie as tie
+
+abbrev Inv-loop : tie.InvT-loop
+Inv-loop banks kinds operands numbers states rows limit m end n₀ n = (1 ≤ n) × (n ≤ end) × Unsettled (passAt banks (lists kinds operands numbers states rows [])) n
+
+abbrev μ-loop : tie.MeasureT-loop
+μ-loop banks kinds operands numbers states rows limit m end n₀ n = end - n
+
+abbrev given : tie.Start Inv-loop μ-loop → Lists
+given s = lists (s .args .kinds .now) (s .args .operands .now) (s .args .numbers .now) (s .args .states .now) (s .args .rows) []
+
+abbrev passes : tie.Start Inv-loop μ-loop → ℕ → Bool → Pass
+passes s = passAt (s .args .banks) (given s)
+
+last-pass-requires : tie.Need-last-pass-requires Inv-loop μ-loop
+last-pass-requires c κs = (c .before .before .before .before .before .pre, search needs)
+
+returns : tie.Need-returns Inv-loop μ-loop
+returns c = let s = c .before .before .before .before .before .before in no-limit (passes s) (s .args .limit) (c .before .if1 .taken) (c .last-pass .ensures)
+
+walked-passes-requires : tie.Need-walked-passes-requires Inv-loop μ-loop
+walked-passes-requires c κs = c .before .before .before .before .before .pre .few
+
+loop-holds : tie.Need-loop-holds Inv-loop μ-loop
+loop-holds c = let s = c .before .before .before .before .before .before in (search needs, omega (arith, c .walked-passes .ensures), none-yet (passes s))
+
+pass-at-requires : tie.Need-pass-at-requires Inv-loop μ-loop
+pass-at-requires c κs = (c .before .before .before .before .before .before .before .before .pre, c .before .loop .inv .0)
+
+enum-known-why : tie.Need-enum-known-why Inv-loop μ-loop
+enum-known-why c = search needs
+
+returns-2 : tie.Need-returns-2 Inv-loop μ-loop
+returns-2 c =
+    let s = c .before .before .before .before .before .before .before .before .before .before .before .before in
+    refused-pass (passes s) (s .args .limit) (c .before .before .before .before .before .loop .n) (c .before .before .before .before .before .loop .inv .0) (omega (arith, c .before .before .before .before .loop-test .taken, c .before .before .before .before .before .before .walked-passes .ensures)) (c .before .before .before .before .before .loop .inv .2) (c .before .before .before .pass-at .ensures)
+    (c .before .why .given .1)
+
+enum-known-state : tie.Need-enum-known-state Inv-loop μ-loop
+enum-known-state c = search needs
+
+add-last-pass : tie.Need-add-last-pass Inv-loop μ-loop
+add-last-pass c = omega (arith, c .before .before .before .before .before .loop-test .taken, c .before .before .before .before .before .before .before .walked-passes .ensures, c .before .before .before .before .before .before .before .before .before .before .before .before .before .fits .limit)
+
+last-pass-requires-2 : tie.Need-last-pass-requires-2 Inv-loop μ-loop
+last-pass-requires-2 c κs = (c .before .before .before .before .before .before .before .before .before .before .before .before .before .pre, omega arith)
+
+returns-3 : tie.Need-returns-3 Inv-loop μ-loop
+returns-3 c =
+    let s = c .before .before .before .before .before .before .before .before .before .before .before .before .before .before in
+    settled-pass (passes s) (s .args .limit) (c .before .before .before .before .before .before .before .loop .n) (c .before .before .before .before .before .before .before .loop .inv .0) (omega (arith, c .before .before .before .before .before .before .loop-test .taken, c .before .before .before .before .before .before .before .before .walked-passes .ensures)) (c .before .before .before .before .before .before .before .loop .inv .2) (c .before .before .before .before .before .pass-at .ensures)
+    (c .before .before .before .state .given .1)
+    (c .before .if2 .taken)
+    (c .last-pass2 .ensures)
+
+add-n : tie.Need-add-n Inv-loop μ-loop
+add-n c = omega (arith, c .before .before .before .before .before .loop-test .taken, c .before .before .before .before .before .before .before .walked-passes .ensures, c .before .before .before .before .before .before .before .before .before .before .before .before .before .fits .limit)
+
+loop-less : tie.Need-loop-less Inv-loop μ-loop
+loop-less c = omega (arith, c .before .before .before .before .before .loop-test .taken)
+
+loop-again : tie.Need-loop-again Inv-loop μ-loop
+loop-again c =
+    let s = c .before .before .before .before .before .before .before .before .before .before .before .before .before in
+    (omega arith, omega (arith, c .before .before .before .before .before .loop-test .taken), nor-this (passes s) (c .before .before .before .before .before .before .loop .n) (c .before .before .before .before .before .before .loop .inv .2) (c .before .before .before .before .pass-at .ensures) (c .before .before .state .given .1) (c .if2 .left))
+
+last-pass-requires-3 : tie.Need-last-pass-requires-3 Inv-loop μ-loop
+last-pass-requires-3 c κs = (c .before .before .before .before .before .before .before .before .pre, omega (arith, c .before .before .before .if1 .left))
+
+returns-4 : tie.Need-returns-4 Inv-loop μ-loop
+returns-4 c =
+    let s = c .before .before .before .before .before .before .before .before .before in
+    limit-pass (passes s) (s .args .limit) (s .args .rows) (c .before .before .loop .n) (c .before .before .before .before .if1 .left) (λ p. λ h. repeats (s .args .banks) (given s) p false (s .pre .some) h) (omega (arith, c .before .loop-test .left, c .before .before .before .walked-passes .ensures, c .before .before .loop .inv)) (c .before .before .loop .inv .2) (c .last-pass3 .ensures)
+
+pub resolve-iteratively-spec : {M : Type 1} → statement M
+resolve-iteratively-spec =
+    tie.close
+    (tie.spec
+    Inv-loop
+    μ-loop
+    last-pass-requires
+    returns
+    walked-passes-requires
+    loop-holds
+    pass-at-requires
+    enum-known-why
+    returns-2
+    enum-known-state
+    add-last-pass
+    last-pass-requires-2
+    returns-3
+    add-n
+    loop-less
+    loop-again
+    last-pass-requires-3
+    returns-4)

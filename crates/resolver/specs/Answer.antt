@@ -1,0 +1,40 @@
+-- What a layout's answer tells, K and passes run, with the refusals before any pass.
+use Prim.Native.Nat.{ℕ, _≤_, max}
+use mathlib.Core.Path.{_≡_, refl}
+use native.Mathlib.Omega.{arith}
+use Rattle.refusal.specs.declared.Verdict.{Verdict}
+use Rattle.refusal.specs.declared.Verdict.the-variants.{Accepted, Refused as TurnedAway}
+use Rattle.bankdef.specs.Check.{checkOf}
+use Rattle.bankdef.specs.declared.Bankdefs.{Bankdefs}
+use Rattle.resolver.specs.Layout.{unless, layoutOf}
+use Rattle.resolver.specs.Lists.{Lists, listsOf}
+use Rattle.resolver.specs.Passes.{passAt, resolutionOf}
+use Rattle.resolver.specs.Run.{Told, accepted-passes, passes-bounded}
+use Rattle.resolver.specs.declared.Settled.the-variants.{At}
+use Rattle.resolver.specs.declared.Resolution.{Resolution}
+
+-- what is refused before any pass has run none, and tells no K
+unless-told : (v : Verdict) (r : Resolution) {k : ℕ} → unless v r .settled ≡ At k → unless v r ≡ r
+unless-told Accepted r e = refl
+unless-told (TurnedAway why) r e = cc
+
+unless-runs : (v : Verdict) (r : Resolution) (n : ℕ) → r .passes ≤ n → unless v r .passes ≤ n
+unless-runs Accepted r n h = h
+unless-runs (TurnedAway why) r n h = omega arith
+
+-- The same of the layout's answer, whose passes are those of its rows.
+module _ (banks : Bankdefs) (l : Lists) (m : ℕ) where
+  pub accepted-layout : (k : ℕ) → layoutOf banks l m .settled ≡ At k → Told (passAt banks l) m k (layoutOf banks l m)
+  unfolding layoutOf
+  accepted-layout k e =
+      let a = unless-told (checkOf banks) (unless (listsOf (banks .len) l) (resolutionOf banks l m)) e in
+      let f : unless (listsOf (banks .len) l) (resolutionOf banks l m) .settled ≡ At k = rw a at e in
+      let b = unless-told (listsOf (banks .len) l) (resolutionOf banks l m) f in
+      let g : resolutionOf banks l m .settled ≡ At k = rw b at f in
+      rw (a, b) (accepted-passes (passAt banks l) m k g)
+
+  pub layout-bounded : layoutOf banks l m .passes ≤ max 1 m
+  unfolding layoutOf
+  layout-bounded =
+      unless-runs (checkOf banks) (unless (listsOf (banks .len) l) (resolutionOf banks l m)) (max 1 m)
+      (unless-runs (listsOf (banks .len) l) (resolutionOf banks l m) (max 1 m) (passes-bounded (passAt banks l) m .1))

@@ -1,0 +1,37 @@
+-- Document 01's case "all resolved: limits 0, 1, 2 give K 0, 1, 1 and run 1, 1, 2", of a layout: one bank, no nodes and one row, so that every pass is resolved.
+use Prim.Native.Nat.{ℕ}
+use mathlib.Core.Path.{_≡_, refl}
+use mathlib.Core.Bool.{false}
+use mathlib.Core.List.{[], _∷_}
+use lib.IntN.{pos}
+use lib.ListN.{replicate}
+use Rattle.refusal.specs.declared.Opt.the-variants.{None}
+use Rattle.bankdef.specs.Check.{noBank, firstPair}
+use Rattle.bankdef.specs.Search.{firstWhere}
+use Rattle.bankdef.specs.declared.Bankdefs.{Bankdefs}
+use Rattle.resolver.specs.Layout.{layoutOf}
+use Rattle.resolver.specs.Lists.{lists, nodesTo, listsOf}
+use Rattle.resolver.specs.Once.{passTo}
+use Rattle.resolver.specs.Passes.{first, settledBy}
+use Rattle.resolver.specs.declared.Settled.the-variants.{At}
+use Rattle.resolver.specs.declared.Resolution.{Resolution}
+
+abbrev pub oneBank : Bankdefs
+oneBank =
+    record {
+      defs = record { unit = 8; start = pos 0; size = None; offset = None; align = None; fill = false } ∷ replicate 15 noBank;
+      len = 1;
+    }
+
+-- the layout's answer for a limit
+abbrev pub answerFor : ℕ → Resolution
+answerFor m = layoutOf oneBank (lists [] [] [] [] 1 []) m
+
+-- K, and the passes run
+abbrev pub settledAt : ℕ → ℕ → Resolution
+settledAt k run = record { settled = At k; passes = run }
+
+-- "all resolved: limits 0, 1, 2 give K 0, 1, 1 and run 1, 1, 2"
+pub resolver-cases : (answerFor 0 ≡ settledAt 0 1) × (answerFor 1 ≡ settledAt 1 1) × (answerFor 2 ≡ settledAt 1 2)
+unfolding layoutOf listsOf nodesTo settledBy first passTo firstWhere firstPair
+resolver-cases = (refl, refl, refl)

@@ -1,0 +1,13 @@
+pub mod Answer
+pub mod Before
+pub mod Cases
+pub mod Labels
+pub mod Layout
+pub mod Least
+pub mod Lists
+pub mod Once
+pub mod Passes
+pub mod Repeats
+pub mod Run
+pub mod Sound
+pub mod Walked

@@ -1,0 +1,29 @@
+// From the list of nodes and the rows of sizes to the pass that settles: the list check, a pass over a row, and the passes.
+mod lists;
+mod once;
+mod passes;
+
+pub use lists::check_lists;
+pub use lists::node_at;
+pub use once::bank_record;
+pub use once::resolve_once;
+pub use once::step_at;
+pub use passes::resolve;
+use refusal::Refusal;
+
+// What a pass comes to: the state that its nodes merge to (0 resolved, 1 stable, 2 unresolved), or a refusal.
+pub enum Pass {
+    State(u8),
+    Refused(Refusal),
+}
+
+// What the passes come to: pass K, or a refusal; and how many passes were run, a refusing pass included.
+pub enum Settled {
+    At(u64),
+    Refused(Refusal),
+}
+
+pub struct Resolution {
+    pub settled: Settled,
+    pub passes: u64,
+}

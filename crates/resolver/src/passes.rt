@@ -1,0 +1,201 @@
+// The passes: which row each reads, pass K, and how many are run.
+use crate::Pass;
+use crate::Resolution;
+use crate::Settled;
+use crate::lists::check_lists;
+use crate::once::resolve_once;
+use bankdef::Bankdefs;
+use bankdef::check;
+use refusal::Refusal;
+use refusal::Verdict;
+ghost use mathlib.Core.Path.{_≡_};
+ghost use mathlib.Core.Bool.{true};
+ghost use mathlib.Core.List.{[]};
+ghost use Prim.Native.Nat.{_+_, _-_, _<_, _≤_, min};
+ghost use lib.ListN.{length};
+ghost use Rattle.resolver.specs.Layout.{layoutOf};
+ghost use Rattle.resolver.specs.Lists.{lists, Rows};
+ghost use Rattle.resolver.specs.Passes.{passAt, lastOf, resolutionOf};
+
+// "Pass n reads row n, or the last row if there are fewer." Rows are counted from 0 and passes from 1.
+fn row_of_pass(rows: u64, n: u64) -> u64
+    requires { ⌜ 1 ≤ rows ⌝ }
+    ensures { λ r. ⌜ r ≡ min n rows - 1 ⌝ }
+    ensures { λ r. ⌜ r < rows ⌝ }
+{
+    if rows < n {
+        return rows - 1;
+    }
+    if n == 0 {
+        return 0;
+    }
+    n - 1
+}
+
+// Pass n, as the last one or not.
+fn pass_at(
+    banks: Bankdefs,
+    kinds: &[u8],
+    operands: &[u32],
+    numbers: &[u32],
+    states: &[u8],
+    rows: u64,
+    n: u64,
+    is_last: bool,
+) -> Pass
+    requires { ⌜ Rows (length (now kinds)) rows (now numbers) (now states) ⌝ }
+    requires { ⌜ 1 ≤ n ⌝ }
+    ensures { λ r. ⌜ r ≡ passAt banks (lists (now (kinds .entry)) (now (operands .entry)) (now (numbers .entry)) (now (states .entry)) rows []) n «is_last» ⌝ }
+{
+    let count = kinds.len();
+    let a = (row_of_pass(rows, n) as usize) * count;
+    let e = a + count;
+    let b = (row_of_pass(rows, n - 1) as usize) * count;
+    let f = b + count;
+    resolve_once(
+        banks,
+        kinds,
+        operands,
+        &numbers[0..count],
+        &numbers[a..e],
+        &states[a..e],
+        &numbers[b..f],
+        &states[b..f],
+        n == 1,
+        is_last,
+    )
+}
+
+// What a last pass comes to: pass K, or what it is refused for.
+fn settle(k: u64, last: Pass, passes: u64) -> Resolution
+    ensures { λ r. ⌜ r ≡ record { settled = lastOf k last; passes = passes } ⌝ }
+{
+    match last {
+        Pass::Refused(why) => Resolution {
+            settled: Settled::Refused(why),
+            passes,
+        },
+        Pass::State(state) => {
+            if state == 2 {
+                Resolution {
+                    settled: Settled::Refused(Refusal::Unresolved),
+                    passes,
+                }
+            } else {
+                Resolution {
+                    settled: Settled::At(k),
+                    passes,
+                }
+            }
+        }
+    }
+}
+
+// Pass n, run as the last one, where pass K is k.
+fn last_pass(
+    banks: Bankdefs,
+    kinds: &[u8],
+    operands: &[u32],
+    numbers: &[u32],
+    states: &[u8],
+    rows: u64,
+    k: u64,
+    n: u64,
+) -> Resolution
+    requires { ⌜ Rows (length (now kinds)) rows (now numbers) (now states) ⌝ }
+    requires { ⌜ 1 ≤ n ⌝ }
+    ensures { λ r. ⌜ r ≡ record { settled = lastOf k (passAt banks (lists (now (kinds .entry)) (now (operands .entry)) (now (numbers .entry)) (now (states .entry)) rows []) n true); passes = n } ⌝ }
+{
+    let last = pass_at(banks, kinds, operands, numbers, states, rows, n, true);
+    settle(k, last, n)
+}
+
+// The passes that are walked before pass M: from the first past the rows on they repeat themselves, so one of those is enough.
+fn walked_passes(rows: u64, limit: u64) -> u64
+    requires { ⌜ rows ≤ 16 ⌝ }
+    ensures { λ r. ⌜ r ≡ min limit (rows + 2) ⌝ }
+{
+    let enough = rows + 2;
+    if limit < enough { limit } else { enough }
+}
+
+// The passes of document 01. "the number of passes run, a count that equals the passes": the limit bounds the loop, and each way
+// out tells the pass that it stands at.
+fn resolve_iteratively(
+    banks: Bankdefs,
+    kinds: &[u8],
+    operands: &[u32],
+    numbers: &[u32],
+    states: &[u8],
+    rows: u64,
+    limit: u8,
+) -> Resolution
+    requires { ⌜ Rows (length (now kinds)) rows (now numbers) (now states) ⌝ }
+    ensures { λ r. ⌜ r ≡ resolutionOf banks (lists (now (kinds .entry)) (now (operands .entry)) (now (numbers .entry)) (now (states .entry)) rows []) limit ⌝ }
+{
+    let m = limit as u64;
+    if m == 0 {
+        return last_pass(banks, kinds, operands, numbers, states, rows, 0, 1);
+    }
+    let end = walked_passes(rows, m);
+    let mut n: u64 = 1;
+    while n < end {
+        match pass_at(banks, kinds, operands, numbers, states, rows, n, false) {
+            Pass::Refused(why) => {
+                return Resolution {
+                    settled: Settled::Refused(why),
+                    passes: n,
+                };
+            }
+            Pass::State(state) => {
+                if state != 2 {
+                    return last_pass(banks, kinds, operands, numbers, states, rows, n, n + 1);
+                }
+            }
+        }
+        n += 1;
+    }
+    last_pass(banks, kinds, operands, numbers, states, rows, m, m)
+}
+
+fn turned_away(why: Refusal) -> Resolution
+    ensures { λ r. ⌜ r ≡ record { settled = Settled.Refused why; passes = 0 } ⌝ }
+{
+    Resolution {
+        settled: Settled::Refused(why),
+        passes: 0,
+    }
+}
+
+// The layout's passes: the banks are checked, then the lists, and then the passes are run.
+pub fn resolve(
+    banks: Bankdefs,
+    kinds: &[u8],
+    operands: &[u32],
+    numbers: &[u32],
+    states: &[u8],
+    rows: u64,
+    values: &[u8],
+    limit: u8,
+) -> Resolution
+    ensures { λ r. ⌜ r ≡ layoutOf banks (lists (now (kinds .entry)) (now (operands .entry)) (now (numbers .entry)) (now (states .entry)) rows (now (values .entry))) limit ⌝ }
+{
+    match check(banks) {
+        Verdict::Refused(why) => turned_away(why),
+        Verdict::Accepted => {
+            let len = banks.len;
+            match check_lists(len, kinds, operands, numbers, states, rows, values) {
+                Verdict::Refused(why) => turned_away(why),
+                Verdict::Accepted => resolve_iteratively(
+                    banks,
+                    kinds,
+                    operands,
+                    numbers,
+                    states,
+                    rows,
+                    limit,
+                ),
+            }
+        }
+    }
+}

@@ -1,0 +1,85 @@
+#!/usr/bin/env python3
+"""Writes examples/: form 1 files that look like real ones. examples.py [FOLDER]
+
+`--table` prints what each prints, as examples/README.md has it."""
+
+import sys
+from pathlib import Path
+from struct import pack
+
+import model
+from form1 import (ADDR, ALIGN, ASSERT, CONSTANT, DATA, INSTRUCTION, LABEL, OPEN_DATA, RESERVE, SWITCH, Bank, Layout, encode,
+                   worked_example)
+
+MARK_BEFORE, MARK_AFTER = "before", "after"
+
+# Clamp force in daN for each of eight steps of the spindle, a word each.
+CLAMP_FORCE = pack(">8H", 0, 120, 260, 420, 600, 800, 1_020, 1_260)
+# Motor current limits in mA, two words.
+CURRENT_LIMITS = pack(">2H", 9_500, 14_000)
+
+
+def one_row(banks, entries, values, limit=10):
+    return Layout(banks, [entry[:2] for entry in entries], [[(entry[2] if len(entry) > 2 else 0, 0) for entry in entries]], values, limit)
+
+
+def clamp(mark, second_at=64):
+    """The clamp force table in flash, a mark of zero bits on its first word, and a second table at a place of its own. With the
+    second table inside the first, the Rust refuses it only if the mark comes before the table."""
+    table = [(LABEL, 0), (DATA, 0, 128)]
+    mark_before = [(RESERVE, 0, 0)] if mark == MARK_BEFORE else []
+    mark_after = [(ADDR, 0, 0), (RESERVE, 0, 0)] if mark == MARK_AFTER else []
+    second = [(ADDR, 0, second_at), (LABEL, 0), (DATA, 128, 32)]
+    return one_row([Bank(), Bank(8, 0x8000, 512, 0)], [(SWITCH, 1)] + mark_before + table + mark_after + second, CLAMP_FORCE + CURRENT_LIMITS)
+
+
+def several_banks():
+    """Code and curves in flash, variables in memory without output, a stack that is numbered downwards from address 0."""
+    banks = [Bank(), Bank(8, 0x0100, 256, 0, None, True), Bank(16, 0x4000, 128, 256, 32, True), Bank(8, 0x20, 64), Bank(8, -8, 64)]
+    entries = [
+        (SWITCH, 1), (LABEL, 0), (INSTRUCTION, 0, 24), (INSTRUCTION, 24, 16), (CONSTANT, 0),
+        (SWITCH, 3), (LABEL, 0), (RESERVE, 0, 16), (LABEL, 0), (RESERVE, 0, 8),
+        (SWITCH, 2), (LABEL, 0), (DATA, 40, 48), (LABEL, 0), (OPEN_DATA, 88, 16),
+        (SWITCH, 4), (LABEL, 0), (RESERVE, 0, 64),
+        (SWITCH, 1), (ALIGN, 0, 64), (LABEL, 0), (INSTRUCTION, 104, 24)]
+    return one_row(banks, entries, bytes.fromhex("0e004012340010004600b40168aaaa7f0001"))
+
+
+def several_passes():
+    """A jump that is guessed long, then short: the labels behind it move, then stand still. Three passes and a last one."""
+    nodes = [(SWITCH, 1), (LABEL, 0), (INSTRUCTION, 0), (LABEL, 0), (DATA, 24), (CONSTANT, 0), (LABEL, 0), (ASSERT, 0)]
+    first = [(0, 0), (0, 0), (24, 2), (0, 0), (16, 0), (0, 1), (0, 0), (0, 2)]
+    later = [(0, 0), (0, 0), (16, 1), (0, 0), (16, 0), (0, 0), (0, 0), (0, 0)]
+    return Layout([Bank(), Bank(8, 0x100, 128, 0)], nodes, [first, later], bytes.fromhex("eb05c0beef"), 10)
+
+
+def past_the_end():
+    """A table that ends one bit past its bank."""
+    return one_row([Bank(), Bank(8, 0, 40, 0)], [(SWITCH, 1), (LABEL, 0), (DATA, 0, 24), (DATA, 0, 17)], bytes.fromhex("123456"))
+
+
+EXAMPLES = {
+    "worked": ("document 01's worked example", worked_example()),
+    "clamp-mark-after": ("the March failure: a clamp force table, then a mark of zero bits on its first word, then a second table that lands inside the first", clamp(MARK_AFTER)),
+    "clamp-mark-before": ("the same lines with the mark before the table", clamp(MARK_BEFORE)),
+    "clamp-apart": ("the same with the second table behind the first, as it was meant", clamp(MARK_AFTER, 128)),
+    "banks": ("code, curves, memory without output and a stack below address 0, in four banks", several_banks()),
+    "passes": ("a jump that turns out short, so that labels move in the second pass and stand still in the third", several_passes()),
+    "past-the-end": ("a table that ends one bit past its bank", past_the_end()),
+}
+
+
+def main():
+    if "--table" in sys.argv:
+        for name, (words, layout) in EXAMPLES.items():
+            print(f"`{name}.form`: {words}.\n")
+            print("".join(f"    {line}\n" for line in model.printed(encode(layout)).splitlines()))
+        return
+    folder = Path(sys.argv[1] if len(sys.argv) > 1 else Path(__file__).resolve().parent.parent / "examples")
+    folder.mkdir(exist_ok=True)
+    for name, (_, layout) in EXAMPLES.items():
+        (folder / f"{name}.form").write_bytes(encode(layout))
+
+
+if __name__ == "__main__":
+    main()

@@ -1,0 +1,5 @@
+//! Asked for and never used.
+
+pub fn eval_asm() {
+    unreachable!()
+}

@@ -1,0 +1,1 @@
+//! Nothing of the syntax is needed: form 1 files hold numbers, not text.
