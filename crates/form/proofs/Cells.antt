@@ -38,11 +38,11 @@ module _ (read : ℕ → ℕ) (nodes : ℕ) where
       ∙ sym (append-assoc (column read 5 at nodes) (cells read nodes next rows) (column read 5 (next + rows * (3 + 5 * nodes)) nodes))
       ∙ ap₂ (λ (l : List ℕ) (k : ℕ). l ++ column read 5 k nodes) (sym (cells-suc at rows)) (omega arith)
 
-  -- a row is written behind the rows before it
-  pub cells-turn : (at rows p : ℕ) (old : List ℕ) → p ≡ at + rows * (3 + 5 * nodes)
-      → paste (cells read nodes at rows ++ drop (rows * nodes) old) (rows * nodes) (column read 5 p nodes) nodes
-      ≡ cells read nodes at (rows + 1) ++ drop ((rows + 1) * nodes) old
-  cells-turn at rows p old e =
+  -- a row is written behind the rows before it: `now` is the list before the turn, `new` after it
+  pub cells-turn : (at rows p : ℕ) (old now new : List ℕ) → p ≡ at + rows * (3 + 5 * nodes)
+      → now ≡ cells read nodes at rows ++ drop (rows * nodes) old → new ≡ paste now (rows * nodes) (column read 5 p nodes) nodes
+      → new ≡ cells read nodes at (rows + 1) ++ drop ((rows + 1) * nodes) old
+  cells-turn at rows p old now new e q r =
       let c = cells read nodes at rows in
       let row = column read 5 p nodes in
       let k = rows * nodes in
@@ -52,5 +52,6 @@ module _ (read : ℕ → ℕ) (nodes : ℕ) where
       let rest : drop (k + nodes) (c ++ drop k old) ≡ drop ((rows + 1) * nodes) old =
       ap (λ (j : ℕ). drop (j + nodes) (c ++ drop k old)) (sym (cells-length at rows))
       ∙ drop-append-add c (drop k old) nodes ∙ drop-drop nodes k old ∙ ap (λ (j : ℕ). drop j old) next in
-      ap₂ (λ (a b : List ℕ). a ++ b ++ drop (k + nodes) (c ++ drop k old)) taken all
+      r ∙ ap (λ (d : List ℕ). paste d k row nodes) q
+      ∙ ap₂ (λ (a b : List ℕ). a ++ b ++ drop (k + nodes) (c ++ drop k old)) taken all
       ∙ ap₂ (λ (a b : List ℕ). a ++ b) (ap (λ (j : ℕ). c ++ column read 5 j nodes) e ∙ sym (cells-last at rows)) rest

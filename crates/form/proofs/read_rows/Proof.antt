@@ -71,12 +71,13 @@ loop-again c =
     let r = c .before .before .before .before .before .before .before .before .loop .r in
     let k = c .before .before .before .before .before .before .before .before .loop .inv in
     let file = a .file .now in
-    let p = a .at + r * (3 + 5 * a .nodes) in (
+    let p = a .at + r * (3 + 5 * a .nodes) in
+    let done = c .before .before .before .before .read-columns in (
       omega arith,
-      c .before .before .before .before .read-columns .kept .1 .1 .1 .1 .1 .1 .0 ∙ k .1,
-      c .before .before .before .before .read-columns .kept .1 .1 .1 .1 .1 .1 .1 .0 ∙ k .2,
-      c .before .before .before .before .read-columns .ensures .0 ∙ rw (k .3) (cells-turn (word32 file) (a .nodes) (a .at + 3) r (p + 3) (a .numbers .now) (omega arith)),
-      c .before .before .before .before .read-columns .ensures .1 ∙ rw (k .4) (cells-turn (byte file) (a .nodes) (a .at + 7) r (p + 7) (a .states .now) (omega arith)),
+      done .kept .1 .1 .1 .1 .1 .1 .0 ∙ k .1,
+      done .kept .1 .1 .1 .1 .1 .1 .1 .0 ∙ k .2,
+      cells-turn (word32 file) (a .nodes) (a .at + 3) r (p + 3) (a .numbers .now) (c .before .before .before .before .before .before .before .before .loop .numbers) (done .last .1 .1 .1 .1 .1 .1 .0) (omega arith) (k .3) (done .ensures .0),
+      cells-turn (byte file) (a .nodes) (a .at + 7) r (p + 7) (a .states .now) (c .before .before .before .before .before .before .before .before .loop .states) (done .last .1 .1 .1 .1 .1 .1 .1 .0) (omega arith) (k .4) (done .ensures .1),
     )
 
 same-length : tie.Need-same-length Inv-loop μ-loop
