@@ -1,15 +1,16 @@
 -- A store whose intervals stand in two lists, positions and sizes, and what an offer leaves there.
-use mathlib.Core.Path.{_≡_}
+use mathlib.Core.Path.{_≡_, sym, subst}
 use mathlib.Core.List.{List, [], _∷_, _++_}
 use Prim.Native.Nat.{ℕ, _+_, _-_, _≤_}
 use lib.Dec.{ltb}
 use lib.ListN.{length, take, drop}
 use Rattle.refusal.specs.Limits.{maxStored}
-use Rattle.refusal.specs.Pick.{pick}
+use Rattle.refusal.specs.Pick.{pick, determined}
 use Rattle.refusal.specs.declared.Verdict.{Verdict}
 use Rattle.refusal.specs.declared.Verdict.the-variants.{Accepted, Refused}
 use Rattle.overlap_checker.specs.declared.Entry.{Entry}
 use Rattle.overlap_checker.specs.Interval.{interval}
+use Rattle.overlap_checker.specs.Offers.{placeFor, verdictOf}
 use Rattle.overlap_checker.specs.Stored.{firstFault}
 
 -- the intervals of two lists, one by one
@@ -41,3 +42,18 @@ heldAfter list count place number size (Refused why) = list
 abbrev pub countAfter : ℕ → ℕ → Verdict → ℕ
 countAfter count size Accepted = pick (ltb 0 size) (count + 1) count
 countAfter count size (Refused why) = count
+
+-- An offer's statement: the answer of the store's own definition, and both lists afterwards.
+pub record Offers (positions sizes : List ℕ) (count position size node : ℕ) (r : Verdict) (positions′ sizes′ : List ℕ) : Type 0 where
+  pub answer : r ≡ verdictOf (held positions sizes count) (interval position size) node
+  pub first : positions′ ≡ heldAfter positions count (placeFor position (held positions sizes count)) position size r
+  pub second : sizes′ ≡ heldAfter sizes count (placeFor position (held positions sizes count)) size size r
+
+-- Two outcomes that meet it are equal.
+pub offer-unique : (positions sizes : List ℕ) (count position size node : ℕ) (r s : Verdict) (positions₁ sizes₁ positions₂ sizes₂ : List ℕ)
+    → Offers positions sizes count position size node r positions₁ sizes₁ → Offers positions sizes count position size node s positions₂ sizes₂
+    → (r ≡ s) × (positions₁ ≡ positions₂) × (sizes₁ ≡ sizes₂)
+offer-unique positions sizes count position size node r s positions₁ sizes₁ positions₂ sizes₂ a b =
+    let same : s ≡ r = determined (b .answer) (a .answer) in
+    let b′ = subst (λ (v : Verdict). Offers positions sizes count position size node v positions₂ sizes₂) same b in
+    (sym same, determined (a .first) (b′ .first), determined (a .second) (b′ .second))

@@ -67,9 +67,9 @@ returns-3 c =
     let other = ne-eqb (a .node .kind) 2 (c .before .before .before .before .if1 .left) in
     let within : Within (interval (known .0 .0) (a .node .number)) = (s .pre .1 .1 (known .0 .0) (known .1), small (c .before)) in
     rw (known .1) (
-      c .offer .ensures .0 ∙ other-offered (held (a .positions .now) (a .sizes .now) (a .count)) (known .0 .0) (a .node) other,
+      c .offer .ensures .answer ∙ other-offered (held (a .positions .now) (a .sizes .now) (a .count)) (known .0 .0) (a .node) other,
       goes-offered (a .positions .now) (a .sizes .now) (a .count) (s .pre .0) (known .0 .0) (a .node) (s .pre .1 .0) other within
-          (c .offer .result) (c .offer .last .0) (c .offer .last .1 .0) (c .offer .ensures .0) (c .offer .ensures .1 .0) (c .offer .ensures .1 .1),
+          (c .offer .result) (c .offer .last .0) (c .offer .last .1 .0) (c .offer .ensures .answer) (c .offer .ensures .first) (c .offer .ensures .second),
     )
 
 pub offer-node-spec : {M : Type 1} → statement M
