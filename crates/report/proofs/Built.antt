@@ -1,0 +1,134 @@
+-- From the build's contract to its text: an accepted build fits what is lent, and its spans stand at the front of the lent lists.
+use mathlib.Core.Path.{_≡_, refl, sym, ap, ap₂, subst, _∙_}
+use mathlib.Core.Bool.{Bool, true, false}
+use mathlib.Core.List.{List}
+use Prim.Native.Nat.{ℕ, _*_, _≤_}
+use native.Mathlib.Omega.{arith}
+use lib.Dec.{ltb}
+use lib.IntN.{ℤ}
+use lib.ListN.{length, take, drop, length-map}
+use lib.Seq.{take-at}
+use borrow.Author.Tests.{ltb-false}
+use Rattle.refusal.specs.Pick.{pick, pick-true, pick-false}
+use Rattle.refusal.specs.declared.Refusal.{Refusal}
+use Rattle.refusal.specs.declared.Refusal.the-variants.{TooShort}
+use Rattle.bankdef.specs.Check.{banksOf}
+use Rattle.bankdef.specs.Fill.{fillLength}
+use Rattle.bankdef.specs.declared.Bankdefs.{Bankdefs}
+use Rattle.resolver.specs.Lists.{Lists}
+use Rattle.resolver.specs.Passes.{program, rowOfPass}
+use Rattle.resolver.specs.Layout.{layoutOf}
+use Rattle.resolver.specs.declared.Settled.{Settled}
+use Rattle.resolver.specs.declared.Settled.the-variants.{At, Refused as Unsettled}
+use Rattle.output.specs.Placing.{Placed, holds, stops, placedTo}
+use Rattle.output.specs.Spans.{Span, spansTo, lengthTo, over, words, sizes}
+use Rattle.output.specs.Image.{imageTo}
+use Rattle.output.specs.Output.{Room, roomOf, roomFor, placedBuild, settledBuild, buildOf, ifDone, Builds}
+use Rattle.output.specs.declared.Build.{Build}
+use Rattle.output.specs.declared.Build.the-variants.{Done, Refused}
+use Rattle.output.specs.declared.Output.{Output}
+use Rattle.form.specs.Fields.{by-test}
+use Rattle.text.specs.Lines.{refusalText}
+use Rattle.report.specs.Report.{imageRoom, spanRoom, lentRoom, doneText, answerText, builtText}
+use Rattle.report.specs.Steps.{Fitting, answered}
+
+not-done : (why : Refusal) (k bits n : ℕ) → Refused why ≡ Done k bits n → ⊥
+not-done why k bits n e = let z : _≡_ {A = ℕ} 0 1 = cc in omega arith
+
+done-bits : (k bits n k₁ bits₁ n₁ : ℕ) → Done k₁ bits₁ n₁ ≡ Done k bits n → bits₁ ≡ bits
+done-bits k bits n k₁ bits₁ n₁ e = cc
+
+done-spans : (k bits n k₁ bits₁ n₁ : ℕ) → Done k₁ bits₁ n₁ ≡ Done k bits n → n₁ ≡ n
+done-spans k bits n k₁ bits₁ n₁ e = cc
+
+module _ (room : Room) (k bits n : ℕ) where
+  abbrev Fits : ℕ → Type 0
+  Fits n₁ = (bits ≤ 8 * room .image) × (n ≤ room .spans) × (n ≡ n₁)
+
+  fits-room : (k₁ bits₁ n₁ : ℕ) → roomFor room k₁ bits₁ n₁ ≡ Done k bits n → Fits n₁
+  fits-room k₁ bits₁ n₁ e =
+      by-test (ltb (8 * room .image) bits₁)
+      (λ y. absurd (not-done (TooShort 0) k bits n (sym (pick-true _ _ y) ∙ e)))
+      (λ a.
+      by-test (ltb (room .spans) n₁)
+      (λ y. absurd (not-done (TooShort 1) k bits n (sym (pick-true _ _ y) ∙ sym (pick-false _ _ a) ∙ e)))
+      (λ b.
+      let same = sym (pick-false _ _ b) ∙ sym (pick-false _ _ a) ∙ e in
+      let eb = done-bits k bits n k₁ bits₁ n₁ same in
+      let en = done-spans k bits n k₁ bits₁ n₁ same in
+      let ha = ltb-false (8 * room .image) bits₁ a in
+      let hb = ltb-false (room .spans) n₁ b in
+      (omega (arith, ha, eb), omega (arith, hb, en), sym en)))
+
+  fits-placed : (k₁ bits₁ n₁ : ℕ) (q : Placed) → placedBuild room k₁ bits₁ n₁ q ≡ Done k bits n → Fits n₁
+  fits-placed k₁ bits₁ n₁ (holds stored) e = fits-room k₁ bits₁ n₁ e
+  fits-placed k₁ bits₁ n₁ (stops why) e = absurd (not-done why k bits n e)
+
+  fits-settled : (banks : Bankdefs) (l : Lists) (passes : ℕ) (s : Settled) → settledBuild banks l room passes s ≡ Done k bits n
+      → Fits (length (spansTo (program banks l) (rowOfPass l passes) (length (l .kinds))))
+  fits-settled banks l passes (Unsettled why) e = absurd (not-done why k bits n e)
+  fits-settled banks l passes (At k₁) e =
+      let p = program banks l in
+      let row = rowOfPass l passes in
+      let nodes = length (l .kinds) in
+      fits-placed k₁ (lengthTo p row (fillLength (banksOf banks)) nodes) (length (spansTo p row nodes)) (placedTo p row nodes) e
+
+module _ (banks : Bankdefs) (l : Lists) (limit : ℕ) (image : List ℕ) (addressed : List ℤ) (offsets sized : List ℕ) (hi : length image ≡ imageRoom) (ha : length addressed ≡ spanRoom) (ho : length offsets ≡ spanRoom)
+    (hs : length sized ≡ spanRoom) (r : Output) (image′ : List ℕ) (addressed′ : List ℤ) (offsets′ sized′ : List ℕ) (b : Builds banks l limit image addressed offsets sized r image′ addressed′ offsets′ sized′) where
+  room-is : roomOf image addressed offsets sized ≡ lentRoom
+  room-is = rw (hi, ha, ho, hs) refl
+
+  answer-is : r ≡ buildOf banks l limit lentRoom
+  answer-is = b .answer ∙ ap (buildOf banks l limit) room-is
+
+  refused-build : (why : Refusal) → r .build ≡ Refused why → refusalText why ≡ builtText banks l (buildOf banks l limit lentRoom)
+  refused-build why e = ap (answerText banks l (r .passes)) (sym e) ∙ ap (builtText banks l) answer-is
+
+  module _ (k bits n : ℕ) (e : r .build ≡ Done k bits n) where
+    abbrev spans : List Span
+    spans = spansTo (program banks l) (rowOfPass l (r .passes)) (length (l .kinds))
+
+    built : buildOf banks l limit lentRoom .build ≡ Done k bits n
+    built = sym (ap (λ (o : Output). o .build) answer-is) ∙ e
+
+    inside : (o : Output) → o ≡ buildOf banks l limit lentRoom → o .build ≡ Done k bits n
+        → Fits lentRoom k bits n (length (spansTo (program banks l) (rowOfPass l (o .passes)) (length (l .kinds))))
+    unfolding buildOf
+    inside o h d =
+        subst (λ (x : Output). Fits lentRoom k bits n (length (spansTo (program banks l) (rowOfPass l (x .passes)) (length (l .kinds))))) (sym h)
+        (fits-settled lentRoom k bits n banks l (layoutOf banks l limit .passes) (layoutOf banks l limit .settled) (sym (ap (λ (x : Output). x .build) h) ∙ d))
+
+    within : Fits lentRoom k bits n (length spans)
+    within = inside r answer-is e
+
+    offsets-part : take n offsets′ ≡ words spans
+    offsets-part =
+        ap (take n) (b .second ∙ ap (λ (q : Build). ifDone q (over (words spans) offsets) offsets) e)
+        ∙ take-at (words spans) _ n (length-map spans _ ∙ sym (within .2))
+
+    sizes-part : take n sized′ ≡ sizes spans
+    sizes-part =
+        ap (take n) (b .third ∙ ap (λ (q : Build). ifDone q (over (sizes spans) sized) sized) e)
+        ∙ take-at (sizes spans) _ n (length-map spans _ ∙ sym (within .2))
+
+    image-is : image′ ≡ imageTo (program banks l) (rowOfPass l (r .passes)) (l .values) imageRoom (length (l .kinds))
+    image-is =
+        b .bits ∙ ap (λ (q : Build). ifDone q (imageTo (program banks l) (rowOfPass l (r .passes)) (l .values) (length image) (length (l .kinds))) image) e
+        ∙ ap (λ (m : ℕ). imageTo (program banks l) (rowOfPass l (r .passes)) (l .values) m (length (l .kinds))) hi
+
+    done-build : doneText k bits (take n offsets′) (take n sized′) image′ ≡ builtText banks l (buildOf banks l limit lentRoom)
+    done-build =
+        ap₂ (λ (a c : List ℕ). doneText k bits a c image′) offsets-part sizes-part ∙ ap (doneText k bits (words spans) (sizes spans)) image-is
+        ∙ ap (answerText banks l (r .passes)) (sym e) ∙ ap (builtText banks l) answer-is
+
+  -- whatever the build answers
+  pub build-text : (q : Build) → r .build ≡ q → answered q image′ offsets′ sized′ ≡ builtText banks l (buildOf banks l limit lentRoom)
+  build-text (Refused why) e = refused-build why e
+  build-text (Done k bits n) e = done-build k bits n e
+
+  pub build-fits : (q : Build) → r .build ≡ q → length image′ ≡ imageRoom → length offsets′ ≡ spanRoom → length sized′ ≡ spanRoom
+      → Fitting q (length image′) (length offsets′) (length sized′)
+  build-fits (Refused why) e gi go gs = tt
+  build-fits (Done k bits n) e gi go gs =
+      let w = within k bits n e in
+      (rw gi (w .0), w .0, rw go (w .1), rw gs (w .1))

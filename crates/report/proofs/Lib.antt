@@ -1,0 +1,4 @@
+pub mod Built
+pub mod Found
+pub mod Many
+pub mod Read

@@ -1,0 +1,48 @@
+-- A file with too many nodes: its layout is refused for its banks, or else for the count.
+use mathlib.Core.Path.{_≡_, refl, sym, ap, _∙_}
+use mathlib.Core.List.{List}
+use Prim.Native.Nat.{ℕ, _<_, _+_}
+use native.Mathlib.Omega.{arith}
+use lib.ListN.{length}
+use Rattle.refusal.specs.Limits.{maxNodes}
+use Rattle.refusal.specs.declared.Refusal.the-variants.{Malformed}
+use Rattle.refusal.specs.declared.Verdict.{Verdict}
+use Rattle.refusal.specs.declared.Verdict.the-variants.{Accepted, Refused as TurnedAway}
+use Rattle.bankdef.specs.Check.{checkOf}
+use Rattle.bankdef.specs.declared.Bankdefs.{Bankdefs}
+use Rattle.resolver.specs.Lists.{Lists, listsOf}
+use Rattle.resolver.specs.Passes.{resolutionOf}
+use Rattle.resolver.specs.Layout.{unless, layoutOf}
+use Rattle.resolver.specs.declared.Resolution.{Resolution}
+use Rattle.resolver.specs.declared.Settled.the-variants.{Refused as Unsettled}
+use Rattle.resolver.proofs.Counts.{too-many-nodes}
+use Rattle.output.specs.Output.{settledBuild, buildOf}
+use Rattle.form.specs.Banks.{tableOf}
+use Rattle.form.specs.Words.{byte}
+use Rattle.form.specs.Shape.{nodesStart, nodeCount, formOf}
+use Rattle.form.specs.declared.Shape.{Shape}
+use Rattle.form.specs.declared.Form.the-variants.{Sound}
+use Rattle.form.proofs.Columns.{column-length}
+use Rattle.form.proofs.Filled.{places}
+use Rattle.text.specs.Lines.{refusalText}
+use Rattle.report.specs.Report.{lentRoom, answerText, builtText, listsIn, soundText, refusalOr, countRefusal}
+
+go : (v w : Verdict) (q : Resolution) → TurnedAway (Malformed 0) ≡ w → unless v (unless w q) ≡ record { settled = Unsettled (refusalOr v (Malformed 0)); passes = 0 }
+go Accepted w q e = rw (← e) refl
+go (TurnedAway why) w q e = refl
+
+layout-many : (banks : Bankdefs) (l : Lists) (limit : ℕ) → maxNodes < length (l .kinds) → layoutOf banks l limit ≡ record { settled = Unsettled (countRefusal banks); passes = 0 }
+unfolding layoutOf
+layout-many banks l limit h =
+    go (checkOf banks) (listsOf (banks .len) l) (resolutionOf banks l limit) (too-many-nodes (banks .len) l h)
+
+text-many : (banks : Bankdefs) (l : Lists) (limit : ℕ) → maxNodes < length (l .kinds) → builtText banks l (buildOf banks l limit lentRoom) ≡ refusalText (countRefusal banks)
+unfolding buildOf
+text-many banks l limit h =
+    ap (λ (x : Resolution). answerText banks l (x .passes) (settledBuild banks l lentRoom (x .passes) (x .settled))) (layout-many banks l limit h)
+
+pub many-text : (file : List ℕ) (s : Shape) → formOf file ≡ Sound s → maxNodes < s .nodes → refusalText (countRefusal (tableOf file)) ≡ soundText file s
+many-text file s e h =
+    let nodes = places file s e .nodes in
+    let long = column-length (byte file) 8 (nodesStart file + 3) (nodeCount file) in
+    sym (text-many (tableOf file) (listsIn file s) (s .limit) (rw long (rw (← nodes) h)))

@@ -1,0 +1,11 @@
+-- The report's contract is `Puts` of the file's text, which leaves one outcome: the answer and every byte of the buffer.
+use mathlib.Core.Path.{_≡_}
+use mathlib.Core.List.{List}
+use Prim.Native.Nat.{ℕ}
+use Rattle.text.specs.declared.Written.{Written}
+use Rattle.text.specs.Puts.{Puts}
+use Rattle.text.specs.Unique.{puts-unique}
+use Rattle.report.specs.Report.{reportText}
+
+pub report-unique : (file old : List ℕ) {r s : Written} {a b : List ℕ} → Puts (reportText file) old 0 r a → Puts (reportText file) old 0 s b → (r ≡ s) × (a ≡ b)
+report-unique file old p q = puts-unique p q
