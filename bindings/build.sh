@@ -1,0 +1,40 @@
+#!/bin/sh
+# Builds the proved archive and the programs over it: target/staticlib/libdenkumari.a, and in build/bindings the C programs batch and test, and,
+# where a Rust compiler has the x86-64 target, the Rust ones batch_rust, worked_rust and calls_rust. Says what it skipped.
+#
+# Not on x86-64, CC names a C compiler for it (default x86_64-linux-gnu-gcc; Debian: gcc-x86-64-linux-gnu libc6-dev-amd64-cross). RUSTC names the
+# Rust compiler.
+set -eu
+root=$(cd "$(dirname "$0")/.." && pwd)
+cd "$root"
+target=x86_64-unknown-linux-gnu
+if [ "$(uname -m)" = x86_64 ]; then cc=${CC:-cc}; else cc=${CC:-x86_64-linux-gnu-gcc}; fi
+rustc=${RUSTC:-rustc}
+
+rt staticlib denkumari >build.log 2>&1 || { cat build.log; rm build.log; exit 1; }
+rm build.log
+archive=target/staticlib/libdenkumari.a
+out=build/bindings
+rm -rf "$out"
+mkdir -p "$out"
+
+if ! command -v "$cc" >/dev/null; then
+    echo "skipped: the C and Rust programs, for want of a C compiler for x86-64 ($cc)"
+    exit 0
+fi
+for program in batch test; do
+    "$cc" -std=c11 -O2 -Wall -Wextra -Werror -static -o "$out/$program" "bindings/c/$program.c" "$archive"
+done
+echo "built: libdenkumari.a and the C programs"
+
+if ! "$rustc" --version >/dev/null 2>&1 || [ -z "$(ls "$("$rustc" --print target-libdir --target "$target" 2>/dev/null)"/libstd-*.rlib 2>/dev/null)" ]; then
+    echo "skipped: the Rust programs, for want of a Rust compiler with the target $target"
+    exit 0
+fi
+rust() { "$rustc" --edition 2021 -O -D warnings --target "$target" -C linker="$cc" "$@"; }
+rust --crate-type rlib --crate-name denkumari -L target/staticlib -l static=denkumari --out-dir "$out" bindings/rust/src/lib.rs
+for program in batch worked; do
+    rust -C target-feature=+crt-static --extern "denkumari=$out/libdenkumari.rlib" -o "$out/${program}_rust" "bindings/rust/examples/$program.rs"
+done
+rust -C target-feature=+crt-static --test --extern "denkumari=$out/libdenkumari.rlib" -o "$out/calls_rust" bindings/rust/tests/calls.rs
+echo "built: the Rust crate and its programs"

@@ -1,0 +1,155 @@
+/* Calls every function of the library: document 01's worked example as tables and as a file, refusals, and buffers that have to be
+ * left alone. Prints what is wrong; the last line says how many tests there were. */
+#include <inttypes.h>
+#include <stdio.h>
+#include <string.h>
+
+#include "../../include/denkumari.h"
+
+static unsigned tests, faults;
+
+static void expect(int holds, const char *what)
+{
+    tests++;
+    if (!holds) {
+        faults++;
+        printf("wrong: %s\n", what);
+    }
+}
+
+/* The worked example's tables. */
+static const uint16_t units[] = {8, 10};
+static const int64_t starts[] = {0, 64};
+static const uint32_t bank_sizes[] = {0, 40}, bank_offsets[] = {0, 0}, aligns[] = {0, 0};
+static uint8_t flags[] = {0, DK_HAS_SIZE | DK_HAS_OFFSET | DK_FILL};
+static const uint8_t kinds[] = {DK_SWITCH, DK_LABEL, DK_DATA, DK_RESERVE, DK_INSTRUCTION};
+static uint32_t operands[] = {1, 0, 0, 0, 16};
+static uint32_t numbers[] = {0, 0, 10, 10, 10};
+static const uint8_t states[5];
+static const uint8_t values[] = {0xff, 0xc0, 0x2a, 0x80};
+
+/* What is lent, and what it held before the call: every byte 0xa5. */
+struct lent {
+    uint8_t image[8], hex[16];
+    int64_t addresses[4];
+    uint64_t offsets[4], sizes[4], starts[4], lengths[4];
+};
+
+static struct lent lent, fresh;
+
+static struct dk_layout build(size_t banks, size_t image_len, size_t span_len)
+{
+    lent = fresh;
+    return dk_build(units, banks, starts, banks, bank_sizes, banks, bank_offsets, banks, aligns, banks, flags, banks,
+                    kinds, 5, operands, 5, numbers, 5, states, 5, 1, values, sizeof values, 10,
+                    lent.image, image_len, lent.addresses, span_len, lent.offsets, span_len, lent.sizes, span_len);
+}
+
+static int untouched(void)
+{
+    return memcmp(&lent, &fresh, sizeof lent) == 0;
+}
+
+static void expect_refusal(struct dk_layout r, uint64_t number, uint64_t place, uint64_t second, uint64_t passes, const char *what)
+{
+    expect(r.refusal == number && r.place == place && r.second == second && r.passes == passes, what);
+    expect(r.k == 0 && r.length == 0 && r.spans == 0, what);
+    expect(untouched(), what);
+}
+
+static void expect_worked(struct dk_layout r, const char *what)
+{
+    static const uint8_t image[] = {0xff, 0xc0, 0x02, 0xa8, 0x00, 0, 0, 0};
+    expect(r.refusal == DK_ACCEPTED && r.k == 1 && r.passes == 2 && r.length == 40 && r.spans == 3, what);
+    expect(memcmp(lent.image, image, sizeof image) == 0, what);
+    expect(lent.addresses[0] == 64 && lent.addresses[1] == 64 && lent.addresses[2] == 66, what);
+    expect(lent.offsets[0] == 0 && lent.offsets[1] == 0 && lent.offsets[2] == 20, what);
+    expect(lent.sizes[0] == 0 && lent.sizes[1] == 10 && lent.sizes[2] == 10, what);
+    expect(memcmp(lent.addresses + 3, fresh.addresses + 3, 8) == 0 && lent.offsets[3] == fresh.offsets[3] && lent.sizes[3] == fresh.sizes[3], what);
+}
+
+static void worked_example(void)
+{
+    expect_worked(build(2, 8, 4), "the worked example as tables");
+    struct dk_count blocks = dk_blocks(lent.offsets, 3, lent.sizes, 3, lent.starts, 4, lent.lengths, 4);
+    expect(blocks.refusal == DK_ACCEPTED && blocks.count == 2, "its blocks");
+    expect(lent.starts[0] == 0 && lent.lengths[0] == 10 && lent.starts[1] == 20 && lent.lengths[1] == 10, "its blocks");
+    expect(lent.starts[2] == fresh.starts[2] && lent.lengths[2] == fresh.lengths[2], "blocks past those written");
+    struct dk_count digits = dk_hex(lent.image, 8, 40, lent.hex, 16);
+    expect(digits.refusal == DK_ACCEPTED && digits.count == 10, "its hex");
+    expect(memcmp(lent.hex, "ffc002a800", 10) == 0 && lent.hex[10] == 0xa5, "its hex");
+}
+
+static void refused_builds(void)
+{
+    expect_refusal(build(0, 8, 4), DK_BANK_COUNT, 0, 0, 0, "no bank");
+    expect_refusal(build(2, 4, 4), DK_TOO_SHORT, 0, 0, 2, "an image of four bytes");
+    expect_refusal(build(2, 8, 2), DK_TOO_SHORT, 1, 0, 2, "room for two spans");
+    flags[1] = 16;
+    expect_refusal(build(2, 8, 4), DK_BANK_NUMBER, 1, 0, 0, "flags that mean nothing");
+    flags[1] = DK_HAS_SIZE | DK_HAS_OFFSET | DK_FILL;
+    operands[4] = 23;
+    expect_refusal(build(2, 8, 4), DK_MALFORMED, 4, 0, 0, "an item past the values");
+    operands[4] = 16;
+    numbers[3] = 21;
+    expect_refusal(build(2, 8, 4), DK_PAST_BANK, 4, 0, 2, "an item past its bank");
+    numbers[3] = 10;
+    lent = fresh;
+    struct dk_layout r = dk_build(units, 2, starts, 2, bank_sizes, 1, bank_offsets, 2, aligns, 2, flags, 2, kinds, 5, operands, 5, numbers, 5, states, 5, 1,
+                                  values, 4, 10, lent.image, 8, lent.addresses, 4, lent.offsets, 4, lent.sizes, 4);
+    expect_refusal(r, DK_BANK_COUNT, 0, 0, 0, "lists of banks of different lengths");
+}
+
+static struct dk_layout lay_out(const uint8_t *file, size_t size)
+{
+    lent = fresh;
+    return dk_form(file, size, lent.image, 8, lent.addresses, 4, lent.offsets, 4, lent.sizes, 4);
+}
+
+static void files(const char *path)
+{
+    static uint8_t file[1024];
+    FILE *in = fopen(path, "rb");
+    size_t size = in ? fread(file, 1, sizeof file, in) : 0;
+    expect(size > 0, "the worked example's file can be read");
+    if (in)
+        fclose(in);
+    expect_worked(lay_out(file, size), "the worked example as a file");
+    expect_refusal(lay_out(file, 0), DK_MALFORMED, 0, 0, 0, "an empty file");
+    expect_refusal(lay_out(file, size - 1), DK_MALFORMED, 9, 0, 0, "a file that is cut in its last field");
+    file[0] = 7;
+    expect_refusal(lay_out(file, size), DK_MALFORMED, 0, 0, 0, "a first field that is unknown");
+}
+
+static void other_refusals(void)
+{
+    lent = fresh;
+    struct dk_count r = dk_hex(values, 4, 33, lent.hex, 16);
+    expect(r.refusal == DK_MALFORMED && r.place == 0 && r.count == 0 && untouched(), "hex of more bits than there are");
+    r = dk_hex(values, 4, 32, lent.hex, 7);
+    expect(r.refusal == DK_TOO_SHORT && r.place == 3 && r.count == 0 && untouched(), "hex into seven digits");
+    static const uint64_t at[] = {0, DK_NO_OFFSET, 20}, size[] = {10, 5, 10};
+    r = dk_blocks(at, 3, size, 2, lent.starts, 4, lent.lengths, 4);
+    expect(r.refusal == DK_MALFORMED && r.place == 0 && untouched(), "blocks of two sizes for three offsets");
+    r = dk_blocks(at, 3, size, 3, lent.starts, 1, lent.lengths, 4);
+    expect(r.refusal == DK_TOO_SHORT && r.place == 2 && untouched(), "room for one of two blocks");
+    r = dk_blocks(at, 3, size, 3, lent.starts, 2, lent.lengths, 2);
+    expect(r.refusal == DK_ACCEPTED && r.count == 2 && lent.starts[1] == 20 && lent.lengths[1] == 10, "a span without offset is passed over");
+    struct dk_part part = dk_part(values, 4, 8, 16);
+    expect(part.refusal == DK_ACCEPTED && part.start == 1 && part.length == 2, "a part on byte edges");
+    part = dk_part(values, 4, 8, 12);
+    expect(part.refusal == DK_BAD_PART && part.start == 0 && part.length == 0, "a part off a byte edge");
+    part = dk_part(values, 4, UINT64_MAX - 7, 8);
+    expect(part.refusal == DK_BAD_PART, "a part outside");
+}
+
+int main(int argc, char **argv)
+{
+    memset(&fresh, 0xa5, sizeof fresh);
+    worked_example();
+    refused_builds();
+    other_refusals();
+    files(argc > 1 ? argv[1] : "examples/worked.form");
+    printf("%u tests, %u wrong\n", tests, faults);
+    return faults != 0;
+}

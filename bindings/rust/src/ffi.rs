@@ -1,0 +1,98 @@
+//! The archive's functions (include/denkumari.h), called with slices. Everything `unsafe` is here: each call passes the pointers and lengths of
+//! slices that live as long as the call, those that are written behind `&mut`, so that none overlaps another.
+
+use crate::{Banks, Nodes, Spans};
+
+#[repr(C)]
+pub struct DkLayout {
+    pub refusal: u64,
+    pub place: u64,
+    pub second: u64,
+    pub passes: u64,
+    pub k: u64,
+    pub length: u64,
+    pub spans: u64,
+}
+
+#[repr(C)]
+pub struct DkCount {
+    pub refusal: u64,
+    pub place: u64,
+    pub count: u64,
+}
+
+#[repr(C)]
+pub struct DkPart {
+    pub refusal: u64,
+    pub start: u64,
+    pub length: u64,
+}
+
+#[rustfmt::skip]
+extern "C" {
+    fn dk_build(
+        units: *const u16, units_len: usize, starts: *const i64, starts_len: usize, bank_sizes: *const u32, bank_sizes_len: usize,
+        bank_offsets: *const u32, bank_offsets_len: usize, aligns: *const u32, aligns_len: usize, flags: *const u8, flags_len: usize,
+        kinds: *const u8, kinds_len: usize, operands: *const u32, operands_len: usize, numbers: *const u32, numbers_len: usize,
+        states: *const u8, states_len: usize, rows: u64, values: *const u8, values_len: usize, limit: u8,
+        image: *mut u8, image_len: usize, addresses: *mut i64, addresses_len: usize, offsets: *mut u64, offsets_len: usize,
+        sizes: *mut u64, sizes_len: usize,
+    ) -> DkLayout;
+    fn dk_form(
+        file: *const u8, file_len: usize, image: *mut u8, image_len: usize, addresses: *mut i64, addresses_len: usize,
+        offsets: *mut u64, offsets_len: usize, sizes: *mut u64, sizes_len: usize,
+    ) -> DkLayout;
+    fn dk_blocks(
+        offsets: *const u64, offsets_len: usize, sizes: *const u64, sizes_len: usize,
+        block_offsets: *mut u64, block_offsets_len: usize, block_sizes: *mut u64, block_sizes_len: usize,
+    ) -> DkCount;
+    fn dk_hex(bytes: *const u8, bytes_len: usize, bits: u64, hex: *mut u8, hex_len: usize) -> DkCount;
+    fn dk_part(image: *const u8, image_len: usize, offset: u64, size: u64) -> DkPart;
+}
+
+#[rustfmt::skip]
+pub fn build(b: &Banks<'_>, n: &Nodes<'_>, image: &mut [u8], s: Spans<'_>) -> DkLayout {
+    // SAFETY: see the module
+    unsafe {
+        dk_build(
+            b.units.as_ptr(), b.units.len(), b.starts.as_ptr(), b.starts.len(), b.sizes.as_ptr(), b.sizes.len(),
+            b.offsets.as_ptr(), b.offsets.len(), b.aligns.as_ptr(), b.aligns.len(), b.flags.as_ptr(), b.flags.len(),
+            n.kinds.as_ptr(), n.kinds.len(), n.operands.as_ptr(), n.operands.len(), n.numbers.as_ptr(), n.numbers.len(),
+            n.states.as_ptr(), n.states.len(), n.rows, n.values.as_ptr(), n.values.len(), n.limit,
+            image.as_mut_ptr(), image.len(), s.addresses.as_mut_ptr(), s.addresses.len(), s.offsets.as_mut_ptr(), s.offsets.len(),
+            s.sizes.as_mut_ptr(), s.sizes.len(),
+        )
+    }
+}
+
+#[rustfmt::skip]
+pub fn form(file: &[u8], image: &mut [u8], s: Spans<'_>) -> DkLayout {
+    // SAFETY: see the module
+    unsafe {
+        dk_form(
+            file.as_ptr(), file.len(), image.as_mut_ptr(), image.len(), s.addresses.as_mut_ptr(), s.addresses.len(),
+            s.offsets.as_mut_ptr(), s.offsets.len(), s.sizes.as_mut_ptr(), s.sizes.len(),
+        )
+    }
+}
+
+#[rustfmt::skip]
+pub fn blocks(offsets: &[u64], sizes: &[u64], starts: &mut [u64], lengths: &mut [u64]) -> DkCount {
+    // SAFETY: see the module
+    unsafe {
+        dk_blocks(
+            offsets.as_ptr(), offsets.len(), sizes.as_ptr(), sizes.len(),
+            starts.as_mut_ptr(), starts.len(), lengths.as_mut_ptr(), lengths.len(),
+        )
+    }
+}
+
+pub fn hex(bytes: &[u8], bits: u64, digits: &mut [u8]) -> DkCount {
+    // SAFETY: see the module
+    unsafe { dk_hex(bytes.as_ptr(), bytes.len(), bits, digits.as_mut_ptr(), digits.len()) }
+}
+
+pub fn part(image: &[u8], offset: u64, size: u64) -> DkPart {
+    // SAFETY: see the module
+    unsafe { dk_part(image.as_ptr(), image.len(), offset, size) }
+}

@@ -1,0 +1,251 @@
+//! From a table of banks and a list of nodes to an image, its spans and its blocks.
+//!
+//! Every answer comes from a library that is proved against the rules of the repository's `docs/`; this crate only passes slices to it and
+//! takes its numbers apart. It has no dependencies, allocates nothing, never panics and asks for no `unsafe`. The library is x86-64 Linux code.
+//!
+//! The whole way, from tables to image and blocks:
+//!
+//! ```
+#![doc = include_str!("../examples/worked.rs")]
+//! ```
+
+#![deny(missing_docs)]
+
+mod ffi;
+
+use std::fmt;
+
+/// The bank has a size.
+pub const HAS_SIZE: u8 = 1;
+/// The bank has an output offset.
+pub const HAS_OFFSET: u8 = 2;
+/// The bank has a label alignment.
+pub const HAS_ALIGN: u8 = 4;
+/// The bank's range is filled.
+pub const FILL: u8 = 8;
+
+/// The offset of a span that has none.
+pub const NO_OFFSET: u64 = u64::MAX;
+
+/// The banks, one element of each list for a bank. A number whose flag is clear is not read.
+#[derive(Clone, Copy, Debug)]
+pub struct Banks<'a> {
+    /// Bits to an address.
+    pub units: &'a [u16],
+    /// The first address.
+    pub starts: &'a [i64],
+    /// Sizes in bits.
+    pub sizes: &'a [u32],
+    /// Where the bank's first bit is in the image.
+    pub offsets: &'a [u32],
+    /// Label alignments in bits.
+    pub aligns: &'a [u32],
+    /// Sums of [`HAS_SIZE`], [`HAS_OFFSET`], [`HAS_ALIGN`] and [`FILL`].
+    pub flags: &'a [u8],
+}
+
+/// The nodes: a kind and an operand for each, and in each of `rows` rows, one after the other, a number and a state for each.
+#[derive(Clone, Copy, Debug)]
+pub struct Nodes<'a> {
+    /// 0 nothing, 1 bank switch, 2 label, 3 constant, 4 instruction, 5 data of declared size, 6 data of open size, 7 reserve, 8 align, 9 addr, 10 assert.
+    pub kinds: &'a [u8],
+    /// A bank for 1, a depth for 2 and 3, a first bit in the values for 4 to 6.
+    pub operands: &'a [u32],
+    /// Row by row.
+    pub numbers: &'a [u32],
+    /// Row by row: 0 resolved, 1 stable, 2 unresolved.
+    pub states: &'a [u8],
+    /// How many rows there are, 1 to 16.
+    pub rows: u64,
+    /// The bytes that items are taken from.
+    pub values: &'a [u8],
+    /// The pass limit.
+    pub limit: u8,
+}
+
+/// Where spans are written: labels and written items, in the order of the nodes. The shortest list counts.
+#[derive(Debug)]
+pub struct Spans<'a> {
+    /// Addresses in whole units.
+    pub addresses: &'a mut [i64],
+    /// Offsets in the image in bits, or [`NO_OFFSET`].
+    pub offsets: &'a mut [u64],
+    /// Sizes in bits, 0 for a label.
+    pub sizes: &'a mut [u64],
+}
+
+/// An accepted layout.
+#[derive(Clone, Copy, Debug, PartialEq, Eq)]
+pub struct Layout {
+    /// The first pass that was not unresolved; 0 for pass limit 0.
+    pub k: u64,
+    /// Passes run.
+    pub passes: u64,
+    /// The image's length in bits.
+    pub length: u64,
+    /// How many spans were written.
+    pub spans: usize,
+}
+
+/// A buffer that was too short.
+#[derive(Clone, Copy, Debug, PartialEq, Eq)]
+pub enum Buffer {
+    /// The image.
+    Image,
+    /// The lists of spans.
+    Spans,
+    /// The lists of blocks.
+    Blocks,
+    /// The hex digits.
+    Hex,
+}
+
+/// Why a call was refused. A refused call leaves everything lent as it was. `node` and `bank` count from 0, `passes` is how many passes ran.
+#[derive(Clone, Copy, Debug, PartialEq, Eq)]
+#[allow(missing_docs)]
+pub enum Refusal {
+    /// 1: not 1 to 16 banks, or lists of banks of different lengths.
+    BankCount,
+    /// 2: a number of the bank is beyond its limit, or it is filled and has size 0.
+    BankNumber { bank: u64 },
+    /// 3: two banks overlap; the first such pair.
+    BanksOverlap { first: u64, second: u64 },
+    /// 4: something given is malformed; the node, or 0, 1 for the count of nodes, of rows, or the broken field of a file.
+    Malformed { place: u64 },
+    /// 5: a position would pass 4,294,967,295.
+    PositionPast { node: u64, passes: u64 },
+    /// 6: a negative address meets an alignment other than 0.
+    NegativeAlignment { node: u64, passes: u64 },
+    /// 7: a label in the last pass is between two addresses.
+    LabelOffBoundary { node: u64, passes: u64 },
+    /// 8: the last pass ended unresolved.
+    Unresolved { passes: u64 },
+    /// 9: bank 0 is used though there are others.
+    DefaultBank { node: u64, passes: u64 },
+    /// 10: an item ends past its bank's size.
+    PastBank { node: u64, passes: u64 },
+    /// 11: an item is written in a bank without output offset.
+    NoOutput { node: u64, passes: u64 },
+    /// 12: an item would share a bit with another; that other's start and size in bits.
+    Overlap { start: u64, size: u64, passes: u64 },
+    /// 13: over 512 items.
+    StoreFull { node: u64, passes: u64 },
+    /// 14: a buffer is too short.
+    TooShort { buffer: Buffer, passes: u64 },
+    /// 16: a part of an image is empty, outside it, or not on byte edges.
+    BadPart,
+    /// A number that this crate does not know: the archive is newer than the crate.
+    Unknown { number: u64, place: u64 },
+}
+
+impl Refusal {
+    /// The number of the refusal in the rules' table.
+    pub fn number(&self) -> u64 {
+        match *self {
+            Refusal::BankCount => 1,
+            Refusal::BankNumber { .. } => 2,
+            Refusal::BanksOverlap { .. } => 3,
+            Refusal::Malformed { .. } => 4,
+            Refusal::PositionPast { .. } => 5,
+            Refusal::NegativeAlignment { .. } => 6,
+            Refusal::LabelOffBoundary { .. } => 7,
+            Refusal::Unresolved { .. } => 8,
+            Refusal::DefaultBank { .. } => 9,
+            Refusal::PastBank { .. } => 10,
+            Refusal::NoOutput { .. } => 11,
+            Refusal::Overlap { .. } => 12,
+            Refusal::StoreFull { .. } => 13,
+            Refusal::TooShort { .. } => 14,
+            Refusal::BadPart => 16,
+            Refusal::Unknown { number, .. } => number,
+        }
+    }
+
+    fn told(number: u64, place: u64, second: u64, passes: u64) -> Refusal {
+        let node = place;
+        match number {
+            1 => Refusal::BankCount,
+            2 => Refusal::BankNumber { bank: place },
+            3 => Refusal::BanksOverlap { first: place, second },
+            4 => Refusal::Malformed { place },
+            5 => Refusal::PositionPast { node, passes },
+            6 => Refusal::NegativeAlignment { node, passes },
+            7 => Refusal::LabelOffBoundary { node, passes },
+            8 => Refusal::Unresolved { passes },
+            9 => Refusal::DefaultBank { node, passes },
+            10 => Refusal::PastBank { node, passes },
+            11 => Refusal::NoOutput { node, passes },
+            12 => Refusal::Overlap { start: place, size: second, passes },
+            13 => Refusal::StoreFull { node, passes },
+            14 => Refusal::too_short(place, passes),
+            16 => Refusal::BadPart,
+            _ => Refusal::Unknown { number, place },
+        }
+    }
+
+    fn too_short(place: u64, passes: u64) -> Refusal {
+        let buffer = match place {
+            0 => Buffer::Image,
+            1 => Buffer::Spans,
+            2 => Buffer::Blocks,
+            3 => Buffer::Hex,
+            _ => return Refusal::Unknown { number: 14, place },
+        };
+        Refusal::TooShort { buffer, passes }
+    }
+}
+
+impl fmt::Display for Refusal {
+    fn fmt(&self, f: &mut fmt::Formatter<'_>) -> fmt::Result {
+        write!(f, "refused {}: {:?}", self.number(), self)
+    }
+}
+
+impl std::error::Error for Refusal {}
+
+fn layout_of(r: ffi::DkLayout) -> Result<Layout, Refusal> {
+    match r.refusal {
+        // at most 4,096 spans are counted, and each was written into a slice
+        0 => Ok(Layout { k: r.k, passes: r.passes, length: r.length, spans: r.spans as usize }),
+        number => Err(Refusal::told(number, r.place, r.second, r.passes)),
+    }
+}
+
+fn count_of(r: ffi::DkCount) -> Result<usize, Refusal> {
+    match r.refusal {
+        0 => Ok(r.count as usize),
+        number => Err(Refusal::told(number, r.place, 0, 0)),
+    }
+}
+
+/// Lays tables out: writes the image, bits from the top of each byte and zero past its length, and the spans.
+pub fn build(banks: &Banks<'_>, nodes: &Nodes<'_>, image: &mut [u8], spans: Spans<'_>) -> Result<Layout, Refusal> {
+    layout_of(ffi::build(banks, nodes, image, spans))
+}
+
+/// Lays a file of form 1 out, at most 65,000 bytes.
+pub fn layout_form(file: &[u8], image: &mut [u8], spans: Spans<'_>) -> Result<Layout, Refusal> {
+    layout_of(ffi::form(file, image, spans))
+}
+
+/// Writes the blocks that spans make, taken by offset, and answers how many there are. At most 4,096 spans, as many offsets as sizes.
+pub fn get_blocks(offsets: &[u64], sizes: &[u64], block_offsets: &mut [u64], block_sizes: &mut [u64]) -> Result<usize, Refusal> {
+    count_of(ffi::blocks(offsets, sizes, block_offsets, block_sizes))
+}
+
+/// The first `bits` bits in hex, four bits a digit, written into `digits`.
+pub fn hex<'a>(bytes: &[u8], bits: u64, digits: &'a mut [u8]) -> Result<&'a str, Refusal> {
+    let count = count_of(ffi::hex(bytes, bits, digits))?;
+    // the digits are 0 to 9 and a to f, so neither alternative is ever met
+    let written = digits.get(..count).unwrap_or_default();
+    Ok(std::str::from_utf8(written).unwrap_or_default())
+}
+
+/// The part of an image that a block on byte edges stands in; `offset` and `size` are in bits.
+pub fn part(image: &[u8], offset: u64, size: u64) -> Result<&[u8], Refusal> {
+    let r = ffi::part(image, offset, size);
+    match r.refusal {
+        0 => image.get(r.start as usize..).and_then(|rest| rest.get(..r.length as usize)).ok_or(Refusal::BadPart),
+        number => Err(Refusal::told(number, 0, 0, 0)),
+    }
+}

@@ -1,0 +1,38 @@
+#!/bin/sh
+# Builds the archive and its callers (bindings/build.sh) and runs them: document 01's worked example, refusals, buffers that must be left alone,
+# and random layouts, whose answers have to be those of oracle/model.py. test.sh [LAYOUTS [SEED]], 4,000 and 1 if not given. Says what it skipped.
+set -eu
+root=$(cd "$(dirname "$0")/.." && pwd)
+cd "$root"
+layouts=${1:-4000}
+seed=${2:-1}
+out=build/bindings
+bindings/build.sh
+[ -x "$out/test" ] || exit 0
+if ! emulator=$(bindings/emulator.sh); then
+    echo "skipped: running the programs, for want of an emulator for x86-64"
+    exit 0
+fi
+
+echo "C: $($emulator "$out/test" examples/worked.form)"
+python3 oracle/generate.py "$seed" "$layouts" --batch >"$out/layouts"
+python3 oracle/model.py --batch <"$out/layouts" >"$out/expected"
+compare() {
+    name=$1
+    shift
+    $emulator "$@" <"$out/layouts" >"$out/answers"
+    if ! cmp -s "$out/expected" "$out/answers"; then
+        echo "$name: an answer differs from the model's:"
+        diff "$out/expected" "$out/answers" | head -4
+        exit 1
+    fi
+    echo "$name: $(wc -l <"$out/answers") layouts, each answer the model's"
+}
+compare "C, from files" "$out/batch"
+compare "C, from tables" "$out/batch" --tables
+
+[ -x "$out/batch_rust" ] || exit 0
+$emulator "$out/worked_rust" >"$out/answers"
+printf 'passes 1\nblock 0 10\nblock 20 10\nimage ffc002a800\n' | cmp - "$out/answers"
+$emulator "$out/calls_rust" -q | grep "test result"
+compare "Rust, from files" "$out/batch_rust"

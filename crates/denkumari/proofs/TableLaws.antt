@@ -1,0 +1,64 @@
+-- The count of banks is no longer than any of the lists, and a build of the table is told as it is.
+use mathlib.Core.Path.{_≡_, ap, subst, _∙_}
+use mathlib.Core.List.{List}
+use Prim.Native.Nat.{ℕ, _≤_}
+use native.Mathlib.Omega.{arith}
+use lib.Dec.{eqb}
+use lib.IntN.{ℤ}
+use lib.ListN.{length}
+use borrow.Author.Tests.{eqb-true}
+use Rattle.bankdef.specs.declared.Bankdefs.{Bankdefs}
+use Rattle.form.specs.Fields.{by-test}
+use Rattle.resolver.specs.Lists.{Lists}
+use Rattle.output.specs.Output.{Builds}
+use Rattle.output.specs.declared.Output.{Output}
+use Rattle.denkumari.specs.Told.{layoutTold}
+use Rattle.denkumari.specs.Tables.{Given, agree, countOf, TablesTold}
+use Rattle.denkumari.specs.declared.DkLayout.{DkLayout}
+
+agree-le : (len n k : ℕ) → k ≤ n → (agree len n k ≤ len) × (agree len n k ≤ k)
+agree-le len n k h =
+    by-test (eqb len n)
+    (λ e. let same = eqb-true len n e in rw e (omega arith, omega arith))
+    (λ e. rw e (omega arith, omega arith))
+
+pub record Few (g : Given) : Type 0 where
+  pub units : countOf g ≤ length (g .units)
+  pub starts : countOf g ≤ length (g .starts)
+  pub sizes : countOf g ≤ length (g .sizes)
+  pub offsets : countOf g ≤ length (g .offsets)
+  pub aligns : countOf g ≤ length (g .aligns)
+  pub flags : countOf g ≤ length (g .flags)
+
+pub few : (g : Given) → Few g
+unfolding countOf
+few g =
+    let n = length (g .units) in
+    let a = agree-le (length (g .starts)) n n (omega arith) in
+    let with-starts = agree (length (g .starts)) n n in
+    let b = agree-le (length (g .sizes)) n with-starts (a .1) in
+    let with-sizes = agree (length (g .sizes)) n with-starts in
+    let c = agree-le (length (g .offsets)) n with-sizes (omega (arith, a, b)) in
+    let with-offsets = agree (length (g .offsets)) n with-sizes in
+    let d = agree-le (length (g .aligns)) n with-offsets (omega (arith, a, b, c)) in
+    let with-aligns = agree (length (g .aligns)) n with-offsets in
+    let e = agree-le (length (g .flags)) n with-aligns (omega (arith, a, b, c, d)) in
+    record {
+      units = omega (arith, a, b, c, d, e);
+      starts = omega (arith, a, b, c, d, e);
+      sizes = omega (arith, b, c, d, e);
+      offsets = omega (arith, c, d, e);
+      aligns = omega (arith, d, e);
+      flags = omega (arith, e);
+    }
+
+pub tables-told : {banks table : Bankdefs} {l : Lists} {limit : ℕ} {image : List ℕ} {addressed : List ℤ} {offsets sized : List ℕ} {r : Output}
+    {image′ : List ℕ} {addressed′ : List ℤ} {offsets′ sized′ : List ℕ} {t : DkLayout} → banks ≡ table → t ≡ layoutTold r
+    → Builds banks l limit image addressed offsets sized r image′ addressed′ offsets′ sized′
+    → TablesTold table l limit image addressed offsets sized t image′ addressed′ offsets′ sized′
+tables-told {table = table} {l} {limit} {image} {addressed} {offsets} {sized} {r} {image′} {addressed′} {offsets′} {sized′} {t} same told built =
+    let b = subst (λ (k : Bankdefs). Builds k l limit image addressed offsets sized r image′ addressed′ offsets′ sized′) same built in
+    record {
+      answer = told ∙ ap layoutTold (b .answer);
+      built = subst (λ (o : Output). Builds table l limit image addressed offsets sized o image′ addressed′ offsets′ sized′) (b .answer) b;
+    }

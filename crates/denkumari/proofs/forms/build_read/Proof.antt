@@ -1,0 +1,68 @@
+-- `build_read` meets its contract: the fronts of the lists are the file's lists.
+use mathlib.Core.Path.{sym}
+use lib.Seq.{length-take-le}
+use Rattle.denkumari.proofs.FormLaws.{laid-out}
+use borrow.Author.Needs.{needs}
+use Rattle.denkumari.proofs.forms.build_read.Statement.{statement}
+use Rattle.denkumari.proofs.forms.build_read.Tie as tie
+
+mul-cells : tie.Need-mul-cells
+mul-cells c = search needs
+
+read-banks-requires : tie.Need-read-banks-requires
+read-banks-requires c κs = search needs
+
+slice-aggregate-build-output : tie.Need-slice-aggregate-build-output
+slice-aggregate-build-output c = sym (length-take-le _ _ (c .before .before .before .before .before .before .before .before .before .before .pre .kinds-fit))
+
+slice-aggregate-build-output-2 : tie.Need-slice-aggregate-build-output-2
+slice-aggregate-build-output-2 c = sym (length-take-le _ _ (c .before .before .before .before .before .before .before .before .before .before .before .pre .operands-fit))
+
+slice-aggregate-build-output-3 : tie.Need-slice-aggregate-build-output-3
+slice-aggregate-build-output-3 c = sym (length-take-le _ _ (c .before .before .before .before .before .before .before .before .before .before .before .before .pre .numbers-fit))
+
+slice-aggregate-build-output-4 : tie.Need-slice-aggregate-build-output-4
+slice-aggregate-build-output-4 c = sym (length-take-le _ _ (c .before .before .before .before .before .before .before .before .before .before .before .before .before .pre .states-fit))
+
+read-values-requires : tie.Need-read-values-requires
+read-values-requires c κs = search needs
+
+build-output-requires : tie.Need-build-output-requires
+build-output-requires c κs = search needs
+
+same-length : tie.Need-same-length
+same-length c = search needs
+
+same-length-2 : tie.Need-same-length-2
+same-length-2 c = search needs
+
+same-length-3 : tie.Need-same-length-3
+same-length-3 c = search needs
+
+same-length-4 : tie.Need-same-length-4
+same-length-4 c = search needs
+
+returns : tie.Need-returns
+returns c =
+    let s = c .before .before .before .before .before .before .before .before .before .before .before .before .before .before .before .before .before .before .before .before .before .before .before .before .before .before in
+    let a = s .args in
+    laid-out (a .file .now) (a .image .now) (a .addresses .now) (a .offsets .now) (a .sizes .now) (a .shape) (s .pre .sound) _ (a .kinds .now) (a .operands .now) (a .numbers .now) (a .states .now) _ (s .pre)
+    (c .before .before .before .before .before .before .before .before .before .before .before .before .before .before .before .before .before .read-banks .ensures) (c .before .before .before .before .before .before .before .before .before .before .before .before .read-values .ensures) (c .before .before .before .before .before .before .before .build-output .ensures)
+
+pub build-read-spec : {M : Type 1} → statement M
+build-read-spec =
+    tie.close
+    (tie.spec
+    mul-cells
+    read-banks-requires
+    slice-aggregate-build-output
+    slice-aggregate-build-output-2
+    slice-aggregate-build-output-3
+    slice-aggregate-build-output-4
+    read-values-requires
+    build-output-requires
+    same-length
+    same-length-2
+    same-length-3
+    same-length-4
+    returns)

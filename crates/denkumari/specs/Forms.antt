@@ -1,0 +1,71 @@
+-- A file of form 1 laid out: what it says goes to the build.
+use mathlib.Core.Path.{_≡_}
+use mathlib.Core.List.{List}
+use Prim.Native.Nat.{ℕ, _*_, _≤_}
+use lib.IntN.{ℤ}
+use lib.ListN.{length, take}
+use Rattle.form.specs.declared.Shape.{Shape}
+use Rattle.form.specs.declared.Form.{Form}
+use Rattle.form.specs.declared.Form.the-variants.{Sound, Broken}
+use Rattle.form.specs.Shape.{formOf, rowCount}
+use Rattle.form.specs.Banks.{tableOf}
+use Rattle.form.specs.Lists.{kindsOf, operandsOf, numbersOf, statesOf, valuesBy}
+use Rattle.resolver.specs.Lists.{Lists, lists}
+use Rattle.resolver.specs.Once.{Program}
+use Rattle.resolver.specs.Passes.{program, rowOfPass}
+use Rattle.output.specs.Spans.{Span, spansTo, over, addresses, words, sizes}
+use Rattle.output.specs.Image.{imageTo}
+use Rattle.output.specs.Output.{Room, roomOf, buildOf, ifDone}
+use Rattle.output.specs.declared.Build.{Build}
+use Rattle.output.specs.declared.Build.the-variants.{Refused}
+use Rattle.output.specs.declared.Output.{Output}
+use Rattle.denkumari.specs.Told.{layoutTold}
+use Rattle.denkumari.specs.declared.DkLayout.{DkLayout}
+
+-- the lists and the value bytes of a file
+abbrev pub listsIn : List ℕ → Lists
+listsIn file = lists (kindsOf file) (operandsOf file) (numbersOf file) (statesOf file) (rowCount file) (valuesBy file (formOf file))
+
+-- "A broken file .. is 4 with the first such field's index", and no pass runs; a sound one is built.
+abbrev pub outputBy : List ℕ → Room → Form → Output
+outputBy file room (Broken why) = record { build = Refused why; passes = 0 }
+outputBy file room (Sound s) = buildOf (tableOf file) (listsIn file) (s .limit) room
+
+abbrev pub formOutput : List ℕ → Room → Output
+formOutput file room = outputBy file room (formOf file)
+
+-- what an accepted file's image and spans are, by the number of passes run
+abbrev pub formImage : List ℕ → ℕ → ℕ → List ℕ
+formImage file passes bytes =
+    imageTo (program (tableOf file) (listsIn file)) (rowOfPass (listsIn file) passes) (listsIn file .values) bytes (length (listsIn file .kinds))
+
+abbrev pub formSpans : List ℕ → ℕ → List Span
+formSpans file passes = spansTo (program (tableOf file) (listsIn file)) (rowOfPass (listsIn file) passes) (length (listsIn file .kinds))
+
+-- The build of a file: its answer, and everything in the four lent slices afterwards.
+pub record FormBuilt (file image : List ℕ) (addressed : List ℤ) (offsets sized : List ℕ) (r : Output) (image′ : List ℕ) (addressed′ : List ℤ)
+    (offsets′ sized′ : List ℕ) : Type 0 where
+  pub answer : r ≡ formOutput file (roomOf image addressed offsets sized)
+  pub bits : image′ ≡ ifDone (r .build) (formImage file (r .passes) (length image)) image
+  pub first : addressed′ ≡ ifDone (r .build) (over (addresses (formSpans file (r .passes))) addressed) addressed
+  pub second : offsets′ ≡ ifDone (r .build) (over (words (formSpans file (r .passes))) offsets) offsets
+  pub third : sized′ ≡ ifDone (r .build) (over (sizes (formSpans file (r .passes))) sized) sized
+
+-- What `dk_form` promises: that build, told in numbers.
+pub record FormTold (file image : List ℕ) (addressed : List ℤ) (offsets sized : List ℕ) (r : DkLayout) (image′ : List ℕ) (addressed′ : List ℤ)
+    (offsets′ sized′ : List ℕ) : Type 0 where
+  pub answer : r ≡ layoutTold (formOutput file (roomOf image addressed offsets sized))
+  pub built : FormBuilt file image addressed offsets sized (formOutput file (roomOf image addressed offsets sized)) image′ addressed′ offsets′ sized′
+
+-- The lists of a sound file stand in the front of four lists.
+pub record HeldIn (file : List ℕ) (s : Shape) (kinds operands numbers states : List ℕ) : Type 0 where
+  pub sound : formOf file ≡ Sound s
+  pub few : s .rows * s .nodes ≤ 65000
+  pub kinds-fit : s .nodes ≤ length kinds
+  pub operands-fit : s .nodes ≤ length operands
+  pub numbers-fit : s .rows * s .nodes ≤ length numbers
+  pub states-fit : s .rows * s .nodes ≤ length states
+  pub of-kinds : take (s .nodes) kinds ≡ kindsOf file
+  pub of-operands : take (s .nodes) operands ≡ operandsOf file
+  pub of-numbers : take (s .rows * s .nodes) numbers ≡ numbersOf file
+  pub of-states : take (s .rows * s .nodes) states ≡ statesOf file

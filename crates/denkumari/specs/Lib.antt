@@ -1,0 +1,5 @@
+pub mod Forms
+pub mod Parts
+pub mod Tables
+pub mod Told
+pub mod Unique

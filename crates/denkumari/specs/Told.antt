@@ -1,0 +1,37 @@
+-- Answers as plain numbers, for a caller in another language: "Each refusal returns its number and a place".
+use Prim.Native.Nat.{ℕ}
+use Rattle.refusal.specs.Refusals.{numberOf, placeOf}
+use Rattle.refusal.specs.declared.Refusal.{Refusal}
+use Rattle.refusal.specs.declared.Place.{Place}
+use Rattle.refusal.specs.declared.Place.the-variants.{One, Two}
+use Rattle.output.specs.declared.Build.{Build}
+use Rattle.output.specs.declared.Build.the-variants.{Done, Refused}
+use Rattle.output.specs.declared.Output.{Output}
+use Rattle.denkumari.specs.declared.DkLayout.{DkLayout}
+use Rattle.denkumari.specs.declared.DkCount.{DkCount}
+
+-- "Places of two numbers": the first, and the second or 0.
+abbrev pub firstOf : Place → ℕ
+firstOf (One a) = a
+firstOf (Two a b) = a
+
+abbrev pub secondOf : Place → ℕ
+secondOf (One a) = 0
+secondOf (Two a b) = b
+
+-- "The answer holds K and the number of passes run"; "Refusals 5 to 14 of a layout carry the passes run too". No refusal has number 0.
+abbrev pub buildTold : Build → ℕ → DkLayout
+buildTold (Done k length spans) passes =
+    record { refusal = 0; place = 0; second = 0; passes = passes; k = k; length = length; spans = spans }
+buildTold (Refused why) passes =
+    record { refusal = numberOf why; place = firstOf (placeOf why); second = secondOf (placeOf why); passes = passes; k = 0; length = 0; spans = 0 }
+
+abbrev pub layoutTold : Output → DkLayout
+layoutTold o = buildTold (o .build) (o .passes)
+
+-- a count, or a refusal whose place is one number
+abbrev pub counted : ℕ → DkCount
+counted n = record { refusal = 0; place = 0; count = n }
+
+abbrev pub refusedCount : Refusal → DkCount
+refusedCount why = record { refusal = numberOf why; place = firstOf (placeOf why); count = 0 }

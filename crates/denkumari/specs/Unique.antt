@@ -1,0 +1,46 @@
+-- Each exported function has one outcome: two that meet its contract for the same input, the answer and everything lent afterwards, are
+-- equal. The contracts are the records that the functions' `ensures` name.
+use mathlib.Core.Path.{_≡_}
+use mathlib.Core.List.{List}
+use Prim.Native.Nat.{ℕ}
+use lib.IntN.{ℤ}
+use Rattle.refusal.specs.Pick.{determined}
+use Rattle.bankdef.specs.declared.Bankdefs.{Bankdefs}
+use Rattle.resolver.specs.Lists.{Lists}
+use Rattle.denkumari.specs.Forms.{FormTold}
+use Rattle.denkumari.specs.Parts.{BlocksTold, HexTold, PartTold}
+use Rattle.denkumari.specs.Tables.{TablesTold}
+use Rattle.denkumari.specs.declared.DkCount.{DkCount}
+use Rattle.denkumari.specs.declared.DkLayout.{DkLayout}
+use Rattle.denkumari.specs.declared.DkPart.{DkPart}
+
+module _ {image : List ℕ} {addressed : List ℤ} {offsets sized : List ℕ} {r s : DkLayout} {i j : List ℕ} {a b : List ℤ} {o p z w : List ℕ} where
+  pub one-form : {file : List ℕ} → FormTold file image addressed offsets sized r i a o z → FormTold file image addressed offsets sized s j b p w
+      → (r ≡ s) × (i ≡ j) × (a ≡ b) × (o ≡ p) × (z ≡ w)
+  one-form c d = (
+    determined (c .answer) (d .answer),
+    determined (c .built .bits) (d .built .bits),
+    determined (c .built .first) (d .built .first),
+    determined (c .built .second) (d .built .second),
+    determined (c .built .third) (d .built .third),
+  )
+
+  pub one-build : {banks : Bankdefs} {l : Lists} {limit : ℕ} → TablesTold banks l limit image addressed offsets sized r i a o z
+      → TablesTold banks l limit image addressed offsets sized s j b p w → (r ≡ s) × (i ≡ j) × (a ≡ b) × (o ≡ p) × (z ≡ w)
+  one-build c d = (
+    determined (c .answer) (d .answer),
+    determined (c .built .bits) (d .built .bits),
+    determined (c .built .first) (d .built .first),
+    determined (c .built .second) (d .built .second),
+    determined (c .built .third) (d .built .third),
+  )
+
+pub one-blocks : {words lengths origins sizes a b c d : List ℕ} {r s : DkCount} → BlocksTold words lengths origins sizes r a b
+    → BlocksTold words lengths origins sizes s c d → (r ≡ s) × (a ≡ c) × (b ≡ d)
+one-blocks p q = (determined (p .answer) (q .answer), determined (p .first) (q .first), determined (p .second) (q .second))
+
+pub one-hex : {bytes hex a b : List ℕ} {bits : ℕ} {r s : DkCount} → HexTold bytes bits hex r a → HexTold bytes bits hex s b → (r ≡ s) × (a ≡ b)
+one-hex p q = (determined (p .answer) (q .answer), determined (p .digits) (q .digits))
+
+pub one-part : {image : List ℕ} {offset size : ℕ} {r s : DkPart} → PartTold image offset size r → PartTold image offset size s → r ≡ s
+one-part p q = determined (p .answer) (q .answer)

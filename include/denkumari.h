@@ -1,0 +1,143 @@
+/* Denkumari: from a table of banks and a list of nodes to an image, its spans and its blocks. Every function here is proved against
+ * the rules of docs/, which "document" means below. Link with libdenkumari.a, x86-64 Linux; it calls nothing but memory functions of
+ * the C library, allocates nothing, keeps nothing between calls, and may be called from any thread.
+ *
+ * Buffers. You own every buffer. Each is a pointer and the number of its elements (not of its bytes), and is used during the call only. The
+ * pointers have to be good for their lengths, also where a length is 0 (then any pointer that is not null and is aligned for its type
+ * will do). A buffer that a function writes may overlap no other of the same call. Nothing else is asked of you: every number may have any
+ * value, and what is not acceptable is refused.
+ *
+ * Refusals. `refusal` is 0 where the call was accepted, else one of the numbers below, and `place` (and `second`) says where. A refused
+ * call leaves every buffer as it was, and every other field of its answer is 0, except `passes`. An accepted call leaves the lists that
+ * it wrote as they were past what it wrote; the rest of the image is made zero. */
+#ifndef DENKUMARI_H
+#define DENKUMARI_H
+
+#include <stddef.h>
+#include <stdint.h>
+
+#ifdef __cplusplus
+extern "C" {
+#endif
+
+/* What `refusal` says, and what stands in `place` with it. */
+enum dk_refusal {
+    DK_ACCEPTED = 0,           /* nothing is refused */
+    DK_BANK_COUNT = 1,         /* not 1 to 16 banks; place 0 */
+    DK_BANK_NUMBER = 2,        /* a bank's number is beyond its limit, or a filled bank has size 0; place: the bank */
+    DK_BANKS_OVERLAP = 3,      /* two banks overlap; place and second: the first such pair */
+    DK_MALFORMED = 4,          /* a count, kind, bank number, state or value range is bad; place: the node, or 0, 1 for the count of nodes,
+                                  of rows. Of a file of form 1 that is broken: the first field that is, from 0. In dk_blocks, dk_hex: 0 */
+    DK_POSITION_PAST = 5,      /* a position would pass 4,294,967,295; place: the node */
+    DK_NEGATIVE_ALIGNMENT = 6, /* a negative address meets an alignment other than 0; place: the node */
+    DK_LABEL_OFF_BOUNDARY = 7, /* a label in the last pass is between two addresses; place: the node */
+    DK_UNRESOLVED = 8,         /* the last pass ended unresolved; place 0 */
+    DK_DEFAULT_BANK = 9,       /* bank 0 is used though there are others; place: the node */
+    DK_PAST_BANK = 10,         /* an item ends past its bank's size; place: the node */
+    DK_NO_OUTPUT = 11,         /* an item is written in a bank without output offset; place: the node */
+    DK_OVERLAP = 12,           /* an item would share a bit with another; place and second: start and size of that other, in bits */
+    DK_STORE_FULL = 13,        /* over 512 items; place: the node */
+    DK_TOO_SHORT = 14,         /* a buffer is too short; place: image 0, spans 1, blocks 2, hex 3 */
+    DK_BAD_PART = 16           /* a part of an image is empty, outside it, or not on byte edges; place 0 */
+};
+
+/* The offset of a span that has none. */
+#define DK_NO_OFFSET UINT64_MAX
+
+/* What a bank has. */
+enum dk_flags { DK_HAS_SIZE = 1, DK_HAS_OFFSET = 2, DK_HAS_ALIGN = 4, DK_FILL = 8 };
+
+/* Kinds of nodes. */
+enum dk_kind {
+    DK_NOTHING = 0,
+    DK_SWITCH = 1,
+    DK_LABEL = 2,
+    DK_CONSTANT = 3,
+    DK_INSTRUCTION = 4,
+    DK_DATA = 5,      /* of declared size: its number is the first row's */
+    DK_OPEN_DATA = 6,
+    DK_RESERVE = 7,
+    DK_ALIGN = 8,
+    DK_ADDR = 9,
+    DK_ASSERT = 10
+};
+
+/* The answer of a layout. */
+struct dk_layout {
+    uint64_t refusal; /* enum dk_refusal */
+    uint64_t place;
+    uint64_t second;  /* of refusals 3 and 12, else 0 */
+    uint64_t passes;  /* passes run, in a refusal from 5 on too */
+    uint64_t k;       /* the first pass that was not unresolved; 0 for pass limit 0 */
+    uint64_t length;  /* of the image, in bits */
+    uint64_t spans;   /* how many were written */
+};
+
+/* The answer of a call that writes a list. */
+struct dk_count {
+    uint64_t refusal; /* DK_ACCEPTED, DK_MALFORMED or DK_TOO_SHORT */
+    uint64_t place;
+    uint64_t count;   /* how many elements were written */
+};
+
+/* A part of an image. */
+struct dk_part {
+    uint64_t refusal; /* DK_ACCEPTED or DK_BAD_PART */
+    uint64_t start;   /* in bytes */
+    uint64_t length;  /* in bytes */
+};
+
+/* Lays tables out. Bank i, from 0, has units[i] bits to an address, starts[i], and, where its flag is set, bank_sizes[i] (in bits),
+ * bank_offsets[i] (the place of its first bit in the image, in bits) and aligns[i] (label alignment); flags[i] is a sum of
+ * DK_HAS_SIZE, DK_HAS_OFFSET, DK_HAS_ALIGN and DK_FILL. The six lists are equally long, else 1; other flags are 2.
+ *
+ * Node j has kinds[j], and operands[j], a bank for DK_SWITCH, a depth for DK_LABEL and DK_CONSTANT, the first bit in `values` for items. There are
+ * `rows` rows, 1 to 16; row r gives node j numbers[r * nodes + j] and states[r * nodes + j] (0 resolved, 1 stable, 2 unresolved). `limit` is
+ * the pass limit.
+ *
+ * Writes the image, bits from the top of each byte, and the spans, labels and written items in the order of the nodes: span i has addresses[i],
+ * offsets[i] (in bits, or DK_NO_OFFSET) and sizes[i] (in bits, 0 for a label). The shortest of the three lists counts. */
+struct dk_layout dk_build(const uint16_t *units, size_t units_len,
+                          const int64_t *starts, size_t starts_len,
+                          const uint32_t *bank_sizes, size_t bank_sizes_len,
+                          const uint32_t *bank_offsets, size_t bank_offsets_len,
+                          const uint32_t *aligns, size_t aligns_len,
+                          const uint8_t *flags, size_t flags_len,
+                          const uint8_t *kinds, size_t kinds_len,
+                          const uint32_t *operands, size_t operands_len,
+                          const uint32_t *numbers, size_t numbers_len,
+                          const uint8_t *states, size_t states_len,
+                          uint64_t rows,
+                          const uint8_t *values, size_t values_len,
+                          uint8_t limit,
+                          uint8_t *image, size_t image_len,
+                          int64_t *addresses, size_t addresses_len,
+                          uint64_t *offsets, size_t offsets_len,
+                          uint64_t *sizes, size_t sizes_len);
+
+/* The same for a file of form 1, at most 65,000 bytes: image and spans as above. It needs some 120 kB of stack for the file's lists. */
+struct dk_layout dk_form(const uint8_t *file, size_t file_len,
+                         uint8_t *image, size_t image_len,
+                         int64_t *addresses, size_t addresses_len,
+                         uint64_t *offsets, size_t offsets_len,
+                         uint64_t *sizes, size_t sizes_len);
+
+/* The blocks that spans make: taken by offset, a span that starts at the end of those before it joins them. As many offsets as sizes, at
+ * most 4,096 (else 4). Block i starts at bit block_offsets[i] and has block_sizes[i] bits. */
+struct dk_count dk_blocks(const uint64_t *offsets, size_t offsets_len,
+                          const uint64_t *sizes, size_t sizes_len,
+                          uint64_t *block_offsets, size_t block_offsets_len,
+                          uint64_t *block_sizes, size_t block_sizes_len);
+
+/* The first `bits` bits of `bytes` in hex: four bits a digit, lower case, the last digit padded with zero bits, no final zero byte. Refused 4
+ * where there are fewer bits, then 14 where `hex` is too short. */
+struct dk_count dk_hex(const uint8_t *bytes, size_t bytes_len, uint64_t bits, uint8_t *hex, size_t hex_len);
+
+/* Where in an image the block of `size` bits from bit `offset` on stands, in bytes: image + start, length bytes. Reads nothing of the image. */
+struct dk_part dk_part(const uint8_t *image, size_t image_len, uint64_t offset, uint64_t size);
+
+#ifdef __cplusplus
+}
+#endif
+
+#endif
