@@ -34,7 +34,9 @@ fi
 rust() { "$rustc" --edition 2021 -O -D warnings --target "$target" -C linker="$cc" "$@"; }
 rust --crate-type rlib --crate-name denkumari -L target/staticlib -l static=denkumari --out-dir "$out" bindings/rust/src/lib.rs
 for program in batch worked; do
-    rust -C target-feature=+crt-static --extern "denkumari=$out/libdenkumari.rlib" -o "$out/${program}_rust" "bindings/rust/examples/$program.rs"
+    rust --extern "denkumari=$out/libdenkumari.rlib" -o "$out/${program}_rust" "bindings/rust/examples/$program.rs"
 done
-rust -C target-feature=+crt-static --test --extern "denkumari=$out/libdenkumari.rlib" -o "$out/calls_rust" bindings/rust/tests/calls.rs
+rust --test --extern "denkumari=$out/libdenkumari.rlib" -o "$out/calls_rust" bindings/rust/tests/calls.rs
+# the loader and the libraries that these programs want, for where they run under an emulator
+"$cc" -print-file-name=ld-linux-x86-64.so.2 >"$out/loader"
 echo "built: the Rust crate and its programs"

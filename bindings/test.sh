@@ -32,7 +32,17 @@ compare "C, from files" "$out/batch"
 compare "C, from tables" "$out/batch" --tables
 
 [ -x "$out/batch_rust" ] || exit 0
+# The kit's emulator is made for the kit's own programs and does not run these.
+if [ -n "$emulator" ]; then
+    if ! emulator=$(command -v qemu-x86_64); then
+        echo "skipped: running the Rust programs, for want of qemu-x86_64 (Debian: qemu-user)"
+        exit 0
+    fi
+    loader=$(cat "$out/loader")
+    emulator="$emulator $loader --library-path $(dirname "$loader")"
+fi
 $emulator "$out/worked_rust" >"$out/answers"
+echo "Rust: the worked example"
 printf 'passes 1\nblock 0 10\nblock 20 10\nimage ffc002a800\n' | cmp - "$out/answers"
 $emulator "$out/calls_rust" -q | grep "test result"
 compare "Rust, from files" "$out/batch_rust"

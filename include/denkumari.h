@@ -115,7 +115,8 @@ struct dk_layout dk_build(const uint16_t *units, size_t units_len,
                           uint64_t *offsets, size_t offsets_len,
                           uint64_t *sizes, size_t sizes_len);
 
-/* The same for a file of form 1, at most 65,000 bytes: image and spans as above. It needs some 120 kB of stack for the file's lists. */
+/* The same for a file of form 1, at most 65,000 bytes: image and spans as above. It needs 125 kB of stack,
+ * most of it for the lists of the file; dk_build needs 20 kB. */
 struct dk_layout dk_form(const uint8_t *file, size_t file_len,
                          uint8_t *image, size_t image_len,
                          int64_t *addresses, size_t addresses_len,
@@ -123,7 +124,8 @@ struct dk_layout dk_form(const uint8_t *file, size_t file_len,
                          uint64_t *sizes, size_t sizes_len);
 
 /* The blocks that spans make: taken by offset, a span that starts at the end of those before it joins them. As many offsets as sizes, at
- * most 4,096 (else 4). Block i starts at bit block_offsets[i] and has block_sizes[i] bits. */
+ * most 4,096 (else 4). Block i starts at bit block_offsets[i] and has block_sizes[i] bits. It needs 55 kB of
+ * stack. */
 struct dk_count dk_blocks(const uint64_t *offsets, size_t offsets_len,
                           const uint64_t *sizes, size_t sizes_len,
                           uint64_t *block_offsets, size_t block_offsets_len,

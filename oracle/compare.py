@@ -1,11 +1,12 @@
 #!/usr/bin/env python3
 """Runs the Rust and another side on the same form 1 files, and compares every answer whole.
 
-    compare.py [--seed S] [--cases N] [--other "COMMAND"] [--judge "COMMAND"] [--batch N] [--folder DIR] [--families]
+    compare.py [--seed S] [--cases N] [--other "COMMAND"] [--spans "COMMAND"] [--judge "COMMAND"] [--batch N] [--folder DIR] [--families]
 
 Both sides are commands that read files from standard input, each behind four bytes of length, big-endian, and write a line
 for each (oracle/README.md has the lines). The judge is the Rust (oracle/build.sh makes it). The other side is
 oracle/model.py unless --other names a command; then the answers in which the Rust has no say are compared with model.py.
+--spans names a command for lists of spans, a line each, where model.py is not to cut them into blocks.
 
 The same seed gives the same files. The first difference is printed with its file, which is kept in the folder. Status 1 says
 that there was one."""
@@ -93,11 +94,15 @@ class Tally:
             print(f"  model {documents[:2000]}")
 
 
-def span_lists_apart(judge, seed, how_many):
-    """How many lists of spans, which no layout need have made, the Rust's `get_blocks` and document 01 cut up differently."""
+def span_lists_apart(judge, seed, how_many, other=None):
+    """How many lists of spans, which no layout need have made, the Rust's `get_blocks` and the other side, document 01's model
+    unless a command is given, cut up differently."""
     lists = [generate.drawn_spans(seed, number) for number in range(how_many)]
     words = "".join(",".join(f"{'-' if offset is None else offset}:{size}" for offset, size in spans) + "\n" for spans in lists)
     done = subprocess.run([*shlex.split(judge), "--spans"], input=words.encode(), stdout=subprocess.PIPE, check=True)
+    if other:
+        theirs = subprocess.run(shlex.split(other), input=words.encode(), stdout=subprocess.PIPE, check=True).stdout
+        return sum(rust != mine for rust, mine in zip(done.stdout.decode().splitlines(), theirs.decode().splitlines(), strict=True))
     model_lines = (",".join(f"{offset}:{size}" for offset, size in model.blocks_of([model.Span(0, *span) for span in spans])) or "-" for spans in lists)
     return sum(rust != mine for rust, mine in zip(done.stdout.decode().split("\n"), model_lines))
 
@@ -107,6 +112,7 @@ def main():
     parser.add_argument("--seed", default="1")
     parser.add_argument("--cases", type=int, default=100_000)
     parser.add_argument("--other")
+    parser.add_argument("--spans")
     parser.add_argument("--judge", default=shlex.quote(str(FOLDER / "judge")))
     parser.add_argument("--batch", type=int, default=4_000)
     parser.add_argument("--folder", type=Path, default=FOLDER)
@@ -125,8 +131,8 @@ def main():
             tally.take(name, file, said, theirs, model.line(file) if needs_model else None)
     tally.show(asked.families)
     lists = asked.cases // 5
-    apart = span_lists_apart(asked.judge, asked.seed, lists)
-    print(f"{lists} lists of spans, cut into blocks by the Rust and by model.py: {apart} different")
+    apart = span_lists_apart(asked.judge, asked.seed, lists, asked.spans)
+    print(f"{lists} lists of spans, cut into blocks by the Rust and by {'the other side' if asked.spans else 'model.py'}: {apart} different")
     if apart and not tally.first:
         sys.exit(1)
     if tally.first:

@@ -1,13 +1,15 @@
 #!/usr/bin/env python3
 """The known departures, run on both sides: what docs/DIFFERENCES.md tells.
 
-    differences.py [--judge COMMAND]
+    differences.py [--judge COMMAND] [--other COMMAND]
 
-For each the file in hexadecimal, what the Rust does where nothing stops it (`judge --raw`), and what document 01 says."""
+For each the file in hexadecimal, what the Rust does where nothing stops it (`judge --raw`), and what document 01 says.
+With --other, a side of the comparison, each is asked of it too, and status 1 says that one answer is not document 01's."""
 
 import argparse
 import shlex
 import subprocess
+import sys
 
 import compare
 import examples
@@ -82,13 +84,22 @@ def raw(judge, file):
 def main():
     parser = argparse.ArgumentParser(description=__doc__, formatter_class=argparse.RawDescriptionHelpFormatter)
     parser.add_argument("--judge", default=shlex.quote(str(compare.FOLDER / "judge")))
+    parser.add_argument("--other")
     asked = parser.parse_args()
+    apart = 0
     for name, words, layout in DEPARTURES:
         file = encode(layout)
         print(f"{name}: {words}")
         print(f"  file     {file.hex() if len(file) < 400 else f'{len(file)} bytes'}")
         print(f"  Rust     {raw(asked.judge, file)}")
         print(f"  document {model.line(file)}")
+        if asked.other:
+            here = compare.answers(asked.other, [file])[0]
+            print(f"  here     {here}")
+            apart += here != model.line(file)
+    if asked.other:
+        print(f"{len(DEPARTURES)} departures, {apart} in which this side is not document 01's")
+        sys.exit(apart != 0)
 
 
 if __name__ == "__main__":

@@ -2,9 +2,11 @@
  * length, big-endian, and writes a line for each (oracle/README.md, "The lines"). It lends what the program `layout` lends.
  *
  *     batch             lays each file out with dk_form
- *     batch --tables    takes sound files apart itself and calls dk_build; broken ones still go to dk_form */
+ *     batch --tables    takes sound files apart itself and calls dk_build; broken ones still go to dk_form
+ *     batch --spans     reads lists of spans instead, a line each, OFFSET:SIZE,.. with - for no offset, and writes their blocks */
 #include <inttypes.h>
 #include <stdio.h>
+#include <stdlib.h>
 #include <string.h>
 
 #include "../../include/denkumari.h"
@@ -138,9 +140,28 @@ static void lay_out(size_t size, int tables)
     putchar('\n');
 }
 
+static int print_span_lists(void)
+{
+    static char line[1 << 16];
+    while (fgets(line, sizeof line, stdin)) {
+        uint64_t n = 0;
+        for (char *at = line; *at != '\n' && *at && n < SPANS; n++) {
+            offsets[n] = *at == '-' ? DK_NO_OFFSET : strtoull(at, NULL, 10);
+            at = strchr(at, ':') + 1;
+            sizes[n] = strtoull(at, &at, 10);
+            at += *at == ',';
+        }
+        print_blocks(n);
+        putchar('\n');
+    }
+    return 0;
+}
+
 int main(int argc, char **argv)
 {
     int tables = argc > 1 && strcmp(argv[1], "--tables") == 0;
+    if (argc > 1 && strcmp(argv[1], "--spans") == 0)
+        return print_span_lists();
     uint8_t head[4];
     while (fread(head, 1, sizeof head, stdin) == sizeof head) {
         size_t size = (size_t)big(head, 4);
