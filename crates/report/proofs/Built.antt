@@ -1,25 +1,29 @@
 -- From the build's contract to its text: an accepted build fits what is lent, and its spans stand at the front of the lent lists.
 use mathlib.Core.Path.{_≡_, refl, sym, ap, ap₂, subst, _∙_}
 use mathlib.Core.Bool.{Bool, true, false}
-use mathlib.Core.List.{List}
-use Prim.Native.Nat.{ℕ, _*_, _≤_}
+use mathlib.Core.List.{List, [], _∷_}
+use Prim.Native.Nat.{ℕ, zero, suc, _+_, _-_, _*_, _≤_, min, zero-le}
 use native.Mathlib.Omega.{arith}
+use mir.Syntax.{w32}
+use mir.Val.{Fits as FitsWidth}
 use lib.Dec.{ltb}
 use lib.IntN.{ℤ}
-use lib.ListN.{length, take, drop, length-map}
-use lib.Seq.{take-at}
+use lib.ListN.{length, getD, take, drop, length-map}
+use lib.Seq.{take-at, getD-drop}
 use borrow.Author.Tests.{ltb-false}
+use Rattle.refusal.specs.Limits.{maxPosition}
 use Rattle.refusal.specs.Pick.{pick, pick-true, pick-false}
 use Rattle.refusal.specs.declared.Refusal.{Refusal}
 use Rattle.refusal.specs.declared.Refusal.the-variants.{TooShort}
 use Rattle.bankdef.specs.Check.{banksOf}
 use Rattle.bankdef.specs.Fill.{fillLength}
 use Rattle.bankdef.specs.declared.Bankdefs.{Bankdefs}
-use Rattle.resolver.specs.Lists.{Lists}
+use Rattle.resolver.specs.Lists.{Lists, rowAt}
 use Rattle.resolver.specs.Passes.{program, rowOfPass}
 use Rattle.resolver.specs.Layout.{layoutOf}
 use Rattle.resolver.specs.declared.Settled.{Settled}
 use Rattle.resolver.specs.declared.Settled.the-variants.{At, Refused as Unsettled}
+use Rattle.blocks.specs.Spans.{acceptable}
 use Rattle.output.specs.Placing.{Placed, holds, stops, placedTo}
 use Rattle.output.specs.Spans.{Span, spansTo, lengthTo, over, words, sizes}
 use Rattle.output.specs.Image.{imageTo}
@@ -30,7 +34,22 @@ use Rattle.output.specs.declared.Output.{Output}
 use Rattle.form.specs.Fields.{by-test}
 use Rattle.text.specs.Lines.{refusalText}
 use Rattle.report.specs.Report.{imageRoom, spanRoom, lentRoom, doneText, answerText, builtText}
-use Rattle.report.specs.Steps.{Fitting, answered}
+use Rattle.report.specs.Steps.{Fitting, answered, OffsetsFit}
+use Rattle.report.proofs.Fitting.{fit-acceptable, spans-fit}
+
+-- a number of 32 bits is within the limit
+pub word-limit : {n : ℕ} → FitsWidth w32 n → n ≤ maxPosition
+word-limit f = omega (arith, f .fits)
+
+-- a part of numbers within the limit
+small-take : (n : ℕ) (l : List ℕ) → ((i : ℕ) → getD l i 0 ≤ maxPosition) → (i : ℕ) → getD (take n l) i 0 ≤ maxPosition
+small-take zero l h i = zero-le
+small-take (suc n) [] h i = zero-le
+small-take (suc n) (x ∷ l) h zero = h 0
+small-take (suc n) (x ∷ l) h (suc i) = small-take n l (λ j. h (suc j)) i
+
+small-part : (n from : ℕ) (l : List ℕ) → ((i : ℕ) → getD l i 0 ≤ maxPosition) → (i : ℕ) → getD (take n (drop from l)) i 0 ≤ maxPosition
+small-part n from l h = small-take n (drop from l) (λ i. rw (getD-drop from l i 0) (h (from + i)))
 
 not-done : (why : Refusal) (k bits n : ℕ) → Refused why ≡ Done k bits n → ⊥
 not-done why k bits n e = let z : _≡_ {A = ℕ} 0 1 = cc in omega arith
@@ -126,9 +145,19 @@ module _ (banks : Bankdefs) (l : Lists) (limit : ℕ) (image : List ℕ) (addres
   build-text (Refused why) e = refused-build why e
   build-text (Done k bits n) e = done-build k bits n e
 
-  pub build-fits : (q : Build) → r .build ≡ q → length image′ ≡ imageRoom → length offsets′ ≡ spanRoom → length sized′ ≡ spanRoom
-      → Fitting q (length image′) (length offsets′) (length sized′)
-  build-fits (Refused why) e gi go gs = tt
-  build-fits (Done k bits n) e gi go gs =
-      let w = within k bits n e in
-      (rw gi (w .0), w .0, rw go (w .1), rw gs (w .1))
+  -- where each number is within its type's range
+  module _ (banks-fit : OffsetsFit banks) (small : (i : ℕ) → getD (l .numbers) i 0 ≤ maxPosition) where
+    row-small : (k i : ℕ) → getD (rowAt l k .numbers) i 0 ≤ maxPosition
+    row-small k i = small-part (length (l .kinds)) (k * length (l .kinds)) (l .numbers) small i
+
+    accepted : (k bits n : ℕ) (e : r .build ≡ Done k bits n) → acceptable (take n offsets′) (take n sized′) ≡ true
+    accepted k bits n e =
+        let w = within k bits n e in
+        let all = spans-fit (program banks l) (rowOfPass l (r .passes)) banks-fit (row-small 0) (row-small (min (r .passes) (l .rows) - 1)) (length (l .kinds)) in
+        rw (offsets-part k bits n e, sizes-part k bits n e) (fit-acceptable (spans k bits n e) all (omega (arith, w .1, w .2)))
+
+    pub build-fits : (q : Build) → r .build ≡ q → length image′ ≡ imageRoom → length offsets′ ≡ spanRoom → length sized′ ≡ spanRoom → Fitting q image′ offsets′ sized′
+    build-fits (Refused why) e gi go gs = tt
+    build-fits (Done k bits n) e gi go gs =
+        let w = within k bits n e in
+        (rw gi (w .0), w .0, rw go (w .1), rw gs (w .1), accepted k bits n e)

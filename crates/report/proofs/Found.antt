@@ -1,7 +1,7 @@
 -- The text of an accepted build from its parts: the hex digits that stand at the front of the room for them, and the blocks that are
 -- found. There is room for every block, since there are no more blocks than spans.
 use mathlib.Core.Path.{_≡_, refl, sym, ap, ap₂, _∙_}
-use mathlib.Core.Bool.{Bool, true, false}
+use mathlib.Core.Bool.{true}
 use mathlib.Core.List.{List, [], _∷_, _++_}
 use Prim.Native.Nat.{ℕ, _+_, _*_, _≤_}
 use native.Mathlib.Omega.{arith}
@@ -10,9 +10,8 @@ use lib.ListN.{length, take, drop}
 use lib.Seq.{take-at}
 use borrow.Author.Tests.{le-leb}
 use Rattle.refusal.specs.Limits.{maxNodes}
-use Rattle.refusal.specs.Pick.{pick, pick-true, pick-false}
+use Rattle.refusal.specs.Pick.{pick-true}
 use Rattle.refusal.specs.declared.Refusal.{Refusal}
-use Rattle.refusal.specs.declared.Refusal.the-variants.{Malformed}
 use Rattle.bitvec.specs.HexDigits.{hexOf, digitCount, Prints, length-hexOf}
 use Rattle.bitvec.specs.declared.Hex.{Hex}
 use Rattle.blocks.specs.declared.Block.{Block}
@@ -23,8 +22,7 @@ use Rattle.blocks.specs.Walk.{blocksOf}
 use Rattle.blocks.specs.Count.{blocks-few}
 use Rattle.blocks.specs.Outcome.{origins, sizes, over, roomFor, Contract}
 use Rattle.blocks.proofs.Laws.{acceptable-parts}
-use Rattle.form.specs.Fields.{by-test}
-use Rattle.text.specs.Lines.{blockWord, line, passesText, blocksText, imageText, refusalText, layoutText}
+use Rattle.text.specs.Lines.{blockWord, line, passesText, blocksText, imageText, layoutText}
 use Rattle.report.specs.Report.{doneText}
 
 -- the digits stand at the front
@@ -49,44 +47,31 @@ lines-over (b ∷ bs) ro rs = ap (λ (t : List ℕ). line blockWord (b .origin �
 found-count : (m n : ℕ) → Found m ≡ Found n → m ≡ n
 found-count m n e = cc
 
-refused-why : (a b : Refusal) → Refused a ≡ Refused b → a ≡ b
-refused-why a b e = cc
-
 not-both : (n : ℕ) (why : Refusal) → Found n ≡ Refused why → ⊥
 not-both n why e = let z : _≡_ {A = ℕ} 0 1 = cc in omega arith
 
-module _ (words lengths os ss : List ℕ) (ho : maxNodes ≤ length os) (hs : maxNodes ≤ length ss) where
+module _ (words lengths os ss : List ℕ) (ho : maxNodes ≤ length os) (hs : maxNodes ≤ length ss) (y : acceptable words lengths ≡ true) where
   abbrev bs : List Block
   bs = blocksOf (spansOf words lengths)
 
-  room : acceptable words lengths ≡ true → roomFor bs os ss ≡ true
-  room e =
+  room : roomFor bs os ss ≡ true
+  room =
       let few = blocks-few (spansOf words lengths) in
       let more = spans-few words lengths in
-      let most = acceptable-parts words lengths e .1 in
+      let most = acceptable-parts words lengths y .1 in
       rw (le-leb (length bs) (length os) (omega (arith, few, more, most)), le-leb (length bs) (length ss) (omega (arith, few, more, most))) refl
 
   module _ (r : Blocks) (os₁ ss₁ : List ℕ) (c : Contract words lengths os ss r os₁ ss₁) where
-    found : acceptable words lengths ≡ true → r ≡ Found (length bs)
-    found y = c .answer ∙ pick-true _ _ y ∙ pick-true _ _ (room y)
+    found : r ≡ Found (length bs)
+    found = c .answer ∙ pick-true _ _ y ∙ pick-true _ _ room
 
-    turned : acceptable words lengths ≡ false → r ≡ Refused (Malformed 0)
-    turned n = c .answer ∙ pick-false _ _ n
-
-    pub refused-text : (k bits : ℕ) (image : List ℕ) (why : Refusal) → r ≡ Refused why → refusalText why ≡ doneText k bits words lengths image
-    refused-text k bits image why e =
-        by-test (acceptable words lengths)
-        (λ y. absurd (not-both (length bs) why (sym (found y) ∙ e)))
-        (λ n. ap refusalText (refused-why why (Malformed 0) (sym e ∙ turned n)) ∙ sym (pick-false _ _ n))
+    pub never-refused : (why : Refusal) → r ≡ Refused why → ⊥
+    never-refused why e = not-both (length bs) why (sym found ∙ e)
 
     pub found-text : (k bits : ℕ) (image : List ℕ) (count : ℕ) → r ≡ Found count → layoutText k count os₁ ss₁ (hexOf image bits) ≡ doneText k bits words lengths image
     found-text k bits image count e =
-        by-test (acceptable words lengths)
-        (λ y.
-        let counted = found-count count (length bs) (sym e ∙ found y) in
-        let first : os₁ ≡ over (origins bs) os = c .first ∙ pick-true _ _ y ∙ pick-true _ _ (room y) in
-        let second : ss₁ ≡ over (sizes bs) ss = c .second ∙ pick-true _ _ y ∙ pick-true _ _ (room y) in
+        let counted = found-count count (length bs) (sym e ∙ found) in
+        let first : os₁ ≡ over (origins bs) os = c .first ∙ pick-true _ _ y ∙ pick-true _ _ room in
+        let second : ss₁ ≡ over (sizes bs) ss = c .second ∙ pick-true _ _ y ∙ pick-true _ _ room in
         ap (λ (t : List ℕ). passesText k ++ t ++ imageText (hexOf image bits))
         (ap (λ (n : ℕ). blocksText n os₁ ss₁) counted ∙ ap₂ (λ (a b : List ℕ). blocksText (length bs) a b) first second ∙ lines-over bs _ _)
-        ∙ sym (pick-true _ _ y))
-        (λ n. absurd (not-both count (Malformed 0) (sym e ∙ turned n)))

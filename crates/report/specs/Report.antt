@@ -3,7 +3,6 @@
 use mathlib.Core.List.{List}
 use Prim.Native.Nat.{ℕ}
 use lib.ListN.{length}
-use Rattle.refusal.specs.Pick.{pick}
 use Rattle.refusal.specs.declared.Refusal.{Refusal}
 use Rattle.refusal.specs.declared.Refusal.the-variants.{Malformed}
 use Rattle.refusal.specs.declared.Verdict.{Verdict}
@@ -14,7 +13,7 @@ use Rattle.resolver.specs.Lists.{Lists, Row, lists}
 use Rattle.resolver.specs.Once.{Program}
 use Rattle.resolver.specs.Passes.{program, rowOfPass}
 use Rattle.bitvec.specs.HexDigits.{hexOf}
-use Rattle.blocks.specs.Spans.{spansOf, acceptable}
+use Rattle.blocks.specs.Spans.{spansOf}
 use Rattle.blocks.specs.Walk.{blocksOf}
 use Rattle.blocks.specs.Outcome.{origins, sizes}
 use Rattle.output.specs.Spans.{spansTo, words, sizes as spanSizes}
@@ -41,13 +40,11 @@ spanRoom = 4096
 abbrev pub lentRoom : Room
 lentRoom = record { image = imageRoom; spans = spanRoom }
 
--- "Output: passes 1, block 0 10, block 20 10, image ffc002a800": K, the blocks of the spans, the image's bits in hex. "Block and hex calls try
--- 4 (over 4,096 spans, a span past an offer's limits, ..)". There is room for 4,096 blocks and for every digit.
+-- "Output: passes 1, block 0 10, block 20 10, image ffc002a800": K, the blocks of the spans, the image's bits in hex. There is room for
+-- 4,096 blocks and for every digit, and spans of a file's layout are within an offer's limits, so neither call is refused.
 abbrev pub doneText : ℕ → ℕ → List ℕ → List ℕ → List ℕ → List ℕ
 doneText k bits offsets sized image =
-    pick (acceptable offsets sized)
-    (layoutText k (length (blocksOf (spansOf offsets sized))) (origins (blocksOf (spansOf offsets sized))) (sizes (blocksOf (spansOf offsets sized))) (hexOf image bits))
-    (refusalText (Malformed 0))
+    layoutText k (length (blocksOf (spansOf offsets sized))) (origins (blocksOf (spansOf offsets sized))) (sizes (blocksOf (spansOf offsets sized))) (hexOf image bits)
 
 -- the text of an accepted build over the row of its last pass
 abbrev pub rowText : Program → Row → List ℕ → ℕ → ℕ → ℕ → List ℕ

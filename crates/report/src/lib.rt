@@ -9,6 +9,7 @@ use refusal::Refusal;
 use refusal::Verdict;
 use text::Written;
 ghost use mathlib.Core.Path.{_≡_};
+ghost use mathlib.Core.Bool.{true};
 ghost use Prim.Native.Nat.{_+_, _*_, _/_, _<_, _≤_};
 ghost use lib.ListN.{length};
 ghost use Rattle.refusal.specs.Limits.{maxNodes};
@@ -20,7 +21,8 @@ ghost use Rattle.resolver.specs.Lists.{lists};
 ghost use Rattle.text.specs.Lines.{layoutText};
 ghost use Rattle.text.specs.Puts.{Puts};
 ghost use Rattle.report.specs.Report.{imageRoom, spanRoom, lentRoom, doneText, builtText, soundText, countRefusal, reportText};
-ghost use Rattle.report.specs.Steps.{Fitting, answered};
+ghost use Rattle.report.specs.Steps.{Fitting, answered, OffsetsFit};
+ghost use Rattle.blocks.specs.Spans.{acceptable};
 
 // The lines of a layout whose blocks are found. The room lent for the hex digits suffices.
 fn put_lines(
@@ -68,6 +70,7 @@ fn put_done(
     requires { ⌜ digitCount bits ≤ length (now hex) ⌝ }
     requires { ⌜ maxNodes ≤ length (now «block_offsets») ⌝ }
     requires { ⌜ maxNodes ≤ length (now «block_sizes») ⌝ }
+    requires { ⌜ acceptable (now offsets) (now sizes) ≡ true ⌝ }
     ensures { λ r. ⌜ Puts (doneText k bits (now (offsets .entry)) (now (sizes .entry)) (now (image .entry))) (now (out .entry)) 0 r (now (out .exit)) ⌝ }
 {
     let found = blocks::get_blocks(offsets, sizes, block_offsets, block_sizes);
@@ -97,6 +100,7 @@ fn put_accepted(
 ) -> Written
     requires { ⌜ bits ≤ 8 * length (now image) ⌝ }
     requires { ⌜ bits ≤ 8 * imageRoom ⌝ }
+    requires { ⌜ acceptable (now offsets) (now sizes) ≡ true ⌝ }
     ensures { λ r. ⌜ Puts (doneText k bits (now (offsets .entry)) (now (sizes .entry)) (now (image .entry))) (now (out .entry)) 0 r (now (out .exit)) ⌝ }
 {
     let mut block_offsets = [0u64; 4096];
@@ -117,7 +121,7 @@ fn put_accepted(
 
 // The text of a build's answer, whose image and spans stand in what is lent.
 fn put_answer(build: Build, image: &[u8], offsets: &[u64], sizes: &[u64], out: &mut [u8]) -> Written
-    requires { ⌜ Fitting build (length (now image)) (length (now offsets)) (length (now sizes)) ⌝ }
+    requires { ⌜ Fitting build (now image) (now offsets) (now sizes) ⌝ }
     ensures { λ r. ⌜ Puts (answered build (now (image .entry)) (now (offsets .entry)) (now (sizes .entry))) (now (out .entry)) 0 r (now (out .exit)) ⌝ }
 {
     match build {
@@ -149,6 +153,7 @@ fn put_build(
     requires { ⌜ length (now addresses) ≡ spanRoom ⌝ }
     requires { ⌜ length (now offsets) ≡ spanRoom ⌝ }
     requires { ⌜ length (now sizes) ≡ spanRoom ⌝ }
+    requires { ⌜ OffsetsFit banks ⌝ }
     ensures { λ r. ⌜ Puts (builtText banks (lists (now (kinds .entry)) (now (operands .entry)) (now (numbers .entry)) (now (states .entry)) rows (now (values .entry))) (buildOf banks (lists (now (kinds .entry)) (now (operands .entry)) (now (numbers .entry)) (now (states .entry)) rows (now (values .entry))) limit lentRoom)) (now (out .entry)) 0 r (now (out .exit)) ⌝ }
 {
     let answer = output::build_output(
@@ -181,6 +186,7 @@ fn put_layout(
     limit: u8,
     out: &mut [u8],
 ) -> Written
+    requires { ⌜ OffsetsFit banks ⌝ }
     ensures { λ r. ⌜ Puts (builtText banks (lists (now (kinds .entry)) (now (operands .entry)) (now (numbers .entry)) (now (states .entry)) rows (now (values .entry))) (buildOf banks (lists (now (kinds .entry)) (now (operands .entry)) (now (numbers .entry)) (now (states .entry)) rows (now (values .entry))) limit lentRoom)) (now (out .entry)) 0 r (now (out .exit)) ⌝ }
 {
     let mut image = [0u8; 16384];

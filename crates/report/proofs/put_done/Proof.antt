@@ -1,5 +1,5 @@
 -- `put_done` meets its contract: the blocks that are found, or why none.
-use Rattle.report.proofs.Found.{refused-text, found-text}
+use Rattle.report.proofs.Found.{never-refused, found-text}
 use borrow.Author.Needs.{needs}
 use Rattle.report.proofs.put_done.Statement.{statement}
 use Rattle.report.proofs.put_done.Tie as tie
@@ -33,7 +33,7 @@ returns c =
     let a = c .before .before .before .before .before .before .before .before .before .before .before .before .before .before .before .before .before .before .before .before .before .args in
     let p = c .before .before .before .before .before .before .before .before .before .before .before .before .before .before .before .before .before .before .before .before .before .pre in
     let g = c .before .before .before .before .before .before .before .before .before .before .before .get-blocks in
-    rw (← refused-text (a .offsets .now) (a .sizes .now) (a .block-offsets .now) (a .block-sizes .now) (p .1 .1 .1 .0) (p .1 .1 .1 .1) (g .result) (g .last .1 .1 .0) (g .last .1 .1 .1 .0) (g .ensures) (a .k) (a .bits) (a .image .now) (c .before .before .before .before .before .found .given .0 .0) (c .before .before .before .before .before .found .given .1)) (c .before .before .put-refusal .ensures)
+    absurd (never-refused (a .offsets .now) (a .sizes .now) (a .block-offsets .now) (a .block-sizes .now) (p .1 .1 .1 .0) (p .1 .1 .1 .1 .0) (p .1 .1 .1 .1 .1) (g .result) (g .last .1 .1 .0) (g .last .1 .1 .1 .0) (g .ensures) (c .before .before .before .before .before .found .given .0 .0) (c .before .before .before .before .before .found .given .1))
 
 same-length-4 : tie.Need-same-length-4
 same-length-4 c = search needs
@@ -52,7 +52,7 @@ returns-2 c =
     let a = c .before .before .before .before .before .before .before .before .before .before .before .before .before .before .before .before .before .before .before .before .before .before .before .before .before .before .args in
     let p = c .before .before .before .before .before .before .before .before .before .before .before .before .before .before .before .before .before .before .before .before .before .before .before .before .before .before .pre in
     let g = c .before .before .before .before .before .before .before .before .before .before .before .before .before .before .before .before .get-blocks in
-    rw (← found-text (a .offsets .now) (a .sizes .now) (a .block-offsets .now) (a .block-sizes .now) (p .1 .1 .1 .0) (p .1 .1 .1 .1) (g .result) (g .last .1 .1 .0) (g .last .1 .1 .1 .0) (g .ensures) (a .k) (a .bits) (a .image .now) (c .before .before .before .before .before .before .before .before .before .before .found2 .given .0 .0) (c .before .before .before .before .before .before .before .before .before .before .found2 .given .1)) (c .before .before .before .before .put-lines .ensures)
+    rw (← found-text (a .offsets .now) (a .sizes .now) (a .block-offsets .now) (a .block-sizes .now) (p .1 .1 .1 .0) (p .1 .1 .1 .1 .0) (p .1 .1 .1 .1 .1) (g .result) (g .last .1 .1 .0) (g .last .1 .1 .1 .0) (g .ensures) (a .k) (a .bits) (a .image .now) (c .before .before .before .before .before .before .before .before .before .before .found2 .given .0 .0) (c .before .before .before .before .before .before .before .before .before .before .found2 .given .1)) (c .before .before .before .before .put-lines .ensures)
 
 pub put-done-spec : {M : Type 1} → statement M
 put-done-spec =

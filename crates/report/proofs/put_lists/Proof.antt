@@ -1,6 +1,6 @@
 -- `put_lists` meets its contract: the lists of the file stand at the front of what is lent.
 use native.Mathlib.Omega.{arith}
-use mathlib.Core.Path.{ap₂, subst}
+use mathlib.Core.Path.{sym, ap₂, subst}
 use mathlib.Core.List.{List}
 use Prim.Native.Nat.{ℕ}
 use Rattle.bankdef.specs.declared.Bankdefs.{Bankdefs}
@@ -8,6 +8,8 @@ use Rattle.resolver.specs.Lists.{Lists}
 use Rattle.output.specs.Output.{buildOf}
 use Rattle.text.specs.Puts.{Puts}
 use Rattle.report.specs.Report.{lentRoom, builtText}
+use Rattle.report.specs.Steps.{OffsetsFit}
+use Rattle.report.proofs.Table.{table-fits}
 use Rattle.report.proofs.Read.{cells-few, kinds-long, operands-long, numbers-long, states-long, lists-read}
 use borrow.Author.Needs.{needs}
 use Rattle.report.proofs.put_lists.Statement.{statement}
@@ -53,7 +55,8 @@ slice-aggregate-put-layout-4 : tie.Need-slice-aggregate-put-layout-4
 slice-aggregate-put-layout-4 c = states-long (begin (c .before .before .before .before .before .before .before .before .before .before .before .before .before .before) .args .file .now) (begin (c .before .before .before .before .before .before .before .before .before .before .before .before .before .before) .args .shape) (begin (c .before .before .before .before .before .before .before .before .before .before .before .before .before .before) .pre .0) (begin (c .before .before .before .before .before .before .before .before .before .before .before .before .before .before) .pre .1 .0) (begin (c .before .before .before .before .before .before .before .before .before .before .before .before .before .before) .args .kinds .now) (begin (c .before .before .before .before .before .before .before .before .before .before .before .before .before .before) .args .operands .now) (begin (c .before .before .before .before .before .before .before .before .before .before .before .before .before .before) .args .numbers .now) (begin (c .before .before .before .before .before .before .before .before .before .before .before .before .before .before) .args .states .now) (begin (c .before .before .before .before .before .before .before .before .before .before .before .before .before .before) .pre .1 .1 .0) (begin (c .before .before .before .before .before .before .before .before .before .before .before .before .before .before) .pre .1 .1 .1 .0) (begin (c .before .before .before .before .before .before .before .before .before .before .before .before .before .before) .pre .1 .1 .1 .1 .0) (begin (c .before .before .before .before .before .before .before .before .before .before .before .before .before .before) .pre .1 .1 .1 .1 .1) (c .before .before .before .before .before .before .before .before .before .before .before .before .before .before .read-lists .result) (c .before .before .before .before .before .before .before .before .before .before .before .before .before .before .read-lists .last .1 .0) (c .before .before .before .before .before .before .before .before .before .before .before .before .before .before .read-lists .last .1 .1 .0) (c .before .before .before .before .before .before .before .before .before .before .before .before .before .before .read-lists .last .1 .1 .1 .0) (c .before .before .before .before .before .before .before .before .before .before .before .before .before .before .read-lists .last .1 .1 .1 .1 .0) (c .before .before .before .before .before .before .before .before .before .before .before .before .before .before .read-lists .ensures) .0
 
 put-layout-requires : tie.Need-put-layout-requires
-put-layout-requires c κs = search needs
+put-layout-requires c κs =
+    subst OffsetsFit (sym (c .before .before .before .before .before .before .read-banks .ensures)) (table-fits (c .before .before .before .before .before .before .before .before .before .before .before .before .before .before .before .before .before .before .before .before .before .before .before .before .before .before .args .file .now) (λ i. c .before .before .before .before .before .before .before .before .before .before .before .before .before .before .before .before .before .before .before .before .before .before .before .before .before .shared-slice-known .given i .fits))
 
 same-length : tie.Need-same-length
 same-length c = search needs
