@@ -19,6 +19,13 @@ abbrev pub wordOf : Offset → ℕ
 wordOf None = noOffset
 wordOf (At o) = o
 
+-- What the two functions promise of their answers.
+abbrev pub OffsetIs : ℕ → Offset → Type 0
+OffsetIs word r = r ≡ offsetOf word
+
+abbrev pub WordIs : Offset → ℕ → Type 0
+WordIs offset r = r ≡ wordOf offset
+
 -- A word comes back from its offset, and an offset within the limits from its word.
 pub word-of-offset : (word : ℕ) → wordOf (offsetOf word) ≡ word
 word-of-offset word = go (eqb word noOffset) refl

@@ -5,13 +5,13 @@ use Prim.Native.Nat.{ℕ}
 use Rattle.refusal.specs.declared.Offset.{Offset}
 use Rattle.refusal.specs.Pick.{determined}
 use Rattle.blocks.specs.declared.Blocks.{Blocks}
-use Rattle.blocks.specs.Offsets.{offsetOf, wordOf}
+use Rattle.blocks.specs.Offsets.{OffsetIs, WordIs}
 use Rattle.blocks.specs.Outcome.{Contract}
 
-pub offset-of-unique : (word : ℕ) (r r′ : Offset) → r ≡ offsetOf word → r′ ≡ offsetOf word → r ≡ r′
+pub offset-of-unique : (word : ℕ) (r r′ : Offset) → OffsetIs word r → OffsetIs word r′ → r ≡ r′
 offset-of-unique word r r′ p q = determined p q
 
-pub word-of-unique : (offset : Offset) (r r′ : ℕ) → r ≡ wordOf offset → r′ ≡ wordOf offset → r ≡ r′
+pub word-of-unique : (offset : Offset) (r r′ : ℕ) → WordIs offset r → WordIs offset r′ → r ≡ r′
 word-of-unique offset r r′ p q = determined p q
 
 pub get-blocks-unique : (words lengths origins₀ sizes₀ : List ℕ) (r r′ : Blocks) (origins₁ sizes₁ origins₂ sizes₂ : List ℕ)

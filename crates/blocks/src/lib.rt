@@ -12,7 +12,7 @@ ghost use Prim.Native.Nat.{ℕ, _+_, _%_, _≤_, _<_, _^_};
 ghost use lib.ListN.{length, getD, set};
 ghost use Rattle.refusal.specs.Limits.{maxNodes, maxOffer};
 ghost use Rattle.blocks.specs.Keys.{keyOf, keysFrom, spanAt, Walkable};
-ghost use Rattle.blocks.specs.Offsets.{offsetOf, wordOf};
+ghost use Rattle.blocks.specs.Offsets.{offsetOf, OffsetIs, WordIs};
 ghost use Rattle.blocks.specs.Spans.{span, within, offsetWithin, rank, spansOf, allWithin, acceptable};
 ghost use Rattle.blocks.specs.Walk.{block, endOf, kept, closed, joined, blocksFrom, blocksOf};
 ghost use Rattle.blocks.specs.Put.{Put};
@@ -42,7 +42,7 @@ const NO_OFFSET: u64 = 18_446_744_073_709_551_615;
 
 // A span's offset, from the word that it is lent as.
 pub fn offset_of(word: u64) -> Offset
-    ensures { λ r. ⌜ r ≡ offsetOf word ⌝ }
+    ensures { λ r. ⌜ OffsetIs word r ⌝ }
 {
     if word == NO_OFFSET {
         return Offset::None;
@@ -52,7 +52,7 @@ pub fn offset_of(word: u64) -> Offset
 
 // The word for a span's offset.
 pub fn word_of(offset: Offset) -> u64
-    ensures { λ r. ⌜ r ≡ wordOf offset ⌝ }
+    ensures { λ r. ⌜ WordIs offset r ⌝ }
 {
     match offset {
         Offset::None => NO_OFFSET,
