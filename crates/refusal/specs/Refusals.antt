@@ -1,7 +1,7 @@
--- Document 01, "Numbers a caller gets back": the number and the place of each refusal.
+-- Document 01, "Numbers a caller gets back", and document 02 from 17 on: the number and the place of each refusal.
 use Prim.Native.Nat.{ℕ}
 use Rattle.refusal.specs.declared.Refusal.{Refusal}
-use Rattle.refusal.specs.declared.Refusal.the-variants.{BankCount, BankNumber, BanksOverlap, Malformed, PositionPast, NegativeAlignment, LabelOffBoundary, Unresolved, DefaultBank, PastBank, NoOutput, Overlap, StoreFull, TooShort, BadStore, BadPart}
+use Rattle.refusal.specs.declared.Refusal.the-variants.{BankCount, BankNumber, BanksOverlap, Malformed, PositionPast, NegativeAlignment, LabelOffBoundary, Unresolved, DefaultBank, PastBank, NoOutput, Overlap, StoreFull, TooShort, BadStore, BadPart, PartlyCovered, FillBitDropped, OffProfile}
 use Rattle.refusal.specs.declared.Place.{Place}
 use Rattle.refusal.specs.declared.Place.the-variants.{One, Two}
 
@@ -39,10 +39,16 @@ numberOf (TooShort buffer) = 14
 numberOf (BadStore entry) = 15
 -- "a part of an image is empty, outside it, or not on byte edges"
 numberOf BadPart = 16
+-- document 02, Ticket 4: "17 (new) for a range partly covered"
+numberOf PartlyCovered = 17
+-- document 02, Ticket 7: "18 (new) for a way back that would drop a fill bit of one"
+numberOf FillBitDropped = 18
+-- document 02, Ticket 9: "19 (new), after 4 and before the first pass; place: rule and bank or node"
+numberOf (OffProfile rule at) = 19
 
 -- "Places: 2 its bank; 3 the first pair; 4 in a layout the node, or field 0, 1, 2 for node count, row count, limit; 5, 6, 7, 9, 10,
 -- 11 the node, 13 too in a build; 12 the stored start and size; 14 the buffer; 15 the first entry at fault, 512 for the count;
--- otherwise 0."
+-- otherwise 0." Of 19, document 02: "place: rule and bank or node".
 abbrev pub placeOf : Refusal → Place
 placeOf BankCount = One 0
 placeOf (BankNumber bank) = One bank
@@ -60,3 +66,6 @@ placeOf (StoreFull node) = One node
 placeOf (TooShort buffer) = One buffer
 placeOf (BadStore entry) = One entry
 placeOf BadPart = One 0
+placeOf PartlyCovered = One 0
+placeOf FillBitDropped = One 0
+placeOf (OffProfile rule at) = Two rule at

@@ -48,6 +48,9 @@ pub enum Refusal {
     TooShort(u64),
     BadStore(u64),
     BadPart,
+    PartlyCovered,
+    FillBitDropped,
+    OffProfile(u64, u64),
 }
 
 // Whether a call is refused, where nothing else is to be said.
@@ -56,13 +59,13 @@ pub enum Verdict {
     Refused(Refusal),
 }
 
-// A refusal's place: two banks, a stored start and size, or one number.
+// A refusal's place: two banks, a stored start and size, a rule and its bank or node, or one number.
 pub enum Place {
     One(u64),
     Two(u64, u64),
 }
 
-// The refusal's number in document 01's table.
+// The refusal's number in document 01's table, or from 17 on in document 02.
 pub fn number(r: Refusal) -> u64
     ensures { λ n. ⌜ NumberIs r n ⌝ }
 {
@@ -83,6 +86,9 @@ pub fn number(r: Refusal) -> u64
         Refusal::TooShort(_) => 14,
         Refusal::BadStore(_) => 15,
         Refusal::BadPart => 16,
+        Refusal::PartlyCovered => 17,
+        Refusal::FillBitDropped => 18,
+        Refusal::OffProfile(_, _) => 19,
     }
 }
 
@@ -93,6 +99,7 @@ pub fn place_of(r: Refusal) -> Place
     match r {
         Refusal::BanksOverlap(a, b) => Place::Two(a, b),
         Refusal::Overlap(start, size) => Place::Two(start, size),
+        Refusal::OffProfile(rule, at) => Place::Two(rule, at),
         Refusal::BankNumber(p) => Place::One(p),
         Refusal::Malformed(p) => Place::One(p),
         Refusal::PositionPast(p) => Place::One(p),
@@ -107,5 +114,7 @@ pub fn place_of(r: Refusal) -> Place
         Refusal::BankCount => Place::One(0),
         Refusal::Unresolved => Place::One(0),
         Refusal::BadPart => Place::One(0),
+        Refusal::PartlyCovered => Place::One(0),
+        Refusal::FillBitDropped => Place::One(0),
     }
 }

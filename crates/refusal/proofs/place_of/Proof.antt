@@ -4,133 +4,157 @@ use Rattle.refusal.proofs.place_of.Tie as tie
 use Rattle.refusal.proofs.place_of.Reads as reads
 use Rattle.refusal.proofs.place_of.Lts as lts
 
--- src/lib.rt:89:31
+-- src/lib.rt:100:31
 enum-known-r : tie.Need-enum-known-r
 enum-known-r c = search needs
 
--- src/lib.rt:90:26
+-- src/lib.rt:101:26
 enum-known-r-2 : tie.Need-enum-known-r-2
 enum-known-r-2 c = search needs
 
--- src/lib.rt:91:29
+-- src/lib.rt:102:29
 enum-known-r-3 : tie.Need-enum-known-r-3
 enum-known-r-3 c = search needs
 
--- src/lib.rt:92:28
+-- src/lib.rt:103:29
 enum-known-r-4 : tie.Need-enum-known-r-4
 enum-known-r-4 c = search needs
 
--- src/lib.rt:93:31
+-- src/lib.rt:104:28
 enum-known-r-5 : tie.Need-enum-known-r-5
 enum-known-r-5 c = search needs
 
--- src/lib.rt:94:36
+-- src/lib.rt:105:31
 enum-known-r-6 : tie.Need-enum-known-r-6
 enum-known-r-6 c = search needs
 
--- src/lib.rt:95:35
+-- src/lib.rt:106:36
 enum-known-r-7 : tie.Need-enum-known-r-7
 enum-known-r-7 c = search needs
 
--- src/lib.rt:96:30
+-- src/lib.rt:107:35
 enum-known-r-8 : tie.Need-enum-known-r-8
 enum-known-r-8 c = search needs
 
--- src/lib.rt:97:27
+-- src/lib.rt:108:30
 enum-known-r-9 : tie.Need-enum-known-r-9
 enum-known-r-9 c = search needs
 
--- src/lib.rt:98:27
+-- src/lib.rt:109:27
 enum-known-r-10 : tie.Need-enum-known-r-10
 enum-known-r-10 c = search needs
 
--- src/lib.rt:99:28
+-- src/lib.rt:110:27
 enum-known-r-11 : tie.Need-enum-known-r-11
 enum-known-r-11 c = search needs
 
--- src/lib.rt:100:27
+-- src/lib.rt:111:28
 enum-known-r-12 : tie.Need-enum-known-r-12
 enum-known-r-12 c = search needs
 
--- src/lib.rt:101:27
+-- src/lib.rt:112:27
 enum-known-r-13 : tie.Need-enum-known-r-13
 enum-known-r-13 c = search needs
 
--- src/lib.rt:102:31
+-- src/lib.rt:113:27
+enum-known-r-14 : tie.Need-enum-known-r-14
+enum-known-r-14 c = search needs
+
+-- src/lib.rt:114:31
 enum-told : tie.Need-enum-told
 enum-told c = search needs
 
--- src/lib.rt:103:32
+-- src/lib.rt:115:32
 enum-told-2 : tie.Need-enum-told-2
 enum-told-2 c = search needs
 
--- src/lib.rt:104:29
+-- src/lib.rt:116:29
 enum-told-3 : tie.Need-enum-told-3
 enum-told-3 c = search needs
 
--- src/lib.rt:85:1
+-- src/lib.rt:117:35
+enum-told-4 : tie.Need-enum-told-4
+enum-told-4 c = search needs
+
+-- src/lib.rt:118:36
+enum-told-5 : tie.Need-enum-told-5
+enum-told-5 c = search needs
+
+-- src/lib.rt:96:1
 returns : tie.Need-returns
 returns c = rw (c .before .r .given .1)
 
--- src/lib.rt:85:1
+-- src/lib.rt:96:1
 returns-2 : tie.Need-returns-2
 returns-2 c = rw (c .before .r2 .given .1)
 
--- src/lib.rt:85:1
+-- src/lib.rt:96:1
 returns-3 : tie.Need-returns-3
 returns-3 c = rw (c .before .r3 .given .1)
 
--- src/lib.rt:85:1
+-- src/lib.rt:96:1
 returns-4 : tie.Need-returns-4
 returns-4 c = rw (c .before .r4 .given .1)
 
--- src/lib.rt:85:1
+-- src/lib.rt:96:1
 returns-5 : tie.Need-returns-5
 returns-5 c = rw (c .before .r5 .given .1)
 
--- src/lib.rt:85:1
+-- src/lib.rt:96:1
 returns-6 : tie.Need-returns-6
 returns-6 c = rw (c .before .r6 .given .1)
 
--- src/lib.rt:85:1
+-- src/lib.rt:96:1
 returns-7 : tie.Need-returns-7
 returns-7 c = rw (c .before .r7 .given .1)
 
--- src/lib.rt:85:1
+-- src/lib.rt:96:1
 returns-8 : tie.Need-returns-8
 returns-8 c = rw (c .before .r8 .given .1)
 
--- src/lib.rt:85:1
+-- src/lib.rt:96:1
 returns-9 : tie.Need-returns-9
 returns-9 c = rw (c .before .r9 .given .1)
 
--- src/lib.rt:85:1
+-- src/lib.rt:96:1
 returns-10 : tie.Need-returns-10
 returns-10 c = rw (c .before .r10 .given .1)
 
--- src/lib.rt:85:1
+-- src/lib.rt:96:1
 returns-11 : tie.Need-returns-11
 returns-11 c = rw (c .before .r11 .given .1)
 
--- src/lib.rt:85:1
+-- src/lib.rt:96:1
 returns-12 : tie.Need-returns-12
 returns-12 c = rw (c .before .r12 .given .1)
 
--- src/lib.rt:85:1
+-- src/lib.rt:96:1
 returns-13 : tie.Need-returns-13
 returns-13 c = rw (c .before .r13 .given .1)
 
--- src/lib.rt:85:1
+-- src/lib.rt:96:1
 returns-14 : tie.Need-returns-14
-returns-14 c = search needs
+returns-14 c = rw (c .before .r14 .given .1)
 
--- src/lib.rt:85:1
+-- src/lib.rt:96:1
 returns-15 : tie.Need-returns-15
-returns-15 c = search needs
+returns-15 c = rw (c .enum-told .given .1)
 
--- src/lib.rt:85:1
+-- src/lib.rt:96:1
 returns-16 : tie.Need-returns-16
-returns-16 c = search needs
+returns-16 c = rw (c .enum-told2 .given .1)
+
+-- src/lib.rt:96:1
+returns-17 : tie.Need-returns-17
+returns-17 c = rw (c .enum-told3 .given .1)
+
+-- src/lib.rt:96:1
+returns-18 : tie.Need-returns-18
+returns-18 c = rw (c .enum-told4 .given .1)
+
+-- src/lib.rt:96:1
+returns-19 : tie.Need-returns-19
+returns-19 c = rw (c .enum-told5 .given .1)
 
 pub place-of-spec : {M : Type 1} → statement M
 place-of-spec =
@@ -149,9 +173,12 @@ place-of-spec =
     enum-known-r-11
     enum-known-r-12
     enum-known-r-13
+    enum-known-r-14
     enum-told
     enum-told-2
     enum-told-3
+    enum-told-4
+    enum-told-5
     returns
     returns-2
     returns-3
@@ -167,4 +194,7 @@ place-of-spec =
     returns-13
     returns-14
     returns-15
-    returns-16)
+    returns-16
+    returns-17
+    returns-18
+    returns-19)
