@@ -1,6 +1,7 @@
 // The numbers a caller gets back, the limits, and the two-case answers that stand for the Rust's `Option`. Every crate of the
 // layout speaks of these through this one.
-ghost use Rattle.refusal.specs.Unique.{NumberIs, PlaceIs};
+ghost use mathlib.Core.Path.{_≡_};
+ghost use Rattle.refusal.specs.Refusals.{numberOf, placeOf};
 
 // The limits of document 01's table that no type carries by itself. The others are types: a size, an offset, an alignment
 // and a bank position are `u32`, an address unit is `u16`, a pass limit `u8`.
@@ -67,7 +68,7 @@ pub enum Place {
 
 // The refusal's number in document 01's table, or from 17 on in document 02.
 pub fn number(r: Refusal) -> u64
-    ensures { λ n. ⌜ NumberIs r n ⌝ }
+    ensures { λ n. ⌜ n ≡ numberOf r ⌝ }
 {
     match r {
         Refusal::BankCount => 1,
@@ -94,7 +95,7 @@ pub fn number(r: Refusal) -> u64
 
 // The refusal's place.
 pub fn place_of(r: Refusal) -> Place
-    ensures { λ p. ⌜ PlaceIs r p ⌝ }
+    ensures { λ p. ⌜ p ≡ placeOf r ⌝ }
 {
     match r {
         Refusal::BanksOverlap(a, b) => Place::Two(a, b),

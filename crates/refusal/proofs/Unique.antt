@@ -1,0 +1,13 @@
+-- Uniqueness: the contract of each public function has one outcome, over its own clause.
+use Rattle.refusal.specs.Outcome.{OneOutcome}
+use Rattle.refusal.specs.Pick.{determined}
+use Rattle.refusal.proofs.number.Kinds as number-kinds
+use Rattle.refusal.proofs.number.Reads as number-reads
+use Rattle.refusal.proofs.place_of.Kinds as place-of-kinds
+use Rattle.refusal.proofs.place_of.Reads as place-of-reads
+
+pub number-unique : OneOutcome 0 number-kinds.ps number-kinds.r number-reads.Learnt
+number-unique κs a x y e f p q = determined p q
+
+pub place-of-unique : OneOutcome 0 place-of-kinds.ps place-of-kinds.r place-of-reads.Learnt
+place-of-unique κs a x y e f p q = determined p q
