@@ -1,2 +1,3 @@
 mod Pieces
 mod HexLaws
+pub mod Unique

@@ -1,10 +1,6 @@
--- Uniqueness: each public function's own contract has one outcome. `Learnt` is what the check reads off a function's `ensures` for its callers, so that a looser clause breaks its line here.
-use Prim.Native.Nat.{ℕ}
-use mathlib.Core.List.{List}
-use mathlib.Core.Path.{_≡_}
-use borrow.Fn.Kinds.{PK, RK, Out, Dens, resT, endedOf}
-use contract.Lifetimes.{Lfts}
-use denote.Triple.Clauses.{AtExit}
+-- Uniqueness: each public function's own contract has one outcome. `Learnt` is what the check reads off a function's `ensures` for its
+-- callers, so that a looser clause breaks its line here.
+pub use Rattle.refusal.specs.Outcome.{OneOutcome}
 use Rattle.refusal.specs.Pick.{determined}
 use Rattle.iter.proofs.alignment.bits_until_alignment.Kinds as bits-until-alignment-kinds
 use Rattle.iter.proofs.alignment.bits_until_alignment.Reads as bits-until-alignment-reads
@@ -26,11 +22,6 @@ use Rattle.iter.proofs.steps.start.Kinds as start-kinds
 use Rattle.iter.proofs.steps.start.Reads as start-reads
 use Rattle.iter.proofs.steps.step.Kinds as step-kinds
 use Rattle.iter.proofs.steps.step.Reads as step-reads
-
--- two outcomes that meet a contract for the same arguments are equal
-abbrev pub OneOutcome : (n : ℕ) (ps : List (PK n)) (r : RK n) → Out n ps r → Type 0
-OneOutcome n ps r met =
-    (κs : Lfts n) (a : Dens κs ps) (x y : resT r κs .Denot) (e f : AtExit (endedOf n ps r) κs) → met κs a x e → met κs a y f → x ≡ y
 
 pub bits-until-alignment-unique : OneOutcome 0 bits-until-alignment-kinds.ps bits-until-alignment-kinds.r bits-until-alignment-reads.Learnt
 bits-until-alignment-unique κs a x y e f p q = determined p q

@@ -1,0 +1,36 @@
+-- Uniqueness: the contract of each public function has one outcome, over its own clause: the answer, and all that is lent afterwards.
+use Prim.Native.Nat.{ℕ}
+use mathlib.Core.List.{List}
+use Rattle.refusal.specs.Outcome.{OneOutcome, OneView}
+use Rattle.refusal.specs.Pick.{determined, paired}
+use Rattle.refusal.specs.declared.Verdict.{Verdict}
+use Rattle.bitvec.specs.declared.Hex.{Hex}
+use Rattle.bitvec.proofs.clear.Kinds as clear-kinds
+use Rattle.bitvec.proofs.clear.Reads as clear-reads
+use Rattle.bitvec.proofs.write_bits.Kinds as write-bits-kinds
+use Rattle.bitvec.proofs.write_bits.Reads as write-bits-reads
+use Rattle.bitvec.proofs.part.Kinds as part-kinds
+use Rattle.bitvec.proofs.part.Reads as part-reads
+use Rattle.bitvec.proofs.part_verdict.Kinds as part-verdict-kinds
+use Rattle.bitvec.proofs.part_verdict.Reads as part-verdict-reads
+use Rattle.bitvec.proofs.write_hex.Kinds as write-hex-kinds
+use Rattle.bitvec.proofs.write_hex.Reads as write-hex-reads
+
+-- the image afterwards
+pub clear-unique : OneView 1 clear-kinds.ps clear-kinds.r clear-reads.Learnt (List ℕ) (λ κs x e. e .0 .now)
+clear-unique κs a x y e f p q = determined (p .zeros) (q .zeros)
+
+-- the answer, and the image afterwards
+pub write-bits-unique : OneView 2 write-bits-kinds.ps write-bits-kinds.r write-bits-reads.Learnt (Verdict × List ℕ) (λ κs x e. (x, e .0 .now))
+write-bits-unique κs a x y e f p q = paired (determined (p .answer) (q .answer)) (determined (p .bytes) (q .bytes))
+
+-- the bytes of the part
+pub part-unique : OneView 1 part-kinds.ps part-kinds.r part-reads.Learnt (List ℕ) (λ κs x e. x .now)
+part-unique κs a x y e f p q = determined (p .bytes) (q .bytes)
+
+pub part-verdict-unique : OneOutcome 1 part-verdict-kinds.ps part-verdict-kinds.r part-verdict-reads.Learnt
+part-verdict-unique κs a x y e f p q = determined (p .answer) (q .answer)
+
+-- the answer, and the hex digits afterwards
+pub write-hex-unique : OneView 2 write-hex-kinds.ps write-hex-kinds.r write-hex-reads.Learnt (Hex × List ℕ) (λ κs x e. (x, e .1 .1 .0 .now))
+write-hex-unique κs a x y e f p q = paired (determined (p .answer) (q .answer)) (determined (p .digits) (q .digits))
