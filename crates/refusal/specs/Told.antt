@@ -1,9 +1,10 @@
 -- What a caller is told, in document 01's figures. "If an answer is an enum, a definition tells you this paper's number and values for each
 -- of its cases. The promises use that definition." An answer enum of any crate is told by one function into `Told`.
-use Prim.Native.Nat.{ℕ}
+use Prim.Native.Nat.{ℕ, _<_}
 use mathlib.Core.List.{[], _∷_}
 use lib.ListN.{getD}
 use mathlib.Core.Path.{_≡_, refl, sym, _∙_, ap}
+use native.Mathlib.Omega.{arith}
 use Rattle.refusal.specs.Refusals.{numberOf, placeOf}
 use Rattle.refusal.specs.declared.Refusal.{Refusal}
 use Rattle.refusal.specs.declared.Refusal.the-variants.{BankCount, BankNumber, BanksOverlap, Malformed, PositionPast, NegativeAlignment, LabelOffBoundary, Unresolved, DefaultBank, PastBank, NoOutput, Overlap, StoreFull, TooShort, BadStore, BadPart, PartlyCovered, FillBitDropped, OffProfile}
@@ -16,6 +17,11 @@ use Rattle.refusal.specs.declared.Verdict.the-variants.{Accepted, Refuse
 pub data Told {ℓ} (X : Type ℓ) : Type ℓ where
   gives : X → Told X
   refuses : ℕ → Place → Told X
+
+-- the number that is told: none is 0
+abbrev pub toldNumber {ℓ} : {X : Type ℓ} → Told X → ℕ
+toldNumber (gives x) = 0
+toldNumber (refuses n p) = n
 
 -- a refusal, told by its number and its place
 abbrev pub toldRefusal {ℓ} : {X : Type ℓ} → Refusal → Told X
@@ -83,6 +89,28 @@ refusal-back BadPart = refl
 refusal-back PartlyCovered = refl
 refusal-back FillBitDropped = refl
 refusal-back (OffProfile a b) = refl
+
+-- Every refusal has a number other than 0, the number of none.
+pub number-some : (why : Refusal) → 0 < numberOf why
+number-some BankCount = omega arith
+number-some (BankNumber b) = omega arith
+number-some (BanksOverlap a b) = omega arith
+number-some (Malformed p) = omega arith
+number-some (PositionPast p) = omega arith
+number-some (NegativeAlignment p) = omega arith
+number-some (LabelOffBoundary p) = omega arith
+number-some Unresolved = omega arith
+number-some (DefaultBank p) = omega arith
+number-some (PastBank p) = omega arith
+number-some (NoOutput p) = omega arith
+number-some (Overlap a b) = omega arith
+number-some (StoreFull p) = omega arith
+number-some (TooShort p) = omega arith
+number-some (BadStore p) = omega arith
+number-some BadPart = omega arith
+number-some PartlyCovered = omega arith
+number-some FillBitDropped = omega arith
+number-some (OffProfile a b) = omega arith
 
 -- Number and place tell a refusal: two that have both in common are one.
 pub refusal-by-figures : (r s : Refusal) → numberOf r ≡ numberOf s → placeOf r ≡ placeOf s → r ≡ s
