@@ -1,4 +1,5 @@
--- Laws that join the integers of the definitions with the two sides of 0 on which the code goes on in 64 bits, and what a bank tells whose addresses can be told.
+-- Laws that join the integers of the definitions with the two sides of 0 on which the code goes on in 64 bits, and what a bank tells whose
+-- addresses can be told.
 use Prim.Native.Nat.{ℕ, suc, _+_, _*_, _-_, _≤_, _<_, _^_, _%_}
 use mathlib.Core.Path.{_≡_, refl}
 use mathlib.Core.Bool.{Bool, true, false, not, cond}

@@ -24,7 +24,7 @@ use Rattle.iter.proofs.steps.step.Kinds as step-kinds
 use Rattle.iter.proofs.steps.step.Reads as step-reads
 
 pub bits-until-alignment-unique : OneOutcome 0 bits-until-alignment-kinds.ps bits-until-alignment-kinds.r bits-until-alignment-reads.Learnt
-bits-until-alignment-unique κs a x y e f p q = determined p q
+bits-until-alignment-unique κs a x y e f p q = determined (p .0) (q .0)
 
 pub is-tellable-unique : OneOutcome 0 is-tellable-kinds.ps is-tellable-kinds.r is-tellable-reads.Learnt
 is-tellable-unique κs a x y e f p q = determined p q
@@ -39,13 +39,13 @@ pub on-boundary-unique : OneOutcome 0 on-boundary-kinds.ps on-boundary-kinds.r o
 on-boundary-unique κs a x y e f p q = determined p q
 
 pub advance-unique : OneOutcome 0 advance-kinds.ps advance-kinds.r advance-reads.Learnt
-advance-unique κs a x y e f p q = determined p q
+advance-unique κs a x y e f p q = determined (p .0) (q .0)
 
 pub bank-after-unique : OneOutcome 0 bank-after-kinds.ps bank-after-kinds.r bank-after-reads.Learnt
 bank-after-unique κs a x y e f p q = determined p q
 
 pub seen-unique : OneOutcome 0 seen-kinds.ps seen-kinds.r seen-reads.Learnt
-seen-unique κs a x y e f p q = determined p q
+seen-unique κs a x y e f p q = determined (p .0) (q .0)
 
 pub start-unique : OneOutcome 0 start-kinds.ps start-kinds.r start-reads.Learnt
 start-unique κs a x y e f p q = determined p q

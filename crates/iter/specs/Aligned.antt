@@ -1,4 +1,5 @@
--- The distance is what a reader expects of it: the least number of bits that brings the address to a multiple of the alignment. And refusals 4 and 6 are given exactly where document 01 says.
+-- The distance is what a reader expects of it: the least number of bits that brings the address to a multiple of the alignment. And
+-- refusals 4 and 6 are given exactly where document 01 says.
 use Prim.Native.Nat.{ℕ, _+_, _-_, _*_, _/_, _%_, _≤_, _<_}
 use mathlib.Core.Path.{_≡_, refl, sym, ap, subst, _∙_}
 use mathlib.Core.Bool.{Bool, true, false}
@@ -43,7 +44,7 @@ module _ (n a : ℕ) (h : 0 < a) where
       let s : (n / a + 1) * a ≤ k * a = mul-le-mul-right a (omega (arith, lt-of-mul-lt-mul-right a l)) in
       omega (arith, reached, next)
 
-  gap-aligns : (b : Bool) → eqb (n % a) 0 ≡ b → Aligns (pos n) a (pick b 0 (a - n % a))
+  pub gap-aligns : (b : Bool) → eqb (n % a) 0 ≡ b → Aligns (pos n) a (pick b 0 (a - n % a))
   gap-aligns true e = record {
     below = h;
     times = n / a;
@@ -66,7 +67,8 @@ never why d e = let z : _≡_ {A = ℕ} 0 1 = cc in omega arith
 bits-same : (m n : ℕ) → Bits m ≡ Bits n → m ≡ n
 bits-same m n e = cc
 
-aligns-of : (t : Bool) (z : ℤ) (a node d : ℕ) → 0 < a → pick t (pick (eqb a 0) (Bits 0) (toAlignment z a node)) (Refused (Malformed node)) ≡ Bits d → Aligns z a d
+aligns-of : (t : Bool) (z : ℤ) (a node d : ℕ) → 0 < a → pick t (pick (eqb a 0) (Bits 0) (toAlignment z a node)) (Refused (Malformed node)) ≡ Bits d
+    → Aligns z a d
 aligns-of true (pos n) a node d h e =
     let f : Bits (gap (n % a) a) ≡ Bits d = rw (nonzero a h) at e in
     subst (λ (x : ℕ). Aligns (pos n) a x) (bits-same (gap (n % a) a) d f) (gap-aligns n a h (eqb (n % a) 0) refl)
@@ -78,6 +80,20 @@ pub distance-aligns : (def : Bankdef) (position a node d : ℕ) → 0 < a → di
 unfolding distanceOf
 distance-aligns def position a node d h e = aligns-of (tellable def) (addressInBits def position) a node d h e
 
+-- The definition followed test by test.
+module _ (def : Bankdef) (position a node : ℕ) where
+  pub untellable : tellable def ≡ false → distanceOf def position a node ≡ Refused (Malformed node)
+  unfolding distanceOf
+  untellable e = pick-false _ _ e
+
+  pub to-none : tellable def ≡ true → a ≡ 0 → distanceOf def position a node ≡ Bits 0
+  unfolding distanceOf
+  to-none e z = rw (e, z)
+
+  pub to-some : tellable def ≡ true → (a ≡ 0 → ⊥) → distanceOf def position a node ≡ toAlignment (addressInBits def position) a node
+  unfolding distanceOf
+  to-some e n = rw (e, ne-eqb a 0 n)
+
 -- 6: "a negative address in bits meets a nonzero alignment", in a bank whose addresses can be told
 pub record NegativeMeets (def : Bankdef) (position a : ℕ) : Type 0 where
   pub told : tellable def ≡ true
@@ -88,19 +104,21 @@ six-of : (z : ℤ) (a node : ℕ) → 0 < a → ltZ z (pos 0) ≡ true → pick 
 six-of (pos n) a node h e = let l : n < 0 = ltb-true n 0 e in absurd (omega arith)
 six-of (negsuc n) a node h e = rw (nonzero a h)
 
-positive : (a : ℕ) → eqb a 0 ≡ false → 0 < a
+pub positive : (a : ℕ) → eqb a 0 ≡ false → 0 < a
 positive a e = omega (arith, eqb-false a 0 e)
 
 apart : (place node : ℕ) → Refused (Malformed place) ≡ Refused (NegativeAlignment node) → ⊥
 apart place node e = let z : _≡_ {A = ℕ} 0 1 = cc in omega arith
 
-six-cases : (t b : Bool) (z : ℤ) (a node : ℕ) → pick t (pick b (Bits 0) (toAlignment z a node)) (Refused (Malformed node)) ≡ Refused (NegativeAlignment node) → (t ≡ true) × (b ≡ false) × (ltZ z (pos 0) ≡ true)
+six-cases : (t b : Bool) (z : ℤ) (a node : ℕ) → pick t (pick b (Bits 0) (toAlignment z a node)) (Refused (Malformed node)) ≡ Refused (NegativeAlignment node)
+    → (t ≡ true) × (b ≡ false) × (ltZ z (pos 0) ≡ true)
 six-cases true true z a node e = absurd (never (NegativeAlignment node) 0 (sym e))
 six-cases true false (pos n) a node e = absurd (never (NegativeAlignment node) (gap (n % a) a) (sym e))
 six-cases true false (negsuc n) a node e = (refl, refl, refl)
 six-cases false b z a node e = absurd (apart node node e)
 
-four-cases : (t b : Bool) (z : ℤ) (a node : ℕ) → pick t (pick b (Bits 0) (toAlignment z a node)) (Refused (Malformed node)) ≡ Refused (Malformed node) → t ≡ false
+four-cases : (t b : Bool) (z : ℤ) (a node : ℕ) → pick t (pick b (Bits 0) (toAlignment z a node)) (Refused (Malformed node)) ≡ Refused (Malformed node) → t
+    ≡ false
 four-cases true true z a node e = absurd (never (Malformed node) 0 (sym e))
 four-cases true false (pos n) a node e = absurd (never (Malformed node) (gap (n % a) a) (sym e))
 four-cases true false (negsuc n) a node e = absurd (apart node node (sym e))

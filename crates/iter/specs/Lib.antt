@@ -1,12 +1,16 @@
 pub mod Address
+pub mod Advance
+pub mod AdvanceFacts
 pub mod Agrees
 pub mod Aligned
 pub mod Cases
 pub mod Distance
+pub mod Figures
 pub mod Known
 pub mod Signs
 pub mod Step
 pub mod StepCases
 pub mod StepFacts
 pub mod Told
+pub mod ToldFacts
 pub mod WithinLimit

@@ -50,7 +50,8 @@ abbrev pub labelAligned : Bankdef → Opt → Pos → ℕ → Moved
 labelAligned def None at node = To at
 labelAligned def (Some a) at node = alignedTo def at a (at .known) node
 
--- "A node sees its bank's position before its own advance, except that a symbol (label or constant) of depth 0 in a bank with label alignment is aligned first."
+-- "A node sees its bank's position before its own advance, except that a symbol (label or constant) of depth 0 in a bank with label
+-- alignment is aligned first."
 unfoldable pub seenOf : Bankdef → Pos → Node → Moved
 seenOf def at node = pick (outermostSymbol node) (labelAligned def (def .align) at (node .index)) (To at)
 
@@ -58,16 +59,23 @@ seenOf def at node = pick (outermostSymbol node) (labelAligned def (def .align) 
 abbrev pub resolved : Node → Bool
 resolved node = eqb (node .state) 0
 
--- "Afterwards 4 to 7 add their number, 8 adds the distance to alignment, 9 sets the position. Known-ness: 4, 6, 7, 8 keep it only if state is 0; 5 and symbols leave it; 9 makes it so
--- exactly if state is 0." "Any other kind number is refused."
-unfoldable pub advancedOf : Bankdef → Pos → Node → Moved
-advancedOf def at node =
+-- "0, 1 and 2 don't read the state": the other kinds read it, and "4: .. a call's number is malformed: .. state" where it is beyond 2
+abbrev pub badState : Node → Bool
+badState node = leb 3 (node .kind) && ltb 2 (node .state)
+
+-- "Afterwards 4 to 7 add their number, 8 adds the distance to alignment, 9 sets the position. Known-ness: 4, 6, 7, 8 keep it only if
+-- state is 0; 5 and symbols leave it; 9 makes it so exactly if state is 0." "Any other kind number is refused."
+unfoldable pub movedOn : Bankdef → Pos → Node → Moved
+movedOn def at node =
     pick (eqb (node .kind) 5) (movedBy at (node .number) (at .known) (node .index))
     (pick (leb 4 (node .kind) && leb (node .kind) 7) (movedBy at (node .number) (at .known && resolved node) (node .index))
     (pick (eqb (node .kind) 8) (alignedTo def at (node .number) (at .known && resolved node) (node .index))
     (pick (eqb (node .kind) 9) (To (record { position = node .number; known = resolved node }))
     (pick (leb (node .kind) 10) (To at)
     (Refused (Malformed (node .index)))))))
+
+unfoldable pub advancedOf : Bankdef → Pos → Node → Moved
+advancedOf def at node = pick (badState node) (Refused (Malformed (node .index))) (movedOn def at node)
 
 -- "1 bank switch": "The operand is a bank for 1"
 abbrev pub bankAfter : ℕ → Node → ℕ
@@ -85,11 +93,15 @@ abbrev pub steppedFrom : Bankdef → Walk → ℕ → Node → Moved → Stepped
 steppedFrom def walk bank node (To p) = steppedTo walk bank p (advancedOf def p node)
 steppedFrom def walk bank node (Refused why) = record { seen = Refused why; walk = walk }
 
--- A step over a node: the bank that it stands in, what it sees there, and the walk after its own advance. `def` is the record of the bank that the node stands in, which for a
--- switch is the one switched to. A step that is refused leaves the walk as it was.
+-- "4: .. a call's number is malformed: .. bank number, state"
+abbrev pub malformed : ℕ → Node → Bool
+malformed bank node = leb maxBanks bank || badState node
+
+-- A step over a node: the bank that it stands in, what it sees there, and the walk after its own advance. `def` is the record of the
+-- bank that the node stands in, which for a switch is the one switched to. A step that is refused leaves the walk as it was.
 unfoldable pub stepOf : Bankdef → Walk → Node → Stepped
 stepOf def walk node =
     let bank = bankAfter (walk .bank) node in
-    pick (ltb bank maxBanks)
-    (steppedFrom def walk bank node (seenOf def (getD (walk .at) bank origin) node))
+    pick (malformed bank node)
     (record { seen = Refused (Malformed (node .index)); walk = walk })
+    (steppedFrom def walk bank node (seenOf def (getD (walk .at) bank origin) node))

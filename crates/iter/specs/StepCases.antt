@@ -1,14 +1,12 @@
 -- A step has two outcomes: refused, with the walk as given, or moved, with one position set. What holds of both holds of every step.
 use mathlib.Core.Path.{_≡_, refl}
 use mathlib.Core.Bool.{Bool, true, false}
-use lib.Dec.{ltb}
 use lib.ListN.{getD}
-use Rattle.refusal.specs.Limits.{maxBanks}
 use Rattle.refusal.specs.Pick.{pick}
 use Rattle.refusal.specs.declared.Refusal.{Refusal}
 use Rattle.refusal.specs.declared.Refusal.the-variants.{Malformed}
 use Rattle.bankdef.specs.declared.Bankdef.{Bankdef}
-use Rattle.iter.specs.Step.{origin, seenOf, advancedOf, bankAfter, kept, steppedTo, steppedFrom, stepOf}
+use Rattle.iter.specs.Step.{origin, seenOf, advancedOf, bankAfter, kept, steppedTo, steppedFrom, malformed, stepOf}
 use Rattle.iter.specs.declared.Pos.{Pos}
 use Rattle.iter.specs.declared.Node.{Node}
 use Rattle.iter.specs.declared.Walk.{Walk}
@@ -22,17 +20,21 @@ standing walk node = getD (walk .at) (bankAfter (walk .bank) node) origin
 
 module _ (def : Bankdef) (walk : Walk) (node : Node) (P : Stepped → Type 0)
     (refused : (why : Refusal) → P (record { seen = Refused why; walk = walk }))
-    (moved : (p q : Pos) → seenOf def (standing walk node) node ≡ To p → advancedOf def p node ≡ To q → P (record { seen = To p; walk = kept walk (bankAfter (walk .bank) node) q }))
+    (moved : (p q : Pos) → seenOf def (standing walk node) node ≡ To p → advancedOf def p node ≡ To q
+    → P (record { seen = To p; walk = kept walk (bankAfter (walk .bank) node) q }))
   where
-    after-advance : (p : Pos) → seenOf def (standing walk node) node ≡ To p → (m : Moved) → advancedOf def p node ≡ m → P (steppedTo walk (bankAfter (walk .bank) node) p m)
+    after-advance : (p : Pos) → seenOf def (standing walk node) node ≡ To p → (m : Moved) → advancedOf def p node ≡ m
+        → P (steppedTo walk (bankAfter (walk .bank) node) p m)
     after-advance p s (To q) a = moved p q s a
     after-advance p s (Refused why) a = refused why
 
-    after-sight : (t : Bool) (m : Moved) → seenOf def (standing walk node) node ≡ m → P (pick t (steppedFrom def walk (bankAfter (walk .bank) node) node m) (record { seen = Refused (Malformed (node .index)); walk = walk }))
-    after-sight false m s = refused (Malformed (node .index))
-    after-sight true (To p) s = after-advance p s (advancedOf def p node) refl
-    after-sight true (Refused why) s = refused why
+    after-sight : (t : Bool) (m : Moved) → seenOf def (standing walk node) node ≡ m
+        → P (pick t (record { seen = Refused (Malformed (node .index)); walk = walk })
+        (steppedFrom def walk (bankAfter (walk .bank) node) node m))
+    after-sight true m s = refused (Malformed (node .index))
+    after-sight false (To p) s = after-advance p s (advancedOf def p node) refl
+    after-sight false (Refused why) s = refused why
 
     pub step-cases : P (stepOf def walk node)
     unfolding stepOf
-    step-cases = after-sight (ltb (bankAfter (walk .bank) node) maxBanks) (seenOf def (standing walk node) node) refl
+    step-cases = after-sight (malformed (bankAfter (walk .bank) node) node) (seenOf def (standing walk node) node) refl

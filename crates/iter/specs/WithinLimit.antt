@@ -12,7 +12,7 @@ use Rattle.refusal.specs.declared.Opt.{Opt}
 use Rattle.refusal.specs.declared.Opt.the-variants.{None, Some}
 use Rattle.bankdef.specs.declared.Bankdef.{Bankdef}
 use Rattle.iter.specs.Distance.{distanceOf}
-use Rattle.iter.specs.Step.{origin, startOf, movedBy, movedByDistance, alignedTo, outermostSymbol, labelAligned, seenOf, resolved, advancedOf, bankAfter, stepOf}
+use Rattle.iter.specs.Step.{origin, startOf, movedBy, movedByDistance, alignedTo, outermostSymbol, labelAligned, seenOf, resolved, badState, movedOn, advancedOf, bankAfter, stepOf}
 use Rattle.iter.specs.StepCases.{standing, step-cases}
 use Rattle.iter.specs.declared.Distance.{Distance}
 use Rattle.iter.specs.declared.Distance.the-variants.{Bits, Refused as NoDistance}
@@ -63,13 +63,15 @@ module _ (def : Bankdef) (at : Pos) (node : Node) (small : Small at) where
 
   -- A node's own advance stays within the limit. (That the row's number is within it is its type's.)
   pub advanced-within : node .number ≤ maxPosition → Within (advancedOf def at node)
-  unfolding advancedOf
+  unfolding advancedOf movedOn
   advanced-within h =
-      either Within (eqb (node .kind) 5) _ _ (λ e. moved-within at (node .number) (at .known) (node .index))
-      (λ e. either Within (leb 4 (node .kind) && leb (node .kind) 7) _ _ (λ e. moved-within at (node .number) (at .known && resolved node) (node .index))
-      (λ e. either Within (eqb (node .kind) 8) _ _ (λ e. aligned-within def at (node .number) (at .known && resolved node) (node .index))
+      let known = at .known && resolved node in
+      either Within (badState node) _ _ (λ e. tt)
+      (λ e. either Within (eqb (node .kind) 5) _ _ (λ e. moved-within at (node .number) (at .known) (node .index))
+      (λ e. either Within (leb 4 (node .kind) && leb (node .kind) 7) _ _ (λ e. moved-within at (node .number) known (node .index))
+      (λ e. either Within (eqb (node .kind) 8) _ _ (λ e. aligned-within def at (node .number) known (node .index))
       (λ e. either Within (eqb (node .kind) 9) _ _ (λ e. h)
-      (λ e. either Within (leb (node .kind) 10) _ _ (λ e. small) (λ e. tt)))))
+      (λ e. either Within (leb (node .kind) 10) _ _ (λ e. small) (λ e. tt))))))
 
 -- what holds of each element of a list, and of one that is put in, holds of each element afterwards
 set-all : {A : Type 0} (P : A → Type 0) (l : List A) (i : ℕ) (q d : A) → P q → ((j : ℕ) → P (getD l j d)) → (j : ℕ) → P (getD (set l i q) j d)

@@ -7,6 +7,7 @@ ghost use mathlib.Core.Path.{_≡_};
 ghost use mathlib.Core.Bool.{true};
 ghost use Prim.Native.Nat.{_%_, _<_};
 ghost use Rattle.iter.specs.Distance.{tellable, addressInBits, gap, distanceOf};
+ghost use Rattle.iter.specs.Figures.{toldDistance, Measures};
 ghost use Rattle.iter.specs.Signs.{inBits};
 
 // An address in bits, where an alignment can be met only from 0 on.
@@ -58,6 +59,7 @@ fn gap_to(bits: u64, alignment: u32) -> u32
 // The bits from a position to the next multiple of the alignment. `node` is the place of a refusal.
 pub fn bits_until_alignment(def: Bankdef, position: u32, alignment: u32, node: u64) -> Distance
     ensures { λ r. ⌜ r ≡ distanceOf def position alignment node ⌝ }
+    ensures told { λ r. ⌜ Measures def position alignment node (toldDistance r) ⌝ }
 {
     if !is_tellable(def) {
         return Distance::Refused(Refusal::Malformed(node));

@@ -12,8 +12,9 @@ use refusal::Refusal;
 ghost use mathlib.Core.Path.{_≡_};
 ghost use mathlib.Core.Bool.{_||_};
 ghost use lib.Dec.{eqb};
-ghost use Rattle.iter.specs.Step.{movedBy, alignedTo, startOf, bankAfter, outermostSymbol, seenOf, advancedOf, stepOf};
+ghost use Rattle.iter.specs.Step.{movedBy, alignedTo, startOf, bankAfter, outermostSymbol, seenOf, badState, advancedOf, malformed, stepOf};
 ghost use Rattle.iter.specs.Known.{staysKnown};
+ghost use Rattle.iter.specs.Figures.{toldMoved, Sees, Advances};
 
 // A sum of a position and bits, where it stays within the limit.
 fn moved_by(at: Pos, bits: u32, known: bool, node: u64) -> Moved
@@ -82,6 +83,7 @@ fn is_outermost_symbol(node: Node) -> bool
 // The position that a node sees. In a bank with label alignment a symbol of depth 0, label or constant, is aligned first.
 pub fn seen(def: Bankdef, at: Pos, node: Node) -> Moved
     ensures { λ r. ⌜ r ≡ seenOf def at node ⌝ }
+    ensures told { λ r. ⌜ Sees def at node (toldMoved r) ⌝ }
 {
     if !is_outermost_symbol(node) {
         return Moved::To(at);
@@ -103,10 +105,21 @@ fn stays_known(known: bool, node: Node) -> bool
     if known { node.state == 0 } else { false }
 }
 
+// Whether a node's state is read and is none of "0 resolved, 1 stable, 2 unresolved": "0, 1 and 2 don't read the state".
+fn is_bad_state(node: Node) -> bool
+    ensures { λ r. ⌜ r ≡ badState node ⌝ }
+{
+    node.kind >= 3 && node.state > 2
+}
+
 // The position after a node's own advance.
 pub fn advance(def: Bankdef, at: Pos, node: Node) -> Moved
     ensures { λ r. ⌜ r ≡ advancedOf def at node ⌝ }
+    ensures told { λ r. ⌜ Advances def at node (toldMoved r) ⌝ }
 {
+    if is_bad_state(node) {
+        return Moved::Refused(Refusal::Malformed(node.index));
+    }
     let known = stays_known(at.known, node);
     let kind = node.kind;
     match kind {
@@ -123,12 +136,19 @@ pub fn advance(def: Bankdef, at: Pos, node: Node) -> Moved
     }
 }
 
+// Whether a step's numbers are malformed: the bank that the node stands in, or a state that it reads.
+fn is_malformed(bank: u64, node: Node) -> bool
+    ensures { λ r. ⌜ r ≡ malformed bank node ⌝ }
+{
+    bank >= refusal::MAX_BANKS || is_bad_state(node)
+}
+
 // One node: what it sees, and the walk after it. `def` is the record of the bank that the node stands in.
 pub fn step(def: Bankdef, walk: Walk, node: Node) -> Stepped
     ensures { λ r. ⌜ r ≡ stepOf def walk node ⌝ }
 {
     let bank = bank_after(walk.bank, node);
-    if bank >= refusal::MAX_BANKS {
+    if is_malformed(bank, node) {
         return Stepped {
             seen: Moved::Refused(Refusal::Malformed(node.index)),
             walk,

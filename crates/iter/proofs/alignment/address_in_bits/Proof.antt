@@ -24,7 +24,8 @@ told c = c .magnitude .ensures ∙ ap natAbs (start-read c)
 small : (c : tie.After-magnitude) → c .magnitude .result * c .before .before .args .def .unit < 2 ^ 57
 small c =
     let h : c .before .before .args .def .unit < 65536 = search needs in
-    rw (told c) (away-small (natAbs (c .before .before .args .def .start)) (c .before .before .args .def .unit) (start-within (c .before .before .args .def) (c .before .before .pre)) h)
+    rw (told c) (away-small (natAbs (c .before .before .args .def .start)) (c .before .before .args .def .unit) (start-within (c .before .before .args .def)
+    (c .before .before .pre)) h)
 
 magnitude-requires : tie.Need-magnitude-requires
 magnitude-requires c κs = search needs

@@ -2,8 +2,10 @@
 use borrow.Author.Needs.{needs}
 use mathlib.Core.Path.{_≡_, _∙_, sym}
 use mathlib.Core.Bool.{true}
-use borrow.Author.Tests.{eq-eqb, ne-eqb, not-true, not-false}
-use Rattle.iter.specs.Distance.{distanceOf, tellable, addressInBits}
+use borrow.Author.Tests.{not-true, not-false}
+use Rattle.iter.specs.Distance.{tellable, addressInBits}
+use Rattle.iter.specs.Aligned.{untellable, to-none, to-some}
+use Rattle.iter.specs.ToldFacts.{distance-answers}
 use Rattle.iter.proofs.Signed.{by-bits, by-sign}
 use Rattle.iter.proofs.alignment.bits_until_alignment.Statement.{statement}
 use Rattle.iter.proofs.alignment.bits_until_alignment.Tie as tie
@@ -12,16 +14,14 @@ is-tellable-requires : tie.Need-is-tellable-requires
 is-tellable-requires c κs = search needs
 
 returns : tie.Need-returns
-unfolding distanceOf
-returns c = rw (sym (c .before .is-tellable .ensures) ∙ not-true _ (c .if1 .taken))
+returns c = distance-answers _ _ _ _ (sym (untellable _ _ _ _ (sym (c .before .is-tellable .ensures) ∙ not-true _ (c .if1 .taken))))
 
 -- past the first test
 tells : (c : tie.Else1) → tellable (c .before .before .args .def) ≡ true
 tells c = sym (c .before .is-tellable .ensures) ∙ not-false _ (c .if1 .left)
 
 returns-2 : tie.Need-returns-2
-unfolding distanceOf
-returns-2 c = rw (tells (c .before), eq-eqb _ _ (c .if2 .taken))
+returns-2 c = distance-answers _ _ _ _ (sym (to-none _ _ _ _ (tells (c .before)) (c .if2 .taken)))
 
 address-in-bits-requires : tie.Need-address-in-bits-requires
 address-in-bits-requires c κs = tells (c .before)
@@ -36,20 +36,22 @@ enum-told : tie.Need-enum-told
 enum-told c = search needs
 
 returns-3 : tie.Need-returns-3
-unfolding distanceOf
 returns-3 c =
     let at = c .before .before .before .before in
     let args = at .before .before .before .before .args in
-    rw (tells (at .before .before), ne-eqb _ _ (at .before .if2 .left), c .gap-to .ensures)
-    (by-bits (addressInBits (args .def) (args .position)) (args .alignment) (args .node) _ (sym (c .before .before .bits .given .1) ∙ at .address-in-bits .ensures))
+    distance-answers _ _ _ _
+    (rw (c .gap-to .ensures)
+    (by-bits (addressInBits (args .def) (args .position)) (args .alignment) (args .node) _ (sym (c .before .before .bits .given .1)
+    ∙ at .address-in-bits .ensures)
+    ∙ sym (to-some _ _ _ _ (tells (at .before .before)) (at .before .if2 .left))))
 
 returns-4 : tie.Need-returns-4
-unfolding distanceOf
 returns-4 c =
     let at = c .before .before in
     let args = at .before .before .before .before .args in
-    rw (tells (at .before .before), ne-eqb _ _ (at .before .if2 .left))
-    (by-sign (addressInBits (args .def) (args .position)) (args .alignment) (args .node) (sym (c .enum-told .given .1) ∙ at .address-in-bits .ensures))
+    distance-answers _ _ _ _
+    (by-sign (addressInBits (args .def) (args .position)) (args .alignment) (args .node) (sym (c .enum-told .given .1) ∙ at .address-in-bits .ensures)
+    ∙ sym (to-some _ _ _ _ (tells (at .before .before)) (at .before .if2 .left)))
 
 pub bits-until-alignment-spec : {M : Type 1} → statement M
 bits-until-alignment-spec =

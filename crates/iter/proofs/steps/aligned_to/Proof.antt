@@ -17,10 +17,10 @@ enum-known-why : tie.Need-enum-known-why
 enum-known-why c = search needs
 
 returns : tie.Need-returns
-returns c = rw (sym (c .before .before .before .before .bits-until-alignment .ensures) ∙ c .before .before .bits .given .1) (c .moved-by .ensures)
+returns c = rw (sym (c .before .before .before .before .bits-until-alignment .ensures .0) ∙ c .before .before .bits .given .1) (c .moved-by .ensures)
 
 returns-2 : tie.Need-returns-2
-returns-2 c = rw (sym (c .before .before .before .bits-until-alignment .ensures) ∙ c .before .why .given .1)
+returns-2 c = rw (sym (c .before .before .before .bits-until-alignment .ensures .0) ∙ c .before .why .given .1)
 
 pub aligned-to-spec : {M : Type 1} → statement M
 aligned-to-spec =

@@ -3,7 +3,9 @@ use borrow.Author.Needs.{needs}
 use mathlib.Core.Path.{_≡_, _∙_, sym}
 use mathlib.Core.Bool.{true}
 use borrow.Author.Tests.{not-true, not-false}
-use Rattle.iter.specs.Step.{seenOf, outermostSymbol}
+use Rattle.iter.specs.Step.{outermostSymbol}
+use Rattle.iter.specs.StepFacts.{sees-plain, sees-unaligned}
+use Rattle.iter.specs.ToldFacts.{sight-answers}
 use Rattle.iter.proofs.Advanced.{label-aligned}
 use Rattle.iter.proofs.steps.seen.Statement.{statement}
 use Rattle.iter.proofs.steps.seen.Tie as tie
@@ -12,8 +14,7 @@ is-outermost-symbol-requires : tie.Need-is-outermost-symbol-requires
 is-outermost-symbol-requires c κs = search needs
 
 returns : tie.Need-returns
-unfolding seenOf
-returns c = rw (sym (c .before .is-outermost-symbol .ensures) ∙ not-true _ (c .if1 .taken))
+returns c = sight-answers _ _ _ (sym (sees-plain _ _ _ (sym (c .before .is-outermost-symbol .ensures) ∙ not-true _ (c .if1 .taken))))
 
 -- past the first test
 symbol : (c : tie.Else1) → outermostSymbol (c .before .before .args .node) ≡ true
@@ -29,11 +30,12 @@ enum-told : tie.Need-enum-told
 enum-told c = search needs
 
 returns-2 : tie.Need-returns-2
-returns-2 c = c .aligned-to .ensures ∙ label-aligned _ _ _ _ (symbol (c .before .before .before .before)) (c .before .before .align .given .1)
+returns-2 c =
+    sight-answers _ _ _
+    (c .aligned-to .ensures ∙ label-aligned _ _ _ _ (symbol (c .before .before .before .before)) (c .before .before .align .given .1))
 
 returns-3 : tie.Need-returns-3
-unfolding seenOf
-returns-3 c = rw (symbol (c .before .before), c .enum-told .given .1)
+returns-3 c = sight-answers _ _ _ (sym (sees-unaligned _ _ _ (c .enum-told .given .1)))
 
 pub seen-spec : {M : Type 1} → statement M
 seen-spec =

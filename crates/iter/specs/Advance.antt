@@ -1,0 +1,107 @@
+-- The definition of an advance followed kind by kind, and of a step by what the node sees and where it moves.
+use Prim.Native.Nat.{ℕ, _≤_, _<_}
+use mathlib.Core.Path.{_≡_, refl, sym, ap, _∙_}
+use mathlib.Core.Bool.{Bool, true, false, _&&_}
+use native.Mathlib.Omega.{arith}
+use lib.Dec.{eqb}
+use lib.ListN.{getD}
+use borrow.Author.Tests.{ne-eqb, le-leb, lt-leb}
+use Rattle.refusal.specs.Pick.{pick, pick-true, pick-false}
+use Rattle.refusal.specs.declared.Refusal.{Refusal}
+use Rattle.refusal.specs.declared.Refusal.the-variants.{Malformed}
+use Rattle.bankdef.specs.declared.Bankdef.{Bankdef}
+use Rattle.iter.specs.Known.{staysKnown}
+use Rattle.iter.specs.Step.{origin, movedBy, alignedTo, seenOf, resolved, badState, movedOn, advancedOf, bankAfter, kept, malformed, stepOf}
+use Rattle.iter.specs.declared.Pos.{Pos}
+use Rattle.iter.specs.declared.Node.{Node}
+use Rattle.iter.specs.declared.Walk.{Walk}
+use Rattle.iter.specs.declared.Moved.the-variants.{To, Refused}
+
+not-at : (k n : ℕ) → k < n → eqb k n ≡ false
+not-at k n h = ne-eqb k n (λ e. omega arith)
+
+not-from : (k n : ℕ) → n < k → eqb k n ≡ false
+not-from k n h = ne-eqb k n (λ e. omega arith)
+
+-- known-ness chosen first or last
+chosen : (b : Bool) (at : Pos) (bits : ℕ) (kept left : Bool) (node : ℕ)
+    → pick b (movedBy at bits kept node) (movedBy at bits left node) ≡ movedBy at bits (pick b kept left) node
+chosen true at bits kept left node = refl
+chosen false at bits kept left node = refl
+
+module _ (def : Bankdef) (at : Pos) (node : Node) where
+  -- A state beyond 2 that is read is refused.
+  pub bad-state : badState node ≡ true → advancedOf def at node ≡ Refused (Malformed (node .index))
+  unfolding advancedOf
+  bad-state e = pick-true _ _ e
+
+  -- Any other goes on by the node's kind.
+  pub sound-state : badState node ≡ false → advancedOf def at node ≡ movedOn def at node
+  unfolding advancedOf
+  sound-state e = pick-false _ _ e
+
+  -- kinds 0 to 3
+  pub early : node .kind < 4 → movedOn def at node ≡ To at
+  unfolding movedOn
+  early h =
+      rw (
+        not-at (node .kind) 5 (omega arith),
+        lt-leb 4 (node .kind) h,
+        not-at (node .kind) 8 (omega arith),
+        not-at (node .kind) 9 (omega arith),
+        le-leb (node .kind) 10 (omega arith),
+      )
+
+  -- kinds 4 to 7
+  pub item : 4 ≤ node .kind → node .kind ≤ 7 → movedOn def at node ≡ movedBy at (node .number) (staysKnown (at .known) node) (node .index)
+  unfolding movedOn
+  item h k =
+      rw (le-leb 4 (node .kind) h, le-leb (node .kind) 7 k)
+      (chosen (eqb (node .kind) 5) at (node .number) (at .known) (at .known && resolved node) (node .index))
+
+  pub aligning : node .kind ≡ 8 → movedOn def at node ≡ alignedTo def at (node .number) (staysKnown (at .known) node) (node .index)
+  unfolding movedOn
+  aligning e = rw e
+
+  pub setting : node .kind ≡ 9 → movedOn def at node ≡ To (record { position = node .number; known = resolved node })
+  unfolding movedOn
+  setting e = rw e
+
+  pub asserting : node .kind ≡ 10 → movedOn def at node ≡ To at
+  unfolding movedOn
+  asserting e = rw e
+
+  -- "Any other kind number is refused."
+  pub other : 10 < node .kind → movedOn def at node ≡ Refused (Malformed (node .index))
+  unfolding movedOn
+  other h =
+      rw (
+        not-from (node .kind) 5 (omega arith),
+        le-leb 4 (node .kind) (omega arith),
+        lt-leb (node .kind) 7 (omega arith),
+        not-from (node .kind) 8 (omega arith),
+        not-from (node .kind) 9 (omega arith),
+        lt-leb (node .kind) 10 h,
+      )
+
+-- A step, by what the node sees and where it moves.
+module _ (def : Bankdef) (walk : Walk) (node : Node) (bank : ℕ) (e : bank ≡ bankAfter (walk .bank) node) where
+  pub outside : malformed bank node ≡ true → stepOf def walk node ≡ record { seen = Refused (Malformed (node .index)); walk = walk }
+  unfolding stepOf
+  outside h = rw (sym e, h)
+
+  module _ (sound : malformed bank node ≡ false) where
+    pub blind : (why : Refusal) → seenOf def (getD (walk .at) bank origin) node ≡ Refused why
+        → stepOf def walk node ≡ record { seen = Refused why; walk = walk }
+    unfolding stepOf
+    blind why s = rw (sym e, sound, s)
+
+    pub stuck : (p : Pos) (why : Refusal) → seenOf def (getD (walk .at) bank origin) node ≡ To p → advancedOf def p node ≡ Refused why
+        → stepOf def walk node ≡ record { seen = Refused why; walk = walk }
+    unfolding stepOf
+    stuck p why s a = rw (sym e, sound, s, a)
+
+    pub moves : (p q : Pos) → seenOf def (getD (walk .at) bank origin) node ≡ To p → advancedOf def p node ≡ To q
+        → stepOf def walk node ≡ record { seen = To p; walk = kept walk bank q }
+    unfolding stepOf
+    moves p q s a = rw (sym e, sound, s, a)
