@@ -10,13 +10,13 @@ ghost use Rattle.iter.specs.Step.{advancedOf};
 ghost use Rattle.lent.specs.Lent.{lentOf, Advanced};
 
 // What an advance leaves behind: the record, and the answer.
-pub struct Lent {
-    pub at: Pos,
-    pub verdict: Verdict,
+struct Lent {
+    at: Pos,
+    verdict: Verdict,
 }
 
 // The advance by value, as the record to leave and the answer. Refused, the record is the one given.
-pub fn advanced(def: Bankdef, at: Pos, node: Node) -> Lent
+fn advanced(def: Bankdef, at: Pos, node: Node) -> Lent
     ensures { λ r. ⌜ r ≡ lentOf at (advancedOf def at node) ⌝ }
 {
     match advance(def, at, node) {

@@ -1,5 +1,7 @@
--- The thin advance over the lent record, a walk by hand. The borrow is opened once: the record is copied out, the advance by value is called on the copy, and what it answers is stored in the
--- record's cell, where the borrow is closed at it. Of the callee only its contract is used: it tells the machine value that it returned, whose two fields are then read.
+-- The thin advance over the lent record, a walk by hand. The borrow is opened once: the record is copied out, the advance by value is
+-- called on the copy, and what it answers is stored in the
+-- record's cell, where the borrow is closed at it. Of the callee only its contract is used: it tells the machine value that it returned,
+-- whose two fields are then read.
 use mathlib.Core.Path.{_≡_, refl, ap, subst, _∙_}
 use Prim.Native.Nat.{ℕ}
 use mathlib.Core.List.{[], _∷_, List}
@@ -50,7 +52,7 @@ use Rattle.iter.proofs.Pos.Laws as P′
 use Rattle.iter.specs.declared.Node.{Node}
 use Rattle.iter.proofs.Node as N
 use Rattle.iter.proofs.Node.Laws as N′
-use Rattle.lent.specs.Lent.{lentOf}
+use Rattle.lent.specs.Lent.{lentOf, lent-told}
 use Rattle.lent.specs.declared.Lent.{Lent}
 use Rattle.lent.proofs.Lent as L
 use Rattle.lent.proofs.Lent.Laws as L′
@@ -102,10 +104,12 @@ module _ {M : Type 1} (𝓤 : URA M) (H : Heap 𝓤) (A : Atoms 𝓤) (at-mem : 
   Callee = tripleOf 𝓤 H A callee.signature (callee.spec 𝓤 H A at-mem run)
 
   -- of what the callee ensures, the clause alone: it has no `&mut`
-  answered : (d : Bankdef) (h : Pos) (n : Node) (r : Lent) → ent 𝓤 (ensured 𝓤 H A callee.ended (callee.clauses 𝓤 H A at-mem run) tt (d, (h, (n, tt))) tt r) (fact 𝓤 (r ≡ lentOf h (advancedOf d h n)))
+  answered : (d : Bankdef) (h : Pos) (n : Node) (r : Lent) → ent 𝓤 (ensured 𝓤 H A callee.ended (callee.clauses 𝓤 H A at-mem run) tt (d, (h, (n, tt))) tt r)
+      (fact 𝓤 (r ≡ lentOf h (advancedOf d h n)))
   answered d h n r = exE 𝓤 _ (λ ws. snd∗ 𝓤 (sem 𝓤 H A (lasts callee.ended tt (d, (h, (n, tt))) ws)) (fact 𝓤 (r ≡ lentOf h (advancedOf d h n))))
 
-module _ {M : Type 1} (𝓤 : URA M) (H : Heap 𝓤) (A : Atoms 𝓤) (W : Given 𝓤 H A) (at-mem : Memory → SProp 𝓤) (run : Routine → Fun 𝓤) (κ : Lft) (q : Share) (b o : ℕ) (γ : GName)
+module _ {M : Type 1} (𝓤 : URA M) (H : Heap 𝓤) (A : Atoms 𝓤) (W : Given 𝓤 H A) (at-mem : Memory → SProp 𝓤) (run : Routine → Fun 𝓤) (κ : Lft) (q : Share)
+    (b o : ℕ) (γ : GName)
     (d : Bankdef) (h : Pos) (n : Node) (is-d : Is B.the-row d (bank-vals d)) (is-n : Is N.the-row n (node-vals n)) where
   -- what the advance leaves
   abbrev s : Lent
@@ -120,10 +124,12 @@ module _ {M : Type 1} (𝓤 : URA M) (H : Heap 𝓤) (A : Atoms 𝓤) (W : Given
   abbrev Post : Val → SProp 𝓤
   Post = walkOf 𝓤 H A f.ended stayed (f.clauses 𝓤 H A at-mem run) .post (((κ, tt), (q, tt), tt, x, at), tt)
 
-  exits : Is L.the-row s (lent-vals s) → ent 𝓤 (sep 𝓤 (A .obs γ (P.the-row .coded .code (s .at))) (sep 𝓤 (A .bor κ (Body (mem P.the-row) b o γ)) (A .lft κ q))) (Post (only (verdict-vals (s .verdict))))
+  exits : Is L.the-row s (lent-vals s) → ent 𝓤 (sep 𝓤 (A .obs γ (P.the-row .coded .code (s .at))) (sep 𝓤 (A .bor κ (Body (mem P.the-row) b o γ))
+      (A .lft κ q))) (Post (only (verdict-vals (s .verdict))))
   exits is =
       qed W (‵ (fobs γ (P.the-row .coded .code (s .at))) ∷ ‵ (fbor κ (Body (mem P.the-row) b o γ)) ∷ ‵ (flft κ q) ∷ []) ∵
-      suffices ! _ (ends-at 𝓤 H A f.ended stayed (f.clauses 𝓤 H A at-mem run) W (((κ, tt), (q, tt), tt, x, at), tt) (only (verdict-vals (s .verdict))) (s .verdict) (tt, (s .at, (tt, tt))) (tt, (tt, (tt, tt)))) $ says ! (record { place = refl; verdict = refl }) $
+      suffices ! _ (ends-at 𝓤 H A f.ended stayed (f.clauses 𝓤 H A at-mem run) W (((κ, tt), (q, tt), tt, x, at), tt) (only (verdict-vals (s .verdict)))
+      (s .verdict) (tt, (s .at, (tt, tt))) (tt, (tt, (tt, tt)))) $ says ! (record { place = refl; verdict = refl; told = lent-told d h n }) $
       nothing ! $ move ! (3 ∷ 0 ∷ []) $ join ! $ frame ! $ feqI ! (List Val) (vptr b o ∷ []) (vptr b o ∷ []) refl $ fjoin3 ! $
       nothing ! $ owned ! N.the-row (Is N.the-row) (S.makes N.the-type N′.the-plain 𝓤 H A) n _ is-n $ fjoin ! $ move ! (1 ∷ 0 ∷ []) $ fjoin ! $
       owned ! B.the-row (Is B.the-row) (S.makes B.the-type B′.the-plain 𝓤 H A) d _ is-d $ fjoin ! $
@@ -142,47 +148,71 @@ module _ {M : Type 1} (𝓤 : URA M) (H : Heap 𝓤) (A : Atoms 𝓤) (W : Given
   module _ (C : Calls 𝓤 H) (Λ : Loops 𝓤 H) (fm : FmC 𝓤 H (W .laws) C) (known : Triple 𝓤 (C #lent·advanced) (Callee 𝓤 H A at-mem run)) where
     walk : ent 𝓤 (onEntry 𝓤 H A f.signature (κ, tt) (q, tt) x at) (WpFn 𝓤 H C Λ code.function (only (bank-vals d) ∷ vptr b o ∷ only (node-vals n) ∷ []) Post)
     walk =
-        qed W ((‵ (flft κ q) ⊛ ‵ ftrue) ∷ ‵ (owns (B.the-row ∷ MutRef (named 0) κ P.the-row ∷ N.the-row ∷ []) x at) ∷ []) ∵ split ! $ move ! (2 ∷ []) $ fsplit ! $ drop ! $ fsplit ! $ fsplit3 ! $ drop ! $ move ! (0 ∷ 1 ∷ 3 ∷ []) $
+        qed W ((‵ (flft κ q) ⊛ ‵ ftrue) ∷ ‵ (owns (B.the-row ∷ MutRef (named 0) κ P.the-row ∷ N.the-row ∷ []) x at) ∷ []) ∵ split ! $ move !
+        (2 ∷ []) $ fsplit ! $ drop ! $ fsplit ! $ fsplit3 ! $ drop ! $ move ! (0 ∷ 1 ∷ 3 ∷ []) $
         -- [obs; the borrow; the token; what node owns; true]
         enter ! C Λ code.function (only (bank-vals d) ∷ vptr b o ∷ only (node-vals n) ∷ []) _ $
         alloc1 ! (λ l₀. alloc1 ! (λ l₁. alloc1 ! (λ l₂. alloc1 ! (λ l₃. alloc1 ! (λ l₄. alloc1 ! (λ l₅. alloc0 ! $
-        params1 ! $ pass1 ! (init ! 8 refl (S.lawful B.the-type B′.the-laws 𝓤 H A W .typed d _ is-d .0)) $ pass1 ! (init ! 6 refl (tt, tt)) $ pass1 ! (init ! 4 refl (S.lawful N.the-type N′.the-laws 𝓤 H A W .typed n _ is-n .0)) $ pass0 ! $
+        params1 ! $ pass1 ! (init ! 8 refl (S.lawful B.the-type B′.the-laws 𝓤 H A W .typed d _ is-d .0)) $ pass1 ! (init ! 6 refl (tt, tt)) $ pass1 !
+        (init ! 4 refl (S.lawful N.the-type N′.the-laws 𝓤 H A W .typed n _ is-n .0)) $ pass0 ! $
         -- the borrow is opened
-        move ! (12 ∷ 13 ∷ 14 ∷ []) $ opens ! tt P.the-row {h = h} b o (λ vs. spelt ! P.the-row (Is P.the-row) (shows 𝓤 H A P.the-row) pos-vals (S.tells P.the-type P′.the-laws) fullShare h vs b o $
+        move ! (12 ∷ 13 ∷ 14 ∷ []) $ opens ! tt P.the-row {h = h} b o (λ vs. spelt ! P.the-row (Is P.the-row) (shows 𝓤 H A P.the-row) pos-vals
+        (S.tells P.the-type P′.the-laws) fullShare h vs b o $
         move ! (1 ∷ []) $ peeks ! P.the-row (Is P.the-row) (shows 𝓤 H A P.the-row) h (pos-vals h) (λ is-h. move ! (1 ∷ 0 ∷ []) $
         -- [the record's cell; what it owns; the open borrow; obs; auth; room for _5; …; room for _4; …; _3; …; _2; …; _1; …; room for _0; …]
-        assigns ! (of-opd ! (load ! (from ! (hop ! (look ! 11 refl) (stop !))) (look-raw ! 0 refl))) (from ! (stop !)) (init ! 5 refl (S.lawful P.the-type P′.the-laws 𝓤 H A W .typed h _ is-h .0)) $
+        assigns ! (of-opd ! (load ! (from ! (hop ! (look ! 11 refl) (stop !))) (look-raw ! 0 refl))) (from ! (stop !)) (init ! 5 refl
+        (S.lawful P.the-type P′.the-laws 𝓤 H A W .typed h _ is-h .0)) $
         -- the call, on the copies
         nothing ! $ use1 W (raw (Callee 𝓤 H A at-mem run .pre to-callee)) (asked is-h) $
-        calls-at ! fm (Callee 𝓤 H A at-mem run) known to-callee (and-then ! (load ! (from ! (stop !)) (look ! 14 refl)) (and-then ! (load ! (from ! (stop !)) (look ! 6 refl)) (and-then ! (load ! (from ! (stop !)) (look ! 10 refl)) (no-more !)))) (λ v.
-        use1 W (later (some (λ (r : Lent). (‵ ftrue ⊛ ‵ (L.the-row .own r (v ∷ []))) ⊛ raw (ensured 𝓤 H A callee.ended (callee.clauses 𝓤 H A at-mem run) tt (d, (h, (n, tt))) tt r)))) (id⊢ 𝓤 _) $ await ! tt $ pick ! (λ r.
+        calls-at ! fm (Callee 𝓤 H A at-mem run) known to-callee (and-then ! (load ! (from ! (stop !)) (look ! 14 refl)) (and-then ! (load ! (from ! (stop !))
+        (look ! 6 refl)) (and-then ! (load ! (from ! (stop !)) (look ! 10 refl)) (no-more !)))) (λ v.
+        use1 W (later (some (λ (r : Lent). (‵ ftrue ⊛ ‵ (L.the-row .own r (v ∷ []))) ⊛ raw (ensured 𝓤 H A callee.ended (callee.clauses 𝓤 H A at-mem run) tt
+        (d, (h, (n, tt))) tt r)))) (id⊢ 𝓤 _) $ await ! tt $ pick ! (λ r.
         split ! $ move ! (1 ∷ []) $ use1 W (raw (fact 𝓤 (r ≡ s))) (answered 𝓤 H A at-mem run d h n r) $ heard ! (r ≡ s) (λ e. split ! $ drop ! $
         peeks ! L.the-row (Is L.the-row) (shows 𝓤 H A L.the-row) r (v ∷ []) (λ is.
         land ! (from ! (stop !)) (init ! 8 refl (S.lawful L.the-type L′.the-laws 𝓤 H A W .typed r _ is .0)) $ drop ! $
         rewrite ! 7 (λ (us : List Val). ‵ (fat fullShare L′.mir l₄ 0 (only us))) (told r s (v ∷ []) e is) refl $
         -- its two fields: the record is stored behind the reference, and the answer is the result
-        assigns ! (of-opd ! (load ! (from ! (fld ! refl (stop !))) (look-in ! 7 (sub ! 0 refl (whole !))))) (from ! (hop ! (look ! 11 refl) (stop !))) (store-raw ! 0 refl (S.lawful P.the-type P′.the-laws 𝓤 H A W .typed (s .at) _ (record-is s (is-at r s (v ∷ []) e is)) .0)) $
-        assigns ! (of-opd ! (load ! (from ! (fld ! refl (stop !))) (look-in ! 7 (sub ! 1 refl (whole !))))) (from ! (stop !)) (init ! 15 refl (E.lawful Ver.the-type Ver′.the-laws 𝓤 H A W tt .typed (s .verdict) _ (answer-is s (is-at r s (v ∷ []) e is)) .0)) $
+        assigns ! (of-opd ! (load ! (from ! (fld ! refl (stop !))) (look-in ! 7 (sub ! 0 refl (whole !))))) (from ! (hop ! (look ! 11 refl) (stop !)))
+        (store-raw ! 0 refl (S.lawful P.the-type P′.the-laws 𝓤 H A W .typed (s .at) _ (record-is s (is-at r s (v ∷ []) e is)) .0)) $
+        assigns ! (of-opd ! (load ! (from ! (fld ! refl (stop !))) (look-in ! 7 (sub ! 1 refl (whole !))))) (from ! (stop !)) (init ! 15 refl
+        (E.lawful Ver.the-type Ver′.the-laws 𝓤 H A W tt .typed (s .verdict) _ (answer-is s (is-at r s (v ∷ []) e is)) .0)) $
         -- the borrow is closed at the new record
-        move ! (1 ∷ []) $ drop ! $ owned ! P.the-row (Is P.the-row) (S.makes P.the-type P′.the-plain 𝓤 H A) (s .at) _ (record-is s (is-at r s (v ∷ []) e is)) $ move ! (1 ∷ 0 ∷ []) $ closes ! tt P.the-row (s .at) (pos-vals (s .at)) b o $
+        move ! (1 ∷ []) $ drop ! $ owned ! P.the-row (Is P.the-row) (S.makes P.the-type P′.the-plain 𝓤 H A) (s .at) _ (record-is s (is-at r s
+        (v ∷ []) e is)) $ move ! (1 ∷ 0 ∷ []) $ closes ! tt P.the-row (s .at) (pos-vals (s .at)) b o $
         returns ! (look ! 13 refl) $ forget ! 3 refl $ forget ! 5 refl $ forget ! 7 refl $ forget ! 9 refl $ forget ! 11 refl $ forget ! 13 refl $
-        move ! (13 ∷ 14 ∷ []) $ free1 ! $ move ! (11 ∷ 12 ∷ []) $ free1 ! $ move ! (9 ∷ 10 ∷ []) $ free1 ! $ move ! (7 ∷ 8 ∷ []) $ free1 ! $ move ! (5 ∷ 6 ∷ []) $ free1 ! $ move ! (3 ∷ 4 ∷ []) $ free1 ! $ free0 ! $
+        move ! (13 ∷ 14 ∷ []) $ free1 ! $ move ! (11 ∷ 12 ∷ []) $ free1 ! $ move ! (9 ∷ 10 ∷ []) $ free1 ! $ move ! (7 ∷ 8 ∷ []) $ free1 ! $ move !
+        (5 ∷ 6 ∷ []) $ free1 ! $ move ! (3 ∷ 4 ∷ []) $ free1 ! $ free0 ! $
         keep ! (0 ∷ 1 ∷ 2 ∷ []) $ by ! (exits (is-at r s (v ∷ []) e is))))))))))))))
 
 module _ {M : Type 1} (𝓤 : URA M) (H : Heap 𝓤) (A : Atoms 𝓤) (W : Given 𝓤 H A) (at-mem : Memory → SProp 𝓤) (run : Routine → Fun 𝓤) where
-  walks : (C : Calls 𝓤 H) (Λ : Loops 𝓤 H) → FmC 𝓤 H (W .laws) C → Triple 𝓤 (C #lent·advanced) (Callee 𝓤 H A at-mem run) → Walks 𝓤 H A f.ended stayed (WpFn 𝓤 H C Λ code.function) (f.clauses 𝓤 H A at-mem run)
+  walks : (C : Calls 𝓤 H) (Λ : Loops 𝓤 H) → FmC 𝓤 H (W .laws) C → Triple 𝓤 (C #lent·advanced) (Callee 𝓤 H A at-mem run) → Walks 𝓤 H A f.ended stayed
+      (WpFn 𝓤 H C Λ code.function) (f.clauses 𝓤 H A at-mem run)
   walks C Λ fm known =
       walked 𝓤 H A f.ended stayed (f.clauses 𝓤 H A at-mem run) (WpFn 𝓤 H C Λ code.function) (λ κs. (bank-vals, (ptr-vals, (node-vals, tt))))
       (λ κs. (S.tells B.the-type B′.the-laws, (mut-tells (named 0) (κs .0) P.the-row, (S.tells N.the-type N′.the-laws, tt))))
-      (λ κs qs bounds a g are. via 𝓤 _ (fst∗ 𝓤 _ (emp 𝓤)) (walk 𝓤 H A W at-mem run (κs .0) (qs .0) (a .1 .0 .ptr .0) (a .1 .0 .ptr .1) (a .1 .0 .name) (a .0) (a .1 .0 .now) (a .1 .1 .0) (are .0) (are .1 .1 .0) C Λ fm known))
+      (λ κs qs bounds a g are. via 𝓤 _ (fst∗ 𝓤 _ (emp 𝓤)) (walk 𝓤 H A W at-mem run (κs .0) (qs .0) (a .1 .0 .ptr .0) (a .1 .0 .ptr .1) (a .1 .0 .name) (a .0)
+      (a .1 .0 .now) (a .1 .1 .0) (are .0) (are .1 .1 .0) C Λ fm known))
 
   goes : AllGo 𝓤 H A W 1 (f.signature .params) (f.ended .kept) stayed
-  goes = (goes-none 𝓤 H A W 1 (λ _. B.the-row) yes (λ κs x f. refl), (goes-ref 𝓤 H A W 1 0 tt (plain (λ _. P.the-row)), (goes-none 𝓤 H A W 1 (λ _. N.the-row) yes (λ κs x f. refl), tt)))
+  goes = (
+    goes-none 𝓤 H A W 1 (λ _. B.the-row) yes (λ κs x f. refl),
+    (
+      goes-ref 𝓤 H A W 1 0 tt (plain (λ _. P.the-row)),
+      (
+        goes-none 𝓤 H A W 1
+            (λ _. N.the-row) yes (λ κs x f. refl),
+        tt,
+      ),
+    ),
+  )
 
-meets : {M : Type 1} (𝓤 : URA M) (H : Heap 𝓤) (A : Atoms 𝓤) (W : Given 𝓤 H A) (at-mem : Memory → SProp 𝓤) (run : Routine → Fun 𝓤) (𝓣 : Tables 𝓤 H) → Triple 𝓤 (𝓣 .C #lent·advanced) (Callee 𝓤 H A at-mem run)
+meets : {M : Type 1} (𝓤 : URA M) (H : Heap 𝓤) (A : Atoms 𝓤) (W : Given 𝓤 H A) (at-mem : Memory → SProp 𝓤) (run : Routine → Fun 𝓤) (𝓣 : Tables 𝓤 H) → Triple 𝓤
+    (𝓣 .C #lent·advanced) (Callee 𝓤 H A at-mem run)
     → Meets 𝓤 H A f.signature (WpFn 𝓤 H (𝓣 .C) (𝓣 .Λ) code.function) (f.spec 𝓤 H A at-mem run)
 meets 𝓤 H A W at-mem run 𝓣 known =
-    walk-meets 𝓤 H A f.ended stayed W (goes 𝓤 H A W at-mem run) (f.clauses 𝓤 H A at-mem run) (WpFn 𝓤 H (𝓣 .C) (𝓣 .Λ) code.function) (WpFn-mono 𝓤 H (W .laws) 𝓣 code.function)
+    walk-meets 𝓤 H A f.ended stayed W (goes 𝓤 H A W at-mem run) (f.clauses 𝓤 H A at-mem run) (WpFn 𝓤 H (𝓣 .C) (𝓣 .Λ) code.function) (WpFn-mono 𝓤 H
+    (W .laws) 𝓣 code.function)
     (walks 𝓤 H A W at-mem run (𝓣 .C) (𝓣 .Λ) (fmOf 𝓤 H (W .laws) 𝓣) known)
 
 pub advance-lent-spec : {M : Type 1} → stated.statement M

@@ -14,10 +14,10 @@ enum-known-why : tie.Need-enum-known-why
 enum-known-why c = search needs
 
 returns : tie.Need-returns
-returns c = rw (sym (c .before .before .before .advance .ensures) ∙ c .before .q .given .1)
+returns c = rw (sym (c .before .before .before .advance .ensures .0) ∙ c .before .q .given .1)
 
 returns-2 : tie.Need-returns-2
-returns-2 c = rw (sym (c .before .before .before .advance .ensures) ∙ c .before .why .given .1)
+returns-2 c = rw (sym (c .before .before .before .advance .ensures .0) ∙ c .before .why .given .1)
 
 pub advanced-spec : {M : Type 1} → statement M
 advanced-spec = tie.close (tie.spec advance-requires enum-known-q enum-known-why returns returns-2)
