@@ -26,7 +26,8 @@ module _ {A : Type 0} (d : A) (l : List A) (n : ℕ) (fits : n ≤ length l) whe
   ended i h = drop-of-length-le (take n l) {i = i} (omega (arith, length-take-le n l fits))
 
   module _ (p : A → Bool) where
-    pub passed : (i : ℕ) {k : ℕ} → i < n → p (getD l i d) ≡ false → k ≡ i + firstWhere p (drop i (take n l)) → k ≡ i + 1 + firstWhere p (drop (i + 1) (take n l))
+    pub passed : (i : ℕ) {k : ℕ} → i < n → p (getD l i d) ≡ false → k ≡ i + firstWhere p (drop i (take n l)) → k ≡ i + 1 + firstWhere p (drop (i + 1)
+        (take n l))
     unfolding firstWhere
     passed i {k} h e q =
         let q' : k ≡ i + suc (firstWhere p (drop (i + 1) (take n l))) = rw (met i h, e) at q in

@@ -7,6 +7,7 @@ pub mod Check
 pub mod Pairs
 pub mod Refused
 pub mod SharedBit
+pub mod Told
 pub mod Fill
+pub mod FillFacts
 pub mod Cases
-pub mod Unique

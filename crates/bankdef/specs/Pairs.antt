@@ -111,8 +111,18 @@ outward z l a b m =
 inward : (z : Bankdef) (l : List Bankdef) (i j : ℕ) → OverlapAt (z ∷ l) i j → Within l i j
 inward z l zero j m = absurd (omega (arith, m .not-bank-0))
 inward z l (suc a) zero m = absurd (omega (arith, m .rising))
-inward z l (suc a) (suc b) m =
-    (a, b, refl, refl, record { rising = omega (arith, m .rising); there = omega (arith, m .there); meets = rw (m .first-offset, m .second-offset) (m .overlap) })
+inward z l (suc a) (suc b) m = (
+  a,
+  b,
+  refl,
+  refl,
+  record {
+    rising = omega (arith, m .rising);
+    there = omega (arith, m .there);
+    meets = rw (m .first-offset, m .second-offset)
+        (m .overlap);
+  },
+)
 
 -- What the pairs of a table's banks say.
 pub data Pairs (l : List Bankdef) : Verdict → Type 0 where

@@ -55,11 +55,13 @@ overlapping o (Some m) p None bit a b = lt-ltb p (o + m) (omega arith)
 overlapping o (Some m) p (Some n) bit a b = rw (lt-ltb p (o + m) (omega arith), lt-ltb o (p + n) (omega arith))
 
 -- Two ranges of the output that have bits overlap exactly when some bit belongs to both.
-pub ranges-share-a-bit : (o : ℕ) (m : Opt) (p : ℕ) (n : Opt) → isZero m ≡ false → isZero n ≡ false → (rangesOverlap o m p n ≡ true) ↔ InBoth (InRange o m) (InRange p n)
+pub ranges-share-a-bit : (o : ℕ) (m : Opt) (p : ℕ) (n : Opt) → isZero m ≡ false → isZero n ≡ false → (rangesOverlap o m p n ≡ true) ↔ InBoth (InRange o m)
+    (InRange p n)
 ranges-share-a-bit o m p n h k = (common o m p n h k, λ s. overlapping o m p n (s .0) (s .1) (s .2))
 
 -- Two sized banks with bits overlap exactly when some bit belongs to both: the same, said of the numbers alone.
-pub sized-share-a-bit : (o m p n : ℕ) → 0 < m → 0 < n → (rangesOverlap o (Some m) p (Some n) ≡ true) ↔ ((bit : ℕ) × ((o ≤ bit) × (bit < o + m)) × ((p ≤ bit) × (bit < p + n)))
+pub sized-share-a-bit : (o m p n : ℕ) → 0 < m → 0 < n → (rangesOverlap o (Some m) p (Some n) ≡ true) ↔ ((bit : ℕ) × ((o ≤ bit) × (bit < o + m)) × ((p ≤ bit) ×
+    (bit < p + n)))
 sized-share-a-bit o m p n h k =
     ranges-share-a-bit o (Some m) p (Some n) (ne-eqb m 0 (λ e. omega arith)) (ne-eqb n 0 (λ e. omega arith))
 

@@ -6,14 +6,14 @@ use refusal::Refusal;
 use refusal::Verdict;
 ghost use mathlib.Core.Path.{_≡_};
 ghost use Prim.Native.Nat.{_+_, _≤_, _<_};
+ghost use lib.IntN.{natAbs};
 ghost use lib.ListN.{take, drop, getD};
 ghost use Rattle.refusal.specs.Limits.{maxBanks, maxOffer};
 ghost use Rattle.bankdef.specs.Numbers.{isZero, bankFault};
 ghost use Rattle.bankdef.specs.Overlap.{rangesOverlap, pairOverlaps};
 ghost use Rattle.bankdef.specs.Search.{firstWhere};
-ghost use Rattle.bankdef.specs.Check.{firstPair, noBank};
+ghost use Rattle.bankdef.specs.Check.{firstPair, noBank, banksOf, checkOf};
 ghost use Rattle.bankdef.specs.Fill.{filledBy, fillLength};
-ghost use Rattle.bankdef.specs.Unique.{MagnitudeIs, VerdictIs, FillIs};
 
 // A bank: address unit in bits, start address, and, each optional, size in bits, output offset and label alignment; and
 // whether its range is filled. The types carry document 01's limits, but for a unit of 0 and the start's range.
@@ -34,7 +34,7 @@ pub struct Bankdefs {
 
 // A signed number's distance from 0. The least `i64` has no `-x`, but each negative number has a `-1 - x`.
 pub fn magnitude(x: i64) -> u64
-    ensures { λ r. ⌜ MagnitudeIs x r ⌝ }
+    ensures { λ r. ⌜ r ≡ natAbs x ⌝ }
 {
     if x < 0 {
         let less = -1 - x;
@@ -158,7 +158,7 @@ fn check_bank_overlap(banks: Bankdefs, n: usize) -> Verdict
 
 // Whether the table is refused: its count, the numbers of each bank, the pairs.
 pub fn check(banks: Bankdefs) -> Verdict
-    ensures { λ r. ⌜ VerdictIs banks r ⌝ }
+    ensures { λ r. ⌜ r ≡ checkOf banks ⌝ }
 {
     let len = banks.len;
     if len == 0 {
@@ -214,7 +214,7 @@ fn fill_banks(banks: Bankdefs, n: usize) -> u64
 
 // The length that fill gives an empty image: every bank of the table, bank 0 too. A table has no bank past the sixteenth.
 pub fn fill_length(banks: Bankdefs) -> u64
-    ensures { λ r. ⌜ FillIs banks r ⌝ }
+    ensures { λ r. ⌜ (r ≡ fillLength (banksOf banks)) × (r ≤ maxOffer) ⌝ }
 {
     let len = banks.len;
     if len < MAX_BANKS {

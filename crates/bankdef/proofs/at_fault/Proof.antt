@@ -35,7 +35,8 @@ returns-2 c =
     rw (ne-eqb (b .unit) 0 (c .before .before .before .if1 .left), start-by-magnitude (b .start), lt-leb (natAbs (b .start)) maxStart past)
 
 -- where the unit and the start are sound, the fill and the size are left
-rest : (c : tie.Else2) → bankFault (c .before .before .before .before .args .b) ≡ (c .before .before .before .before .args .b .fill && isZero (c .before .before .before .before .args .b .size))
+rest : (c : tie.Else2) → bankFault (c .before .before .before .before .args .b) ≡ (c .before .before .before .before .args .b .fill && isZero
+    (c .before .before .before .before .args .b .size))
 rest c =
     let b = c .before .before .before .before .args .b in
     let within : natAbs (b .start) ≤ maxStart = omega (arith, c .if2 .left, magnitude-of (c .before)) in

@@ -39,7 +39,8 @@ returns-3 : tie.Need-returns-3
 returns-3 c =
     let d = c .before .before in
     let t = d .before .before .args .banks in
-    let some : someWhere bankFault (banksOf t) ≡ true = lt-ltb (firstWhere bankFault (banksOf t)) (length (banksOf t)) (omega (arith, count d, c .if3 .taken, c .before .first-fault .ensures)) in
+    let some : someWhere bankFault (banksOf t) ≡ true = lt-ltb (firstWhere bankFault (banksOf t)) (length (banksOf t)) (omega
+    (arith, count d, c .if3 .taken, c .before .first-fault .ensures)) in
     rw (sound d, some, c .before .first-fault .ensures)
 
 check-bank-overlap-requires : tie.Need-check-bank-overlap-requires
@@ -49,7 +50,8 @@ returns-4 : tie.Need-returns-4
 returns-4 c =
     let d = c .before .before .before in
     let t = d .before .before .args .banks in
-    let none : someWhere bankFault (banksOf t) ≡ false = le-ltb (firstWhere bankFault (banksOf t)) (length (banksOf t)) (omega (arith, count d, c .before .if3 .left, c .before .before .first-fault .ensures)) in
+    let none : someWhere bankFault (banksOf t) ≡ false = le-ltb (firstWhere bankFault (banksOf t)) (length (banksOf t)) (omega
+    (arith, count d, c .before .if3 .left, c .before .before .first-fault .ensures)) in
     rw (sound d, none) (c .check-bank-overlap .ensures)
 
 pub check-spec : {M : Type 1} → statement M

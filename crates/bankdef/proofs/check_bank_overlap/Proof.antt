@@ -21,7 +21,8 @@ use Rattle.bankdef.proofs.check_bank_overlap.Statement.{statement}
 use Rattle.bankdef.proofs.check_bank_overlap.Tie as tie
 
 -- Bank i's search among the banks after it, j its answer: a bank found is the pair's second, and otherwise the pairs go on after i.
-module _ (l : List Bankdef) (n : ℕ) (fits : n ≤ length l) (i : ℕ) (h : i < n) {v : Verdict} (inv : v ≡ firstPair i (drop i (take n l))) (j : ℕ) (e : j ≡ i + 1 + firstWhere (pairOverlaps (getD l i noBank)) (drop (i + 1) (take n l))) where
+module _ (l : List Bankdef) (n : ℕ) (fits : n ≤ length l) (i : ℕ) (h : i < n) {v : Verdict} (inv : v ≡ firstPair i (drop i (take n l))) (j : ℕ) (e : j
+    ≡ i + 1 + firstWhere (pairOverlaps (getD l i noBank)) (drop (i + 1) (take n l))) where
   abbrev rest : List Bankdef
   rest = drop (i + 1) (take n l)
 
@@ -72,7 +73,8 @@ loop-less c = search needs
 loop-again : tie.Need-loop-again Inv-loop μ-loop
 loop-again c =
     let at = c .before .before .before in
-    no-pair _ _ (fits (at .before)) (at .loop .i) (c .before .before .loop-test .taken) (at .loop .inv) _ (c .before .first-overlap-after .ensures) (c .if1 .left)
+    no-pair _ _ (fits (at .before)) (at .loop .i) (c .before .before .loop-test .taken) (at .loop .inv) _ (c .before .first-overlap-after .ensures)
+    (c .if1 .left)
 
 returns-2 : tie.Need-returns-2 Inv-loop μ-loop
 unfolding firstPair

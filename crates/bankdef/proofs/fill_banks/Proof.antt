@@ -43,8 +43,11 @@ loop-again : tie.Need-loop-again Inv-loop μ-loop
 unfolding fillFrom
 loop-again c =
     let at = c .before .before .before in
-    let a = at .before .args in
-    (search needs, rw (c .filled .ensures .0) (rw (met noBank (a .t1 .defs) (a .n) (fits (at .before)) (at .loop .i) (c .before .before .loop-test .taken)) at (at .loop .inv .1)))
+    let a = at .before .args in (
+      search needs,
+      rw (c .filled .ensures .0) (rw (met noBank (a .t1 .defs) (a .n) (fits (at .before)) (at .loop .i) (c .before .before .loop-test .taken)) at
+          (at .loop .inv .1)),
+    )
 
 returns : tie.Need-returns Inv-loop μ-loop
 unfolding fillFrom

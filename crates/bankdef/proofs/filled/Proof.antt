@@ -43,7 +43,9 @@ add-if2 : tie.Need-add-if2
 add-if2 c = search needs
 
 -- a bank with fill, size and offset
-by-end : (c : tie.After-end) → filledBy (c .before .before .before .before .before .before .before .before .args .b .fill) (c .before .before .before .before .before .before .before .before .args .b .size) (c .before .before .before .before .before .before .before .before .args .b .offset) ≡ raisedTo (c .end .result - 1)
+by-end : (c : tie.After-end) → filledBy (c .before .before .before .before .before .before .before .before .args .b .fill)
+    (c .before .before .before .before .before .before .before .before .args .b .size)
+    (c .before .before .before .before .before .before .before .before .args .b .offset) ≡ raisedTo (c .end .result - 1)
 by-end c =
     let d = c .before .before .before .before .before in
     rw (fill (d .before .before), d .size .given .1, c .before .before .offset .given .1, c .end .ensures)

@@ -46,11 +46,18 @@ loop-less c = search needs
 
 loop-again : tie.Need-loop-again Inv-loop μ-loop
 loop-again c =
-    let at = c .before .before .before .before in
-    (search needs, passed noBank _ _ (fits (at .before)) bankFault (at .loop .i) (search needs) (sym (c .before .at-fault .ensures) ∙ c .if1 .left) (at .loop .inv .1))
+    let at = c .before .before .before .before in (
+      search needs,
+      passed noBank _ _ (fits (at .before)) bankFault (at .loop .i) (search needs) (sym (c .before .at-fault .ensures) ∙ c .if1 .left)
+          (at .loop .inv .1),
+    )
 
 returns-2 : tie.Need-returns-2 Inv-loop μ-loop
-returns-2 c = omega (arith, unfound noBank (c .before .before .args .t1 .defs) (c .before .before .args .n) (fits (c .before .before)) bankFault (c .before .loop .i) (c .loop-test .left) (c .before .loop .inv .1))
+returns-2 c = omega (
+  arith,
+  unfound noBank (c .before .before .args .t1 .defs) (c .before .before .args .n) (fits (c .before .before)) bankFault
+      (c .before .loop .i) (c .loop-test .left) (c .before .loop .inv .1),
+)
 
 pub first-fault-spec : {M : Type 1} → statement M
 first-fault-spec =

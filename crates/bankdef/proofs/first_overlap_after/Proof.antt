@@ -52,7 +52,8 @@ overlaps-requires c κs = search needs
 returns : tie.Need-returns Inv-loop μ-loop
 returns c =
     let at = c .before .before .before .before in
-    found noBank _ _ (fits (at .before .before)) (pairOverlaps (first (at .before))) (at .loop .j) (search needs) (sym (c .before .overlaps .ensures) ∙ c .if1 .taken) (at .loop .inv .1)
+    found noBank _ _ (fits (at .before .before)) (pairOverlaps (first (at .before))) (at .loop .j) (search needs) (sym (c .before .overlaps .ensures)
+    ∙ c .if1 .taken) (at .loop .inv .1)
 
 add-j-2 : tie.Need-add-j-2 Inv-loop μ-loop
 add-j-2 c = search needs
@@ -62,13 +63,20 @@ loop-less c = search needs
 
 loop-again : tie.Need-loop-again Inv-loop μ-loop
 loop-again c =
-    let at = c .before .before .before .before in
-    (search needs, passed noBank _ _ (fits (at .before .before)) (pairOverlaps (first (at .before))) (at .loop .j) (search needs) (sym (c .before .overlaps .ensures) ∙ c .if1 .left) (at .loop .inv .1))
+    let at = c .before .before .before .before in (
+      search needs,
+      passed noBank _ _ (fits (at .before .before)) (pairOverlaps (first (at .before))) (at .loop .j) (search needs) (sym
+          (c .before .overlaps .ensures) ∙ c .if1 .left) (at .loop .inv .1),
+    )
 
 returns-2 : tie.Need-returns-2 Inv-loop μ-loop
 returns-2 c =
     let at = c .before in
-    omega (arith, unfound noBank (at .before .before .args .t1 .defs) (at .before .before .args .n) (fits (at .before .before)) (pairOverlaps (first (at .before))) (at .loop .j) (c .loop-test .left) (at .loop .inv .1))
+    omega (
+      arith,
+      unfound noBank (at .before .before .args .t1 .defs) (at .before .before .args .n) (fits (at .before .before)) (pairOverlaps (first
+          (at .before))) (at .loop .j) (c .loop-test .left) (at .loop .inv .1),
+    )
 
 pub first-overlap-after-spec : {M : Type 1} → statement M
 first-overlap-after-spec =
