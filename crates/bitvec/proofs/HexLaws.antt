@@ -12,7 +12,7 @@ use Rattle.bitvec.specs.Within.{endsWithin}
 use Rattle.bitvec.specs.Lists.{listOf, listOf-more}
 use Rattle.bitvec.specs.Numeral.{numeral, numeral-cong, numeral-high, numeral-low, numeral-cleared}
 use Rattle.bitvec.specs.Bits.{bitAt, Bytes, bitAt-lt, byte-numeral}
-use Rattle.bitvec.specs.HexDigits.{digitOf, paddedBit, digitValue, digitAt, digitCount, hexOf, Prints, paddedBit-lt, paddedBit-own, paddedBit-past}
+use Rattle.bitvec.specs.HexDigits.{digitOf, paddedBit, digitValue, digitAt, digitCount, hexOf, hexAnswer, Prints, hex-told, paddedBit-lt, paddedBit-own, paddedBit-past}
 
 module _ (bytes : List ℕ) (bits : ℕ) where
   -- the eight bits that are printed of byte j
@@ -69,12 +69,16 @@ module _ (bytes : List ℕ) (bits : ℕ) (hex : List ℕ) where
       → after ≡ hexOf bytes bits ++ drop (digitCount bits) hex → Prints bytes bits hex (Digits n) after
   all-printed n after t l e d =
       let f = le-leb (digitCount bits) (length hex) l in
-      record { answer = rw (t, f, e); digits = rw (t, f) d }
+      let a : Digits n ≡ hexAnswer bytes bits hex = rw (t, f, e) in
+      record { answer = a; digits = rw (t, f) d; told = hex-told bytes bits hex a }
 
   pub past-bytes : endsWithin (length bytes) 0 bits ≡ false → Prints bytes bits hex (Refused (Malformed 0)) hex
-  past-bytes t = record { answer = rw t; digits = rw t }
+  past-bytes t =
+      let a : Refused (Malformed 0) ≡ hexAnswer bytes bits hex = rw t in
+      record { answer = a; digits = rw t; told = hex-told bytes bits hex a }
 
   pub hex-short : endsWithin (length bytes) 0 bits ≡ true → length hex < digitCount bits → Prints bytes bits hex (Refused (TooShort 3)) hex
   hex-short t l =
       let f = lt-leb (digitCount bits) (length hex) l in
-      record { answer = rw (t, f); digits = rw (t, f) }
+      let a : Refused (TooShort 3) ≡ hexAnswer bytes bits hex = rw (t, f) in
+      record { answer = a; digits = rw (t, f); told = hex-told bytes bits hex a }

@@ -15,7 +15,7 @@ use Rattle.bitvec.specs.Numeral.{numeral, bitOf, Bits, pick-lt, numeral-
 use Rattle.bitvec.specs.Bits.{bitAt, Bytes, bitAt-lt, bitAt-byte, byte-numeral, getD-ofBits, same-bits}
 use Rattle.bitvec.specs.Within.{endsWithin, covers, covers-before, covers-inside, covers-after, covers-not}
 use Rattle.bitvec.specs.Steps.{spliced}
-use Rattle.bitvec.specs.Written.{Writes, isWritten, written, writtenBit, length-written, bytes-written, bitAt-written, writtenBit-inside, writtenBit-outside, written-other}
+use Rattle.bitvec.specs.Written.{Writes, write-told, isWritten, written, writtenBit, length-written, bytes-written, bitAt-written, writtenBit-inside, writtenBit-outside, written-other}
 
 -- A store of byte j writes an item that lies in that byte, where the byte has the bits that the image is to have there.
 pub stored : (image : List ℕ) (position : ℕ) (values : List ℕ) (start size j v : ℕ) → Bytes image → j < length image
@@ -247,7 +247,11 @@ two-runs image mid after position values start a b size position′ start′ fir
 module _ (image : List ℕ) (position : ℕ) (values : List ℕ) (start size : ℕ) where
   pub accepted : (after : List ℕ) → endsWithin (length image) position size ≡ true → endsWithin (length values) start size ≡ true
       → after ≡ written image position values start size → Writes image position values start size Accepted after
-  accepted after p v e = record { answer = rw (p, v); bytes = rw (p, v) e }
+  accepted after p v e =
+      let a : Accepted ≡ pick (isWritten image position values start size) Accepted (Refused (Malformed 0)) = rw (p, v) in
+      record { answer = a; bytes = rw (p, v) e; told = write-told image position values start size a }
 
   pub refused : isWritten image position values start size ≡ false → Writes image position values start size (Refused (Malformed 0)) image
-  refused e = record { answer = rw e; bytes = rw e }
+  refused e =
+      let a : Refused (Malformed 0) ≡ pick (isWritten image position values start size) Accepted (Refused (Malformed 0)) = rw e in
+      record { answer = a; bytes = rw e; told = write-told image position values start size a }

@@ -1,17 +1,19 @@
 -- Document 01: "Hex takes four bits a digit, lower case, the last digit padded with zero bits." And of what is refused: "Block and hex
 -- calls try 4 (.. a bit length past the lent bytes), then 14"; "a lent output is too short: .. hex 3"; "After success, lent spans,
 -- blocks and hex keep their old contents past what was written."
-use mathlib.Core.Path.{_≡_, sym, ap, _∙_}
-use mathlib.Core.Bool.{_&&_}
-use mathlib.Core.List.{List, _++_}
+use mathlib.Core.Path.{_≡_, refl, sym, ap, subst, _∙_}
+use mathlib.Core.Bool.{Bool, true, false, _&&_}
+use mathlib.Core.List.{List, [], _∷_, _++_}
 use Prim.Native.Nat.{ℕ, _+_, _-_, _*_, _/_, _%_, _≤_, _<_}
 use native.Mathlib.Decide.{decLt}
 use native.Mathlib.Omega.{arith}
 use lib.Dec.{leb, ltb}
 use lib.ListN.{length, getD, drop}
 use lib.Seq.{getD-append-add, getD-drop}
-use borrow.Author.Tests.{lt-ltb, le-ltb}
+use borrow.Author.Tests.{lt-ltb, le-ltb, leb-true, leb-false}
 use Rattle.refusal.specs.Pick.{pick}
+use Rattle.refusal.specs.Told.{Told, gives, refuses, toldRefusal}
+use Rattle.refusal.specs.declared.Place.the-variants.{One}
 use Rattle.refusal.specs.declared.Refusal.the-variants.{Malformed, TooShort}
 use Rattle.bitvec.specs.declared.Hex.{Hex}
 use Rattle.bitvec.specs.declared.Hex.the-variants.{Digits, Refused}
@@ -54,9 +56,33 @@ abbrev pub hexAfter : List ℕ → ℕ → List ℕ → List ℕ
 hexAfter bytes bits hex =
     pick (endsWithin (length bytes) 0 bits && leb (digitCount bits) (length hex)) (hexOf bytes bits ++ drop (digitCount bits) hex) hex
 
+-- what a caller is told
+abbrev pub toldHex : Hex → Told ℕ
+toldHex (Digits n) = gives n
+toldHex (Refused why) = toldRefusal why
+
+-- "Block and hex calls try 4 (.. a bit length past the lent bytes), then 14", whose buffer is 3
+pub data HexTold (bytes : List ℕ) (bits : ℕ) (hex : List ℕ) : Told ℕ → Type 0 where
+  past : 8 * length bytes < bits → HexTold bytes bits hex (refuses 4 (One 0))
+  short : bits ≤ 8 * length bytes → length hex < digitCount bits → HexTold bytes bits hex (refuses 14 (One 3))
+  printed : bits ≤ 8 * length bytes → digitCount bits ≤ length hex → HexTold bytes bits hex (gives (digitCount bits))
+
+module _ (bytes : List ℕ) (bits : ℕ) (hex : List ℕ) where
+  by-tests : (p r : Bool) → endsWithin (length bytes) 0 bits ≡ p → leb (digitCount bits) (length hex) ≡ r
+      → HexTold bytes bits hex (toldHex (pick p (pick r (Digits (digitCount bits)) (Refused (TooShort 3))) (Refused (Malformed 0))))
+  by-tests false r e f = let h = leb-false (0 + bits) (8 * length bytes) e in past (omega arith)
+  by-tests true false e f = let h = leb-true (0 + bits) (8 * length bytes) e in short (omega arith) (leb-false (digitCount bits) (length hex) f)
+  by-tests true true e f = let h = leb-true (0 + bits) (8 * length bytes) e in printed (omega arith) (leb-true (digitCount bits) (length hex) f)
+
+  pub hex-told : {count : Hex} → count ≡ hexAnswer bytes bits hex → HexTold bytes bits hex (toldHex count)
+  hex-told e =
+      subst (λ (x : Hex). HexTold bytes bits hex (toldHex x)) (sym e)
+      (by-tests (endsWithin (length bytes) 0 bits) (leb (digitCount bits) (length hex)) refl refl)
+
 pub record Prints (bytes : List ℕ) (bits : ℕ) (hex : List ℕ) (count : Hex) (after : List ℕ) : Type 0 where
   pub answer : count ≡ hexAnswer bytes bits hex
   pub digits : after ≡ hexAfter bytes bits hex
+  pub told : HexTold bytes bits hex (toldHex count)
 
 module _ (bytes : List ℕ) (bits : ℕ) where
   pub paddedBit-lt : Bits (paddedBit bytes bits)
@@ -104,6 +130,11 @@ module _ (bytes : List ℕ) (bits : ℕ) where
       ap (λ (i : ℕ). getD (hexOf bytes bits ++ drop (digitCount bits) hex) i 0) past
       ∙ getD-append-add (hexOf bytes bits) (drop (digitCount bits) hex) (k - digitCount bits) 0
       ∙ getD-drop (digitCount bits) hex (k - digitCount bits) 0 ∙ ap (λ (i : ℕ). getD hex i 0) back
+
+-- "lower case": the sixteen letters are `0123456789abcdef`.
+pub letters : listOf 16 digitOf ≡ 48 ∷ 49 ∷ 50 ∷ 51 ∷ 52 ∷ 53 ∷ 54 ∷ 55 ∷ 56 ∷ 57 ∷ 97 ∷ 98 ∷ 99 ∷ 100 ∷ 101 ∷ 102 ∷ []
+unfolding listOf
+letters = refl
 
 -- Two numbers below 16 have different letters.
 pub digitOf-one : (m n : ℕ) → m < 16 → n < 16 → digitOf m ≡ digitOf n → m ≡ n

@@ -7,4 +7,3 @@ pub mod Written
 pub mod Part
 pub mod HexDigits
 pub mod Steps
-pub mod Unique

@@ -1,14 +1,16 @@
 -- An item written into an image: which bit of the image afterwards comes from where. Document 01: "Bits run from the top of each byte,
 -- value bytes too." An item's bit j, counted from value bit `start`, is the image's bit `position` + j; every other bit stays.
-use mathlib.Core.Path.{_≡_, refl, sym, ap, _∙_}
+use mathlib.Core.Path.{_≡_, refl, sym, ap, subst, _∙_}
 use mathlib.Core.Bool.{Bool, true, false, _&&_, and-eq-true-iff}
 use mathlib.Core.List.{List}
 use Prim.Native.Nat.{ℕ, _+_, _-_, _*_, _≤_, _<_}
 use native.Mathlib.Decide.{decLt}
 use native.Mathlib.Omega.{arith}
 use lib.ListN.{length}
-use borrow.Author.Tests.{leb-true}
+use borrow.Author.Tests.{leb-true, leb-false}
 use Rattle.refusal.specs.Pick.{pick}
+use Rattle.refusal.specs.Told.{Told, gives, refuses, Nothing, nothing, toldVerdict}
+use Rattle.refusal.specs.declared.Place.the-variants.{One}
 use Rattle.refusal.specs.declared.Refusal.{Refusal}
 use Rattle.refusal.specs.declared.Refusal.the-variants.{Malformed}
 use Rattle.refusal.specs.declared.Verdict.{Verdict}
@@ -31,10 +33,30 @@ abbrev pub isWritten : List ℕ → ℕ → List ℕ → ℕ → ℕ → Bool
 isWritten image position values start size =
     endsWithin (length image) position size && endsWithin (length values) start size
 
--- A call: its answer, and the image afterwards, which a refusal leaves as it was.
+-- What is told of a call: an item that passes neither end is written; one that passes either is refused 4, place 0.
+pub data WriteTold (image : List ℕ) (position : ℕ) (values : List ℕ) (start size : ℕ) : Told Nothing → Type 0 where
+  both-within : position + size ≤ 8 * length image → start + size ≤ 8 * length values → WriteTold image position values start size (gives nothing)
+  past-image : 8 * length image < position + size → WriteTold image position values start size (refuses 4 (One 0))
+  past-values : 8 * length values < start + size → WriteTold image position values start size (refuses 4 (One 0))
+
+-- A call: its answer, and the image afterwards, which a refusal leaves as it was; and the answer's figures.
 pub record Writes (image : List ℕ) (position : ℕ) (values : List ℕ) (start size : ℕ) (verdict : Verdict) (after : List ℕ) : Type 0 where
   pub answer : verdict ≡ pick (isWritten image position values start size) Accepted (Refused (Malformed 0))
   pub bytes : after ≡ pick (isWritten image position values start size) (written image position values start size) image
+  pub told : WriteTold image position values start size (toldVerdict verdict)
+
+module _ (image : List ℕ) (position : ℕ) (values : List ℕ) (start size : ℕ) where
+  by-tests : (p v : Bool) → endsWithin (length image) position size ≡ p → endsWithin (length values) start size ≡ v
+      → WriteTold image position values start size (toldVerdict (pick (p && v) Accepted (Refused (Malformed 0))))
+  by-tests true true e f = both-within (leb-true (position + size) (8 * length image) e) (leb-true (start + size) (8 * length values) f)
+  by-tests true false e f = past-values (leb-false (start + size) (8 * length values) f)
+  by-tests false v e f = past-image (leb-false (position + size) (8 * length image) e)
+
+  pub write-told : {verdict : Verdict} → verdict ≡ pick (isWritten image position values start size) Accepted (Refused (Malformed 0))
+      → WriteTold image position values start size (toldVerdict verdict)
+  write-told e =
+      subst (λ (v : Verdict). WriteTold image position values start size (toldVerdict v)) (sym e)
+      (by-tests (endsWithin (length image) position size) (endsWithin (length values) start size) refl refl)
 
 module _ (image : List ℕ) (position : ℕ) (values : List ℕ) (start size : ℕ) where
   pub writtenBit-lt : Bits (writtenBit image position values start size)
@@ -62,7 +84,8 @@ module _ (image : List ℕ) (position : ℕ) (values : List ℕ) (start size : �
   writtenBit-outside k out = rw (covers-not position size k out)
 
   -- A written bit is the item's own: bit j of the item stands at `position` + j.
-  pub written-own : position + size ≤ 8 * length image → (j : ℕ) → j < size → bitAt (written image position values start size) (position + j) ≡ bitAt values (start + j)
+  pub written-own : position + size ≤ 8 * length image → (j : ℕ) → j < size → bitAt (written image position values start size) (position + j) ≡ bitAt values
+      (start + j)
   written-own fits j h =
       bitAt-written (position + j) (omega arith) ∙ writtenBit-inside (position + j) (omega arith) (omega arith)
       ∙ ap (λ (i : ℕ). bitAt values (start + i)) (omega arith)

@@ -18,7 +18,8 @@ ends-within-requires-2 c κs = search needs
 write-item-requires : tie.Need-write-item-requires
 write-item-requires c κs =
     let a = c .before .before .before .before .before .before .before .args in
-    let p = leb-true (a .position + a .size) (8 * length (a .image .now)) (sym (c .before .before .before .before .ends-within .ensures) ∙ c .before .before .before .if1 .taken) in
+    let p = leb-true (a .position + a .size) (8 * length (a .image .now)) (sym (c .before .before .before .before .ends-within .ensures)
+    ∙ c .before .before .before .if1 .taken) in
     let v = leb-true (a .start + a .size) (8 * length (a .values .now)) (sym (c .before .before .ends-within2 .ensures) ∙ c .before .if2 .taken) in
     (omega arith, omega arith, omega arith, omega arith)
 
@@ -31,7 +32,8 @@ returns c =
     let p : 8 * (a .position / 8) + a .position % 8 ≡ a .position = omega arith in
     let q : 8 * (a .start / 8) + a .start % 8 ≡ a .start = omega arith in
     accepted (a .image .now) (a .position) (a .values .now) (a .start) (a .size) (c .before .before .write-item .last .0)
-    (sym (c .before .before .before .before .before .before .before .ends-within .ensures) ∙ c .before .before .before .before .before .before .if1 .taken) (sym (c .before .before .before .before .before .ends-within2 .ensures) ∙ c .before .before .before .before .if2 .taken)
+    (sym (c .before .before .before .before .before .before .before .ends-within .ensures) ∙ c .before .before .before .before .before .before .if1 .taken)
+    (sym (c .before .before .before .before .before .ends-within2 .ensures) ∙ c .before .before .before .before .if2 .taken)
     (rw (p, q) at (c .before .before .write-item .ensures))
 
 returns-2 : tie.Need-returns-2

@@ -31,13 +31,15 @@ returns-2 c =
 write-pairs-requires : tie.Need-write-pairs-requires
 write-pairs-requires c κs =
     let a = c .before .before .before .before .before .before .args in
-    let h = leb-true (0 + a .bits) (8 * length (a .bytes .now)) (sym (c .before .before .before .ends-within .ensures) ∙ not-false _ (c .before .before .if1 .left)) in
+    let h = leb-true (0 + a .bits) (8 * length (a .bytes .now)) (sym (c .before .before .before .ends-within .ensures) ∙ not-false _
+    (c .before .before .if1 .left)) in
     (omega arith, omega arith)
 
 write-tail-requires : tie.Need-write-tail-requires
 write-tail-requires c κs =
     let a = c .before .before .before .before .before .before .before .before .before .before .args in
-    let h = leb-true (0 + a .bits) (8 * length (a .bytes .now)) (sym (c .before .before .before .before .before .before .before .ends-within .ensures) ∙ not-false _ (c .before .before .before .before .before .before .if1 .left)) in
+    let h = leb-true (0 + a .bits) (8 * length (a .bytes .now)) (sym (c .before .before .before .before .before .before .before .ends-within .ensures)
+    ∙ not-false _ (c .before .before .before .before .before .before .if1 .left)) in
     (omega arith, omega arith)
 
 same-length : tie.Need-same-length
@@ -47,7 +49,8 @@ returns-3 : tie.Need-returns-3
 returns-3 c =
     let a = c .before .before .before .before .before .before .before .before .before .before .before .before .before .args in
     all-printed (a .bytes .now) (a .bits) (a .hex .now) (a .bits / 4 + (a .bits % 4 + 3) / 4) (c .before .before .write-tail .last .1 .1 .0)
-    (sym (c .before .before .before .before .before .before .before .before .before .before .ends-within .ensures) ∙ not-false _ (c .before .before .before .before .before .before .before .before .before .if1 .left)) (omega arith) (omega arith)
+    (sym (c .before .before .before .before .before .before .before .before .before .before .ends-within .ensures) ∙ not-false _
+    (c .before .before .before .before .before .before .before .before .before .if1 .left)) (omega arith) (omega arith)
     (c .before .before .write-tail .ensures .digits (a .hex .now) (omega arith) (c .before .before .before .before .before .before .write-pairs .ensures))
 
 pub write-hex-spec : {M : Type 1} → statement M

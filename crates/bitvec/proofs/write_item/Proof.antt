@@ -42,7 +42,8 @@ same-length-2 c = search needs
 returns-2 : tie.Need-returns-2
 returns-2 c =
     let a = c .before .before .before .before .before .before .before .before .before .before .before .args in
-    two-runs (a .image .now) (c .before .before .before .before .before .before .put-bits2 .last .0) (c .before .before .write-from-edge .last .0) (8 * a .j + a .at) (a .values .now)
+    two-runs (a .image .now) (c .before .before .before .before .before .before .put-bits2 .last .0) (c .before .before .write-from-edge .last .0)
+    (8 * a .j + a .at) (a .values .now)
     (8 * a .k + a .s) (8 - a .at) (a .size - (8 - a .at)) (a .size) (8 * (a .j + 1))
     (8 * (a .k + (a .s + (8 - a .at)) / 8) + (a .s + (8 - a .at)) % 8) (c .before .before .before .before .before .before .put-bits2 .ensures)
     (c .before .before .write-from-edge .ensures) (omega arith) (omega arith) (omega arith)

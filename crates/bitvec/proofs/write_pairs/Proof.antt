@@ -11,7 +11,8 @@ use Rattle.bitvec.proofs.write_pairs.Statement.{statement}
 use Rattle.bitvec.proofs.write_pairs.Tie as tie
 
 abbrev Inv-loop : tie.InvT-loop
-Inv-loop bytes bits hex₀ count i₀ hex i = (i ≤ count) × (count ≡ bits / 8) × (length hex ≡ length hex₀) × (hex ≡ listOf (2 * i) (digitAt bytes bits) ++ drop (2 * i) hex₀)
+Inv-loop bytes bits hex₀ count i₀ hex i = (i ≤ count) × (count ≡ bits / 8) × (length hex ≡ length hex₀) × (hex ≡ listOf (2 * i) (digitAt bytes bits) ++ drop
+    (2 * i) hex₀)
 
 abbrev μ-loop : tie.MeasureT-loop
 μ-loop bytes bits hex₀ count i₀ hex i = count - i

@@ -15,7 +15,8 @@ use Rattle.bitvec.proofs.write_tail.Tie as tie
 -- the byte with zeros past the bit length
 padded : (c : tie.After-power)
     → c .before .wide .result - c .before .wide .result % c .power .result
-    ≡ printed (c .before .before .before .before .before .before .args .bytes .now) (c .before .before .before .before .before .before .args .bits) (c .before .before .before .before .before .before .args .bits / 8)
+    ≡ printed (c .before .before .before .before .before .before .args .bytes .now) (c .before .before .before .before .before .before .args .bits)
+    (c .before .before .before .before .before .before .args .bits / 8)
 padded c =
     let a = c .before .before .before .before .before .before .args in
     rw (c .before .wide .ensures .0)
