@@ -73,7 +73,14 @@ module _ (file kinds operands numbers states : List ℕ) (s : Shape) (e : formOf
         pub lists-states : length states < s .rows * s .nodes → Lists file kinds operands numbers states (Refused (Malformed 1)) kinds operands numbers states
         lists-states h =
             record {
-              verdict = rw (e, le-leb (s .nodes) (length kinds) hk, le-leb (s .nodes) (length operands) ho, le-leb (s .rows * s .nodes) (length numbers) hn, lt-leb (s .rows * s .nodes) (length states) h) refl;
+              verdict = rw (
+                e,
+                le-leb (s .nodes) (length kinds) hk,
+                le-leb (s .nodes) (length operands) ho,
+                le-leb (s .rows * s .nodes)
+                    (length numbers) hn,
+                lt-leb (s .rows * s .nodes) (length states) h,
+              ) refl;
               of-kinds = refl;
               of-operands = refl;
               of-numbers = refl;
@@ -93,16 +100,26 @@ module _ (file kinds operands numbers states : List ℕ) (s : Shape) (e : formOf
             ≡ column read 8 (nodesStart file + off) (nodeCount file) ++ drop (length (column read 8 (nodesStart file + off) (nodeCount file))) l =
             λ read off l.
             ap₂ (λ (a n : ℕ). paste l 0 (column read 8 (a + off) n) n) (p .start) (p .nodes)
-            ∙ paste-front l (column read 8 (nodesStart file + off) (nodeCount file)) (nodeCount file) (column-length read 8 (nodesStart file + off) (nodeCount file)) in
+            ∙ paste-front l (column read 8 (nodesStart file + off) (nodeCount file)) (nodeCount file) (column-length read 8 (nodesStart file + off)
+            (nodeCount file)) in
             let rest : (read : ℕ → ℕ) (off : ℕ) (l : List ℕ)
             → cells read (s .nodes) (s .banks * 26 + s .nodes * 8 + off) (s .rows) ++ drop (s .rows * s .nodes) l
-            ≡ cells read (nodeCount file) (rowsStart file + off) (rowCount file) ++ drop (length (cells read (nodeCount file) (rowsStart file + off) (rowCount file))) l =
+            ≡ cells read (nodeCount file) (rowsStart file + off) (rowCount file) ++ drop (length (cells read (nodeCount file) (rowsStart file + off)
+            (rowCount file))) l =
             λ read off l.
             ap (λ (a : ℕ). cells read (s .nodes) (a + off) (s .rows) ++ drop (s .rows * s .nodes) l) (p .behind)
             ∙ ap₂ (λ (n r : ℕ). cells read n (rowsStart file + off) r ++ drop (r * n) l) (p .nodes) (p .rows)
-            ∙ ap (λ (k : ℕ). cells read (nodeCount file) (rowsStart file + off) (rowCount file) ++ drop k l) (sym (cells-length read (nodeCount file) (rowsStart file + off) (rowCount file))) in
+            ∙ ap (λ (k : ℕ). cells read (nodeCount file) (rowsStart file + off) (rowCount file) ++ drop k l) (sym (cells-length read (nodeCount file)
+            (rowsStart file + off) (rowCount file))) in
             record {
-              verdict = rw (e, le-leb (s .nodes) (length kinds) hk, le-leb (s .nodes) (length operands) ho, le-leb (s .rows * s .nodes) (length numbers) hn, le-leb (s .rows * s .nodes) (length states) hs) refl;
+              verdict = rw (
+                e,
+                le-leb (s .nodes) (length kinds) hk,
+                le-leb (s .nodes) (length operands) ho,
+                le-leb (s .rows * s .nodes)
+                    (length numbers) hn,
+                le-leb (s .rows * s .nodes) (length states) hs,
+              ) refl;
               of-kinds = pk ∙ front (byte file) 3 kinds;
               of-operands = po ∙ front (word32 file) 4 operands;
               of-numbers = pn ∙ rest (word32 file) 3 numbers;

@@ -33,7 +33,8 @@ module _ {file : List ℕ} where
     has-right a b k e h =
         record {
           rest = h .rest;
-          is = ap (λ (n : ℕ). drop n file) e ∙ sym (drop-drop (length a) at file) ∙ ap (drop (length a)) (h .is ∙ append-assoc a b (h .rest)) ∙ drop-append-seam a (b ++ h .rest);
+          is = ap (λ (n : ℕ). drop n file) e ∙ sym (drop-drop (length a) at file) ∙ ap (drop (length a)) (h .is ∙ append-assoc a b (h .rest))
+              ∙ drop-append-seam a (b ++ h .rest);
         }
 
     pub has-byte : (x : ℕ) (l : List ℕ) → Has file at (x ∷ l) → byte file at ≡ x

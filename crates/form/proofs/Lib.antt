@@ -10,3 +10,4 @@ pub mod Sections
 pub mod Tests
 pub mod Within
 pub mod Written
+pub mod Unique

@@ -52,7 +52,8 @@ module _ (b : Bankdef) where
   flags-le = omega (arith, present-le (b .size), present-le (b .offset), present-le (b .align), filled-le (b .fill))
 
   -- each flag by itself
-  flags-are : (flagsOf b / 1 % 2 ≡ present (b .size)) × (flagsOf b / 2 % 2 ≡ present (b .offset)) × (flagsOf b / 4 % 2 ≡ present (b .align)) × (flagsOf b / 8 % 2 ≡ filled (b .fill))
+  flags-are : (flagsOf b / 1 % 2 ≡ present (b .size)) × (flagsOf b / 2 % 2 ≡ present (b .offset)) × (flagsOf b / 4 % 2 ≡ present (b .align)) ×
+      (flagsOf b / 8 % 2 ≡ filled (b .fill))
   unfolding flagsOf
   flags-are =
       let s = present-le (b .size) in
@@ -92,10 +93,14 @@ module _ (file : List ℕ) (b : Bankdef) (at : ℕ) (h : Has file at (bankField 
       let from-offset = has-right size (offset ++ (align ++ flags)) (at + 17) (omega arith) from-size in
       let from-align = has-right offset (align ++ flags) (at + 21) (omega arith) from-offset in
       let bits = flags-are b in
-      let start-is = ap (toZ w64) (has-word64 (at + 5) (ofZ w64 (b .start)) (has-left start (size ++ (offset ++ (align ++ flags))) from-start)) ∙ toZ-ofZ w64 (b .start) fits in
-      let size-is = ap₂ (λ (f n : ℕ). optOf f 1 n) flags-at (has-word32 (at + 13) (numberIn (b .size)) (has-left size (offset ++ (align ++ flags)) from-size)) ∙ opt-back (b .size) (flagsOf b) 1 (bits .0) in
-      let offset-is = ap₂ (λ (f n : ℕ). optOf f 2 n) flags-at (has-word32 (at + 17) (numberIn (b .offset)) (has-left offset (align ++ flags) from-offset)) ∙ opt-back (b .offset) (flagsOf b) 2 (bits .1) in
-      let align-is = ap₂ (λ (f n : ℕ). optOf f 4 n) flags-at (has-word32 (at + 21) (numberIn (b .align)) (has-left align flags from-align)) ∙ opt-back (b .align) (flagsOf b) 4 (bits .2) in
+      let start-is = ap (toZ w64) (has-word64 (at + 5) (ofZ w64 (b .start)) (has-left start (size ++ (offset ++ (align ++ flags))) from-start)) ∙ toZ-ofZ w64
+      (b .start) fits in
+      let size-is = ap₂ (λ (f n : ℕ). optOf f 1 n) flags-at (has-word32 (at + 13) (numberIn (b .size)) (has-left size (offset ++ (align ++ flags)) from-size))
+      ∙ opt-back (b .size) (flagsOf b) 1 (bits .0) in
+      let offset-is = ap₂ (λ (f n : ℕ). optOf f 2 n) flags-at (has-word32 (at + 17) (numberIn (b .offset)) (has-left offset (align ++ flags) from-offset))
+      ∙ opt-back (b .offset) (flagsOf b) 2 (bits .1) in
+      let align-is = ap₂ (λ (f n : ℕ). optOf f 4 n) flags-at (has-word32 (at + 21) (numberIn (b .align)) (has-left align flags from-align)) ∙ opt-back
+      (b .align) (flagsOf b) 4 (bits .2) in
       let fill-is = ap (λ (f : ℕ). isSet f 8) flags-at ∙ fill-back (b .fill) (flagsOf b / 8 % 2) (bits .3) in
       let unit-is = has-word16 (at + 3) (b .unit) (has-left unit (start ++ (size ++ (offset ++ (align ++ flags)))) payload) in
       λ i. record { unit = unit-is i; start = start-is i; size = size-is i; offset = offset-is i; align = align-is i; fill = fill-is i }
@@ -161,8 +166,10 @@ module _ (file : List ℕ) (nodes : ℕ) where
   cells-of read off what reads (row ∷ rows) e at h =
       let step = 3 + 5 * nodes in
       let next : at + 3 + off + step ≡ at + step + 3 + off = omega arith in
-      let tail = cells-of read off what reads rows (e .1) (at + step) (has-right (rowField row) (flat rowField rows) (at + step) (ap (λ (n : ℕ). at + n) (sym (row-long row (e .0)))) h) in
-      let here = column-of file cellBytes Any 5 cell-length read off what reads row (each-any row) (at + 3) (field-payload 3 (flat cellBytes row) (has-left (rowField row) (flat rowField rows) h)) in
+      let tail = cells-of read off what reads rows (e .1) (at + step) (has-right (rowField row) (flat rowField rows) (at + step) (ap (λ (n : ℕ). at + n) (sym
+      (row-long row (e .0)))) h) in
+      let here = column-of file cellBytes Any 5 cell-length read off what reads row (each-any row) (at + 3) (field-payload 3 (flat cellBytes row) (has-left
+      (rowField row) (flat rowField rows) h)) in
       ap₂ _++_
       (ap (λ (n : ℕ). column read 5 (at + 3 + off) n) (sym (e .0)) ∙ here)
       (ap (λ (k : ℕ). cells read nodes k (length rows)) next ∙ tail)

@@ -43,7 +43,8 @@ module _ (file : List ℕ) (l : Layout) (rest : List ℕ) (begins : Begins file 
   values-field = has-left (field 4 (l .values)) rest (from-values file l (field 4 (l .values) ++ rest) begins)
 
   pub from-limit : Has file limitAt rest
-  from-limit = has-right (field 4 (l .values)) rest limitAt (omega (arith, field-length 4 (l .values))) (from-values file l (field 4 (l .values) ++ rest) begins)
+  from-limit = has-right (field 4 (l .values)) rest limitAt (omega (arith, field-length 4 (l .values))) (from-values file l (field 4
+      (l .values) ++ rest) begins)
 
   pub stops : Stops file (l .nodes) (l .rows) (valuesAt l)
   stops = stops-values file l values-field
@@ -148,15 +149,18 @@ module _ (l : Layout) (ok : Writable l) where
       → column read 8 (nodesStart file + off) (nodeCount file) ≡ map what (l .nodes)
   nodes-back read off what reads =
       ap₂ (λ (a n : ℕ). column read 8 (a + off) n) (nodes-start file l rest begins halts) (nodes-are file l rest begins halts)
-      ∙ column-of file nodeField Any 8 node-long read off what reads (l .nodes) (each-any (l .nodes)) (nodesAt l) (has-left (flat nodeField (l .nodes)) _ (from-nodes file l rest begins))
+      ∙ column-of file nodeField Any 8 node-long read off what reads (l .nodes) (each-any (l .nodes)) (nodesAt l) (has-left (flat nodeField (l .nodes)) _
+      (from-nodes file l rest begins))
 
-  rows-back : (read : ℕ → ℕ) (at off : ℕ) (what : Cell → ℕ) → at ≡ 3 + off → ((c : Cell) → Any c → (at : ℕ) → Has file at (cellBytes c) → read (at + off) ≡ what c)
+  rows-back : (read : ℕ → ℕ) (at off : ℕ) (what : Cell → ℕ) → at ≡ 3 + off → ((c : Cell) → Any c → (at : ℕ) → Has file at (cellBytes c) → read (at + off)
+      ≡ what c)
       → cells read (nodeCount file) (rowsStart file + at) (rowCount file) ≡ flat (map what) (l .rows)
   rows-back read at off what e reads =
       let place : rowsStart file + at ≡ rowsAt l + 3 + off = omega (arith, rows-start file l rest begins halts) in
       ap (λ (a : ℕ). cells read (nodeCount file) a (rowCount file)) place
       ∙ ap₂ (λ (n r : ℕ). cells read n (rowsAt l + 3 + off) r) (nodes-are file l rest begins halts) (rows-are file l rest begins halts)
-      ∙ cells-of file (length (l .nodes)) read off what reads (l .rows) (ok .full) (rowsAt l) (has-left (flat rowField (l .rows)) _ (from-rows file l rest begins))
+      ∙ cells-of file (length (l .nodes)) read off what reads (l .rows) (ok .full) (rowsAt l) (has-left (flat rowField (l .rows)) _
+      (from-rows file l rest begins))
 
   values-back : take (length (l .values)) (drop (valuesAt l + 3) file) ≡ l .values
   values-back =

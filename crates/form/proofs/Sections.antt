@@ -41,8 +41,10 @@ module _ (file : List ℕ) (rest : List ℕ) where
       → Has file at (flat nodeField nodes ++ (flat rowField rows ++ rest)) → Stops file nodes rows end → run file 1 23 at ≡ 0
   no-bank-at [] [] at end e h stops = run-stop file 1 23 at (ap (soundAt file 1 23) (sym (e refl refl)) ∙ stops .no-bank refl refl)
   no-bank-at [] (row ∷ rows) at end e h stops =
-      no-run file 1 23 at (flat rowField (row ∷ rows) ++ rest) (rows-above row rows rest 1 (omega arith)) (rw (flat-none nodeField (flat rowField (row ∷ rows) ++ rest)) at h)
-  no-bank-at (n ∷ nodes) rows at end e h stops = no-run file 1 23 at (flat nodeField (n ∷ nodes) ++ (flat rowField rows ++ rest)) (nodes-above n nodes (flat rowField rows ++ rest)) h
+      no-run file 1 23 at (flat rowField (row ∷ rows) ++ rest) (rows-above row rows rest 1 (omega arith)) (rw (flat-none nodeField (flat rowField
+      (row ∷ rows) ++ rest)) at h)
+  no-bank-at (n ∷ nodes) rows at end e h stops = no-run file 1 23 at (flat nodeField (n ∷ nodes) ++ (flat rowField rows ++ rest)) (nodes-above n nodes
+      (flat rowField rows ++ rest)) h
 
   -- no node behind the nodes
   no-node-at : (nodes : List Node) (rows : List (List Cell)) (at end : ℕ) → (rows ≡ [] → end ≡ at)
@@ -82,7 +84,8 @@ module _ (file : List ℕ) (l : Layout) (rest : List ℕ) (begins : Begins file 
 
   pub from-values : Has file (valuesAt l) rest
   from-values =
-      flat-skip file rowField (Full (length (l .nodes))) (3 + 5 * length (l .nodes)) (row-long file (length (l .nodes))) (l .rows) (begins .full) (rowsAt l) (valuesAt l) _ refl from-rows
+      flat-skip file rowField (Full (length (l .nodes))) (3 + 5 * length (l .nodes)) (row-long file (length (l .nodes))) (l .rows) (begins .full) (rowsAt l)
+      (valuesAt l) _ refl from-rows
 
   no-rows : l .rows ≡ [] → length (l .rows) * (3 + 5 * length (l .nodes)) ≡ 0
   no-rows e = ap (λ (r : List (List Cell)). length r * (3 + 5 * length (l .nodes))) e ∙ omega arith
@@ -93,7 +96,8 @@ module _ (file : List ℕ) (l : Layout) (rest : List ℕ) (begins : Begins file 
     pub banks-are : bankCount file ≡ length (l .banks)
     unfolding bankCount
     banks-are =
-        let whole = run-of file bankField StartFits 26 bank-long 1 23 refl (λ b e at h. bank-sound file b at h) (l .banks) (begins .starts) 0 (has-left (flat bankField (l .banks)) _ from-banks) in
+        let whole = run-of file bankField StartFits 26 bank-long 1 23 refl (λ b e at h. bank-sound file b at h) (l .banks) (begins .starts) 0 (has-left
+        (flat bankField (l .banks)) _ from-banks) in
         let next : 0 + length (l .banks) * 26 ≡ nodesAt l = omega arith in
         let none =
         no-bank-at file rest (l .nodes) (l .rows) (nodesAt l) (valuesAt l)
@@ -107,7 +111,8 @@ module _ (file : List ℕ) (l : Layout) (rest : List ℕ) (begins : Begins file 
     pub nodes-are : nodeCount file ≡ length (l .nodes)
     unfolding nodeCount
     nodes-are =
-        let whole = run-of file nodeField Any 8 node-long 2 5 refl (λ n e at h. node-sound file n at h) (l .nodes) (each-any (l .nodes)) (nodesAt l) (has-left (flat nodeField (l .nodes)) _ from-nodes) in
+        let whole = run-of file nodeField Any 8 node-long 2 5 refl (λ n e at h. node-sound file n at h) (l .nodes) (each-any (l .nodes)) (nodesAt l) (has-left
+        (flat nodeField (l .nodes)) _ from-nodes) in
         let none = no-node-at file rest (l .nodes) (l .rows) (rowsAt l) (valuesAt l) (λ e. omega (arith, no-rows e)) from-rows stops in
         omega (arith, ap (run file 2 5) nodes-start, whole, none)
 
@@ -119,7 +124,8 @@ module _ (file : List ℕ) (l : Layout) (rest : List ℕ) (begins : Begins file 
     unfolding rowCount
     rows-are =
         let n = length (l .nodes) in
-        let whole = run-of file rowField (Full n) (3 + 5 * n) (row-long file n) 3 (5 * n) refl (row-sound file n) (l .rows) (begins .full) (rowsAt l) (has-left (flat rowField (l .rows)) _ from-rows) in
+        let whole = run-of file rowField (Full n) (3 + 5 * n) (row-long file n) 3 (5 * n) refl (row-sound file n) (l .rows) (begins .full) (rowsAt l)
+        (has-left (flat rowField (l .rows)) _ from-rows) in
         let none = run-stop file 3 (5 * n) (valuesAt l) (stops .no-row) in
         ap₂ (λ (m a : ℕ). run file 3 (5 * m) a) nodes-are rows-start ∙ omega (arith, whole, none)
 

@@ -46,7 +46,8 @@ module _ {X : Type 0} (file : List ℕ) (write : X → List ℕ) (P : X → Type
   column-of read off what reads [] e at h = refl
   column-of read off what reads (x ∷ xs) e at h =
       let next : at + off + step ≡ at + step + off = omega arith in
-      let tail = column-of read off what reads xs (e .1) (at + step) (has-right (write x) (flat write xs) (at + step) (ap (λ (n : ℕ). at + n) (sym (long x (e .0)))) h) in
+      let tail = column-of read off what reads xs (e .1) (at + step) (has-right (write x) (flat write xs) (at + step) (ap (λ (n : ℕ). at + n) (sym (long x
+      (e .0)))) h) in
       ap₂ _∷_
       (reads x (e .0) at (has-left (write x) (flat write xs) h))
       (ap (λ (k : ℕ). column read step k (length xs)) next ∙ tail)
@@ -57,7 +58,8 @@ module _ {X : Type 0} (file : List ℕ) (write : X → List ℕ) (P : X → Type
   unfolding flat
   run-of tag len q sound [] e at h = ap (run file tag len) {x = at} {y = at + 0 * step} (omega arith) ∙ omega arith
   run-of tag len q sound (x ∷ xs) e at h =
-      let tail = run-of tag len q sound xs (e .1) (at + step) (has-right (write x) (flat write xs) (at + step) (ap (λ (n : ℕ). at + n) (sym (long x (e .0)))) h) in
+      let tail = run-of tag len q sound xs (e .1) (at + step) (has-right (write x) (flat write xs) (at + step) (ap (λ (n : ℕ). at + n) (sym (long x
+      (e .0)))) h) in
       let here = run-more file tag len at (sound x (e .0) at (has-left (write x) (flat write xs) h)) in
       let next : at + (3 + len) ≡ at + step = omega arith in
       let last : at + step + length xs * step ≡ at + suc (length xs) * step = omega arith in

@@ -56,7 +56,8 @@ example-is = refl
 
 -- It is sound, with two banks, five nodes and one row; the four value bytes start at byte 123, and the limit is 10.
 pub example-sound : formOf exampleFile ≡ Sound (record { banks = 2; nodes = 5; rows = 1; values = 123; size = 4; limit = 10 })
-unfolding exampleFile formOf shapeIn bankCount nodesStart nodeCount rowsStart rowCount valuesStart valuesSize limitStart fieldsBefore run runIn soundAt fieldAt word16
+unfolding exampleFile formOf shapeIn bankCount nodesStart nodeCount rowsStart rowCount valuesStart valuesSize limitStart fieldsBefore run runIn soundAt
+    fieldAt word16
 example-sound = refl
 
 -- Broken files, each with the index of the first field at fault: an empty one; one cut in its first header; flags 16; an unknown tag; a
@@ -71,5 +72,6 @@ pub example-broken :
     × (formOf (take 120 exampleFile) ≡ Broken (Malformed 8))
     × (formOf (take 127 exampleFile) ≡ Broken (Malformed 9))
     × (formOf (exampleFile ++ (0 ∷ [])) ≡ Broken (Malformed 10))
-unfolding exampleFile formOf shapeIn bankCount nodesStart nodeCount rowsStart rowCount valuesStart valuesSize limitStart fieldsBefore run runIn soundAt fieldAt word16
+unfolding exampleFile formOf shapeIn bankCount nodesStart nodeCount rowsStart rowCount valuesStart valuesSize limitStart fieldsBefore run runIn soundAt
+    fieldAt word16
 example-broken = (refl, refl, refl, refl, refl, refl, refl, refl, refl)

@@ -38,7 +38,8 @@ run file tag len at = runIn (length file) file tag len at
 pub field-ends : (file : List ℕ) (tag len at : ℕ) → fieldAt file tag len at ≡ true → at + 3 + len ≤ length file
 unfolding fieldAt
 field-ends file tag len at h =
-    leb-true (at + 3 + len) (length file) (and-eq-true-iff (leb (at + 3 + len) (length file)) (eqb (byte file at) tag) .0 (and-eq-true-iff (leb (at + 3 + len) (length file) && eqb (byte file at) tag) (eqb (word16 file (at + 1)) len) .0 h .0) .0)
+    leb-true (at + 3 + len) (length file) (and-eq-true-iff (leb (at + 3 + len) (length file)) (eqb (byte file at) tag) .0 (and-eq-true-iff (leb (at + 3 + len)
+    (length file) && eqb (byte file at) tag) (eqb (word16 file (at + 1)) len) .0 h .0) .0)
 
 -- It has its tag.
 pub field-tag : (file : List ℕ) (tag len at : ℕ) → fieldAt file tag len at ≡ true → byte file at ≡ tag

@@ -4,6 +4,6 @@ pub mod Example
 pub mod Fields
 pub mod Lists
 pub mod Shape
-pub mod Unique
+pub mod Told
 pub mod Words
 pub mod Writer

@@ -327,7 +327,8 @@ fn fill_lists(
     states: &mut [u8],
 ) -> Verdict
     requires { ⌜ formOf (now file) ≡ Form.Sound shape ⌝ }
-    ensures { λ r. ⌜ Lists (now (file .entry)) (now (kinds .entry)) (now (operands .entry)) (now (numbers .entry)) (now (states .entry)) r (now (kinds .exit)) (now (operands .exit)) (now (numbers .exit)) (now (states .exit)) ⌝ }
+    ensures { λ r. ⌜ Lists (now (file .entry)) (now (kinds .entry)) (now (operands .entry)) (now (numbers .entry)) (now (states .entry)) r
+        (now (kinds .exit)) (now (operands .exit)) (now (numbers .exit)) (now (states .exit)) ⌝ }
 {
     let nodes = shape.nodes as usize;
     let rows = shape.rows as usize;
@@ -358,7 +359,8 @@ pub fn read_lists(
     numbers: &mut [u32],
     states: &mut [u8],
 ) -> Verdict
-    ensures { λ r. ⌜ Lists (now (file .entry)) (now (kinds .entry)) (now (operands .entry)) (now (numbers .entry)) (now (states .entry)) r (now (kinds .exit)) (now (operands .exit)) (now (numbers .exit)) (now (states .exit)) ⌝ }
+    ensures { λ r. ⌜ Lists (now (file .entry)) (now (kinds .entry)) (now (operands .entry)) (now (numbers .entry)) (now (states .entry)) r
+        (now (kinds .exit)) (now (operands .exit)) (now (numbers .exit)) (now (states .exit)) ⌝ }
 {
     match read_shape(file) {
         Form::Sound(shape) => fill_lists(file, shape, kinds, operands, numbers, states),

@@ -16,10 +16,12 @@ Inv-loop file tag len at end₀ count₀ end count =
 abbrev μ-loop : tie.MeasureT-loop
 μ-loop file tag len at end₀ count₀ end count = length file - end
 
-there : (c : tie.Then1 Inv-loop μ-loop) → soundAt (c .before .before .before .before .args .file .now) (c .before .before .before .before .args .tag) (c .before .before .before .before .args .len) (c .before .before .loop .end) ≡ true
+there : (c : tie.Then1 Inv-loop μ-loop) → soundAt (c .before .before .before .before .args .file .now) (c .before .before .before .before .args .tag)
+    (c .before .before .before .before .args .len) (c .before .before .loop .end) ≡ true
 there c = sym (c .before .is-sound .ensures) ∙ c .if1 .taken
 
-room : (c : tie.Then1 Inv-loop μ-loop) → c .before .before .loop .end + 3 + c .before .before .before .before .args .len ≤ length (c .before .before .before .before .args .file .now)
+room : (c : tie.Then1 Inv-loop μ-loop) → c .before .before .loop .end + 3 + c .before .before .before .before .args .len ≤ length
+    (c .before .before .before .before .args .file .now)
 room c = sound-ends _ _ _ _ (there c)
 
 loop-holds : tie.Need-loop-holds Inv-loop μ-loop

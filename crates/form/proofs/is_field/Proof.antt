@@ -12,7 +12,8 @@ use Rattle.form.specs.Fields.{fieldAt}
 use Rattle.form.proofs.is_field.Statement.{statement}
 use Rattle.form.proofs.is_field.Tie as tie
 
-whole : (c : tie.Else1) → leb (c .before .before .before .args .at + 3 + c .before .before .before .args .len) (length (c .before .before .before .args .file .now)) ≡ true
+whole : (c : tie.Else1) → leb (c .before .before .before .args .at + 3 + c .before .before .before .args .len) (length
+    (c .before .before .before .args .file .now)) ≡ true
 whole c = sym (c .before .is-whole .ensures) ∙ not-false _ (c .if1 .left)
 
 room : (c : tie.Else1) → c .before .before .before .args .at + 3 + c .before .before .before .args .len ≤ length (c .before .before .before .args .file .now)
@@ -24,7 +25,8 @@ is-whole-requires c κs = search needs
 returns : tie.Need-returns
 unfolding fieldAt
 returns c =
-    let short : leb (c .before .before .before .args .at + 3 + c .before .before .before .args .len) (length (c .before .before .before .args .file .now)) ≡ false = sym (c .before .is-whole .ensures) ∙ not-true _ (c .if1 .taken) in
+    let short : leb (c .before .before .before .args .at + 3 + c .before .before .before .args .len) (length (c .before .before .before .args .file .now))
+    ≡ false = sym (c .before .is-whole .ensures) ∙ not-true _ (c .if1 .taken) in
     rw short refl
 
 shared-slice-read-if2 : tie.Need-shared-slice-read-if2
@@ -32,7 +34,11 @@ shared-slice-read-if2 c = omega (arith, room (c .before))
 
 returns-2 : tie.Need-returns-2
 unfolding fieldAt
-returns-2 c = rw (whole (c .before .before), ne-eqb (byte (c .before .before .before .before .before .args .file .now) (c .before .before .before .before .before .args .at)) (c .before .before .before .before .before .args .tag) (c .if2 .taken)) refl
+returns-2 c = rw (
+  whole (c .before .before),
+  ne-eqb (byte (c .before .before .before .before .before .args .file .now)
+      (c .before .before .before .before .before .args .at)) (c .before .before .before .before .before .args .tag) (c .if2 .taken),
+) refl
 
 add-read16 : tie.Need-add-read16
 add-read16 c = omega (arith, room (c .before .before))
@@ -45,7 +51,13 @@ cast-result c = search needs
 
 returns-3 : tie.Need-returns-3
 unfolding fieldAt
-returns-3 c = rw (whole (c .before .before .before), eq-eqb (byte (c .before .before .before .before .before .before .args .file .now) (c .before .before .before .before .before .before .args .at)) (c .before .before .before .before .before .before .args .tag) (c .before .if2 .left), ← c .read16 .ensures) refl
+returns-3 c = rw (
+  whole (c .before .before .before),
+  eq-eqb (byte (c .before .before .before .before .before .before .args .file .now)
+      (c .before .before .before .before .before .before .args .at)) (c .before .before .before .before .before .before .args .tag)
+      (c .before .if2 .left),
+  ← c .read16 .ensures,
+) refl
 
 pub is-field-spec : {M : Type 1} → statement M
 is-field-spec =

@@ -24,7 +24,8 @@ abbrev μ-loop : tie.MeasureT-loop
 μ-loop file word-at byte-at step count from words₀ bytes₀ i₀ words bytes i = count - i
 
 -- the next thing ends where the last of them ends, or before
-behind : (c : tie.In-loop Inv-loop μ-loop) → (c .before .loop .i + 1) * c .before .before .before .before .before .args .step ≤ c .before .before .before .before .before .args .count * c .before .before .before .before .before .args .step
+behind : (c : tie.In-loop Inv-loop μ-loop) → (c .before .loop .i + 1) * c .before .before .before .before .before .args .step ≤
+    c .before .before .before .before .before .args .count * c .before .before .before .before .before .args .step
 behind c = mul-le-mul-right (c .before .before .before .before .before .args .step) (omega arith)
 
 loop-holds : tie.Need-loop-holds Inv-loop μ-loop
@@ -77,7 +78,8 @@ loop-again c =
       omega arith,
       simp length-set (k .1),
       simp length-set (k .2),
-      rw (k .3, c .before .read32 .ensures) (column-turn (word32 file) (a .step) 0 (a .words .now) (a .from) (a .word-at) (a .count) i (omega arith) (omega arith)),
+      rw (k .3, c .before .read32 .ensures) (column-turn (word32 file) (a .step) 0 (a .words .now) (a .from) (a .word-at) (a .count) i (omega arith)
+          (omega arith)),
       rw (k .4) (column-turn (byte file) (a .step) 0 (a .bytes .now) (a .from) (a .byte-at) (a .count) i (omega arith) (omega arith)),
     )
 

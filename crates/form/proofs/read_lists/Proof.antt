@@ -11,7 +11,8 @@ enum-known-shape : tie.Need-enum-known-shape
 enum-known-shape c = search needs
 
 fill-lists-requires : tie.Need-fill-lists-requires
-fill-lists-requires c κs = sym (c .before .before .before .before .before .before .before .read-shape .ensures) ∙ c .before .before .before .before .before .shape .given .1
+fill-lists-requires c κs = sym (c .before .before .before .before .before .before .before .read-shape .ensures)
+    ∙ c .before .before .before .before .before .shape .given .1
 
 enum-known-r : tie.Need-enum-known-r
 enum-known-r c = search needs
@@ -33,7 +34,13 @@ returns c = search needs
 
 returns-2 : tie.Need-returns-2
 returns-2 c =
-    record { verdict = rw (sym (c .before .before .before .read-shape .ensures) ∙ c .before .r .given .1) refl; of-kinds = refl; of-operands = refl; of-numbers = refl; of-states = refl }
+    record {
+      verdict = rw (sym (c .before .before .before .read-shape .ensures) ∙ c .before .r .given .1) refl;
+      of-kinds = refl;
+      of-operands = refl;
+      of-numbers = refl;
+      of-states = refl;
+    }
 
 pub read-lists-spec : {M : Type 1} → statement M
 read-lists-spec =

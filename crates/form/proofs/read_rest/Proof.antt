@@ -16,17 +16,22 @@ use Rattle.form.proofs.read_rest.Statement.{statement}
 use Rattle.form.proofs.read_rest.Tie as tie
 
 -- the values field is there
-values : (c : tie.Else2) → fieldAt (c .before .before .before .before .before .args .file .now) 4 (valuesSize (c .before .before .before .before .before .args .file .now)) (valuesStart (c .before .before .before .before .before .args .file .now)) ≡ true
-values c = sym (values-is _ _ _ (c .before .before .before .before .before .pre .behind) (c .before .before .read16 .ensures)) ∙ sym (c .before .is-field .ensures) ∙ not-false _ (c .if2 .left)
+values : (c : tie.Else2) → fieldAt (c .before .before .before .before .before .args .file .now) 4 (valuesSize
+    (c .before .before .before .before .before .args .file .now)) (valuesStart (c .before .before .before .before .before .args .file .now)) ≡ true
+values c = sym (values-is _ _ _ (c .before .before .before .before .before .pre .behind) (c .before .before .read16 .ensures)) ∙ sym
+    (c .before .is-field .ensures) ∙ not-false _ (c .if2 .left)
 
 -- and the limit
-limit : (c : tie.Else3) → c .before .before .before .before .before .before .before .args .at + 3 + c .before .before .before .before .read16 .result ≡ limitStart (c .before .before .before .before .before .before .before .args .file .now)
+limit : (c : tie.Else3) → c .before .before .before .before .before .before .before .args .at + 3 + c .before .before .before .before .read16 .result
+    ≡ limitStart (c .before .before .before .before .before .before .before .args .file .now)
 limit c = limit-is _ _ _ (c .before .before .before .before .before .before .before .pre .behind) (c .before .before .before .before .read16 .ensures)
 
-limited : (c : tie.Else3) → fieldAt (c .before .before .before .before .before .before .before .args .file .now) 5 1 (limitStart (c .before .before .before .before .before .before .before .args .file .now)) ≡ true
+limited : (c : tie.Else3) → fieldAt (c .before .before .before .before .before .before .before .args .file .now) 5 1 (limitStart
+    (c .before .before .before .before .before .before .before .args .file .now)) ≡ true
 limited c = ap (fieldAt _ 5 1) (sym (limit c)) ∙ sym (c .before .is-field2 .ensures) ∙ not-false _ (c .if3 .left)
 
-room : (c : tie.Else3) → limitStart (c .before .before .before .before .before .before .before .args .file .now) + 3 + 1 ≤ length (c .before .before .before .before .before .before .before .args .file .now)
+room : (c : tie.Else3) → limitStart (c .before .before .before .before .before .before .before .args .file .now) + 3 + 1 ≤ length
+    (c .before .before .before .before .before .before .before .args .file .now)
 room c = field-ends _ 5 1 _ (limited c)
 
 add-field : tie.Need-add-field
@@ -82,7 +87,8 @@ returns-3 c =
     let file = c .before .before .before .before .before .before .before .args .file .now in
     let k = c .before .before .before .before .before .before .before .pre in
     let none : fieldAt file 5 1 (limitStart file) ≡ false =
-    ap (fieldAt file 5 1) (sym (limit-is _ _ _ (k .behind) (c .before .before .before .before .read16 .ensures))) ∙ sym (c .before .is-field2 .ensures) ∙ not-true _ (c .if3 .taken) in
+    ap (fieldAt file 5 1) (sym (limit-is _ _ _ (k .behind) (c .before .before .before .before .read16 .ensures))) ∙ sym (c .before .is-field2 .ensures)
+    ∙ not-true _ (c .if3 .taken) in
     ap (λ (n : ℕ). Broken (Malformed (n + 1))) (before-is k) ∙ sym (form-limit file (k .short) (values (c .before .before)) none)
 
 add-if4 : tie.Need-add-if4
@@ -112,7 +118,8 @@ returns-5 c =
     let file = c .before .before .before .before .before .before .before .before .before .args .file .now in
     let k = c .before .before .before .before .before .before .before .before .before .pre in
     let end : length file ≤ limitStart file + 4 = omega (arith, limit (c .before .before)) in
-    shape-is (c .before .before .before .before .before .before .read16 .result) k (c .before .before .before .before .before .before .read16 .ensures) ∙ sym (form-sound file (k .short) (values (c .before .before .before .before)) (limited (c .before .before)) end)
+    shape-is (c .before .before .before .before .before .before .read16 .result) k (c .before .before .before .before .before .before .read16 .ensures) ∙ sym
+    (form-sound file (k .short) (values (c .before .before .before .before)) (limited (c .before .before)) end)
 
 pub read-rest-spec : {M : Type 1} → statement M
 read-rest-spec =

@@ -23,7 +23,8 @@ abbrev μ-loop : tie.MeasureT-loop
 μ-loop file at nodes rows numbers₀ states₀ r₀ numbers states r = rows - r
 
 -- the next row ends where the last of them ends, or before
-behind : (c : tie.In-loop Inv-loop μ-loop) → (c .before .loop .r + 1) * (3 + 5 * c .before .before .before .before .before .args .nodes) ≤ c .before .before .before .before .before .args .rows * (3 + 5 * c .before .before .before .before .before .args .nodes)
+behind : (c : tie.In-loop Inv-loop μ-loop) → (c .before .loop .r + 1) * (3 + 5 * c .before .before .before .before .before .args .nodes) ≤
+    c .before .before .before .before .before .args .rows * (3 + 5 * c .before .before .before .before .before .args .nodes)
 behind c = mul-le-mul-right (3 + 5 * c .before .before .before .before .before .args .nodes) (omega arith)
 
 loop-holds : tie.Need-loop-holds Inv-loop μ-loop
@@ -76,8 +77,12 @@ loop-again c =
       omega arith,
       done .kept .1 .1 .1 .1 .1 .1 .0 ∙ k .1,
       done .kept .1 .1 .1 .1 .1 .1 .1 .0 ∙ k .2,
-      cells-turn (word32 file) (a .nodes) (a .at + 3) r (p + 3) (a .numbers .now) (c .before .before .before .before .before .before .before .before .loop .numbers) (done .last .1 .1 .1 .1 .1 .1 .0) (omega arith) (k .3) (done .ensures .0),
-      cells-turn (byte file) (a .nodes) (a .at + 7) r (p + 7) (a .states .now) (c .before .before .before .before .before .before .before .before .loop .states) (done .last .1 .1 .1 .1 .1 .1 .1 .0) (omega arith) (k .4) (done .ensures .1),
+      cells-turn (word32 file) (a .nodes) (a .at + 3) r (p + 3) (a .numbers .now)
+          (c .before .before .before .before .before .before .before .before .loop .numbers) (done .last .1 .1 .1 .1 .1 .1 .0) (omega arith) (k .3)
+          (done .ensures .0),
+      cells-turn (byte file) (a .nodes) (a .at + 7) r (p + 7) (a .states .now)
+          (c .before .before .before .before .before .before .before .before .loop .states) (done .last .1 .1 .1 .1 .1 .1 .1 .0) (omega arith) (k .4)
+          (done .ensures .1),
     )
 
 same-length : tie.Need-same-length Inv-loop μ-loop

@@ -26,7 +26,8 @@ read-rest-requires c κs =
     counted (c .before .before .before .before .before .args .file .now) (omega arith)
     (c .before .before .count-run .result .count) (c .before .count-run2 .result .count) (c .count-run3 .result .count)
     (c .before .before .count-run .result .end) (c .before .count-run2 .result .end) (c .count-run3 .result .end)
-    (c .before .before .count-run .ensures .0) (c .before .before .count-run .ensures .1) (c .before .count-run2 .ensures .0) (c .before .count-run2 .ensures .1) (c .count-run3 .ensures .0) (c .count-run3 .ensures .1)
+    (c .before .before .count-run .ensures .0) (c .before .before .count-run .ensures .1) (c .before .count-run2 .ensures .0)
+    (c .before .count-run2 .ensures .1) (c .count-run3 .ensures .0) (c .count-run3 .ensures .1)
 
 returns-2 : tie.Need-returns-2
 returns-2 c = search needs

@@ -17,7 +17,8 @@ inside : (file : List ℕ) (s : Shape) → SoundFile file s → s .values + s .s
 unfolding shapeIn limitStart
 inside file s k = ap (λ (t : Shape). t .values + t .size + 4) (k .shape) ∙ k .whole
 
-within : (c : tie.After-struct-known) → c .before .before .shape .given .0 .0 .values + c .before .before .shape .given .0 .0 .size + 4 ≡ length (c .before .before .before .before .before .before .args .file .now)
+within : (c : tie.After-struct-known) → c .before .before .shape .given .0 .0 .values + c .before .before .shape .given .0 .0 .size + 4 ≡ length
+    (c .before .before .before .before .before .before .args .file .now)
 within c = inside _ _ (sound-file _ _ (sym (c .before .before .before .before .read-shape .ensures) ∙ c .before .before .shape .given .1))
 
 read-shape-requires : tie.Need-read-shape-requires
@@ -39,7 +40,8 @@ part-result-end : tie.Need-part-result-end
 part-result-end c = search needs
 
 returns : tie.Need-returns
-returns c = ap (valuesBy (c .before .before .before .before .before .args .file .now)) (sym (c .before .enum-told .given .1) ∙ c .before .before .before .read-shape .ensures)
+returns c = ap (valuesBy (c .before .before .before .before .before .args .file .now)) (sym (c .before .enum-told .given .1)
+    ∙ c .before .before .before .read-shape .ensures)
 
 add-end : tie.Need-add-end
 add-end c = omega (arith, within c)
@@ -58,7 +60,8 @@ returns-2 c =
     let file = c .before .before .before .before .before .before .before .args .file .now in
     let s = c .before .before .before .shape .given .0 .0 in
     let e : s .values + s .size - s .values ≡ s .size = omega arith in
-    ap (λ (n : ℕ). take n (drop (s .values) file)) e ∙ ap (valuesBy file) (sym (c .before .before .before .shape .given .1) ∙ c .before .before .before .before .before .read-shape .ensures)
+    ap (λ (n : ℕ). take n (drop (s .values) file)) e ∙ ap (valuesBy file) (sym (c .before .before .before .shape .given .1)
+    ∙ c .before .before .before .before .before .read-shape .ensures)
 
 pub read-values-spec : {M : Type 1} → statement M
 read-values-spec =
