@@ -51,7 +51,13 @@ module _ (os ss : List ℕ) where
   blocks-more i ho hs =
       blocks-split i 1 os ss
       ∙ ap (λ (l : List ℕ). blocksText i os ss ++ l)
-      (rw (drop-cons os i 0 ho, drop-cons ss i 0 hs, blocks-suc 0 (getD os i 0) (getD ss i 0) (drop (suc i) os) (drop (suc i) ss), blocks-zero (drop (suc i) os) (drop (suc i) ss))
+      (rw (
+        drop-cons os i 0 ho,
+        drop-cons ss i 0 hs,
+        blocks-suc 0 (getD os i 0) (getD ss i 0) (drop (suc i) os) (drop (suc i) ss),
+        blocks-zero (drop
+            (suc i) os) (drop (suc i) ss),
+      )
       (append-nil (line blockWord (getD os i 0 ∷ getD ss i 0 ∷ []))))
 
 -- blocks that a slice lacks have no line

@@ -4,3 +4,4 @@ pub mod Image
 pub mod Sets
 pub mod Spaced
 pub mod Whole
+pub mod Unique

@@ -51,7 +51,8 @@ returns c =
     let one = line blockWord (getD os i 0 ∷ getD ss i 0 ∷ []) in
     let more = ap length (blocks-more os ss i (omega arith) (omega arith)) ∙ length-append (blocksText i os ss) one in
     let upto = blocks-upto os ss (i + 1) (a .count) (omega arith) in
-    let short = short-of (a .size) (c .before .before .before .before .before .before .loop .end) (length one) (c .before .before .block-end .ensures) (c .enum-told .given .1) in
+    let short = short-of (a .size) (c .before .before .before .before .before .before .loop .end) (length one) (c .before .before .block-end .ensures)
+    (c .enum-told .given .1) in
     sym (end-short (a .size) (a .at) _ (omega arith))
 
 add-i : tie.Need-add-i Inv-loop μ-loop
@@ -68,7 +69,8 @@ loop-again c =
     let i = c .before .before .before .before .before .before .before .loop .i in
     let one = line blockWord (getD os i 0 ∷ getD ss i 0 ∷ []) in
     let more = ap length (blocks-more os ss i (omega arith) (omega arith)) ∙ length-append (blocksText i os ss) one in
-    let fits = fits-of (a .size) (c .before .before .before .before .before .before .before .loop .end) (length one) (c .before .before .before .block-end .ensures) (c .before .next .given .1) in
+    let fits = fits-of (a .size) (c .before .before .before .before .before .before .before .loop .end) (length one)
+    (c .before .before .before .block-end .ensures) (c .before .next .given .1) in
     (omega arith, omega arith)
 
 end-of-requires : tie.Need-end-of-requires Inv-loop μ-loop
@@ -78,7 +80,11 @@ returns-2 : tie.Need-returns-2 Inv-loop μ-loop
 returns-2 c =
     let a = c .before .before .before .before .before .args in
     let e : c .before .before .loop .i ≡ a .count = omega arith in
-    c .end-of .ensures ∙ end-same (a .size) (c .before .before .loop .end) 0 (a .at) _ (omega (arith, ap (λ (n : ℕ). length (blocksText n (a .offsets .now) (a .sizes .now))) e))
+    c .end-of .ensures ∙ end-same (a .size) (c .before .before .loop .end) 0 (a .at) _ (omega (
+      arith,
+      ap (λ (n : ℕ). length (blocksText n (a .offsets .now)
+          (a .sizes .now))) e,
+    ))
 
 pub blocks-end-spec : {M : Type 1} → statement M
 blocks-end-spec =

@@ -43,8 +43,10 @@ returns-2 : tie.Need-returns-2
 returns-2 c =
     let a = c .before .before .before .before .before .before .before .before .before .before .before .args in
     let whole = layout-length (a .k) (a .count) (a .offsets .now) (a .sizes .now) (a .hex .now) in
-    let first = fits-of (a .size) (a .at) (6 + length (spaced (a .k ∷ [])) + 1) (c .before .before .before .before .before .before .line-end .ensures) (c .before .before .before .before .first .given .1) in
-    let short = short-of (a .size) (c .before .before .before .before .first .given .0 .0) (length (blocksText (a .count) (a .offsets .now) (a .sizes .now))) (c .before .before .blocks-end .ensures) (c .enum-told2 .given .1) in
+    let first = fits-of (a .size) (a .at) (6 + length (spaced (a .k ∷ [])) + 1) (c .before .before .before .before .before .before .line-end .ensures)
+    (c .before .before .before .before .first .given .1) in
+    let short = short-of (a .size) (c .before .before .before .before .first .given .0 .0) (length (blocksText (a .count) (a .offsets .now) (a .sizes .now)))
+    (c .before .before .blocks-end .ensures) (c .enum-told2 .given .1) in
     sym (end-short (a .size) (a .at) _ (omega arith))
 
 image-length-requires : tie.Need-image-length-requires
@@ -57,8 +59,11 @@ returns-3 : tie.Need-returns-3
 returns-3 c =
     let a = c .before .before .before .before .before .before .before .before .before .before .before .before .before .before .args in
     let whole = layout-length (a .k) (a .count) (a .offsets .now) (a .sizes .now) (a .hex .now) in
-    let first = fits-of (a .size) (a .at) (6 + length (spaced (a .k ∷ [])) + 1) (c .before .before .before .before .before .before .before .before .before .line-end .ensures) (c .before .before .before .before .before .before .before .first .given .1) in
-    let second = fits-of (a .size) (c .before .before .before .before .before .before .before .first .given .0 .0) (length (blocksText (a .count) (a .offsets .now) (a .sizes .now))) (c .before .before .before .before .before .blocks-end .ensures) (c .before .before .before .second .given .1) in
+    let first = fits-of (a .size) (a .at) (6 + length (spaced (a .k ∷ [])) + 1)
+    (c .before .before .before .before .before .before .before .before .before .line-end .ensures)
+    (c .before .before .before .before .before .before .before .first .given .1) in
+    let second = fits-of (a .size) (c .before .before .before .before .before .before .before .first .given .0 .0) (length (blocksText (a .count)
+    (a .offsets .now) (a .sizes .now))) (c .before .before .before .before .before .blocks-end .ensures) (c .before .before .before .second .given .1) in
     c .end-of .ensures ∙ end-same (a .size) (c .before .before .before .second .given .0 .0) (c .before .image-length .result) (a .at) _ (omega arith)
 
 pub layout-end-spec : {M : Type 1} → statement M

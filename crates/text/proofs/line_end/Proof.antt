@@ -65,7 +65,8 @@ returns-2 c =
     let a = d .before .before .before .before .before .before .before .before .before .args in
     let i = d .before .before .before .loop .i in
     let more = spaced-left (a .numbers .now) i (d .before .before .loop-test .taken) in
-    let short = short-of (a .size) (d .before .before .before .loop .end) (d .decimal-length .result + 1) (c .before .before .end-of2 .ensures) (c .enum-told2 .given .1) in
+    let short = short-of (a .size) (d .before .before .before .loop .end) (d .decimal-length .result + 1) (c .before .before .end-of2 .ensures)
+    (c .enum-told2 .given .1) in
     sym (end-short (a .size) (a .at) _ (omega arith))
 
 add-i : tie.Need-add-i Inv-loop μ-loop
@@ -80,7 +81,8 @@ loop-again c =
     let a = d .before .before .before .before .before .before .before .before .before .args in
     let i = d .before .before .before .loop .i in
     let more = spaced-left (a .numbers .now) i (d .before .before .loop-test .taken) in
-    let fits = fits-of (a .size) (d .before .before .before .loop .end) (d .decimal-length .result + 1) (c .before .before .before .end-of2 .ensures) (c .before .next .given .1) in
+    let fits = fits-of (a .size) (d .before .before .before .loop .end) (d .decimal-length .result + 1) (c .before .before .before .end-of2 .ensures)
+    (c .before .next .given .1) in
     (omega arith, omega arith, omega arith)
 
 end-of-requires-3 : tie.Need-end-of-requires-3 Inv-loop μ-loop

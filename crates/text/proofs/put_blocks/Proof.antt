@@ -11,7 +11,9 @@ use Rattle.text.proofs.put_blocks.Statement.{statement}
 use Rattle.text.proofs.put_blocks.Tie as tie
 
 -- the lines of the blocks that both slices have are those of the first `count`
-lines : (c : tie.After-lent) → blocksText (c .lent .result) (c .before .before .before .before .args .offsets .now) (c .before .before .before .before .args .sizes .now) ≡ blocksText (c .before .before .before .before .args .count) (c .before .before .before .before .args .offsets .now) (c .before .before .before .before .args .sizes .now)
+lines : (c : tie.After-lent) → blocksText (c .lent .result) (c .before .before .before .before .args .offsets .now)
+    (c .before .before .before .before .args .sizes .now) ≡ blocksText (c .before .before .before .before .args .count)
+    (c .before .before .before .before .args .offsets .now) (c .before .before .before .before .args .sizes .now)
 lines c =
     let os = c .before .before .before .before .args .offsets .now in
     let ss = c .before .before .before .before .args .sizes .now in
@@ -30,7 +32,8 @@ returns : tie.Need-returns
 returns c =
     let a = c .before .before .before .before .before .before .before .args in
     let text = blocksText (c .before .before .before .lent .result) (a .offsets .now) (a .sizes .now) in
-    rw (← lines (c .before .before .before)) (puts-short (short-of (length (a .out .now)) (a .at) (length text) (c .before .before .blocks-end .ensures) (c .enum-told .given .1)))
+    rw (← lines (c .before .before .before)) (puts-short (short-of (length (a .out .now)) (a .at) (length text) (c .before .before .blocks-end .ensures)
+    (c .enum-told .given .1)))
 
 enum-told-2 : tie.Need-enum-told-2
 enum-told-2 c = search needs
@@ -49,7 +52,8 @@ returns-2 : tie.Need-returns-2
 returns-2 c =
     let a = c .before .before .before .before .before .before .before .before .before .before .before .args in
     let text = blocksText (c .before .before .before .before .before .before .before .lent .result) (a .offsets .now) (a .sizes .now) in
-    let fits = fits-of (length (a .out .now)) (a .at) (length text) (c .before .before .before .before .before .before .blocks-end .ensures) (c .before .before .before .before .enum-told2 .given .1) in
+    let fits = fits-of (length (a .out .now)) (a .at) (length text) (c .before .before .before .before .before .before .blocks-end .ensures)
+    (c .before .before .before .before .enum-told2 .given .1) in
     rw (← lines (c .before .before .before .before .before .before .before)) (puts-writes (omega arith) (c .before .before .write-blocks .ensures))
 
 pub put-blocks-spec : {M : Type 1} → statement M

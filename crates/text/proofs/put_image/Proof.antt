@@ -18,7 +18,8 @@ enum-told c = search needs
 returns : tie.Need-returns
 returns c =
     let a = c .before .before .before .before .before .before .args in
-    let short = short-of (length (a .out .now)) (a .at) (c .before .before .before .image-length .result) (c .before .before .end-of .ensures) (c .enum-told .given .1) in
+    let short = short-of (length (a .out .now)) (a .at) (c .before .before .before .image-length .result) (c .before .before .end-of .ensures)
+    (c .enum-told .given .1) in
     puts-short (omega arith)
 
 enum-told-2 : tie.Need-enum-told-2
@@ -27,7 +28,8 @@ enum-told-2 c = search needs
 write-image-requires : tie.Need-write-image-requires
 write-image-requires c κs =
     let a = c .before .before .before .before .before .before .before .args in
-    let fits = fits-of (length (a .out .now)) (a .at) (c .before .before .before .before .image-length .result) (c .before .before .before .end-of .ensures) (c .before .enum-told2 .given .1) in
+    let fits = fits-of (length (a .out .now)) (a .at) (c .before .before .before .before .image-length .result) (c .before .before .before .end-of .ensures)
+    (c .before .enum-told2 .given .1) in
     omega arith
 
 same-length : tie.Need-same-length
@@ -36,7 +38,8 @@ same-length c = search needs
 returns-2 : tie.Need-returns-2
 returns-2 c =
     let a = c .before .before .before .before .before .before .before .before .before .before .args in
-    let fits = fits-of (length (a .out .now)) (a .at) (c .before .before .before .before .before .before .before .image-length .result) (c .before .before .before .before .before .before .end-of .ensures) (c .before .before .before .before .enum-told2 .given .1) in
+    let fits = fits-of (length (a .out .now)) (a .at) (c .before .before .before .before .before .before .before .image-length .result)
+    (c .before .before .before .before .before .before .end-of .ensures) (c .before .before .before .before .enum-told2 .given .1) in
     puts-writes (omega arith) (c .before .before .write-image .ensures)
 
 pub put-image-spec : {M : Type 1} → statement M

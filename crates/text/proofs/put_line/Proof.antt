@@ -19,7 +19,8 @@ returns : tie.Need-returns
 returns c =
     let a = c .before .before .before .before .before .before .args in
     let whole = line-length (a .word .now) (a .numbers .now) in
-    let short = short-of (length (a .out .now)) (a .at) (length (a .word .now) + length (spaced (a .numbers .now)) + 1) (c .before .before .line-end .ensures) (c .enum-told .given .1) in
+    let short = short-of (length (a .out .now)) (a .at) (length (a .word .now) + length (spaced (a .numbers .now)) + 1) (c .before .before .line-end .ensures)
+    (c .enum-told .given .1) in
     puts-short (omega arith)
 
 enum-told-2 : tie.Need-enum-told-2
@@ -29,7 +30,8 @@ write-line-requires : tie.Need-write-line-requires
 write-line-requires c κs =
     let a = c .before .before .before .before .before .before .before .args in
     let whole = line-length (a .word .now) (a .numbers .now) in
-    let fits = fits-of (length (a .out .now)) (a .at) (length (a .word .now) + length (spaced (a .numbers .now)) + 1) (c .before .before .before .line-end .ensures) (c .before .enum-told2 .given .1) in
+    let fits = fits-of (length (a .out .now)) (a .at) (length (a .word .now) + length (spaced (a .numbers .now)) + 1)
+    (c .before .before .before .line-end .ensures) (c .before .enum-told2 .given .1) in
     omega arith
 
 same-length : tie.Need-same-length
@@ -39,7 +41,8 @@ returns-2 : tie.Need-returns-2
 returns-2 c =
     let a = c .before .before .before .before .before .before .before .before .before .before .args in
     let whole = line-length (a .word .now) (a .numbers .now) in
-    let fits = fits-of (length (a .out .now)) (a .at) (length (a .word .now) + length (spaced (a .numbers .now)) + 1) (c .before .before .before .before .before .before .line-end .ensures) (c .before .before .before .before .enum-told2 .given .1) in
+    let fits = fits-of (length (a .out .now)) (a .at) (length (a .word .now) + length (spaced (a .numbers .now)) + 1)
+    (c .before .before .before .before .before .before .line-end .ensures) (c .before .before .before .before .enum-told2 .given .1) in
     puts-writes (omega arith) (c .before .before .write-line .ensures)
 
 pub put-line-spec : {M : Type 1} → statement M

@@ -37,13 +37,23 @@ same-length : tie.Need-same-length
 same-length c = search needs
 
 returns : tie.Need-returns
-returns c = rw (← c .before .before .before .before .before .before .before .before .before .before .number .ensures, ← c .before .before .before .before .before .before .before .before .before .place-of .ensures, c .before .before .before .before .before .before .before .p .given .1) (c .before .before .put-line .ensures)
+returns c = rw (
+  ← c .before .before .before .before .before .before .before .before .before .before .number .ensures,
+  ←
+      c .before .before .before .before .before .before .before .before .before .place-of .ensures,
+  c .before .before .before .before .before .before .before .p .given .1,
+) (c .before .before .put-line .ensures)
 
 same-length-2 : tie.Need-same-length-2
 same-length-2 c = search needs
 
 returns-2 : tie.Need-returns-2
-returns-2 c = rw (← c .before .before .before .before .before .before .before .before .before .before .number .ensures, ← c .before .before .before .before .before .before .before .before .before .place-of .ensures, c .before .before .before .before .before .before .before .p2 .given .1) (c .before .before .put-line2 .ensures)
+returns-2 c = rw (
+  ← c .before .before .before .before .before .before .before .before .before .before .number .ensures,
+  ←
+      c .before .before .before .before .before .before .before .before .before .place-of .ensures,
+  c .before .before .before .before .before .before .before .p2 .given .1,
+) (c .before .before .put-line2 .ensures)
 
 pub put-refusal-spec : {M : Type 1} → statement M
 put-refusal-spec =

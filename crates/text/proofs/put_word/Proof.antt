@@ -32,7 +32,8 @@ same-length c = search needs
 returns-2 : tie.Need-returns-2
 returns-2 c =
     let a = c .before .before .before .before .before .before .before .before .before .args in
-    let fits = fits-of (length (a .out .now)) (a .at) (length (a .word .now)) (c .before .before .before .before .before .before .end-of .ensures) (c .before .before .before .before .enum-told2 .given .1) in
+    let fits = fits-of (length (a .out .now)) (a .at) (length (a .word .now)) (c .before .before .before .before .before .before .end-of .ensures)
+    (c .before .before .before .before .enum-told2 .given .1) in
     puts-writes (omega arith) (c .before .before .write-word .ensures)
 
 pub put-word-spec : {M : Type 1} → statement M

@@ -42,7 +42,8 @@ write-block-requires c κs =
     let i = c .before .before .before .before .loop .i in
     let more = blocks-more os ss i (omega arith) (omega arith) in
     let upto = blocks-upto os ss (i + 1) (a .count) (omega arith) in
-    writes-room (blocksText i os ss) (line blockWord (getD os i 0 ∷ getD ss i 0 ∷ [])) (omega (arith, ap length more)) (c .before .before .before .before .loop .inv .1)
+    writes-room (blocksText i os ss) (line blockWord (getD os i 0 ∷ getD ss i 0 ∷ [])) (omega (arith, ap length more))
+    (c .before .before .before .before .loop .inv .1)
 
 add-i : tie.Need-add-i Inv-loop μ-loop
 add-i c = search needs

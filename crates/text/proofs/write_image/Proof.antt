@@ -20,7 +20,8 @@ same-length : tie.Need-same-length
 same-length c = search needs
 
 returns : tie.Need-returns
-returns c = rw (image-none (c .before .before .before .before .before .before .before .before .args .hex .now) (c .before .before .before .before .before .if1 .taken)) (c .before .before .write-word .ensures)
+returns c = rw (image-none (c .before .before .before .before .before .before .before .before .args .hex .now)
+    (c .before .before .before .before .before .if1 .taken)) (c .before .before .write-word .ensures)
 
 slice-aggregate-write-word-2 : tie.Need-slice-aggregate-write-word-2
 slice-aggregate-write-word-2 c = search needs
@@ -44,15 +45,18 @@ write-word-requires-4 : tie.Need-write-word-requires-4
 write-word-requires-4 c κs =
     let hex = c .before .before .before .before .before .before .before .before .before .before .before .before .before .before .args .hex .now in
     let some = ap length (image-some hex (c .before .before .before .before .before .before .before .before .before .before .before .if1 .left)) in
-    writes-room (ascii "image " ++ hex) (ascii "\n") (omega arith) (writes-then (c .before .before .before .before .before .before .before .before .write-word2 .ensures) (c .before .before .before .before .write-word3 .ensures))
+    writes-room (ascii "image " ++ hex) (ascii "\n") (omega arith) (writes-then
+    (c .before .before .before .before .before .before .before .before .write-word2 .ensures) (c .before .before .before .before .write-word3 .ensures))
 
 same-length-2 : tie.Need-same-length-2
 same-length-2 c = search needs
 
 returns-2 : tie.Need-returns-2
 returns-2 c =
-    rw (image-some (c .before .before .before .before .before .before .before .before .before .before .before .before .before .before .before .before .before .args .hex .now) (c .before .before .before .before .before .before .before .before .before .before .before .before .before .before .if1 .left))
-    (writes-then (writes-then (c .before .before .before .before .before .before .before .before .before .before .before .write-word2 .ensures) (c .before .before .before .before .before .before .before .write-word3 .ensures)) (c .before .before .write-word4 .ensures))
+    rw (image-some
+    (c .before .before .before .before .before .before .before .before .before .before .before .before .before .before .before .before .before .args .hex .now) (c .before .before .before .before .before .before .before .before .before .before .before .before .before .before .if1 .left))
+    (writes-then (writes-then (c .before .before .before .before .before .before .before .before .before .before .before .write-word2 .ensures)
+    (c .before .before .before .before .before .before .before .write-word3 .ensures)) (c .before .before .write-word4 .ensures))
 
 pub write-image-spec : {M : Type 1} → statement M
 write-image-spec =

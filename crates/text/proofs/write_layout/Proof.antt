@@ -17,24 +17,44 @@ slice-aggregate-write-line-2 c = search needs
 write-line-requires : tie.Need-write-line-requires
 write-line-requires c κs =
     let a = c .before .before .before .before .before .before .before .args in
-    omega (arith, c .before .before .before .before .before .before .before .pre .1 .1, length-append (passesText (a .k) ++ blocksText (a .count) (a .offsets .now) (a .sizes .now)) (imageText (a .hex .now)), length-append (passesText (a .k)) (blocksText (a .count) (a .offsets .now) (a .sizes .now)))
+    omega (
+      arith,
+      c .before .before .before .before .before .before .before .pre .1 .1,
+      length-append (passesText (a .k) ++ blocksText (a .count)
+          (a .offsets .now) (a .sizes .now)) (imageText (a .hex .now)),
+      length-append (passesText (a .k)) (blocksText (a .count) (a .offsets .now)
+          (a .sizes .now)),
+    )
 
 write-blocks-requires : tie.Need-write-blocks-requires
 write-blocks-requires c κs =
     let a = c .before .before .before .before .before .before .before .before .before .before .before .args in
-    let blocks = blocksText (a .count) (a .offsets .now) (a .sizes .now) in
-    (c .before .before .before .before .before .before .before .before .before .before .before .pre .0, (c .before .before .before .before .before .before .before .before .before .before .before .pre .1 .0, writes-room (passesText (a .k)) blocks (omega (arith, c .before .before .before .before .before .before .before .before .before .before .before .pre .1 .1, length-append (passesText (a .k) ++ blocks) (imageText (a .hex .now)))) (c .before .before .before .write-line .ensures)))
+    let blocks = blocksText (a .count) (a .offsets .now) (a .sizes .now) in (
+      c .before .before .before .before .before .before .before .before .before .before .before .pre .0,
+      (
+        c .before .before .before .before .before .before .before .before .before .before .before .pre .1 .0,
+        writes-room (passesText (a .k)) blocks (omega (
+          arith,
+          c .before .before .before .before .before .before .before .before .before .before .before .pre .1 .1,
+          length-append (passesText
+              (a .k) ++ blocks) (imageText (a .hex .now)),
+        )) (c .before .before .before .write-line .ensures),
+      ),
+    )
 
 write-image-requires : tie.Need-write-image-requires
 write-image-requires c κs =
     let a = c .before .before .before .before .before .before .before .before .before .before .before .before .before .before .before .args in
-    writes-room (passesText (a .k) ++ blocksText (a .count) (a .offsets .now) (a .sizes .now)) (imageText (a .hex .now)) (c .before .before .before .before .before .before .before .before .before .before .before .before .before .before .before .pre .1 .1) (writes-then (c .before .before .before .before .before .before .before .write-line .ensures) (c .before .before .before .write-blocks .ensures))
+    writes-room (passesText (a .k) ++ blocksText (a .count) (a .offsets .now) (a .sizes .now)) (imageText (a .hex .now))
+    (c .before .before .before .before .before .before .before .before .before .before .before .before .before .before .before .pre .1 .1) (writes-then
+    (c .before .before .before .before .before .before .before .write-line .ensures) (c .before .before .before .write-blocks .ensures))
 
 same-length : tie.Need-same-length
 same-length c = search needs
 
 returns : tie.Need-returns
-returns c = writes-then (writes-then (c .before .before .before .before .before .before .before .before .before .before .write-line .ensures) (c .before .before .before .before .before .before .write-blocks .ensures)) (c .before .before .write-image .ensures)
+returns c = writes-then (writes-then (c .before .before .before .before .before .before .before .before .before .before .write-line .ensures)
+    (c .before .before .before .before .before .before .write-blocks .ensures)) (c .before .before .write-image .ensures)
 
 pub write-layout-spec : {M : Type 1} → statement M
 write-layout-spec =

@@ -21,14 +21,25 @@ write-numbers-requires c κs =
     let a = c .before .before .before .before .before .before .before .before .args in
     let w = a .word .now in
     let ns = a .numbers .now in
-    writes-room w (spaced ns) (omega (arith, c .before .before .before .before .before .before .before .before .pre, length-append (w ++ spaced ns) (10 ∷ []))) (c .before .before .before .write-word .ensures)
+    writes-room w (spaced ns) (omega (
+      arith,
+      c .before .before .before .before .before .before .before .before .pre,
+      length-append (w ++ spaced ns)
+          (10 ∷ []),
+    )) (c .before .before .before .write-word .ensures)
 
 -- the word and the numbers are written, and LF has room behind them
-both : (c : tie.After-slice-known3) → Writes (c .before .before .before .before .before .before .before .before .before .before .before .args .word .now ++ spaced (c .before .before .before .before .before .before .before .before .before .before .before .args .numbers .now)) (c .before .before .before .before .before .before .before .before .before .before .before .args .out .now) (c .before .before .before .before .before .before .before .before .before .before .before .args .at) (c .before .before .write-numbers .result) (c .before .before .write-numbers .last .0)
+both : (c : tie.After-slice-known3) → Writes (c .before .before .before .before .before .before .before .before .before .before .before .args .word .now ++
+    spaced (c .before .before .before .before .before .before .before .before .before .before .before .args .numbers .now))
+    (c .before .before .before .before .before .before .before .before .before .before .before .args .out .now)
+    (c .before .before .before .before .before .before .before .before .before .before .before .args .at) (c .before .before .write-numbers .result)
+    (c .before .before .write-numbers .last .0)
 both c = writes-then (c .before .before .before .before .before .before .write-word .ensures) (c .before .before .write-numbers .ensures)
 
 room : (c : tie.After-slice-known3) → c .before .before .write-numbers .result + 1 ≤ length (c .before .before .write-numbers .last .0)
-room c = writes-room (c .before .before .before .before .before .before .before .before .before .before .before .args .word .now ++ spaced (c .before .before .before .before .before .before .before .before .before .before .before .args .numbers .now)) (10 ∷ []) (c .before .before .before .before .before .before .before .before .before .before .before .pre) (both c)
+room c = writes-room (c .before .before .before .before .before .before .before .before .before .before .before .args .word .now ++ spaced
+    (c .before .before .before .before .before .before .before .before .before .before .before .args .numbers .now)) (10 ∷ [])
+    (c .before .before .before .before .before .before .before .before .before .before .before .pre) (both c)
 
 slice-write-out : tie.Need-slice-write-out
 slice-write-out c = omega (arith, room c)

@@ -30,10 +30,12 @@ turn {old} {at} {n} {out} {left} {i} d h e k =
     let now : suc (i - 1) ≡ i = omega (arith, k .next, one, some) in
     record {
       tail = d ∷ k .tail;
-      digits = rw e (sym (append-assoc (decimal (left / 10)) (digit (left % 10) ∷ []) (k .tail)) ∙ ap (λ (l : List ℕ). l ++ k .tail) (sym (decimal-more left h)) ∙ k .digits);
+      digits = rw e (sym (append-assoc (decimal (left / 10)) (digit (left % 10) ∷ []) (k .tail)) ∙ ap (λ (l : List ℕ). l ++ k .tail) (sym
+          (decimal-more left h)) ∙ k .digits);
       next = omega (arith, k .next, one, some);
       inside = omega (arith, k .inside, one);
-      buffer = ap (λ (l : List ℕ). set l i d) (k .buffer) ∙ sets-before old (suc i) (k .tail) i d (omega arith) ∙ ap (λ (j : ℕ). sets old j (d ∷ k .tail)) (sym now);
+      buffer = ap (λ (l : List ℕ). set l i d) (k .buffer) ∙ sets-before old (suc i) (k .tail) i d (omega arith) ∙ ap (λ (j : ℕ). sets old j (d ∷ k .tail))
+          (sym now);
       long = simp length-set (k .long);
     }
 

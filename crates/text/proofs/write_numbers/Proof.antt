@@ -41,7 +41,8 @@ shared-slice-read-write-number c = search needs
 
 write-number-requires : tie.Need-write-number-requires Inv-loop μ-loop
 write-number-requires c κs =
-    let more = spaced-left (c .before .before .before .before .before .before .args .numbers .now) (c .before .before .before .loop .i) (c .before .before .loop-test .taken) in
+    let more = spaced-left (c .before .before .before .before .before .before .args .numbers .now) (c .before .before .before .loop .i)
+    (c .before .before .loop-test .taken) in
     simp length-set (omega (arith, writes-long (c .before .before .before .loop .inv .2)))
 
 add-i : tie.Need-add-i Inv-loop μ-loop
@@ -55,8 +56,12 @@ loop-again c =
     let ns = c .before .before .before .before .before .before .before .before .before .args .numbers .now in
     let i = c .before .before .before .before .before .before .loop .i in
     let more = spaced-left ns i (c .before .before .before .before .before .loop-test .taken) in
-    let number = c .before .before .write-number .ensures in
-    (omega arith, omega (arith, number .place), rw (spaced-take ns i (c .before .before .before .before .before .loop-test .taken)) (writes-then (c .before .before .before .before .before .before .loop .inv .2) (writes-then (writes-byte 32) number)))
+    let number = c .before .before .write-number .ensures in (
+      omega arith,
+      omega (arith, number .place),
+      rw (spaced-take ns i (c .before .before .before .before .before .loop-test .taken)) (writes-then
+          (c .before .before .before .before .before .before .loop .inv .2) (writes-then (writes-byte 32) number)),
+    )
 
 same-length : tie.Need-same-length Inv-loop μ-loop
 same-length c = writes-long (c .before .loop .inv .2)
