@@ -5,12 +5,11 @@ use mathlib.Core.Logic.{⊎-elim}
 use mathlib.Core.Bool.{Bool, true, false, _&&_}
 use native.Mathlib.Nat.{max-eq-left, max-eq-right, le-of-lt, le-of-suc-le-suc, not-suc-le-zero, eq-or-lt-of-le}
 use native.Mathlib.Numerals.{add-one}
-use lib.ListN.{getD, length}
+use lib.ListN.{length}
 use borrow.Author.Tests.{eq-eqb, ne-eqb, le-leb, lt-leb}
 use Rattle.refusal.specs.Pick.{pick}
 use Rattle.refusal.specs.declared.Refusal.{Refusal}
 use Rattle.refusal.specs.declared.Refusal.the-variants.{LabelOffBoundary}
-use Rattle.bankdef.specs.Check.{noBank}
 use Rattle.bankdef.specs.declared.Bankdef.{Bankdef}
 use Rattle.bankdef.specs.declared.Bankdefs.{Bankdefs}
 use Rattle.iter.specs.Step.{bankAfter, stepOf, startOf}
@@ -21,14 +20,14 @@ use Rattle.iter.specs.declared.Pos.{Pos}
 use Rattle.iter.specs.declared.Node.{Node}
 use Rattle.iter.specs.declared.Walk.{Walk}
 use Rattle.iter.specs.declared.Stepped.{Stepped}
-use Rattle.resolver.specs.Once.{bankOf, labelState, stateOf, offBoundary, met, goesOn, Program, node, stepAt, walkTo, passTo, passOf, on, off}
+use Rattle.resolver.specs.Once.{bankRecord, bankOf, labelState, stateOf, offBoundary, met, goesOn, Program, node, stepAt, walkTo, passTo, passOf, on, off}
 use Rattle.resolver.specs.Before.{steppedBefore}
 use Rattle.resolver.specs.Lists.{Row}
 use Rattle.resolver.specs.declared.Pass.{Pass}
 use Rattle.resolver.specs.declared.Pass.the-variants.{State, Refused}
 
 -- the step in the bank that the node stands in
-pub step-in-bank : (banks : Bankdefs) (walk : Walk) (node : Node) {bank : ℕ} {def : Bankdef} {r : Stepped} → bank ≡ bankAfter (walk .bank) node → def ≡ getD (banks .defs) bank noBank → r ≡ stepOf def walk node → r ≡ stepOf (bankOf banks walk node) walk node
+pub step-in-bank : (banks : Bankdefs) (walk : Walk) (node : Node) {bank : ℕ} {def : Bankdef} {r : Stepped} → bank ≡ bankAfter (walk .bank) node → def ≡ bankRecord banks bank → r ≡ stepOf def walk node → r ≡ stepOf (bankOf banks walk node) walk node
 step-in-bank banks walk node b d e = rw (← b, ← d) e
 
 -- a label's state, by what the code has found of it
@@ -121,7 +120,7 @@ module _ (p : Program) (row before : Row) (isFirst isLast : Bool) where
       w ≡ beside isFirst p before i →
       n ≡ node p row i →
       bank ≡ bankAfter (walk .bank) n →
-      def ≡ getD (p .banks .defs) bank noBank →
+      def ≡ bankRecord (p .banks) bank →
       s ≡ stepOf def walk n →
       nb ≡ node p before i →
       sb ≡ steppedBefore (p .banks) w nb isFirst →

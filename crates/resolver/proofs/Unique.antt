@@ -1,16 +1,12 @@
 -- Uniqueness: each public function's own contract has one outcome. What is read here is the `ensures` itself, so that a looser clause breaks its line. Nothing is lent to be changed, so the outcome is the answer.
 use Rattle.refusal.specs.Pick.{determined}
-use Rattle.iter.proofs.Unique.{OneOutcome}
+use Rattle.refusal.specs.Outcome.{OneOutcome}
 use Rattle.resolver.proofs.lists.node_at.Kinds as node-at-kinds
 use Rattle.resolver.proofs.lists.node_at.Reads as node-at-reads
 use Rattle.resolver.proofs.lists.check_lists.Kinds as check-lists-kinds
 use Rattle.resolver.proofs.lists.check_lists.Reads as check-lists-reads
 use Rattle.resolver.proofs.once.bank_record.Kinds as bank-record-kinds
 use Rattle.resolver.proofs.once.bank_record.Reads as bank-record-reads
-use Rattle.resolver.proofs.once.step_at.Kinds as step-at-kinds
-use Rattle.resolver.proofs.once.step_at.Reads as step-at-reads
-use Rattle.resolver.proofs.once.resolve_once.Kinds as resolve-once-kinds
-use Rattle.resolver.proofs.once.resolve_once.Reads as resolve-once-reads
 use Rattle.resolver.proofs.passes.resolve.Kinds as resolve-kinds
 use Rattle.resolver.proofs.passes.resolve.Reads as resolve-reads
 
@@ -18,16 +14,10 @@ pub node-at-unique : OneOutcome 5 node-at-kinds.ps node-at-kinds.r node-at-reads
 node-at-unique κs a x y e f p q = determined p q
 
 pub check-lists-unique : OneOutcome 5 check-lists-kinds.ps check-lists-kinds.r check-lists-reads.Learnt
-check-lists-unique κs a x y e f p q = determined p q
+check-lists-unique κs a x y e f p q = determined (p .0) (q .0)
 
 pub bank-record-unique : OneOutcome 0 bank-record-kinds.ps bank-record-kinds.r bank-record-reads.Learnt
 bank-record-unique κs a x y e f p q = determined p q
 
-pub step-at-unique : OneOutcome 0 step-at-kinds.ps step-at-kinds.r step-at-reads.Learnt
-step-at-unique κs a x y e f p q = determined p q
-
-pub resolve-once-unique : OneOutcome 7 resolve-once-kinds.ps resolve-once-kinds.r resolve-once-reads.Learnt
-resolve-once-unique κs a x y e f p q = determined p q
-
 pub resolve-unique : OneOutcome 5 resolve-kinds.ps resolve-kinds.r resolve-reads.Learnt
-resolve-unique κs a x y e f p q = determined p q
+resolve-unique κs a x y e f p q = determined (p .0) (q .0)

@@ -18,6 +18,10 @@ unless-told : (v : Verdict) (r : Resolution) {k : ℕ} → unless v r .settled �
 unless-told Accepted r e = refl
 unless-told (TurnedAway why) r e = cc
 
+unless-accepts : (v : Verdict) (r : Resolution) {k : ℕ} → unless v r .settled ≡ At k → v ≡ Accepted
+unless-accepts Accepted r e = refl
+unless-accepts (TurnedAway why) r e = absurd (let z : _≡_ {A = ℕ} 0 1 = cc in let b : ⊥ = omega arith in b)
+
 unless-runs : (v : Verdict) (r : Resolution) (n : ℕ) → r .passes ≤ n → unless v r .passes ≤ n
 unless-runs Accepted r n h = h
 unless-runs (TurnedAway why) r n h = omega arith
@@ -32,6 +36,15 @@ module _ (banks : Bankdefs) (l : Lists) (m : ℕ) where
       let b = unless-told (listsOf (banks .len) l) (resolutionOf banks l m) f in
       let g : resolutionOf banks l m .settled ≡ At k = rw b at f in
       rw (a, b) (accepted-passes (passAt banks l) m k g)
+
+  -- an accepted layout's lists and banks pass their checks, whatever the limit
+  pub layout-passes : (k : ℕ) → layoutOf banks l m .settled ≡ At k → (n : ℕ) → layoutOf banks l n ≡ resolutionOf banks l n
+  unfolding layoutOf
+  layout-passes k e n =
+      let c = unless-accepts (checkOf banks) (unless (listsOf (banks .len) l) (resolutionOf banks l m)) e in
+      let f : unless (listsOf (banks .len) l) (resolutionOf banks l m) .settled ≡ At k = rw c at e in
+      let d = unless-accepts (listsOf (banks .len) l) (resolutionOf banks l m) f in
+      rw (c, d)
 
   pub layout-bounded : layoutOf banks l m .passes ≤ max 1 m
   unfolding layoutOf

@@ -31,6 +31,10 @@ pub record Row : Type 0 where
   pub numbers : List ℕ
   pub states : List ℕ
 
+-- a row by its parts
+abbrev pub rowWith : List ℕ → List ℕ → Row
+rowWith numbers states = record { numbers = numbers; states = states }
+
 -- row r, from 0, of lists that hold row after row, each as long as the n nodes
 abbrev pub rowOf : ℕ → List ℕ → List ℕ → ℕ → Row
 rowOf n numbers states r = record { numbers = take n (drop (r * n) numbers); states = take n (drop (r * n) states) }
@@ -95,14 +99,22 @@ unfoldable pub nodesTo : ℕ → Lists → ℕ → Verdict
 nodesTo banks l zero = Accepted
 nodesTo banks l (suc i) = firstOf (nodesTo banks l i) (pick (nodeFault banks l i) (Refused (Malformed i)) Accepted)
 
+-- "node count": no more nodes than the limit, and an operand for each
+abbrev pub nodeCountSound : Lists → Bool
+nodeCountSound l = leb (length (l .kinds)) maxNodes && eqb (length (l .operands)) (length (l .kinds))
+
+-- "row count": 1 to 16 rows, and a number and a state for each node in each
+abbrev pub rowCountSound : Lists → Bool
+rowCountSound l =
+    let cells = l .rows * length (l .kinds) in
+    leb 1 (l .rows) && (leb (l .rows) maxRows && (eqb (length (l .numbers)) cells && eqb (length (l .states)) cells))
+
 -- "then 4: node count, row count, limit, then the lowest node, its kind, operand and rows in order." "field 0, 1, 2 for node count, row count, limit". The lists must be as long as the counts
 -- say. The limit is a byte, so 0 to 255 by its type.
 unfoldable pub listsOf : ℕ → Lists → Verdict
 listsOf banks l =
-    pick (leb (length (l .kinds)) maxNodes && eqb (length (l .operands)) (length (l .kinds)))
-    (pick (leb 1 (l .rows) && (leb (l .rows) maxRows && (eqb (length (l .numbers)) (l .rows * length (l .kinds)) && eqb (length (l .states)) (l .rows * length (l .kinds)))))
-    (nodesTo banks l (length (l .kinds)))
-    (Refused (Malformed 1)))
+    pick (nodeCountSound l)
+    (pick (rowCountSound l) (nodesTo banks l (length (l .kinds))) (Refused (Malformed 1)))
     (Refused (Malformed 0))
 
 -- Rows whose lengths agree with the counts: what the list check has shown before it looks at a node.

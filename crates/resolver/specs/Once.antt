@@ -7,7 +7,7 @@ use lib.ListN.{getD, length}
 use Rattle.refusal.specs.Pick.{pick}
 use Rattle.refusal.specs.declared.Refusal.{Refusal}
 use Rattle.refusal.specs.declared.Refusal.the-variants.{LabelOffBoundary}
-use Rattle.bankdef.specs.Check.{noBank}
+use Rattle.bankdef.specs.Check.{noBank, banksOf}
 use Rattle.bankdef.specs.declared.Bankdef.{Bankdef}
 use Rattle.bankdef.specs.declared.Bankdefs.{Bankdefs}
 use Rattle.iter.specs.Address.{onBoundary}
@@ -29,12 +29,20 @@ pub record Program : Type 0 where
   pub operands : List ℕ
   pub first : List ℕ
 
+-- a program by its parts
+abbrev pub programWith : Bankdefs → List ℕ → List ℕ → List ℕ → Program
+programWith banks kinds operands first = record { banks = banks; kinds = kinds; operands = operands; first = first }
+
 abbrev pub node : Program → Row → ℕ → Node
 node p row i = nodeAt (p .kinds) (p .operands) (p .first) row i
 
+-- the record of a bank that the table lists; for every other number one of unit 0, of which no address can be told
+abbrev pub bankRecord : Bankdefs → ℕ → Bankdef
+bankRecord banks bank = getD (banksOf banks) bank noBank
+
 -- the record of the bank that a node stands in
 abbrev pub bankOf : Bankdefs → Walk → Node → Bankdef
-bankOf banks walk n = getD (banks .defs) (bankAfter (walk .bank) n) noBank
+bankOf banks walk n = bankRecord banks (bankAfter (walk .bank) n)
 
 -- the step over node i of a row
 abbrev pub stepAt : Program → Row → Walk → ℕ → Stepped

@@ -103,7 +103,7 @@ module _ (pass : ℕ → Bool → Pass) (m : ℕ) where
   K-not-below h g = rw (ne-eqb m 0 (λ q. omega arith), le-ltb (passK pass m) m g)
 
   -- one of the three, for any property of what they come to
-  by-ways : (P : Resolution → Type 0) → (m ≡ 0 → P (record { settled = lastOf 0 (pass 1 true); passes = 1 })) → (0 < m → passK pass m < m → P (afterK pass (passK pass m) (pass (passK pass m) false))) → (0 < m → m ≤ passK pass m → P (record { settled = lastOf m (pass m true); passes = m })) → P (settledBy pass m)
+  pub by-ways : (P : Resolution → Type 0) → (m ≡ 0 → P (record { settled = lastOf 0 (pass 1 true); passes = 1 })) → (0 < m → passK pass m < m → P (afterK pass (passK pass m) (pass (passK pass m) false))) → (0 < m → m ≤ passK pass m → P (record { settled = lastOf m (pass m true); passes = m })) → P (settledBy pass m)
   by-ways P a b d = go (eqb m 0) refl (ltb (passK pass m) m) refl
     where
       go : (s : Bool) → eqb m 0 ≡ s → (t : Bool) → ltb (passK pass m) m ≡ t → P (settledBy pass m)
@@ -123,7 +123,7 @@ module _ (pass : ℕ → Bool → Pass) (m : ℕ) where
   abbrev pub Told : ℕ → Resolution → Type 0
   Told k r = IsK pass m k × (r .passes ≡ runOf m k) × Settles (pass (r .passes) true)
 
-  unresolved-before : (p : ℕ) → 1 ≤ p → p < passK pass m → p < m → unresolved (pass p false) ≡ true
+  pub unresolved-before : (p : ℕ) → 1 ≤ p → p < passK pass m → p < m → unresolved (pass p false) ≡ true
   unresolved-before p low high less = rw (ne-eqb p m (λ q. omega arith)) at (before-K pass m p low high)
 
   zero-told : m ≡ 0 → (k : ℕ) → lastOf 0 (pass 1 true) ≡ At k → Told k (record { settled = lastOf 0 (pass 1 true); passes = 1 })

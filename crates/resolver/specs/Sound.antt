@@ -1,17 +1,23 @@
 -- What the list check tells: accepted, no node is at fault in any row; refused at a node, that node is the lowest at fault.
-use Prim.Native.Nat.{ℕ, zero, suc, _<_}
-use mathlib.Core.Path.{_≡_, refl}
-use mathlib.Core.Bool.{Bool, true, false, _||_}
+use Prim.Native.Nat.{ℕ, zero, suc, _*_, _<_, _≤_}
+use mathlib.Core.Path.{_≡_, refl, sym, _∙_}
+use mathlib.Core.Bool.{Bool, true, false, _&&_, _||_}
 use mathlib.Core.Logic.{⊎-elim}
 use native.Mathlib.Nat.{eq-or-lt-of-le, le-of-suc-le-suc}
 use native.Mathlib.Omega.{arith}
+use lib.Dec.{leb, eqb}
 use lib.ListN.{length}
+use borrow.Author.Tests.{leb-true, eqb-true}
+use Rattle.refusal.specs.Limits.{maxNodes, maxRows}
 use Rattle.refusal.specs.Pick.{pick}
 use Rattle.refusal.specs.declared.Refusal.{Refusal}
 use Rattle.refusal.specs.declared.Refusal.the-variants.{Malformed}
 use Rattle.refusal.specs.declared.Verdict.{Verdict}
 use Rattle.refusal.specs.declared.Verdict.the-variants.{Accepted, Refused}
-use Rattle.resolver.specs.Lists.{Lists, nodeOf, rowFault, headFault, anyRowFault, nodeFault, firstOf, nodesTo}
+use Rattle.bankdef.specs.Bools.{both}
+use Rattle.refusal.specs.Told.{Told, gives, refuses, nothing, toldVerdict}
+use Rattle.refusal.specs.declared.Place.the-variants.{One}
+use Rattle.resolver.specs.Lists.{Lists, Rows, nodeCountSound, rowCountSound, listsOf, nodeOf, rowFault, headFault, anyRowFault, nodeFault, firstOf, nodesTo}
 
 both-accept : (v w : Verdict) → firstOf v w ≡ Accepted → (v ≡ Accepted) × (w ≡ Accepted)
 both-accept Accepted w e = (refl, e)
@@ -71,3 +77,87 @@ module _ (banks : ℕ) (l : Lists) where
   unfolding nodesTo
   lowest-node zero why e = absurd (let z : _≡_ {A = ℕ} 0 1 = cc in let b : ⊥ = omega arith in b)
   lowest-node (suc n) why e = lowest-of n why (nodesTo banks l n) refl (lowest-node n why) e
+
+  -- where no node is at fault, none is refused
+  pub none-refused : (n : ℕ) → ((i : ℕ) → i < n → nodeFault banks l i ≡ false) → nodesTo banks l n ≡ Accepted
+  unfolding nodesTo
+  none-refused zero all = refl
+  none-refused (suc n) all = rw (none-refused n (λ i h. all i (omega arith)), all n (omega arith))
+
+  -- and the lowest at fault is the one that is
+  pub lowest-refused : (n i : ℕ) → Lowest n i → nodesTo banks l n ≡ Refused (Malformed i)
+  unfolding nodesTo
+  lowest-refused zero i a = absurd (let h = a .listed in let b : ⊥ = omega arith in b)
+  lowest-refused (suc n) i a =
+      ⊎-elim
+      (λ (q : i ≡ n).
+      let none : nodesTo banks l n ≡ Accepted = none-refused n (rw q at (a .none)) in
+      let fault : nodeFault banks l n ≡ true = rw q at (a .fault) in
+      rw (none, fault, q))
+      (λ (g : i < n). rw (lowest-refused n i (record { listed = g; fault = a .fault; none = a .none })))
+      (eq-or-lt-of-le (le-of-suc-le-suc (a .listed)))
+
+-- What the verdict on the lists tells, in figures: "field 0, 1, 2 for node count, row count, limit", in this order, then the lowest node.
+pub record ListFigures (banks : ℕ) (l : Lists) (v : Verdict) : Type 0 where
+  pub nodes : nodeCountSound l ≡ false → toldVerdict v ≡ refuses 4 (One 0)
+  pub rows : nodeCountSound l ≡ true → rowCountSound l ≡ false → toldVerdict v ≡ refuses 4 (One 1)
+  pub lowest : nodeCountSound l ≡ true → rowCountSound l ≡ true → (i : ℕ) → Lowest banks l (length (l .kinds)) i → toldVerdict v ≡ refuses 4 (One i)
+  pub none :
+      nodeCountSound l ≡ true
+      → rowCountSound l ≡ true
+      → ((i : ℕ) → i < length (l .kinds) → nodeFault banks l i ≡ false)
+      → toldVerdict v ≡ gives nothing
+
+pub lists-figures : (banks : ℕ) (l : Lists) → ListFigures banks l (listsOf banks l)
+unfolding listsOf
+lists-figures banks l =
+    record {
+      nodes = λ a. rw a;
+      rows = λ a b. rw (a, b);
+      lowest = λ a b i w. rw (a, b, lowest-refused banks l (length (l .kinds)) i w);
+      none = λ a b all. rw (a, b, none-refused banks l (length (l .kinds)) all);
+    }
+
+-- ---- what the accepted lists are
+
+-- a verdict that accepts came through its test
+through : (t : Bool) (v : Verdict) (why : Refusal) → pick t v (Refused why) ≡ Accepted → (t ≡ true) × (v ≡ Accepted)
+through true v why e = (refl, e)
+through false v why e = (cc, cc)
+
+-- Lists that are accepted: the counts are within their limits and the lists as long as they say, and no node is at fault.
+pub record SoundLists (banks : ℕ) (l : Lists) : Type 0 where
+  pub few : length (l .kinds) ≤ maxNodes
+  pub operands : length (l .operands) ≡ length (l .kinds)
+  pub rows : Rows (length (l .kinds)) (l .rows) (l .numbers) (l .states)
+  pub nodes : nodesTo banks l (length (l .kinds)) ≡ Accepted
+
+pub accepted-lists : (banks : ℕ) (l : Lists) → listsOf banks l ≡ Accepted → SoundLists banks l
+unfolding listsOf
+accepted-lists banks l e =
+    let n = length (l .kinds) in
+    let fits = eqb (length (l .operands)) n in
+    let numbered = eqb (length (l .numbers)) (l .rows * n) in
+    let stated = eqb (length (l .states)) (l .rows * n) in
+    let counts = leb 1 (l .rows) && (leb (l .rows) maxRows && (numbered && stated)) in
+    let a = through (leb n maxNodes && fits) (pick counts (nodesTo banks l n) (Refused (Malformed 1))) (Malformed 0) e in
+    let b = through counts (nodesTo banks l n) (Malformed 1) (a .1) in
+    let c = both (leb n maxNodes) fits (a .0) in
+    let d = both (leb 1 (l .rows)) (leb (l .rows) maxRows && (numbered && stated)) (b .0) in
+    let f = both (leb (l .rows) maxRows) (numbered && stated) (d .1) in
+    let g = both numbered stated (f .1) in
+    record {
+      few = leb-true n maxNodes (c .0);
+      operands = eqb-true (length (l .operands)) n (c .1);
+      rows = record {
+        some = leb-true 1 (l .rows) (d .0);
+        few = leb-true (l .rows) maxRows (f .0);
+        numbered = eqb-true (length (l .numbers)) (l .rows * n) (g .0);
+        stated = eqb-true (length (l .states)) (l .rows * n) (g .1);
+      };
+      nodes = b .1;
+    }
+
+pub accepted-rows : (banks : ℕ) (l : Lists) {v : Verdict} → v ≡ listsOf banks l → v ≡ Accepted
+    → Rows (length (l .kinds)) (l .rows) (l .numbers) (l .states)
+accepted-rows banks l g h = accepted-lists banks l (sym g ∙ h) .rows

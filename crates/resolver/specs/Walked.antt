@@ -24,7 +24,7 @@ goes-walk x (State t) e = (cc, cc)
 goes-walk x (Refused why) e = (cc, cc)
 
 -- the state of a node that sees a position
-abbrev stateSeen : Bankdef → Node → Moved → Bool → Moved → ℕ
+abbrev pub stateSeen : Bankdef → Node → Moved → Bool → Moved → ℕ
 stateSeen def n before isFirst (To now) = stateOf n (labelState def now before isFirst)
 stateSeen def n before isFirst (Stopped why) = 0
 

@@ -6,8 +6,6 @@ mod passes;
 pub use lists::check_lists;
 pub use lists::node_at;
 pub use once::bank_record;
-pub use once::resolve_once;
-pub use once::step_at;
 pub use passes::resolve;
 use refusal::Refusal;
 

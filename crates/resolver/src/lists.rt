@@ -9,7 +9,8 @@ ghost use mathlib.Core.Bool.{_&&_, _||_};
 ghost use Prim.Native.Nat.{_<_};
 ghost use lib.Dec.{ltb};
 ghost use lib.ListN.{getD, length};
-ghost use Rattle.resolver.specs.Lists.{lists, nodeAt, nodeOf, isItem, pastEnd, anyRowFault, nodeFault, nodesTo, listsOf, Rows};
+ghost use Rattle.resolver.specs.Sound.{ListFigures};
+ghost use Rattle.resolver.specs.Lists.{lists, rowWith, nodeAt, nodeOf, isItem, pastEnd, anyRowFault, nodeFault, nodesTo, listsOf, Rows};
 
 fn byte_at(s: &[u8], i: usize) -> u8
     ensures { λ r. ⌜ r ≡ getD (now (s .entry)) i 0 ⌝ }
@@ -32,7 +33,9 @@ pub fn node_at(
     states: &[u8],
     i: usize,
 ) -> Node
-    ensures { λ r. ⌜ r ≡ nodeAt (now (kinds .entry)) (now (operands .entry)) (now (first .entry)) (record { numbers = now (numbers .entry); states = now (states .entry) }) i ⌝ }
+    ensures { λ r. ⌜ r ≡ nodeAt (now (kinds .entry)) (now (operands .entry)) (now (first .entry))
+        (rowWith (now (numbers .entry)) (now (states .entry)))
+        i ⌝ }
 {
     let kind = byte_at(kinds, i);
     let operand = number_at(operands, i);
@@ -123,7 +126,9 @@ fn any_row_fault(
 ) -> bool
     requires { ⌜ Rows (length (now kinds)) rows (now numbers) (now states) ⌝ }
     requires { ⌜ (2 < getD (now kinds) i 0) × (isItem (getD (now kinds) i 0) ≡ item) ⌝ }
-    ensures { λ r. ⌜ r ≡ anyRowFault (lists (now (kinds .entry)) (now (operands .entry)) (now (numbers .entry)) (now (states .entry)) rows (now (values .entry))) i rows ⌝ }
+    ensures { λ r. ⌜ r ≡ anyRowFault
+        (lists (now (kinds .entry)) (now (operands .entry)) (now (numbers .entry)) (now (states .entry)) rows (now (values .entry)))
+        i rows ⌝ }
 {
     let mut r: u64 = 0;
     while r < rows {
@@ -149,7 +154,9 @@ fn node_fault(
     i: usize,
 ) -> bool
     requires { ⌜ Rows (length (now kinds)) rows (now numbers) (now states) ⌝ }
-    ensures { λ r. ⌜ r ≡ nodeFault banks (lists (now (kinds .entry)) (now (operands .entry)) (now (numbers .entry)) (now (states .entry)) rows (now (values .entry))) i ⌝ }
+    ensures { λ r. ⌜ r ≡ nodeFault banks
+        (lists (now (kinds .entry)) (now (operands .entry)) (now (numbers .entry)) (now (states .entry)) rows (now (values .entry)))
+        i ⌝ }
 {
     let kind = byte_at(kinds, i);
     match kind {
@@ -178,7 +185,9 @@ fn check_nodes(
     values: &[u8],
 ) -> Verdict
     requires { ⌜ Rows (length (now kinds)) rows (now numbers) (now states) ⌝ }
-    ensures { λ r. ⌜ r ≡ nodesTo banks (lists (now (kinds .entry)) (now (operands .entry)) (now (numbers .entry)) (now (states .entry)) rows (now (values .entry))) (length (now (kinds .entry))) ⌝ }
+    ensures { λ r. ⌜ r ≡ nodesTo banks
+        (lists (now (kinds .entry)) (now (operands .entry)) (now (numbers .entry)) (now (states .entry)) rows (now (values .entry)))
+        (length (now (kinds .entry))) ⌝ }
 {
     let mut i = 0;
     while i < kinds.len() {
@@ -201,7 +210,12 @@ pub fn check_lists(
     rows: u64,
     values: &[u8],
 ) -> Verdict
-    ensures { λ r. ⌜ r ≡ listsOf banks (lists (now (kinds .entry)) (now (operands .entry)) (now (numbers .entry)) (now (states .entry)) rows (now (values .entry))) ⌝ }
+    ensures { λ r. ⌜ r ≡ listsOf banks
+        (lists (now (kinds .entry)) (now (operands .entry)) (now (numbers .entry)) (now (states .entry)) rows (now (values .entry)))
+        ⌝ }
+    ensures { λ r. ⌜ ListFigures banks
+        (lists (now (kinds .entry)) (now (operands .entry)) (now (numbers .entry)) (now (states .entry)) rows (now (values .entry)))
+        r ⌝ }
 {
     let n = kinds.len();
     if MAX_NODES < n as u64 {

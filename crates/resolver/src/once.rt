@@ -19,30 +19,39 @@ ghost use mathlib.Core.Path.{_≡_};
 ghost use Rattle.bankdef.specs.Check.{noBank};
 ghost use Rattle.iter.specs.Step.{stepOf};
 ghost use Prim.Native.Nat.{_/_};
-ghost use lib.ListN.{getD};
 ghost use Rattle.resolver.specs.Before.{steppedBefore};
-ghost use Rattle.resolver.specs.Once.{bankOf, labelState, stateOf, offBoundary, met, passOf};
+ghost use Rattle.resolver.specs.Lists.{rowWith};
+ghost use Rattle.resolver.specs.Once.{programWith, bankRecord, bankOf, labelState, stateOf, offBoundary, met, passOf};
 
-// The record of a bank; one of unit 0, which no address can be told of, where the table has none.
-pub fn bank_record(banks: Bankdefs, bank: u64) -> Bankdef
-    ensures { λ r. ⌜ r ≡ getD (banks .defs) bank noBank ⌝ }
+// The record of a bank that the table does not list: its unit is 0, and no address of it can be told.
+fn no_record() -> Bankdef
+    ensures { λ r. ⌜ r ≡ noBank ⌝ }
 {
-    if bank < MAX_BANKS {
-        banks.defs[bank as usize]
-    } else {
-        Bankdef {
-            unit: 0,
-            start: 0,
-            size: Opt::None,
-            offset: Opt::None,
-            align: Opt::None,
-            fill: false,
-        }
+    Bankdef {
+        unit: 0,
+        start: 0,
+        size: Opt::None,
+        offset: Opt::None,
+        align: Opt::None,
+        fill: false,
     }
 }
 
+// The record of a bank; one of unit 0 for every bank number that the table does not list, from its count on.
+pub fn bank_record(banks: Bankdefs, bank: u64) -> Bankdef
+    ensures { λ r. ⌜ r ≡ bankRecord banks bank ⌝ }
+{
+    if banks.len <= bank {
+        return no_record();
+    }
+    if MAX_BANKS <= bank {
+        return no_record();
+    }
+    banks.defs[bank as usize]
+}
+
 // The step over a node, in the bank that it stands in.
-pub fn step_at(banks: Bankdefs, walk: Walk, node: Node) -> Stepped
+fn step_at(banks: Bankdefs, walk: Walk, node: Node) -> Stepped
     ensures { λ r. ⌜ r ≡ stepOf (bankOf banks walk node) walk node ⌝ }
 {
     let bank = bank_after(walk.bank, node);
@@ -164,7 +173,10 @@ pub fn resolve_once(
     is_first: bool,
     is_last: bool,
 ) -> Pass
-    ensures { λ r. ⌜ r ≡ passOf (record { banks = banks; kinds = now (kinds .entry); operands = now (operands .entry); first = now (first .entry) }) (record { numbers = now (numbers .entry); states = now (states .entry) }) (record { numbers = now («before_numbers» .entry); states = now («before_states» .entry) }) «is_first» «is_last» ⌝ }
+    ensures { λ r. ⌜ r ≡ passOf (programWith banks (now (kinds .entry)) (now (operands .entry)) (now (first .entry)))
+        (rowWith (now (numbers .entry)) (now (states .entry)))
+        (rowWith (now («before_numbers» .entry)) (now («before_states» .entry)))
+        «is_first» «is_last» ⌝ }
 {
     let mut walk = start();
     let mut walk_before = start();

@@ -15,6 +15,7 @@ ghost use Prim.Native.Nat.{_+_, _-_, _<_, _≤_, min};
 ghost use lib.ListN.{length};
 ghost use Rattle.resolver.specs.Layout.{layoutOf};
 ghost use Rattle.resolver.specs.Lists.{lists, Rows};
+ghost use Rattle.resolver.specs.RefusedExactly.{Figures};
 ghost use Rattle.resolver.specs.Passes.{passAt, lastOf, resolutionOf};
 
 // "Pass n reads row n, or the last row if there are fewer." Rows are counted from 0 and passes from 1.
@@ -104,7 +105,12 @@ fn last_pass(
 ) -> Resolution
     requires { ⌜ Rows (length (now kinds)) rows (now numbers) (now states) ⌝ }
     requires { ⌜ 1 ≤ n ⌝ }
-    ensures { λ r. ⌜ r ≡ record { settled = lastOf k (passAt banks (lists (now (kinds .entry)) (now (operands .entry)) (now (numbers .entry)) (now (states .entry)) rows []) n true); passes = n } ⌝ }
+    ensures { λ r. ⌜ r ≡ record {
+      settled = lastOf k (passAt banks
+          (lists (now (kinds .entry)) (now (operands .entry)) (now (numbers .entry)) (now (states .entry)) rows [])
+          n true);
+      passes = n;
+    } ⌝ }
 {
     let last = pass_at(banks, kinds, operands, numbers, states, rows, n, true);
     settle(k, last, n)
@@ -178,7 +184,12 @@ pub fn resolve(
     values: &[u8],
     limit: u8,
 ) -> Resolution
-    ensures { λ r. ⌜ r ≡ layoutOf banks (lists (now (kinds .entry)) (now (operands .entry)) (now (numbers .entry)) (now (states .entry)) rows (now (values .entry))) limit ⌝ }
+    ensures { λ r. ⌜ r ≡ layoutOf banks
+        (lists (now (kinds .entry)) (now (operands .entry)) (now (numbers .entry)) (now (states .entry)) rows (now (values .entry)))
+        limit ⌝ }
+    ensures { λ r. ⌜ Figures banks
+        (lists (now (kinds .entry)) (now (operands .entry)) (now (numbers .entry)) (now (states .entry)) rows (now (values .entry)))
+        limit r ⌝ }
 {
     match check(banks) {
         Verdict::Refused(why) => turned_away(why),

@@ -1,11 +1,26 @@
--- The table's list has 16 records, so that past them `getD` gives its default.
-use mathlib.Core.Path.{_≡_, sym}
+-- A number from the table's count on, or past its 16 records, has no record; every other has the table's.
+use mathlib.Core.Path.{_≡_, sym, _∙_}
 use borrow.Author.Needs.{needs}
 use native.Mathlib.Omega.{arith}
-use lib.ListN.{length, length-map, List·getD-eq-default}
-use Rattle.bankdef.specs.Check.{noBank}
+use lib.ListN.{length, length-map}
+use Rattle.resolver.specs.Listed.{listed-bank, unlisted-bank, past-records}
 use Rattle.resolver.proofs.once.bank_record.Statement.{statement}
 use Rattle.resolver.proofs.once.bank_record.Tie as tie
+
+no-record-requires : tie.Need-no-record-requires
+no-record-requires c κs = search needs
+
+returns : tie.Need-returns
+returns c = c .no-record .ensures ∙ sym (unlisted-bank _ _ (c .before .if1 .taken))
+
+no-record-requires-2 : tie.Need-no-record-requires-2
+no-record-requires-2 c κs = search needs
+
+returns-2 : tie.Need-returns-2
+returns-2 c =
+    let a = c .before .before .before .args in
+    let e : length (a .t1 .defs) ≡ 16 = simp length-map at (c .before .before .before .good .0 .1 .1 .0 .1 .0 .1) in
+    c .no-record2 .ensures ∙ sym (past-records (a .t1) (a .bank) (omega arith))
 
 mul-result : tie.Need-mul-result
 mul-result c = search needs
@@ -13,14 +28,17 @@ mul-result c = search needs
 element-copy-out-result : tie.Need-element-copy-out-result
 element-copy-out-result c = search needs
 
-returns : tie.Need-returns
-returns c = search needs
-
-returns-2 : tie.Need-returns-2
-returns-2 c =
-    let a = c .before .args in
-    let e : length (a .t1 .defs) ≡ 16 = simp length-map at (c .before .good .0 .1 .1 .0 .1 .0 .1) in
-    sym (List·getD-eq-default (a .t1 .defs) noBank (omega arith))
+returns-3 : tie.Need-returns-3
+returns-3 c = let a = c .before .before .before .args in rw (listed-bank (a .t1) (a .bank) (c .before .before .if1 .left)) (search needs)
 
 pub bank-record-spec : {M : Type 1} → statement M
-bank-record-spec = tie.close (tie.spec mul-result element-copy-out-result returns returns-2)
+bank-record-spec =
+    tie.close
+    (tie.spec
+    no-record-requires
+    returns
+    no-record-requires-2
+    returns-2
+    mul-result
+    element-copy-out-result
+    returns-3)

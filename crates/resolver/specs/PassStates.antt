@@ -1,0 +1,155 @@
+-- "A pass is unresolved if any state is 2, stable if any is 1, otherwise resolved", of the passes of lists that the list check accepts; and the state that
+-- each node has in a pass: "0, 1 and 2 don't read the state", a label's is found, every other kind has its row's.
+use Prim.Native.Nat.{ℕ, zero, suc, _-_, _<_, _≤_, min}
+use mathlib.Core.Path.{_≡_, refl, sym, _∙_, ap, subst}
+use mathlib.Core.Bool.{Bool, true, false, not, _&&_, _||_}
+use mathlib.Core.Logic.{_⊎_, inl, inr, ⊎-elim, _↔_}
+use native.Mathlib.Omega.{arith}
+use lib.Dec.{eqb, leb, ltb}
+use lib.ListN.{getD, length}
+use borrow.Author.Tests.{eq-eqb, ne-eqb, le-leb, lt-leb, leb-false, lt-ltb, eqb-true, eqb-false, ltb-false}
+use Rattle.refusal.specs.Pick.{pick}
+use Rattle.refusal.specs.declared.Refusal.{Refusal}
+use Rattle.refusal.specs.declared.Verdict.the-variants.{Accepted}
+use Rattle.bankdef.specs.Bools.{either, neither, clash}
+use Rattle.bankdef.specs.declared.Bankdef.{Bankdef}
+use Rattle.bankdef.specs.declared.Bankdefs.{Bankdefs}
+use Rattle.iter.specs.Address.{onBoundary}
+use Rattle.iter.specs.declared.Moved.{Moved}
+use Rattle.iter.specs.declared.Moved.the-variants.{To, Refused as Stopped}
+use Rattle.iter.specs.declared.Node.{Node}
+use Rattle.iter.specs.declared.Pos.{Pos}
+use Rattle.iter.specs.declared.Walk.{Walk}
+use Rattle.resolver.specs.Lists.{Lists, nodeOf, isItem, pastEnd, rowFault, listsOf}
+use Rattle.resolver.specs.NodeOrder.{seenAt, defAt}
+use Rattle.resolver.specs.Once.{Going, on, off, node, closed, sameAddress, labelState, stateOf, passTo}
+use Rattle.resolver.specs.Passes.{program, rowOfPass, passAt}
+use Rattle.resolver.specs.Sound.{accepted-row, accepted-lists}
+use Rattle.resolver.specs.Walked.{stateSeen, Largest, largest}
+use Rattle.resolver.specs.declared.Pass.{Pass}
+use Rattle.resolver.specs.declared.Pass.the-variants.{State, Refused}
+
+module _ (banks : Bankdefs) (l : Lists) where
+  -- the position that node i sees in pass n
+  abbrev pub seenIn : ℕ → ℕ → Moved
+  seenIn n i = seenAt (program banks l) (rowOfPass l n) i
+
+  -- the record of the bank that node i stands in, in pass n
+  abbrev pub defIn : ℕ → ℕ → Bankdef
+  defIn n i = defAt (program banks l) (rowOfPass l n) i
+
+  abbrev pub nodeIn : ℕ → ℕ → Node
+  nodeIn n i = node (program banks l) (rowOfPass l n) i
+
+  -- the state of node i in pass n, by what it sees there and what it saw in the pass before
+  abbrev pub stateIn : ℕ → ℕ → ℕ
+  stateIn n i = stateSeen (defIn n i) (nodeIn n i) (seenIn (n - 1) i) (eqb n 1) (seenIn n i)
+
+stood : (g : Going) {s : ℕ} → closed g ≡ State s → (w : Walk) × (g ≡ on w s)
+stood (on w t) e = (w, cc)
+stood (off why) e = absurd (let z : _≡_ {A = ℕ} 0 1 = cc in let b : ⊥ = omega arith in b)
+
+-- ---- no state passes 2
+
+pick-two : (b : Bool) {x y : ℕ} → x ≤ 2 → y ≤ 2 → pick b x y ≤ 2
+pick-two true p q = p
+pick-two false p q = q
+
+label-two : (def : Bankdef) (now : Pos) (before : Moved) (isFirst : Bool) → labelState def now before isFirst ≤ 2
+label-two def now before isFirst =
+    pick-two (now .known && onBoundary def (now .position)) (omega arith) (pick-two (not isFirst && sameAddress def now before) (omega arith) (omega arith))
+
+state-two : (n : Node) (label : ℕ) → label ≤ 2 → (2 < n .kind → n .state ≤ 2) → stateOf n label ≤ 2
+state-two n label h k =
+    either (leb (n .kind) 1) (λ e. rw e (omega arith))
+    (λ e.
+    rw e
+    (either (eqb (n .kind) 2) (λ f. rw f h)
+    (λ f. rw f (k (let low = leb-false (n .kind) 1 e in let other = eqb-false (n .kind) 2 f in let g : 2 < n .kind = omega arith in g)))))
+
+sound-state : (bytes : ℕ) (n : Node) → rowFault bytes n ≡ false → 2 < n .kind → n .state ≤ 2
+sound-state bytes n e h =
+    let a : (true && ltb 2 (n .state)) || (isItem (n .kind) && pastEnd bytes n) ≡ false = rw (lt-ltb 2 (n .kind) h) at e in
+    ltb-false 2 (n .state) (neither (ltb 2 (n .state)) (isItem (n .kind) && pastEnd bytes n) a .0)
+
+module _ (banks : Bankdefs) (l : Lists) (sound : listsOf (banks .len) l ≡ Accepted) (n : ℕ) where
+  -- a state that is read is at most 2, as the list check has it of every row
+  pub small : (i : ℕ) → i < length (l .kinds) → stateIn banks l n i ≤ 2
+  small i h = seen-two (seenIn banks l n i)
+    where
+      reads : 2 < nodeIn banks l n i .kind → nodeIn banks l n i .state ≤ 2
+      reads k =
+          let s = accepted-lists (banks .len) l sound in
+          let some = s .rows .some in
+          let row : min n (l .rows) - 1 < l .rows = omega arith in
+          sound-state (length (l .values)) (nodeIn banks l n i)
+          (accepted-row (banks .len) l (length (l .kinds)) (s .nodes) i h (min n (l .rows) - 1) row) k
+
+      seen-two : (m : Moved) → stateSeen (defIn banks l n i) (nodeIn banks l n i) (seenIn banks l (n - 1) i) (eqb n 1) m ≤ 2
+      seen-two (To now) =
+          state-two (nodeIn banks l n i) (labelState (defIn banks l n i) now (seenIn banks l (n - 1) i) (eqb n 1))
+          (label-two (defIn banks l n i) now (seenIn banks l (n - 1) i) (eqb n 1)) reads
+      seen-two (Stopped why) = omega arith
+
+  module _ (isLast : Bool) (s : ℕ) (comes : passAt banks l n isLast ≡ State s) where
+    merged : Largest (program banks l) (rowOfPass l n) (rowOfPass l (n - 1)) (eqb n 1) isLast (length (l .kinds)) s
+    merged =
+        let p = program banks l in
+        let g = passTo p (rowOfPass l n) (rowOfPass l (n - 1)) (eqb n 1) isLast (length (l .kinds)) in
+        let w = stood g comes in
+        largest p (rowOfPass l n) (rowOfPass l (n - 1)) (eqb n 1) isLast (length (l .kinds)) (w .0) s (w .1)
+
+    -- each node's state is at most what the pass comes to
+    pub most : (i : ℕ) → i < length (l .kinds) → stateIn banks l n i ≤ s
+    most i h = merged .most i h
+
+    -- which is 0 or the state of one of them
+    pub one : (s ≡ 0) ⊎ ((i : ℕ) × (i < length (l .kinds)) × (stateIn banks l n i ≡ s))
+    one = merged .one
+
+    two-at-most : s ≤ 2
+    two-at-most =
+        ⊎-elim (λ (z : s ≡ 0). omega arith)
+        (λ (w : (i : ℕ) × (i < length (l .kinds)) × (stateIn banks l n i ≡ s)). let h = small (w .0) (w .1) in let e = w .2 in omega arith)
+        one
+
+    -- "A pass is unresolved if any state is 2"
+    pub unresolved-exactly : (s ≡ 2) ↔ ((i : ℕ) × (i < length (l .kinds)) × (stateIn banks l n i ≡ 2))
+    unresolved-exactly = (
+      λ e.
+          ⊎-elim (λ (z : s ≡ 0). absurd (let b : ⊥ = omega arith in b))
+          (λ (w : (i : ℕ) × (i < length (l .kinds)) × (stateIn banks l n i ≡ s)). (w .0, w .1, w .2 ∙ e))
+          one,
+      λ w. let h = most (w .0) (w .1) in let e = w .2 in let t = two-at-most in omega arith,
+    )
+
+    -- "stable if any is 1": and none is 2
+    pub stable-exactly : (s ≡ 1) ↔ (((i : ℕ) × (i < length (l .kinds)) × (stateIn banks l n i ≡ 1)) × ((i : ℕ) → i < length (l .kinds) → stateIn banks l n i ≡ 2 → ⊥))
+    stable-exactly = (
+      λ e. (
+        ⊎-elim (λ (z : s ≡ 0). absurd (let b : ⊥ = omega arith in b))
+            (λ (w : (i : ℕ) × (i < length (l .kinds)) × (stateIn banks l n i ≡ s)). (w .0, w .1, w .2 ∙ e))
+            one,
+        λ i h f. let g = most i h in omega arith,
+      ),
+      λ w.
+          ⊎-elim (λ (z : s ≡ 0). let h = most (w .0 .0) (w .0 .1) in let e = w .0 .2 in omega arith)
+          (λ (v : (i : ℕ) × (i < length (l .kinds)) × (stateIn banks l n i ≡ s)).
+          let h = most (w .0 .0) (w .0 .1) in
+          let e = w .0 .2 in
+          let t = two-at-most in
+          let f = v .2 in
+          let no : s ≡ 2 → ⊥ = λ q. w .1 (v .0) (v .1) (v .2 ∙ q) in
+          omega arith)
+          one,
+    )
+
+    -- "otherwise resolved"
+    pub resolved-exactly : (s ≡ 0) ↔ ((i : ℕ) → i < length (l .kinds) → stateIn banks l n i ≡ 0)
+    resolved-exactly = (
+      λ e i h. let g = most i h in omega arith,
+      λ all.
+          ⊎-elim (λ (z : s ≡ 0). z)
+          (λ (w : (i : ℕ) × (i < length (l .kinds)) × (stateIn banks l n i ≡ s)). let e = all (w .0) (w .1) in let f = w .2 in omega arith)
+          one,
+    )
