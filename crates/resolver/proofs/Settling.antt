@@ -1,23 +1,19 @@
 -- The passes, as the loop goes through them: no pass so far is settled, and what each way out comes to.
 use Prim.Native.Nat.{ℕ, _+_, _<_, _≤_, min}
 use mathlib.Core.Path.{_≡_, sym, _∙_}
-use mathlib.Core.Bool.{Bool, true, false, not}
+use mathlib.Core.Bool.{Bool, true, false}
 use mathlib.Core.Logic.{⊎-elim}
 use native.Mathlib.Nat.{eq-or-lt-of-le}
 use native.Mathlib.Omega.{arith}
-use lib.Dec.{eqb}
 use borrow.Author.Tests.{eq-eqb, ne-eqb, lt-ltb, le-ltb}
 use Rattle.refusal.specs.declared.Refusal.{Refusal}
 use Rattle.resolver.specs.Passes.{unresolved, passK, lastOf, settledBy}
-use Rattle.resolver.specs.Least.{or-past, first-at, first-from}
+use Rattle.resolver.specs.Ends.{Unsettled, settles, unsettled-below, K-at}
+use Rattle.resolver.specs.Least.{or-past, first-from}
 use Rattle.resolver.specs.declared.Pass.{Pass}
 use Rattle.resolver.specs.declared.Pass.the-variants.{State, Refused as Failed}
 use Rattle.resolver.specs.declared.Settled.the-variants.{Refused}
 use Rattle.resolver.specs.declared.Resolution.{Resolution}
-
--- every pass before n is unresolved
-abbrev pub Unsettled : (ℕ → Bool → Pass) → ℕ → Type 0
-Unsettled pass n = (p : ℕ) → 1 ≤ p → p < n → unresolved (pass p false) ≡ true
 
 module _ (pass : ℕ → Bool → Pass) where
   pub none-yet : Unsettled pass 1
@@ -35,17 +31,6 @@ module _ (pass : ℕ → Bool → Pass) where
       (or-past (rows + 2) p)
 
   module _ (m : ℕ) where
-    -- what pass K is looked for by
-    abbrev settles : ℕ → Bool
-    settles n = not (unresolved (pass n (eqb n m)))
-
-    unsettled-below : (n : ℕ) → n ≤ m → Unsettled pass n → (p : ℕ) → 1 ≤ p → p < n → settles p ≡ false
-    unsettled-below n h before p low high = rw (ne-eqb p m (λ q. omega arith), before p low high)
-
-    K-at : (n : ℕ) → 1 ≤ n → n < m → Unsettled pass n → unresolved (pass n false) ≡ false → passK pass m ≡ n
-    K-at n low high before e =
-        first-at settles 1 m n low (omega arith) (unsettled-below n (omega arith) before) (rw (ne-eqb n m (λ q. omega arith), e))
-
     pub no-limit : m ≡ 0 → {r : Resolution} → r ≡ record { settled = lastOf 0 (pass 1 true); passes = 1 } → r ≡ settledBy pass m
     unfolding settledBy
     no-limit z e = rw (eq-eqb m 0 z) e
@@ -54,17 +39,17 @@ module _ (pass : ℕ → Bool → Pass) where
       pub refused-pass : {why : Refusal} → this ≡ Failed why → record { settled = Refused why; passes = n } ≡ settledBy pass m
       unfolding settledBy
       refused-pass f =
-          let k : passK pass m ≡ n = K-at n low high before (rw (sym e ∙ f)) in
+          let k : passK pass m ≡ n = K-at pass m n low high before (rw (sym e ∙ f)) in
           rw (ne-eqb m 0 (λ q. omega arith), k, lt-ltb n m high, sym e ∙ f)
 
       pub settled-pass : {s : ℕ} → this ≡ State s → (s ≡ 2 → ⊥) → {r : Resolution} → r ≡ record { settled = lastOf n (pass (n + 1) true); passes = n + 1 } → r ≡ settledBy pass m
       unfolding settledBy
       settled-pass {s} f t h =
-          let k : passK pass m ≡ n = K-at n low high before (rw (sym e ∙ f, ne-eqb s 2 t)) in
+          let k : passK pass m ≡ n = K-at pass m n low high before (rw (sym e ∙ f, ne-eqb s 2 t)) in
           rw (ne-eqb m 0 (λ q. omega arith), k, lt-ltb n m high, sym e ∙ f) h
 
     pub limit-pass : (rows n : ℕ) → (m ≡ 0 → ⊥) → ((p : ℕ) → rows < p → pass p false ≡ pass (rows + 1) false) → n ≡ min m (rows + 2) → Unsettled pass n → {r : Resolution} → r ≡ record { settled = lastOf m (pass m true); passes = m } → r ≡ settledBy pass m
     unfolding settledBy
     limit-pass rows n z same e before h =
-        let k : m ≤ passK pass m = first-from settles 1 m m (omega arith) (unsettled-below m (omega arith) (all-unsettled rows n m same e before)) in
+        let k : m ≤ passK pass m = first-from (settles pass m) 1 m m (omega arith) (unsettled-below pass m m (omega arith) (all-unsettled rows n m same e before)) in
         rw (ne-eqb m 0 z, le-ltb (passK pass m) m k) h

@@ -9,7 +9,7 @@ use Rattle.bankdef.specs.declared.Bankdefs.{Bankdefs}
 use Rattle.resolver.specs.Layout.{unless, layoutOf}
 use Rattle.resolver.specs.Lists.{Lists, listsOf}
 use Rattle.resolver.specs.Passes.{passAt, resolutionOf}
-use Rattle.resolver.specs.Run.{Told, accepted-passes, passes-bounded}
+use Rattle.resolver.specs.Run.{Counted, accepted-passes, passes-bounded}
 use Rattle.resolver.specs.declared.Settled.the-variants.{At}
 use Rattle.resolver.specs.declared.Resolution.{Resolution}
 
@@ -28,7 +28,7 @@ unless-runs (TurnedAway why) r n h = omega arith
 
 -- The same of the layout's answer, whose passes are those of its rows.
 module _ (banks : Bankdefs) (l : Lists) (m : ℕ) where
-  pub accepted-layout : (k : ℕ) → layoutOf banks l m .settled ≡ At k → Told (passAt banks l) m k (layoutOf banks l m)
+  pub accepted-layout : (k : ℕ) → layoutOf banks l m .settled ≡ At k → Counted (passAt banks l) m k (layoutOf banks l m)
   unfolding layoutOf
   accepted-layout k e =
       let a = unless-told (checkOf banks) (unless (listsOf (banks .len) l) (resolutionOf banks l m)) e in

@@ -4,6 +4,7 @@ pub mod Cases
 pub mod Counts
 pub mod Ends
 pub mod FirstRow
+pub mod KnownInPass
 pub mod LabelStates
 pub mod Labels
 pub mod Layout
@@ -14,6 +15,7 @@ pub mod NodeOrder
 pub mod Once
 pub mod PassStates
 pub mod Passes
+pub mod PositionPast
 pub mod RaisedLimit
 pub mod RefusedExactly
 pub mod Repeats
@@ -22,4 +24,6 @@ pub mod Run
 pub mod Sound
 pub mod StepRefusals
 pub mod Told
+pub mod Unread
+pub mod UnreadStep
 pub mod Walked

@@ -74,21 +74,22 @@ sound-state bytes n e h =
 
 module _ (banks : Bankdefs) (l : Lists) (sound : listsOf (banks .len) l ≡ Accepted) (n : ℕ) where
   -- a state that is read is at most 2, as the list check has it of every row
+  pub sound-state-of-row : (i : ℕ) → i < length (l .kinds) → 2 < nodeIn banks l n i .kind → nodeIn banks l n i .state ≤ 2
+  sound-state-of-row i h k =
+      let s = accepted-lists (banks .len) l sound in
+      let some = s .rows .some in
+      let row : min n (l .rows) - 1 < l .rows = omega arith in
+      sound-state (length (l .values)) (nodeIn banks l n i)
+      (accepted-row (banks .len) l (length (l .kinds)) (s .nodes) i h (min n (l .rows) - 1) row) k
+
+  -- and so is every state that a node has in a pass
   pub small : (i : ℕ) → i < length (l .kinds) → stateIn banks l n i ≤ 2
   small i h = seen-two (seenIn banks l n i)
     where
-      reads : 2 < nodeIn banks l n i .kind → nodeIn banks l n i .state ≤ 2
-      reads k =
-          let s = accepted-lists (banks .len) l sound in
-          let some = s .rows .some in
-          let row : min n (l .rows) - 1 < l .rows = omega arith in
-          sound-state (length (l .values)) (nodeIn banks l n i)
-          (accepted-row (banks .len) l (length (l .kinds)) (s .nodes) i h (min n (l .rows) - 1) row) k
-
       seen-two : (m : Moved) → stateSeen (defIn banks l n i) (nodeIn banks l n i) (seenIn banks l (n - 1) i) (eqb n 1) m ≤ 2
       seen-two (To now) =
           state-two (nodeIn banks l n i) (labelState (defIn banks l n i) now (seenIn banks l (n - 1) i) (eqb n 1))
-          (label-two (defIn banks l n i) now (seenIn banks l (n - 1) i) (eqb n 1)) reads
+          (label-two (defIn banks l n i) now (seenIn banks l (n - 1) i) (eqb n 1)) (sound-state-of-row i h)
       seen-two (Stopped why) = omega arith
 
   module _ (isLast : Bool) (s : ℕ) (comes : passAt banks l n isLast ≡ State s) where

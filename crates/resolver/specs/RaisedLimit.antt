@@ -13,7 +13,7 @@ use Rattle.refusal.specs.declared.Verdict.the-variants.{Accepted, Refused as Tu
 use Rattle.bankdef.specs.Check.{checkOf, firstPair}
 use Rattle.bankdef.specs.Search.{firstWhere}
 use Rattle.bankdef.specs.declared.Bankdefs.{Bankdefs}
-use Rattle.iter.specs.Step.{startOf, seenOf, advancedOf, stepOf}
+use Rattle.iter.specs.Step.{startOf, seenOf, movedOn, advancedOf, stepOf}
 use Rattle.resolver.specs.Answer.{accepted-layout, layout-bounded, layout-passes}
 use Rattle.resolver.specs.Cases.{oneBank, settledAt}
 use Rattle.resolver.specs.Ends.{RunsBefore, SettlesBelow, settled-below}
@@ -63,7 +63,7 @@ pub edge-moves :
     × (layoutOf oneBank edge 2 ≡ settledAt 1 2)
     × (rowOfPass edge 1 .numbers ≡ 1 ∷ [])
     × (rowOfPass edge 2 .numbers ≡ 2 ∷ [])
-unfolding layoutOf listsOf nodesTo anyRowFault settledBy first passTo walkTo startOf seenOf advancedOf stepOf firstWhere firstPair
+unfolding layoutOf listsOf nodesTo anyRowFault settledBy first passTo walkTo startOf seenOf movedOn advancedOf stepOf firstWhere firstPair
 edge-moves = (refl, refl, refl, refl)
 
 -- Or it is refused: the same with row 2 unresolved is accepted for limit 1, and 8 for limit 2.
@@ -73,5 +73,5 @@ edgeRefused = lists (6 ∷ []) (0 ∷ []) (1 ∷ 2 ∷ []) (0 ∷ 2 ∷ []) 2 (1
 pub edge-refused :
     (layoutOf oneBank edgeRefused 1 ≡ settledAt 1 1)
     × (layoutOf oneBank edgeRefused 2 ≡ record { settled = Refused Unresolved; passes = 2 })
-unfolding layoutOf listsOf nodesTo anyRowFault settledBy first passTo walkTo startOf seenOf advancedOf stepOf firstWhere firstPair
+unfolding layoutOf listsOf nodesTo anyRowFault settledBy first passTo walkTo startOf seenOf movedOn advancedOf stepOf firstWhere firstPair
 edge-refused = (refl, refl)

@@ -24,10 +24,12 @@ use Rattle.bankdef.specs.declared.Bankdefs.{Bankdefs}
 use Rattle.iter.specs.declared.Moved.{Moved}
 use Rattle.iter.specs.declared.Moved.the-variants.{To, Refused as Stopped}
 use Rattle.resolver.specs.Ends.{Runs, RunsLast, atLimit, Ending, early, last, ends, last-decides, refused-before}
-use Rattle.resolver.specs.Layout.{unless, layoutOf}
+use Rattle.resolver.specs.Layout.{unless, layoutOf, Checked}
+use Rattle.resolver.specs.PassStates.{nodeIn}
+use Rattle.resolver.specs.PositionPast.{WouldPass, five-met-exactly}
 use Rattle.resolver.specs.Lists.{Lists, Row, firstOf, nodeFault, nodesTo, listsOf}
-use Rattle.resolver.specs.NodeOrder.{seenAt, OffBoundary, GoesPast, MeetsFirst, first-met, met-first, ran-to-end}
-use Rattle.resolver.specs.Once.{Program}
+use Rattle.resolver.specs.NodeOrder.{seenAt, defAt, OffBoundary, GoesPast, MeetsFirst, first-met, met-first, ran-to-end}
+use Rattle.resolver.specs.Once.{walkTo}
 use Rattle.resolver.specs.Passes.{program, rowOfPass, passAt, unresolved, lastOf, settledBy, resolutionOf}
 use Rattle.resolver.specs.StepRefusals.{Refusable, step-refusals}
 use Rattle.resolver.specs.Told.{toldSettled, by-figures}
@@ -37,11 +39,6 @@ use Rattle.resolver.specs.declared.Settled.{Settled}
 use Rattle.resolver.specs.declared.Settled.the-variants.{At, Refused}
 use Rattle.resolver.specs.declared.Resolution.{Resolution}
 
--- The banks and the lists pass their checks: nothing of 1 to 4 is met.
-pub record Checked (banks : Bankdefs) (l : Lists) : Type 0 where
-  pub table : checkOf banks ≡ Accepted
-  pub lists : listsOf (banks .len) l ≡ Accepted
-
 -- Node i stops the walk of pass `pass`, with `why`, and the pass has gone past every node before it. The pass is one that runs.
 pub record StopsFirst (banks : Bankdefs) (l : Lists) (m i : ℕ) (why : Refusal) : Type 0 where
   pub checked : Checked banks l
@@ -50,6 +47,16 @@ pub record StopsFirst (banks : Bankdefs) (l : Lists) (m i : ℕ) (why : Refusal)
   pub runs : Runs (passAt banks l) m pass isLast
   pub listed : i < length (l .kinds)
   pub here : seenAt (program banks l) (rowOfPass l pass) i ≡ Stopped why
+  pub before : (j : ℕ) → j < i → GoesPast (program banks l) (rowOfPass l pass) isLast j
+
+-- "5: a position would pass 4,294,967,295": at node i of a pass that runs, and the pass has gone past every node before it.
+pub record PastFirst (banks : Bankdefs) (l : Lists) (m i : ℕ) : Type 0 where
+  pub checked : Checked banks l
+  pub pass : ℕ
+  pub isLast : Bool
+  pub runs : Runs (passAt banks l) m pass isLast
+  pub listed : i < length (l .kinds)
+  pub here : WouldPass (defAt (program banks l) (rowOfPass l pass) i) (walkTo (program banks l) (rowOfPass l pass) i) (nodeIn banks l pass i)
   pub before : (j : ℕ) → j < i → GoesPast (program banks l) (rowOfPass l pass) isLast j
 
 -- "7: a label in the last pass is off an address boundary": node i is the first such, and nothing stops the last pass before it.
@@ -70,7 +77,7 @@ pub record LastUnresolved (banks : Bankdefs) (l : Lists) (m : ℕ) : Type 0 wher
 
 -- What a layout's answer tells, in figures: 5, 6 and 7 with the node, 8 with place 0, and the passes run, "a refusing pass included".
 pub record Figures (banks : Bankdefs) (l : Lists) (m : ℕ) (r : Resolution) : Type 0 where
-  pub five : (i : ℕ) → (toldSettled (r .settled) ≡ refuses 5 (One i)) ↔ StopsFirst banks l m i (PositionPast i)
+  pub five : (i : ℕ) → (toldSettled (r .settled) ≡ refuses 5 (One i)) ↔ PastFirst banks l m i
   pub six : (i : ℕ) → (toldSettled (r .settled) ≡ refuses 6 (One i)) ↔ StopsFirst banks l m i (NegativeAlignment i)
   pub seven : (i : ℕ) → (toldSettled (r .settled) ≡ refuses 7 (One i)) ↔ OffInLast banks l m i
   pub eight : (toldSettled (r .settled) ≡ refuses 8 (One 0)) ↔ LastUnresolved banks l m
@@ -234,13 +241,38 @@ module _ (banks : Bankdefs) (l : Lists) (m : ℕ) where
       settled-as why
       (meeting-decides (s .checked) (s .pass) (s .isLast) i why (s .runs) (record { listed = s .listed; here = inl (s .here); before = s .before }))
 
-  -- 5 exactly when a pass that runs meets, before anything else, a node whose position would pass the limit.
-  pub five-exactly : (i : ℕ) → (toldSettled (layoutOf banks l m .settled) ≡ refuses 5 (One i)) ↔ StopsFirst banks l m i (PositionPast i)
+  past-first : (i : ℕ) → StopsFirst banks l m i (PositionPast i) → PastFirst banks l m i
+  past-first i s = record {
+    checked = s .checked;
+    pass = s .pass;
+    isLast = s .isLast;
+    runs = s .runs;
+    listed = s .listed;
+    here = five-met-exactly banks l (s .checked) (s .pass) i (s .isLast) (s .listed) (s .before) .0 (s .here);
+    before = s .before;
+  }
+
+  first-past : (i : ℕ) → PastFirst banks l m i → StopsFirst banks l m i (PositionPast i)
+  first-past i s = record {
+    checked = s .checked;
+    pass = s .pass;
+    isLast = s .isLast;
+    runs = s .runs;
+    listed = s .listed;
+    here = five-met-exactly banks l (s .checked) (s .pass) i (s .isLast) (s .listed) (s .before) .1 (s .here);
+    before = s .before;
+  }
+
+  -- 5 exactly when a pass that runs meets, before anything else, a node where a position would pass the limit.
+  pub five-exactly : (i : ℕ) → (toldSettled (layoutOf banks l m .settled) ≡ refuses 5 (One i)) ↔ PastFirst banks l m i
   five-exactly i = (
-    λ e. let h = told (PositionPast i) (omega arith) e in stopped-first i (PositionPast i) (omega arith) refl (h .0) (h .1),
-    stops-decides i (PositionPast i),
+    λ e.
+        let h = told (PositionPast i) (omega arith) e in
+        past-first i (stopped-first i (PositionPast i) (omega arith) refl (h .0) (h .1)),
+    λ s. stops-decides i (PositionPast i) (first-past i s),
   )
 
+  -- 6 exactly when such a pass meets, before anything else, a node where an alignment meets a negative address.
   pub six-exactly : (i : ℕ) → (toldSettled (layoutOf banks l m .settled) ≡ refuses 6 (One i)) ↔ StopsFirst banks l m i (NegativeAlignment i)
   six-exactly i = (
     λ e. let h = told (NegativeAlignment i) (omega arith) e in stopped-first i (NegativeAlignment i) (omega arith) refl (h .0) (h .1),

@@ -120,13 +120,13 @@ module _ (pass : ℕ → Bool → Pass) (m : ℕ) where
           rw (K-not-below h g) (d h g)
 
   -- what an accepted layout tells
-  abbrev pub Told : ℕ → Resolution → Type 0
-  Told k r = IsK pass m k × (r .passes ≡ runOf m k) × Settles (pass (r .passes) true)
+  abbrev pub Counted : ℕ → Resolution → Type 0
+  Counted k r = IsK pass m k × (r .passes ≡ runOf m k) × Settles (pass (r .passes) true)
 
   pub unresolved-before : (p : ℕ) → 1 ≤ p → p < passK pass m → p < m → unresolved (pass p false) ≡ true
   unresolved-before p low high less = rw (ne-eqb p m (λ q. omega arith)) at (before-K pass m p low high)
 
-  zero-told : m ≡ 0 → (k : ℕ) → lastOf 0 (pass 1 true) ≡ At k → Told k (record { settled = lastOf 0 (pass 1 true); passes = 1 })
+  zero-told : m ≡ 0 → (k : ℕ) → lastOf 0 (pass 1 true) ≡ At k → Counted k (record { settled = lastOf 0 (pass 1 true); passes = 1 })
   zero-told z k e =
       let h = last-at 0 (pass 1 true) e in
       let n = h .0 in (
@@ -141,7 +141,7 @@ module _ (pass : ℕ → Bool → Pass) (m : ℕ) where
         h .1,
       )
 
-  below-told : 0 < m → passK pass m < m → (k : ℕ) → afterK pass (passK pass m) (pass (passK pass m) false) .settled ≡ At k → Told k (afterK pass (passK pass m) (pass (passK pass m) false))
+  below-told : 0 < m → passK pass m < m → (k : ℕ) → afterK pass (passK pass m) (pass (passK pass m) false) .settled ≡ At k → Counted k (afterK pass (passK pass m) (pass (passK pass m) false))
   below-told some less k e =
       let other : eqb (passK pass m) m ≡ false = ne-eqb (passK pass m) m (λ q. omega arith) in
       let h = after-at pass (passK pass m) (pass (passK pass m) false) (rw other at (K-settles pass m (omega arith))) e in
@@ -157,7 +157,7 @@ module _ (pass : ℕ → Bool → Pass) (m : ℕ) where
         rw (h .1) (h .2),
       )
 
-  limit-told : 0 < m → m ≤ passK pass m → (k : ℕ) → lastOf m (pass m true) ≡ At k → Told k (record { settled = lastOf m (pass m true); passes = m })
+  limit-told : 0 < m → m ≤ passK pass m → (k : ℕ) → lastOf m (pass m true) ≡ At k → Counted k (record { settled = lastOf m (pass m true); passes = m })
   limit-told some least k e =
       let h = last-at m (pass m true) e in
       let n = h .0 in (
@@ -173,9 +173,9 @@ module _ (pass : ℕ → Bool → Pass) (m : ℕ) where
       )
 
   -- An accepted layout: K is the least pass that is not unresolved, the passes run are "K when K = M and M > 0, else K + 1", and the last of them was not unresolved.
-  pub accepted-passes : (k : ℕ) → settledBy pass m .settled ≡ At k → Told k (settledBy pass m)
+  pub accepted-passes : (k : ℕ) → settledBy pass m .settled ≡ At k → Counted k (settledBy pass m)
   accepted-passes =
-      by-ways (λ r. (k : ℕ) → r .settled ≡ At k → Told k r) (λ z. zero-told z) (λ some. λ less. below-told some less) (λ some. λ least. limit-told some least)
+      by-ways (λ r. (k : ℕ) → r .settled ≡ At k → Counted k r) (λ z. zero-told z) (λ some. λ less. below-told some less) (λ some. λ least. limit-told some least)
 
   -- A pass is run, and no more are than "the larger of 1 and the limit", refused layouts included.
   pub passes-bounded : (1 ≤ settledBy pass m .passes) × (settledBy pass m .passes ≤ max 1 m)

@@ -14,7 +14,7 @@ use Rattle.refusal.specs.declared.Opt.{Opt}
 use Rattle.refusal.specs.declared.Opt.the-variants.{None, Some}
 use Rattle.bankdef.specs.declared.Bankdef.{Bankdef}
 use Rattle.iter.specs.Distance.{tellable, addressInBits, gap, toAlignment, distanceOf}
-use Rattle.iter.specs.Step.{movedBy, movedByDistance, alignedTo, outermostSymbol, labelAligned, seenOf, advancedOf, steppedTo, steppedFrom, stepOf}
+use Rattle.iter.specs.Step.{movedBy, movedByDistance, alignedTo, outermostSymbol, labelAligned, seenOf, movedOn, advancedOf, steppedTo, steppedFrom, stepOf}
 use Rattle.iter.specs.declared.Distance.{Distance}
 use Rattle.iter.specs.declared.Distance.the-variants.{Bits, Refused as NoDistance}
 use Rattle.iter.specs.declared.Moved.{Moved}
@@ -104,7 +104,7 @@ module _ (def : Bankdef) (node : Node) where
       (to-ok (node .index) at)
 
   advanced-ok : (at : Pos) → MoveOk (node .index) (advancedOf def at node)
-  unfolding advancedOf
+  unfolding advancedOf movedOn
   advanced-ok at = search (choice-move, sum-ok, aligned-ok, to-ok, malformed-ok) depth 9
 
   after-ok : (walk : Walk) (bank : ℕ) (p : Pos) (m : Moved) → MoveOk (node .index) m → MoveOk (node .index) (steppedTo walk bank p m .seen)

@@ -101,18 +101,3 @@ module _ (p : Program) (row before : Row) (isFirst isLast : Bool) where
   pub largest : (n : ℕ) (w : Walk) (s : ℕ) → passTo p row before isFirst isLast n ≡ on w s → Largest n s
   largest zero w s e = record { most = λ i. λ h. absurd (let b : ⊥ = omega arith in b); one = inl (none-merged w s e) }
   largest (suc n) w s e = let b = prior n w s e in larger n s b (largest n (walkTo p row n) (b .merged) (b .pass))
-
-  -- "A pass is unresolved if any state is 2, stable if any is 1, otherwise resolved", where no state passes 2, as the list check has it
-  module _ (n s : ℕ) (a : Largest n s) (small : (i : ℕ) → i < n → stateAt i ≤ 2) where
-    at-most-two : s ≤ 2
-    at-most-two = ⊎-elim (λ (z : s ≡ 0). omega arith) (λ (w : (i : ℕ) × (i < n) × (stateAt i ≡ s)). omega (arith, small (w .0) (w .1), w .2)) (a .one)
-
-    pub any-unresolved : (i : ℕ) → i < n → stateAt i ≡ 2 → s ≡ 2
-    any-unresolved i h e = omega (arith, a .most i h, at-most-two)
-
-    pub any-stable : ((i : ℕ) → i < n → stateAt i ≡ 2 → ⊥) → (i : ℕ) → i < n → stateAt i ≡ 1 → s ≡ 1
-    any-stable none i h e =
-        ⊎-elim (λ (z : s ≡ 0). omega (arith, a .most i h)) (λ (w : (j : ℕ) × (j < n) × (stateAt j ≡ s)). let no = none (w .0) (w .1) in omega (arith, a .most i h, at-most-two, w .2)) (a .one)
-
-    pub otherwise-resolved : ((i : ℕ) → i < n → stateAt i ≡ 0) → s ≡ 0
-    otherwise-resolved all = ⊎-elim (λ (z : s ≡ 0). z) (λ (w : (i : ℕ) × (i < n) × (stateAt i ≡ s)). omega (arith, all (w .0) (w .1), w .2)) (a .one)

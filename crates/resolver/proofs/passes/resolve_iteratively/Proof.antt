@@ -4,11 +4,12 @@ use Prim.Native.Nat.{ℕ, _-_, _≤_}
 use mathlib.Core.List.{[]}
 use native.Mathlib.Omega.{arith}
 use borrow.Author.Needs.{needs}
+use Rattle.resolver.specs.Ends.{Unsettled}
 use Rattle.resolver.specs.Lists.{Lists, lists}
 use Rattle.resolver.specs.Passes.{passAt}
 use Rattle.resolver.specs.Repeats.{repeats}
 use Rattle.resolver.specs.declared.Pass.{Pass}
-use Rattle.resolver.proofs.Settling.{Unsettled, none-yet, nor-this, no-limit, refused-pass, settled-pass, limit-pass}
+use Rattle.resolver.proofs.Settling.{none-yet, nor-this, no-limit, refused-pass, settled-pass, limit-pass}
 use Rattle.resolver.proofs.passes.resolve_iteratively.Statement.{statement}
 use Rattle.resolver.proofs.passes.resolve_iteratively.Tie as tie
 

@@ -1,0 +1,101 @@
+-- A step reads of a node what document 01 says that its kind reads: two nodes that agree there make one step.
+use Prim.Native.Nat.{ℕ, _≤_, _<_}
+use mathlib.Core.Path.{_≡_, refl, sym, _∙_, ap}
+use mathlib.Core.Bool.{Bool, true, false, _&&_, _||_}
+use mathlib.Core.Logic.{⊎-elim}
+use native.Mathlib.Omega.{arith}
+use native.Mathlib.Nat.{eq-or-lt-of-le}
+use lib.Dec.{eqb, leb, ltb}
+use lib.ListN.{getD}
+use borrow.Author.Tests.{eqb-true, eqb-false, leb-true, leb-false}
+use Rattle.refusal.specs.Limits.{maxBanks}
+use Rattle.refusal.specs.Pick.{pick}
+use Rattle.refusal.specs.declared.Refusal.{Refusal}
+use Rattle.refusal.specs.declared.Refusal.the-variants.{Malformed}
+use Rattle.bankdef.specs.Bools.{either}
+use Rattle.bankdef.specs.declared.Bankdef.{Bankdef}
+use Rattle.iter.specs.Advance.{early, asserting, other}
+use Rattle.iter.specs.Step.{origin, outermostSymbol, seenOf, badState, movedOn, advancedOf, bankAfter, malformed, steppedTo, steppedFrom, stepOf}
+use Rattle.iter.specs.declared.Moved.{Moved}
+use Rattle.iter.specs.declared.Moved.the-variants.{To, Refused as Stopped}
+use Rattle.iter.specs.declared.Node.{Node}
+use Rattle.iter.specs.declared.Pos.{Pos}
+use Rattle.iter.specs.declared.Stepped.{Stepped}
+use Rattle.iter.specs.declared.Walk.{Walk}
+use Rattle.resolver.specs.Least.{or-past}
+
+-- Two nodes agree in what their kind reads. "The operand is a bank for 1, a depth for 2 and 3, a starting bit in the value bytes for 4 to 6, otherwise unread." "Kinds 0 to 3
+-- and 10 don't read the number; 0, 1 and 2 don't read the state."
+pub record SameRead (n m : Node) : Type 0 where
+  pub index : n .index ≡ m .index
+  pub kind : n .kind ≡ m .kind
+  pub operand : 1 ≤ m .kind → m .kind ≤ 6 → n .operand ≡ m .operand
+  pub number : 4 ≤ m .kind → m .kind ≤ 9 → n .number ≡ m .number
+  pub state : 3 ≤ m .kind → n .state ≡ m .state
+
+module _ (n m : Node) (same : SameRead n m) where
+  pub bank-same : (bank : ℕ) → bankAfter bank n ≡ bankAfter bank m
+  bank-same bank =
+      rw (same .kind)
+      (either (eqb (m .kind) 1)
+      (λ e. let k = eqb-true (m .kind) 1 e in rw (e, same .operand (omega arith) (omega arith)))
+      (λ e. rw e))
+
+  bad-same : badState n ≡ badState m
+  bad-same =
+      rw (same .kind)
+      (either (leb 3 (m .kind)) (λ e. rw (e, same .state (leb-true 3 (m .kind) e))) (λ e. rw e))
+
+  symbol-same : outermostSymbol n ≡ outermostSymbol m
+  symbol-same =
+      rw (same .kind)
+      (either (eqb (m .kind) 2)
+      (λ e. let k = eqb-true (m .kind) 2 e in rw (e, same .operand (omega arith) (omega arith)))
+      (λ e.
+      either (eqb (m .kind) 3)
+      (λ f. let k = eqb-true (m .kind) 3 f in rw (e, f, same .operand (omega arith) (omega arith)))
+      (λ f. rw (e, f))))
+
+  seen-same : (def : Bankdef) (at : Pos) → seenOf def at n ≡ seenOf def at m
+  unfolding seenOf
+  seen-same def at = rw (symbol-same, same .index)
+
+  moved-read : (def : Bankdef) (at : Pos) → 4 ≤ m .kind → m .kind ≤ 9 → movedOn def at n ≡ movedOn def at m
+  unfolding movedOn
+  moved-read def at low high = rw (same .kind, same .index, same .number low high, same .state (omega arith))
+
+  moved-same : (def : Bankdef) (at : Pos) → movedOn def at n ≡ movedOn def at m
+  moved-same def at =
+      let k = same .kind in
+      ⊎-elim
+      (λ (low : 4 ≤ m .kind).
+      ⊎-elim (λ (high : m .kind ≤ 9). moved-read def at low high)
+      (λ (past : 9 < m .kind).
+      ⊎-elim (λ (e : 10 ≡ m .kind). asserting def at n (omega arith) ∙ sym (asserting def at m (omega arith)))
+      (λ (l : 10 < m .kind). other def at n (omega arith) ∙ (ap (λ (i : ℕ). Stopped (Malformed i)) (same .index) ∙ sym (other def at m l)))
+      (eq-or-lt-of-le past))
+      (or-past (m .kind) 9))
+      (λ (low : m .kind < 4). early def at n (omega arith) ∙ sym (early def at m low))
+      (or-past 4 (m .kind))
+
+  advanced-same : (def : Bankdef) (at : Pos) → advancedOf def at n ≡ advancedOf def at m
+  unfolding advancedOf
+  advanced-same def at = rw (bad-same, moved-same def at, same .index)
+
+  from-same : (def : Bankdef) (walk : Walk) (bank : ℕ) (seen : Moved) → steppedFrom def walk bank n seen ≡ steppedFrom def walk bank m seen
+  from-same def walk bank (To p) = ap (steppedTo walk bank p) (advanced-same def p)
+  from-same def walk bank (Stopped why) = refl
+
+  -- They make one step.
+  pub step-same : (def : Bankdef) (walk : Walk) → stepOf def walk n ≡ stepOf def walk m
+  unfolding stepOf
+  step-same def walk =
+      let bank = bankAfter (walk .bank) m in
+      let seen = seenOf def (getD (walk .at) (bankAfter (walk .bank) m) origin) m in
+      rw (
+        bank-same (walk .bank),
+        bad-same,
+        seen-same def (getD (walk .at) (bankAfter (walk .bank) m) origin),
+        from-same def walk bank seen,
+        same .index,
+      )
