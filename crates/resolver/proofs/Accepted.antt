@@ -18,16 +18,19 @@ use Rattle.resolver.specs.declared.Resolution.{Resolution}
 
 -- what turns a layout away, and what is left to the passes
 module _ (banks : Bankdefs) (l : Lists) (m : ℕ) where
-  pub banks-refused : {v : Verdict} {why : Refusal} {r : Resolution} → v ≡ checkOf banks → v ≡ Refused why → r ≡ record { settled = Turned why; passes = 0 } → r ≡ layoutOf banks l m
+  pub banks-refused : {v : Verdict} {why : Refusal} {r : Resolution} → v ≡ checkOf banks → v ≡ Refused why
+      → r ≡ record { settled = Turned why; passes = 0 } → r ≡ layoutOf banks l m
   unfolding layoutOf
   banks-refused e f h = rw (sym e ∙ f) h
 
   module _ {v : Verdict} (e : v ≡ checkOf banks) (f : v ≡ Accepted) where
-    pub lists-refused : {w : Verdict} {why : Refusal} {r : Resolution} → w ≡ listsOf (banks .len) l → w ≡ Refused why → r ≡ record { settled = Turned why; passes = 0 } → r ≡ layoutOf banks l m
+    pub lists-refused : {w : Verdict} {why : Refusal} {r : Resolution} → w ≡ listsOf (banks .len) l → w ≡ Refused why
+        → r ≡ record { settled = Turned why; passes = 0 } → r ≡ layoutOf banks l m
     unfolding layoutOf
     lists-refused g h k = rw (sym e ∙ f, sym g ∙ h) k
 
-    pub both-accepted : {w : Verdict} {r : Resolution} → w ≡ listsOf (banks .len) l → w ≡ Accepted → r ≡ resolutionOf banks (lists (l .kinds) (l .operands) (l .numbers) (l .states) (l .rows) []) m → r ≡ layoutOf banks l m
+    pub both-accepted : {w : Verdict} {r : Resolution} → w ≡ listsOf (banks .len) l → w ≡ Accepted
+        → r ≡ resolutionOf banks (lists (l .kinds) (l .operands) (l .numbers) (l .states) (l .rows) []) m → r ≡ layoutOf banks l m
     unfolding layoutOf
     both-accepted g h k = rw (sym e ∙ f, sym g ∙ h) k
 

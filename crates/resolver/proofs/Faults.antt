@@ -27,7 +27,8 @@ pub past-whole : (bytes : ℕ) {o n x y : ℕ} → x ≡ o → y ≡ n → ltb b
 past-whole bytes {o} {n} p q = rw (p, q) (same-test bytes ((o + n + 7) / 8) (8 * bytes) (o + n) (λ h. omega arith) (λ h. omega arith))
 
 -- a row at fault, by whether the node is an item: the kind is looked at once for all rows
-pub read-fault : (bytes : ℕ) (node : Node) {item : Bool} → 2 < node .kind → isItem (node .kind) ≡ item → ltb 2 (node .state) || (item && pastEnd bytes node) ≡ rowFault bytes node
+pub read-fault : (bytes : ℕ) (node : Node) {item : Bool} → 2 < node .kind → isItem (node .kind) ≡ item
+    → ltb 2 (node .state) || (item && pastEnd bytes node) ≡ rowFault bytes node
 read-fault bytes node h e = rw (lt-ltb 2 (node .kind), e)
 
 or-false : (t : Bool) → t ≡ t || false
@@ -44,7 +45,8 @@ module _ (l : Lists) (i : ℕ) where
   shown r = nodeOf (l .kinds) (l .operands) (l .numbers) (l .states) r i
 
   -- a row that was read, at the flag that the code has of it
-  pub row-read : (r : ℕ) {item t : Bool} {node : Node} → (2 < getD (l .kinds) i 0) × (isItem (getD (l .kinds) i 0) ≡ item) → node ≡ shown r → t ≡ ltb 2 (node .state) || (item && pastEnd (length (l .values)) node) → t ≡ rowFault (length (l .values)) (shown r)
+  pub row-read : (r : ℕ) {item t : Bool} {node : Node} → (2 < getD (l .kinds) i 0) × (isItem (getD (l .kinds) i 0) ≡ item) → node ≡ shown r
+      → t ≡ ltb 2 (node .state) || (item && pastEnd (length (l .values)) node) → t ≡ rowFault (length (l .values)) (shown r)
   row-read r k e f = f ∙ (rw e (read-fault (length (l .values)) (shown r) (k .0) (k .1)))
 
   pub no-row : false ≡ anyRowFault l i 0
@@ -118,7 +120,8 @@ module _ (banks : ℕ) (l : Lists) where
   unfolding nodesTo
   next-node i e f n = rw (add-one, ← e, sym f ∙ n)
 
-  pub node-found : (n i : ℕ) → i < n → Accepted ≡ nodesTo banks l i → {t : Bool} → t ≡ nodeFault banks l i → t ≡ true → Refused (Malformed i) ≡ nodesTo banks l n
+  pub node-found : (n i : ℕ) → i < n → Accepted ≡ nodesTo banks l i → {t : Bool} → t ≡ nodeFault banks l i → t ≡ true
+      → Refused (Malformed i) ≡ nodesTo banks l n
   unfolding nodesTo
   node-found zero i h e f y = absurd (not-suc-le-zero h)
   node-found (suc n) i h e f y =

@@ -27,12 +27,14 @@ use Rattle.resolver.specs.declared.Pass.{Pass}
 use Rattle.resolver.specs.declared.Pass.the-variants.{State, Refused}
 
 -- the step in the bank that the node stands in
-pub step-in-bank : (banks : Bankdefs) (walk : Walk) (node : Node) {bank : ℕ} {def : Bankdef} {r : Stepped} → bank ≡ bankAfter (walk .bank) node → def ≡ bankRecord banks bank → r ≡ stepOf def walk node → r ≡ stepOf (bankOf banks walk node) walk node
+pub step-in-bank : (banks : Bankdefs) (walk : Walk) (node : Node) {bank : ℕ} {def : Bankdef} {r : Stepped} → bank ≡ bankAfter (walk .bank) node
+    → def ≡ bankRecord banks bank → r ≡ stepOf def walk node → r ≡ stepOf (bankOf banks walk node) walk node
 step-in-bank banks walk node b d e = rw (← b, ← d) e
 
 -- a label's state, by what the code has found of it
 module _ (def : Bankdef) (now : Pos) where
-  pub label-resolved : (before : Moved) (isFirst : Bool) → now .known ≡ true → {t : Bool} → t ≡ onBoundary def (now .position) → t ≡ true → 0 ≡ labelState def now before isFirst
+  pub label-resolved : (before : Moved) (isFirst : Bool) → now .known ≡ true → {t : Bool} → t ≡ onBoundary def (now .position) → t ≡ true
+      → 0 ≡ labelState def now before isFirst
   label-resolved before isFirst k e y = rw (k, sym e ∙ y)
 
   pub unsettled : {t : Bool} → t ≡ onBoundary def (now .position) → t ≡ false → now .known && onBoundary def (now .position) ≡ false
@@ -49,10 +51,12 @@ module _ (def : Bankdef) (now : Pos) where
     pub label-first : (before : Moved) (isFirst : Bool) → isFirst ≡ true → 2 ≡ labelState def now before isFirst
     label-first before isFirst f = rw (unsure, f)
 
-    pub label-same : {before : Moved} {b : Pos} {isFirst : Bool} {x y : ℕ} → isFirst ≡ false → before ≡ To b → x ≡ now .position / def .unit → y ≡ b .position / def .unit → x ≡ y → 1 ≡ labelState def now before isFirst
+    pub label-same : {before : Moved} {b : Pos} {isFirst : Bool} {x y : ℕ} → isFirst ≡ false → before ≡ To b → x ≡ now .position / def .unit
+        → y ≡ b .position / def .unit → x ≡ y → 1 ≡ labelState def now before isFirst
     label-same {b = b} f e p q s = rw (unsure, f, e, eq-eqb (now .position / def .unit) (b .position / def .unit) (sym p ∙ s ∙ q))
 
-    pub label-moved : {before : Moved} {b : Pos} {isFirst : Bool} {x y : ℕ} → isFirst ≡ false → before ≡ To b → x ≡ now .position / def .unit → y ≡ b .position / def .unit → (x ≡ y → ⊥) → 2 ≡ labelState def now before isFirst
+    pub label-moved : {before : Moved} {b : Pos} {isFirst : Bool} {x y : ℕ} → isFirst ≡ false → before ≡ To b → x ≡ now .position / def .unit
+        → y ≡ b .position / def .unit → (x ≡ y → ⊥) → 2 ≡ labelState def now before isFirst
     label-moved {b = b} f e p q n = rw (unsure, f, e, ne-eqb (now .position / def .unit) (b .position / def .unit) (λ s. n (p ∙ s ∙ sym q)))
 
     pub label-stopped : {before : Moved} {why : Refusal} {isFirst : Bool} → isFirst ≡ false → before ≡ Stopped why → 2 ≡ labelState def now before isFirst
@@ -87,7 +91,8 @@ module _ (def : Bankdef) (node : Node) (before : Moved) (isFirst isLast : Bool) 
 
 -- in pass 1 nothing is asked of the pass before
 same-met : (isFirst : Bool) (banks : Bankdefs) (def : Bankdef) (n nb : Node) (w : Walk) (isLast : Bool) (merged : ℕ) (seen : Moved) →
-    met def n (steppedBefore banks (pick isFirst startOf w) nb isFirst .seen) isFirst isLast merged seen ≡ met def n (stepOf (bankOf banks w nb) w nb .seen) isFirst isLast merged seen
+    met def n (steppedBefore banks (pick isFirst startOf w) nb isFirst .seen) isFirst isLast merged seen ≡ met def n
+    (stepOf (bankOf banks w nb) w nb .seen) isFirst isLast merged seen
 same-met true banks def n nb w isLast merged (To now) = refl
 same-met true banks def n nb w isLast merged (Stopped why) = refl
 same-met false banks def n nb w isLast merged seen = refl
@@ -101,12 +106,14 @@ unfolding walkTo
 beside-start true p before = refl
 beside-start false p before = refl
 
-beside-step : (isFirst : Bool) (p : Program) (before : Row) (i : ℕ) → steppedBefore (p .banks) (beside isFirst p before i) (node p before i) isFirst .walk ≡ beside isFirst p before (i + 1)
+beside-step : (isFirst : Bool) (p : Program) (before : Row) (i : ℕ)
+    → steppedBefore (p .banks) (beside isFirst p before i) (node p before i) isFirst .walk ≡ beside isFirst p before (i + 1)
 unfolding walkTo
 beside-step true p before i = refl
 beside-step false p before i = rw add-one
 
-pub beside-next : (isFirst : Bool) (p : Program) (before : Row) (i : ℕ) {w : Walk} {n : Node} {r : Stepped} → w ≡ beside isFirst p before i → n ≡ node p before i → r ≡ steppedBefore (p .banks) w n isFirst → r .walk ≡ beside isFirst p before (i + 1)
+pub beside-next : (isFirst : Bool) (p : Program) (before : Row) (i : ℕ) {w : Walk} {n : Node} {r : Stepped} → w ≡ beside isFirst p before i
+    → n ≡ node p before i → r ≡ steppedBefore (p .banks) w n isFirst → r .walk ≡ beside isFirst p before (i + 1)
 beside-next isFirst p before i e f g = rw (g, e, f) (beside-step isFirst p before i)
 
 -- the pass from node to node
@@ -129,7 +136,9 @@ module _ (p : Program) (row before : Row) (isFirst isLast : Bool) where
   unfolding passTo
   pass-meets i {walk = walk} {merged = merged} g w n b d s nb sb m =
       rw (add-one, g, m, sb, w, nb, s, d, b, n)
-      (ap (goesOn (stepAt p row walk i .walk)) (sym (same-met isFirst (p .banks) (bankOf (p .banks) walk (node p row i)) (node p row i) (node p before i) (walkTo p before i) isLast merged (stepAt p row walk i .seen))))
+      (ap (goesOn (stepAt p row walk i .walk)) (sym
+      (same-met isFirst (p .banks) (bankOf (p .banks) walk (node p row i)) (node p row i) (node p before i) (walkTo p before i) isLast merged
+      (stepAt p row walk i .seen))))
 
   -- what ends a pass stays its end
   pub pass-stopped : (n i : ℕ) {why : Refusal} → i < n → passTo p row before isFirst isLast (i + 1) ≡ off why → passTo p row before isFirst isLast n ≡ off why
@@ -138,12 +147,15 @@ module _ (p : Program) (row before : Row) (isFirst isLast : Bool) where
   pass-stopped (suc n) i h e =
       ⊎-elim (λ (q : i ≡ n). rw (← q) (rw add-one at e)) (λ (g : i < n). rw (pass-stopped n i g e)) (eq-or-lt-of-le (le-of-suc-le-suc h))
 
-  pub pass-goes : (i : ℕ) {state : ℕ} {w : Walk} {r : Pass} → passTo p row before isFirst isLast i ≡ goesOn w r → r ≡ State state → passTo p row before isFirst isLast i ≡ on w state
+  pub pass-goes : (i : ℕ) {state : ℕ} {w : Walk} {r : Pass} → passTo p row before isFirst isLast i ≡ goesOn w r → r ≡ State state
+      → passTo p row before isFirst isLast i ≡ on w state
   pass-goes i e f = e ∙ rw f
 
-  pub pass-refused : (i : ℕ) (w : Walk) {r : Pass} {why : Refusal} → passTo p row before isFirst isLast (i + 1) ≡ goesOn w r → r ≡ Refused why → i < length (p .kinds) → Refused why ≡ passOf p row before isFirst isLast
+  pub pass-refused : (i : ℕ) (w : Walk) {r : Pass} {why : Refusal} → passTo p row before isFirst isLast (i + 1) ≡ goesOn w r → r ≡ Refused why
+      → i < length (p .kinds) → Refused why ≡ passOf p row before isFirst isLast
   pass-refused i w {why = why} e f h =
       let stop : passTo p row before isFirst isLast (i + 1) ≡ off why = e ∙ rw f in rw (pass-stopped (length (p .kinds)) i h stop)
 
-  pub pass-done : {i state : ℕ} {w : Walk} → passTo p row before isFirst isLast i ≡ on w state → i ≡ length (p .kinds) → State state ≡ passOf p row before isFirst isLast
+  pub pass-done : {i state : ℕ} {w : Walk} → passTo p row before isFirst isLast i ≡ on w state → i ≡ length (p .kinds)
+      → State state ≡ passOf p row before isFirst isLast
   pass-done e f = rw (← f, e)

@@ -42,14 +42,17 @@ module _ (pass : ℕ → Bool → Pass) where
           let k : passK pass m ≡ n = K-at pass m n low high before (rw (sym e ∙ f)) in
           rw (ne-eqb m 0 (λ q. omega arith), k, lt-ltb n m high, sym e ∙ f)
 
-      pub settled-pass : {s : ℕ} → this ≡ State s → (s ≡ 2 → ⊥) → {r : Resolution} → r ≡ record { settled = lastOf n (pass (n + 1) true); passes = n + 1 } → r ≡ settledBy pass m
+      pub settled-pass : {s : ℕ} → this ≡ State s → (s ≡ 2 → ⊥) → {r : Resolution}
+          → r ≡ record { settled = lastOf n (pass (n + 1) true); passes = n + 1 } → r ≡ settledBy pass m
       unfolding settledBy
       settled-pass {s} f t h =
           let k : passK pass m ≡ n = K-at pass m n low high before (rw (sym e ∙ f, ne-eqb s 2 t)) in
           rw (ne-eqb m 0 (λ q. omega arith), k, lt-ltb n m high, sym e ∙ f) h
 
-    pub limit-pass : (rows n : ℕ) → (m ≡ 0 → ⊥) → ((p : ℕ) → rows < p → pass p false ≡ pass (rows + 1) false) → n ≡ min m (rows + 2) → Unsettled pass n → {r : Resolution} → r ≡ record { settled = lastOf m (pass m true); passes = m } → r ≡ settledBy pass m
+    pub limit-pass : (rows n : ℕ) → (m ≡ 0 → ⊥) → ((p : ℕ) → rows < p → pass p false ≡ pass (rows + 1) false) → n ≡ min m (rows + 2)
+        → Unsettled pass n → {r : Resolution} → r ≡ record { settled = lastOf m (pass m true); passes = m } → r ≡ settledBy pass m
     unfolding settledBy
     limit-pass rows n z same e before h =
-        let k : m ≤ passK pass m = first-from (settles pass m) 1 m m (omega arith) (unsettled-below pass m m (omega arith) (all-unsettled rows n m same e before)) in
+        let k : m ≤ passK pass m = first-from (settles pass m) 1 m m (omega arith)
+        (unsettled-below pass m m (omega arith) (all-unsettled rows n m same e before)) in
         rw (ne-eqb m 0 z, le-ltb (passK pass m) m k) h

@@ -1,4 +1,5 @@
--- Uniqueness: each public function's own contract has one outcome. What is read here is the `ensures` itself, so that a looser clause breaks its line. Nothing is lent to be changed, so the outcome is the answer.
+-- Uniqueness: each public function's own contract has one outcome. What is read here is the `ensures` itself, so that a looser clause breaks its
+-- line. Nothing is lent to be changed, so the outcome is the answer.
 use Rattle.refusal.specs.Pick.{determined}
 use Rattle.refusal.specs.Outcome.{OneOutcome}
 use Rattle.resolver.proofs.lists.node_at.Kinds as node-at-kinds

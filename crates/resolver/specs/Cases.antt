@@ -1,4 +1,5 @@
--- Document 01's case "all resolved: limits 0, 1, 2 give K 0, 1, 1 and run 1, 1, 2", of a layout: one bank, no nodes and one row, so that every pass is resolved.
+-- Document 01's case "all resolved: limits 0, 1, 2 give K 0, 1, 1 and run 1, 1, 2", of a layout: one bank, no nodes and one row, so that every
+-- pass is resolved.
 use Prim.Native.Nat.{ℕ}
 use mathlib.Core.Path.{_≡_, refl}
 use mathlib.Core.Bool.{false}

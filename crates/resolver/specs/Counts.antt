@@ -27,18 +27,45 @@ module _ (banks : ℕ) (l : Lists) where
       module _ (some : 1 ≤ l .rows) where
         pub too-many-rows : maxRows < l .rows → Refused (Malformed 1) ≡ listsOf banks l
         unfolding listsOf
-        too-many-rows h = rw (le-leb (length (l .kinds)) maxNodes, eq-eqb (length (l .operands)) (length (l .kinds)), le-leb 1 (l .rows), lt-leb (l .rows) maxRows)
+        too-many-rows h =
+            rw (le-leb (length (l .kinds)) maxNodes, eq-eqb (length (l .operands)) (length (l .kinds)), le-leb 1 (l .rows), lt-leb (l .rows) maxRows)
 
         module _ (few : l .rows ≤ maxRows) where
           pub other-numbers : (length (l .numbers) ≡ l .rows * length (l .kinds) → ⊥) → Refused (Malformed 1) ≡ listsOf banks l
           unfolding listsOf
-          other-numbers h = rw (le-leb (length (l .kinds)) maxNodes, eq-eqb (length (l .operands)) (length (l .kinds)), le-leb 1 (l .rows), le-leb (l .rows) maxRows, ne-eqb (length (l .numbers)) (l .rows * length (l .kinds)))
+          other-numbers h =
+              rw (
+                le-leb (length (l .kinds)) maxNodes,
+                eq-eqb (length (l .operands)) (length (l .kinds)),
+                le-leb 1 (l .rows),
+                le-leb (l .rows)
+                    maxRows,
+                ne-eqb (length (l .numbers)) (l .rows * length (l .kinds)),
+              )
 
           module _ (numbers : length (l .numbers) ≡ l .rows * length (l .kinds)) where
             pub other-states : (length (l .states) ≡ l .rows * length (l .kinds) → ⊥) → Refused (Malformed 1) ≡ listsOf banks l
             unfolding listsOf
-            other-states h = rw (le-leb (length (l .kinds)) maxNodes, eq-eqb (length (l .operands)) (length (l .kinds)), le-leb 1 (l .rows), le-leb (l .rows) maxRows, eq-eqb (length (l .numbers)) (l .rows * length (l .kinds)), ne-eqb (length (l .states)) (l .rows * length (l .kinds)))
+            other-states h =
+                rw (
+                  le-leb (length (l .kinds)) maxNodes,
+                  eq-eqb (length (l .operands)) (length (l .kinds)),
+                  le-leb 1 (l .rows),
+                  le-leb (l .rows)
+                      maxRows,
+                  eq-eqb (length (l .numbers)) (l .rows * length (l .kinds)),
+                  ne-eqb (length (l .states)) (l .rows * length (l .kinds)),
+                )
 
             pub sound-counts : length (l .states) ≡ l .rows * length (l .kinds) → {v : Verdict} → v ≡ nodesTo banks l (length (l .kinds)) → v ≡ listsOf banks l
             unfolding listsOf
-            sound-counts h e = rw (le-leb (length (l .kinds)) maxNodes, eq-eqb (length (l .operands)) (length (l .kinds)), le-leb 1 (l .rows), le-leb (l .rows) maxRows, eq-eqb (length (l .numbers)) (l .rows * length (l .kinds)), eq-eqb (length (l .states)) (l .rows * length (l .kinds))) e
+            sound-counts h e =
+                rw (
+                  le-leb (length (l .kinds)) maxNodes,
+                  eq-eqb (length (l .operands)) (length (l .kinds)),
+                  le-leb 1 (l .rows),
+                  le-leb (l .rows)
+                      maxRows,
+                  eq-eqb (length (l .numbers)) (l .rows * length (l .kinds)),
+                  eq-eqb (length (l .states)) (l .rows * length (l .kinds)),
+                ) e

@@ -107,10 +107,14 @@ module _ (pass : ℕ → Bool → Pass) where
 
     ending-below : 0 < m → passK pass m < m → (x : Pass) → pass (passK pass m) false ≡ x → unresolved x ≡ false → Ending (afterK pass (passK pass m) x)
     ending-below some less (Failed why) e u =
-        early (passK pass m) why (record { counted = K-counts pass m; below = less; unsettled = before-limit (passK pass m) (omega arith) (omega arith) }) e refl
+        early (passK pass m) why (record
+        { counted = K-counts pass m; below = less; unsettled = before-limit (passK pass m) (omega arith) (omega arith) }) e refl
     ending-below some less (State s) e u =
         last (passK pass m + 1) (passK pass m)
-        (after (passK pass m) (record { runs = record { counted = K-counts pass m; below = less; unsettled = before-limit (passK pass m) (omega arith) (omega arith) }; settles = (s, e, u) }) refl)
+        (after (passK pass m) (record {
+          runs = record { counted = K-counts pass m; below = less; unsettled = before-limit (passK pass m) (omega arith) (omega arith) };
+          settles = (s, e, u);
+        }) refl)
         refl
 
     K-open : passK pass m < m → unresolved (pass (passK pass m) false) ≡ false

@@ -1,4 +1,5 @@
--- Known-ness through a pass: "4, 6, 7, 8 keep it only if state is 0; 5 and symbols leave it; 9 makes it so exactly if state is 0". A bank's position is known before a node exactly
+-- Known-ness through a pass: "4, 6, 7, 8 keep it only if state is 0; 5 and symbols leave it; 9 makes it so exactly if state is 0". A bank's
+-- position is known before a node exactly
 -- when each earlier node of that bank that takes known-ness away is followed, still before the node, by an `addr` of state 0 there.
 use Prim.Native.Nat.{ℕ, zero, suc, _≤_, _<_}
 use mathlib.Core.Path.{_≡_, refl, sym, _∙_, ap, subst}
@@ -175,7 +176,8 @@ module _ (p : Program) (row : Row) where
           not-nine (inl e) q = omega arith
           not-nine (inr e) q = omega (arith, e .1)
 
-          wider : (node p row i .kind ≡ 4) ⊎ ((6 ≤ node p row i .kind) × (node p row i .kind ≤ 8)) → (node p row i .kind ≡ 4) ⊎ ((6 ≤ node p row i .kind) × (node p row i .kind ≤ 9))
+          wider : (node p row i .kind ≡ 4) ⊎ ((6 ≤ node p row i .kind) × (node p row i .kind ≤ 8))
+              → (node p row i .kind ≡ 4) ⊎ ((6 ≤ node p row i .kind) × (node p row i .kind ≤ 9))
           wider (inl e) = inl e
           wider (inr e) = inr (e .0, omega (arith, e .1))
       by-change was is (leaves k f) h = (
@@ -188,7 +190,8 @@ module _ (p : Program) (row : Row) where
           not-making (inr (inl e)) q = omega arith
           not-making (inr (inr e)) q = omega arith
 
-          not-taking : (node p row i .kind ≡ 5) ⊎ ((node p row i .kind ≤ 3) ⊎ (node p row i .kind ≡ 10)) → (node p row i .kind ≡ 4) ⊎ ((6 ≤ node p row i .kind) × (node p row i .kind ≤ 9)) → ⊥
+          not-taking : (node p row i .kind ≡ 5) ⊎ ((node p row i .kind ≤ 3) ⊎ (node p row i .kind ≡ 10))
+              → (node p row i .kind ≡ 4) ⊎ ((6 ≤ node p row i .kind) × (node p row i .kind ≤ 9)) → ⊥
           not-taking (inl e) (inl q) = omega arith
           not-taking (inl e) (inr q) = omega (arith, q .0)
           not-taking (inr (inl e)) (inl q) = omega arith

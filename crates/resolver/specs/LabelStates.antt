@@ -1,4 +1,5 @@
--- The state of a label in a pass: "a label is resolved when its position is known and on a boundary, stable when its address equals that of the pass before (never in
+-- The state of a label in a pass: "a label is resolved when its position is known and on a boundary, stable when its address equals that of the
+-- pass before (never in
 -- pass 1), unresolved otherwise". It is held against the pass before, in the same bank.
 use Prim.Native.Nat.{ℕ, zero, suc, _+_, _-_, _%_, _<_, _≤_, max}
 use mathlib.Core.Path.{_≡_, refl, sym, _∙_, ap, subst}
@@ -90,15 +91,18 @@ module _ (banks : Bankdefs) (l : Lists) (n i : ℕ) (label : getD (l .kinds) i 0
   -- "a label is resolved when its position is known and on a boundary"
   pub label-resolved-exactly : (stateIn banks l n i ≡ 0) ↔ KnownOnBoundary (defIn banks l n i) now
   label-resolved-exactly = (
-    λ e. settled-told (defIn banks l n i) now (resolved-of (now .known && onBoundary (defIn banks l n i) (now .position)) (not (eqb n 1) && sameAddress (defIn banks l n i) now (seenIn banks l (n - 1) i)) (sym of-label ∙ e)),
+    λ e. settled-told (defIn banks l n i) now (resolved-of (now .known && onBoundary (defIn banks l n i) (now .position))
+        (not (eqb n 1) && sameAddress (defIn banks l n i) now (seenIn banks l (n - 1) i)) (sym of-label ∙ e)),
     λ h. of-label ∙ rw (told-settled (defIn banks l n i) now h),
   )
 
   -- "stable when its address equals that of the pass before (never in pass 1)"
-  pub label-stable-exactly : (stateIn banks l n i ≡ 1) ↔ ((KnownOnBoundary (defIn banks l n i) now → ⊥) × (n ≡ 1 → ⊥) × SameAddress (defIn banks l n i) now (seenIn banks l (n - 1) i))
+  pub label-stable-exactly : (stateIn banks l n i ≡ 1) ↔ ((KnownOnBoundary (defIn banks l n i) now → ⊥) × (n ≡ 1 → ⊥) × SameAddress
+      (defIn banks l n i) now (seenIn banks l (n - 1) i))
   label-stable-exactly = (
     λ e.
-        let a = stable-of (now .known && onBoundary (defIn banks l n i) (now .position)) (not (eqb n 1) && sameAddress (defIn banks l n i) now (seenIn banks l (n - 1) i)) (sym of-label ∙ e) in
+        let a = stable-of (now .known && onBoundary (defIn banks l n i) (now .position))
+        (not (eqb n 1) && sameAddress (defIn banks l n i) now (seenIn banks l (n - 1) i)) (sym of-label ∙ e) in
         let b = both (not (eqb n 1)) (sameAddress (defIn banks l n i) now (seenIn banks l (n - 1) i)) (a .1) in (
           λ h. clash (told-settled (defIn banks l n i) now h) (a .0),
           not-first n (b .0),
@@ -121,9 +125,11 @@ module _ (p : Program) where
   switchedTo zero = 0
   switchedTo (suc i) = pick (eqb (getD (p .kinds) i 0) 1) (getD (p .operands) i 0) (switchedTo i)
 
-  step-switches : (def : Bankdef) (walk : Walk) (x : Node) (now : Pos) → stepOf def walk x .seen ≡ To now → stepOf def walk x .walk .bank ≡ bankAfter (walk .bank) x
+  step-switches : (def : Bankdef) (walk : Walk) (x : Node) (now : Pos) → stepOf def walk x .seen ≡ To now
+      → stepOf def walk x .walk .bank ≡ bankAfter (walk .bank) x
   step-switches def walk x now =
-      step-cases def walk x (λ (s : Stepped). s .seen ≡ To now → s .walk .bank ≡ bankAfter (walk .bank) x) (λ why e. absurd (seen-apart e refl)) (λ a b s m e. refl)
+      step-cases def walk x (λ (s : Stepped). s .seen ≡ To now → s .walk .bank ≡ bankAfter (walk .bank) x) (λ why e. absurd (seen-apart e refl))
+      (λ a b s m e. refl)
 
   -- A walk that no node before i stops stands in the bank that the switches say, whatever the row.
   pub bank-by-switches : (row : Row) (isLast : Bool) (i : ℕ) → ((j : ℕ) → j < i → GoesPast p row isLast j) → walkTo p row i .bank ≡ switchedTo i
@@ -146,7 +152,8 @@ module _ (banks : Bankdefs) (l : Lists) (m n : ℕ) (isLast : Bool) (later : 2 �
   pub before-ran : Runs (passAt banks l) m n isLast → (i : ℕ) → i < length (l .kinds) → GoesPast (program banks l) (rowOfPass l (n - 1)) false i
   before-ran r = from isLast r
     where
-      open-before : unresolved (passAt banks l (n - 1) false) ≡ true → (i : ℕ) → i < length (l .kinds) → GoesPast (program banks l) (rowOfPass l (n - 1)) false i
+      open-before : unresolved (passAt banks l (n - 1) false) ≡ true → (i : ℕ) → i < length (l .kinds)
+          → GoesPast (program banks l) (rowOfPass l (n - 1)) false i
       open-before u = let w = two-of (passAt banks l (n - 1) false) u in ended-so (n - 1) (w .0) (w .1)
 
       from : (b : Bool) → Runs (passAt banks l) m n b → (i : ℕ) → i < length (l .kinds) → GoesPast (program banks l) (rowOfPass l (n - 1)) false i
@@ -156,7 +163,8 @@ module _ (banks : Bankdefs) (l : Lists) (m n : ℕ) (isLast : Bool) (later : 2 �
       from false r = open-before (r .unsettled (n - 1) (omega arith) (omega arith))
 
   -- "that of the pass before" is told in the same bank: node i stands in one bank in both, with one record.
-  pub same-bank-before : Runs (passAt banks l) m n isLast → (i : ℕ) → i < length (l .kinds) → ((j : ℕ) → j < i → GoesPast (program banks l) (rowOfPass l n) isLast j) →
+  pub same-bank-before : Runs (passAt banks l) m n isLast → (i : ℕ) → i < length (l .kinds)
+      → ((j : ℕ) → j < i → GoesPast (program banks l) (rowOfPass l n) isLast j) →
       defIn banks l (n - 1) i ≡ defIn banks l n i
   same-bank-before r i h all =
       let p = program banks l in

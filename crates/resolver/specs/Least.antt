@@ -25,7 +25,8 @@ clash p q = let z : _≡_ {A = ℕ} 0 1 = cc in omega arith
 
 -- the first of some numbers that passes a test
 module _ (test : ℕ → Bool) where
-  least-step : (from n p : ℕ) → (suc from ≤ p → p < first test (suc from) n → test p ≡ false) → (t : Bool) → test from ≡ t → from ≤ p → p < pick t from (first test (suc from) n) → test p ≡ false
+  least-step : (from n p : ℕ) → (suc from ≤ p → p < first test (suc from) n → test p ≡ false) → (t : Bool) → test from ≡ t → from ≤ p
+      → p < pick t from (first test (suc from) n) → test p ≡ false
   least-step from n p rest true e h g = absurd (let z : ⊥ = omega arith in z)
   least-step from n p rest false e h g =
       ⊎-elim (λ (q : from ≡ p). rw (← q) e) (λ (l : from < p). rest l g) (eq-or-lt-of-le h)
@@ -36,7 +37,8 @@ module _ (test : ℕ → Bool) where
   first-least from zero p h g = absurd (let z : ⊥ = omega arith in z)
   first-least from (suc n) p h g = least-step from n p (first-least (suc from) n p) (test from) refl h g
 
-  found-step : (from n : ℕ) → (first test (suc from) n < suc from + n → test (first test (suc from) n) ≡ true) → (t : Bool) → test from ≡ t → pick t from (first test (suc from) n) < from + suc n → test (pick t from (first test (suc from) n)) ≡ true
+  found-step : (from n : ℕ) → (first test (suc from) n < suc from + n → test (first test (suc from) n) ≡ true) → (t : Bool) → test from ≡ t
+      → pick t from (first test (suc from) n) < from + suc n → test (pick t from (first test (suc from) n)) ≡ true
   found-step from n rest true e g = e
   found-step from n rest false e g = rest (omega arith)
 

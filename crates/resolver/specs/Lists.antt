@@ -70,7 +70,8 @@ isItem kind = leb 4 kind && leb kind 6
 abbrev pub pastEnd : ℕ → Node → Bool
 pastEnd bytes node = ltb (8 * bytes) (node .operand + node .number)
 
--- "state (0 resolved, 1 stable, 2 unresolved)"; "0, 1 and 2 don't read the state". "The item's starting bit plus its number must not pass the end of the value bytes, in any row."
+-- "state (0 resolved, 1 stable, 2 unresolved)"; "0, 1 and 2 don't read the state". "The item's starting bit plus its number must not pass the end
+-- of the value bytes, in any row."
 abbrev pub rowFault : ℕ → Node → Bool
 rowFault bytes node = (ltb 2 (node .kind) && ltb 2 (node .state)) || (isItem (node .kind) && pastEnd bytes node)
 
@@ -109,7 +110,8 @@ rowCountSound l =
     let cells = l .rows * length (l .kinds) in
     leb 1 (l .rows) && (leb (l .rows) maxRows && (eqb (length (l .numbers)) cells && eqb (length (l .states)) cells))
 
--- "then 4: node count, row count, limit, then the lowest node, its kind, operand and rows in order." "field 0, 1, 2 for node count, row count, limit". The lists must be as long as the counts
+-- "then 4: node count, row count, limit, then the lowest node, its kind, operand and rows in order." "field 0, 1, 2 for node count, row count,
+-- limit". The lists must be as long as the counts
 -- say. The limit is a byte, so 0 to 255 by its type.
 unfoldable pub listsOf : ℕ → Lists → Verdict
 listsOf banks l =

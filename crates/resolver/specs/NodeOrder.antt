@@ -93,13 +93,15 @@ module _ (p : Program) (row : Row) where
   stops-one isLast i (inr o) (inr q) = o .2 ∙ sym (q .2)
 
   -- the test of 7, by what it tells
-  off-told : (isLast : Bool) (i : ℕ) (now : Pos) → offBoundary (defAt i) (node p row i) now isLast ≡ true → (isLast ≡ true) × (getD (p .kinds) i 0 ≡ 2) × (now .position % defAt i .unit ≡ 0 → ⊥)
+  off-told : (isLast : Bool) (i : ℕ) (now : Pos) → offBoundary (defAt i) (node p row i) now isLast ≡ true
+      → (isLast ≡ true) × (getD (p .kinds) i 0 ≡ 2) × (now .position % defAt i .unit ≡ 0 → ⊥)
   off-told isLast i now e =
       let a = both isLast (eqb (getD (p .kinds) i 0) 2 && not (onBoundary (defAt i) (now .position))) e in
       let b = both (eqb (getD (p .kinds) i 0) 2) (not (onBoundary (defAt i) (now .position))) (a .1) in
       (a .0, eqb-true (getD (p .kinds) i 0) 2 (b .0), eqb-false (now .position % defAt i .unit) 0 (not-true (onBoundary (defAt i) (now .position)) (b .1)))
 
-  on-told : (isLast : Bool) (i : ℕ) (now : Pos) → offBoundary (defAt i) (node p row i) now isLast ≡ false → isLast ≡ true → getD (p .kinds) i 0 ≡ 2 → now .position % defAt i .unit ≡ 0
+  on-told : (isLast : Bool) (i : ℕ) (now : Pos) → offBoundary (defAt i) (node p row i) now isLast ≡ false → isLast ≡ true → getD (p .kinds) i 0 ≡ 2
+      → now .position % defAt i .unit ≡ 0
   on-told isLast i now e l k = go (eqb (now .position % defAt i .unit) 0) refl
     where
       go : (t : Bool) → eqb (now .position % defAt i .unit) 0 ≡ t → now .position % defAt i .unit ≡ 0
@@ -123,16 +125,29 @@ module _ (p : Program) (row : Row) where
         ⊎-elim (λ (q : j ≡ n). rw q this) (λ (g : j < n). all j g) (eq-or-lt-of-le (le-of-suc-le-suc h))
 
     met-way : (n s : ℕ) → ((j : ℕ) → j < n → GoesPast isLast j) → (seen : Moved) → seenAt n ≡ seen →
-        Way (suc n) (goesOn (stepAt p row (walkTo p row n) n .walk) (met (defAt n) (node p row n) (stepAt p before (walkTo p before n) n .seen) isFirst isLast s seen))
+        Way (suc n) (goesOn (stepAt p row (walkTo p row n) n .walk)
+        (met (defAt n) (node p row n) (stepAt p before (walkTo p before n) n .seen) isFirst isLast s seen))
     unfolding walkTo
     met-way n s all (Stopped why) e = inr (n, why, refl, record { listed = omega arith; here = inl e; before = all })
     met-way n s all (To now) e = tested (offBoundary (defAt n) (node p row n) now isLast) refl
       where
         tested : (t : Bool) → offBoundary (defAt n) (node p row n) now isLast ≡ t →
-            Way (suc n) (goesOn (stepAt p row (walkTo p row n) n .walk) (pick t (Refused (LabelOffBoundary n)) (State (max s (stateOf (node p row n) (labelState (defAt n) now (stepAt p before (walkTo p before n) n .seen) isFirst))))))
+            Way (suc n) (goesOn (stepAt p row (walkTo p row n) n .walk)
+            (pick t (Refused (LabelOffBoundary n)) (State
+            (max s (stateOf (node p row n) (labelState (defAt n) now (stepAt p before (walkTo p before n) n .seen) isFirst))))))
         tested true f =
             let o = off-told isLast n now f in
-            inr (n, LabelOffBoundary n, refl, record { listed = omega arith; here = inr (o .0, record { label = o .1; now = now; seen = e; off = o .2 }, refl); before = all })
+            inr (
+              n,
+              LabelOffBoundary n,
+              refl,
+              record {
+                listed = omega arith;
+                here = inr
+                    (o .0, record { label = o .1; now = now; seen = e; off = o .2 }, refl);
+                before = all;
+              },
+            )
         tested false f = inl (_, refl, and-this n all (record { now = now; seen = e; on = on-told isLast n now f }))
 
     next-way : (n : ℕ) (g : Going) → Way n g → Way (suc n) (meets p row before isFirst isLast n g)

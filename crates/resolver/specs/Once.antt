@@ -58,7 +58,8 @@ abbrev pub sameAddress : Bankdef → Pos → Moved → Bool
 sameAddress def now (To before) = eqb (now .position / def .unit) (before .position / def .unit)
 sameAddress def now (Stopped why) = false
 
--- "a label is resolved when its position is known and on a boundary, stable when its address equals that of the pass before (never in pass 1), unresolved otherwise"
+-- "a label is resolved when its position is known and on a boundary, stable when its address equals that of the pass before (never in pass 1),
+-- unresolved otherwise"
 abbrev pub labelState : Bankdef → Pos → Moved → Bool → ℕ
 labelState def now before isFirst =
     pick (now .known && onBoundary def (now .position)) 0

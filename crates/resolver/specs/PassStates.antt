@@ -125,7 +125,8 @@ module _ (banks : Bankdefs) (l : Lists) (sound : listsOf (banks .len) l ≡ Acce
     )
 
     -- "stable if any is 1": and none is 2
-    pub stable-exactly : (s ≡ 1) ↔ (((i : ℕ) × (i < length (l .kinds)) × (stateIn banks l n i ≡ 1)) × ((i : ℕ) → i < length (l .kinds) → stateIn banks l n i ≡ 2 → ⊥))
+    pub stable-exactly : (s ≡ 1) ↔ (((i : ℕ) × (i < length (l .kinds)) × (stateIn banks l n i ≡ 1)) ×
+        ((i : ℕ) → i < length (l .kinds) → stateIn banks l n i ≡ 2 → ⊥))
     stable-exactly = (
       λ e. (
         ⊎-elim (λ (z : s ≡ 0). absurd (let b : ⊥ = omega arith in b))

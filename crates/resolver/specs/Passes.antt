@@ -34,7 +34,8 @@ unfoldable pub first : (ℕ → Bool) → ℕ → ℕ → ℕ
 first test from zero = from
 first test from (suc n) = pick (test from) from (first test (suc from) n)
 
--- "With limit M, passes 1, 2, .. run until one is not unresolved, pass K." "If K is M, that pass was the last." M + 1 where there is none. `pass n isLast` is what pass n comes to.
+-- "With limit M, passes 1, 2, .. run until one is not unresolved, pass K." "If K is M, that pass was the last." M + 1 where there is none. `pass n
+-- isLast` is what pass n comes to.
 abbrev pub passK : (ℕ → Bool → Pass) → ℕ → ℕ
 passK pass m = first (λ n. not (unresolved (pass n (eqb n m)))) 1 m
 

@@ -1,4 +1,5 @@
--- "5: a position would pass 4,294,967,295", of the walk of a pass: the walk is stopped for 5 at a node exactly when the bits that the node adds, or those to the label
+-- "5: a position would pass 4,294,967,295", of the walk of a pass: the walk is stopped for 5 at a node exactly when the bits that the node adds,
+-- or those to the label
 -- alignment of a symbol, would take its bank's position past the limit; and no position of the walk ever is past it.
 use Prim.Native.Nat.{ℕ, zero, suc, _<_, _≤_, zero-le}
 use mathlib.Core.Path.{_≡_, refl, sym, _∙_, ap}
@@ -75,7 +76,8 @@ module _ (def : Bankdef) (walk : Walk) (n : Node) where
       stepOf def walk n .seen ≡ Stopped (PositionPast (n .index)) → WouldPass def walk n
   by-advance t p s (To q) a e =
       absurd
-      (let f : To p ≡ Stopped (PositionPast (n .index)) = sym (ap (λ (x : Stepped). x .seen) (moves def walk n (bankAfter (walk .bank) n) refl t p q s a)) ∙ e in
+      (let f : To p ≡ Stopped (PositionPast (n .index)) = sym (ap (λ (x : Stepped). x .seen)
+      (moves def walk n (bankAfter (walk .bank) n) refl t p q s a)) ∙ e in
       let z : _≡_ {A = ℕ} 0 1 = cc in
       let b : ⊥ = omega arith in
       b)

@@ -166,7 +166,8 @@ module _ (banks : Bankdefs) (l : Lists) (m : ℕ) where
   unfolding layoutOf
   past-checks why high e = table (checkOf banks) refl e
     where
-      lists-too : checkOf banks ≡ Accepted → (w : Verdict) → listsOf (banks .len) l ≡ w → unless w (resolutionOf banks l m) .settled ≡ Refused why → Checked banks l
+      lists-too : checkOf banks ≡ Accepted → (w : Verdict) → listsOf (banks .len) l ≡ w → unless w (resolutionOf banks l m) .settled ≡ Refused why
+          → Checked banks l
       lists-too c Accepted f e = record { table = c; lists = f }
       lists-too c (TurnedAway other) f e =
           absurd (below-five why (lists-four (banks .len) l .four why (f ∙ ap TurnedAway (settled-same e))) high)
@@ -178,7 +179,8 @@ module _ (banks : Bankdefs) (l : Lists) (m : ℕ) where
 
   -- a refusal that a pass meets at a node, or 8 at the last pass's end
   pub data Refusing (why : Refusal) : Type 0 where
-    meeting : (n : ℕ) (isLast : Bool) (i : ℕ) → Runs (passAt banks l) m n isLast → MeetsFirst (program banks l) (rowOfPass l n) isLast (length (l .kinds)) i why → Refusing why
+    meeting : (n : ℕ) (isLast : Bool) (i : ℕ) → Runs (passAt banks l) m n isLast
+        → MeetsFirst (program banks l) (rowOfPass l n) isLast (length (l .kinds)) i why → Refusing why
     ending : (n : ℕ) → RunsLast (passAt banks l) m n → why ≡ Unresolved → passAt banks l n true ≡ State 2 → Refusing why
 
   met-in : (n : ℕ) (isLast : Bool) {why : Refusal} → Runs (passAt banks l) m n isLast → passAt banks l n isLast ≡ Failed why → Refusing why
@@ -199,7 +201,8 @@ module _ (banks : Bankdefs) (l : Lists) (m : ℕ) where
           (refused-last k (passAt banks l n true) (sym (ap (λ (x : Resolution). x .settled) g) ∙ e))
 
   -- a pass that runs and is refused ends the layout
-  pass-refused : (n : ℕ) (isLast : Bool) (why : Refusal) → Runs (passAt banks l) m n isLast → passAt banks l n isLast ≡ Failed why → resolutionOf banks l m ≡ record { settled = Refused why; passes = n }
+  pass-refused : (n : ℕ) (isLast : Bool) (why : Refusal) → Runs (passAt banks l) m n isLast → passAt banks l n isLast ≡ Failed why
+      → resolutionOf banks l m ≡ record { settled = Refused why; passes = n }
   pass-refused n true why r e = last-decides (passAt banks l) m n r .1 ∙ rw e
   pass-refused n false why r e = refused-before (passAt banks l) m n r e
 
@@ -221,7 +224,8 @@ module _ (banks : Bankdefs) (l : Lists) (m : ℕ) where
       let c = past-checks why high f in
       (c, refusing why (ap (λ (x : Resolution). x .settled) (sym (checked-passes c)) ∙ f))
 
-  settled-as : (why : Refusal) {n : ℕ} → layoutOf banks l m ≡ record { settled = Refused why; passes = n } → toldSettled (layoutOf banks l m .settled) ≡ refuses (numberOf why) (placeOf why)
+  settled-as : (why : Refusal) {n : ℕ} → layoutOf banks l m ≡ record { settled = Refused why; passes = n }
+      → toldSettled (layoutOf banks l m .settled) ≡ refuses (numberOf why) (placeOf why)
   settled-as why e = rw e
 
   -- ---- 5 and 6

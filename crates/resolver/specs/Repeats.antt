@@ -1,4 +1,5 @@
--- Passes past the last row repeat themselves: "Pass n reads row n, or the last row if there are fewer", so each of them and the pass before it read the last row, and none of them is pass 1.
+-- Passes past the last row repeat themselves: "Pass n reads row n, or the last row if there are fewer", so each of them and the pass before it
+-- read the last row, and none of them is pass 1.
 use Prim.Native.Nat.{ℕ, _+_, _-_, _<_, _≤_, min}
 use mathlib.Core.Path.{_≡_}
 use mathlib.Core.Bool.{Bool}

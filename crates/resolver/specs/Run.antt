@@ -61,7 +61,8 @@ last-at : (k : ℕ) (x : Pass) {j : ℕ} → lastOf k x ≡ At j → (j ≡ k) �
 last-at k (State s) e = let h = kept-at k (eqb s 2) e in (h .0, (s, refl, h .1))
 last-at k (Failed why) e = (cc, absurd (let z : _≡_ {A = ℕ} 0 1 = cc in let b : ⊥ = omega arith in b))
 
-after-at : (pass : ℕ → Bool → Pass) (k : ℕ) (x : Pass) {j : ℕ} → unresolved x ≡ false → afterK pass k x .settled ≡ At j → (j ≡ k) × (afterK pass k x .passes ≡ k + 1) × Settles (pass (k + 1) true) × Settles x
+after-at : (pass : ℕ → Bool → Pass) (k : ℕ) (x : Pass) {j : ℕ} → unresolved x ≡ false → afterK pass k x .settled ≡ At j
+    → (j ≡ k) × (afterK pass k x .passes ≡ k + 1) × Settles (pass (k + 1) true) × Settles x
 after-at pass k (State s) n e = let h = last-at k (pass (k + 1) true) e in (h .0, refl, h .1, (s, refl, n))
 after-at pass k (Failed why) n e = absurd (let z : _≡_ {A = ℕ} 0 1 = cc in let b : ⊥ = omega arith in b)
 
@@ -77,7 +78,8 @@ last-blamed : (k : ℕ) (x : Pass) {why : Refusal} → lastOf k x ≡ Refused wh
 last-blamed k (State s) e = inr (kept-out k (eqb s 2) e)
 last-blamed k (Failed w) e = inl (cc)
 
-after-blamed : (pass : ℕ → Bool → Pass) (k : ℕ) (x : Pass) {why : Refusal} → pass k false ≡ x → afterK pass k x .settled ≡ Refused why → (isLast : Bool) × Blamed (pass (afterK pass k x .passes) isLast) why
+after-blamed : (pass : ℕ → Bool → Pass) (k : ℕ) (x : Pass) {why : Refusal} → pass k false ≡ x → afterK pass k x .settled ≡ Refused why
+    → (isLast : Bool) × Blamed (pass (afterK pass k x .passes) isLast) why
 after-blamed pass k (State s) e f = (true, last-blamed k (pass (k + 1) true) f)
 after-blamed pass k (Failed w) e f = (false, inl (e ∙ cc))
 
@@ -103,7 +105,9 @@ module _ (pass : ℕ → Bool → Pass) (m : ℕ) where
   K-not-below h g = rw (ne-eqb m 0 (λ q. omega arith), le-ltb (passK pass m) m g)
 
   -- one of the three, for any property of what they come to
-  pub by-ways : (P : Resolution → Type 0) → (m ≡ 0 → P (record { settled = lastOf 0 (pass 1 true); passes = 1 })) → (0 < m → passK pass m < m → P (afterK pass (passK pass m) (pass (passK pass m) false))) → (0 < m → m ≤ passK pass m → P (record { settled = lastOf m (pass m true); passes = m })) → P (settledBy pass m)
+  pub by-ways : (P : Resolution → Type 0) → (m ≡ 0 → P (record { settled = lastOf 0 (pass 1 true); passes = 1 }))
+      → (0 < m → passK pass m < m → P (afterK pass (passK pass m) (pass (passK pass m) false))) →
+      (0 < m → m ≤ passK pass m → P (record { settled = lastOf m (pass m true); passes = m })) → P (settledBy pass m)
   by-ways P a b d = go (eqb m 0) refl (ltb (passK pass m) m) refl
     where
       go : (s : Bool) → eqb m 0 ≡ s → (t : Bool) → ltb (passK pass m) m ≡ t → P (settledBy pass m)
@@ -141,7 +145,8 @@ module _ (pass : ℕ → Bool → Pass) (m : ℕ) where
         h .1,
       )
 
-  below-told : 0 < m → passK pass m < m → (k : ℕ) → afterK pass (passK pass m) (pass (passK pass m) false) .settled ≡ At k → Counted k (afterK pass (passK pass m) (pass (passK pass m) false))
+  below-told : 0 < m → passK pass m < m → (k : ℕ) → afterK pass (passK pass m) (pass (passK pass m) false) .settled ≡ At k
+      → Counted k (afterK pass (passK pass m) (pass (passK pass m) false))
   below-told some less k e =
       let other : eqb (passK pass m) m ≡ false = ne-eqb (passK pass m) m (λ q. omega arith) in
       let h = after-at pass (passK pass m) (pass (passK pass m) false) (rw other at (K-settles pass m (omega arith))) e in
@@ -172,10 +177,12 @@ module _ (pass : ℕ → Bool → Pass) (m : ℕ) where
         h .1,
       )
 
-  -- An accepted layout: K is the least pass that is not unresolved, the passes run are "K when K = M and M > 0, else K + 1", and the last of them was not unresolved.
+  -- An accepted layout: K is the least pass that is not unresolved, the passes run are "K when K = M and M > 0, else K + 1", and the last of
+  -- them was not unresolved.
   pub accepted-passes : (k : ℕ) → settledBy pass m .settled ≡ At k → Counted k (settledBy pass m)
   accepted-passes =
-      by-ways (λ r. (k : ℕ) → r .settled ≡ At k → Counted k r) (λ z. zero-told z) (λ some. λ less. below-told some less) (λ some. λ least. limit-told some least)
+      by-ways (λ r. (k : ℕ) → r .settled ≡ At k → Counted k r) (λ z. zero-told z) (λ some. λ less. below-told some less)
+      (λ some. λ least. limit-told some least)
 
   -- A pass is run, and no more are than "the larger of 1 and the limit", refused layouts included.
   pub passes-bounded : (1 ≤ settledBy pass m .passes) × (settledBy pass m .passes ≤ max 1 m)

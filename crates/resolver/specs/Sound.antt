@@ -38,17 +38,20 @@ module _ (banks : ℕ) (l : Lists) where
   accepted-node zero e i h = absurd (let b : ⊥ = omega arith in b)
   accepted-node (suc n) e i h =
       let v = both-accept (nodesTo banks l n) (pick (nodeFault banks l n) (Refused (Malformed n)) Accepted) e in
-      ⊎-elim (λ (q : i ≡ n). rw q (none-taken (nodeFault banks l n) (Malformed n) (v .1))) (λ (g : i < n). accepted-node n (v .0) i g) (eq-or-lt-of-le (le-of-suc-le-suc h))
+      ⊎-elim (λ (q : i ≡ n). rw q (none-taken (nodeFault banks l n) (Malformed n) (v .1))) (λ (g : i < n). accepted-node n (v .0) i g)
+      (eq-or-lt-of-le (le-of-suc-le-suc h))
 
   -- "in any row"
-  pub no-row-fault : (i rows : ℕ) → anyRowFault l i rows ≡ false → (r : ℕ) → r < rows → rowFault (length (l .values)) (nodeOf (l .kinds) (l .operands) (l .numbers) (l .states) r i) ≡ false
+  pub no-row-fault : (i rows : ℕ) → anyRowFault l i rows ≡ false → (r : ℕ) → r < rows
+      → rowFault (length (l .values)) (nodeOf (l .kinds) (l .operands) (l .numbers) (l .states) r i) ≡ false
   unfolding anyRowFault
   no-row-fault i zero e r h = absurd (let b : ⊥ = omega arith in b)
   no-row-fault i (suc rows) e r h =
       let v = both-false (anyRowFault l i rows) (rowFault (length (l .values)) (nodeOf (l .kinds) (l .operands) (l .numbers) (l .states) rows i)) e in
       ⊎-elim (λ (q : r ≡ rows). rw q (v .1)) (λ (g : r < rows). no-row-fault i rows (v .0) r g) (eq-or-lt-of-le (le-of-suc-le-suc h))
 
-  pub accepted-row : (n : ℕ) → nodesTo banks l n ≡ Accepted → (i : ℕ) → i < n → (r : ℕ) → r < l .rows → rowFault (length (l .values)) (nodeOf (l .kinds) (l .operands) (l .numbers) (l .states) r i) ≡ false
+  pub accepted-row : (n : ℕ) → nodesTo banks l n ≡ Accepted → (i : ℕ) → i < n → (r : ℕ) → r < l .rows
+      → rowFault (length (l .values)) (nodeOf (l .kinds) (l .operands) (l .numbers) (l .states) r i) ≡ false
   accepted-row n e i h r g =
       let v = both-false (headFault banks (nodeOf (l .kinds) (l .operands) (l .numbers) (l .states) 0 i)) (anyRowFault l i (l .rows)) (accepted-node n e i h) in
       no-row-fault i (l .rows) (v .1) r g
@@ -66,7 +69,8 @@ module _ (banks : ℕ) (l : Lists) where
   taken-at n true e = (refl, cc)
   taken-at n false e = (cc, cc)
 
-  lowest-of : (n : ℕ) (why : Refusal) (v : Verdict) → nodesTo banks l n ≡ v → (v ≡ Refused why → (i : ℕ) × Lowest n i × (why ≡ Malformed i)) → firstOf v (pick (nodeFault banks l n) (Refused (Malformed n)) Accepted) ≡ Refused why → (i : ℕ) × Lowest (suc n) i × (why ≡ Malformed i)
+  lowest-of : (n : ℕ) (why : Refusal) (v : Verdict) → nodesTo banks l n ≡ v → (v ≡ Refused why → (i : ℕ) × Lowest n i × (why ≡ Malformed i))
+      → firstOf v (pick (nodeFault banks l n) (Refused (Malformed n)) Accepted) ≡ Refused why → (i : ℕ) × Lowest (suc n) i × (why ≡ Malformed i)
   lowest-of n why Accepted f rest e =
       let w = taken-at n (nodeFault banks l n) e in
       (n, record { listed = omega arith; fault = w .0; none = accepted-node n f }, w .1)

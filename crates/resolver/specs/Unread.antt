@@ -32,7 +32,8 @@ use Rattle.resolver.specs.UnreadStep.{SameRead, bank-same, step-same}
 use Rattle.resolver.specs.declared.Pass.{Pass}
 use Rattle.resolver.specs.declared.Resolution.{Resolution}
 
--- Lists with the same kinds and rows, as long as each other, that agree wherever a kind reads: operands of kinds 1 to 6; numbers of kinds 4 to 9, but of kind 5 in
+-- Lists with the same kinds and rows, as long as each other, that agree wherever a kind reads: operands of kinds 1 to 6; numbers of kinds 4 to 9,
+-- but of kind 5 in
 -- the first row alone; states of kinds 3 to 10. Of the value bytes a layout reads how many there are.
 pub record AgreeWhereRead (l m : Lists) : Type 0 where
   pub kinds : l .kinds ≡ m .kinds
@@ -177,7 +178,8 @@ module _ (banks : Bankdefs) (kinds : List ℕ) (rows : ℕ) (operands numbers st
         let b = neither (ltb 10 (getD kinds i 0)) (eqb (getD kinds i 0) 1 && leb (banks .len) (getD operands i 0)) (a .0) in
         ltb-false 10 (getD kinds i 0) (b .0)
 
-    step-at-same : (r : ℕ) → r < rows → (walk : Walk) (i : ℕ) → i < length kinds → stepAt (program banks one) (rowAt one r) walk i ≡ stepAt (program banks two) (rowAt two r) walk i
+    step-at-same : (r : ℕ) → r < rows → (walk : Walk) (i : ℕ) → i < length kinds
+        → stepAt (program banks one) (rowAt one r) walk i ≡ stepAt (program banks two) (rowAt two r) walk i
     step-at-same r h walk i g =
         let same = same-node r i h g (known-kind i g) in
         rw (bank-same (nodeOne r i) (nodeTwo r i) same (walk .bank)) (step-same (nodeOne r i) (nodeTwo r i) same (bankOf banks walk (nodeTwo r i)) walk)
@@ -199,7 +201,8 @@ module _ (banks : Bankdefs) (kinds : List ℕ) (rows : ℕ) (operands numbers st
 
     module _ (r s : ℕ) (h : r < rows) (k : s < rows) (isFirst isLast : Bool) where
       met-same : (i : ℕ) → i < length kinds → (walk : Walk) (before : Moved) (merged : ℕ) (seen : Moved) →
-          met (bankOf banks walk (nodeOne r i)) (nodeOne r i) before isFirst isLast merged seen ≡ met (bankOf banks walk (nodeTwo r i)) (nodeTwo r i) before isFirst isLast merged seen
+          met (bankOf banks walk (nodeOne r i)) (nodeOne r i) before isFirst isLast merged seen ≡ met (bankOf banks walk (nodeTwo r i))
+          (nodeTwo r i) before isFirst isLast merged seen
       met-same i g walk before merged seen =
           rw (bank-same (nodeOne r i) (nodeTwo r i) (same-node r i h g (known-kind i g)) (walk .bank)) (by-seen (bankOf banks walk (nodeTwo r i)) seen)
         where
@@ -207,17 +210,22 @@ module _ (banks : Bankdefs) (kinds : List ℕ) (rows : ℕ) (operands numbers st
           by-seen def (To now) = rw (state-same r h i g (labelState def now before isFirst))
           by-seen def (Stopped why) = refl
 
-      meets-same : (i : ℕ) → i < length kinds → (g : Going) → meets (program banks one) (rowAt one r) (rowAt one s) isFirst isLast i g ≡ meets (program banks two) (rowAt two r) (rowAt two s) isFirst isLast i g
+      meets-same : (i : ℕ) → i < length kinds → (g : Going)
+          → meets (program banks one) (rowAt one r) (rowAt one s) isFirst isLast i g ≡ meets (program banks two) (rowAt two r) (rowAt two s) isFirst
+          isLast i g
       meets-same i g (off why) = refl
       meets-same i g (on walk merged) =
           rw (
             walk-same s k i (omega arith),
             step-at-same s k (walkTo (program banks two) (rowAt two s) i) i g,
             step-at-same r h walk i g,
-            met-same i g walk (stepAt (program banks two) (rowAt two s) (walkTo (program banks two) (rowAt two s) i) i .seen) merged (stepAt (program banks two) (rowAt two r) walk i .seen),
+            met-same i g walk (stepAt (program banks two) (rowAt two s) (walkTo (program banks two) (rowAt two s) i) i .seen) merged
+                (stepAt (program banks two) (rowAt two r) walk i .seen),
           )
 
-      pass-to-same : (i : ℕ) → i ≤ length kinds → passTo (program banks one) (rowAt one r) (rowAt one s) isFirst isLast i ≡ passTo (program banks two) (rowAt two r) (rowAt two s) isFirst isLast i
+      pass-to-same : (i : ℕ) → i ≤ length kinds
+          → passTo (program banks one) (rowAt one r) (rowAt one s) isFirst isLast i ≡ passTo (program banks two) (rowAt two r) (rowAt two s) isFirst
+          isLast i
       unfolding passTo
       pass-to-same zero g = refl
       pass-to-same (suc i) g =
@@ -238,7 +246,8 @@ module _ (banks : Bankdefs) (kinds : List ℕ) (rows : ℕ) (operands numbers st
   unfolding layoutOf
   layout-same m = ap (unless (checkOf banks)) (by-check (listsOf (banks .len) one) refl)
     where
-      by-check : (v : Verdict) → listsOf (banks .len) one ≡ v → unless (listsOf (banks .len) one) (resolutionOf banks one m) ≡ unless (listsOf (banks .len) two) (resolutionOf banks two m)
+      by-check : (v : Verdict) → listsOf (banks .len) one ≡ v
+          → unless (listsOf (banks .len) one) (resolutionOf banks one m) ≡ unless (listsOf (banks .len) two) (resolutionOf banks two m)
       by-check Accepted e = rw (← check-same, e) (settled-same e m)
       by-check (Refused why) e = rw (← check-same, e)
 

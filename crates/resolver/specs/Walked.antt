@@ -32,8 +32,10 @@ taken-state : (t : Bool) (why : Refusal) (x : ℕ) {s : ℕ} → pick t (Refused
 taken-state true why x e = cc
 taken-state false why x e = cc
 
-met-max : (def : Bankdef) (n : Node) (before : Moved) (isFirst isLast : Bool) (merged : ℕ) (seen : Moved) {s : ℕ} → met def n before isFirst isLast merged seen ≡ State s → s ≡ max merged (stateSeen def n before isFirst seen)
-met-max def n before isFirst isLast merged (To now) e = taken-state (offBoundary def n now isLast) (LabelOffBoundary (n .index)) (max merged (stateOf n (labelState def now before isFirst))) e
+met-max : (def : Bankdef) (n : Node) (before : Moved) (isFirst isLast : Bool) (merged : ℕ) (seen : Moved) {s : ℕ}
+    → met def n before isFirst isLast merged seen ≡ State s → s ≡ max merged (stateSeen def n before isFirst seen)
+met-max def n before isFirst isLast merged (To now) e =
+    taken-state (offBoundary def n now isLast) (LabelOffBoundary (n .index)) (max merged (stateOf n (labelState def now before isFirst))) e
 met-max def n before isFirst isLast merged (Stopped why) e = cc
 
 module _ (p : Program) (row before : Row) (isFirst isLast : Bool) where
@@ -41,8 +43,12 @@ module _ (p : Program) (row before : Row) (isFirst isLast : Bool) where
   unfolding passTo
   none-merged w s e = cc
 
-  meets-walk : (i : ℕ) (g : Going) {w : Walk} {s : ℕ} → ((x : Walk) (t : ℕ) → g ≡ on x t → x ≡ walkTo p row i) → meets p row before isFirst isLast i g ≡ on w s → w ≡ stepAt p row (walkTo p row i) i .walk
-  meets-walk i (on x t) walked e = rw (← (walked x t refl)) (goes-walk (stepAt p row x i .walk) (met (bankOf (p .banks) x (node p row i)) (node p row i) (stepAt p before (walkTo p before i) i .seen) isFirst isLast t (stepAt p row x i .seen)) e .0)
+  meets-walk : (i : ℕ) (g : Going) {w : Walk} {s : ℕ} → ((x : Walk) (t : ℕ) → g ≡ on x t → x ≡ walkTo p row i)
+      → meets p row before isFirst isLast i g ≡ on w s → w ≡ stepAt p row (walkTo p row i) i .walk
+  meets-walk i (on x t) walked e =
+      rw (← (walked x t refl)) (goes-walk (stepAt p row x i .walk)
+      (met (bankOf (p .banks) x (node p row i)) (node p row i) (stepAt p before (walkTo p before i) i .seen) isFirst isLast t
+      (stepAt p row x i .seen)) e .0)
   meets-walk i (off why) walked e = cc
 
   -- A pass that goes on stands where the walk of its row does: its positions come from its row alone.
@@ -66,11 +72,13 @@ module _ (p : Program) (row before : Row) (isFirst isLast : Bool) where
   prior-of : (i : ℕ) (w : Walk) (s : ℕ) (g : Going) → passTo p row before isFirst isLast i ≡ g → meets p row before isFirst isLast i g ≡ on w s → Prior i s
   prior-of i w s (on x t) f e =
       let walked = same-walk i x t f in
-      let went = goes-walk (stepAt p row x i .walk) (met (bankOf (p .banks) x (node p row i)) (node p row i) (stepAt p before (walkTo p before i) i .seen) isFirst isLast t (stepAt p row x i .seen)) e in
+      let went = goes-walk (stepAt p row x i .walk) (met (bankOf (p .banks) x (node p row i)) (node p row i)
+      (stepAt p before (walkTo p before i) i .seen) isFirst isLast t (stepAt p row x i .seen)) e in
       record {
         merged = t;
         pass = f ∙ rw walked;
-        more = rw (← walked) (met-max (bankOf (p .banks) x (node p row i)) (node p row i) (stepAt p before (walkTo p before i) i .seen) isFirst isLast t (stepAt p row x i .seen) (went .1));
+        more = rw (← walked) (met-max (bankOf (p .banks) x (node p row i)) (node p row i) (stepAt p before (walkTo p before i) i .seen) isFirst
+            isLast t (stepAt p row x i .seen) (went .1));
       }
   prior-of i w s (off why) f e = absurd (let z : _≡_ {A = ℕ} 0 1 = cc in let b : ⊥ = omega arith in b)
 
@@ -92,7 +100,8 @@ module _ (p : Program) (row before : Row) (isFirst isLast : Bool) where
             ⊎-elim
             (λ (g : stateAt n ≤ b .merged).
             let e : s ≡ b .merged = omega arith in
-            ⊎-elim (λ (z : b .merged ≡ 0). inl (omega arith)) (λ (w : (i : ℕ) × (i < n) × (stateAt i ≡ b .merged)). inr (w .0, omega (arith, w .1), w .2 ∙ sym e)) (a .one))
+            ⊎-elim (λ (z : b .merged ≡ 0). inl (omega arith)) (λ (w : (i : ℕ) × (i < n) × (stateAt i ≡ b .merged)). inr
+            (w .0, omega (arith, w .1), w .2 ∙ sym e)) (a .one))
             (λ (g : b .merged < stateAt n). inr (n, omega arith, omega arith))
             (or-past (stateAt n) (b .merged));
       }

@@ -213,7 +213,7 @@ pub fn check_lists(
     ensures { λ r. ⌜ r ≡ listsOf banks
         (lists (now (kinds .entry)) (now (operands .entry)) (now (numbers .entry)) (now (states .entry)) rows (now (values .entry)))
         ⌝ }
-    ensures { λ r. ⌜ ListFigures banks
+    ensures told { λ r. ⌜ ListFigures banks
         (lists (now (kinds .entry)) (now (operands .entry)) (now (numbers .entry)) (now (states .entry)) rows (now (values .entry)))
         r ⌝ }
 {

@@ -187,7 +187,7 @@ pub fn resolve(
     ensures { λ r. ⌜ r ≡ layoutOf banks
         (lists (now (kinds .entry)) (now (operands .entry)) (now (numbers .entry)) (now (states .entry)) rows (now (values .entry)))
         limit ⌝ }
-    ensures { λ r. ⌜ Figures banks
+    ensures told { λ r. ⌜ Figures banks
         (lists (now (kinds .entry)) (now (operands .entry)) (now (numbers .entry)) (now (states .entry)) rows (now (values .entry)))
         limit r ⌝ }
 {

@@ -31,7 +31,9 @@ returns : tie.Need-returns Inv-loop μ-loop
 returns c =
     let s = c .before .before .before .before .before .before .before .before .before .before in
     row-found (given s) (s .args .i) (s .args .rows) (c .before .before .before .before .loop .r) (c .before .before .before .loop-test .taken)
-    (sym (c .if1 .taken) ∙ row-read (given s) (s .args .i) (c .before .before .before .before .loop .r) (s .pre .1) (c .before .before .row-node .ensures) (c .before .row-fault .ensures))
+    (sym (c .if1 .taken)
+    ∙ row-read (given s) (s .args .i) (c .before .before .before .before .loop .r) (s .pre .1) (c .before .before .row-node .ensures)
+    (c .before .row-fault .ensures))
 
 add-r : tie.Need-add-r Inv-loop μ-loop
 add-r c = omega arith
@@ -44,7 +46,9 @@ loop-again c =
     let s = c .before .before .before .before .before .before .before .before .before .before in (
       search needs,
       next-row (given s) (s .args .i) (c .before .before .before .before .loop .r) (c .before .before .before .before .loop .inv .1)
-          (sym (c .if1 .left) ∙ row-read (given s) (s .args .i) (c .before .before .before .before .loop .r) (s .pre .1) (c .before .before .row-node .ensures) (c .before .row-fault .ensures)),
+          (sym (c .if1 .left)
+          ∙ row-read (given s) (s .args .i) (c .before .before .before .before .loop .r) (s .pre .1) (c .before .before .row-node .ensures)
+          (c .before .row-fault .ensures)),
     )
 
 returns-2 : tie.Need-returns-2 Inv-loop μ-loop

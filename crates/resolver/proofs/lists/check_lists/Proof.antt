@@ -16,25 +16,32 @@ malformed-requires : tie.Need-malformed-requires
 malformed-requires c κs = search needs
 
 returns : tie.Need-returns
-returns c = let s = c .before .before .before .before .before .before .before in lists-told (s .args .banks) (given s) (c .malformed .ensures ∙ too-many-nodes (s .args .banks) (given s) (c .before .if1 .taken))
+returns c = let s = c .before .before .before .before .before .before .before in
+    lists-told (s .args .banks) (given s) (c .malformed .ensures ∙ too-many-nodes (s .args .banks) (given s) (c .before .if1 .taken))
 
 malformed-requires-2 : tie.Need-malformed-requires-2
 malformed-requires-2 c κs = search needs
 
 returns-2 : tie.Need-returns-2
-returns-2 c = let s = c .before .before .before .before .before .before .before .before in lists-told (s .args .banks) (given s) (c .malformed2 .ensures ∙ other-operands (s .args .banks) (given s) (c .before .before .if1 .left) (c .before .if2 .taken))
+returns-2 c = let s = c .before .before .before .before .before .before .before .before in
+    lists-told (s .args .banks) (given s) (c .malformed2 .ensures ∙ other-operands (s .args .banks) (given s) (c .before .before .if1 .left)
+    (c .before .if2 .taken))
 
 malformed-requires-3 : tie.Need-malformed-requires-3
 malformed-requires-3 c κs = search needs
 
 returns-3 : tie.Need-returns-3
-returns-3 c = let s = c .before .before .before .before .before .before .before .before .before in lists-told (s .args .banks) (given s) (c .malformed3 .ensures ∙ no-rows (s .args .banks) (given s) (c .before .before .before .if1 .left) (c .before .before .if2 .left) (c .before .if3 .taken))
+returns-3 c = let s = c .before .before .before .before .before .before .before .before .before in
+    lists-told (s .args .banks) (given s) (c .malformed3 .ensures ∙ no-rows (s .args .banks) (given s) (c .before .before .before .if1 .left)
+    (c .before .before .if2 .left) (c .before .if3 .taken))
 
 malformed-requires-4 : tie.Need-malformed-requires-4
 malformed-requires-4 c κs = search needs
 
 returns-4 : tie.Need-returns-4
-returns-4 c = let s = c .before .before .before .before .before .before .before .before .before .before in lists-told (s .args .banks) (given s) (c .malformed4 .ensures ∙ too-many-rows (s .args .banks) (given s) (c .before .before .before .before .if1 .left) (c .before .before .before .if2 .left) (c .before .before .if3 .left) (c .before .if4 .taken))
+returns-4 c = let s = c .before .before .before .before .before .before .before .before .before .before in
+    lists-told (s .args .banks) (given s) (c .malformed4 .ensures ∙ too-many-rows (s .args .banks) (given s)
+    (c .before .before .before .before .if1 .left) (c .before .before .before .if2 .left) (c .before .before .if3 .left) (c .before .if4 .taken))
 
 mul-cells : tie.Need-mul-cells
 mul-cells c = let h = mul-le-mul (c .if4 .left) (c .before .before .before .if1 .left) in omega arith
@@ -43,13 +50,20 @@ malformed-requires-5 : tie.Need-malformed-requires-5
 malformed-requires-5 c κs = search needs
 
 returns-5 : tie.Need-returns-5
-returns-5 c = let s = c .before .before .before .before .before .before .before .before .before .before .before in lists-told (s .args .banks) (given s) (c .malformed5 .ensures ∙ other-numbers (s .args .banks) (given s) (c .before .before .before .before .before .if1 .left) (c .before .before .before .before .if2 .left) (c .before .before .before .if3 .left) (c .before .before .if4 .left) (c .before .if5 .taken))
+returns-5 c = let s = c .before .before .before .before .before .before .before .before .before .before .before in
+    lists-told (s .args .banks) (given s) (c .malformed5 .ensures ∙ other-numbers (s .args .banks) (given s)
+    (c .before .before .before .before .before .if1 .left) (c .before .before .before .before .if2 .left) (c .before .before .before .if3 .left)
+    (c .before .before .if4 .left) (c .before .if5 .taken))
 
 malformed-requires-6 : tie.Need-malformed-requires-6
 malformed-requires-6 c κs = search needs
 
 returns-6 : tie.Need-returns-6
-returns-6 c = let s = c .before .before .before .before .before .before .before .before .before .before .before .before in lists-told (s .args .banks) (given s) (c .malformed6 .ensures ∙ other-states (s .args .banks) (given s) (c .before .before .before .before .before .before .if1 .left) (c .before .before .before .before .before .if2 .left) (c .before .before .before .before .if3 .left) (c .before .before .before .if4 .left) (c .before .before .if5 .left) (c .before .if6 .taken))
+returns-6 c = let s = c .before .before .before .before .before .before .before .before .before .before .before .before in
+    lists-told (s .args .banks) (given s) (c .malformed6 .ensures ∙ other-states (s .args .banks) (given s)
+    (c .before .before .before .before .before .before .if1 .left) (c .before .before .before .before .before .if2 .left)
+    (c .before .before .before .before .if3 .left) (c .before .before .before .if4 .left) (c .before .before .if5 .left)
+    (c .before .if6 .taken))
 
 check-nodes-requires : tie.Need-check-nodes-requires
 check-nodes-requires c κs = search needs
@@ -57,7 +71,9 @@ check-nodes-requires c κs = search needs
 returns-7 : tie.Need-returns-7
 returns-7 c =
     let s = c .before .before .before .before .before .before .before .before .before .before .before .before in
-    lists-told (s .args .banks) (given s) (sound-counts (s .args .banks) (given s) (c .before .before .before .before .before .before .if1 .left) (c .before .before .before .before .before .if2 .left) (c .before .before .before .before .if3 .left) (c .before .before .before .if4 .left) (c .before .before .if5 .left) (c .before .if6 .left) (c .check-nodes .ensures))
+    lists-told (s .args .banks) (given s) (sound-counts (s .args .banks) (given s) (c .before .before .before .before .before .before .if1 .left)
+    (c .before .before .before .before .before .if2 .left) (c .before .before .before .before .if3 .left) (c .before .before .before .if4 .left)
+    (c .before .before .if5 .left) (c .before .if6 .left) (c .check-nodes .ensures))
 
 pub check-lists-spec : {M : Type 1} → statement M
 check-lists-spec =

@@ -11,7 +11,8 @@ use Rattle.resolver.proofs.lists.check_nodes.Statement.{statement}
 use Rattle.resolver.proofs.lists.check_nodes.Tie as tie
 
 abbrev Inv-loop : tie.InvT-loop
-Inv-loop banks kinds operands numbers states rows values i₀ i = (i ≤ length kinds) × (Accepted ≡ nodesTo banks (lists kinds operands numbers states rows values) i)
+Inv-loop banks kinds operands numbers states rows values i₀ i =
+    (i ≤ length kinds) × (Accepted ≡ nodesTo banks (lists kinds operands numbers states rows values) i)
 
 abbrev μ-loop : tie.MeasureT-loop
 μ-loop banks kinds operands numbers states rows values i₀ i = length kinds - i
@@ -32,7 +33,9 @@ returns : tie.Need-returns Inv-loop μ-loop
 returns c =
     let s = c .before .before .before .before .before .before .before .before .before .before in
     c .malformed .ensures
-    ∙ node-found (s .args .banks) (given s) (length (s .args .kinds .now)) (c .before .before .before .before .loop .i) (c .before .before .before .loop-test .taken) (c .before .before .before .before .loop .inv .1) (c .before .before .node-fault .ensures) (c .before .if1 .taken)
+    ∙ node-found (s .args .banks) (given s) (length (s .args .kinds .now)) (c .before .before .before .before .loop .i)
+    (c .before .before .before .loop-test .taken) (c .before .before .before .before .loop .inv .1) (c .before .before .node-fault .ensures)
+    (c .before .if1 .taken)
 
 add-i : tie.Need-add-i Inv-loop μ-loop
 add-i c = omega arith
@@ -42,8 +45,11 @@ loop-less c = omega arith
 
 loop-again : tie.Need-loop-again Inv-loop μ-loop
 loop-again c =
-    let s = c .before .before .before .before .before .before .before .before .before in
-    (search needs, next-node (s .args .banks) (given s) (c .before .before .before .loop .i) (c .before .before .before .loop .inv .1) (c .before .node-fault .ensures) (c .if1 .left))
+    let s = c .before .before .before .before .before .before .before .before .before in (
+      search needs,
+      next-node (s .args .banks) (given s) (c .before .before .before .loop .i) (c .before .before .before .loop .inv .1)
+          (c .before .node-fault .ensures) (c .if1 .left),
+    )
 
 returns-2 : tie.Need-returns-2 Inv-loop μ-loop
 returns-2 c =

@@ -19,7 +19,8 @@ number-at-requires-2 c κs = search needs
 returns : tie.Need-returns
 returns c =
     let a = c .before .before .before .before .before .before .before .before .before .before .args in
-    declared-data (a .kinds .now) (a .operands .now) (a .first .now) (record { numbers = a .numbers .now; states = a .states .now }) (a .i) (c .before .before .before .before .byte-at .ensures) (c .before .before .before .number-at .ensures) (c .before .before .byte-at2 .ensures)
+    declared-data (a .kinds .now) (a .operands .now) (a .first .now) (record { numbers = a .numbers .now; states = a .states .now }) (a .i)
+    (c .before .before .before .before .byte-at .ensures) (c .before .before .before .number-at .ensures) (c .before .before .byte-at2 .ensures)
     (c .before .if1 .taken)
     (c .number-at2 .ensures)
 
@@ -29,7 +30,8 @@ number-at-requires-3 c κs = search needs
 returns-2 : tie.Need-returns-2
 returns-2 c =
     let a = c .before .before .before .before .before .before .before .before .before .before .args in
-    other-kind (a .kinds .now) (a .operands .now) (a .first .now) (record { numbers = a .numbers .now; states = a .states .now }) (a .i) (c .before .before .before .before .byte-at .ensures) (c .before .before .before .number-at .ensures) (c .before .before .byte-at2 .ensures)
+    other-kind (a .kinds .now) (a .operands .now) (a .first .now) (record { numbers = a .numbers .now; states = a .states .now }) (a .i)
+    (c .before .before .before .before .byte-at .ensures) (c .before .before .before .number-at .ensures) (c .before .before .byte-at2 .ensures)
     (c .before .if1 .left)
     (c .number-at3 .ensures)
 

@@ -40,24 +40,30 @@ any-row-fault-requires-2 c κs =
     (c .before .before .before .before .before .before .before .pre, (omega (arith, stated c .0), rw k at (stated c .2)))
 
 returns : tie.Need-returns
-returns c = let s = c .before .before .before .before .before .before .before in no-fault (s .args .banks) (given s) (s .args .i) (c .before .byte-at .ensures) (c .match .keys1)
+returns c = let s = c .before .before .before .before .before .before .before in
+    no-fault (s .args .banks) (given s) (s .args .i) (c .before .byte-at .ensures) (c .match .keys1)
 
 returns-2 : tie.Need-returns-2
-returns-2 c = let s = c .before .before .before .before .before .before .before .before .before in switch-fault (s .args .banks) (given s) (s .args .i) (c .before .before .before .byte-at .ensures) (c .before .before .match .keys2) (c .before .number-at .ensures) (c .wide .ensures)
+returns-2 c = let s = c .before .before .before .before .before .before .before .before .before in
+    switch-fault (s .args .banks) (given s) (s .args .i) (c .before .before .before .byte-at .ensures) (c .before .before .match .keys2)
+    (c .before .number-at .ensures) (c .wide .ensures)
 
 returns-3 : tie.Need-returns-3
 returns-3 c =
     let s = c .before .before .before .before .before .before .before .before .before in
-    let low = from-four (c .before .before .before .byte-at .result) (c .before .before .match .rest .0 .0 .1) (c .before .before .match .rest .0 .1) (c .before .before .match .rest .1) in
+    let low = from-four (c .before .before .before .byte-at .result) (c .before .before .match .rest .0 .0 .1)
+    (c .before .before .match .rest .0 .1) (c .before .before .match .rest .1) in
     rows-fault (s .args .banks) (given s) (s .args .i) (c .before .before .before .byte-at .ensures) (omega arith) (omega arith) (c .any-row-fault .ensures)
 
 returns-4 : tie.Need-returns-4
-returns-4 c = let s = c .before .before .before .before .before .before .before .before .before in kind-fault (s .args .banks) (given s) (s .args .i) (c .before .before .before .byte-at .ensures) (c .if2 .left)
+returns-4 c = let s = c .before .before .before .before .before .before .before .before .before in
+    kind-fault (s .args .banks) (given s) (s .args .i) (c .before .before .before .byte-at .ensures) (c .if2 .left)
 
 returns-5 : tie.Need-returns-5
 returns-5 c =
     let s = c .before .before .before .before .before .before .before .before in
-    rows-fault (s .args .banks) (given s) (s .args .i) (c .before .before .byte-at .ensures) (stated (c .before) .0) (stated (c .before) .1) (c .any-row-fault2 .ensures)
+    rows-fault (s .args .banks) (given s) (s .args .i) (c .before .before .byte-at .ensures) (stated (c .before) .0) (stated (c .before) .1)
+    (c .any-row-fault2 .ensures)
 
 pub node-fault-spec : {M : Type 1} → statement M
 node-fault-spec =

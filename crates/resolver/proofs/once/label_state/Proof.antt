@@ -18,7 +18,8 @@ on-boundary-requires : tie.Need-on-boundary-requires
 on-boundary-requires c κs = search needs
 
 returns : tie.Need-returns
-returns c = let a = c .before .before .before .args in label-resolved (a .def) (a .now) (a .before) (a .is-first) (c .before .before .if1 .taken) (c .before .on-boundary .ensures) (c .if2 .taken)
+returns c = let a = c .before .before .before .args in
+    label-resolved (a .def) (a .now) (a .before) (a .is-first) (c .before .before .if1 .taken) (c .before .on-boundary .ensures) (c .if2 .taken)
 
 returns-2 : tie.Need-returns-2
 returns-2 c = let a = c .before .before .args in label-first (a .def) (a .now) (still-open (c .before)) (a .before) (a .is-first) (c .if3 .taken)
@@ -36,13 +37,20 @@ enum-told : tie.Need-enum-told
 enum-told c = search needs
 
 returns-3 : tie.Need-returns-3
-returns-3 c = let a = c .before .before .before .before .before .before .before .before .args in label-same (a .def) (a .now) (still-open (c .before .before .before .before .before .before .before)) (c .before .before .before .before .before .before .if3 .left) (c .before .before .before .before .before2 .given .1) (c .before .before .whole-units .ensures) (c .before .whole-units2 .ensures) (c .if4 .taken)
+returns-3 c = let a = c .before .before .before .before .before .before .before .before .args in
+    label-same (a .def) (a .now) (still-open (c .before .before .before .before .before .before .before))
+    (c .before .before .before .before .before .before .if3 .left) (c .before .before .before .before .before2 .given .1)
+    (c .before .before .whole-units .ensures) (c .before .whole-units2 .ensures) (c .if4 .taken)
 
 returns-4 : tie.Need-returns-4
-returns-4 c = let a = c .before .before .before .before .before .before .before .before .args in label-moved (a .def) (a .now) (still-open (c .before .before .before .before .before .before .before)) (c .before .before .before .before .before .before .if3 .left) (c .before .before .before .before .before2 .given .1) (c .before .before .whole-units .ensures) (c .before .whole-units2 .ensures) (c .if4 .left)
+returns-4 c = let a = c .before .before .before .before .before .before .before .before .args in
+    label-moved (a .def) (a .now) (still-open (c .before .before .before .before .before .before .before))
+    (c .before .before .before .before .before .before .if3 .left) (c .before .before .before .before .before2 .given .1)
+    (c .before .before .whole-units .ensures) (c .before .whole-units2 .ensures) (c .if4 .left)
 
 returns-5 : tie.Need-returns-5
-returns-5 c = let a = c .before .before .before .before .args in label-stopped (a .def) (a .now) (still-open (c .before .before .before)) (c .before .before .if3 .left) (c .enum-told .given .1)
+returns-5 c = let a = c .before .before .before .before .args in
+    label-stopped (a .def) (a .now) (still-open (c .before .before .before)) (c .before .before .if3 .left) (c .enum-told .given .1)
 
 pub label-state-spec : {M : Type 1} → statement M
 label-state-spec =

@@ -14,19 +14,26 @@ off-boundary-requires : tie.Need-off-boundary-requires
 off-boundary-requires c κs = search needs
 
 returns : tie.Need-returns
-returns c = let a = c .before .before .before .before .before .args in met-off (a .def) (a .node) (a .before) (a .is-first) (a .is-last) (a .merged) (c .before .before .before .seen2 .given .1) (c .before .off-boundary .ensures) (c .if1 .taken)
+returns c = let a = c .before .before .before .before .before .args in
+    met-off (a .def) (a .node) (a .before) (a .is-first) (a .is-last) (a .merged) (c .before .before .before .seen2 .given .1)
+    (c .before .off-boundary .ensures) (c .if1 .taken)
 
 node-state-requires : tie.Need-node-state-requires
 node-state-requires c κs = search needs
 
 returns-2 : tie.Need-returns-2
-returns-2 c = let a = c .before .before .before .args in met-stopped (a .def) (a .node) (a .before) (a .is-first) (a .is-last) (a .merged) (c .before .seen .given .1)
+returns-2 c = let a = c .before .before .before .args in
+    met-stopped (a .def) (a .node) (a .before) (a .is-first) (a .is-last) (a .merged) (c .before .seen .given .1)
 
 returns-3 : tie.Need-returns-3
-returns-3 c = let a = c .before .before .before .before .before .before .before .args in met-larger (a .def) (a .node) (a .before) (a .is-first) (a .is-last) (a .merged) (c .before .before .before .before .before .seen2 .given .1) (c .before .before .before .off-boundary .ensures) (c .before .before .if1 .left) (c .before .node-state .ensures) (c .if2 .taken)
+returns-3 c = let a = c .before .before .before .before .before .before .before .args in
+    met-larger (a .def) (a .node) (a .before) (a .is-first) (a .is-last) (a .merged) (c .before .before .before .before .before .seen2 .given .1)
+    (c .before .before .before .off-boundary .ensures) (c .before .before .if1 .left) (c .before .node-state .ensures) (c .if2 .taken)
 
 returns-4 : tie.Need-returns-4
-returns-4 c = let a = c .before .before .before .before .before .before .before .args in met-merged (a .def) (a .node) (a .before) (a .is-first) (a .is-last) (a .merged) (c .before .before .before .before .before .seen2 .given .1) (c .before .before .before .off-boundary .ensures) (c .before .before .if1 .left) (c .before .node-state .ensures) (c .if2 .left)
+returns-4 c = let a = c .before .before .before .before .before .before .before .args in
+    met-merged (a .def) (a .node) (a .before) (a .is-first) (a .is-last) (a .merged) (c .before .before .before .before .before .seen2 .given .1)
+    (c .before .before .before .off-boundary .ensures) (c .before .before .if1 .left) (c .before .node-state .ensures) (c .if2 .left)
 
 pub meet-spec : {M : Type 1} → statement M
 meet-spec =

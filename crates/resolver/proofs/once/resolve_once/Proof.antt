@@ -4,8 +4,8 @@ use mathlib.Core.Path.{_≡_}
 use native.Mathlib.Omega.{arith}
 use lib.ListN.{length}
 use borrow.Author.Needs.{needs}
-use Rattle.resolver.specs.Lists.{Row}
-use Rattle.resolver.specs.Once.{Program, passTo, goesOn, on}
+use Rattle.resolver.specs.Lists.{Row, rowWith}
+use Rattle.resolver.specs.Once.{Program, programWith, passTo, goesOn, on}
 use Rattle.resolver.proofs.Going.{beside, beside-start, beside-next, pass-start, pass-meets, pass-goes, pass-refused, pass-done}
 use Rattle.resolver.proofs.once.resolve_once.Statement.{statement}
 use Rattle.resolver.proofs.once.resolve_once.Tie as tie
@@ -13,8 +13,10 @@ use Rattle.resolver.proofs.once.resolve_once.Tie as tie
 abbrev Inv-loop : tie.InvT-loop
 Inv-loop banks kinds operands first numbers states before-numbers before-states is-first is-last walk₀ walk-before₀ merged₀ i₀ walk walk-before merged i =
     (i ≤ length kinds)
-    × (passTo (record { banks = banks; kinds = kinds; operands = operands; first = first }) (record { numbers = numbers; states = states }) (record { numbers = before-numbers; states = before-states }) is-first is-last i ≡ on walk merged)
-    × (walk-before ≡ beside is-first (record { banks = banks; kinds = kinds; operands = operands; first = first }) (record { numbers = before-numbers; states = before-states }) i)
+    × (passTo (programWith banks kinds operands first) (rowWith numbers states)
+    (rowWith before-numbers before-states) is-first is-last i ≡ on walk merged)
+    × (walk-before ≡ beside is-first (programWith banks kinds operands first)
+    (rowWith before-numbers before-states) i)
 
 abbrev μ-loop : tie.MeasureT-loop
 μ-loop banks kinds operands first numbers states before-numbers before-states is-first is-last walk₀ walk-before₀ merged₀ i₀ walk walk-before merged i =
@@ -33,10 +35,19 @@ row-before s = record { numbers = s .args .before-numbers .now; states = s .args
 -- node i is met
 node-met : (c : tie.After-meet Inv-loop μ-loop) →
     let s = c .before .before .before .before .before .before .before .before .before .before .before .before .before .before .before .before .before .before in
-    passTo (given s) (row s) (row-before s) (s .args .is-first) (s .args .is-last) (c .before .before .before .before .before .before .before .before .loop .i + 1) ≡ goesOn (c .before .before .before .step .result .walk) (c .meet .result)
+    passTo (given s) (row s) (row-before s) (s .args .is-first) (s .args .is-last)
+    (c .before .before .before .before .before .before .before .before .loop .i + 1) ≡ goesOn (c .before .before .before .step .result .walk)
+    (c .meet .result)
 node-met c =
     let s = c .before .before .before .before .before .before .before .before .before .before .before .before .before .before .before .before .before .before in
-    pass-meets (given s) (row s) (row-before s) (s .args .is-first) (s .args .is-last) (c .before .before .before .before .before .before .before .before .loop .i) (c .before .before .before .before .before .before .before .before .loop .inv .1) (c .before .before .before .before .before .before .before .before .loop .inv .2) (c .before .before .before .before .before .before .node-at .ensures) (c .before .before .before .before .before .bank-after .ensures) (c .before .before .before .before .bank-record .ensures) (c .before .before .before .step .ensures) (c .before .before .node-at2 .ensures) (c .before .step-before .ensures) (c .meet .ensures)
+    pass-meets (given s) (row s) (row-before s) (s .args .is-first) (s .args .is-last)
+    (c .before .before .before .before .before .before .before .before .loop .i)
+    (c .before .before .before .before .before .before .before .before .loop .inv .1)
+    (c .before .before .before .before .before .before .before .before .loop .inv .2)
+    (c .before .before .before .before .before .before .node-at .ensures)
+    (c .before .before .before .before .before .bank-after .ensures) (c .before .before .before .before .bank-record .ensures)
+    (c .before .before .before .step .ensures) (c .before .before .node-at2 .ensures) (c .before .step-before .ensures)
+    (c .meet .ensures)
 
 start-requires : tie.Need-start-requires Inv-loop μ-loop
 start-requires c κs = search needs
@@ -46,8 +57,12 @@ start-requires-2 c κs = search needs
 
 loop-holds : tie.Need-loop-holds Inv-loop μ-loop
 loop-holds c =
-    let s = c .before .before .before .before .before .before .before .before .before in
-    (search needs, rw (c .before .start .ensures) (pass-start (given s) (row s) (row-before s) (s .args .is-first) (s .args .is-last)), rw (c .start2 .ensures) (beside-start (s .args .is-first) (given s) (row-before s)))
+    let s = c .before .before .before .before .before .before .before .before .before in (
+      search needs,
+      rw (c .before .start .ensures) (pass-start (given s) (row s) (row-before s) (s .args .is-first) (s .args .is-last)),
+      rw
+          (c .start2 .ensures) (beside-start (s .args .is-first) (given s) (row-before s)),
+    )
 
 node-at-requires : tie.Need-node-at-requires Inv-loop μ-loop
 node-at-requires c κs = search needs
@@ -75,28 +90,46 @@ enum-known-why c = search needs
 
 returns : tie.Need-returns Inv-loop μ-loop
 returns c =
-    let s = c .before .before .before .before .before .before .before .before .before .before .before .before .before .before .before .before .before .before .before .before .before in
-    pass-refused (given s) (row s) (row-before s) (s .args .is-first) (s .args .is-last) (c .before .before .before .before .before .before .before .before .before .before .before .loop .i) (c .before .before .before .before .before .before .step .result .walk) (node-met (c .before .before .before)) (c .before .why .given .1) (c .before .before .before .before .before .before .before .before .before .before .loop-test .taken)
+    let s = c .before .before .before .before .before .before .before .before .before .before .before .before .before .before .before .before
+    .before .before .before .before .before in
+    pass-refused (given s) (row s) (row-before s) (s .args .is-first) (s .args .is-last)
+    (c .before .before .before .before .before .before .before .before .before .before .before .loop .i)
+    (c .before .before .before .before .before .before .step .result .walk) (node-met (c .before .before .before))
+    (c .before .why .given .1) (c .before .before .before .before .before .before .before .before .before .before .loop-test .taken)
 
 enum-known-state : tie.Need-enum-known-state Inv-loop μ-loop
 enum-known-state c = search needs
 
 add-i : tie.Need-add-i Inv-loop μ-loop
-add-i c = omega (arith, c .before .before .before .before .before .before .before .before .before .before .before .before .loop-test .taken, c .before .before .before .before .before .before .before .before .before .before .before .before .before .before .before .before .before .before .before .before .before .before .before .good)
+add-i c =
+    omega (
+      arith,
+      c .before .before .before .before .before .before .before .before .before .before .before .before .loop-test .taken,
+      c .before
+          .before .before .before .before .before .before .before .before .before .before .before .before .before .before .before .before .before
+          .before .before .before .before .before .good,
+    )
 
 loop-less : tie.Need-loop-less Inv-loop μ-loop
 loop-less c = omega arith
 
 loop-again : tie.Need-loop-again Inv-loop μ-loop
 loop-again c =
-    let s = c .before .before .before .before .before .before .before .before .before .before .before .before .before .before .before .before .before .before .before .before .before .before .before in (
+    let s = c .before .before .before .before .before .before .before .before .before .before .before .before .before .before .before .before
+    .before .before .before .before .before .before .before in (
       omega (arith, c .before .before .before .before .before .before .before .before .before .before .before .before .loop-test .taken),
-      pass-goes (given s) (row s) (row-before s) (s .args .is-first) (s .args .is-last) (c .before .before .before .before .before .before .before .before .before .before .before .before .before .loop .i + 1) (node-met (c .before .before .before .before .before)) (c .before .before .before .state .given .1),
-      beside-next (s .args .is-first) (given s) (row-before s) (c .before .before .before .before .before .before .before .before .before .before .before .before .before .loop .i) (c .before .before .before .before .before .before .before .before .before .before .before .before .before .loop .inv .2) (c .before .before .before .before .before .before .before .node-at2 .ensures) (c .before .before .before .before .before .before .step-before .ensures),
+      pass-goes (given s) (row s) (row-before s) (s .args .is-first) (s .args .is-last)
+          (c .before .before .before .before .before .before .before .before .before .before .before .before .before .loop .i + 1)
+          (node-met (c .before .before .before .before .before)) (c .before .before .before .state .given .1),
+      beside-next (s .args .is-first) (given s) (row-before s) (c .before .before .before .before .before .before .before .before .before .before
+          .before .before .before .loop .i) (c .before .before .before .before .before .before .before .before .before .before .before .before
+          .before .loop .inv .2) (c .before .before .before .before .before .before .before .node-at2 .ensures)
+          (c .before .before .before .before .before .before .step-before .ensures),
     )
 
 returns-2 : tie.Need-returns-2 Inv-loop μ-loop
-returns-2 c = let s = c .before .before .before .before .before .before .before .before .before .before .before in pass-done (given s) (row s) (row-before s) (s .args .is-first) (s .args .is-last) (c .before .loop .inv .1) (omega arith)
+returns-2 c = let s = c .before .before .before .before .before .before .before .before .before .before .before in
+    pass-done (given s) (row s) (row-before s) (s .args .is-first) (s .args .is-last) (c .before .loop .inv .1) (omega arith)
 
 pub resolve-once-spec : {M : Type 1} → statement M
 resolve-once-spec =

@@ -38,13 +38,21 @@ resolve-iteratively-requires c κs =
     accepted-rows (s .args .banks .len) (given s) (c .before .before .check-lists .ensures .0) (c .enum-told2 .given .1)
 
 returns : tie.Need-returns
-returns c = let s = c .before .before .before .before .before .before .before .before .before .before in layout-told (s .args .banks) (given s) (s .args .limit) (banks-refused (s .args .banks) (given s) (s .args .limit) (c .before .before .before .before .check .ensures) (c .before .before .why .given .1) (c .turned-away .ensures))
+returns c = let s = c .before .before .before .before .before .before .before .before .before .before in
+    layout-told (s .args .banks) (given s) (s .args .limit) (banks-refused (s .args .banks) (given s) (s .args .limit)
+    (c .before .before .before .before .check .ensures) (c .before .before .why .given .1) (c .turned-away .ensures))
 
 returns-2 : tie.Need-returns-2
-returns-2 c = let s = c .before .before .before .before .before .before .before .before .before .before .before .before .before in layout-told (s .args .banks) (given s) (s .args .limit) (lists-refused (s .args .banks) (given s) (s .args .limit) (c .before .before .before .before .before .before .before .check .ensures) (c .before .before .before .before .before .enum-told .given .1) (c .before .before .before .before .check-lists .ensures .0) (c .before .before .why2 .given .1) (c .turned-away2 .ensures))
+returns-2 c = let s = c .before .before .before .before .before .before .before .before .before .before .before .before .before in
+    layout-told (s .args .banks) (given s) (s .args .limit) (lists-refused (s .args .banks) (given s) (s .args .limit)
+    (c .before .before .before .before .before .before .before .check .ensures) (c .before .before .before .before .before .enum-told .given .1)
+    (c .before .before .before .before .check-lists .ensures .0) (c .before .before .why2 .given .1) (c .turned-away2 .ensures))
 
 returns-3 : tie.Need-returns-3
-returns-3 c = let s = c .before .before .before .before .before .before .before .before .before .before .before .before in layout-told (s .args .banks) (given s) (s .args .limit) (both-accepted (s .args .banks) (given s) (s .args .limit) (c .before .before .before .before .before .before .check .ensures) (c .before .before .before .before .enum-told .given .1) (c .before .before .before .check-lists .ensures .0) (c .before .enum-told2 .given .1) (c .resolve-iteratively .ensures))
+returns-3 c = let s = c .before .before .before .before .before .before .before .before .before .before .before .before in
+    layout-told (s .args .banks) (given s) (s .args .limit) (both-accepted (s .args .banks) (given s) (s .args .limit)
+    (c .before .before .before .before .before .before .check .ensures) (c .before .before .before .before .enum-told .given .1)
+    (c .before .before .before .check-lists .ensures .0) (c .before .enum-told2 .given .1) (c .resolve-iteratively .ensures))
 
 pub resolve-spec : {M : Type 1} → statement M
 resolve-spec =

@@ -14,7 +14,8 @@ use Rattle.resolver.proofs.passes.resolve_iteratively.Statement.{statem
 use Rattle.resolver.proofs.passes.resolve_iteratively.Tie as tie
 
 abbrev Inv-loop : tie.InvT-loop
-Inv-loop banks kinds operands numbers states rows limit m end n₀ n = (1 ≤ n) × (n ≤ end) × Unsettled (passAt banks (lists kinds operands numbers states rows [])) n
+Inv-loop banks kinds operands numbers states rows limit m end n₀ n =
+    (1 ≤ n) × (n ≤ end) × Unsettled (passAt banks (lists kinds operands numbers states rows [])) n
 
 abbrev μ-loop : tie.MeasureT-loop
 μ-loop banks kinds operands numbers states rows limit m end n₀ n = end - n
@@ -46,14 +47,25 @@ enum-known-why c = search needs
 returns-2 : tie.Need-returns-2 Inv-loop μ-loop
 returns-2 c =
     let s = c .before .before .before .before .before .before .before .before .before .before .before .before in
-    refused-pass (passes s) (s .args .limit) (c .before .before .before .before .before .loop .n) (c .before .before .before .before .before .loop .inv .0) (omega (arith, c .before .before .before .before .loop-test .taken, c .before .before .before .before .before .before .walked-passes .ensures)) (c .before .before .before .before .before .loop .inv .2) (c .before .before .before .pass-at .ensures)
+    refused-pass (passes s) (s .args .limit) (c .before .before .before .before .before .loop .n)
+    (c .before .before .before .before .before .loop .inv .0) (omega
+    (arith, c .before .before .before .before .loop-test .taken, c .before .before .before .before .before .before .walked-passes .ensures))
+    (c .before .before .before .before .before .loop .inv .2) (c .before .before .before .pass-at .ensures)
     (c .before .why .given .1)
 
 enum-known-state : tie.Need-enum-known-state Inv-loop μ-loop
 enum-known-state c = search needs
 
 add-last-pass : tie.Need-add-last-pass Inv-loop μ-loop
-add-last-pass c = omega (arith, c .before .before .before .before .before .loop-test .taken, c .before .before .before .before .before .before .before .walked-passes .ensures, c .before .before .before .before .before .before .before .before .before .before .before .before .before .fits .limit)
+add-last-pass c =
+    omega (
+      arith,
+      c .before .before .before .before .before .loop-test .taken,
+      c .before .before .before .before .before .before .before
+          .walked-passes .ensures,
+      c .before .before .before .before .before .before .before .before .before .before .before .before .before .fits
+          .limit,
+    )
 
 last-pass-requires-2 : tie.Need-last-pass-requires-2 Inv-loop μ-loop
 last-pass-requires-2 c κs = (c .before .before .before .before .before .before .before .before .before .before .before .before .before .pre, omega arith)
@@ -61,21 +73,42 @@ last-pass-requires-2 c κs = (c .before .before .before .before .before .before 
 returns-3 : tie.Need-returns-3 Inv-loop μ-loop
 returns-3 c =
     let s = c .before .before .before .before .before .before .before .before .before .before .before .before .before .before in
-    settled-pass (passes s) (s .args .limit) (c .before .before .before .before .before .before .before .loop .n) (c .before .before .before .before .before .before .before .loop .inv .0) (omega (arith, c .before .before .before .before .before .before .loop-test .taken, c .before .before .before .before .before .before .before .before .walked-passes .ensures)) (c .before .before .before .before .before .before .before .loop .inv .2) (c .before .before .before .before .before .pass-at .ensures)
+    settled-pass (passes s) (s .args .limit) (c .before .before .before .before .before .before .before .loop .n)
+    (c .before .before .before .before .before .before .before .loop .inv .0)
+    (omega (
+      arith,
+      c .before .before .before .before .before .before .loop-test .taken,
+      c .before .before .before .before .before .before
+          .before .before .walked-passes .ensures,
+    )) (c .before .before .before .before .before .before .before .loop .inv .2)
+    (c .before .before .before .before .before .pass-at .ensures)
     (c .before .before .before .state .given .1)
     (c .before .if2 .taken)
     (c .last-pass2 .ensures)
 
 add-n : tie.Need-add-n Inv-loop μ-loop
-add-n c = omega (arith, c .before .before .before .before .before .loop-test .taken, c .before .before .before .before .before .before .before .walked-passes .ensures, c .before .before .before .before .before .before .before .before .before .before .before .before .before .fits .limit)
+add-n c =
+    omega (
+      arith,
+      c .before .before .before .before .before .loop-test .taken,
+      c .before .before .before .before .before .before .before
+          .walked-passes .ensures,
+      c .before .before .before .before .before .before .before .before .before .before .before .before .before .fits
+          .limit,
+    )
 
 loop-less : tie.Need-loop-less Inv-loop μ-loop
 loop-less c = omega (arith, c .before .before .before .before .before .loop-test .taken)
 
 loop-again : tie.Need-loop-again Inv-loop μ-loop
 loop-again c =
-    let s = c .before .before .before .before .before .before .before .before .before .before .before .before .before in
-    (omega arith, omega (arith, c .before .before .before .before .before .loop-test .taken), nor-this (passes s) (c .before .before .before .before .before .before .loop .n) (c .before .before .before .before .before .before .loop .inv .2) (c .before .before .before .before .pass-at .ensures) (c .before .before .state .given .1) (c .if2 .left))
+    let s = c .before .before .before .before .before .before .before .before .before .before .before .before .before in (
+      omega arith,
+      omega (arith, c .before .before .before .before .before .loop-test .taken),
+      nor-this (passes s)
+          (c .before .before .before .before .before .before .loop .n) (c .before .before .before .before .before .before .loop .inv .2)
+          (c .before .before .before .before .pass-at .ensures) (c .before .before .state .given .1) (c .if2 .left),
+    )
 
 last-pass-requires-3 : tie.Need-last-pass-requires-3 Inv-loop μ-loop
 last-pass-requires-3 c κs = (c .before .before .before .before .before .before .before .before .pre, omega (arith, c .before .before .before .if1 .left))
@@ -83,7 +116,10 @@ last-pass-requires-3 c κs = (c .before .before .before .before .before .before 
 returns-4 : tie.Need-returns-4 Inv-loop μ-loop
 returns-4 c =
     let s = c .before .before .before .before .before .before .before .before .before in
-    limit-pass (passes s) (s .args .limit) (s .args .rows) (c .before .before .loop .n) (c .before .before .before .before .if1 .left) (λ p. λ h. repeats (s .args .banks) (given s) p false (s .pre .some) h) (omega (arith, c .before .loop-test .left, c .before .before .before .walked-passes .ensures, c .before .before .loop .inv)) (c .before .before .loop .inv .2) (c .last-pass3 .ensures)
+    limit-pass (passes s) (s .args .limit) (s .args .rows) (c .before .before .loop .n) (c .before .before .before .before .if1 .left)
+    (λ p. λ h. repeats (s .args .banks) (given s) p false (s .pre .some) h)
+    (omega (arith, c .before .loop-test .left, c .before .before .before .walked-passes .ensures, c .before .before .loop .inv))
+    (c .before .before .loop .inv .2) (c .last-pass3 .ensures)
 
 pub resolve-iteratively-spec : {M : Type 1} → statement M
 resolve-iteratively-spec =
