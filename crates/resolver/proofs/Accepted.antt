@@ -10,7 +10,8 @@ use Rattle.bankdef.specs.declared.Bankdefs.{Bankdefs}
 use Rattle.resolver.specs.Layout.{layoutOf}
 use Rattle.resolver.specs.Lists.{Lists, lists, listsOf}
 use Rattle.resolver.specs.Passes.{resolutionOf}
-use Rattle.resolver.specs.RefusedExactly.{Figures, layout-figures}
+use Rattle.resolver.specs.Figures.{Figures}
+use Rattle.resolver.specs.RefusedExactly.{layout-figures}
 pub use Rattle.resolver.specs.Sound.{accepted-rows}
 use Rattle.resolver.specs.Sound.{ListFigures, lists-figures}
 use Rattle.resolver.specs.declared.Settled.the-variants.{Refused as Turned}

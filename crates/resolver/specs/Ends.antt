@@ -74,7 +74,7 @@ module _ (pass : ℕ → Bool → Pass) where
         K-below pass m (omega arith) (rw is high) ∙ rw (is, r .settles .1)
 
     -- pass M, run as the last, or pass 1 where M = 0
-    settled-limit : (n : ℕ) → n ≡ max 1 m → Unsettled n → settledBy pass m ≡ record { settled = lastOf m (pass n true); passes = n }
+    pub settled-limit : (n : ℕ) → n ≡ max 1 m → Unsettled n → settledBy pass m ≡ record { settled = lastOf m (pass n true); passes = n }
     settled-limit n e before = go (eqb m 0) refl
       where
         go : (t : Bool) → eqb m 0 ≡ t → settledBy pass m ≡ record { settled = lastOf m (pass n true); passes = n }

@@ -3,6 +3,8 @@ pub mod Before
 pub mod Cases
 pub mod Counts
 pub mod Ends
+pub mod FaultExactly
+pub mod Figures
 pub mod FirstRow
 pub mod KnownInPass
 pub mod LabelStates
@@ -11,6 +13,7 @@ pub mod Layout
 pub mod Least
 pub mod Listed
 pub mod Lists
+pub mod NeverFour
 pub mod NodeOrder
 pub mod Once
 pub mod PassStates

@@ -1,14 +1,14 @@
 -- Refusals 5, 6, 7 and 8 of a layout, each exactly when document 01 gives it, told by number and place. "Then each pass in node order meets 5, 6 and 7,
 -- and 8 at its end": a layout that passes its checks is refused at the first node that a pass meets one at, in the first pass that does, and for 8 only
 -- where the last pass has gone past every node.
-use Prim.Native.Nat.{ℕ, zero, suc, _-_, _<_, _≤_, max}
+use Prim.Native.Nat.{ℕ, zero, suc, _+_, _-_, _<_, _≤_, max}
 use mathlib.Core.Path.{_≡_, refl, sym, _∙_, ap, subst}
 use mathlib.Core.Bool.{Bool, true, false, _&&_}
 use mathlib.Core.Logic.{_⊎_, inl, inr, ⊎-elim, _↔_}
 use native.Mathlib.Omega.{arith}
 use lib.Dec.{eqb, leb}
 use lib.ListN.{length}
-use borrow.Author.Tests.{eqb-true, eqb-false, ne-eqb, eq-eqb}
+use borrow.Author.Tests.{eqb-true, eqb-false, ne-eqb, eq-eqb, lt-ltb}
 use Rattle.refusal.specs.Limits.{maxNodes, maxRows}
 use Rattle.refusal.specs.Pick.{pick}
 use Rattle.refusal.specs.Refusals.{numberOf, placeOf}
@@ -23,10 +23,13 @@ use Rattle.bankdef.specs.Refused.{Decided, count, number, pair, sound, decided}
 use Rattle.bankdef.specs.declared.Bankdefs.{Bankdefs}
 use Rattle.iter.specs.declared.Moved.{Moved}
 use Rattle.iter.specs.declared.Moved.the-variants.{To, Refused as Stopped}
-use Rattle.resolver.specs.Ends.{Runs, RunsLast, atLimit, Ending, early, last, ends, last-decides, refused-before}
+use Rattle.resolver.specs.Ends.{Runs, RunsLast, SettlesBelow, atLimit, Ending, early, last, ends, last-decides, refused-before, settled-below, settled-limit}
+use Rattle.resolver.specs.Answer.{accepted-layout}
+use Rattle.resolver.specs.Figures.{StopsFirst, PastFirst, OffInLast, LastUnresolved, SettlesAt, Figures}
 use Rattle.resolver.specs.Layout.{unless, layoutOf, Checked}
-use Rattle.resolver.specs.PassStates.{nodeIn}
-use Rattle.resolver.specs.PositionPast.{WouldPass, five-met-exactly}
+use Rattle.resolver.specs.NeverFour.{never-four}
+use Rattle.resolver.specs.Run.{Settles, at-zero}
+use Rattle.resolver.specs.PositionPast.{five-met-exactly}
 use Rattle.resolver.specs.Lists.{Lists, Row, firstOf, nodeFault, nodesTo, listsOf}
 use Rattle.resolver.specs.NodeOrder.{seenAt, defAt, OffBoundary, GoesPast, MeetsFirst, first-met, met-first, ran-to-end}
 use Rattle.resolver.specs.Once.{walkTo}
@@ -39,55 +42,12 @@ use Rattle.resolver.specs.declared.Settled.{Settled}
 use Rattle.resolver.specs.declared.Settled.the-variants.{At, Refused}
 use Rattle.resolver.specs.declared.Resolution.{Resolution}
 
--- Node i stops the walk of pass `pass`, with `why`, and the pass has gone past every node before it. The pass is one that runs.
-pub record StopsFirst (banks : Bankdefs) (l : Lists) (m i : ℕ) (why : Refusal) : Type 0 where
-  pub checked : Checked banks l
-  pub pass : ℕ
-  pub isLast : Bool
-  pub runs : Runs (passAt banks l) m pass isLast
-  pub listed : i < length (l .kinds)
-  pub here : seenAt (program banks l) (rowOfPass l pass) i ≡ Stopped why
-  pub before : (j : ℕ) → j < i → GoesPast (program banks l) (rowOfPass l pass) isLast j
-
--- "5: a position would pass 4,294,967,295": at node i of a pass that runs, and the pass has gone past every node before it.
-pub record PastFirst (banks : Bankdefs) (l : Lists) (m i : ℕ) : Type 0 where
-  pub checked : Checked banks l
-  pub pass : ℕ
-  pub isLast : Bool
-  pub runs : Runs (passAt banks l) m pass isLast
-  pub listed : i < length (l .kinds)
-  pub here : WouldPass (defAt (program banks l) (rowOfPass l pass) i) (walkTo (program banks l) (rowOfPass l pass) i) (nodeIn banks l pass i)
-  pub before : (j : ℕ) → j < i → GoesPast (program banks l) (rowOfPass l pass) isLast j
-
--- "7: a label in the last pass is off an address boundary": node i is the first such, and nothing stops the last pass before it.
-pub record OffInLast (banks : Bankdefs) (l : Lists) (m i : ℕ) : Type 0 where
-  pub checked : Checked banks l
-  pub pass : ℕ
-  pub runs : RunsLast (passAt banks l) m pass
-  pub listed : i < length (l .kinds)
-  pub here : OffBoundary (program banks l) (rowOfPass l pass) i
-  pub before : (j : ℕ) → j < i → GoesPast (program banks l) (rowOfPass l pass) true j
-
--- "8: the last pass ended unresolved"
-pub record LastUnresolved (banks : Bankdefs) (l : Lists) (m : ℕ) : Type 0 where
-  pub checked : Checked banks l
-  pub pass : ℕ
-  pub runs : RunsLast (passAt banks l) m pass
-  pub ends : passAt banks l pass true ≡ State 2
-
--- What a layout's answer tells, in figures: 5, 6 and 7 with the node, 8 with place 0, and the passes run, "a refusing pass included".
-pub record Figures (banks : Bankdefs) (l : Lists) (m : ℕ) (r : Resolution) : Type 0 where
-  pub five : (i : ℕ) → (toldSettled (r .settled) ≡ refuses 5 (One i)) ↔ PastFirst banks l m i
-  pub six : (i : ℕ) → (toldSettled (r .settled) ≡ refuses 6 (One i)) ↔ StopsFirst banks l m i (NegativeAlignment i)
-  pub seven : (i : ℕ) → (toldSettled (r .settled) ≡ refuses 7 (One i)) ↔ OffInLast banks l m i
-  pub eight : (toldSettled (r .settled) ≡ refuses 8 (One 0)) ↔ LastUnresolved banks l m
-
 -- ---- the checks before any pass
 
 turned-same : {a b : Refusal} → TurnedAway a ≡ TurnedAway b → a ≡ b
 turned-same e = cc
 
-table-number : (t : Bankdefs) (v : Verdict) → Decided t v → (why : Refusal) → v ≡ TurnedAway why → numberOf why ≤ 4
+table-number : (t : Bankdefs) (v : Verdict) → Decided t v → (why : Refusal) → v ≡ TurnedAway why → numberOf why ≤ 3
 table-number t v (count e) why f = rw (← (turned-same f)) (omega arith)
 table-number t v (number e g) why f = rw (← (turned-same f)) (omega arith)
 table-number t v (pair e g h) why f = rw (← (turned-same f)) (omega arith)
@@ -175,7 +135,7 @@ module _ (banks : Bankdefs) (l : Lists) (m : ℕ) where
       table : (v : Verdict) → checkOf banks ≡ v → unless v (unless (listsOf (banks .len) l) (resolutionOf banks l m)) .settled ≡ Refused why → Checked banks l
       table Accepted f e = lists-too f (listsOf (banks .len) l) refl e
       table (TurnedAway other) f e =
-          absurd (below-five why (table-number banks (checkOf banks) (decided banks) why (f ∙ ap TurnedAway (settled-same e))) high)
+          absurd (let low = table-number banks (checkOf banks) (decided banks) why (f ∙ ap TurnedAway (settled-same e)) in let b : ⊥ = omega arith in b)
 
   -- a refusal that a pass meets at a node, or 8 at the last pass's end
   pub data Refusing (why : Refusal) : Type 0 where
@@ -240,10 +200,9 @@ module _ (banks : Bankdefs) (l : Lists) (m : ℕ) where
       (f .here)
   stopped-first i why low place c (ending n r e f) = absurd (let n : numberOf why ≡ 8 = rw e in let b : ⊥ = omega arith in b)
 
-  stops-decides : (i : ℕ) (why : Refusal) → StopsFirst banks l m i why → toldSettled (layoutOf banks l m .settled) ≡ refuses (numberOf why) (placeOf why)
+  stops-decides : (i : ℕ) (why : Refusal) (s : StopsFirst banks l m i why) → layoutOf banks l m ≡ record { settled = Refused why; passes = s .pass }
   stops-decides i why s =
-      settled-as why
-      (meeting-decides (s .checked) (s .pass) (s .isLast) i why (s .runs) (record { listed = s .listed; here = inl (s .here); before = s .before }))
+      meeting-decides (s .checked) (s .pass) (s .isLast) i why (s .runs) (record { listed = s .listed; here = inl (s .here); before = s .before })
 
   past-first : (i : ℕ) → StopsFirst banks l m i (PositionPast i) → PastFirst banks l m i
   past-first i s = record {
@@ -256,7 +215,7 @@ module _ (banks : Bankdefs) (l : Lists) (m : ℕ) where
     before = s .before;
   }
 
-  first-past : (i : ℕ) → PastFirst banks l m i → StopsFirst banks l m i (PositionPast i)
+  abbrev first-past : (i : ℕ) → PastFirst banks l m i → StopsFirst banks l m i (PositionPast i)
   first-past i s = record {
     checked = s .checked;
     pass = s .pass;
@@ -273,14 +232,14 @@ module _ (banks : Bankdefs) (l : Lists) (m : ℕ) where
     λ e.
         let h = told (PositionPast i) (omega arith) e in
         past-first i (stopped-first i (PositionPast i) (omega arith) refl (h .0) (h .1)),
-    λ s. stops-decides i (PositionPast i) (first-past i s),
+    λ s. settled-as (PositionPast i) (stops-decides i (PositionPast i) (first-past i s)),
   )
 
   -- 6 exactly when such a pass meets, before anything else, a node where an alignment meets a negative address.
   pub six-exactly : (i : ℕ) → (toldSettled (layoutOf banks l m .settled) ≡ refuses 6 (One i)) ↔ StopsFirst banks l m i (NegativeAlignment i)
   six-exactly i = (
     λ e. let h = told (NegativeAlignment i) (omega arith) e in stopped-first i (NegativeAlignment i) (omega arith) refl (h .0) (h .1),
-    stops-decides i (NegativeAlignment i),
+    λ s. settled-as (NegativeAlignment i) (stops-decides i (NegativeAlignment i) s),
   )
 
   -- ---- 7
@@ -304,14 +263,16 @@ module _ (banks : Bankdefs) (l : Lists) (m : ℕ) where
       (f .here)
   off-first i c (ending n r e f) = absurd (let n : 7 ≡ 8 = ap numberOf e in let b : ⊥ = omega arith in b)
 
+  off-decides : (i : ℕ) (o : OffInLast banks l m i) → layoutOf banks l m ≡ record { settled = Refused (LabelOffBoundary i); passes = o .pass }
+  off-decides i o =
+      meeting-decides (o .checked) (o .pass) true i (LabelOffBoundary i) (o .runs)
+      (record { listed = o .listed; here = inr (refl, o .here, refl); before = o .before })
+
   -- 7 exactly when the last pass meets, before anything else, a label off an address boundary.
   pub seven-exactly : (i : ℕ) → (toldSettled (layoutOf banks l m .settled) ≡ refuses 7 (One i)) ↔ OffInLast banks l m i
   seven-exactly i = (
     λ e. let h = told (LabelOffBoundary i) (omega arith) e in off-first i (h .0) (h .1),
-    λ o.
-        settled-as (LabelOffBoundary i)
-        (meeting-decides (o .checked) (o .pass) true i (LabelOffBoundary i) (o .runs)
-        (record { listed = o .listed; here = inr (refl, o .here, refl); before = o .before })),
+    λ o. settled-as (LabelOffBoundary i) (off-decides i o),
   )
 
   -- ---- 8
@@ -348,6 +309,150 @@ module _ (banks : Bankdefs) (l : Lists) (m : ℕ) where
         ends = two-of (passAt banks l m true) (rw (eq-eqb m m refl) at (none m (omega arith) (omega arith)));
       })
 
+  -- ---- the checks before any pass, and 4
+
+  run-of : {x : Settled} {n : ℕ} → layoutOf banks l m ≡ record { settled = x; passes = n } → layoutOf banks l m .passes ≡ n
+  run-of e = ap (λ (r : Resolution). r .passes) e
+
+  -- "1, 2 by ascending bank, 3": what the table is refused for comes before all else,
+  pub table-first : (why : Refusal) → checkOf banks ≡ TurnedAway why → layoutOf banks l m ≡ record { settled = Refused why; passes = 0 }
+  unfolding layoutOf
+  table-first why e = rw e
+
+  -- "then 4": what the lists are refused for.
+  pub lists-next : (why : Refusal) → checkOf banks ≡ Accepted → listsOf (banks .len) l ≡ TurnedAway why
+      → layoutOf banks l m ≡ record { settled = Refused why; passes = 0 }
+  unfolding layoutOf
+  lists-next why e f = rw (e, f)
+
+  not-four-in-pass : Checked banks l → banks .len ≤ length (banks .defs) → (why : Refusal) → numberOf why ≡ 4 → Refusing why → ⊥
+  not-four-in-pass c whole why four (meeting n isLast j r f) =
+      ⊎-elim
+      (λ (e : seenAt (program banks l) (rowOfPass l n) j ≡ Stopped why). never-four banks l c whole n j isLast (f .listed) (f .before) why e four)
+      (λ o. let n : numberOf why ≡ 7 = rw (o .2) in let b : ⊥ = omega arith in b)
+      (f .here)
+  not-four-in-pass c whole why four (ending n r e f) = let n : numberOf why ≡ 8 = rw e in let b : ⊥ = omega arith in b
+
+  -- 4 exactly when the table passes its check and the lists do not.
+  pub four-exactly : banks .len ≤ length (banks .defs) → (place : ℕ) →
+      (toldSettled (layoutOf banks l m .settled) ≡ refuses 4 (One place)) ↔
+      ((checkOf banks ≡ Accepted) × (listsOf (banks .len) l ≡ TurnedAway (Malformed place)))
+  four-exactly whole place = (
+    λ e. table (checkOf banks) refl (by-figures (layoutOf banks l m .settled) (Malformed place) e),
+    λ h. settled-as (Malformed place) (lists-next (Malformed place) (h .0) (h .1)),
+  )
+    where
+      lists-too : checkOf banks ≡ Accepted → (w : Verdict) → listsOf (banks .len) l ≡ w → layoutOf banks l m .settled ≡ Refused (Malformed place)
+          → (checkOf banks ≡ Accepted) × (listsOf (banks .len) l ≡ TurnedAway (Malformed place))
+      lists-too c Accepted f e =
+          let k : Checked banks l = record { table = c; lists = f } in
+          let g : resolutionOf banks l m .settled ≡ Refused (Malformed place) = ap (λ (x : Resolution). x .settled) (sym (checked-passes k)) ∙ e in
+          absurd (not-four-in-pass k whole (Malformed place) refl (refusing (Malformed place) g))
+      lists-too c (TurnedAway why) f e =
+          let g = sym (ap (λ (x : Resolution). x .settled) (lists-next why c f)) ∙ e in
+          (c, f ∙ ap TurnedAway (settled-same g))
+
+      table : (v : Verdict) → checkOf banks ≡ v → layoutOf banks l m .settled ≡ Refused (Malformed place)
+          → (checkOf banks ≡ Accepted) × (listsOf (banks .len) l ≡ TurnedAway (Malformed place))
+      table Accepted f e = lists-too f (listsOf (banks .len) l) refl e
+      table (TurnedAway why) f e =
+          let g = sym (ap (λ (x : Resolution). x .settled) (table-first why f)) ∙ e in
+          let low = table-number banks (checkOf banks) (decided banks) why f in
+          let four : numberOf why ≡ 4 = ap numberOf (settled-same g) in
+          absurd (let b : ⊥ = omega arith in b)
+
+  -- ---- K
+
+  gives-settled : (x : Settled) (k : ℕ) → toldSettled x ≡ gives k → x ≡ At k
+  gives-settled (At j) k e = ap At (gives-same e)
+    where
+      gives-same : {a b : ℕ} → gives a ≡ gives b → a ≡ b
+      gives-same e = cc
+  gives-settled (Refused why) k e = absurd (let z : _≡_ {A = ℕ} 0 1 = cc in let b : ⊥ = omega arith in b)
+
+  settles-so : (k : ℕ) (x : Pass) → Settles x → lastOf k x ≡ At k
+  settles-so k x s = rw (s .1, s .2)
+
+  -- the layout that settles at k
+  settles-at : (k n : ℕ) → SettlesAt banks l m k n → layoutOf banks l m ≡ record { settled = At k; passes = n }
+  settles-at k n s = checked-passes (s .checked) ∙ by-limit (eqb m 0) refl (eqb k m) refl
+    where
+      within : k ≤ m
+      within = s .is .within
+
+      so : (p j : ℕ) → resolutionOf banks l m ≡ record { settled = lastOf j (passAt banks l p true); passes = p } → p ≡ n → j ≡ k
+          → resolutionOf banks l m ≡ record { settled = At k; passes = n }
+      so p j e q w = e ∙ rw (q, w, settles-so k (passAt banks l n true) (s .last))
+
+      by-limit : (a : Bool) → eqb m 0 ≡ a → (b : Bool) → eqb k m ≡ b → resolutionOf banks l m ≡ record { settled = At k; passes = n }
+      by-limit true z b f =
+          let zero : m ≡ 0 = eqb-true m 0 z in
+          let none : k ≡ 0 = s .is .none zero in
+          let c : n ≡ 1 = s .count ∙ rw (none, zero) in
+          so 1 0 (at-zero (passAt banks l) m zero) (sym c) (sym none)
+      by-limit false z true f =
+          let other = eqb-false m 0 z in
+          let same : k ≡ m = eqb-true k m f in
+          let some : 0 < m = omega arith in
+          let c : n ≡ k = s .count ∙ rw (f, lt-ltb 0 m some) in
+          let open-before : (p : ℕ) → 1 ≤ p → p < m → unresolved (passAt banks l p false) ≡ true = rw same at (s .is .before) in
+          so m m (settled-limit (passAt banks l) m m (omega arith) open-before) (omega arith) (sym same)
+      by-limit false z false f =
+          let other = eqb-false m 0 z in
+          let apart = eqb-false k m f in
+          let some : 0 < m = omega arith in
+          let less : k < m = omega arith in
+          let c : n ≡ k + 1 = s .count ∙ rw f in
+          let settled : Settles (passAt banks l k false) = rw f at (s .is .settled some) in
+          let r : SettlesBelow (passAt banks l) m k = record {
+            runs = record
+                { counted = s .is .counted some; below = less; unsettled = s .is .before };
+            settles = settled;
+          } in
+          so (k + 1) k (settled-below (passAt banks l) m k r) (sym c) refl
+
+  checked-of : (k : ℕ) → layoutOf banks l m .settled ≡ At k → Checked banks l
+  checked-of k e = from (checkOf banks) refl (listsOf (banks .len) l) refl
+    where
+      never : {why : Refusal} {n : ℕ} → layoutOf banks l m ≡ record { settled = Refused why; passes = n } → ⊥
+      never f =
+          let g = sym (ap (λ (x : Resolution). x .settled) f) ∙ e in
+          let z : _≡_ {A = ℕ} 0 1 = cc in
+          omega arith
+
+      from : (v : Verdict) → checkOf banks ≡ v → (w : Verdict) → listsOf (banks .len) l ≡ w → Checked banks l
+      from Accepted f Accepted g = record { table = f; lists = g }
+      from Accepted f (TurnedAway why) g = absurd (never (lists-next why f g))
+      from (TurnedAway why) f w g = absurd (never (table-first why f))
+
+  -- K and the passes run, exactly.
+  pub K-exactly : (k n : ℕ) → ((toldSettled (layoutOf banks l m .settled) ≡ gives k) × (layoutOf banks l m .passes ≡ n)) ↔ SettlesAt banks l m k n
+  K-exactly k n = (
+    λ e.
+        let f = gives-settled (layoutOf banks l m .settled) k (e .0) in
+        let t = accepted-layout banks l m k f in
+        record {
+          checked = checked-of k f;
+          is = t .0;
+          count = sym (e .1) ∙ t .1;
+          last = subst (λ (x : ℕ). Settles (passAt banks l x true)) (e .1) (t .2);
+        },
+    λ s. let e = settles-at k n s in (rw e, ap (λ (r : Resolution). r .passes) e),
+  )
+
   -- The layout's answer in figures, as its contract has it.
   pub layout-figures : Figures banks l m (layoutOf banks l m)
-  layout-figures = record { five = five-exactly; six = six-exactly; seven = seven-exactly; eight = eight-exactly }
+  layout-figures = record {
+    table = λ why e. (settled-as why (table-first why e), run-of (table-first why e));
+    lists = λ why e f. (settled-as why (lists-next why e f), run-of (lists-next why e f));
+    four = four-exactly;
+    five = five-exactly;
+    six = six-exactly;
+    seven = seven-exactly;
+    eight = eight-exactly;
+    run-five = λ i s. run-of (stops-decides i (PositionPast i) (first-past i s));
+    run-six = λ i s. run-of (stops-decides i (NegativeAlignment i) s);
+    run-seven = λ i s. run-of (off-decides i s);
+    run-eight = λ s. run-of (ending-decides s);
+    accepted = K-exactly;
+  }

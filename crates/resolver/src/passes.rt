@@ -15,7 +15,7 @@ ghost use Prim.Native.Nat.{_+_, _-_, _<_, _≤_, min};
 ghost use lib.ListN.{length};
 ghost use Rattle.resolver.specs.Layout.{layoutOf};
 ghost use Rattle.resolver.specs.Lists.{lists, Rows};
-ghost use Rattle.resolver.specs.RefusedExactly.{Figures};
+ghost use Rattle.resolver.specs.Figures.{Figures};
 ghost use Rattle.resolver.specs.Passes.{passAt, lastOf, resolutionOf};
 
 // "Pass n reads row n, or the last row if there are fewer." Rows are counted from 0 and passes from 1.
