@@ -1,7 +1,10 @@
 pub mod Entries
+pub mod Folds
 pub mod History
 pub mod Interval
+pub mod Lent
 pub mod Naming
 pub mod Offers
+pub mod State
 pub mod Stored
 pub mod Unique

@@ -1,0 +1,101 @@
+-- The store as it is lent: two arrays, positions and sizes, and a count. What they hold, when that is sound, and what a call leaves there.
+use mathlib.Core.Path.{_≡_}
+use mathlib.Core.List.{List, [], _∷_, _++_, map}
+use Prim.Native.Nat.{ℕ, _≤_}
+use lib.Dec.{ltb}
+use lib.ListN.{length, take, drop}
+use Rattle.refusal.specs.Limits.{maxStored}
+use Rattle.refusal.specs.Pick.{pick}
+use Rattle.refusal.specs.Told.{Told, refuses, Nothing, toldVerdict}
+use Rattle.refusal.specs.declared.Place.the-variants.{One}
+use Rattle.refusal.specs.declared.Refusal.the-variants.{Malformed, BadStore}
+use Rattle.refusal.specs.declared.Verdict.{Verdict}
+use Rattle.refusal.specs.declared.Verdict.the-variants.{Accepted, Refused}
+use Rattle.overlap_checker.specs.declared.Entry.{Entry}
+use Rattle.overlap_checker.specs.Interval.{interval, pastLimits}
+use Rattle.overlap_checker.specs.Stored.{firstFault}
+use Rattle.overlap_checker.specs.State.{State, holding, answer, figures, after}
+
+pub record Lent : Type 0 where
+  pub positions : List ℕ
+  pub sizes : List ℕ
+  pub count : ℕ
+
+abbrev pub lent : List ℕ → List ℕ → ℕ → Lent
+lent positions sizes count = record { positions = positions; sizes = sizes; count = count }
+
+-- ---- what is held
+
+-- the intervals of two lists, one by one
+unfoldable pub zipped : List ℕ → List ℕ → List Entry
+zipped [] sizes = []
+zipped (p ∷ positions) [] = []
+zipped (p ∷ positions) (s ∷ sizes) = interval p s ∷ zipped positions sizes
+
+-- the stored intervals are the first `count`
+abbrev pub held : Lent → List Entry
+held a = zipped (take (a .count) (a .positions)) (take (a .count) (a .sizes))
+
+abbrev pub stateIn : Lent → State
+stateIn a = holding (held a)
+
+-- A store that 15 has nothing to say of. (That the arrays have 512 places is their type's to say.)
+pub record Sound (a : Lent) : Type 0 where
+  pub few : a .count ≤ maxStored
+  pub wide : length (a .positions) ≡ maxStored
+  pub long : length (a .sizes) ≡ maxStored
+  pub faultless : firstFault 0 (held a) ≡ length (held a)
+
+-- ---- what is left
+
+-- "Entries past the count stay.": a list with others at its front
+abbrev pub laid : List ℕ → List ℕ → List ℕ
+laid front list = front ++ drop (length front) list
+
+abbrev pub starts : List Entry → List ℕ
+starts l = map (λ (e : Entry). e .position) l
+
+abbrev pub lengths : List Entry → List ℕ
+lengths l = map (λ (e : Entry). e .size) l
+
+-- the arrays with a state laid into them
+abbrev pub laidInto : Lent → State → Lent
+laidInto a s =
+    record {
+      positions = laid (starts (s .intervals)) (a .positions);
+      sizes = laid (lengths (s .intervals)) (a .sizes);
+      count = length (s .intervals);
+    }
+
+-- "Each refusal .. changes nothing lent."
+abbrev pub leaving : {X : Type 0} → Verdict → X → X → X
+leaving Accepted new old = new
+leaving (Refused why) new old = old
+
+-- ---- the two calls
+
+-- An offer within the limits, made for a node, to a sound store: the answer, as enum and in figures, and what is lent afterwards.
+pub record Offers (a : Lent) (e : Entry) (node : ℕ) (v : Verdict) (b : Lent) : Type 0 where
+  pub verdict : v ≡ answer (stateIn a) e node
+  pub told : toldVerdict v ≡ figures (stateIn a) e node
+  pub left : b ≡ leaving v (laidInto a (after (stateIn a) e)) a
+
+-- "A store call tries 15, 4, 12, 13." "15 the first entry at fault, 512 for the count": what is given for 15 at an entry, for 4, and
+-- otherwise.
+unfoldable pub checks : {X : Type 0} → Lent → Entry → (ℕ → X) → X → X → X
+checks a e bad malformed otherwise =
+    pick (ltb maxStored (a .count)) (bad maxStored)
+    (pick (ltb (firstFault 0 (held a)) (length (held a))) (bad (firstFault 0 (held a)))
+    (pick (pastLimits e) malformed otherwise))
+
+abbrev pub callAnswer : Lent → Entry → Verdict
+callAnswer a e = checks a e (λ (entry : ℕ). Refused (BadStore entry)) (Refused (Malformed 0)) (answer (stateIn a) e 0)
+
+abbrev pub callFigures : Lent → Entry → Told Nothing
+callFigures a e = checks a e (λ (entry : ℕ). refuses 15 (One entry)) (refuses 4 (One 0)) (figures (stateIn a) e 0)
+
+-- An offer to any store.
+pub record Calls (a : Lent) (e : Entry) (v : Verdict) (b : Lent) : Type 0 where
+  pub verdict : v ≡ callAnswer a e
+  pub told : toldVerdict v ≡ callFigures a e
+  pub left : b ≡ leaving v (laidInto a (after (stateIn a) e)) a
