@@ -14,10 +14,11 @@ use Rattle.bankdef.specs.declared.Bankdef.{Bankdef}
 use Rattle.iter.specs.Distance.{tellable, distanceOf}
 use Rattle.iter.specs.Cases.{unitTen, distance-cases}
 use Rattle.iter.specs.declared.Distance.the-variants.{Bits}
-use Rattle.overlap_checker.specs.Interval.{interval, clashes, sharesBit, strictlyInside, pastLimits}
-use Rattle.overlap_checker.specs.Stored.{emptyStore, atFault, firstFault}
-use Rattle.overlap_checker.specs.Offers.{placeFor, clashesAny, named, lacksRoom, verdictOf, kept, storeAfter, offerOf, checkOf}
-use Rattle.overlap_checker.specs.History.{verdictTo, after}
+use Rattle.overlap_checker.specs.declared.Entry.{Entry}
+use Rattle.overlap_checker.specs.Interval.{interval, clashes, sharesBit, strictlyInside}
+use Rattle.overlap_checker.specs.Offers.{placeFor, clashesAny, named, lacksRoom, verdictOf}
+use Rattle.overlap_checker.specs.State.{emptyState, tries, answer, keeping, after}
+use Rattle.overlap_checker.specs.Folds.{stateAfter}
 use Rattle.resolver.specs.Cases.{answerFor}
 use Rattle.resolver.specs.Layout.{layoutOf}
 use Rattle.resolver.specs.Lists.{listsOf, nodesTo}
@@ -51,6 +52,10 @@ tenAt position =
     ofVerdict
     (placing 2 1 forty [] (record { index = 5; kind = 4; operand = 0; number = 10; state = 0 }) (record { position = position; known = true }))
 
+-- what the store answers to an offer after others
+abbrev offeredAfter : List Entry → Entry → List ℕ
+offeredAfter es e = ofVerdict (answer (stateAfter emptyState es) e 0)
+
 abbrev pub table : List Case
 table =
     -- "unit 10, start 0, position 10, alignment 16: 6"; "position 16: 0"
@@ -62,10 +67,10 @@ table =
     ∷ case (ofVerdict (two 8 (Some 8) 0 None)) (3 ∷ 1 ∷ 2 ∷ [])
     ∷ case (ofVerdict (two 0 (Some 8) 8 None)) (0 ∷ [])
     -- "store (0, 8), (8, 8), offer (7, 1): 12, names (0, 8)"
-    ∷ case (ofVerdict (verdictTo (after emptyStore (interval 0 8 ∷ interval 8 8 ∷ [])) (interval 7 1))) (12 ∷ 0 ∷ 8 ∷ [])
+    ∷ case (offeredAfter (interval 0 8 ∷ interval 8 8 ∷ []) (interval 7 1)) (12 ∷ 0 ∷ 8 ∷ [])
     -- "store (0, 8), offers (0, 0) accepted, then (4, 4): 12"
-    ∷ case (ofVerdict (verdictTo (after emptyStore (interval 0 8 ∷ [])) (interval 0 0))) (0 ∷ [])
-    ∷ case (ofVerdict (verdictTo (after emptyStore (interval 0 8 ∷ interval 0 0 ∷ [])) (interval 4 4))) (12 ∷ 0 ∷ 8 ∷ [])
+    ∷ case (offeredAfter (interval 0 8 ∷ []) (interval 0 0)) (0 ∷ [])
+    ∷ case (offeredAfter (interval 0 8 ∷ interval 0 0 ∷ []) (interval 4 4)) (12 ∷ 0 ∷ 8 ∷ [])
     -- "bank size 40: position 30, size 10 passes, position 31 gives 10"
     ∷ case (tenAt 30) (0 ∷ [])
     ∷ case (tenAt 31) (10 ∷ 5 ∷ [])
@@ -91,7 +96,7 @@ pub record Cases : Type 0 where
   pub rows : map (λ (c : Case). c .got) table ≡ map (λ (c : Case). c .said) table
 
 every-row : map (λ (c : Case). c .got) table ≡ map (λ (c : Case). c .said) table
-unfolding distanceOf firstWhere firstPair fillFrom after checkOf offerOf verdictOf storeAfter kept placeFor clashesAny named lacksRoom clashes sharesBit strictlyInside pastLimits atFault firstFault checked insertBy sortedBy spansOf blocksFrom layoutOf listsOf nodesTo settledBy first passTo listOf numeral bitAt digitAt digitValue paddedBit
+unfolding distanceOf firstWhere firstPair fillFrom stateAfter after keeping tries verdictOf placeFor clashesAny named lacksRoom clashes sharesBit strictlyInside checked insertBy sortedBy spansOf blocksFrom layoutOf listsOf nodesTo settledBy first passTo listOf numeral bitAt digitAt digitValue paddedBit
 every-row = refl
 
 pub cases : Cases

@@ -1,12 +1,4 @@
-pub mod Cases
-pub mod Answers
 pub mod Ascending
-pub mod Bits
-pub mod Held
-pub mod Neighbours
-pub mod SharedBits
+pub mod Kept
 pub mod Shift
-pub mod SoundMeans
-pub mod SoundStays
-pub mod WhatIsStored
-pub mod WhoIsNamed
+pub mod Unique

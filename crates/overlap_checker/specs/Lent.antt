@@ -1,7 +1,7 @@
 -- The store as it is lent: two arrays, positions and sizes, and a count. What they hold, when that is sound, and what a call leaves there.
 use mathlib.Core.Path.{_≡_}
 use mathlib.Core.List.{List, [], _∷_, _++_, map}
-use Prim.Native.Nat.{ℕ, _≤_}
+use Prim.Native.Nat.{ℕ, _+_, _≤_}
 use lib.Dec.{ltb}
 use lib.ListN.{length, take, drop}
 use Rattle.refusal.specs.Limits.{maxStored}
@@ -11,10 +11,12 @@ use Rattle.refusal.specs.declared.Place.the-variants.{One}
 use Rattle.refusal.specs.declared.Refusal.the-variants.{Malformed, BadStore}
 use Rattle.refusal.specs.declared.Verdict.{Verdict}
 use Rattle.refusal.specs.declared.Verdict.the-variants.{Accepted, Refused}
+use Rattle.refusal.specs.declared.Refusal.{Refusal}
 use Rattle.overlap_checker.specs.declared.Entry.{Entry}
+use Rattle.overlap_checker.specs.declared.Offered.{Offered}
 use Rattle.overlap_checker.specs.Interval.{interval, pastLimits}
 use Rattle.overlap_checker.specs.Stored.{firstFault}
-use Rattle.overlap_checker.specs.State.{State, holding, answer, figures, after}
+use Rattle.overlap_checker.specs.State.{State, holding, putAt, answer, figures, after}
 
 pub record Lent : Type 0 where
   pub positions : List ℕ
@@ -71,6 +73,14 @@ laidInto a s =
 abbrev pub leaving : {X : Type 0} → Verdict → X → X → X
 leaving Accepted new old = new
 leaving (Refused why) new old = old
+
+-- one of the arrays with a number put in at a place of the first `count`
+abbrev pub putIn : List ℕ → ℕ → ℕ → ℕ → List ℕ
+putIn list count place number = putAt place number (take count list) ++ drop (count + 1) list
+
+-- a refusal hands the count back
+abbrev pub refusedWith : ℕ → Refusal → Offered
+refusedWith count why = record { verdict = Refused why; count = count }
 
 -- ---- the two calls
 

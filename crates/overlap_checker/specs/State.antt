@@ -46,9 +46,13 @@ abbrev pub isAccepted : Verdict → Bool
 isAccepted Accepted = true
 isAccepted (Refused why) = false
 
--- entries with an interval put in at its place
+-- something put into a list at a place
+abbrev pub putAt : {X : Type 0} → ℕ → X → List X → List X
+putAt place x l = take place l ++ x ∷ drop place l
+
+-- an interval put in at its place
 abbrev pub inserted : List Entry → Entry → List Entry
-inserted l e = take (placeFor (e .position) l) l ++ e ∷ drop (placeFor (e .position) l) l
+inserted l e = putAt (placeFor (e .position) l) e l
 
 -- "an offer of nonzero size is kept in ascending order"; one of size 0 is "not stored"
 unfoldable pub keeping : State → Entry → State

@@ -1,33 +1,23 @@
--- Each public function's contract says one answer: two that meet it for the same input are equal.
-use mathlib.Core.Path.{_≡_}
+-- Each public function's contract has one outcome: two that meet it for the same input agree in the answer and in all that is lent.
+use mathlib.Core.Path.{_≡_, sym, ap, ap₂, _∙_, subst}
 use Prim.Native.Nat.{ℕ}
 use Rattle.refusal.specs.Pick.{determined}
-use Rattle.overlap_checker.specs.declared.Store.{Store}
-use Rattle.overlap_checker.specs.declared.Offered.{Offered}
-use Rattle.overlap_checker.specs.Stored.{emptyStore}
-use Rattle.overlap_checker.specs.Offers.{offerOf, checkOf}
+use Rattle.refusal.specs.declared.Verdict.{Verdict}
+use Rattle.overlap_checker.specs.declared.Entry.{Entry}
+use Rattle.overlap_checker.specs.Lent.{Lent, stateIn, laidInto, leaving, Offers, Calls}
+use Rattle.overlap_checker.specs.State.{after}
 
--- what `empty` ensures of its answer
-abbrev pub IsEmpty : Store → Type 0
-IsEmpty r = r ≡ emptyStore
+same-left : (a : Lent) (e : Entry) (v w : Verdict) (b c : Lent) → v ≡ w → b ≡ leaving v (laidInto a (after (stateIn a) e)) a
+    → c ≡ leaving w (laidInto a (after (stateIn a) e)) a → b ≡ c
+same-left a e v w b c same p q = p ∙ ap (λ (u : Verdict). leaving u (laidInto a (after (stateIn a) e)) a) same ∙ sym q
 
--- what `check_and_insert` ensures
-abbrev pub Answers : Store → ℕ → ℕ → Offered → Type 0
-Answers s position size r = r ≡ checkOf s position size
+pub offers-unique : (a : Lent) (e : Entry) (node : ℕ) (v w : Verdict) (b c : Lent) → Offers a e node v b → Offers a e node w c
+    → (v ≡ w) × (b ≡ c)
+offers-unique a e node v w b c p q =
+    let same = determined (p .verdict) (q .verdict) in
+    (same, same-left a e v w b c same (p .left) (q .left))
 
--- what `check_and_insert_sound` ensures
-abbrev pub AnswersSound : Store → ℕ → ℕ → ℕ → Offered → Type 0
-AnswersSound s position size node r = r ≡ offerOf s position size node
-
--- `empty` has one answer.
-pub empty-unique : {r t : Store} → IsEmpty r → IsEmpty t → r ≡ t
-empty-unique = determined
-
--- `check_and_insert` has one answer: verdict, place and the whole store afterwards.
-pub answer-unique : (s : Store) (position size : ℕ) {r t : Offered} → Answers s position size r → Answers s position size t → r ≡ t
-answer-unique s position size = determined
-
--- `check_and_insert_sound` has one answer.
-pub answer-sound-unique : (s : Store) (position size node : ℕ) {r t : Offered}
-    → AnswersSound s position size node r → AnswersSound s position size node t → r ≡ t
-answer-sound-unique s position size node = determined
+pub calls-unique : (a : Lent) (e : Entry) (v w : Verdict) (b c : Lent) → Calls a e v b → Calls a e w c → (v ≡ w) × (b ≡ c)
+calls-unique a e v w b c p q =
+    let same = determined (p .verdict) (q .verdict) in
+    (same, same-left a e v w b c same (p .left) (q .left))

@@ -16,10 +16,11 @@ use Rattle.overlap_checker.specs.declared.Entry.{Entry}
 use Rattle.overlap_checker.specs.Interval.{interval, Within}
 use Rattle.overlap_checker.specs.Stored.{firstFault}
 use Rattle.overlap_checker.specs.Offers.{placeFor, verdictOf}
-use Rattle.overlap_checker.proofs.Answers.{accepted-free, accepted-room}
-use Rattle.overlap_checker.proofs.Ascending.{Sits, faultless, lt-or-le}
-use Rattle.overlap_checker.proofs.Neighbours.{place-le}
-use Rattle.overlap_checker.proofs.SoundStays.{inserted, ascending-inserted}
+use Rattle.overlap_lent.proofs.Verdicts.{accepted-free, accepted-room}
+use Rattle.overlap_checker.specs.Ascending.{Sits, faultless, lt-or-le}
+use Rattle.overlap_checker.specs.Neighbours.{place-le}
+use Rattle.overlap_checker.specs.State.{inserted}
+use Rattle.overlap_checker.specs.Going.{ascending-inserted}
 use Rattle.overlap_lent.specs.Lent.{zipped, held, putIn, heldAfter, countAfter, Sound}
 use Rattle.overlap_lent.proofs.Zipped.{zipped-append, take-zipped, drop-zipped, take-positions, take-sizes, held-length, held-ascends}
 

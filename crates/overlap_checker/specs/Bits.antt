@@ -9,7 +9,7 @@ use borrow.Author.Tests.{ltb-true, lt-ltb, eq-eqb, ne-eqb}
 use Rattle.overlap_checker.specs.declared.Entry.{Entry}
 use Rattle.overlap_checker.specs.Interval.{end, ShareBit, sharesBit, StrictlyInside, strictlyInside, clashes}
 use Rattle.overlap_checker.specs.Offers.{clashesAny}
-use Rattle.overlap_checker.proofs.Ascending.{told}
+use Rattle.overlap_checker.specs.Ascending.{told}
 
 and-both : (a b : Bool) → (a && b) ≡ true → (a ≡ true) × (b ≡ true)
 and-both true b e = (refl, e)

@@ -7,22 +7,13 @@ use Prim.Native.Nat.{ℕ, zero, suc, _-_, _≤_, _<_}
 use native.Mathlib.Nat.{le-refl}
 use native.Mathlib.Omega.{arith}
 use lib.ListN.{length, List·getD-eq-default}
-use Rattle.refusal.specs.declared.Refusal.the-variants.{Overlap}
-use Rattle.refusal.specs.declared.Verdict.the-variants.{Refused}
 use Rattle.overlap_checker.specs.declared.Entry.{Entry}
-use Rattle.overlap_checker.specs.declared.Store.{Store}
 use Rattle.overlap_checker.specs.Entries.{entryAt}
 use Rattle.overlap_checker.specs.Interval.{interval, clashes}
 use Rattle.overlap_checker.specs.Naming.{IsNamed}
-use Rattle.overlap_checker.specs.Stored.{stored, Sound}
-use Rattle.overlap_checker.specs.Offers.{placeFor, clashesAny, named, lacksRoom, offerOf}
-use Rattle.overlap_checker.proofs.Answers.{not-both, same-number}
-use Rattle.overlap_checker.proofs.Ascending.{told, lt-or-le, Ascending, ends-before}
-use Rattle.overlap_checker.proofs.Held.{stored-ascends}
-use Rattle.overlap_checker.proofs.Neighbours.{place-le, starts-below, starts-above, empty-apart, before-is, clear-above, free, hit, passes, too-many}
-
-same-overlap : {p z q y : ℕ} → Refused (Overlap p z) ≡ Refused (Overlap q y) → (p ≡ q) × (z ≡ y)
-same-overlap e = (cc, cc)
+use Rattle.overlap_checker.specs.Offers.{placeFor, clashesAny, named}
+use Rattle.overlap_checker.specs.Ascending.{told, lt-or-le, Ascending, ends-before}
+use Rattle.overlap_checker.specs.Neighbours.{place-le, starts-below, starts-above, empty-apart, before-is, clear-above, free}
 
 -- ---- members and indices
 
@@ -92,7 +83,7 @@ module _ (l : List Entry) (a : Ascending 0 l) (e : Entry) (k : ℕ) (at : k ≡ 
                   (λ i m low. starts-ascend i (k - 1) (let b = before-place i m low in omega arith) inside);
               otherwise =
                   each (λ (g : Entry). e .position ≤ g .position → clashes e g ≡ false) l
-                  (λ i m high. clear-above l a e 0 k at over i (from-place i high) m);
+                  (λ i m high. clear-above l a e k at over i (from-place i high) m);
             });
       }
 
@@ -105,27 +96,10 @@ module _ (l : List Entry) (a : Ascending 0 l) (e : Entry) (k : ℕ) (at : k ≡ 
       (λ over. rw over
       (⊎-elim (λ n. rw (before-is l k n)
       (⊎-elim (λ h. named-below n over h)
-      (λ under. absurd (true≢false (sym any ∙ free l a e 0 k at over (rw (before-is l k n) under))))
+      (λ under. absurd (true≢false (sym any ∙ free l a e k at over (rw (before-is l k n) under))))
       (told (clashes e (entryAt l (k - 1))))))
       (λ z. absurd
       (true≢false
-      (sym any ∙ free l a e 0 k at over (let zero-place : k ≡ 0 = omega arith in rw zero-place (empty-apart e)))))
+      (sym any ∙ free l a e k at over (let zero-place : k ≡ 0 = omega arith in rw zero-place (empty-apart e)))))
       (lt-or-le 0 k)))
       (told (clashes e (entryAt l k))))
-
--- ---- the call
-
--- A sound store's refusal 12 names a stored interval that clashes with the offer, by the rule.
-pub overlap-names : (s : Store) → Sound s → (e : Entry) (node start size : ℕ)
-    → offerOf s (e .position) (e .size) node .verdict ≡ Refused (Overlap start size) → IsNamed (stored s) e (interval start size)
-unfolding offerOf
-overlap-names s sound e node start size h =
-    let l = stored s in
-    ⊎-elim
-    (λ yes. let (p, z) = same-overlap (sym h ∙ hit l e node yes) in
-    rw (p, z) (named-is l (stored-ascends s sound) e (placeFor (e .position) l) refl yes))
-    (λ none. ⊎-elim
-    (λ lacks. let wrong : _≡_ {A = ℕ} 13 12 = same-number 12 (sym h ∙ too-many l e node none lacks) refl in absurd (omega arith))
-    (λ room. absurd (not-both (sym (passes l e node none room) ∙ h)))
-    (told (lacksRoom (length l) (e .size))))
-    (told (clashesAny e l))

@@ -1,5 +1,5 @@
 -- Why two neighbours settle an offer: the entries before its place start below it, those from there on at or above it, and a clash
--- with a farther entry would be one with the nearer. One law for each answer that the code gives.
+-- with a farther entry would be one with the nearer.
 use mathlib.Core.Path.{_≡_, refl, sym, ap, _∙_}
 use mathlib.Core.Logic.{_⊎_, ⊎-elim}
 use mathlib.Core.Bool.{true, false, and-false, or-true, true≢false}
@@ -8,18 +8,14 @@ use Prim.Native.Nat.{ℕ, zero, suc, _+_, _-_, _≤_, _<_, min, max}
 use native.Mathlib.Nat.{le-of-suc-le-suc, eq-zero-or-pos}
 use native.Mathlib.Numerals.{add-one}
 use native.Mathlib.Omega.{arith}
-use borrow.Author.Tests.{lt-ltb, le-ltb, le-leb, lt-leb, eq-eqb, ne-eqb}
+use borrow.Author.Tests.{lt-ltb, le-ltb, eq-eqb, ne-eqb}
 use lib.Dec.{ltb}
 use lib.ListN.{length, List·getD-eq-default}
-use Rattle.refusal.specs.Limits.{maxStored}
-use Rattle.refusal.specs.declared.Refusal.the-variants.{Overlap, StoreFull}
-use Rattle.refusal.specs.declared.Verdict.{Verdict}
-use Rattle.refusal.specs.declared.Verdict.the-variants.{Accepted, Refused}
 use Rattle.overlap_checker.specs.declared.Entry.{Entry}
 use Rattle.overlap_checker.specs.Interval.{interval, end, sharesBit, strictlyInside, clashes}
 use Rattle.overlap_checker.specs.Entries.{entryAt, entryBefore}
-use Rattle.overlap_checker.specs.Offers.{placeFor, clashesAny, named, lacksRoom, verdictOf}
-use Rattle.overlap_checker.proofs.Ascending.{told, lt-or-le, or-none, Ascending, sits-at, ends-before}
+use Rattle.overlap_checker.specs.Offers.{placeFor, clashesAny, named}
+use Rattle.overlap_checker.specs.Ascending.{told, lt-or-le, or-none, Ascending, sits-at, ends-before}
 
 -- ---- the place
 
@@ -147,14 +143,14 @@ ends-high e f h n high =
 pub empty-apart : (e : Entry) → clashes e (interval 0 0) ≡ false
 empty-apart e = apart-below e (interval 0 0) (omega arith)
 
-any-at : (e : Entry) (l : List Entry) (i : ℕ) → clashes e (entryAt l i) ≡ true → clashesAny e l ≡ true
+pub any-at : (e : Entry) (l : List Entry) (i : ℕ) → clashes e (entryAt l i) ≡ true → clashesAny e l ≡ true
 any-at e l i h =
     ⊎-elim (λ m. any-clash e l i m h)
     (λ m. absurd
     (true≢false (sym h ∙ ap (λ (f : Entry). clashes e f) (List·getD-eq-default l (interval 0 0) {n = i} m) ∙ empty-apart e)))
     (lt-or-le i (length l))
 
-any-before : (e : Entry) (l : List Entry) (k : ℕ) → clashes e (entryBefore l k) ≡ true → clashesAny e l ≡ true
+pub any-before : (e : Entry) (l : List Entry) (k : ℕ) → clashes e (entryBefore l k) ≡ true → clashesAny e l ≡ true
 any-before e l zero h = absurd (true≢false (sym h ∙ empty-apart e))
 any-before e l (suc i) h = any-at e l i h
 
@@ -165,19 +161,19 @@ pub before-is : (l : List Entry) (k : ℕ) → 0 < k → entryBefore l k ≡ ent
 before-is l zero h = absurd (omega arith)
 before-is l (suc i) h = let e : suc i - 1 ≡ i = omega arith in rw e
 
--- ---- the answers, for an offer `e` to ascending entries `l`, with its place k
+-- ---- an offer `e` to ascending entries `l`, with its place k
 
-module _ (l : List Entry) (a : Ascending 0 l) (e : Entry) (node k : ℕ) (at : k ≡ placeFor (e .position) l) where
-  pub hit-above : clashes e (entryAt l k) ≡ true
-      → verdictOf l e node ≡ Refused (Overlap (entryAt l k .position) (entryAt l k .size))
-  unfolding verdictOf named
-  hit-above h = rw (any-at e l k h, ← at, h)
+module _ (l : List Entry) (e : Entry) (k : ℕ) (at : k ≡ placeFor (e .position) l) where
+  -- who is named: the one at the place if it clashes, otherwise the one below
+  pub named-at : clashes e (entryAt l k) ≡ true → named l e ≡ entryAt l k
+  unfolding named
+  named-at h = rw (← at, h)
 
-  pub hit-below : clashes e (entryAt l k) ≡ false → clashes e (entryBefore l k) ≡ true
-      → verdictOf l e node ≡ Refused (Overlap (entryBefore l k .position) (entryBefore l k .size))
-  unfolding verdictOf named
-  hit-below c h = rw (any-before e l k h, ← at, c)
+  pub named-before : clashes e (entryAt l k) ≡ false → named l e ≡ entryBefore l k
+  unfolding named
+  named-before h = rw (← at, h)
 
+module _ (l : List Entry) (a : Ascending 0 l) (e : Entry) (k : ℕ) (at : k ≡ placeFor (e .position) l) where
   -- where the neighbour at or above does not clash, none from there on does
   module _ (over : clashes e (entryAt l k) ≡ false) where
     pub clear-above : (i : ℕ) → k ≤ i → i < length l → clashes e (entryAt l i) ≡ false
@@ -203,42 +199,3 @@ module _ (l : List Entry) (a : Ascending 0 l) (e : Entry) (node k : ℕ) (at : k
 
       pub free : clashesAny e l ≡ false
       free = no-clash e l (λ i m. ⊎-elim (λ h. clear-below i h) (λ h. clear-above i h m) (lt-or-le i k))
-
--- some entry clashes with the offer
-pub hit : (l : List Entry) (e : Entry) (node : ℕ) → clashesAny e l ≡ true
-    → verdictOf l e node ≡ Refused (Overlap (named l e .position) (named l e .size))
-unfolding verdictOf
-hit l e node h = rw h
-
--- no entry clashes with the offer
-
-module _ (l : List Entry) (e : Entry) (node : ℕ) (none : clashesAny e l ≡ false) where
-  pub passes : lacksRoom (length l) (e .size) ≡ false → verdictOf l e node ≡ Accepted
-  unfolding verdictOf
-  passes h = rw (none, h)
-
-  pub too-many : lacksRoom (length l) (e .size) ≡ true → verdictOf l e node ≡ Refused (StoreFull node)
-  unfolding verdictOf
-  too-many h = rw (none, h)
-
-  pub passes-empty : e .size ≡ 0 → verdictOf l e node ≡ Accepted
-  unfolding lacksRoom
-  passes-empty z = passes (rw (le-ltb 0 (e .size) (omega arith)))
-
-  pub passes-room : length l < maxStored → verdictOf l e node ≡ Accepted
-  unfolding lacksRoom
-  passes-room h = passes (rw (lt-leb maxStored (length l) h) (and-false (ltb 0 (e .size))))
-
-  pub full : 0 < e .size → maxStored ≤ length l → verdictOf l e node ≡ Refused (StoreFull node)
-  unfolding lacksRoom
-  full n h = too-many (rw (lt-ltb 0 (e .size) n, le-leb maxStored (length l) h))
-
--- The node only names the refusal: what looks at no more of 13 than that it is 13 is the same for every node.
-pub node-free : {X : Type 0} (l : List Entry) (e : Entry) (node : ℕ) (f : Verdict → X)
-    → f (Refused (StoreFull node)) ≡ f (Refused (StoreFull 0)) → f (verdictOf l e node) ≡ f (verdictOf l e 0)
-node-free l e node f same =
-    ⊎-elim (λ h. ap f (hit l e node h) ∙ sym (ap f (hit l e 0 h)))
-    (λ none. ⊎-elim (λ lacks. ap f (too-many l e node none lacks) ∙ same ∙ sym (ap f (too-many l e 0 none lacks)))
-    (λ room. ap f (passes l e node none room) ∙ sym (ap f (passes l e 0 none room)))
-    (told (lacksRoom (length l) (e .size))))
-    (told (clashesAny e l))

@@ -1,0 +1,146 @@
+-- Demand 3, of calls of `check_and_insert` one after another, from any two arrays of 512 and a count of 0, whatever else the arrays hold: each
+-- call on what the one before it left, each answer as its contract has it.
+use mathlib.Core.Path.{_≡_, refl, sym, ap, ap₂, _∙_, subst}
+use mathlib.Core.Logic.{_↔_}
+use mathlib.Core.List.{List, [], _∷_, _++_, List·Memᴰ, List·Memᴰ·head, List·Memᴰ·tail, List·Permᴰ}
+use Prim.Native.Nat.{ℕ, _+_, _-_, _≤_, _<_}
+use native.Mathlib.Omega.{arith}
+use lib.ListN.{length, drop, getD}
+use lib.Seq.{drop-append-add, drop-drop, getD-drop}
+use Rattle.refusal.specs.Limits.{maxStored}
+use Rattle.refusal.specs.Told.{refuses, toldVerdict}
+use Rattle.refusal.specs.declared.Place.the-variants.{Two}
+use Rattle.refusal.specs.declared.Verdict.{Verdict}
+use Rattle.overlap_checker.specs.declared.Entry.{Entry}
+use Rattle.overlap_checker.specs.Interval.{Within, StrictlyInside}
+use Rattle.overlap_checker.specs.Stored.{Proper}
+use Rattle.overlap_checker.specs.Naming.{IsNamed}
+use Rattle.overlap_checker.specs.State.{State, emptyState, answer, after}
+use Rattle.overlap_checker.specs.Lent.{Lent, lent, held, stateIn, Sound, laid, starts, lengths, laidInto, Calls}
+use Rattle.overlap_checker.specs.Folds.{stateAfter, answers, acceptedBy, nonzero, AllWithin, SharesBitWith, RefusedBy, CallsInTurn}
+use Rattle.overlap_checker.specs.Laid.{starts-length, lengths-length, held-laid}
+use Rattle.overlap_checker.specs.Going.{state-none, sound-none, laid-again, left-is, state-after, sound-after, folded-grows}
+use Rattle.overlap_checker.specs.Checks.{calls-offers}
+use Rattle.overlap_checker.specs.Demand3 as fold
+
+-- ---- laid twice
+
+laid-over : (f g list : List ℕ) → length f ≤ length g → laid g (laid f list) ≡ laid g list
+laid-over f g list h =
+    let k = length g - length f in
+    let whole : length g ≡ length f + k = omega arith in
+    ap (λ (l : List ℕ). g ++ l)
+    (ap (λ (n : ℕ). drop n (laid f list)) whole
+    ∙ drop-append-add f (drop (length f) list) k
+    ∙ drop-drop k (length f) list
+    ∙ sym (ap (λ (n : ℕ). drop n list) whole))
+
+laid-into-over : (a : Lent) (s t : State) → length (s .intervals) ≤ length (t .intervals) → laidInto (laidInto a s) t ≡ laidInto a t
+laid-into-over a s t h =
+    ap₂ (λ (p z : List ℕ). lent p z (length (t .intervals)))
+    (laid-over (starts (s .intervals)) (starts (t .intervals)) (a .positions) (omega (arith, starts-length (s .intervals), starts-length (t .intervals))))
+    (laid-over (lengths (s .intervals)) (lengths (t .intervals)) (a .sizes) (omega (arith, lengths-length (s .intervals), lengths-length (t .intervals))))
+
+-- entries past what was laid stay
+laid-past : (f list : List ℕ) (i : ℕ) → length f ≤ i → getD (laid f list) i 0 ≡ getD list i 0
+laid-past f list i h =
+    let k = i - length f in
+    let whole : i ≡ length f + k = omega arith in
+    ap (λ (n : ℕ). getD (laid f list) n 0) whole
+    ∙ sym (getD-drop (length f) (laid f list) k 0)
+    ∙ ap (λ (l : List ℕ). getD l k 0) (lib.Seq.drop-append-seam f (drop (length f) list))
+    ∙ getD-drop (length f) list k 0
+    ∙ sym (ap (λ (n : ℕ). getD list n 0) whole)
+
+-- ---- calls in turn are the fold
+
+pub record Turned (a : Lent) (es : List Entry) (vs : List Verdict) (b : Lent) : Type 0 where
+  pub answered : vs ≡ answers (stateIn a) es
+  pub left : b ≡ laidInto a (stateAfter (stateIn a) es)
+  pub sound : Sound b
+
+turned : (a : Lent) (es : List Entry) (vs : List Verdict) (b : Lent) → Sound a → AllWithin es → CallsInTurn a es vs b → Turned a es vs b
+unfolding answers stateAfter
+turned a [] [] b s all run =
+    record { answered = refl; left = run ∙ sym (laid-again a s); sound = subst Sound (sym run) s }
+turned a [] (v ∷ vs) b s all run = absurd run
+turned a (e ∷ es) [] b s all run = absurd run
+turned a (e ∷ es) (v ∷ vs) b s all run =
+    let c = run .0 in
+    let within = all e (List·Memᴰ·head refl) in
+    let made = calls-offers a e v c s within (run .1) in
+    let rest = turned c es vs b (sound-after a e 0 v c s made within) (λ f m. all f (List·Memᴰ·tail m)) (run .2) in
+    let state = state-after a e 0 v c s made in
+    record {
+      answered = ap₂ (λ (w : Verdict) (l : List Verdict). w ∷ l) (made .verdict) (rest .answered ∙ ap (λ (t : State). answers t es) state);
+      left =
+          rest .left
+          ∙ ap₂ (λ (l : Lent) (t : State). laidInto l (stateAfter t es)) (left-is a e 0 v c s made) state
+          ∙ laid-into-over a (after (stateIn a) e) (stateAfter (after (stateIn a) e) es) (folded-grows (after (stateIn a) e) es);
+      sound = rest .sound;
+    }
+
+-- ---- demand 3
+
+module _ (a : Lent) (wide : length (a .positions) ≡ maxStored) (long : length (a .sizes) ≡ maxStored) (none : a .count ≡ 0)
+    (es : List Entry) (vs : List Verdict) (b : Lent) (all : AllWithin es) (run : CallsInTurn a es vs b) where
+  went : Turned a es vs b
+  went = turned a es vs b (sound-none a wide long none) all run
+
+  -- The answers and what is lent afterwards are those of the fold.
+  pub answers-are : vs ≡ answers emptyState es
+  answers-are = went .answered ∙ ap (λ (t : State). answers t es) (state-none a none)
+
+  pub lent-is : b ≡ laidInto a (stateAfter emptyState es)
+  lent-is = went .left ∙ ap (λ (t : State). laidInto a (stateAfter t es)) (state-none a none)
+
+  pub held-is : held b ≡ stateAfter emptyState es .intervals
+  held-is = ap held lent-is ∙ held-laid a (stateAfter emptyState es)
+
+  -- The store is sound after every call.
+  pub sound-in-turn : Sound b
+  sound-in-turn = went .sound
+
+  -- What is stored is the accepted offers of nonzero size, in some order, ascending and no two sharing a bit.
+  pub stored-is-accepted : List·Permᴰ (held b) (nonzero (acceptedBy es vs))
+  stored-is-accepted = rw (held-is, answers-are) (fold.stored-is-accepted es)
+
+  pub stored-proper : Proper (held b)
+  stored-proper = rw held-is (fold.stored-proper es all)
+
+  -- Entries past the count stay.
+  pub past-count-stays : (i : ℕ) → b .count ≤ i
+      → (getD (b .positions) i 0 ≡ getD (a .positions) i 0) × (getD (b .sizes) i 0 ≡ getD (a .sizes) i 0)
+  past-count-stays i h =
+      let l = stateAfter emptyState es .intervals in
+      let past : length l ≤ i = rw (ap (λ (x : Lent). x .count) lent-is) at h in (
+        ap (λ (x : Lent). getD (x .positions) i 0) lent-is ∙ laid-past (starts l) (a .positions) i (omega (arith, starts-length l)),
+        ap (λ (x : Lent). getD (x .sizes) i 0) lent-is ∙ laid-past (lengths l) (a .sizes) i (omega (arith, lengths-length l)),
+      )
+
+  -- a further call
+  module _ (e : Entry) (within : Within e) (v : Verdict) (c : Lent) (call : Calls b e v c) where
+    verdict-is : v ≡ answer (stateAfter emptyState es) e 0
+    verdict-is =
+        calls-offers b e v c sound-in-turn within call .verdict
+        ∙ ap (λ (l : List Entry). answer (Rattle.overlap_checker.specs.State.holding l) e 0) held-is
+
+    -- It is refused 12, a nonzero offer, exactly when some bit belongs both to it and to an earlier accepted offer.
+    pub overlap-exactly : 0 < e .size → RefusedBy 12 v ↔ SharesBitWith e (acceptedBy es vs)
+    overlap-exactly n = rw (verdict-is, answers-are) (fold.overlap-exactly es e 0 n)
+
+    -- 13 exactly when 512 are stored and no bit belongs both to it and to an earlier accepted offer.
+    pub full-exactly : 0 < e .size → RefusedBy 13 v ↔ ((b .count ≡ maxStored) × (SharesBitWith e (acceptedBy es vs) → ⊥))
+    full-exactly n = rw (verdict-is, answers-are, lent-is) (fold.full-exactly es e 0 n)
+
+    -- An offer of size 0 is refused 12 exactly when its position is strictly inside a stored interval, and with no other number.
+    pub empty-exactly : e .size ≡ 0 → RefusedBy 12 v ↔ ((f : Entry) × List·Memᴰ f (held b) × StrictlyInside (e .position) f)
+    empty-exactly z = rw (verdict-is, held-is) (fold.empty-exactly es e 0 z)
+
+    pub empty-only : e .size ≡ 0 → (number : ℕ) → 0 < number → RefusedBy number v → number ≡ 12
+    empty-only z number some r = fold.empty-only (stateAfter emptyState es) e 0 z number some (rw verdict-is at r)
+
+    -- 12 names the lowest stored start at or above the offer if those two clash, otherwise the one below.
+    pub overlap-names-rule : RefusedBy 12 v
+        → (f : Entry) × (toldVerdict v ≡ refuses 12 (Two (f .position) (f .size))) × IsNamed (held b) e f
+    overlap-names-rule r = rw (verdict-is, held-is) (fold.overlap-names-rule es e 0 all (rw verdict-is at r))
