@@ -107,7 +107,8 @@ module _ (a : Lent) (e : Entry) where
       three-ways (stateIn a) e (λ h. over (ap numberIn (tries-overlaps (stateIn a) e _ _ _ h))) (λ h l. full (ap numberIn (tries-full (stateIn a) e _ _ _ h l)))
       (λ h l. none (ap numberIn (tries-passes (stateIn a) e _ _ _ h l)))
 
-module _ (a : Lent) (wide : length (a .positions) ≡ maxStored) (long : length (a .sizes) ≡ maxStored) (e : Entry) (v : Verdict) (b : Lent) (c : Calls a e v b) where
+module _ (a : Lent) (wide : length (a .positions) ≡ maxStored) (long : length (a .sizes) ≡ maxStored)
+    (e : Entry) (v : Verdict) (b : Lent) (c : Calls a e v b) where
   faulty : a .count ≤ maxStored → length (held a) ≤ firstFault 0 (held a) → Sound a
   faulty few none = record { few = few; wide = wide; long = long; faultless = omega (arith, fault-le 0 (held a)) }
 

@@ -105,7 +105,7 @@ abbrev pub callFigures : Lent → Entry → Told Nothing
 callFigures a e = checks a e (λ (entry : ℕ). refuses 15 (One entry)) (refuses 4 (One 0)) (figures (stateIn a) e 0)
 
 -- An offer to any store.
-pub record Calls (a : Lent) (e : Entry) (v : Verdict) (b : Lent) : Type 0 where
+pub record Calls (a : Lent) (e : Entry) (v : Verdict) (c : Lent) : Type 0 where
   pub verdict : v ≡ callAnswer a e
   pub told : toldVerdict v ≡ callFigures a e
-  pub left : b ≡ leaving v (laidInto a (after (stateIn a) e)) a
+  pub left : c ≡ leaving v (laidInto a (after (stateIn a) e)) a

@@ -38,7 +38,9 @@ module _ (l : List Entry) (a : Ascending 0 l) (e : Entry) (k : ℕ) (at : k ≡ 
   -- starts ascend with the index
   starts-ascend : (i j : ℕ) → i ≤ j → j < length l → entryAt l i .position ≤ entryAt l j .position
   starts-ascend i j h m =
-      ⊎-elim (λ less. omega (arith, ends-before 0 l a i j less m)) (λ same. let eq : i ≡ j = omega arith in rw eq (le-refl (entryAt l j .position))) (lt-or-le i j)
+      ⊎-elim (λ less. omega (arith, ends-before 0 l a i j less m))
+      (λ same. let eq : i ≡ j = omega arith in rw eq (le-refl (entryAt l j .position)))
+      (lt-or-le i j)
 
   -- an entry starts at or above the offer exactly from the place on
   from-place : (i : ℕ) → e .position ≤ entryAt l i .position → k ≤ i
