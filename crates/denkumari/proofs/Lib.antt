@@ -1,2 +1,4 @@
 pub mod FormLaws
+pub mod StoreLaws
+pub mod StoreUnique
 pub mod TableLaws

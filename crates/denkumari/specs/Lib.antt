@@ -1,5 +1,6 @@
 pub mod Forms
 pub mod Parts
+pub mod Stores
 pub mod Tables
 pub mod Told
 pub mod Unique

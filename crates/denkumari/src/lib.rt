@@ -2,6 +2,7 @@
 // numbers only. include/denkumari.h tells a C program of them.
 mod forms;
 mod parts;
+mod stores;
 mod tables;
 mod told;
 
