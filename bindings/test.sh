@@ -15,6 +15,11 @@ if ! emulator=$(bindings/emulator.sh); then
 fi
 
 echo "C: $($emulator "$out/test" examples/worked.form)"
+stored=$($emulator "$out/store") || {
+    echo "C, the store: $stored"
+    exit 1
+}
+echo "C, the store: $stored"
 python3 oracle/generate.py "$seed" "$layouts" --batch >"$out/layouts"
 python3 oracle/model.py --batch <"$out/layouts" >"$out/expected"
 compare() {
@@ -45,4 +50,9 @@ $emulator "$out/worked_rust" >"$out/answers"
 echo "Rust: the worked example"
 printf 'passes 1\nblock 0 10\nblock 20 10\nimage ffc002a800\n' | cmp - "$out/answers"
 $emulator "$out/calls_rust" -q | grep "test result"
+$emulator "$out/store_rust" -q >"$out/answers" || {
+    cat "$out/answers"
+    exit 1
+}
+echo "Rust, the store: $(grep "test result" "$out/answers")"
 compare "Rust, from files" "$out/batch_rust"

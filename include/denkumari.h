@@ -38,6 +38,8 @@ enum dk_refusal {
     DK_OVERLAP = 12,           /* an item would share a bit with another; place and second: start and size of that other, in bits */
     DK_STORE_FULL = 13,        /* over 512 items; place: the node */
     DK_TOO_SHORT = 14,         /* a buffer is too short; place: image 0, spans 1, blocks 2, hex 3 */
+    DK_BAD_STORE = 15,         /* a store that was given is not one: over 512 intervals, or intervals past an offer's limits, empty, not
+                                  ascending or sharing a bit; place: the first at fault, 512 for the count */
     DK_BAD_PART = 16           /* a part of an image is empty, outside it, or not on byte edges; place 0 */
 };
 
@@ -87,6 +89,14 @@ struct dk_part {
     uint64_t length;  /* in bytes */
 };
 
+/* The answer to an offer. */
+struct dk_offer {
+    uint64_t refusal; /* DK_ACCEPTED, DK_BAD_STORE, DK_MALFORMED, DK_OVERLAP or DK_STORE_FULL, tried in this order */
+    uint64_t place;
+    uint64_t second;  /* of refusal 12, else 0 */
+    uint64_t count;   /* how many intervals are stored afterwards; refused, the count given */
+};
+
 /* Lays tables out. Bank i, from 0, has units[i] bits to an address, starts[i], and, where its flag is set, bank_sizes[i] (in bits),
  * bank_offsets[i] (the place of its first bit in the image, in bits) and aligns[i] (label alignment); flags[i] is a sum of
  * DK_HAS_SIZE, DK_HAS_OFFSET, DK_HAS_ALIGN and DK_FILL. The six lists are equally long, else 1; other flags are 2.
@@ -134,6 +144,13 @@ struct dk_count dk_blocks(const uint64_t *offsets, size_t offsets_len,
 /* The first `bits` bits of `bytes` in hex: four bits a digit, lower case, the last digit padded with zero bits, no final zero byte. Refused 4
  * where there are fewer bits, then 14 where `hex` is too short. */
 struct dk_count dk_hex(const uint8_t *bytes, size_t bytes_len, uint64_t bits, uint8_t *hex, size_t hex_len);
+
+/* Offers `size` bits from bit `position` on to a store that you keep between calls: `count` intervals, ascending, no two sharing a bit, interval i
+ * being sizes[i] bits from positions[i] on. Both arrays have 512 elements; with a count of 0 they may hold anything. Accepted, an offer with bits is
+ * put in at its place; one of size 0, which is refused where it is strictly inside an interval, is not. Elements past the count stay. Refused 15 where the
+ * store is no such store, 4 (place 0) where position is above 8,589,934,590 or size above 4,294,967,295, 12 where a bit is shared (place and second:
+ * start and size of the lowest interval at or above the offer if those two share a bit, otherwise of the one below), 13 (place 0) where 512 are stored. */
+struct dk_offer dk_offer(uint64_t *positions, uint64_t *sizes, uint64_t count, uint64_t position, uint64_t size);
 
 /* Where in an image the block of `size` bits from bit `offset` on stands, in bytes: image + start, length bytes. Reads nothing of the image. */
 struct dk_part dk_part(const uint8_t *image, size_t image_len, uint64_t offset, uint64_t size);

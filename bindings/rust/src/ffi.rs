@@ -96,3 +96,20 @@ pub fn part(image: &[u8], offset: u64, size: u64) -> DkPart {
     // SAFETY: see the module
     unsafe { dk_part(image.as_ptr(), image.len(), offset, size) }
 }
+
+#[repr(C)]
+pub struct DkOffer {
+    pub refusal: u64,
+    pub place: u64,
+    pub second: u64,
+    pub count: u64,
+}
+
+extern "C" {
+    fn dk_offer(positions: *mut u64, sizes: *mut u64, count: u64, position: u64, size: u64) -> DkOffer;
+}
+
+pub fn offer(positions: &mut [u64; 512], sizes: &mut [u64; 512], count: u64, position: u64, size: u64) -> DkOffer {
+    // SAFETY: see the module; both arrays have the 512 elements that the function may touch
+    unsafe { dk_offer(positions.as_mut_ptr(), sizes.as_mut_ptr(), count, position, size) }
+}

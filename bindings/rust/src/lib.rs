@@ -12,6 +12,9 @@
 #![deny(missing_docs)]
 
 mod ffi;
+mod store;
+
+pub use store::{NotStored, Store};
 
 use std::fmt;
 

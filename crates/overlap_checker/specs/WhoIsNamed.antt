@@ -10,9 +10,9 @@ use lib.ListN.{length, List·getD-eq-default}
 use Rattle.overlap_checker.specs.declared.Entry.{Entry}
 use Rattle.overlap_checker.specs.Entries.{entryAt}
 use Rattle.overlap_checker.specs.Interval.{interval, clashes}
-use Rattle.overlap_checker.specs.Naming.{IsNamed}
+use Rattle.overlap_checker.specs.Naming.{LowestAbove, HighestBelow, IsNamed}
 use Rattle.overlap_checker.specs.Offers.{placeFor, clashesAny, named}
-use Rattle.overlap_checker.specs.Ascending.{told, lt-or-le, Ascending, ends-before}
+use Rattle.overlap_checker.specs.Ascending.{told, lt-or-le, Ascending, sits-at, ends-before}
 use Rattle.overlap_checker.specs.Neighbours.{place-le, starts-below, starts-above, empty-apart, before-is, clear-above, free}
 
 -- ---- members and indices
@@ -105,3 +105,38 @@ module _ (l : List Entry) (a : Ascending 0 l) (e : Entry) (k : ℕ) (at : k ≡ 
       (sym any ∙ free l a e k at over (let zero-place : k ≡ 0 = omega arith in rw zero-place (empty-apart e)))))
       (lt-or-le 0 k)))
       (told (clashes e (entryAt l k))))
+
+-- ---- the rule names one
+
+-- of ascending entries no two have one start
+same-start : (l : List Entry) → Ascending 0 l → (f g : Entry) → List·Memᴰ f l → List·Memᴰ g l → f .position ≡ g .position → f ≡ g
+same-start l a f g m n same =
+    let (i, inside, is) = index-of f l m in
+    let (j, within, are) = index-of g l n in
+    let start : entryAt l i .position ≡ entryAt l j .position =
+    ap (λ (e : Entry). e .position) is ∙ same ∙ sym (ap (λ (e : Entry). e .position) are) in
+    let one : i ≡ j =
+    ⊎-elim
+    (λ less. absurd (omega (arith, ends-before 0 l a i j less within, sits-at 0 l a i inside .nonempty, start)))
+    (λ more. ⊎-elim
+    (λ less. absurd (omega (arith, ends-before 0 l a j i less inside, sits-at 0 l a j within .nonempty, start)))
+    (λ less. omega arith)
+    (lt-or-le j i))
+    (lt-or-le i j) in
+    sym is ∙ ap (entryAt l) one ∙ are
+
+-- Two intervals that the rule names are one.
+pub named-once : (l : List Entry) → Ascending 0 l → (e f g : Entry) → IsNamed l e f → IsNamed l e g → f ≡ g
+named-once l a e f g p q =
+    ⊎-elim (λ up. ⊎-elim (both-up up) (cross q p up) (q .rule))
+    (λ down. ⊎-elim (λ up. sym (cross p q up down)) (both-down down) (q .rule))
+    (p .rule)
+  where
+    both-up : LowestAbove l e f → LowestAbove l e g → f ≡ g
+    both-up x y = same-start l a f g (p .member) (q .member) (omega (arith, x .lowest g (q .member) (y .starts), y .lowest f (p .member) (x .starts)))
+
+    both-down : HighestBelow l e f → HighestBelow l e g → f ≡ g
+    both-down x y = same-start l a f g (p .member) (q .member) (omega (arith, x .highest g (q .member) (y .starts), y .highest f (p .member) (x .starts)))
+
+    cross : {h k : Entry} → IsNamed l e k → IsNamed l e h → LowestAbove l e h → HighestBelow l e k → h ≡ k
+    cross {h} {k} n m x y = absurd (true≢false (sym (m .clash) ∙ y .otherwise h (m .member) (x .starts)))

@@ -1,0 +1,104 @@
+/* Offers to the store: document 01's cases, each refusal and their order, and what is left in the arrays, held against a plain scan of all that was
+ * accepted. Prints what is wrong; the last line says how many offers there were. */
+#include <stdio.h>
+#include <string.h>
+
+#include "../../include/denkumari.h"
+
+static uint64_t positions[512], sizes[512], count, before_positions[512], before_sizes[512];
+static unsigned offers, faults;
+
+/* Makes an offer and expects its answer; refused, everything is as it was. */
+static void expect(uint64_t position, uint64_t size, uint64_t refusal, uint64_t place, uint64_t second, const char *what)
+{
+    uint64_t before = count;
+    memcpy(before_positions, positions, sizeof positions);
+    memcpy(before_sizes, sizes, sizeof sizes);
+    struct dk_offer r = dk_offer(positions, sizes, count, position, size);
+    count = r.count;
+    int holds = r.refusal == refusal && r.place == place && r.second == second;
+    if (refusal != DK_ACCEPTED || size == 0)
+        holds = holds && count == before && memcmp(positions, before_positions, sizeof positions) == 0 && memcmp(sizes, before_sizes, sizeof sizes) == 0;
+    else
+        holds = holds && count == before + 1;
+    offers++;
+    if (!holds) {
+        faults++;
+        printf("wrong: %s\n", what);
+    }
+}
+
+/* An empty store, its arrays full of something. */
+static void begin(void)
+{
+    memset(positions, 0xa5, sizeof positions);
+    memset(sizes, 0xa5, sizeof sizes);
+    count = 0;
+}
+
+static void cases(void)
+{
+    begin();
+    expect(0, 8, DK_ACCEPTED, 0, 0, "the first of all");
+    expect(8, 8, DK_ACCEPTED, 0, 0, "one that touches it");
+    expect(7, 1, DK_OVERLAP, 0, 8, "store (0, 8), (8, 8), offer (7, 1)");
+    begin();
+    expect(0, 8, DK_ACCEPTED, 0, 0, "the first of all");
+    expect(0, 0, DK_ACCEPTED, 0, 0, "an empty offer on its first bit");
+    expect(4, 4, DK_OVERLAP, 0, 8, "store (0, 8), offers (0, 0), (4, 4)");
+    expect(4, 0, DK_OVERLAP, 0, 8, "an empty offer strictly inside");
+    expect(8, 0, DK_ACCEPTED, 0, 0, "an empty offer at the end");
+    expect(8589934591, 1, DK_MALFORMED, 0, 0, "a position past the limit");
+    expect(0, 4294967296, DK_MALFORMED, 0, 0, "a size past the limit");
+    sizes[0] = 0;
+    expect(8589934591, 1, DK_BAD_STORE, 0, 0, "an empty interval, before the offer's own numbers");
+    count = 513;
+    expect(0, 1, DK_BAD_STORE, 512, 0, "a count of 513");
+}
+
+/* Random offers; each answer by a scan of the accepted ones in no order. */
+static void scanned(uint64_t seed, uint64_t span)
+{
+    static uint64_t starts[512], lengths[512];
+    unsigned held = 0;
+    begin();
+    for (unsigned i = 0; i < 2000; i++) {
+        seed = seed * 6364136223846793005u + 1442695040888963407u;
+        uint64_t position = (seed >> 33) % span, size = (seed >> 20) % 5, end = position + size;
+        int above = -1, below = -1;
+        for (unsigned j = 0; j < held; j++) {
+            if (starts[j] >= position && (above < 0 || starts[j] < starts[above]))
+                above = (int)j;
+            if (starts[j] < position && (below < 0 || starts[j] > starts[below]))
+                below = (int)j;
+        }
+        if (above >= 0 && size > 0 && starts[above] < end)
+            expect(position, size, DK_OVERLAP, starts[above], lengths[above], "a clash with the one at or above");
+        else if (below >= 0 && position < starts[below] + lengths[below])
+            expect(position, size, DK_OVERLAP, starts[below], lengths[below], "a clash with the one below");
+        else if (size > 0 && held == 512)
+            expect(position, size, DK_STORE_FULL, 0, 0, "a full store");
+        else {
+            expect(position, size, DK_ACCEPTED, 0, 0, "an offer that shares no bit");
+            if (size > 0) {
+                starts[held] = position;
+                lengths[held++] = size;
+            }
+        }
+    }
+    for (unsigned i = 1; i < held; i++)
+        if (positions[i - 1] + sizes[i - 1] > positions[i]) {
+            faults++;
+            printf("wrong: intervals out of order\n");
+        }
+}
+
+int main(void)
+{
+    cases();
+    scanned(1, 400);
+    scanned(2, 5000);
+    scanned(3, 1000000);
+    printf("%u offers, %u wrong\n", offers, faults);
+    return faults != 0;
+}

@@ -1,0 +1,95 @@
+//! The store of placed intervals, by itself.
+
+use crate::ffi;
+use std::fmt;
+
+/// Intervals of bits, ascending, no two sharing a bit: the first `count` of both arrays. What the arrays hold past them matters to nothing and is
+/// left as it is.
+#[derive(Clone, Debug)]
+pub struct Store {
+    /// First bits.
+    pub positions: [u64; 512],
+    /// Sizes in bits.
+    pub sizes: [u64; 512],
+    /// How many there are.
+    pub count: u64,
+}
+
+/// Why an offer was refused. The store is left as it was.
+#[derive(Clone, Copy, Debug, PartialEq, Eq)]
+#[non_exhaustive]
+#[allow(missing_docs)]
+pub enum NotStored {
+    /// 15: the store is not one; the first interval at fault, or 512 for the count.
+    BadStore { entry: u64 },
+    /// 4: the position is above 8,589,934,590, or the size above 4,294,967,295.
+    Malformed,
+    /// 12: the offer shares a bit with the interval, or is empty and strictly inside one; that interval's start and size.
+    Overlap { start: u64, size: u64 },
+    /// 13: 512 intervals are stored.
+    Full,
+    /// A number that this crate does not know: the archive is newer than the crate.
+    Unknown { number: u64, place: u64 },
+}
+
+impl Store {
+    /// A store that holds nothing.
+    pub const fn new() -> Store {
+        Store { positions: [0; 512], sizes: [0; 512], count: 0 }
+    }
+
+    /// Offers `size` bits from bit `position` on. Accepted, and with bits, they are put in at their place.
+    pub fn offer(&mut self, position: u64, size: u64) -> Result<(), NotStored> {
+        let r = ffi::offer(&mut self.positions, &mut self.sizes, self.count, position, size);
+        self.count = r.count;
+        match r.refusal {
+            0 => Ok(()),
+            4 => Err(NotStored::Malformed),
+            12 => Err(NotStored::Overlap { start: r.place, size: r.second }),
+            13 => Err(NotStored::Full),
+            15 => Err(NotStored::BadStore { entry: r.place }),
+            number => Err(NotStored::Unknown { number, place: r.place }),
+        }
+    }
+
+    /// The stored intervals, start and size, in order.
+    pub fn intervals(&self) -> impl Iterator<Item = (u64, u64)> + '_ {
+        let count = usize::try_from(self.count).unwrap_or(usize::MAX);
+        self.positions.iter().copied().zip(self.sizes.iter().copied()).take(count)
+    }
+}
+
+impl Default for Store {
+    fn default() -> Store {
+        Store::new()
+    }
+}
+
+impl NotStored {
+    /// The number of the refusal in the rules' table.
+    pub fn number(&self) -> u64 {
+        match *self {
+            NotStored::BadStore { .. } => 15,
+            NotStored::Malformed => 4,
+            NotStored::Overlap { .. } => 12,
+            NotStored::Full => 13,
+            NotStored::Unknown { number, .. } => number,
+        }
+    }
+}
+
+impl fmt::Display for NotStored {
+    fn fmt(&self, f: &mut fmt::Formatter<'_>) -> fmt::Result {
+        write!(f, "refused {}: ", self.number())?;
+        match *self {
+            NotStored::BadStore { entry: 512 } => write!(f, "the store has over 512 intervals"),
+            NotStored::BadStore { entry } => write!(f, "interval {entry} of the store is at fault"),
+            NotStored::Malformed => write!(f, "the offer is past its limits"),
+            NotStored::Overlap { start, size } => write!(f, "a bit is shared with what stands from bit {start} on, {size} bits"),
+            NotStored::Full => write!(f, "512 intervals are stored already"),
+            NotStored::Unknown { place, .. } => write!(f, "this crate has no words for it, at {place}"),
+        }
+    }
+}
+
+impl std::error::Error for NotStored {}
