@@ -16,7 +16,7 @@ use Rattle.iter.specs.Cases.{unitTen, distance-cases}
 use Rattle.iter.specs.declared.Distance.the-variants.{Bits}
 use Rattle.overlap_checker.specs.declared.Entry.{Entry}
 use Rattle.overlap_checker.specs.Interval.{interval, clashes, sharesBit, strictlyInside}
-use Rattle.overlap_checker.specs.Offers.{placeFor, clashesAny, named, lacksRoom, verdictOf}
+use Rattle.overlap_checker.specs.Offers.{placeFor, clashesAny, named, lacksRoom}
 use Rattle.overlap_checker.specs.State.{emptyState, tries, answer, keeping, after}
 use Rattle.overlap_checker.specs.Folds.{stateAfter}
 use Rattle.resolver.specs.Cases.{answerFor}
@@ -32,6 +32,7 @@ use Rattle.sort.specs.Sorted.{insertBy, sortedBy}
 use Rattle.blocks.specs.Spans.{spansOf}
 use Rattle.blocks.specs.Walk.{blocksFrom, blocksOf}
 use Rattle.output.specs.Placing.{checked, placing}
+use Rattle.iter.specs.Address.{outputPosition}
 use Rattle.cases.specs.Figures.{ofVerdict, ofDistance, ofBlocks, ofResolution}
 
 -- a case: what the definitions give, and what document 01 says
@@ -50,7 +51,8 @@ forty = record { unit = 10; start = pos 0; size = Some 40; offset = Some 0; alig
 abbrev tenAt : ℕ → List ℕ
 tenAt position =
     ofVerdict
-    (placing 2 1 forty [] (record { index = 5; kind = 4; operand = 0; number = 10; state = 0 }) (record { position = position; known = true }))
+    (placing 2 1 forty emptyState (record { index = 5; kind = 4; operand = 0; number = 10; state = 0 })
+    (record { position = position; known = true }) (outputPosition forty position))
 
 -- what the store answers to an offer after others
 abbrev offeredAfter : List Entry → Entry → List ℕ
@@ -96,7 +98,7 @@ pub record Cases : Type 0 where
   pub rows : map (λ (c : Case). c .got) table ≡ map (λ (c : Case). c .said) table
 
 every-row : map (λ (c : Case). c .got) table ≡ map (λ (c : Case). c .said) table
-unfolding distanceOf firstWhere firstPair fillFrom stateAfter after keeping tries verdictOf placeFor clashesAny named lacksRoom clashes sharesBit strictlyInside checked insertBy sortedBy spansOf blocksFrom layoutOf listsOf nodesTo settledBy first passTo listOf numeral bitAt digitAt digitValue paddedBit
+unfolding distanceOf firstWhere firstPair fillFrom stateAfter after keeping tries placeFor clashesAny named lacksRoom clashes sharesBit strictlyInside checked insertBy sortedBy spansOf blocksFrom layoutOf listsOf nodesTo settledBy first passTo listOf numeral bitAt digitAt digitValue paddedBit
 every-row = refl
 
 pub cases : Cases

@@ -23,7 +23,7 @@ use Rattle.form.proofs.Filled.{Places, places}
 use Rattle.form.proofs.Columns.{column-length}
 use Rattle.form.proofs.Cells.{cells-length}
 use Rattle.resolver.specs.Lists.{lists}
-use Rattle.output.specs.Output.{Builds, roomOf}
+use Rattle.output.specs.Output.{input, Lent, Builds, roomOf}
 use Rattle.output.specs.declared.Build.the-variants.{Refused}
 use Rattle.output.specs.declared.Output.{Output}
 use Rattle.denkumari.specs.Forms.{FormBuilt, HeldIn, listsIn, outputBy, formOutput}
@@ -76,36 +76,24 @@ module _ (file : List ℕ) (s : Shape) (sound : formOf file ≡ Sound s) (kinds 
         of-states = front (statesOf file) states states′ (s .rows * s .nodes) s-long s-is;
       }
 
-module _ (file image : List ℕ) (addressed : List ℤ) (offsets sized : List ℕ) where
+module _ (file : List ℕ) (old : Lent) where
   -- a broken file
-  pub broken : (why : Refusal) → formOf file ≡ Broken why
-      → FormBuilt file image addressed offsets sized (record { build = Refused why; passes = 0 }) image addressed offsets sized
-  broken why e = record { answer = sym (ap (outputBy file (roomOf image addressed offsets sized)) e); bits = refl; first = refl; second = refl; third = refl }
+  pub broken : (why : Refusal) → formOf file ≡ Broken why → FormBuilt file old (record { build = Refused why; passes = 0 }) old
+  broken why e = record { answer = sym (ap (outputBy file (roomOf old)) e); left = refl }
 
   -- a sound one
-  module _ (s : Shape) (sound : formOf file ≡ Sound s) {r : Output} {image′ : List ℕ} {addressed′ : List ℤ} {offsets′ sized′ : List ℕ} where
-    as-read : Builds (tableOf file) (listsIn file) (s .limit) image addressed offsets sized r image′ addressed′ offsets′ sized′
-        → FormBuilt file image addressed offsets sized r image′ addressed′ offsets′ sized′
-    as-read b =
-        record {
-          answer = b .answer ∙ sym (ap (outputBy file (roomOf image addressed offsets sized)) sound);
-          bits = b .bits;
-          first = b .first;
-          second = b .second;
-          third = b .third;
-        }
+  module _ (s : Shape) (sound : formOf file ≡ Sound s) {r : Output} {new : Lent} where
+    as-read : Builds (input (tableOf file) (listsIn file) (s .limit)) old r new → FormBuilt file old r new
+    as-read b = record { answer = b .answer ∙ sym (ap (outputBy file (roomOf old)) sound); left = b .left }
 
     pub laid-out : (banks : Bankdefs) (kinds operands numbers states values : List ℕ) → HeldIn file s kinds operands numbers states
         → banks ≡ tableOf file → values ≡ valuesBy file (formOf file)
-        → Builds banks (lists (take (s .nodes) kinds) (take (s .nodes) operands) (take (s .rows * s .nodes) numbers) (take (s .rows * s .nodes) states) (s .rows) values) (s .limit) image addressed offsets sized r image′ addressed′ offsets′ sized′
-        → FormBuilt file image addressed offsets sized r image′ addressed′ offsets′ sized′
+        → Builds (input banks (lists (take (s .nodes) kinds) (take (s .nodes) operands) (take (s .rows * s .nodes) numbers) (take (s .rows * s .nodes) states) (s .rows) values) (s .limit)) old r new
+        → FormBuilt file old r new
     laid-out banks kinds operands numbers states values h eb ev b =
-        as-read (subst (λ (x : ℕ). Builds (tableOf file) (lists (kindsOf file) (operandsOf file) (numbersOf file) (statesOf file) x (valuesBy file (formOf file))) (s .limit) image addressed offsets sized r image′ addressed′ offsets′ sized′) (places file s sound .rows)
+        as-read (subst (λ (x : ℕ). Builds (input (tableOf file) (lists (kindsOf file) (operandsOf file) (numbersOf file) (statesOf file) x (valuesBy file (formOf file))) (s .limit)) old r new) (places file s sound .rows)
         (rw (eb, ev, h .of-kinds, h .of-operands, h .of-numbers, h .of-states) at b))
 
   -- the answer is the definition's
-  pub as-told : {r : Output} {image′ : List ℕ} {addressed′ : List ℤ} {offsets′ sized′ : List ℕ}
-      → FormBuilt file image addressed offsets sized r image′ addressed′ offsets′ sized′
-      → FormBuilt file image addressed offsets sized (formOutput file (roomOf image addressed offsets sized)) image′ addressed′ offsets′ sized′
-  as-told {r} {image′} {addressed′} {offsets′} {sized′} b =
-      subst (λ (o : Output). FormBuilt file image addressed offsets sized o image′ addressed′ offsets′ sized′) (b .answer) b
+  pub as-told : {r : Output} {new : Lent} → FormBuilt file old r new → FormBuilt file old (formOutput file (roomOf old)) new
+  as-told {r} {new} b = subst (λ (o : Output). FormBuilt file old o new) (b .answer) b

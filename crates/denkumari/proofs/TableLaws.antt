@@ -10,7 +10,7 @@ use borrow.Author.Tests.{eqb-true}
 use Rattle.bankdef.specs.declared.Bankdefs.{Bankdefs}
 use Rattle.form.specs.Fields.{by-test}
 use Rattle.resolver.specs.Lists.{Lists}
-use Rattle.output.specs.Output.{Builds}
+use Rattle.output.specs.Output.{input, Lent, Builds}
 use Rattle.output.specs.declared.Output.{Output}
 use Rattle.denkumari.specs.Told.{layoutTold}
 use Rattle.denkumari.specs.Tables.{Given, agree, countOf, TablesTold}
@@ -52,13 +52,11 @@ few g =
       flags = omega (arith, e);
     }
 
-pub tables-told : {banks table : Bankdefs} {l : Lists} {limit : ℕ} {image : List ℕ} {addressed : List ℤ} {offsets sized : List ℕ} {r : Output}
-    {image′ : List ℕ} {addressed′ : List ℤ} {offsets′ sized′ : List ℕ} {t : DkLayout} → banks ≡ table → t ≡ layoutTold r
-    → Builds banks l limit image addressed offsets sized r image′ addressed′ offsets′ sized′
-    → TablesTold table l limit image addressed offsets sized t image′ addressed′ offsets′ sized′
-tables-told {table = table} {l} {limit} {image} {addressed} {offsets} {sized} {r} {image′} {addressed′} {offsets′} {sized′} {t} same told built =
-    let b = subst (λ (k : Bankdefs). Builds k l limit image addressed offsets sized r image′ addressed′ offsets′ sized′) same built in
+pub tables-told : {banks table : Bankdefs} {l : Lists} {limit : ℕ} {old new : Lent} {r : Output} {t : DkLayout} → banks ≡ table → t ≡ layoutTold r
+    → Builds (input banks l limit) old r new → TablesTold (input table l limit) old t new
+tables-told {table = table} {l} {limit} {old} {new} {r} {t} same told built =
+    let b = subst (λ (k : Bankdefs). Builds (input k l limit) old r new) same built in
     record {
       answer = told ∙ ap layoutTold (b .answer);
-      built = subst (λ (o : Output). Builds table l limit image addressed offsets sized o image′ addressed′ offsets′ sized′) (b .answer) b;
+      built = subst (λ (o : Output). Builds (input table l limit) old o new) (b .answer) b;
     }

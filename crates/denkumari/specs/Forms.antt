@@ -2,7 +2,6 @@
 use mathlib.Core.Path.{_≡_}
 use mathlib.Core.List.{List}
 use Prim.Native.Nat.{ℕ, _*_, _≤_}
-use lib.IntN.{ℤ}
 use lib.ListN.{length, take}
 use Rattle.form.specs.declared.Shape.{Shape}
 use Rattle.form.specs.declared.Form.{Form}
@@ -11,11 +10,10 @@ use Rattle.form.specs.Shape.{formOf, rowCount}
 use Rattle.form.specs.Banks.{tableOf}
 use Rattle.form.specs.Lists.{kindsOf, operandsOf, numbersOf, statesOf, valuesBy}
 use Rattle.resolver.specs.Lists.{Lists, lists}
-use Rattle.resolver.specs.Once.{Program}
 use Rattle.resolver.specs.Passes.{program, rowOfPass}
-use Rattle.output.specs.Spans.{Span, spansTo, over, addresses, words, sizes}
-use Rattle.output.specs.Image.{imageTo}
-use Rattle.output.specs.Output.{Room, roomOf, buildOf, ifDone}
+use Rattle.output.specs.Visits.{visits}
+use Rattle.output.specs.Output.{input, Lent, Room, roomOf, buildOf, leftBy}
+use Rattle.output.specs.declared.visits.Visit.{Visit}
 use Rattle.output.specs.declared.Build.{Build}
 use Rattle.output.specs.declared.Build.the-variants.{Refused}
 use Rattle.output.specs.declared.Output.{Output}
@@ -24,38 +22,30 @@ use Rattle.denkumari.specs.declared.DkLayout.{DkLayout}
 
 -- the lists and the value bytes of a file
 abbrev pub listsIn : List ℕ → Lists
-listsIn file = lists (kindsOf file) (operandsOf file) (numbersOf file) (statesOf file) (rowCount file) (valuesBy file (formOf file))
+listsIn file =
+    lists (kindsOf file) (operandsOf file) (numbersOf file) (statesOf file) (rowCount file) (valuesBy file (formOf file))
 
 -- "A broken file .. is 4 with the first such field's index", and no pass runs; a sound one is built.
 abbrev pub outputBy : List ℕ → Room → Form → Output
 outputBy file room (Broken why) = record { build = Refused why; passes = 0 }
-outputBy file room (Sound s) = buildOf (tableOf file) (listsIn file) (s .limit) room
+outputBy file room (Sound s) = buildOf (input (tableOf file) (listsIn file) (s .limit)) room
 
 abbrev pub formOutput : List ℕ → Room → Output
 formOutput file room = outputBy file room (formOf file)
 
--- what an accepted file's image and spans are, by the number of passes run
-abbrev pub formImage : List ℕ → ℕ → ℕ → List ℕ
-formImage file passes bytes =
-    imageTo (program (tableOf file) (listsIn file)) (rowOfPass (listsIn file) passes) (listsIn file .values) bytes (length (listsIn file .kinds))
+-- a file's nodes, visited in the row of the last of so many passes
+abbrev pub formVisits : List ℕ → ℕ → List Visit
+formVisits file passes = visits (program (tableOf file) (listsIn file)) (rowOfPass (listsIn file) passes)
 
-abbrev pub formSpans : List ℕ → ℕ → List Span
-formSpans file passes = spansTo (program (tableOf file) (listsIn file)) (rowOfPass (listsIn file) passes) (length (listsIn file .kinds))
-
--- The build of a file: its answer, and everything in the four lent slices afterwards.
-pub record FormBuilt (file image : List ℕ) (addressed : List ℤ) (offsets sized : List ℕ) (r : Output) (image′ : List ℕ) (addressed′ : List ℤ)
-    (offsets′ sized′ : List ℕ) : Type 0 where
-  pub answer : r ≡ formOutput file (roomOf image addressed offsets sized)
-  pub bits : image′ ≡ ifDone (r .build) (formImage file (r .passes) (length image)) image
-  pub first : addressed′ ≡ ifDone (r .build) (over (addresses (formSpans file (r .passes))) addressed) addressed
-  pub second : offsets′ ≡ ifDone (r .build) (over (words (formSpans file (r .passes))) offsets) offsets
-  pub third : sized′ ≡ ifDone (r .build) (over (sizes (formSpans file (r .passes))) sized) sized
+-- The build of a file: its answer, and everything lent afterwards.
+pub record FormBuilt (file : List ℕ) (old : Lent) (r : Output) (new : Lent) : Type 0 where
+  pub answer : r ≡ formOutput file (roomOf old)
+  pub left : new ≡ leftBy (formVisits file (r .passes)) (listsIn file .values) old (r .build)
 
 -- What `dk_form` promises: that build, told in numbers.
-pub record FormTold (file image : List ℕ) (addressed : List ℤ) (offsets sized : List ℕ) (r : DkLayout) (image′ : List ℕ) (addressed′ : List ℤ)
-    (offsets′ sized′ : List ℕ) : Type 0 where
-  pub answer : r ≡ layoutTold (formOutput file (roomOf image addressed offsets sized))
-  pub built : FormBuilt file image addressed offsets sized (formOutput file (roomOf image addressed offsets sized)) image′ addressed′ offsets′ sized′
+pub record FormTold (file : List ℕ) (old : Lent) (r : DkLayout) (new : Lent) : Type 0 where
+  pub answer : r ≡ layoutTold (formOutput file (roomOf old))
+  pub built : FormBuilt file old (formOutput file (roomOf old)) new
 
 -- The lists of a sound file stand in the front of four lists.
 pub record HeldIn (file : List ℕ) (s : Shape) (kinds operands numbers states : List ℕ) : Type 0 where

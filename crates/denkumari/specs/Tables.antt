@@ -12,8 +12,7 @@ use Rattle.bankdef.specs.declared.Bankdef.{Bankdef}
 use Rattle.bankdef.specs.declared.Bankdefs.{Bankdefs}
 use Rattle.form.specs.Banks.{isSet, optOf, noBank}
 use Rattle.form.specs.Columns.{column}
-use Rattle.resolver.specs.Lists.{Lists}
-use Rattle.output.specs.Output.{Builds, buildOf, roomOf}
+use Rattle.output.specs.Output.{Input, Lent, Builds, buildOf, roomOf}
 use Rattle.denkumari.specs.Told.{layoutTold}
 use Rattle.denkumari.specs.declared.DkLayout.{DkLayout}
 
@@ -47,7 +46,8 @@ bankOf unit start size offset align flags =
 -- bank i
 unfoldable pub bankIn : Given → ℕ → Bankdef
 bankIn g i =
-    bankOf (getD (g .units) i 0) (getD (g .starts) i (pos 0)) (getD (g .sizes) i 0) (getD (g .offsets) i 0) (getD (g .aligns) i 0) (getD (g .flags) i 0)
+    bankOf (getD (g .units) i 0) (getD (g .starts) i (pos 0)) (getD (g .sizes) i 0)
+    (getD (g .offsets) i 0) (getD (g .aligns) i 0) (getD (g .flags) i 0)
 
 abbrev pub banksIn : Given → ℕ → List Bankdef
 banksIn g n = column (bankIn g) 1 0 n
@@ -73,8 +73,7 @@ tableOf g =
       len = countOf g;
     }
 
--- What `dk_build` promises: the build of the tables, told in numbers, and everything in the four lent slices afterwards.
-pub record TablesTold (banks : Bankdefs) (l : Lists) (limit : ℕ) (image : List ℕ) (addressed : List ℤ) (offsets sized : List ℕ) (r : DkLayout)
-    (image′ : List ℕ) (addressed′ : List ℤ) (offsets′ sized′ : List ℕ) : Type 0 where
-  pub answer : r ≡ layoutTold (buildOf banks l limit (roomOf image addressed offsets sized))
-  pub built : Builds banks l limit image addressed offsets sized (buildOf banks l limit (roomOf image addressed offsets sized)) image′ addressed′ offsets′ sized′
+-- What `dk_build` promises: the build of the tables, told in numbers, and everything lent afterwards.
+pub record TablesTold (b : Input) (old : Lent) (r : DkLayout) (new : Lent) : Type 0 where
+  pub answer : r ≡ layoutTold (buildOf b (roomOf old))
+  pub built : Builds b old (buildOf b (roomOf old)) new

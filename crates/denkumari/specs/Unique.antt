@@ -3,10 +3,8 @@
 use mathlib.Core.Path.{_≡_}
 use mathlib.Core.List.{List}
 use Prim.Native.Nat.{ℕ}
-use lib.IntN.{ℤ}
 use Rattle.refusal.specs.Pick.{determined}
-use Rattle.bankdef.specs.declared.Bankdefs.{Bankdefs}
-use Rattle.resolver.specs.Lists.{Lists}
+use Rattle.output.specs.Output.{Input, Lent}
 use Rattle.denkumari.specs.Forms.{FormTold}
 use Rattle.denkumari.specs.Parts.{BlocksTold, HexTold, PartTold}
 use Rattle.denkumari.specs.Tables.{TablesTold}
@@ -14,26 +12,12 @@ use Rattle.denkumari.specs.declared.DkCount.{DkCount}
 use Rattle.denkumari.specs.declared.DkLayout.{DkLayout}
 use Rattle.denkumari.specs.declared.DkPart.{DkPart}
 
-module _ {image : List ℕ} {addressed : List ℤ} {offsets sized : List ℕ} {r s : DkLayout} {i j : List ℕ} {a b : List ℤ} {o p z w : List ℕ} where
-  pub one-form : {file : List ℕ} → FormTold file image addressed offsets sized r i a o z → FormTold file image addressed offsets sized s j b p w
-      → (r ≡ s) × (i ≡ j) × (a ≡ b) × (o ≡ p) × (z ≡ w)
-  one-form c d = (
-    determined (c .answer) (d .answer),
-    determined (c .built .bits) (d .built .bits),
-    determined (c .built .first) (d .built .first),
-    determined (c .built .second) (d .built .second),
-    determined (c .built .third) (d .built .third),
-  )
+module _ {old x y : Lent} {r s : DkLayout} where
+  pub one-form : {file : List ℕ} → FormTold file old r x → FormTold file old s y → (r ≡ s) × (x ≡ y)
+  one-form c d = (determined (c .answer) (d .answer), determined (c .built .left) (d .built .left))
 
-  pub one-build : {banks : Bankdefs} {l : Lists} {limit : ℕ} → TablesTold banks l limit image addressed offsets sized r i a o z
-      → TablesTold banks l limit image addressed offsets sized s j b p w → (r ≡ s) × (i ≡ j) × (a ≡ b) × (o ≡ p) × (z ≡ w)
-  one-build c d = (
-    determined (c .answer) (d .answer),
-    determined (c .built .bits) (d .built .bits),
-    determined (c .built .first) (d .built .first),
-    determined (c .built .second) (d .built .second),
-    determined (c .built .third) (d .built .third),
-  )
+  pub one-build : {b : Input} → TablesTold b old r x → TablesTold b old s y → (r ≡ s) × (x ≡ y)
+  one-build c d = (determined (c .answer) (d .answer), determined (c .built .left) (d .built .left))
 
 pub one-blocks : {words lengths origins sizes a b c d : List ℕ} {r s : DkCount} → BlocksTold words lengths origins sizes r a b
     → BlocksTold words lengths origins sizes s c d → (r ≡ s) × (a ≡ c) × (b ≡ d)

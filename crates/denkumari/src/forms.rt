@@ -10,6 +10,7 @@ ghost use Prim.Native.Nat.{_*_, _≤_};
 ghost use lib.ListN.{length, take};
 ghost use Rattle.form.specs.Shape.{formOf};
 ghost use Rattle.form.specs.Lists.{kindsOf, operandsOf, numbersOf, statesOf};
+ghost use Rattle.output.specs.Output.{lent};
 ghost use Rattle.denkumari.specs.Forms.{FormBuilt, FormTold, HeldIn};
 
 // Room for the lists of any sound file. A node takes 8 of its 65,000 bytes, and 5 more in each row.
@@ -31,7 +32,11 @@ fn build_read(
     sizes: &mut [u64],
 ) -> Output
     requires { ⌜ HeldIn (now file) shape (now kinds) (now operands) (now numbers) (now states) ⌝ }
-    ensures { λ r. ⌜ FormBuilt (now (file .entry)) (now (image .entry)) (now (addresses .entry)) (now (offsets .entry)) (now (sizes .entry)) r (now (image .exit)) (now (addresses .exit)) (now (offsets .exit)) (now (sizes .exit)) ⌝ }
+    ensures { λ r. ⌜
+        FormBuilt (now (file .entry))
+        (lent (now (image .entry)) (now (addresses .entry)) (now (offsets .entry)) (now (sizes .entry))) r
+        (lent (now (image .exit)) (now (addresses .exit)) (now (offsets .exit)) (now (sizes .exit)))
+        ⌝ }
 {
     let nodes = shape.nodes as usize;
     let cells = shape.rows as usize * nodes;
@@ -59,7 +64,11 @@ fn build_form(
     offsets: &mut [u64],
     sizes: &mut [u64],
 ) -> Output
-    ensures { λ r. ⌜ FormBuilt (now (file .entry)) (now (image .entry)) (now (addresses .entry)) (now (offsets .entry)) (now (sizes .entry)) r (now (image .exit)) (now (addresses .exit)) (now (offsets .exit)) (now (sizes .exit)) ⌝ }
+    ensures { λ r. ⌜
+        FormBuilt (now (file .entry))
+        (lent (now (image .entry)) (now (addresses .entry)) (now (offsets .entry)) (now (sizes .entry))) r
+        (lent (now (image .exit)) (now (addresses .exit)) (now (offsets .exit)) (now (sizes .exit)))
+        ⌝ }
 {
     match form::read_shape(file) {
         Form::Broken(why) => Output {
@@ -97,7 +106,11 @@ pub extern "C" fn dk_form(
     offsets: &mut [u64],
     sizes: &mut [u64],
 ) -> DkLayout
-    ensures { λ r. ⌜ FormTold (now (file .entry)) (now (image .entry)) (now (addresses .entry)) (now (offsets .entry)) (now (sizes .entry)) r (now (image .exit)) (now (addresses .exit)) (now (offsets .exit)) (now (sizes .exit)) ⌝ }
+    ensures { λ r. ⌜
+        FormTold (now (file .entry))
+        (lent (now (image .entry)) (now (addresses .entry)) (now (offsets .entry)) (now (sizes .entry))) r
+        (lent (now (image .exit)) (now (addresses .exit)) (now (offsets .exit)) (now (sizes .exit)))
+        ⌝ }
 {
     tell_layout(build_form(file, image, addresses, offsets, sizes))
 }

@@ -16,7 +16,10 @@ pub extern "C" fn dk_blocks(
     block_offsets: &mut [u64],
     block_sizes: &mut [u64],
 ) -> DkCount
-    ensures { λ r. ⌜ BlocksTold (now (offsets .entry)) (now (sizes .entry)) (now («block_offsets» .entry)) (now («block_sizes» .entry)) r (now («block_offsets» .exit)) (now («block_sizes» .exit)) ⌝ }
+    ensures { λ r. ⌜
+        BlocksTold (now (offsets .entry)) (now (sizes .entry)) (now («block_offsets» .entry)) (now («block_sizes» .entry)) r
+        (now («block_offsets» .exit)) (now («block_sizes» .exit))
+        ⌝ }
 {
     match blocks::get_blocks(offsets, sizes, block_offsets, block_sizes) {
         Blocks::Found(count) => DkCount {

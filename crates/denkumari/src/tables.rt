@@ -9,6 +9,7 @@ ghost use mathlib.Core.List.{_++_};
 ghost use Prim.Native.Nat.{_-_, _≤_, _<_, min};
 ghost use lib.ListN.{length, replicate};
 ghost use Rattle.resolver.specs.Lists.{lists};
+ghost use Rattle.output.specs.Output.{input, lent};
 ghost use Rattle.form.specs.Banks.{isSet, optOf, noBank};
 ghost use Rattle.denkumari.specs.Tables.{unitOf, bankOf, given, banksIn, agree, tableOf, TablesTold};
 
@@ -62,8 +63,14 @@ fn make_table(
     count: usize,
 ) -> [Bankdef; 16]
     requires { ⌜ count ≤ 16 ⌝ }
-    requires { ⌜ (count ≤ length (now units)) × (count ≤ length (now starts)) × (count ≤ length (now sizes)) × (count ≤ length (now offsets)) × (count ≤ length (now aligns)) × (count ≤ length (now flags)) ⌝ }
-    ensures { λ r. ⌜ r ≡ banksIn (given (now (units .entry)) (now (starts .entry)) (now (sizes .entry)) (now (offsets .entry)) (now (aligns .entry)) (now (flags .entry))) count ++ replicate (16 - count) noBank ⌝ }
+    requires { ⌜
+        (count ≤ length (now units)) × (count ≤ length (now starts)) × (count ≤ length (now sizes))
+        × (count ≤ length (now offsets)) × (count ≤ length (now aligns)) × (count ≤ length (now flags))
+        ⌝ }
+    ensures { λ r. ⌜
+        r ≡ banksIn (given (now (units .entry)) (now (starts .entry)) (now (sizes .entry)) (now (offsets .entry)) (now (aligns .entry))
+        (now (flags .entry))) count ++ replicate (16 - count) noBank
+        ⌝ }
 {
     let mut defs = [Bankdef {
         unit: 0,
@@ -111,7 +118,10 @@ fn make_banks(
     aligns: &[u32],
     flags: &[u8],
 ) -> Bankdefs
-    ensures { λ r. ⌜ r ≡ tableOf (given (now (units .entry)) (now (starts .entry)) (now (sizes .entry)) (now (offsets .entry)) (now (aligns .entry)) (now (flags .entry))) ⌝ }
+    ensures { λ r. ⌜
+        r ≡ tableOf (given (now (units .entry)) (now (starts .entry)) (now (sizes .entry)) (now (offsets .entry)) (now (aligns .entry))
+        (now (flags .entry)))
+        ⌝ }
 {
     let n = units.len();
     let with_starts = agreed(starts.len(), n, n);
@@ -147,7 +157,16 @@ pub extern "C" fn dk_build(
     offsets: &mut [u64],
     sizes: &mut [u64],
 ) -> DkLayout
-    ensures { λ r. ⌜ TablesTold (tableOf (given (now (units .entry)) (now (starts .entry)) (now («bank_sizes» .entry)) (now («bank_offsets» .entry)) (now (aligns .entry)) (now (flags .entry)))) (lists (now (kinds .entry)) (now (operands .entry)) (now (numbers .entry)) (now (states .entry)) rows (now (values .entry))) limit (now (image .entry)) (now (addresses .entry)) (now (offsets .entry)) (now (sizes .entry)) r (now (image .exit)) (now (addresses .exit)) (now (offsets .exit)) (now (sizes .exit)) ⌝ }
+    ensures { λ r. ⌜
+        TablesTold
+        (input
+        (tableOf (given (now (units .entry)) (now (starts .entry)) (now («bank_sizes» .entry)) (now («bank_offsets» .entry))
+        (now (aligns .entry)) (now (flags .entry))))
+        (lists (now (kinds .entry)) (now (operands .entry)) (now (numbers .entry)) (now (states .entry)) rows (now (values .entry)))
+        limit)
+        (lent (now (image .entry)) (now (addresses .entry)) (now (offsets .entry)) (now (sizes .entry))) r
+        (lent (now (image .exit)) (now (addresses .exit)) (now (offsets .exit)) (now (sizes .exit)))
+        ⌝ }
 {
     let banks = make_banks(units, starts, bank_sizes, bank_offsets, aligns, flags);
     tell_layout(output::build_output(

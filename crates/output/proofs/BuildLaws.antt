@@ -1,28 +1,29 @@
 -- The build's answer by what the first walk found, one law for each return.
 use mathlib.Core.Path.{_≡_, refl, sym, ap, subst, _∙_}
 use mathlib.Core.Logic.{⊎-elim}
-use mathlib.Core.Bool.{Bool, true, false, _&&_, _||_}
-use mathlib.Core.List.{List}
-use Prim.Native.Nat.{ℕ, suc, _+_, _-_, _*_, _/_, _≤_, _<_, min}
-use native.Mathlib.Nat.{mul-le-mul-right, add-mul, one-mul, zero-mul}
+use mathlib.Core.Bool.{true, false}
+use mathlib.Core.List.{List, List·Memᴰ}
+use Prim.Native.Nat.{ℕ, _+_, _-_, _*_, _/_, _≤_, _<_, min}
+use native.Mathlib.Nat.{le-trans, mul-le-mul-right, add-mul, one-mul}
 use native.Mathlib.Omega.{arith}
 use borrow.Author.Tests.{ltb-false, le-ltb, lt-ltb}
 use lib.Dec.{ltb}
 use lib.IntN.{ℤ}
-use lib.ListN.{length}
+use lib.ListN.{length, replicate}
 use Rattle.refusal.specs.Pick.{pick, pick-true, pick-false}
 use Rattle.refusal.specs.declared.Refusal.{Refusal}
 use Rattle.refusal.specs.declared.Refusal.the-variants.{TooShort}
-use Rattle.refusal.specs.declared.Verdict.{Verdict}
 use Rattle.refusal.specs.declared.Verdict.the-variants.{Accepted, Refused as TurnedAway}
 use Rattle.resolver.specs.Lists.{Row}
 use Rattle.resolver.specs.Once.{Program}
 use Rattle.overlap_checker.proofs.Ascending.{lt-or-le}
-use Rattle.output.specs.Placing.{Placed, holds, stops, placedTo}
-use Rattle.output.specs.Spans.{spansTo, lengthTo, over, addresses, words, sizes}
-use Rattle.output.specs.Image.{imageTo}
-use Rattle.output.specs.Plan.{Planned, verdictPlaced}
-use Rattle.output.specs.Output.{Room, roomOf, roomFor, placedBuild, buildRow, ifDone, RowBuilt}
+use Rattle.output.specs.Visits.{visits}
+use Rattle.output.specs.Items.{itemsOf, lengthOf, imageOf}
+use Rattle.output.specs.ItemLaws.{end-within}
+use Rattle.output.specs.Placing.{Placed, holds, stops, placedAll}
+use Rattle.output.specs.Spans.{spansOf, over, addresses, words, sizes}
+use Rattle.output.specs.Output.{Lent, lent, Room, roomOf, roomFor, placedBuild, buildRow}
+use Rattle.output.specs.Steps.{Planned, verdictPlaced, InValues, Fit, Fits, RowBuilt}
 use Rattle.output.specs.declared.placing.Plan.{Plan}
 use Rattle.output.specs.declared.Build.{Build}
 use Rattle.output.specs.declared.Build.the-variants.{Done, Refused}
@@ -54,59 +55,58 @@ built-by : (room : Room) (k bits spans : ℕ) (q : Placed) → verdictPlaced q �
 built-by room k bits spans (holds l) e = refl
 built-by room k bits spans (stops why) e = absurd (let z : _≡_ {A = ℕ} 0 1 = cc in omega arith)
 
-module _ (p : Program) (row : Row) (fill k : ℕ) (values image : List ℕ) (addressed : List ℤ) (offsets sized : List ℕ) (plan : Plan) (planned : Planned p row fill plan) where
+module _ (p : Program) (row : Row) (fill k : ℕ) (values : List ℕ) (old : Lent) (plan : Plan) (planned : Planned p row fill plan) where
   -- a build that changes nothing
-  kept : (why : Refusal) → Refused why ≡ buildRow p row fill (roomOf image addressed offsets sized) k
-      → RowBuilt p row fill k values image addressed offsets sized (Refused why) image addressed offsets sized
-  kept why e = record { answer = e; bits = refl; first = refl; second = refl; third = refl }
+  kept : (why : Refusal) → Refused why ≡ buildRow (p .banks .len) (visits p row) fill (roomOf old) k → RowBuilt p row fill k values old (Refused why) old
+  kept why e = record { answer = e; left = refl }
 
-  pub row-stopped : (why : Refusal) → plan .verdict ≡ TurnedAway why
-      → RowBuilt p row fill k values image addressed offsets sized (Refused why) image addressed offsets sized
+  pub row-stopped : (why : Refusal) → plan .verdict ≡ TurnedAway why → RowBuilt p row fill k values old (Refused why) old
   row-stopped why e =
       kept why
-      (sym (ap (placedBuild (roomOf image addressed offsets sized) k (lengthTo p row fill (length (p .kinds))) (length (spansTo p row (length (p .kinds)))))
-      (stopped-by (placedTo p row (length (p .kinds))) why (sym (planned .verdict) ∙ e))))
+      (sym (ap (placedBuild (roomOf old) k (lengthOf fill (itemsOf (visits p row))) (length (spansOf (visits p row))))
+      (stopped-by (placedAll (p .banks .len) (visits p row)) why (sym (planned .verdict) ∙ e))))
 
   module _ (accepted : plan .verdict ≡ Accepted) where
-    answers : buildRow p row fill (roomOf image addressed offsets sized) k ≡ roomFor (roomOf image addressed offsets sized) k (plan .length) (plan .spans)
+    answers : buildRow (p .banks .len) (visits p row) fill (roomOf old) k ≡ roomFor (roomOf old) k (plan .length) (plan .spans)
     answers =
-        built-by (roomOf image addressed offsets sized) k (lengthTo p row fill (length (p .kinds))) (length (spansTo p row (length (p .kinds)))) (placedTo p row (length (p .kinds)))
+        built-by (roomOf old) k (lengthOf fill (itemsOf (visits p row))) (length (spansOf (visits p row))) (placedAll (p .banks .len) (visits p row))
         (sym (planned .verdict) ∙ accepted)
-        ∙ ap (λ (n : ℕ). roomFor (roomOf image addressed offsets sized) k n (length (spansTo p row (length (p .kinds))))) (sym (planned .reach accepted))
-        ∙ ap (λ (n : ℕ). roomFor (roomOf image addressed offsets sized) k (plan .length) n) (sym (planned .count accepted))
+        ∙ ap (λ (n : ℕ). roomFor (roomOf old) k n (length (spansOf (visits p row)))) (sym (planned .reach accepted))
+        ∙ ap (λ (n : ℕ). roomFor (roomOf old) k (plan .length) n) (sym (planned .count accepted))
 
-    pub row-short-image : ltb (8 * length image) (plan .length) ≡ true
-        → RowBuilt p row fill k values image addressed offsets sized (Refused (TooShort 0)) image addressed offsets sized
+    pub row-short-image : ltb (8 * length (old .image)) (plan .length) ≡ true → RowBuilt p row fill k values old (Refused (TooShort 0)) old
     row-short-image short = kept (TooShort 0) (sym (answers ∙ pick-true (Refused (TooShort 0)) _ short))
 
-    module _ (long : ltb (8 * length image) (plan .length) ≡ false) where
-      rest : buildRow p row fill (roomOf image addressed offsets sized) k
-          ≡ pick (ltb (min (length addressed) (min (length offsets) (length sized))) (plan .spans)) (Refused (TooShort 1)) (Done k (plan .length) (plan .spans))
+    module _ (long : ltb (8 * length (old .image)) (plan .length) ≡ false) where
+      rest : buildRow (p .banks .len) (visits p row) fill (roomOf old) k
+          ≡ pick (ltb (roomOf old .spans) (plan .spans)) (Refused (TooShort 1)) (Done k (plan .length) (plan .spans))
       rest = answers ∙ pick-false (Refused (TooShort 0)) _ long
 
-      pub row-short-spans : min (length addressed) (min (length offsets) (length sized)) < plan .spans
-          → RowBuilt p row fill k values image addressed offsets sized (Refused (TooShort 1)) image addressed offsets sized
+      pub row-short-spans : roomOf old .spans < plan .spans → RowBuilt p row fill k values old (Refused (TooShort 1)) old
       row-short-spans short = kept (TooShort 1) (sym (rest ∙ pick-true (Refused (TooShort 1)) _ (lt-ltb _ _ short)))
 
       -- the image is long enough for every written item
-      pub length-fits : lengthTo p row fill (length (p .kinds)) ≤ 8 * length image
-      length-fits = subst (λ (n : ℕ). n ≤ 8 * length image) (planned .reach accepted) (ltb-false (8 * length image) (plan .length) long)
+      pub items-fit : InValues (length values) (itemsOf (visits p row)) → Fit (length values) (length (old .image)) (itemsOf (visits p row))
+      items-fit within x m = (
+        le-trans (end-within fill m)
+            (subst (λ (n : ℕ). n ≤ 8 * length (old .image)) (planned .reach accepted) (ltb-false (8 * length (old .image)) (plan .length) long)),
+        within x m,
+      )
 
-      module _ (enough : plan .spans ≤ min (length addressed) (min (length offsets) (length sized))) where
-        pub spans-fit : length (spansTo p row (length (p .kinds))) ≤ min (length addressed) (min (length offsets) (length sized))
-        spans-fit = subst (λ (n : ℕ). n ≤ min (length addressed) (min (length offsets) (length sized))) (planned .count accepted) enough
+      module _ (enough : plan .spans ≤ roomOf old .spans) where
+        pub spans-fit : Fits (length (spansOf (visits p row))) (length (old .addresses)) (length (old .offsets)) (length (old .sizes))
+        spans-fit =
+            let n = planned .count accepted in
+            record { first = omega (arith, n); second = omega (arith, n); third = omega (arith, n) }
 
         pub row-done : (image′ : List ℕ) (addressed′ : List ℤ) (offsets′ sized′ : List ℕ)
-            → image′ ≡ imageTo p row values (length image) (length (p .kinds))
-            → addressed′ ≡ over (addresses (spansTo p row (length (p .kinds)))) addressed
-            → offsets′ ≡ over (words (spansTo p row (length (p .kinds)))) offsets
-            → sized′ ≡ over (sizes (spansTo p row (length (p .kinds)))) sized
-            → RowBuilt p row fill k values image addressed offsets sized (Done k (plan .length) (plan .spans)) image′ addressed′ offsets′ sized′
+            → image′ ≡ imageOf values (replicate (length (old .image)) 0) (itemsOf (visits p row))
+            → addressed′ ≡ over (addresses (spansOf (visits p row))) (old .addresses)
+            → offsets′ ≡ over (words (spansOf (visits p row))) (old .offsets)
+            → sized′ ≡ over (sizes (spansOf (visits p row))) (old .sizes)
+            → RowBuilt p row fill k values old (Done k (plan .length) (plan .spans)) (lent image′ addressed′ offsets′ sized′)
         row-done image′ addressed′ offsets′ sized′ a b c d =
             record {
               answer = sym (rest ∙ pick-false (Refused (TooShort 1)) _ (le-ltb _ _ enough));
-              bits = a;
-              first = b;
-              second = c;
-              third = d;
+              left = rw (a, b, c, d);
             }

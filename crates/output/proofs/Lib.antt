@@ -1,10 +1,7 @@
 pub mod BuildLaws
-pub mod ItemBits
 pub mod OfferLaws
-pub mod OwnBits
-pub mod Placements
 pub mod PlanLaws
 pub mod SettledLaws
-pub mod WritingFit
+pub mod Upto
 pub mod WritingOver
 pub mod WritingSteps

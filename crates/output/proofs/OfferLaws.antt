@@ -1,12 +1,13 @@
--- What a node's offer leaves in the two lists of the store, for each of its ways: one that stands nowhere, a label, and one that is offered.
-use mathlib.Core.Path.{_≡_, refl, sym, ap, ap₂, subst, _∙_}
-use mathlib.Core.Bool.{Bool, true, false, _&&_, _||_}
-use mathlib.Core.List.{List}
+-- What a node offers and writes, for each of its ways: nothing, or one interval and one item; and what that leaves in the store.
+use mathlib.Core.Path.{_≡_, refl, sym, ap, subst, _∙_}
+use mathlib.Core.Bool.{Bool, true, false, _||_}
+use mathlib.Core.List.{List, [], _∷_}
 use Prim.Native.Nat.{ℕ, _+_, _≤_, _<_, max}
 use native.Mathlib.Nat.{add-zero}
 use native.Mathlib.Omega.{arith}
 use borrow.Author.Tests.{eq-eqb, le-ltb, lt-ltb}
-use lib.Dec.{eqb, leb, ltb}
+use lib.Dec.{eqb, ltb}
+use lib.ListN.{length}
 use Rattle.refusal.specs.Pick.{pick, pick-true, pick-false}
 use Rattle.refusal.specs.declared.Offset.{Offset}
 use Rattle.refusal.specs.declared.Offset.the-variants.{None as Nowhere, At as Out}
@@ -14,7 +15,6 @@ use Rattle.refusal.specs.declared.Verdict.{Verdict}
 use Rattle.refusal.specs.declared.Refusal.{Refusal}
 use Rattle.refusal.specs.declared.Verdict.the-variants.{Accepted, Refused}
 use Rattle.bankdef.specs.declared.Bankdef.{Bankdef}
-use Rattle.iter.specs.Address.{outputPosition}
 use Rattle.iter.specs.declared.Pos.{Pos}
 use Rattle.iter.specs.declared.Moved.{Moved}
 use Rattle.iter.specs.declared.Moved.the-variants.{To, Refused as Stopped}
@@ -22,148 +22,154 @@ use Rattle.iter.specs.declared.Node.{Node}
 use Rattle.resolver.specs.Lists.{firstOf, isItem}
 use Rattle.overlap_checker.specs.declared.Entry.{Entry}
 use Rattle.overlap_checker.specs.Interval.{interval, Within}
-use Rattle.overlap_checker.specs.Offers.{placeFor, verdictOf}
+use Rattle.overlap_checker.specs.Offers.{placeFor, clashesAny, lacksRoom, verdictOf}
+use Rattle.overlap_checker.specs.State.{State, holding, tries, answer, isAccepted, inserted, keeping, after}
+use Rattle.overlap_checker.specs.Folds.{stateAfter}
 use Rattle.overlap_lent.specs.Lent.{held, heldAfter, countAfter, Sound}
 use Rattle.overlap_lent.proofs.Kept.{held-after, sound-after}
-use Rattle.output.specs.Placing.{isPlaced, isWritten, offerAt, checked, tried, verdictSeen, grown, storedWith, storedAfter}
-use Rattle.output.specs.Spans.{endFrom}
-use Rattle.output.specs.Plan.{Goes}
-use Rattle.output.specs.Visits.{seenPos}
+use Rattle.output.specs.Items.{Item, isWritten, standing, itemAt, lengthOf}
+use Rattle.output.specs.Placing.{isPlaced, isOffered, bitsAt, offerAt, checked, answered, tried, verdictSeen}
+use Rattle.output.specs.PlacingLaws.{after-accepted}
+use Rattle.output.specs.Steps.{Goes, grown}
 
--- a label makes no offer
-label-passes : (kind : ℕ) → kind ≡ 2 → (isItem kind || eqb kind 7) ≡ false
-label-passes kind e = rw e
+-- ---- what a node offers
 
--- a placed node that is no label does
-others-offer : (a b c : Bool) → a ≡ false → (a || (b || c)) ≡ true → (b || c) ≡ true
-others-offer true b c f e = absurd (mathlib.Core.Bool.true≢false f)
-others-offer false b c f e = e
+nothing-picked : {X : Type 0} (b : Bool) → _≡_ {A = List X} (pick b [] []) []
+nothing-picked true = refl
+nothing-picked false = refl
 
-stays : (positions sizes : List ℕ) (count : ℕ) (out : Offset) (n : Node) → Sound positions sizes count → grown out n ≡ 0
-    → storedAfter (held positions sizes count) out n ≡ held positions sizes count
-    → Goes positions sizes count out n Accepted positions sizes
-stays positions sizes count out n s none same =
-    let c : count + grown out n ≡ count = rw none (add-zero count) in
-    record {
-      holds = λ _. ap (λ (k : ℕ). held positions sizes k) c ∙ sym same;
-      sound = λ _. subst (λ (k : ℕ). Sound positions sizes k) (sym c) s;
-    }
+module _ (n : Node) where
+  pub offers-nowhere : offerAt n Nowhere ≡ []
+  offers-nowhere = nothing-picked (isOffered n)
 
-pub goes-nowhere : (positions sizes : List ℕ) (count : ℕ) (n : Node) → Sound positions sizes count
-    → Goes positions sizes count Nowhere n Accepted positions sizes
-goes-nowhere positions sizes count n s = stays positions sizes count Nowhere n s refl refl
+  pub offers-none : (out : Offset) → isOffered n ≡ false → offerAt n out ≡ []
+  offers-none out e = pick-false (bitsAt out n) [] e
 
-pub goes-label : (positions sizes : List ℕ) (count o : ℕ) (n : Node) → Sound positions sizes count → n .kind ≡ 2
-    → Goes positions sizes count (Out o) n Accepted positions sizes
-goes-label positions sizes count o n s e =
-    stays positions sizes count (Out o) n s
-    (pick-false (pick (ltb 0 (n .number)) 1 0) 0 (label-passes (n .kind) e))
-    (pick-false (storedWith (held positions sizes count) (interval o (n .number))) (held positions sizes count) (label-passes (n .kind) e))
+  -- a label makes no offer
+  pub offers-label : (out : Offset) → n .kind ≡ 2 → offerAt n out ≡ []
+  offers-label out e = offers-none out (rw e)
 
-pub label-accepted : (l : List Entry) (o : ℕ) (n : Node) → n .kind ≡ 2 → Accepted ≡ offerAt l (Out o) n
-label-accepted l o n e = sym (pick-true Accepted (verdictOf l (interval o (n .number)) (n .index)) (eq-eqb (n .kind) 2 e))
+  pub offers-unplaced : (out : Offset) → isPlaced n ≡ false → offerAt n out ≡ []
+  offers-unplaced out e = offers-none out (unplaced (eqb (n .kind) 2) (isOffered n) e)
+    where
+      unplaced : (a b : Bool) → (a || b) ≡ false → b ≡ false
+      unplaced true b f = absurd (mathlib.Core.Bool.true≢false f)
+      unplaced false b f = f
 
-pub other-offered : (l : List Entry) (o : ℕ) (n : Node) → eqb (n .kind) 2 ≡ false → verdictOf l (interval o (n .number)) (n .index) ≡ offerAt l (Out o) n
-other-offered l o n e = sym (pick-false Accepted (verdictOf l (interval o (n .number)) (n .index)) e)
+  -- a placed node that is no label does
+  pub offers-one : (o : ℕ) → isPlaced n ≡ true → eqb (n .kind) 2 ≡ false → offerAt n (Out o) ≡ interval o (n .number) ∷ []
+  offers-one o placed other = pick-true (bitsAt (Out o) n) [] (others (eqb (n .kind) 2) (isOffered n) other placed)
+    where
+      others : (a b : Bool) → a ≡ false → (a || b) ≡ true → b ≡ true
+      others true b f e = absurd (mathlib.Core.Bool.true≢false f)
+      others false b f e = e
 
--- ---- a node by the position that it sees
+  pub offers-made : (o : ℕ) → isOffered n ≡ true → offerAt n (Out o) ≡ interval o (n .number) ∷ []
+  offers-made o e = pick-true (bitsAt (Out o) n) [] e
 
-unplaced-passes : (a b c : Bool) → (a || (b || c)) ≡ false → (b || c) ≡ false
-unplaced-passes true b c e = absurd (mathlib.Core.Bool.true≢false e)
-unplaced-passes false b c e = e
+-- ---- what that leaves in the store
 
--- a node that is no label, item or reserve leaves the store alone, and so does a refused one
-pub goes-unplaced : (positions sizes : List ℕ) (count : ℕ) (out : Offset) (n : Node) → Sound positions sizes count → isPlaced n ≡ false
-    → Goes positions sizes count out n Accepted positions sizes
-goes-unplaced positions sizes count Nowhere n s e = goes-nowhere positions sizes count n s
-goes-unplaced positions sizes count (Out o) n s e =
-    let none = unplaced-passes (eqb (n .kind) 2) (isItem (n .kind)) (eqb (n .kind) 7) e in
-    stays positions sizes count (Out o) n s
-    (pick-false (pick (ltb 0 (n .number)) 1 0) 0 none)
-    (pick-false (storedWith (held positions sizes count) (interval o (n .number))) (held positions sizes count) none)
+module _ (positions sizes : List ℕ) (count : ℕ) where
+  pub goes-none : (offer : List Entry) → Sound positions sizes count → offer ≡ [] → Goes positions sizes count offer Accepted positions sizes
+  unfolding stateAfter
+  goes-none offer s none =
+      rw none
+      (record {
+        holds = λ _. ap (λ (k : ℕ). holding (held positions sizes k)) (add-zero count);
+        sound = λ _. subst (λ (k : ℕ). Sound positions sizes k) (sym (add-zero count)) s;
+      })
 
-pub goes-refused : (positions sizes : List ℕ) (count : ℕ) (out : Offset) (n : Node) (why : Refusal)
-    → Goes positions sizes count out n (Refused why) positions sizes
-goes-refused positions sizes count out n why =
-    record { holds = λ e. absurd (never e); sound = λ e. absurd (never e) }
-  where
-    never : Refused why ≡ Accepted → ⊥
-    never e = let z : _≡_ {A = ℕ} 0 1 = cc in omega arith
+  pub goes-refused : (offer : List Entry) (why : Refusal) → Goes positions sizes count offer (Refused why) positions sizes
+  goes-refused offer why = record { holds = λ e. absurd (never e); sound = λ e. absurd (never e) }
+    where
+      never : Refused why ≡ Accepted → ⊥
+      never e = let z : _≡_ {A = ℕ} 0 1 = cc in omega arith
 
-module _ (banks bank : ℕ) (def : Bankdef) (l : List Entry) (n : Node) (seen : Moved) where
-  pub verdict-stopped : (why : Refusal) → seen ≡ Stopped why → Refused why ≡ verdictSeen banks bank def l n seen
+  adds : (b : Bool) → count + (pick b 1 0 + 0) ≡ pick b (count + 1) count
+  adds true = refl
+  adds false = add-zero count
+
+  holds-picked : (b : Bool) (x y : List Entry) → holding (pick b x y) ≡ pick b (holding x) (holding y)
+  holds-picked true x y = refl
+  holds-picked false x y = refl
+
+  module _ (s : Sound positions sizes count) (o size node : ℕ) where
+    -- the state after an accepted offer
+    keeps : verdictOf (held positions sizes count) (interval o size) node ≡ Accepted
+        → holding (pick (ltb 0 size) (inserted (held positions sizes count) (interval o size)) (held positions sizes count))
+        ≡ stateAfter (holding (held positions sizes count)) (interval o size ∷ [])
+    unfolding stateAfter keeping tries verdictOf
+    keeps acc =
+        holds-picked (ltb 0 size) (inserted (held positions sizes count) (interval o size)) (held positions sizes count)
+        ∙ sym (after-accepted (holding (held positions sizes count)) (interval o size) node acc)
+
+    pub goes-offered : Within (interval o size) → (offer : List Entry) → offer ≡ interval o size ∷ [] → (r : Verdict) (positions′ sizes′ : List ℕ)
+        → r ≡ verdictOf (held positions sizes count) (interval o size) node
+        → positions′ ≡ heldAfter positions count (placeFor o (held positions sizes count)) o size r
+        → sizes′ ≡ heldAfter sizes count (placeFor o (held positions sizes count)) size size r
+        → Goes positions sizes count offer r positions′ sizes′
+    goes-offered within offer made r positions′ sizes′ verdict ps ss =
+        rw made
+        (record {
+          holds = λ acc. rw (ps, ss, acc, adds (ltb 0 size))
+              (ap holding (held-after positions sizes count s o size node (sym verdict ∙ acc)) ∙ keeps (sym verdict ∙ acc));
+          sound = λ acc. rw (ps, ss, acc, adds (ltb 0 size)) (sound-after positions sizes count s o size within node (sym verdict ∙ acc));
+        })
+
+pub answered-none : (s : State) (node : ℕ) (offer : List Entry) → offer ≡ [] → Accepted ≡ answered s node offer
+answered-none s node offer none = rw none
+
+pub answered-one : (l : List Entry) (e : Entry) (node : ℕ) (offer : List Entry) → offer ≡ e ∷ [] → (r : Verdict) → r ≡ verdictOf l e node
+    → r ≡ answered (holding l) node offer
+unfolding verdictOf tries
+answered-one l e node offer made r same = rw made same
+
+-- ---- the verdict on a node
+
+module _ (banks bank : ℕ) (def : Bankdef) (s : State) (n : Node) (out : Offset) (seen : Moved) where
+  pub verdict-stopped : (why : Refusal) → seen ≡ Stopped why → Refused why ≡ verdictSeen banks bank def s n out seen
   verdict-stopped why e = rw e
 
   module _ (at : Pos) (e : seen ≡ To at) where
-    pub verdict-unplaced : isPlaced n ≡ false → Accepted ≡ verdictSeen banks bank def l n seen
-    verdict-unplaced none =
-        sym (ap (verdictSeen banks bank def l n) e ∙ pick-false (tried banks bank def l n at (outputPosition def (at .position))) Accepted none)
+    pub verdict-unplaced : isPlaced n ≡ false → Accepted ≡ verdictSeen banks bank def s n out seen
+    verdict-unplaced none = sym (ap (verdictSeen banks bank def s n out) e ∙ pick-false (tried banks bank def s n at out) Accepted none)
 
-    module _ (placed : isPlaced n ≡ true) (out : Offset) (place : out ≡ outputPosition def (seenPos seen .position)) (v : Verdict) (checks : v ≡ checked banks bank def n at out) where
-      out-is : out ≡ outputPosition def (at .position)
-      out-is = place ∙ ap (λ (m : Moved). outputPosition def (seenPos m .position)) e
-
-      reads : verdictSeen banks bank def l n seen ≡ firstOf v (offerAt l out n)
+    module _ (placed : isPlaced n ≡ true) (v : Verdict) (checks : v ≡ checked banks bank def n at out) where
+      reads : verdictSeen banks bank def s n out seen ≡ firstOf v (answered s (n .index) (offerAt n out))
       reads =
-          ap (verdictSeen banks bank def l n) e
-          ∙ pick-true (tried banks bank def l n at (outputPosition def (at .position))) Accepted placed
-          ∙ ap (λ (o : Offset). tried banks bank def l n at o) (sym out-is)
-          ∙ ap (λ (w : Verdict). firstOf w (offerAt l out n)) (sym checks)
+          ap (verdictSeen banks bank def s n out) e
+          ∙ pick-true (tried banks bank def s n at out) Accepted placed
+          ∙ ap (λ (w : Verdict). firstOf w (answered s (n .index) (offerAt n out))) (sym checks)
 
-      pub verdict-checked : (why : Refusal) → v ≡ Refused why → Refused why ≡ verdictSeen banks bank def l n seen
-      verdict-checked why r = sym (reads ∙ ap (λ (w : Verdict). firstOf w (offerAt l out n)) r)
+      pub verdict-checked : (why : Refusal) → v ≡ Refused why → Refused why ≡ verdictSeen banks bank def s n out seen
+      verdict-checked why r = sym (reads ∙ ap (λ (w : Verdict). firstOf w (answered s (n .index) (offerAt n out))) r)
 
-      pub verdict-offered : v ≡ Accepted → (r : Verdict) → r ≡ offerAt l out n → r ≡ verdictSeen banks bank def l n seen
-      verdict-offered a r o = o ∙ sym (reads ∙ ap (λ (w : Verdict). firstOf w (offerAt l out n)) a)
+      pub verdict-offered : v ≡ Accepted → (r : Verdict) → r ≡ answered s (n .index) (offerAt n out) → r ≡ verdictSeen banks bank def s n out seen
+      verdict-offered a r o = o ∙ sym (reads ∙ ap (λ (w : Verdict). firstOf w (answered s (n .index) (offerAt n out))) a)
 
 -- ---- counts
 
-pub count-nowhere : (count : ℕ) (n : Node) → count ≡ count + grown Nowhere n
-count-nowhere count n = sym (add-zero count)
+module _ (count : ℕ) (offer : List Entry) where
+  pub count-none : offer ≡ [] → count ≡ count + grown offer
+  count-none e = rw e (sym (add-zero count))
 
-module _ (count o : ℕ) (n : Node) where
-  pub count-other : (isItem (n .kind) || eqb (n .kind) 7) ≡ false → count ≡ count + grown (Out o) n
-  count-other e = rw (pick-false {X = ℕ} (pick (ltb 0 (n .number)) 1 0) 0 e) (sym (add-zero count))
+  pub count-empty : (o size : ℕ) → offer ≡ interval o size ∷ [] → size ≤ 0 → count ≡ count + grown offer
+  count-empty o size e z = rw (e, le-ltb 0 size z) (sym (add-zero count))
 
-  pub count-empty : (isItem (n .kind) || eqb (n .kind) 7) ≡ true → n .number ≤ 0 → count ≡ count + grown (Out o) n
-  count-empty e z = rw (pick-true {X = ℕ} (pick (ltb 0 (n .number)) 1 0) 0 e, le-ltb 0 (n .number) z) (sym (add-zero count))
-
-  pub count-more : (isItem (n .kind) || eqb (n .kind) 7) ≡ true → 0 < n .number → count + 1 ≡ count + grown (Out o) n
-  count-more e z = rw (pick-true {X = ℕ} (pick (ltb 0 (n .number)) 1 0) 0 e, lt-ltb 0 (n .number) z)
-
-adds : (b : Bool) (count : ℕ) → count + pick b 1 0 ≡ pick b (count + 1) count
-adds true count = refl
-adds false count = add-zero count
-
-module _ (positions sizes : List ℕ) (count : ℕ) (s : Sound positions sizes count) (o : ℕ) (n : Node) (placed : isPlaced n ≡ true) (other : eqb (n .kind) 2 ≡ false) where
-  offers : (isItem (n .kind) || eqb (n .kind) 7) ≡ true
-  offers = others-offer (eqb (n .kind) 2) (isItem (n .kind)) (eqb (n .kind) 7) other placed
-
-  count-is : count + grown (Out o) n ≡ countAfter count (n .number) Accepted
-  count-is = ap (λ (k : ℕ). count + k) (pick-true (pick (ltb 0 (n .number)) 1 0) 0 offers) ∙ adds (ltb 0 (n .number)) count
-
-  pub goes-offered : Within (interval o (n .number)) → (r : Verdict) (positions′ sizes′ : List ℕ)
-      → r ≡ verdictOf (held positions sizes count) (interval o (n .number)) (n .index)
-      → positions′ ≡ heldAfter positions count (placeFor o (held positions sizes count)) o (n .number) r
-      → sizes′ ≡ heldAfter sizes count (placeFor o (held positions sizes count)) (n .number) (n .number) r
-      → Goes positions sizes count (Out o) n r positions′ sizes′
-  goes-offered within r positions′ sizes′ answer ps ss =
-      record {
-        holds = λ acc. rw (ps, ss, acc, count-is)
-            (held-after positions sizes count s o (n .number) (n .index) (sym answer ∙ acc)
-            ∙ sym (pick-true (storedWith (held positions sizes count) (interval o (n .number))) (held positions sizes count) offers));
-        sound = λ acc. rw (ps, ss, acc, count-is) (sound-after positions sizes count s o (n .number) within (n .index) (sym answer ∙ acc));
-      }
+  pub count-more : (o size : ℕ) → offer ≡ interval o size ∷ [] → 0 < size → count + 1 ≡ count + grown offer
+  count-more o size e z = rw (e, lt-ltb 0 size z)
 
 -- ---- the image's length after a node
 
 module _ (n : Node) (out : Offset) (reach : ℕ) where
-  pub length-other : isWritten n ≡ false → reach ≡ pick (isWritten n) (endFrom out (n .number) reach) reach
-  length-other e = sym (pick-false (endFrom out (n .number) reach) reach e)
+  pub length-other : isWritten n ≡ false → reach ≡ lengthOf reach (itemAt n out)
+  unfolding lengthOf
+  length-other e = rw (pick-false (standing out n) [] e)
 
-  pub length-nowhere : isWritten n ≡ true → out ≡ Nowhere → reach ≡ pick (isWritten n) (endFrom out (n .number) reach) reach
-  length-nowhere e none = sym (pick-true (endFrom out (n .number) reach) reach e ∙ ap (λ (o : Offset). endFrom o (n .number) reach) none)
+  pub length-nowhere : out ≡ Nowhere → reach ≡ lengthOf reach (itemAt n out)
+  unfolding lengthOf
+  length-nowhere none = rw (none, nothing-picked {X = Item} (isWritten n))
 
-  pub length-at : isWritten n ≡ true → (o : ℕ) → out ≡ Out o → (new : ℕ) → new ≡ max reach (o + n .number)
-      → new ≡ pick (isWritten n) (endFrom out (n .number) reach) reach
-  length-at e o at new same = same ∙ sym (pick-true (endFrom out (n .number) reach) reach e ∙ ap (λ (q : Offset). endFrom q (n .number) reach) at)
+  pub length-at : isWritten n ≡ true → (o : ℕ) → out ≡ Out o → (new : ℕ) → new ≡ max reach (o + n .number) → new ≡ lengthOf reach (itemAt n out)
+  unfolding lengthOf
+  length-at e o at new same = rw (at, e) same

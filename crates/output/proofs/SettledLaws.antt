@@ -2,7 +2,7 @@
 use mathlib.Core.Path.{_≡_, refl, sym, ap, ap₂, subst, _∙_}
 use mathlib.Core.Logic.{⊎-elim}
 use mathlib.Core.Bool.{Bool, true, false, _&&_, _||_}
-use mathlib.Core.List.{List}
+use mathlib.Core.List.{List, List·Memᴰ, List·Memᴰ·not-nil, List·Memᴰ·eq-of-singleton}
 use Prim.Native.Nat.{ℕ, _+_, _-_, _*_, _≤_, _<_, min}
 use native.Mathlib.Omega.{arith}
 use borrow.Author.Tests.{ltb-false}
@@ -12,7 +12,12 @@ use lib.ListN.{length, take, drop}
 use Rattle.refusal.specs.Limits.{maxNodes, maxRows}
 use Rattle.refusal.specs.Pick.{pick}
 use Rattle.refusal.specs.declared.Refusal.{Refusal}
-use Rattle.refusal.specs.declared.Refusal.the-variants.{Malformed}
+use Rattle.refusal.specs.declared.Refusal.the-variants.{Malformed, TooShort}
+use Rattle.refusal.specs.declared.Place.the-variants.{One}
+use Rattle.refusal.specs.Told.{gives, refuses}
+use Rattle.refusal.specs.declared.Offset.{Offset}
+use Rattle.refusal.specs.declared.Offset.the-variants.{None as Nowhere, At as Out}
+use Rattle.iter.specs.declared.Node.{Node}
 use Rattle.refusal.specs.declared.Verdict.{Verdict}
 use Rattle.refusal.specs.declared.Verdict.the-variants.{Accepted, Refused as TurnedAway}
 use Rattle.bankdef.specs.Check.{banksOf, checkOf}
@@ -30,12 +35,17 @@ use Rattle.resolver.proofs.Accepted.{accepted-rows}
 use Rattle.resolver.proofs.Counts.{too-many-nodes}
 use Rattle.resolver.proofs.Parts.{first-part, row-part}
 use Rattle.overlap_checker.proofs.Ascending.{lt-or-le}
-use Rattle.output.specs.Placing.{isWritten}
-use Rattle.output.specs.Image.{InValues}
-use Rattle.output.specs.Plan.{programOf, rowOf}
-use Rattle.output.specs.Output.{Room, roomOf, settledBuild, buildOf, RowBuilt, Builds}
+use Rattle.output.specs.Visits.{visits}
+use Rattle.output.specs.VisitLaws.{each-from, member-visit}
+use Rattle.output.specs.Items.{isWritten, standing, itemOf, itemsOf}
+use Rattle.output.specs.Placing.{Placed, holds, stops, placedAll}
+use Rattle.output.specs.PlacingLaws.{picked-some}
+use Rattle.output.specs.Output.{Input, input, Lent, Room, roomOf, roomFor, placedBuild, settledBuild, buildOf, visitsOf, passesOf, settledOf}
+use Rattle.output.specs.Output.{toldBuild, roomTold, placedTold, settledTold, leftBy, Builds}
+use Rattle.output.specs.Steps.{programOf, rowOf, InValues, RowBuilt}
+use Rattle.output.specs.declared.visits.Visit.{Visit}
 use Rattle.output.specs.declared.Build.{Build}
-use Rattle.output.specs.declared.Build.the-variants.{Refused}
+use Rattle.output.specs.declared.Build.the-variants.{Done, Refused}
 use Rattle.output.specs.declared.Output.{Output}
 
 -- ---- a layout that settled passed every check
@@ -63,17 +73,43 @@ nodes-accepted banks l e =
     (nodesTo banks l (length (l .kinds))) (Malformed 1)
     (through (leb (length (l .kinds)) maxNodes && eqb (length (l .operands)) (length (l .kinds))) _ (Malformed 0) e)
 
--- the answer is the build by the passes that were run
-answer-is : (banks : Bankdefs) (l : Lists) (m : ℕ) (r : Resolution) → r ≡ layoutOf banks l m → (room : Room) (b : Build)
-    → b ≡ settledBuild banks l room (r .passes) (r .settled)
-    → _≡_ {A = Output} (record { build = b; passes = r .passes }) (buildOf banks l m room)
+-- ---- the answer, as it is and in figures
+
+room-told : (room : Room) (k bits spans : ℕ) → toldBuild (roomFor room k bits spans) ≡ roomTold room k bits spans
+room-told room k bits spans = first (ltb (8 * room .image) bits) (ltb (room .spans) spans)
+  where
+    first : (a b : Bool)
+        → toldBuild (pick a (Refused (TooShort 0)) (pick b (Refused (TooShort 1)) (Done k bits spans)))
+        ≡ pick a (refuses 14 (One 0)) (pick b (refuses 14 (One 1)) (gives (record { k = k; length = bits; spans = spans })))
+    first true b = refl
+    first false true = refl
+    first false false = refl
+
+placed-told : (room : Room) (k bits spans : ℕ) (q : Placed) → toldBuild (placedBuild room k bits spans q) ≡ placedTold room k bits spans q
+placed-told room k bits spans (stops why) = refl
+placed-told room k bits spans (holds s) = room-told room k bits spans
+
+settled-told : (b : Input) (room : Room) (s : Settled) → toldBuild (settledBuild b room (passesOf b) s) ≡ settledTold b room s
+settled-told b room (Unsettled why) = refl
+settled-told b room (At k) = placed-told room k _ _ (placedAll (b .banks .len) (visitsOf b (passesOf b)))
+
+-- the contract, from the build by the passes that were run
+pub contract : (b : Input) (r : Resolution) → r ≡ layoutOf (b .banks) (b .lists) (b .limit) → (old new : Lent) (x : Build)
+    → x ≡ settledBuild b (roomOf old) (r .passes) (r .settled) → new ≡ leftBy (visitsOf b (r .passes)) (b .lists .values) old x
+    → Builds b old (record { build = x; passes = r .passes }) new
 unfolding buildOf
-answer-is banks l m r e room b same =
-    ap (λ (x : Build). out x (r .passes)) same
-    ∙ ap (λ (q : Resolution). out (settledBuild banks l room (q .passes) (q .settled)) (q .passes)) e
+contract b r e old new x same left =
+    let answer : _≡_ {A = Output} (out x (r .passes)) (out (settledBuild b (roomOf old) (passesOf b) (settledOf b)) (passesOf b)) =
+    ap (λ (y : Build). out y (r .passes)) same
+    ∙ ap (λ (q : Resolution). out (settledBuild b (roomOf old) (q .passes) (q .settled)) (q .passes)) e in
+    record {
+      answer = answer;
+      figures = ap (λ (o : Output). toldBuild (o .build)) answer ∙ settled-told b (roomOf old) (settledOf b);
+      left = left;
+    }
   where
     out : Build → ℕ → Output
-    out x n = record { build = x; passes = n }
+    out y n = record { build = y; passes = n }
 
 module _ (banks : Bankdefs) (l : Lists) (m : ℕ) (r : Resolution) (resolves : r ≡ layoutOf banks l m) where
   module _ (k : ℕ) (settles : r .settled ≡ At k) where
@@ -95,11 +131,28 @@ module _ (banks : Bankdefs) (l : Lists) (m : ℕ) (r : Resolution) (resolves : r
         never e = let z : _≡_ {A = ℕ} 0 1 = cc in omega arith
 
     -- every written item's bits are within the value bytes, in the row of any pass
-    in-values : (n : ℕ) → n < l .rows → InValues (program banks l) (rowAt l n) (length (l .values)) (length (l .kinds))
-    in-values n h i b w =
+    node-within : (n : ℕ) → n < l .rows → (i : ℕ) → i < length (l .kinds) → isWritten (node (program banks l) (rowAt l n) i) ≡ true
+        → node (program banks l) (rowAt l n) i .operand + node (program banks l) (rowAt l n) i .number ≤ 8 * length (l .values)
+    node-within n h i b w =
         let fault = accepted-row (banks .len) l (length (l .kinds)) (nodes-accepted (banks .len) l checks) i b n h in
         let v = nodeOf (l .kinds) (l .operands) (l .numbers) (l .states) n i in
-        ltb-false (8 * length (l .values)) (v .operand + v .number) (and-second (isItem (v .kind)) (pastEnd (length (l .values)) v) w (or-right (ltb 2 (v .kind) && ltb 2 (v .state)) (isItem (v .kind) && pastEnd (length (l .values)) v) fault))
+        ltb-false (8 * length (l .values)) (v .operand + v .number)
+        (and-second (isItem (v .kind)) (pastEnd (length (l .values)) v) w
+        (or-right (ltb 2 (v .kind) && ltb 2 (v .state)) (isItem (v .kind) && pastEnd (length (l .values)) v) fault))
+
+    in-values : (n : ℕ) → n < l .rows → InValues (length (l .values)) (itemsOf (visits (program banks l) (rowAt l n)))
+    in-values n h x m =
+        let (v, mv, mx) = each-from itemOf (visits (program banks l) (rowAt l n)) m in
+        let (i, low, same) = member-visit (program banks l) (rowAt l n) (length (l .kinds)) mv in
+        let (w, own) = picked-some (isWritten (v .node)) (standing (v .out) (v .node)) mx in
+        let here = ap (λ (u : Visit). u .node) same in
+        let inside = node-within n h i low (subst (λ (y : Node). isWritten y ≡ true) here w) in
+        standing-within (v .out) (v .node) (rw here inside) own
+      where
+        standing-within : (out : Offset) (y : Node) → y .operand + y .number ≤ 8 * length (l .values) → List·Memᴰ x (standing out y)
+            → x .from + x .size ≤ 8 * length (l .values)
+        standing-within Nowhere y inside k = absurd (List·Memᴰ·not-nil k)
+        standing-within (Out o) y inside k = rw (List·Memᴰ·eq-of-singleton k) inside
 
     -- ---- the lists' parts are the program and its row
 
@@ -113,39 +166,25 @@ module _ (banks : Bankdefs) (l : Lists) (m : ℕ) (r : Resolution) (resolves : r
       part-row : rowOf (take (start + length (l .kinds) - start) (drop start (l .numbers))) (take (start + length (l .kinds) - start) (drop start (l .states))) ≡ rowOfPass l (r .passes)
       part-row = ap₂ rowOf (part (l .numbers)) (part (l .states))
 
-      pub part-values : InValues (programOf banks (l .kinds) (l .operands) (take (length (l .kinds) - 0) (drop 0 (l .numbers))))
-          (rowOf (take (start + length (l .kinds) - start) (drop start (l .numbers))) (take (start + length (l .kinds) - start) (drop start (l .states))))
-          (length (l .values)) (length (l .kinds))
+      pub part-values : InValues (length (l .values)) (itemsOf (visits (programOf banks (l .kinds) (l .operands) (take (length (l .kinds) - 0) (drop 0 (l .numbers))))
+          (rowOf (take (start + length (l .kinds) - start) (drop start (l .numbers))) (take (start + length (l .kinds) - start) (drop start (l .states))))))
       part-values =
-          subst (λ (p : Program). InValues p (rowOf (take (start + length (l .kinds) - start) (drop start (l .numbers))) (take (start + length (l .kinds) - start) (drop start (l .states)))) (length (l .values)) (length (l .kinds))) (sym part-program)
-          (subst (λ (row : Row). InValues (program banks l) row (length (l .values)) (length (l .kinds))) (sym part-row)
+          subst (λ (p : Program). InValues (length (l .values)) (itemsOf (visits p (rowOf (take (start + length (l .kinds) - start) (drop start (l .numbers))) (take (start + length (l .kinds) - start) (drop start (l .states))))))) (sym part-program)
+          (subst (λ (row : Row). InValues (length (l .values)) (itemsOf (visits (program banks l) row))) (sym part-row)
           (in-values (min (r .passes) (l .rows) - 1) (omega (arith, settled-rows .some))))
 
       -- the public answer from the row's
-      pub finished : (image : List ℕ) (addressed : List ℤ) (offsets sized : List ℕ) (b : Build) (image′ : List ℕ) (addressed′ : List ℤ) (offsets′ sized′ : List ℕ)
+      pub finished : (old new : Lent) (x : Build)
           → RowBuilt (programOf banks (l .kinds) (l .operands) (take (length (l .kinds) - 0) (drop 0 (l .numbers))))
           (rowOf (take (start + length (l .kinds) - start) (drop start (l .numbers))) (take (start + length (l .kinds) - start) (drop start (l .states))))
-          (fillLength (banksOf banks)) k (l .values) image addressed offsets sized b image′ addressed′ offsets′ sized′
-          → Builds banks l m image addressed offsets sized (record { build = b; passes = r .passes }) image′ addressed′ offsets′ sized′
-      finished image addressed offsets sized b image′ addressed′ offsets′ sized′ raw =
+          (fillLength (banksOf banks)) k (l .values) old x new
+          → Builds (input banks l m) old (record { build = x; passes = r .passes }) new
+      finished old new x raw =
           let built = rw (part-program, part-row) at raw in
-          record {
-            answer = answer-is banks l m r resolves (roomOf image addressed offsets sized) b
-                (built .answer ∙ sym (ap (settledBuild banks l (roomOf image addressed offsets sized) (r .passes)) settles));
-            bits = built .bits;
-            first = built .first;
-            second = built .second;
-            third = built .third;
-          }
+          contract (input banks l m) r resolves old new x
+          (built .answer ∙ sym (ap (settledBuild (input banks l m) (roomOf old) (r .passes)) settles)) (built .left)
 
-  pub refused : (why : Refusal) → r .settled ≡ Unsettled why → (image : List ℕ) (addressed : List ℤ) (offsets sized : List ℕ)
-      → Builds banks l m image addressed offsets sized (record { build = Refused why; passes = r .passes }) image addressed offsets sized
-  refused why settles image addressed offsets sized =
-      record {
-        answer = answer-is banks l m r resolves (roomOf image addressed offsets sized) (Refused why)
-            (sym (ap (settledBuild banks l (roomOf image addressed offsets sized) (r .passes)) settles));
-        bits = refl;
-        first = refl;
-        second = refl;
-        third = refl;
-      }
+  pub refused : (why : Refusal) → r .settled ≡ Unsettled why → (old : Lent) → Builds (input banks l m) old (record { build = Refused why; passes = r .passes }) old
+  refused why settles old =
+      contract (input banks l m) r resolves old old (Refused why)
+      (sym (ap (settledBuild (input banks l m) (roomOf old) (r .passes)) settles)) refl

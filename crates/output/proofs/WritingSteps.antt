@@ -1,17 +1,16 @@
 -- The second walk from node to node: where it stands, what the image holds, and what the lists of spans hold.
-use Prim.Native.Nat.{ℕ, zero, suc, _+_, _*_, _<_, _≤_}
+use Prim.Native.Nat.{ℕ, suc, _+_, _*_, _<_, _≤_}
 use mathlib.Core.Path.{_≡_, refl, sym, ap, _∙_}
 use mathlib.Core.Bool.{Bool, true, false}
-use mathlib.Core.List.{List, [], _∷_, _++_, map}
-use native.Mathlib.Decide.{decLt}
+use mathlib.Core.List.{List, [], _∷_, _++_, map, List·Memᴰ, List·Memᴰ·head}
 use native.Mathlib.Nat.{le-trans}
 use native.Mathlib.Numerals.{add-one}
 use native.Mathlib.Omega.{arith}
 use borrow.Author.Tests.{le-leb}
-use lib.ListN.{length, set, replicate, length-map}
+use lib.ListN.{length, set, replicate, length-replicate, length-map}
 use Rattle.refusal.specs.Pick.{pick, pick-true}
 use Rattle.refusal.specs.declared.Offset.{Offset}
-use Rattle.refusal.specs.declared.Offset.the-variants.{At as Out}
+use Rattle.refusal.specs.declared.Offset.the-variants.{None as Nowhere, At as Out}
 use Rattle.bitvec.specs.Written.{written, isWritten as passesNoEnd}
 use Rattle.iter.specs.Step.{startOf}
 use Rattle.iter.specs.declared.Node.{Node}
@@ -19,22 +18,37 @@ use Rattle.iter.specs.declared.Walk.{Walk}
 use Rattle.resolver.specs.Lists.{Row}
 use Rattle.resolver.specs.Once.{Program, node, walkTo}
 use Rattle.output.specs.declared.visits.Visit.{Visit}
-use Rattle.output.specs.Visits.{visitOf, visitAt}
-use Rattle.output.specs.Placing.{isWritten}
-use Rattle.output.specs.Spans.{Span, isSpan, spanAt, spansTo, over}
-use Rattle.output.specs.Image.{writtenAt, imageTo, FitsAt, Fit}
-use Rattle.output.proofs.OwnBits.{image-length}
+use Rattle.output.specs.Visits.{visitOf, visitAt, visitsTo}
+use Rattle.output.specs.VisitLaws.{visit-member, each-member}
+use Rattle.output.specs.Items.{Item, isWritten, standing, itemAt, itemOf, imageOf}
+use Rattle.output.specs.ItemLaws.{image-length}
+use Rattle.output.specs.Spans.{Span, isSpan, spanAt, over}
+use Rattle.output.specs.Steps.{Fit}
+use Rattle.output.proofs.Upto.{itemsTo, spansTo, imageTo, spans-next, image-next as image-step, items-none, spans-none, spans-grow}
 use Rattle.output.proofs.WritingOver.{length-snoc, over-length, over-more}
 
--- an item that passes no end is written
-pub item-written : (image values : List ℕ) (n : Node) {out : Offset} {o : ℕ} {after : List ℕ} → isWritten n ≡ true → out ≡ Out o
-    → FitsAt n out (length values) (length image)
-    → after ≡ pick (passesNoEnd image o values (n .operand) (n .number)) (written image o values (n .operand) (n .number)) image
-    → after ≡ pick (isWritten n) (writtenAt image out values n) image
-item-written image values n {o = o} w e fits a =
-    let (inside, taken) = fits o w e in
-    rw (w, e)
-    (rw (le-leb (o + n .number) (8 * length image) inside, le-leb (n .operand + n .number) (8 * length values) taken) at a)
+-- ---- one item
+
+module _ (image values : List ℕ) (n : Node) where
+  pub item-none : (out : Offset) → isWritten n ≡ false → image ≡ imageOf values image (itemAt n out)
+  unfolding imageOf
+  item-none out e = rw e
+
+  pub item-nowhere : (out : Offset) → isWritten n ≡ true → out ≡ Nowhere → image ≡ imageOf values image (itemAt n out)
+  unfolding imageOf
+  item-nowhere out w e = rw (w, e)
+
+  -- an item that passes no end is written
+  pub item-written : {out : Offset} {o : ℕ} {after : List ℕ} → isWritten n ≡ true → out ≡ Out o
+      → Fit (length values) (length image) (itemAt n out)
+      → after ≡ pick (passesNoEnd image o values (n .operand) (n .number)) (written image o values (n .operand) (n .number)) image
+      → after ≡ imageOf values image (itemAt n out)
+  unfolding imageOf
+  item-written {o = o} w e fits a =
+      let own : Fit (length values) (length image) (standing (Out o) n) = rw (w, e) at fits in
+      let (inside, taken) = own _ (List·Memᴰ·head refl) in
+      rw (w, e)
+      (rw (le-leb (o + n .number) (8 * length image) inside, le-leb (n .operand + n .number) (8 * length values) taken) at a)
 
 module _ (p : Program) (row : Row) where
   -- ---- before the first node
@@ -44,41 +58,26 @@ module _ (p : Program) (row : Row) where
   walk-start e = e
 
   pub image-start : (values : List ℕ) (bytes : ℕ) {image : List ℕ} → image ≡ replicate bytes 0 → image ≡ imageTo p row values bytes 0
-  unfolding imageTo
-  image-start values bytes e = e
+  unfolding imageOf
+  image-start values bytes e = e ∙ ap (imageOf values (replicate bytes 0)) (sym (items-none p row))
 
   pub spans-start : spansTo p row 0 ≡ []
-  unfolding spansTo
-  spans-start = refl
+  spans-start = spans-none p row
 
-  -- ---- the spans grow
-
-  grows : (b : Bool) (l : List Span) (x : Span) → length l ≤ length (pick b (l ++ x ∷ []) l)
-  grows true l x = omega (arith, length-snoc l x)
-  grows false l x = omega arith
-
-  next-grows : (i : ℕ) → length (spansTo p row i) ≤ length (spansTo p row (suc i))
-  unfolding spansTo
-  next-grows i = grows (isSpan (node p row i)) (spansTo p row i) (spanAt p row i)
-
-  pub spans-grow : (i n : ℕ) → i ≤ n → length (spansTo p row i) ≤ length (spansTo p row n)
-  spans-grow i zero h = let none : i ≡ 0 = omega arith in rw none (omega arith)
-  spans-grow i (suc n) h =
-      elim (decLt n i) [
-        | yes last ↦ (let same : i ≡ suc n = omega arith in rw same (omega arith))
-        | no before ↦ le-trans (spans-grow i n (omega arith)) (next-grows n)
-      ]
+  pub image-keeps : (values : List ℕ) (bytes i : ℕ) → length (imageTo p row values bytes i) ≡ bytes
+  image-keeps values bytes i = image-length values (replicate bytes 0) (itemsTo p row i) ∙ length-replicate bytes 0
 
   span-counts : (i : ℕ) → isSpan (node p row i) ≡ true → length (spansTo p row (suc i)) ≡ length (spansTo p row i) + 1
-  unfolding spansTo
-  span-counts i s = rw (pick-true (spansTo p row i ++ spanAt p row i ∷ []) (spansTo p row i) s) (length-snoc (spansTo p row i) (spanAt p row i))
+  span-counts i s =
+      ap length (spans-next p row i ∙ pick-true (spansTo p row i ++ spanAt (visitAt p row i) ∷ []) (spansTo p row i) s)
+      ∙ length-snoc (spansTo p row i) (spanAt (visitAt p row i))
 
   -- a list that shows the spans keeps its length
   pub list-length : {A : Type 0} (f : Span → A) (old : List A) {list : List A} (i n : ℕ) → i ≤ n → length (spansTo p row n) ≤ length old
       → list ≡ over (map f (spansTo p row i)) old → length list ≡ length old
   list-length f old i n h room e =
       ap length e
-      ∙ over-length (map f (spansTo p row i)) old (omega (arith, length-map (spansTo p row i) f, spans-grow i n h))
+      ∙ over-length (map f (spansTo p row i)) old (omega (arith, length-map (spansTo p row i) f, spans-grow p row i n h))
 
   -- ---- node i, as it is met
 
@@ -92,19 +91,22 @@ module _ (p : Program) (row : Row) where
 
     -- the image
     module _ (values : List ℕ) (bytes : ℕ) {image : List ℕ} (before : image ≡ imageTo p row values bytes i) where
-      pub item-fits : (n : ℕ) → Fit p row (length values) bytes n → i < n → FitsAt (v .node) (v .out) (length values) (length image)
-      item-fits n fit h = rw (visited, before, image-length p row values bytes i) (fit i h)
+      pub item-fits : (n : ℕ) → Fit (length values) bytes (itemsTo p row n) → i < n → Fit (length values) (length image) (itemOf v)
+      item-fits n fit h =
+          rw (before, image-keeps values bytes i, visited) (λ x m. fit x (each-member itemOf (visit-member p row n i h) m))
 
-      pub image-next : {after : List ℕ} → after ≡ pick (isWritten (v .node)) (writtenAt image (v .out) values (v .node)) image
-          → after ≡ imageTo p row values bytes (i + 1)
-      unfolding imageTo
-      image-next e = rw (add-one, e, visited, before)
+      pub image-next : {after : List ℕ} → after ≡ imageOf values image (itemOf v) → after ≡ imageTo p row values bytes (i + 1)
+      image-next e =
+          e ∙ ap (λ (m : List ℕ). imageOf values m (itemOf v)) before
+          ∙ ap (λ (w : Visit). imageOf values (imageTo p row values bytes i) (itemOf w)) visited
+          ∙ rw add-one (sym (image-step p row values bytes i))
 
     -- the lists of spans
     pub count-next : {count next : ℕ} → count ≡ length (spansTo p row i) → next ≡ pick (isSpan (v .node)) (count + 1) count
         → next ≡ length (spansTo p row (i + 1))
-    unfolding spansTo
-    count-next before e = rw (add-one, e, visited, before) (counted (isSpan (node p row i)) (spansTo p row i) (spanAt p row i))
+    count-next before e =
+        rw (add-one, e, visited, before)
+        (counted (isSpan (node p row i)) (spansTo p row i) (spanAt (visitAt p row i)) ∙ ap length (sym (spans-next p row i)))
       where
         counted : (b : Bool) (l : List Span) (x : Span) → pick b (length l + 1) (length l) ≡ length (pick b (l ++ x ∷ []) l)
         counted true l x = sym (length-snoc l x)
@@ -115,11 +117,19 @@ module _ (p : Program) (row : Row) where
         (counts : count ≡ length (spansTo p row i)) (before : list ≡ over (map f (spansTo p row i)) old) where
       pub span-fits : isSpan (v .node) ≡ true → count < length list
       span-fits s =
-          omega (arith, list-length f old i n (omega arith) room before, span-counts i (ap (λ (w : Visit). isSpan (w .node)) (sym visited) ∙ s), spans-grow (suc i) n h)
+          omega (
+            arith,
+            list-length f old i n (omega arith) room before,
+            span-counts i (ap (λ (w : Visit). isSpan (w .node)) (sym visited) ∙ s),
+            spans-grow p row (suc i) n h,
+          )
 
-      pub list-next : {x : A} {after : List A} → x ≡ f (spanAt p row i) → after ≡ pick (isSpan (v .node)) (set list count x) list
+      more-fits : length (pick (isSpan (node p row i)) (spansTo p row i ++ spanAt (visitAt p row i) ∷ []) (spansTo p row i)) ≤ length old
+      more-fits = rw (← (spans-next p row i)) (le-trans (spans-grow p row (suc i) n h) room)
+
+      pub list-next : {x : A} {after : List A} → x ≡ f (spanAt (visitAt p row i)) → after ≡ pick (isSpan (v .node)) (set list count x) list
           → after ≡ over (map f (spansTo p row (i + 1))) old
-      unfolding spansTo
       list-next same e =
           rw (add-one, e, visited, before, counts, same)
-          (over-more f (isSpan (node p row i)) (spansTo p row i) (spanAt p row i) old (le-trans (spans-grow (suc i) n h) room))
+          (over-more f (isSpan (node p row i)) (spansTo p row i) (spanAt (visitAt p row i)) old more-fits
+          ∙ ap (λ (l : List Span). over (map f l) old) (sym (spans-next p row i)))

@@ -1,6 +1,13 @@
-pub mod Image
+pub mod Calls
+pub mod ItemBits
+pub mod ItemLaws
+pub mod Items
+pub mod Kinds
 pub mod Output
 pub mod Placing
-pub mod Plan
+pub mod PlacingLaws
+pub mod SpanFacts
 pub mod Spans
+pub mod Steps
+pub mod VisitLaws
 pub mod Visits

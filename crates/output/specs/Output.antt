@@ -4,31 +4,59 @@ use Prim.Native.Nat.{ℕ, _*_, min}
 use mathlib.Core.List.{List}
 use lib.Dec.{ltb}
 use lib.IntN.{ℤ}
-use lib.ListN.{length}
+use lib.ListN.{length, replicate}
 use Rattle.refusal.specs.Pick.{pick}
+use Rattle.refusal.specs.Told.{Told, gives, refuses, toldRefusal}
+use Rattle.refusal.specs.declared.Place.the-variants.{One}
 use Rattle.refusal.specs.declared.Refusal.{Refusal}
 use Rattle.refusal.specs.declared.Refusal.the-variants.{TooShort}
 use Rattle.bankdef.specs.Check.{banksOf}
 use Rattle.bankdef.specs.Fill.{fillLength}
 use Rattle.bankdef.specs.declared.Bankdefs.{Bankdefs}
-use Rattle.resolver.specs.Lists.{Lists, Row}
-use Rattle.resolver.specs.Once.{Program}
+use Rattle.resolver.specs.Lists.{Lists}
 use Rattle.resolver.specs.Passes.{program, rowOfPass}
 use Rattle.resolver.specs.Layout.{layoutOf}
-use Rattle.resolver.specs.declared.Resolution.{Resolution}
 use Rattle.resolver.specs.declared.Settled.{Settled}
 use Rattle.resolver.specs.declared.Settled.the-variants.{At, Refused as Unsettled}
-use Rattle.output.specs.Placing.{Placed, holds, stops, placedTo}
-use Rattle.output.specs.Spans.{spansTo, lengthTo, over, addresses, words, sizes}
-use Rattle.output.specs.Image.{imageTo}
+use Rattle.output.specs.Visits.{visits}
+use Rattle.output.specs.Items.{Item, itemsOf, lengthOf, imageOf}
+use Rattle.output.specs.Placing.{Placed, holds, stops, placedAll}
+use Rattle.output.specs.Spans.{spansOf, over, addresses, words, sizes}
+use Rattle.output.specs.declared.visits.Visit.{Visit}
 use Rattle.output.specs.declared.Build.{Build}
 use Rattle.output.specs.declared.Build.the-variants.{Done, Refused}
 use Rattle.output.specs.declared.Output.{Output}
 
--- How much room is lent: the image's bytes and the places for spans.
+-- ---- what is given, and what is lent
+
+-- What a build is given: the banks, the lists, the pass limit.
+pub record Input : Type 0 where
+  pub banks : Bankdefs
+  pub lists : Lists
+  pub limit : ℕ
+
+abbrev pub input : Bankdefs → Lists → ℕ → Input
+input banks l limit = record { banks = banks; lists = l; limit = limit }
+
+-- What is lent: the image's bytes, and three lists for the spans.
+pub record Lent : Type 0 where
+  pub image : List ℕ
+  pub addresses : List ℤ
+  pub offsets : List ℕ
+  pub sizes : List ℕ
+
+abbrev pub lent : List ℕ → List ℤ → List ℕ → List ℕ → Lent
+lent image addressed offsets sized = record { image = image; addresses = addressed; offsets = offsets; sizes = sized }
+
+-- How much room that is: the image's bytes and the places for spans. Spans stand in three lists, and the shortest counts.
 pub record Room : Type 0 where
   pub image : ℕ
   pub spans : ℕ
+
+abbrev pub roomOf : Lent → Room
+roomOf l = record { image = length (l .image); spans = min (length (l .addresses)) (min (length (l .offsets)) (length (l .sizes))) }
+
+-- ---- the answer
 
 -- "14 comes last: image, then spans."
 abbrev pub roomFor : Room → ℕ → ℕ → ℕ → Build
@@ -41,52 +69,82 @@ abbrev pub placedBuild : Room → ℕ → ℕ → ℕ → Placed → Build
 placedBuild room k bits spans (stops why) = Refused why
 placedBuild room k bits spans (holds stored) = roomFor room k bits spans
 
--- the build over the row of the last pass
-abbrev pub buildRow : Program → Row → ℕ → Room → ℕ → Build
-buildRow p row fill room k =
-    placedBuild room k
-    (lengthTo p row fill (length (p .kinds)))
-    (length (spansTo p row (length (p .kinds))))
-    (placedTo p row (length (p .kinds)))
+-- the build of a row: how many banks there are, the row's visits, the fill's length, the room, and pass K
+abbrev pub buildRow : ℕ → List Visit → ℕ → Room → ℕ → Build
+buildRow banks vs fill room k =
+    placedBuild room k (lengthOf fill (itemsOf vs)) (length (spansOf vs)) (placedAll banks vs)
 
 -- "The build uses the row of the last pass."
-abbrev pub settledBuild : Bankdefs → Lists → Room → ℕ → Settled → Build
-settledBuild banks l room passes (Unsettled why) = Refused why
-settledBuild banks l room passes (At k) =
-    buildRow (program banks l) (rowOfPass l passes) (fillLength (banksOf banks)) room k
+abbrev pub visitsOf : Input → ℕ → List Visit
+visitsOf b passes = visits (program (b .banks) (b .lists)) (rowOfPass (b .lists) passes)
+
+abbrev pub fillOf : Input → ℕ
+fillOf b = fillLength (banksOf (b .banks))
+
+abbrev pub settledBuild : Input → Room → ℕ → Settled → Build
+settledBuild b room passes (Unsettled why) = Refused why
+settledBuild b room passes (At k) = buildRow (b .banks .len) (visitsOf b passes) (fillOf b) room k
+
+abbrev pub passesOf : Input → ℕ
+passesOf b = layoutOf (b .banks) (b .lists) (b .limit) .passes
+
+abbrev pub settledOf : Input → Settled
+settledOf b = layoutOf (b .banks) (b .lists) (b .limit) .settled
 
 -- The answer: "K, passes run, image length, number of spans", or one refusal, with the passes run.
-unfoldable pub buildOf : Bankdefs → Lists → ℕ → Room → Output
-buildOf banks l limit room =
+unfoldable pub buildOf : Input → Room → Output
+buildOf b room = record { build = settledBuild b room (passesOf b) (settledOf b); passes = passesOf b }
+
+-- ---- the answer in document 01's figures
+
+pub record Figures : Type 0 where
+  pub k : ℕ
+  pub length : ℕ
+  pub spans : ℕ
+
+abbrev pub toldBuild : Build → Told Figures
+toldBuild (Done k bits spans) = gives (record { k = k; length = bits; spans = spans })
+toldBuild (Refused why) = toldRefusal why
+
+-- "14: a lent output is too short: image 0, spans 1"
+abbrev pub roomTold : Room → ℕ → ℕ → ℕ → Told Figures
+roomTold room k bits spans =
+    pick (ltb (8 * room .image) bits) (refuses 14 (One 0))
+    (pick (ltb (room .spans) spans) (refuses 14 (One 1))
+    (gives (record { k = k; length = bits; spans = spans })))
+
+abbrev pub placedTold : Room → ℕ → ℕ → ℕ → Placed → Told Figures
+placedTold room k bits spans (stops why) = toldRefusal why
+placedTold room k bits spans (holds stored) = roomTold room k bits spans
+
+abbrev pub settledTold : Input → Room → Settled → Told Figures
+settledTold b room (Unsettled why) = toldRefusal why
+settledTold b room (At k) =
+    placedTold room k (lengthOf (fillOf b) (itemsOf (visitsOf b (passesOf b)))) (length (spansOf (visitsOf b (passesOf b))))
+    (placedAll (b .banks .len) (visitsOf b (passesOf b)))
+
+-- ---- what is lent afterwards
+
+-- What an accepted build leaves: the items' bits, and "the rest of the lent image is zero"; the spans, and the lists' "old contents past
+-- what was written".
+abbrev pub filled : List Visit → List ℕ → Lent → Lent
+filled vs values old =
     record {
-      build = settledBuild banks l room (layoutOf banks l limit .passes) (layoutOf banks l limit .settled);
-      passes = layoutOf banks l limit .passes;
+      image = imageOf values (replicate (length (old .image)) 0) (itemsOf vs);
+      addresses = over (addresses (spansOf vs)) (old .addresses);
+      offsets = over (words (spansOf vs)) (old .offsets);
+      sizes = over (sizes (spansOf vs)) (old .sizes);
     }
 
--- what stands in something lent afterwards: the new contents of an accepted build, and the old ones of a refused build
-abbrev pub ifDone {ℓ} : {X : Type ℓ} → Build → X → X → X
-ifDone (Done k bits spans) new old = new
-ifDone (Refused why) new old = old
+-- "Each refusal .. changes nothing lent."
+abbrev pub leftBy : List Visit → List ℕ → Lent → Build → Lent
+leftBy vs values old (Done k bits spans) = filled vs values old
+leftBy vs values old (Refused why) = old
 
--- How much room four lent slices give. Spans stand in three lists, and the shortest counts.
-abbrev pub roomOf : List ℕ → List ℤ → List ℕ → List ℕ → Room
-roomOf image addresses offsets sizes =
-    record { image = length image; spans = min (length addresses) (min (length offsets) (length sizes)) }
+-- ---- the contract
 
--- What a row's build leaves: the answer, the items' bits and zero everywhere else, and the spans over the lists' old contents.
-pub record RowBuilt (p : Program) (row : Row) (fill k : ℕ) (values image : List ℕ) (addressed : List ℤ) (offsets sized : List ℕ)
-    (r : Build) (image′ : List ℕ) (addressed′ : List ℤ) (offsets′ sized′ : List ℕ) : Type 0 where
-  pub answer : r ≡ buildRow p row fill (roomOf image addressed offsets sized) k
-  pub bits : image′ ≡ ifDone r (imageTo p row values (length image) (length (p .kinds))) image
-  pub first : addressed′ ≡ ifDone r (over (addresses (spansTo p row (length (p .kinds)))) addressed) addressed
-  pub second : offsets′ ≡ ifDone r (over (words (spansTo p row (length (p .kinds)))) offsets) offsets
-  pub third : sized′ ≡ ifDone r (over (sizes (spansTo p row (length (p .kinds)))) sized) sized
-
--- The public build's statement: the answer, and everything in the four lent slices afterwards.
-pub record Builds (banks : Bankdefs) (l : Lists) (limit : ℕ) (image : List ℕ) (addressed : List ℤ) (offsets sized : List ℕ)
-    (r : Output) (image′ : List ℕ) (addressed′ : List ℤ) (offsets′ sized′ : List ℕ) : Type 0 where
-  pub answer : r ≡ buildOf banks l limit (roomOf image addressed offsets sized)
-  pub bits : image′ ≡ ifDone (r .build) (imageTo (program banks l) (rowOfPass l (r .passes)) (l .values) (length image) (length (l .kinds))) image
-  pub first : addressed′ ≡ ifDone (r .build) (over (addresses (spansTo (program banks l) (rowOfPass l (r .passes)) (length (l .kinds)))) addressed) addressed
-  pub second : offsets′ ≡ ifDone (r .build) (over (words (spansTo (program banks l) (rowOfPass l (r .passes)) (length (l .kinds)))) offsets) offsets
-  pub third : sized′ ≡ ifDone (r .build) (over (sizes (spansTo (program banks l) (rowOfPass l (r .passes)) (length (l .kinds)))) sized) sized
+-- The public build's statement: the answer, as it is and in figures, and everything lent afterwards.
+pub record Builds (b : Input) (old : Lent) (r : Output) (new : Lent) : Type 0 where
+  pub answer : r ≡ buildOf b (roomOf old)
+  pub figures : toldBuild (r .build) ≡ settledTold b (roomOf old) (settledOf b)
+  pub left : new ≡ leftBy (visitsOf b (r .passes)) (b .lists .values) old (r .build)

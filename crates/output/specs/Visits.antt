@@ -1,5 +1,7 @@
--- What the build sees of a node in the row of the last pass.
-use Prim.Native.Nat.{ℕ}
+-- What the build sees of a row: a list of visits, one for each node, in node order.
+use Prim.Native.Nat.{ℕ, zero, suc}
+use mathlib.Core.List.{List, [], _∷_, _++_}
+use lib.ListN.{length}
 use Rattle.refusal.specs.declared.Offset.{Offset}
 use Rattle.bankdef.specs.declared.Bankdef.{Bankdef}
 use Rattle.iter.specs.Address.{outputPosition}
@@ -17,6 +19,9 @@ abbrev pub seenPos : Moved → Pos
 seenPos (To at) = at
 seenPos (Stopped why) = origin
 
+abbrev pub positionOf : Visit → ℕ
+positionOf v = seenPos (v .seen) .position
+
 -- node i, met by a walk: the bank that it stands in, the position that it sees, "offset plus position", and the walk after it
 abbrev pub visitOf : Program → Row → Walk → ℕ → Visit
 visitOf p row walk i =
@@ -32,3 +37,17 @@ visitOf p row walk i =
 -- node i, met by the walk of its own row
 abbrev pub visitAt : Program → Row → ℕ → Visit
 visitAt p row i = visitOf p row (walkTo p row i) i
+
+-- the first n nodes of a row, visited in their order
+unfoldable pub visitsTo : Program → Row → ℕ → List Visit
+visitsTo p row zero = []
+visitsTo p row (suc i) = visitsTo p row i ++ visitAt p row i ∷ []
+
+-- A row is a list of visits.
+abbrev pub visits : Program → Row → List Visit
+visits p row = visitsTo p row (length (p .kinds))
+
+-- what each of the visits gives, one behind the other
+unfoldable pub each : {X : Type 0} → (Visit → List X) → List Visit → List X
+each f [] = []
+each f (v ∷ l) = f v ++ each f l

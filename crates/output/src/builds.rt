@@ -17,11 +17,10 @@ ghost use Rattle.refusal.specs.Limits.{maxNodes, maxRows};
 ghost use Rattle.bankdef.specs.Check.{banksOf};
 ghost use Rattle.bankdef.specs.Fill.{fillLength};
 ghost use Rattle.resolver.specs.Lists.{lists};
-ghost use Rattle.resolver.specs.Once.{node};
-ghost use Rattle.output.specs.Placing.{isWritten};
-ghost use Rattle.output.specs.Plan.{programOf, rowOf, maxEnd};
-ghost use Rattle.output.specs.Image.{InValues};
-ghost use Rattle.output.specs.Output.{RowBuilt, Builds};
+ghost use Rattle.output.specs.Visits.{visits};
+ghost use Rattle.output.specs.Items.{itemsOf};
+ghost use Rattle.output.specs.Output.{input, lent, Builds};
+ghost use Rattle.output.specs.Steps.{programOf, rowOf, maxEnd, InValues, RowBuilt};
 
 // Whether an image of so many bytes has fewer bits. Whole bytes are compared, so that no product can wrap.
 fn lacks_bytes(bytes: u64, bits: u64) -> bool
@@ -53,8 +52,16 @@ fn build_row(
     sizes: &mut [u64],
 ) -> Build
     requires { ⌜ length (now kinds) ≤ maxNodes ⌝ }
-    requires { ⌜ InValues (programOf banks (now kinds) (now operands) (now first)) (rowOf (now numbers) (now states)) (length (now values)) (length (now kinds)) ⌝ }
-    ensures { λ r. ⌜ RowBuilt (programOf banks (now (kinds .entry)) (now (operands .entry)) (now (first .entry))) (rowOf (now (numbers .entry)) (now (states .entry))) (fillLength (banksOf banks)) k (now (values .entry)) (now (image .entry)) (now (addresses .entry)) (now (offsets .entry)) (now (sizes .entry)) r (now (image .exit)) (now (addresses .exit)) (now (offsets .exit)) (now (sizes .exit)) ⌝ }
+    requires { ⌜
+        InValues (length (now values))
+        (itemsOf (visits (programOf banks (now kinds) (now operands) (now first)) (rowOf (now numbers) (now states))))
+        ⌝ }
+    ensures { λ r. ⌜
+        RowBuilt (programOf banks (now (kinds .entry)) (now (operands .entry)) (now (first .entry)))
+        (rowOf (now (numbers .entry)) (now (states .entry))) (fillLength (banksOf banks)) k (now (values .entry))
+        (lent (now (image .entry)) (now (addresses .entry)) (now (offsets .entry)) (now (sizes .entry))) r
+        (lent (now (image .exit)) (now (addresses .exit)) (now (offsets .exit)) (now (sizes .exit)))
+        ⌝ }
 {
     let fill = bankdef::fill_length(banks);
     let plan = plan_row(banks, kinds, operands, first, numbers, states, fill);
@@ -124,7 +131,14 @@ pub fn build_output(
     offsets: &mut [u64],
     sizes: &mut [u64],
 ) -> Output
-    ensures { λ r. ⌜ Builds banks (lists (now (kinds .entry)) (now (operands .entry)) (now (numbers .entry)) (now (states .entry)) rows (now (values .entry))) limit (now (image .entry)) (now (addresses .entry)) (now (offsets .entry)) (now (sizes .entry)) r (now (image .exit)) (now (addresses .exit)) (now (offsets .exit)) (now (sizes .exit)) ⌝ }
+    ensures { λ r. ⌜
+        Builds
+        (input banks
+        (lists (now (kinds .entry)) (now (operands .entry)) (now (numbers .entry)) (now (states .entry)) rows (now (values .entry)))
+        limit)
+        (lent (now (image .entry)) (now (addresses .entry)) (now (offsets .entry)) (now (sizes .entry))) r
+        (lent (now (image .exit)) (now (addresses .exit)) (now (offsets .exit)) (now (sizes .exit)))
+        ⌝ }
 {
     let resolution = resolver::resolve(
         banks,

@@ -10,20 +10,18 @@ use refusal::Opt;
 use refusal::Refusal;
 use refusal::Verdict;
 ghost use mathlib.Core.Path.{_≡_};
-ghost use mathlib.Core.Bool.{true, _&&_, _||_};
-ghost use lib.Dec.{eqb};
-ghost use Rattle.resolver.specs.Lists.{isItem};
+ghost use mathlib.Core.Bool.{true, _&&_};
 ghost use Prim.Native.Nat.{ℕ, _+_, _≤_};
 ghost use lib.ListN.{length};
 ghost use Rattle.refusal.specs.Limits.{maxOffer, maxNodes};
 ghost use Rattle.refusal.specs.Pick.{pick};
 ghost use Rattle.refusal.specs.declared.Offset.the-variants.{At as Out};
+ghost use Rattle.overlap_checker.specs.State.{holding};
 ghost use Rattle.overlap_lent.specs.Lent.{held, Sound};
-ghost use Rattle.output.specs.Placing.{isPlaced, isWritten, sizeOf, endsPast, lacksOutput, usesDefault, checked, offerAt, grown, verdictSeen};
-ghost use Rattle.output.specs.Plan.{Goes, maxEnd, programOf, rowOf, Planned};
-ghost use Rattle.output.specs.Spans.{isSpan, endFrom};
-ghost use Rattle.output.specs.Visits.{seenPos};
-ghost use Rattle.iter.specs.Address.{outputPosition};
+ghost use Rattle.output.specs.Items.{isWritten, itemAt, lengthOf};
+ghost use Rattle.output.specs.Placing.{isPlaced, isOffered, endsPast, lacksOutput, usesDefault, checked, offerAt, answered, verdictSeen};
+ghost use Rattle.output.specs.Spans.{isSpan, sizeOf};
+ghost use Rattle.output.specs.Steps.{Goes, grown, maxEnd, programOf, rowOf, Planned};
 
 // "labels (size 0), written items (4, 5, 6) and reserves"
 fn is_placed(node: Node) -> bool
@@ -124,8 +122,10 @@ fn offer_node(
     requires { ⌜ Sound (now positions) (now sizes) count ⌝ }
     requires { ⌜ isPlaced node ≡ true ⌝ }
     requires { ⌜ ((o : ℕ) → out ≡ Out o → o ≤ maxOffer) ⌝ }
-    ensures { λ r. ⌜ r ≡ offerAt (held (now (positions .entry)) (now (sizes .entry)) count) out node ⌝ }
-    ensures { λ r. ⌜ Goes (now (positions .entry)) (now (sizes .entry)) count out node r (now (positions .exit)) (now (sizes .exit)) ⌝ }
+    ensures { λ r. ⌜ r ≡ answered (holding (held (now (positions .entry)) (now (sizes .entry)) count)) (node .index) (offerAt node out) ⌝ }
+    ensures { λ r. ⌜
+        Goes (now (positions .entry)) (now (sizes .entry)) count (offerAt node out) r (now (positions .exit)) (now (sizes .exit))
+        ⌝ }
 {
     match out {
         Offset::None => Verdict::Accepted,
@@ -151,10 +151,11 @@ fn place(
     count: usize,
 ) -> Verdict
     requires { ⌜ Sound (now positions) (now sizes) count ⌝ }
-    requires { ⌜ out ≡ outputPosition def (seenPos seen .position) ⌝ }
     requires { ⌜ ((o : ℕ) → out ≡ Out o → o ≤ maxOffer) ⌝ }
-    ensures { λ r. ⌜ r ≡ verdictSeen banks bank def (held (now (positions .entry)) (now (sizes .entry)) count) node seen ⌝ }
-    ensures { λ r. ⌜ Goes (now (positions .entry)) (now (sizes .entry)) count out node r (now (positions .exit)) (now (sizes .exit)) ⌝ }
+    ensures { λ r. ⌜ r ≡ verdictSeen banks bank def (holding (held (now (positions .entry)) (now (sizes .entry)) count)) node out seen ⌝ }
+    ensures { λ r. ⌜
+        Goes (now (positions .entry)) (now (sizes .entry)) count (offerAt node out) r (now (positions .exit)) (now (sizes .exit))
+        ⌝ }
 {
     match seen {
         Moved::Refused(why) => Verdict::Refused(why),
@@ -173,7 +174,7 @@ fn place(
 
 // "Written items, and reserves in banks with an offset, are offered to the store."
 fn is_offered(node: Node) -> bool
-    ensures { λ r. ⌜ r ≡ isItem (node .kind) || eqb (node .kind) 7 ⌝ }
+    ensures { λ r. ⌜ r ≡ isOffered node ⌝ }
 {
     if is_written(node) {
         return true;
@@ -184,7 +185,7 @@ fn is_offered(node: Node) -> bool
 // How many intervals are stored after a node that is accepted.
 fn count_after(node: Node, out: Offset, count: usize) -> usize
     requires { ⌜ count ≤ 4096 ⌝ }
-    ensures { λ r. ⌜ r ≡ count + grown out node ⌝ }
+    ensures { λ r. ⌜ r ≡ count + grown (offerAt node out) ⌝ }
 {
     match out {
         Offset::None => count,
@@ -203,7 +204,7 @@ fn count_after(node: Node, out: Offset, count: usize) -> usize
 fn length_after(node: Node, out: Offset, length: u64) -> u64
     requires { ⌜ ((o : ℕ) → out ≡ Out o → o ≤ maxOffer) ⌝ }
     requires { ⌜ length ≤ maxEnd ⌝ }
-    ensures { λ r. ⌜ r ≡ pick (isWritten node) (endFrom out (node .number) length) length ⌝ }
+    ensures { λ r. ⌜ r ≡ lengthOf length (itemAt node out) ⌝ }
     ensures { λ r. ⌜ r ≤ maxEnd ⌝ }
 {
     if !is_written(node) {
@@ -256,7 +257,10 @@ pub fn plan_row(
     fill: u64,
 ) -> Plan
     requires { ⌜ (fill ≤ maxOffer) × (length (now kinds) ≤ maxNodes) ⌝ }
-    ensures { λ r. ⌜ Planned (programOf banks (now (kinds .entry)) (now (operands .entry)) (now (first .entry))) (rowOf (now (numbers .entry)) (now (states .entry))) fill r ⌝ }
+    ensures { λ r. ⌜
+        Planned (programOf banks (now (kinds .entry)) (now (operands .entry)) (now (first .entry)))
+        (rowOf (now (numbers .entry)) (now (states .entry))) fill r
+        ⌝ }
 {
     let mut positions = [0u64; 512];
     let mut sizes = [0u64; 512];

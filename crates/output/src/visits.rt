@@ -10,6 +10,7 @@ ghost use Prim.Native.Nat.{ℕ, _≤_};
 ghost use Rattle.refusal.specs.Limits.{maxOffer};
 ghost use Rattle.refusal.specs.declared.Offset.the-variants.{At as Out};
 ghost use Rattle.iter.specs.Address.{outputPosition};
+ghost use Rattle.output.specs.Steps.{programOf, rowOf};
 ghost use Rattle.output.specs.Visits.{seenPos, visitOf};
 
 // A node, the bank that it stands in, the position that it sees, where that is in the output, and the walk after it.
@@ -43,7 +44,10 @@ pub fn visit_node(
     walk: Walk,
     i: usize,
 ) -> Visit
-    ensures { λ r. ⌜ r ≡ visitOf (record { banks = banks; kinds = now (kinds .entry); operands = now (operands .entry); first = now (first .entry) }) (record { numbers = now (numbers .entry); states = now (states .entry) }) walk i ⌝ }
+    ensures { λ r. ⌜
+        r ≡ visitOf (programOf banks (now (kinds .entry)) (now (operands .entry)) (now (first .entry)))
+        (rowOf (now (numbers .entry)) (now (states .entry))) walk i
+        ⌝ }
     ensures { λ r. ⌜ ((o : ℕ) → r .out ≡ Out o → o ≤ maxOffer) ⌝ }
 {
     let node = resolver::node_at(kinds, operands, first, numbers, states, i);

@@ -12,15 +12,14 @@ use refusal::Offset;
 ghost use mathlib.Core.Path.{_≡_};
 ghost use mathlib.Core.Bool.{true};
 ghost use Prim.Native.Nat.{_+_, _≤_, _<_};
-ghost use lib.ListN.{length, set};
+ghost use lib.ListN.{length, set, replicate};
 ghost use Rattle.refusal.specs.Pick.{pick};
 ghost use Rattle.blocks.specs.Offsets.{wordOf};
 ghost use Rattle.iter.specs.Address.{addressOf};
-ghost use Rattle.output.specs.Visits.{seenPos};
-ghost use Rattle.output.specs.Placing.{isWritten, sizeOf};
-ghost use Rattle.output.specs.Spans.{isSpan, told, spansTo, over, addresses as addressesOf, words as wordsOf, sizes as sizesOf};
-ghost use Rattle.output.specs.Plan.{programOf, rowOf};
-ghost use Rattle.output.specs.Image.{writtenAt, imageTo, FitsAt, Fit};
+ghost use Rattle.output.specs.Visits.{seenPos, visits};
+ghost use Rattle.output.specs.Items.{itemAt, itemsOf, imageOf};
+ghost use Rattle.output.specs.Spans.{isSpan, sizeOf, addressTold, spansOf, over, addresses as addressesOf, words as wordsOf, sizes as sizesOf};
+ghost use Rattle.output.specs.Steps.{programOf, rowOf, Fit, Fits};
 
 // The position that a node sees, in bits.
 fn position_of(seen: Moved) -> u32
@@ -35,7 +34,7 @@ fn position_of(seen: Moved) -> u32
 // The address of the position that a node sees, in whole units. A sound table has one for every bank, and an accepted walk one
 // for every node.
 fn address_of(def: Bankdef, seen: Moved, index: u64) -> i64
-    ensures { λ r. ⌜ r ≡ told (addressOf def (seenPos seen .position) index) ⌝ }
+    ensures { λ r. ⌜ r ≡ addressTold (addressOf def (seenPos seen .position) index) ⌝ }
 {
     match iter::get_address(def, position_of(seen), index) {
         Address::At(address) => address,
@@ -45,8 +44,8 @@ fn address_of(def: Bankdef, seen: Moved, index: u64) -> i64
 
 // A written item's bits, at its place in the image; any other node leaves the image as it is.
 fn write_item(node: Node, out: Offset, values: &[u8], image: &mut [u8])
-    requires { ⌜ FitsAt node out (length (now values)) (length (now image)) ⌝ }
-    ensures { λ _. ⌜ now (image .exit) ≡ pick (isWritten node) (writtenAt (now (image .entry)) out (now (values .entry)) node) (now (image .entry)) ⌝ }
+    requires { ⌜ Fit (length (now values)) (length (now image)) (itemAt node out) ⌝ }
+    ensures { λ _. ⌜ now (image .exit) ≡ imageOf (now (values .entry)) (now (image .entry)) (itemAt node out) ⌝ }
 {
     if !is_written(node) {
         return;
@@ -70,8 +69,15 @@ pub fn write_image(
     values: &[u8],
     image: &mut [u8],
 )
-    requires { ⌜ Fit (programOf banks (now kinds) (now operands) (now first)) (rowOf (now numbers) (now states)) (length (now values)) (length (now image)) (length (now kinds)) ⌝ }
-    ensures { λ _. ⌜ now (image .exit) ≡ imageTo (programOf banks (now (kinds .entry)) (now (operands .entry)) (now (first .entry))) (rowOf (now (numbers .entry)) (now (states .entry))) (now (values .entry)) (length (now (image .entry))) (length (now (kinds .entry))) ⌝ }
+    requires { ⌜
+        Fit (length (now values)) (length (now image))
+        (itemsOf (visits (programOf banks (now kinds) (now operands) (now first)) (rowOf (now numbers) (now states))))
+        ⌝ }
+    ensures { λ _. ⌜
+        now (image .exit) ≡ imageOf (now (values .entry)) (replicate (length (now (image .entry))) 0)
+        (itemsOf (visits (programOf banks (now (kinds .entry)) (now (operands .entry)) (now (first .entry)))
+        (rowOf (now (numbers .entry)) (now (states .entry)))))
+        ⌝ }
 {
     bitvec::clear(image);
     let mut walk = iter::start();
@@ -99,7 +105,10 @@ fn put_span(
 ) -> usize
     requires { ⌜ (isSpan node ≡ true → (count < length (now addresses)) × (count < length (now offsets)) × (count < length (now sizes))) ⌝ }
     ensures count { λ r. ⌜ r ≡ pick (isSpan node) (count + 1) count ⌝ }
-    ensures addresses { λ r. ⌜ now (addresses .exit) ≡ pick (isSpan node) (set (now (addresses .entry)) count (told (addressOf def (seenPos seen .position) (node .index)))) (now (addresses .entry)) ⌝ }
+    ensures addresses { λ r. ⌜
+        now (addresses .exit) ≡ pick (isSpan node)
+        (set (now (addresses .entry)) count (addressTold (addressOf def (seenPos seen .position) (node .index)))) (now (addresses .entry))
+        ⌝ }
     ensures offsets { λ r. ⌜ now (offsets .exit) ≡ pick (isSpan node) (set (now (offsets .entry)) count (wordOf out)) (now (offsets .entry)) ⌝ }
     ensures sizes { λ r. ⌜ now (sizes .exit) ≡ pick (isSpan node) (set (now (sizes .entry)) count (sizeOf node)) (now (sizes .entry)) ⌝ }
 {
@@ -124,12 +133,25 @@ pub fn write_spans(
     offsets: &mut [u64],
     sizes: &mut [u64],
 )
-    requires { ⌜ length (spansTo (programOf banks (now kinds) (now operands) (now first)) (rowOf (now numbers) (now states)) (length (now kinds))) ≤ length (now addresses) ⌝ }
-    requires { ⌜ length (spansTo (programOf banks (now kinds) (now operands) (now first)) (rowOf (now numbers) (now states)) (length (now kinds))) ≤ length (now offsets) ⌝ }
-    requires { ⌜ length (spansTo (programOf banks (now kinds) (now operands) (now first)) (rowOf (now numbers) (now states)) (length (now kinds))) ≤ length (now sizes) ⌝ }
-    ensures addresses { λ _. ⌜ now (addresses .exit) ≡ over (addressesOf (spansTo (programOf banks (now (kinds .entry)) (now (operands .entry)) (now (first .entry))) (rowOf (now (numbers .entry)) (now (states .entry))) (length (now (kinds .entry))))) (now (addresses .entry)) ⌝ }
-    ensures offsets { λ _. ⌜ now (offsets .exit) ≡ over (wordsOf (spansTo (programOf banks (now (kinds .entry)) (now (operands .entry)) (now (first .entry))) (rowOf (now (numbers .entry)) (now (states .entry))) (length (now (kinds .entry))))) (now (offsets .entry)) ⌝ }
-    ensures sizes { λ _. ⌜ now (sizes .exit) ≡ over (sizesOf (spansTo (programOf banks (now (kinds .entry)) (now (operands .entry)) (now (first .entry))) (rowOf (now (numbers .entry)) (now (states .entry))) (length (now (kinds .entry))))) (now (sizes .entry)) ⌝ }
+    requires { ⌜
+        Fits (length (spansOf (visits (programOf banks (now kinds) (now operands) (now first)) (rowOf (now numbers) (now states)))))
+        (length (now addresses)) (length (now offsets)) (length (now sizes))
+        ⌝ }
+    ensures addresses { λ _. ⌜
+        now (addresses .exit) ≡ over (addressesOf (spansOf (visits (programOf banks (now (kinds .entry)) (now (operands .entry)) (now (first .entry)))
+        (rowOf (now (numbers .entry)) (now (states .entry))))))
+        (now (addresses .entry))
+        ⌝ }
+    ensures offsets { λ _. ⌜
+        now (offsets .exit) ≡ over (wordsOf (spansOf (visits (programOf banks (now (kinds .entry)) (now (operands .entry)) (now (first .entry)))
+        (rowOf (now (numbers .entry)) (now (states .entry))))))
+        (now (offsets .entry))
+        ⌝ }
+    ensures sizes { λ _. ⌜
+        now (sizes .exit) ≡ over (sizesOf (spansOf (visits (programOf banks (now (kinds .entry)) (now (operands .entry)) (now (first .entry)))
+        (rowOf (now (numbers .entry)) (now (states .entry))))))
+        (now (sizes .entry))
+        ⌝ }
 {
     let mut walk = iter::start();
     let mut count = 0;

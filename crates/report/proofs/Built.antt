@@ -7,33 +7,29 @@ use native.Mathlib.Omega.{arith}
 use mir.Syntax.{w32}
 use mir.Val.{Fits as FitsWidth}
 use lib.Dec.{ltb}
-use lib.IntN.{ℤ}
-use lib.ListN.{length, getD, take, drop, length-map}
+use lib.ListN.{length, getD, take, drop, replicate, length-map}
 use lib.Seq.{take-at, getD-drop}
 use borrow.Author.Tests.{ltb-false}
 use Rattle.refusal.specs.Limits.{maxPosition}
 use Rattle.refusal.specs.Pick.{pick, pick-true, pick-false}
 use Rattle.refusal.specs.declared.Refusal.{Refusal}
 use Rattle.refusal.specs.declared.Refusal.the-variants.{TooShort}
-use Rattle.bankdef.specs.Check.{banksOf}
-use Rattle.bankdef.specs.Fill.{fillLength}
-use Rattle.bankdef.specs.declared.Bankdefs.{Bankdefs}
-use Rattle.resolver.specs.Lists.{Lists, rowAt}
+use Rattle.resolver.specs.Lists.{rowAt}
 use Rattle.resolver.specs.Passes.{program, rowOfPass}
-use Rattle.resolver.specs.Layout.{layoutOf}
 use Rattle.resolver.specs.declared.Settled.{Settled}
 use Rattle.resolver.specs.declared.Settled.the-variants.{At, Refused as Unsettled}
 use Rattle.blocks.specs.Spans.{acceptable}
-use Rattle.output.specs.Placing.{Placed, holds, stops, placedTo}
-use Rattle.output.specs.Spans.{Span, spansTo, lengthTo, over, words, sizes}
-use Rattle.output.specs.Image.{imageTo}
-use Rattle.output.specs.Output.{Room, roomOf, roomFor, placedBuild, settledBuild, buildOf, ifDone, Builds}
+use Rattle.output.specs.Items.{itemsOf, lengthOf, imageOf}
+use Rattle.output.specs.Placing.{Placed, holds, stops, placedAll}
+use Rattle.output.specs.Spans.{Span, spansOf, words, sizes}
+use Rattle.output.specs.Output.{Input, Lent, Room, roomOf, roomFor, placedBuild, settledBuild, buildOf, visitsOf, fillOf, passesOf, settledOf}
+use Rattle.output.specs.Output.{filled, leftBy, Builds}
 use Rattle.output.specs.declared.Build.{Build}
 use Rattle.output.specs.declared.Build.the-variants.{Done, Refused}
 use Rattle.output.specs.declared.Output.{Output}
 use Rattle.form.specs.Fields.{by-test}
 use Rattle.text.specs.Lines.{refusalText}
-use Rattle.report.specs.Report.{imageRoom, spanRoom, lentRoom, doneText, answerText, builtText}
+use Rattle.report.specs.Report.{imageRoom, spanRoom, lentRoom, doneText, answerText, builtText, laidText}
 use Rattle.report.specs.Steps.{Fitting, answered, OffsetsFit}
 use Rattle.report.proofs.Fitting.{fit-acceptable, spans-fit}
 
@@ -83,80 +79,78 @@ module _ (room : Room) (k bits n : ℕ) where
   fits-placed k₁ bits₁ n₁ (holds stored) e = fits-room k₁ bits₁ n₁ e
   fits-placed k₁ bits₁ n₁ (stops why) e = absurd (not-done why k bits n e)
 
-  fits-settled : (banks : Bankdefs) (l : Lists) (passes : ℕ) (s : Settled) → settledBuild banks l room passes s ≡ Done k bits n
-      → Fits (length (spansTo (program banks l) (rowOfPass l passes) (length (l .kinds))))
-  fits-settled banks l passes (Unsettled why) e = absurd (not-done why k bits n e)
-  fits-settled banks l passes (At k₁) e =
-      let p = program banks l in
-      let row = rowOfPass l passes in
-      let nodes = length (l .kinds) in
-      fits-placed k₁ (lengthTo p row (fillLength (banksOf banks)) nodes) (length (spansTo p row nodes)) (placedTo p row nodes) e
+  fits-settled : (b : Input) (passes : ℕ) (s : Settled) → settledBuild b room passes s ≡ Done k bits n → Fits (length (spansOf (visitsOf b passes)))
+  fits-settled b passes (Unsettled why) e = absurd (not-done why k bits n e)
+  fits-settled b passes (At k₁) e =
+      let vs = visitsOf b passes in
+      fits-placed k₁ (lengthOf (fillOf b) (itemsOf vs)) (length (spansOf vs)) (placedAll (b .banks .len) vs) e
 
-module _ (banks : Bankdefs) (l : Lists) (limit : ℕ) (image : List ℕ) (addressed : List ℤ) (offsets sized : List ℕ) (hi : length image ≡ imageRoom) (ha : length addressed ≡ spanRoom) (ho : length offsets ≡ spanRoom)
-    (hs : length sized ≡ spanRoom) (r : Output) (image′ : List ℕ) (addressed′ : List ℤ) (offsets′ sized′ : List ℕ) (b : Builds banks l limit image addressed offsets sized r image′ addressed′ offsets′ sized′) where
-  room-is : roomOf image addressed offsets sized ≡ lentRoom
+module _ (b : Input) (old : Lent) (hi : length (old .image) ≡ imageRoom) (ha : length (old .addresses) ≡ spanRoom) (ho : length (old .offsets) ≡ spanRoom)
+    (hs : length (old .sizes) ≡ spanRoom) (r : Output) (new : Lent) (built : Builds b old r new) where
+  room-is : roomOf old ≡ lentRoom
   room-is = rw (hi, ha, ho, hs) refl
 
-  answer-is : r ≡ buildOf banks l limit lentRoom
-  answer-is = b .answer ∙ ap (buildOf banks l limit) room-is
+  answer-is : r ≡ buildOf b lentRoom
+  answer-is = built .answer ∙ ap (buildOf b) room-is
 
-  refused-build : (why : Refusal) → r .build ≡ Refused why → refusalText why ≡ builtText banks l (buildOf banks l limit lentRoom)
-  refused-build why e = ap (answerText banks l (r .passes)) (sym e) ∙ ap (builtText banks l) answer-is
+  refused-build : (why : Refusal) → r .build ≡ Refused why → refusalText why ≡ laidText b
+  refused-build why e = ap (answerText (visitsOf b (r .passes)) (b .lists .values)) (sym e) ∙ ap (builtText b) answer-is
 
   module _ (k bits n : ℕ) (e : r .build ≡ Done k bits n) where
     abbrev spans : List Span
-    spans = spansTo (program banks l) (rowOfPass l (r .passes)) (length (l .kinds))
+    spans = spansOf (visitsOf b (r .passes))
 
-    built : buildOf banks l limit lentRoom .build ≡ Done k bits n
-    built = sym (ap (λ (o : Output). o .build) answer-is) ∙ e
-
-    inside : (o : Output) → o ≡ buildOf banks l limit lentRoom → o .build ≡ Done k bits n
-        → Fits lentRoom k bits n (length (spansTo (program banks l) (rowOfPass l (o .passes)) (length (l .kinds))))
+    inside : (o : Output) → o ≡ buildOf b lentRoom → o .build ≡ Done k bits n → Fits lentRoom k bits n (length (spansOf (visitsOf b (o .passes))))
     unfolding buildOf
     inside o h d =
-        subst (λ (x : Output). Fits lentRoom k bits n (length (spansTo (program banks l) (rowOfPass l (x .passes)) (length (l .kinds))))) (sym h)
-        (fits-settled lentRoom k bits n banks l (layoutOf banks l limit .passes) (layoutOf banks l limit .settled) (sym (ap (λ (x : Output). x .build) h) ∙ d))
+        subst (λ (x : Output). Fits lentRoom k bits n (length (spansOf (visitsOf b (x .passes))))) (sym h)
+        (fits-settled lentRoom k bits n b (passesOf b) (settledOf b) (sym (ap (λ (x : Output). x .build) h) ∙ d))
 
     within : Fits lentRoom k bits n (length spans)
     within = inside r answer-is e
 
-    offsets-part : take n offsets′ ≡ words spans
+    left-is : new ≡ filled (visitsOf b (r .passes)) (b .lists .values) old
+    left-is = built .left ∙ ap (leftBy (visitsOf b (r .passes)) (b .lists .values) old) e
+
+    offsets-part : take n (new .offsets) ≡ words spans
     offsets-part =
-        ap (take n) (b .second ∙ ap (λ (q : Build). ifDone q (over (words spans) offsets) offsets) e)
+        ap (λ (x : Lent). take n (x .offsets)) left-is
         ∙ take-at (words spans) _ n (length-map spans _ ∙ sym (within .2))
 
-    sizes-part : take n sized′ ≡ sizes spans
+    sizes-part : take n (new .sizes) ≡ sizes spans
     sizes-part =
-        ap (take n) (b .third ∙ ap (λ (q : Build). ifDone q (over (sizes spans) sized) sized) e)
+        ap (λ (x : Lent). take n (x .sizes)) left-is
         ∙ take-at (sizes spans) _ n (length-map spans _ ∙ sym (within .2))
 
-    image-is : image′ ≡ imageTo (program banks l) (rowOfPass l (r .passes)) (l .values) imageRoom (length (l .kinds))
+    image-is : new .image ≡ imageOf (b .lists .values) (replicate imageRoom 0) (itemsOf (visitsOf b (r .passes)))
     image-is =
-        b .bits ∙ ap (λ (q : Build). ifDone q (imageTo (program banks l) (rowOfPass l (r .passes)) (l .values) (length image) (length (l .kinds))) image) e
-        ∙ ap (λ (m : ℕ). imageTo (program banks l) (rowOfPass l (r .passes)) (l .values) m (length (l .kinds))) hi
+        ap (λ (x : Lent). x .image) left-is
+        ∙ ap (λ (m : ℕ). imageOf (b .lists .values) (replicate m 0) (itemsOf (visitsOf b (r .passes)))) hi
 
-    done-build : doneText k bits (take n offsets′) (take n sized′) image′ ≡ builtText banks l (buildOf banks l limit lentRoom)
+    done-build : doneText k bits (take n (new .offsets)) (take n (new .sizes)) (new .image) ≡ laidText b
     done-build =
-        ap₂ (λ (a c : List ℕ). doneText k bits a c image′) offsets-part sizes-part ∙ ap (doneText k bits (words spans) (sizes spans)) image-is
-        ∙ ap (answerText banks l (r .passes)) (sym e) ∙ ap (builtText banks l) answer-is
+        ap₂ (λ (a c : List ℕ). doneText k bits a c (new .image)) offsets-part sizes-part ∙ ap (doneText k bits (words spans) (sizes spans)) image-is
+        ∙ ap (answerText (visitsOf b (r .passes)) (b .lists .values)) (sym e) ∙ ap (builtText b) answer-is
 
   -- whatever the build answers
-  pub build-text : (q : Build) → r .build ≡ q → answered q image′ offsets′ sized′ ≡ builtText banks l (buildOf banks l limit lentRoom)
+  pub build-text : (q : Build) → r .build ≡ q → answered q (new .image) (new .offsets) (new .sizes) ≡ laidText b
   build-text (Refused why) e = refused-build why e
   build-text (Done k bits n) e = done-build k bits n e
 
   -- where each number is within its type's range
-  module _ (banks-fit : OffsetsFit banks) (small : (i : ℕ) → getD (l .numbers) i 0 ≤ maxPosition) where
-    row-small : (k i : ℕ) → getD (rowAt l k .numbers) i 0 ≤ maxPosition
-    row-small k i = small-part (length (l .kinds)) (k * length (l .kinds)) (l .numbers) small i
+  module _ (banks-fit : OffsetsFit (b .banks)) (small : (i : ℕ) → getD (b .lists .numbers) i 0 ≤ maxPosition) where
+    row-small : (k i : ℕ) → getD (rowAt (b .lists) k .numbers) i 0 ≤ maxPosition
+    row-small k i = small-part (length (b .lists .kinds)) (k * length (b .lists .kinds)) (b .lists .numbers) small i
 
-    accepted : (k bits n : ℕ) (e : r .build ≡ Done k bits n) → acceptable (take n offsets′) (take n sized′) ≡ true
+    accepted : (k bits n : ℕ) (e : r .build ≡ Done k bits n) → acceptable (take n (new .offsets)) (take n (new .sizes)) ≡ true
     accepted k bits n e =
         let w = within k bits n e in
-        let all = spans-fit (program banks l) (rowOfPass l (r .passes)) banks-fit (row-small 0) (row-small (min (r .passes) (l .rows) - 1)) (length (l .kinds)) in
+        let all = spans-fit (program (b .banks) (b .lists)) (rowOfPass (b .lists) (r .passes)) banks-fit (row-small 0)
+        (row-small (min (r .passes) (b .lists .rows) - 1)) (length (b .lists .kinds)) in
         rw (offsets-part k bits n e, sizes-part k bits n e) (fit-acceptable (spans k bits n e) all (omega (arith, w .1, w .2)))
 
-    pub build-fits : (q : Build) → r .build ≡ q → length image′ ≡ imageRoom → length offsets′ ≡ spanRoom → length sized′ ≡ spanRoom → Fitting q image′ offsets′ sized′
+    pub build-fits : (q : Build) → r .build ≡ q → length (new .image) ≡ imageRoom → length (new .offsets) ≡ spanRoom → length (new .sizes) ≡ spanRoom
+        → Fitting q (new .image) (new .offsets) (new .sizes)
     build-fits (Refused why) e gi go gs = tt
     build-fits (Done k bits n) e gi go gs =
         let w = within k bits n e in

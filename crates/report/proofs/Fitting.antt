@@ -1,7 +1,7 @@
 -- The spans of a layout whose numbers are within document 01's table are within an offer's limits, so the blocks' call accepts them.
 use mathlib.Core.Path.{_≡_, refl, sym, subst, _∙_}
 use mathlib.Core.Bool.{Bool, true, false}
-use mathlib.Core.List.{List, [], _∷_, _++_}
+use mathlib.Core.List.{List, [], _∷_, _++_, append-nil}
 use Prim.Native.Nat.{ℕ, zero, suc, _+_, _≤_, zero-le}
 use native.Mathlib.Omega.{arith}
 use lib.Dec.{eqb}
@@ -23,8 +23,9 @@ use Rattle.resolver.specs.Lists.{Row}
 use Rattle.resolver.specs.Once.{Program, node, bankOf, walkTo}
 use Rattle.blocks.specs.Offsets.{offsetOf, wordOf, at-of-word}
 use Rattle.blocks.specs.Spans.{offsetWithin, spansOf, allWithin, acceptable}
-use Rattle.output.specs.Visits.{seenPos}
-use Rattle.output.specs.Spans.{Span, isSpan, positionAt, spanAt, spansTo, words, sizes}
+use Rattle.output.specs.Visits.{seenPos, positionOf, visitAt, visitsTo, each}
+use Rattle.output.specs.VisitLaws.{each-next, visits-none}
+use Rattle.output.specs.Spans.{Span, isSpan, spanAt, spanOf, spansOf as spansIn, words, sizes}
 use Rattle.form.specs.Fields.{by-test}
 use Rattle.report.specs.Steps.{OffsetFits, OffsetsFit}
 
@@ -77,7 +78,7 @@ module _ (p : Program) (row : Row) (banks : OffsetsFit (p .banks)) (first : (i :
   walk-small zero = never-past (λ k. noBank) [] tt
   walk-small (suc i) = step-within (bankOf (p .banks) (walkTo p row i) (node p row i)) (walkTo p row i) (node p row i) (small i) (walk-small i)
 
-  seen-small : (i : ℕ) → positionAt p row i ≤ maxPosition
+  seen-small : (i : ℕ) → positionOf (visitAt p row i) ≤ maxPosition
   seen-small i =
       let walk = walkTo p row i in
       let n = node p row i in
@@ -85,17 +86,21 @@ module _ (p : Program) (row : Row) (banks : OffsetsFit (p .banks)) (first : (i :
       step-cases def walk n (λ (s : Stepped). Small (seenPos (s .seen))) (λ why. zero-le)
       (λ a b s e. subst Within s (seen-within def (standing walk n) n (walk-small i (bankAfter (walk .bank) n))))
 
-  span-fits : (i : ℕ) → Fit (spanAt p row i)
+  span-fits : (i : ℕ) → Fit (spanAt (visitAt p row i))
   span-fits i =
       let bank = bankAfter (walkTo p row i .bank) (node p row i) in (
-        out-fits (getD (p .banks .defs) bank noBank .offset) (positionAt p row i) (banks bank) (seen-small i),
+        out-fits (getD (p .banks .defs) bank noBank .offset) (positionOf (visitAt p row i)) (banks bank) (seen-small i),
         either (eqb (node p row i .kind) 2) 0 (node p row i .number) zero-le (small i),
       )
 
-  pub spans-fit : (n : ℕ) → AllFit (spansTo p row n)
-  unfolding spansTo
-  spans-fit zero = tt
+  none-fit : AllFit (spansIn (visitsTo p row 0))
+  unfolding each
+  none-fit = rw (visits-none p row) tt
+
+  pub spans-fit : (n : ℕ) → AllFit (spansIn (visitsTo p row n))
+  spans-fit zero = none-fit
   spans-fit (suc i) =
-      by-test (isSpan (node p row i))
-      (λ y. rw y (fit-last (spansTo p row i) (spanAt p row i) (spans-fit i) (span-fits i)))
-      (λ n. rw n (spans-fit i))
+      rw (each-next p row spanOf i)
+      (by-test (isSpan (node p row i))
+      (λ y. rw y (fit-last (spansIn (visitsTo p row i)) (spanAt (visitAt p row i)) (spans-fit i) (span-fits i)))
+      (λ n. rw (n, append-nil (spansIn (visitsTo p row i))) (spans-fit i)))

@@ -16,7 +16,7 @@ use Rattle.resolver.specs.Layout.{unless, layoutOf}
 use Rattle.resolver.specs.declared.Resolution.{Resolution}
 use Rattle.resolver.specs.declared.Settled.the-variants.{Refused as Unsettled}
 use Rattle.resolver.proofs.Counts.{too-many-nodes}
-use Rattle.output.specs.Output.{settledBuild, buildOf}
+use Rattle.output.specs.Output.{Input, settledBuild, buildOf, visitsOf}
 use Rattle.form.specs.Banks.{tableOf}
 use Rattle.form.specs.Words.{byte}
 use Rattle.form.specs.Shape.{nodesStart, nodeCount, formOf}
@@ -25,7 +25,7 @@ use Rattle.form.specs.declared.Form.the-variants.{Sound}
 use Rattle.form.proofs.Columns.{column-length}
 use Rattle.form.proofs.Filled.{places}
 use Rattle.text.specs.Lines.{refusalText}
-use Rattle.report.specs.Report.{lentRoom, answerText, builtText, listsIn, soundText, refusalOr, countRefusal}
+use Rattle.report.specs.Report.{lentRoom, answerText, laidText, inputIn, soundText, refusalOr, countRefusal}
 
 go : (v w : Verdict) (q : Resolution) → TurnedAway (Malformed 0) ≡ w → unless v (unless w q) ≡ record { settled = Unsettled (refusalOr v (Malformed 0)); passes = 0 }
 go Accepted w q e = rw (← e) refl
@@ -36,13 +36,14 @@ unfolding layoutOf
 layout-many banks l limit h =
     go (checkOf banks) (listsOf (banks .len) l) (resolutionOf banks l limit) (too-many-nodes (banks .len) l h)
 
-text-many : (banks : Bankdefs) (l : Lists) (limit : ℕ) → maxNodes < length (l .kinds) → builtText banks l (buildOf banks l limit lentRoom) ≡ refusalText (countRefusal banks)
+text-many : (b : Input) → maxNodes < length (b .lists .kinds) → laidText b ≡ refusalText (countRefusal (b .banks))
 unfolding buildOf
-text-many banks l limit h =
-    ap (λ (x : Resolution). answerText banks l (x .passes) (settledBuild banks l lentRoom (x .passes) (x .settled))) (layout-many banks l limit h)
+text-many b h =
+    ap (λ (x : Resolution). answerText (visitsOf b (x .passes)) (b .lists .values) (settledBuild b lentRoom (x .passes) (x .settled)))
+    (layout-many (b .banks) (b .lists) (b .limit) h)
 
 pub many-text : (file : List ℕ) (s : Shape) → formOf file ≡ Sound s → maxNodes < s .nodes → refusalText (countRefusal (tableOf file)) ≡ soundText file s
 many-text file s e h =
     let nodes = places file s e .nodes in
     let long = column-length (byte file) 8 (nodesStart file + 3) (nodeCount file) in
-    sym (text-many (tableOf file) (listsIn file s) (s .limit) (rw long (rw (← nodes) h)))
+    sym (text-many (inputIn file s) (rw long (rw (← nodes) h)))

@@ -19,7 +19,7 @@ use Rattle.form.specs.declared.Form.the-variants.{Sound}
 use Rattle.form.proofs.Columns.{column-length}
 use Rattle.form.proofs.Cells.{cells-length}
 use Rattle.form.proofs.Filled.{places}
-use Rattle.report.specs.Report.{listsIn}
+use Rattle.report.specs.Report.{inputIn}
 
 -- five bytes a cell
 pub cells-few : (file : List ℕ) (s : Shape) → formOf file ≡ Sound s → s .rows * s .nodes ≤ 13000
@@ -88,5 +88,5 @@ module _ (file : List ℕ) (s : Shape) (e : formOf file ≡ Sound s) (few : s .n
       long (s .rows * s .nodes) states′ (statesOf file) states-part (cells-length (byte file) (nodeCount file) (rowsStart file + 7) (rowCount file) ∙ as-many)
 
   pub lists-read : (values : List ℕ) → ValuesAre file values
-      → lists (take (s .nodes) kinds′) (take (s .nodes) operands′) (take (s .rows * s .nodes) numbers′) (take (s .rows * s .nodes) states′) (s .rows) values ≡ listsIn file s
+      → lists (take (s .nodes) kinds′) (take (s .nodes) operands′) (take (s .rows * s .nodes) numbers′) (take (s .rows * s .nodes) states′) (s .rows) values ≡ inputIn file s .lists
   lists-read values v = rw (kinds-part, operands-part, numbers-part, states-part, v ∙ ap (valuesBy file) e) refl

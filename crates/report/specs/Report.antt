@@ -2,23 +2,22 @@
 -- 0), and lends 16,384 image bytes, 4,096 spans and 4,096 blocks").
 use mathlib.Core.List.{List}
 use Prim.Native.Nat.{ℕ}
-use lib.ListN.{length}
+use lib.ListN.{length, replicate}
 use Rattle.refusal.specs.declared.Refusal.{Refusal}
 use Rattle.refusal.specs.declared.Refusal.the-variants.{Malformed}
 use Rattle.refusal.specs.declared.Verdict.{Verdict}
 use Rattle.refusal.specs.declared.Verdict.the-variants.{Accepted, Refused as TurnedAway}
 use Rattle.bankdef.specs.Check.{checkOf}
 use Rattle.bankdef.specs.declared.Bankdefs.{Bankdefs}
-use Rattle.resolver.specs.Lists.{Lists, Row, lists}
-use Rattle.resolver.specs.Once.{Program}
-use Rattle.resolver.specs.Passes.{program, rowOfPass}
+use Rattle.resolver.specs.Lists.{lists}
 use Rattle.bitvec.specs.HexDigits.{hexOf}
 use Rattle.blocks.specs.Spans.{spansOf}
 use Rattle.blocks.specs.Walk.{blocksOf}
 use Rattle.blocks.specs.Outcome.{origins, sizes}
-use Rattle.output.specs.Spans.{spansTo, words, sizes as spanSizes}
-use Rattle.output.specs.Image.{imageTo}
-use Rattle.output.specs.Output.{Room, buildOf}
+use Rattle.output.specs.Items.{itemsOf, imageOf}
+use Rattle.output.specs.Spans.{spansOf as spansIn, words, sizes as spanSizes}
+use Rattle.output.specs.Output.{Input, input, Room, visitsOf, buildOf}
+use Rattle.output.specs.declared.visits.Visit.{Visit}
 use Rattle.output.specs.declared.Build.{Build}
 use Rattle.output.specs.declared.Build.the-variants.{Done, Refused}
 use Rattle.output.specs.declared.Output.{Output}
@@ -44,28 +43,32 @@ lentRoom = record { image = imageRoom; spans = spanRoom }
 -- 4,096 blocks and for every digit, and spans of a file's layout are within an offer's limits, so neither call is refused.
 abbrev pub doneText : ℕ → ℕ → List ℕ → List ℕ → List ℕ → List ℕ
 doneText k bits offsets sized image =
-    layoutText k (length (blocksOf (spansOf offsets sized))) (origins (blocksOf (spansOf offsets sized))) (sizes (blocksOf (spansOf offsets sized))) (hexOf image bits)
+    layoutText k (length (blocksOf (spansOf offsets sized))) (origins (blocksOf (spansOf offsets sized)))
+    (sizes (blocksOf (spansOf offsets sized))) (hexOf image bits)
 
--- the text of an accepted build over the row of its last pass
-abbrev pub rowText : Program → Row → List ℕ → ℕ → ℕ → ℕ → List ℕ
-rowText p row values k bits nodes =
-    doneText k bits (words (spansTo p row nodes)) (spanSizes (spansTo p row nodes)) (imageTo p row values imageRoom nodes)
+-- the text of a build over the visits of its last pass. "A refusal prints `refused`, number and place, one space between."
+abbrev pub answerText : List Visit → List ℕ → Build → List ℕ
+answerText vs values (Refused why) = refusalText why
+answerText vs values (Done k bits spans) =
+    doneText k bits (words (spansIn vs)) (spanSizes (spansIn vs)) (imageOf values (replicate imageRoom 0) (itemsOf vs))
 
-abbrev pub answerText : Bankdefs → Lists → ℕ → Build → List ℕ
-answerText banks l passes (Refused why) = refusalText why
-answerText banks l passes (Done k bits spans) = rowText (program banks l) (rowOfPass l passes) (l .values) k bits (length (l .kinds))
+-- what is printed of a build's answer
+abbrev pub builtText : Input → Output → List ℕ
+builtText b answer = answerText (visitsOf b (answer .passes)) (b .lists .values) (answer .build)
 
--- What is printed of a build's answer: "A refusal prints `refused`, number and place, one space between."
-abbrev pub builtText : Bankdefs → Lists → Output → List ℕ
-builtText banks l answer = answerText banks l (answer .passes) (answer .build)
+-- what is printed of a layout
+abbrev pub laidText : Input → List ℕ
+laidText b = builtText b (buildOf b lentRoom)
 
--- the lists of a sound file
-abbrev pub listsIn : List ℕ → Shape → Lists
-listsIn file s =
-    lists (kindsOf file) (operandsOf file) (numbersOf file) (statesOf file) (s .rows) (valuesBy file (Sound s))
+-- the layout that a sound file says
+abbrev pub inputIn : List ℕ → Shape → Input
+inputIn file s =
+    input (tableOf file)
+    (lists (kindsOf file) (operandsOf file) (numbersOf file) (statesOf file) (s .rows) (valuesBy file (Sound s)))
+    (s .limit)
 
 abbrev pub soundText : List ℕ → Shape → List ℕ
-soundText file s = builtText (tableOf file) (listsIn file s) (buildOf (tableOf file) (listsIn file s) (s .limit) lentRoom)
+soundText file s = laidText (inputIn file s)
 
 abbrev pub formText : List ℕ → Form → List ℕ
 formText file (Sound s) = soundText file s

@@ -19,7 +19,8 @@ use Rattle.report.specs.Report.{imageRoom, doneText}
 abbrev pub Fitting : Build → List ℕ → List ℕ → List ℕ → Type 0
 Fitting (Refused why) image offsets sized = Unit {0}
 Fitting (Done k bits n) image offsets sized =
-    (bits ≤ 8 * length image) × (bits ≤ 8 * imageRoom) × (n ≤ length offsets) × (n ≤ length sized) × (acceptable (take n offsets) (take n sized) ≡ true)
+    (bits ≤ 8 * length image) × (bits ≤ 8 * imageRoom) × (n ≤ length offsets) × (n ≤ length sized)
+    × (acceptable (take n offsets) (take n sized) ≡ true)
 
 -- The text, from the spans at the front of the lent lists.
 abbrev pub answered : Build → List ℕ → List ℕ → List ℕ → List ℕ

@@ -16,11 +16,11 @@ ghost use Rattle.refusal.specs.Limits.{maxNodes};
 ghost use Rattle.bitvec.specs.HexDigits.{hexOf, digitCount};
 ghost use Rattle.form.specs.Banks.{tableOf};
 ghost use Rattle.form.specs.Shape.{formOf};
-ghost use Rattle.output.specs.Output.{buildOf};
+ghost use Rattle.output.specs.Output.{input};
 ghost use Rattle.resolver.specs.Lists.{lists};
 ghost use Rattle.text.specs.Lines.{layoutText};
 ghost use Rattle.text.specs.Puts.{Puts};
-ghost use Rattle.report.specs.Report.{imageRoom, spanRoom, lentRoom, doneText, builtText, soundText, countRefusal, reportText};
+ghost use Rattle.report.specs.Report.{imageRoom, spanRoom, doneText, laidText, soundText, countRefusal, reportText};
 ghost use Rattle.report.specs.Steps.{Fitting, answered, OffsetsFit};
 ghost use Rattle.blocks.specs.Spans.{acceptable};
 
@@ -38,7 +38,11 @@ fn put_lines(
     requires { ⌜ bits ≤ 8 * length (now image) ⌝ }
     requires { ⌜ bits ≤ 8 * imageRoom ⌝ }
     requires { ⌜ digitCount bits ≤ length (now hex) ⌝ }
-    ensures { λ r. ⌜ Puts (layoutText k count (now («block_offsets» .entry)) (now («block_sizes» .entry)) (hexOf (now (image .entry)) bits)) (now (out .entry)) 0 r (now (out .exit)) ⌝ }
+    ensures { λ r. ⌜
+        Puts
+        (layoutText k count (now («block_offsets» .entry)) (now («block_sizes» .entry)) (hexOf (now (image .entry)) bits))
+        (now (out .entry)) 0 r (now (out .exit))
+        ⌝ }
 {
     bitvec::write_hex(image, bits, hex);
     let digits = ((bits + 3) / 4) as usize;
@@ -71,7 +75,9 @@ fn put_done(
     requires { ⌜ maxNodes ≤ length (now «block_offsets») ⌝ }
     requires { ⌜ maxNodes ≤ length (now «block_sizes») ⌝ }
     requires { ⌜ acceptable (now offsets) (now sizes) ≡ true ⌝ }
-    ensures { λ r. ⌜ Puts (doneText k bits (now (offsets .entry)) (now (sizes .entry)) (now (image .entry))) (now (out .entry)) 0 r (now (out .exit)) ⌝ }
+    ensures { λ r. ⌜
+        Puts (doneText k bits (now (offsets .entry)) (now (sizes .entry)) (now (image .entry))) (now (out .entry)) 0 r (now (out .exit))
+        ⌝ }
 {
     let found = blocks::get_blocks(offsets, sizes, block_offsets, block_sizes);
     match found {
@@ -101,7 +107,9 @@ fn put_accepted(
     requires { ⌜ bits ≤ 8 * length (now image) ⌝ }
     requires { ⌜ bits ≤ 8 * imageRoom ⌝ }
     requires { ⌜ acceptable (now offsets) (now sizes) ≡ true ⌝ }
-    ensures { λ r. ⌜ Puts (doneText k bits (now (offsets .entry)) (now (sizes .entry)) (now (image .entry))) (now (out .entry)) 0 r (now (out .exit)) ⌝ }
+    ensures { λ r. ⌜
+        Puts (doneText k bits (now (offsets .entry)) (now (sizes .entry)) (now (image .entry))) (now (out .entry)) 0 r (now (out .exit))
+        ⌝ }
 {
     let mut block_offsets = [0u64; 4096];
     let mut block_sizes = [0u64; 4096];
@@ -122,7 +130,9 @@ fn put_accepted(
 // The text of a build's answer, whose image and spans stand in what is lent.
 fn put_answer(build: Build, image: &[u8], offsets: &[u64], sizes: &[u64], out: &mut [u8]) -> Written
     requires { ⌜ Fitting build (now image) (now offsets) (now sizes) ⌝ }
-    ensures { λ r. ⌜ Puts (answered build (now (image .entry)) (now (offsets .entry)) (now (sizes .entry))) (now (out .entry)) 0 r (now (out .exit)) ⌝ }
+    ensures { λ r. ⌜
+        Puts (answered build (now (image .entry)) (now (offsets .entry)) (now (sizes .entry))) (now (out .entry)) 0 r (now (out .exit))
+        ⌝ }
 {
     match build {
         Build::Refused(why) => text::put_refusal(out, 0, why),
@@ -154,7 +164,13 @@ fn put_build(
     requires { ⌜ length (now offsets) ≡ spanRoom ⌝ }
     requires { ⌜ length (now sizes) ≡ spanRoom ⌝ }
     requires { ⌜ OffsetsFit banks ⌝ }
-    ensures { λ r. ⌜ Puts (builtText banks (lists (now (kinds .entry)) (now (operands .entry)) (now (numbers .entry)) (now (states .entry)) rows (now (values .entry))) (buildOf banks (lists (now (kinds .entry)) (now (operands .entry)) (now (numbers .entry)) (now (states .entry)) rows (now (values .entry))) limit lentRoom)) (now (out .entry)) 0 r (now (out .exit)) ⌝ }
+    ensures { λ r. ⌜
+        Puts
+        (laidText (input banks
+        (lists (now (kinds .entry)) (now (operands .entry)) (now (numbers .entry)) (now (states .entry)) rows (now (values .entry)))
+        limit))
+        (now (out .entry)) 0 r (now (out .exit))
+        ⌝ }
 {
     let answer = output::build_output(
         banks,
@@ -187,7 +203,13 @@ fn put_layout(
     out: &mut [u8],
 ) -> Written
     requires { ⌜ OffsetsFit banks ⌝ }
-    ensures { λ r. ⌜ Puts (builtText banks (lists (now (kinds .entry)) (now (operands .entry)) (now (numbers .entry)) (now (states .entry)) rows (now (values .entry))) (buildOf banks (lists (now (kinds .entry)) (now (operands .entry)) (now (numbers .entry)) (now (states .entry)) rows (now (values .entry))) limit lentRoom)) (now (out .entry)) 0 r (now (out .exit)) ⌝ }
+    ensures { λ r. ⌜
+        Puts
+        (laidText (input banks
+        (lists (now (kinds .entry)) (now (operands .entry)) (now (numbers .entry)) (now (states .entry)) rows (now (values .entry)))
+        limit))
+        (now (out .entry)) 0 r (now (out .exit))
+        ⌝ }
 {
     let mut image = [0u8; 16384];
     let mut addresses = [0i64; 4096];

@@ -5,9 +5,9 @@ use mathlib.Core.List.{List}
 use Prim.Native.Nat.{ℕ}
 use Rattle.bankdef.specs.declared.Bankdefs.{Bankdefs}
 use Rattle.resolver.specs.Lists.{Lists}
-use Rattle.output.specs.Output.{buildOf}
+use Rattle.output.specs.Output.{input}
 use Rattle.text.specs.Puts.{Puts}
-use Rattle.report.specs.Report.{lentRoom, builtText}
+use Rattle.report.specs.Report.{laidText}
 use Rattle.report.specs.Steps.{OffsetsFit}
 use Rattle.report.proofs.Table.{table-fits}
 use Rattle.report.proofs.Read.{cells-few, kinds-long, operands-long, numbers-long, states-long, lists-read}
@@ -80,7 +80,7 @@ returns c =
     let s = a .shape in
     let values = c .before .before .before .before .before .before .before .before .read-values in
     subst (λ (t : List ℕ). Puts t (a .out .now) 0 (c .before .before .put-layout .result) (c .before .before .put-layout .last .1 .1 .1 .1 .1 .1 .1 .1 .0))
-    (ap₂ (λ (b : Bankdefs) (l : Lists). builtText b l (buildOf b l (s .limit) lentRoom)) (c .before .before .before .before .before .before .before .before .before .read-banks .ensures) (lists-read (begin d .args .file .now) (begin d .args .shape) (begin d .pre .0) (begin d .pre .1 .0) (begin d .args .kinds .now) (begin d .args .operands .now) (begin d .args .numbers .now) (begin d .args .states .now) (begin d .pre .1 .1 .0) (begin d .pre .1 .1 .1 .0) (begin d .pre .1 .1 .1 .1 .0) (begin d .pre .1 .1 .1 .1 .1) (d .read-lists .result) (d .read-lists .last .1 .0) (d .read-lists .last .1 .1 .0) (d .read-lists .last .1 .1 .1 .0) (d .read-lists .last .1 .1 .1 .1 .0) (d .read-lists .ensures) (values .result .now) (values .ensures)))
+    (ap₂ (λ (b : Bankdefs) (l : Lists). laidText (input b l (s .limit))) (c .before .before .before .before .before .before .before .before .before .read-banks .ensures) (lists-read (begin d .args .file .now) (begin d .args .shape) (begin d .pre .0) (begin d .pre .1 .0) (begin d .args .kinds .now) (begin d .args .operands .now) (begin d .args .numbers .now) (begin d .args .states .now) (begin d .pre .1 .1 .0) (begin d .pre .1 .1 .1 .0) (begin d .pre .1 .1 .1 .1 .0) (begin d .pre .1 .1 .1 .1 .1) (d .read-lists .result) (d .read-lists .last .1 .0) (d .read-lists .last .1 .1 .0) (d .read-lists .last .1 .1 .1 .0) (d .read-lists .last .1 .1 .1 .1 .0) (d .read-lists .ensures) (values .result .now) (values .ensures)))
     (c .before .before .put-layout .ensures)
 
 pub put-lists-spec : {M : Type 1} → statement M

@@ -2,6 +2,7 @@
 use mathlib.Core.Path.{sym, _∙_}
 use Rattle.denkumari.proofs.FormLaws.{held, broken}
 use native.Mathlib.Omega.{arith}
+use Rattle.output.specs.Output.{lent}
 use borrow.Author.Needs.{needs}
 use Rattle.denkumari.proofs.forms.build_form.Statement.{statement}
 use Rattle.denkumari.proofs.forms.build_form.Tie as tie
@@ -50,7 +51,7 @@ build-read-requires c κs =
 returns : tie.Need-returns
 returns c =
     let a = c .before .before .before .before .before .before .before .before .args in
-    broken (a .file .now) (a .image .now) (a .addresses .now) (a .offsets .now) (a .sizes .now) _ (sym (c .before .before .before .read-shape .ensures) ∙ c .before .why .given .1)
+    broken (a .file .now) (lent (a .image .now) (a .addresses .now) (a .offsets .now) (a .sizes .now)) _ (sym (c .before .before .before .read-shape .ensures) ∙ c .before .why .given .1)
 
 same-length : tie.Need-same-length
 same-length c = search needs

@@ -2,6 +2,7 @@
 use mathlib.Core.Path.{sym}
 use lib.Seq.{length-take-le}
 use Rattle.denkumari.proofs.FormLaws.{laid-out}
+use Rattle.output.specs.Output.{lent}
 use borrow.Author.Needs.{needs}
 use Rattle.denkumari.proofs.forms.build_read.Statement.{statement}
 use Rattle.denkumari.proofs.forms.build_read.Tie as tie
@@ -46,7 +47,7 @@ returns : tie.Need-returns
 returns c =
     let s = c .before .before .before .before .before .before .before .before .before .before .before .before .before .before .before .before .before .before .before .before .before .before .before .before .before .before in
     let a = s .args in
-    laid-out (a .file .now) (a .image .now) (a .addresses .now) (a .offsets .now) (a .sizes .now) (a .shape) (s .pre .sound) _ (a .kinds .now) (a .operands .now) (a .numbers .now) (a .states .now) _ (s .pre)
+    laid-out (a .file .now) (lent (a .image .now) (a .addresses .now) (a .offsets .now) (a .sizes .now)) (a .shape) (s .pre .sound) _ (a .kinds .now) (a .operands .now) (a .numbers .now) (a .states .now) _ (s .pre)
     (c .before .before .before .before .before .before .before .before .before .before .before .before .before .before .before .before .before .read-banks .ensures) (c .before .before .before .before .before .before .before .before .before .before .before .before .read-values .ensures) (c .before .before .before .before .before .before .before .build-output .ensures)
 
 pub build-read-spec : {M : Type 1} → statement M

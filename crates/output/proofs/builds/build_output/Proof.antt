@@ -7,6 +7,7 @@ use lib.ListN.{length}
 use Rattle.refusal.specs.Limits.{maxNodes}
 use Rattle.resolver.specs.Lists.{Lists, Rows, lists}
 use Rattle.resolver.specs.declared.Settled.the-variants.{At}
+use Rattle.output.specs.Output.{Lent, lent}
 use Rattle.output.proofs.SettledLaws.{settled-rows, settled-few, part-values, finished, refused}
 use borrow.Author.Needs.{needs}
 use Rattle.output.proofs.builds.build_output.Statement.{statement}
@@ -19,6 +20,9 @@ use Rattle.resolver.proofs.resolve.Reads as resolve-reads
 
 abbrev begin : tie.After-resolve → tie.Start
 begin c = c .before .before .before .before .before .before .before .before .before
+
+abbrev old : tie.Start → Lent
+old s = lent (s .args .image .now) (s .args .addresses .now) (s .args .offsets .now) (s .args .sizes .now)
 
 abbrev given : tie.Start → Lists
 given s = lists (s .args .kinds .now) (s .args .operands .now) (s .args .numbers .now) (s .args .states .now) (s .args .rows) (s .args .values .now)
@@ -125,7 +129,7 @@ returns : tie.Need-returns
 returns c =
     let f = c .before .before .before in
     let told = c .before .settled .given in
-    refused (begin f .args .banks) (given (begin f)) (begin f .args .limit) (f .resolve .result) (f .resolve .ensures) (told .0 .0) (told .1) (begin f .args .image .now) (begin f .args .addresses .now) (begin f .args .offsets .now) (begin f .args .sizes .now)
+    refused (begin f .args .banks) (given (begin f)) (begin f .args .limit) (f .resolve .result) (f .resolve .ensures) (told .0 .0) (told .1) (old (begin f))
 
 -- src/builds.rt:98:1
 same-length : tie.Need-same-length
@@ -148,8 +152,8 @@ returns-2 : tie.Need-returns-2
 returns-2 c =
     let f = c .before .before .before .before .before .before .before .before .before .before .before .before .before .before .before .before .before .before .before in
     let told = c .before .before .before .before .before .before .before .before .before .before .before .before .before .before .before .before .before .settled2 .given in
-    finished (begin f .args .banks) (given (begin f)) (begin f .args .limit) (f .resolve .result) (f .resolve .ensures) (told .0 .0) (told .1) (c .before .before .before .before .before .before .before .before .before .before .before .before .before .before .before .row-start .result) (c .before .before .before .before .before .before .before .before .before .before .before .before .before .before .before .row-start .ensures .0) (begin f .args .image .now) (begin f .args .addresses .now) (begin f .args .offsets .now) (begin f .args .sizes .now)
-    (c .before .before .before .before .before .before .before .build-row .result) _ _ _ _ (c .before .before .before .before .before .before .before .build-row .ensures)
+    finished (begin f .args .banks) (given (begin f)) (begin f .args .limit) (f .resolve .result) (f .resolve .ensures) (told .0 .0) (told .1) (c .before .before .before .before .before .before .before .before .before .before .before .before .before .before .before .row-start .result) (c .before .before .before .before .before .before .before .before .before .before .before .before .before .before .before .row-start .ensures .0) (old (begin f))
+    _ (c .before .before .before .before .before .before .before .build-row .result) (c .before .before .before .before .before .before .before .build-row .ensures)
 
 pub build-output-spec : {M : Type 1} → statement M
 build-output-spec =

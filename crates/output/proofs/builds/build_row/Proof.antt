@@ -8,9 +8,9 @@ use Rattle.bankdef.specs.Check.{banksOf}
 use Rattle.bankdef.specs.Fill.{fillLength}
 use Rattle.resolver.specs.Lists.{Row}
 use Rattle.resolver.specs.Once.{Program}
-use Rattle.output.specs.Plan.{Planned, programOf, rowOf}
-use Rattle.output.proofs.BuildLaws.{row-stopped, row-short-image, row-short-spans, row-done, length-fits, spans-fit}
-use Rattle.output.proofs.WritingFit.{fit}
+use Rattle.output.specs.Output.{Lent, lent}
+use Rattle.output.specs.Steps.{Planned, programOf, rowOf}
+use Rattle.output.proofs.BuildLaws.{row-stopped, row-short-image, row-short-spans, row-done, items-fit, spans-fit}
 use borrow.Author.Needs.{needs}
 use Rattle.output.proofs.builds.build_row.Statement.{statement}
 use Rattle.output.proofs.builds.build_row.Tie as tie
@@ -28,6 +28,9 @@ given s = programOf (s .args .banks) (s .args .kinds .now) (s .args .operands .n
 
 abbrev row : tie.Start → Row
 row s = rowOf (s .args .numbers .now) (s .args .states .now)
+
+abbrev old : tie.Start → Lent
+old s = lent (s .args .image .now) (s .args .addresses .now) (s .args .offsets .now) (s .args .sizes .now)
 
 abbrev fill : tie.Start → ℕ
 fill s = fillLength (banksOf (s .args .banks))
@@ -56,7 +59,7 @@ returns : tie.Need-returns
 returns c =
     let f = c .before .before .before in
     let s = begin f in
-    row-stopped (given s) (row s) (fill s) (s .args .k) (s .args .values .now) (s .args .image .now) (s .args .addresses .now) (s .args .offsets .now) (s .args .sizes .now) (f .plan-row .result) (planned f) (c .before .verdict .given .0 .0) (c .before .verdict .given .1)
+    row-stopped (given s) (row s) (fill s) (s .args .k) (s .args .values .now) (old s) (f .plan-row .result) (planned f) (c .before .verdict .given .0 .0) (c .before .verdict .given .1)
 
 enum-told : tie.Need-enum-told
 enum-told c = search needs
@@ -70,7 +73,7 @@ returns-2 : tie.Need-returns-2
 returns-2 c =
     let f = c .before .before .before .before in
     let s = begin f in
-    row-short-image (given s) (row s) (fill s) (s .args .k) (s .args .values .now) (s .args .image .now) (s .args .addresses .now) (s .args .offsets .now) (s .args .sizes .now) (f .plan-row .result) (planned f) (c .before .before .enum-told .given .1) (sym (c .before .lacks-bytes .ensures) ∙ c .if1 .taken)
+    row-short-image (given s) (row s) (fill s) (s .args .k) (s .args .values .now) (old s) (f .plan-row .result) (planned f) (c .before .before .enum-told .given .1) (sym (c .before .lacks-bytes .ensures) ∙ c .if1 .taken)
 
 -- src/builds.rt:70:9
 shorter-requires : tie.Need-shorter-requires
@@ -87,15 +90,14 @@ returns-3 c =
     let s = begin f in
     let places = c .before .shorter2 .ensures in
     let two = c .before .before .shorter .ensures in
-    row-short-spans (given s) (row s) (fill s) (s .args .k) (s .args .values .now) (s .args .image .now) (s .args .addresses .now) (s .args .offsets .now) (s .args .sizes .now) (f .plan-row .result) (planned f) (c .before .before .before .before .before .enum-told .given .1) (sym (c .before .before .before .before .lacks-bytes .ensures) ∙ c .before .before .before .if1 .left) (omega (arith, places, two, c .if2 .taken))
+    row-short-spans (given s) (row s) (fill s) (s .args .k) (s .args .values .now) (old s) (f .plan-row .result) (planned f) (c .before .before .before .before .before .enum-told .given .1) (sym (c .before .before .before .before .lacks-bytes .ensures) ∙ c .before .before .before .if1 .left) (omega (arith, places, two, c .if2 .taken))
 
 -- src/builds.rt:75:5
 write-image-requires : tie.Need-write-image-requires
 write-image-requires c κs =
     let f = c .before .before .before .before .before .before .before .before in
     let s = begin f in
-    fit (given s) (row s) (fill s) (length (s .args .values .now)) (length (s .args .image .now)) (length (s .args .kinds .now))
-    (length-fits (given s) (row s) (fill s) (s .args .k) (s .args .values .now) (s .args .image .now) (s .args .addresses .now) (s .args .offsets .now) (s .args .sizes .now) (f .plan-row .result) (planned f) (c .before .before .before .before .before .before .enum-told .given .1) (sym (c .before .before .before .before .before .lacks-bytes .ensures) ∙ c .before .before .before .before .if1 .left)) (s .pre .1)
+    items-fit (given s) (row s) (fill s) (s .args .k) (s .args .values .now) (old s) (f .plan-row .result) (planned f) (c .before .before .before .before .before .before .enum-told .given .1) (sym (c .before .before .before .before .before .lacks-bytes .ensures) ∙ c .before .before .before .before .if1 .left) (s .pre .1)
 
 -- src/builds.rt:78:5
 write-spans-requires : tie.Need-write-spans-requires
@@ -104,8 +106,7 @@ write-spans-requires c κs =
     let s = begin f in
     let places = c .before .before .before .before .before .before .before .before .shorter2 .ensures in
     let two = c .before .before .before .before .before .before .before .before .before .shorter .ensures in
-    let fits = spans-fit (given s) (row s) (fill s) (s .args .k) (s .args .values .now) (s .args .image .now) (s .args .addresses .now) (s .args .offsets .now) (s .args .sizes .now) (f .plan-row .result) (planned f) (c .before .before .before .before .before .before .before .before .before .before .before .before .enum-told .given .1) (sym (c .before .before .before .before .before .before .before .before .before .before .before .lacks-bytes .ensures) ∙ c .before .before .before .before .before .before .before .before .before .before .if1 .left) (omega (arith, places, two, c .before .before .before .before .before .before .before .if2 .left)) in
-    (omega (arith, fits), (omega (arith, fits), omega (arith, fits)))
+    spans-fit (given s) (row s) (fill s) (s .args .k) (s .args .values .now) (old s) (f .plan-row .result) (planned f) (c .before .before .before .before .before .before .before .before .before .before .before .before .enum-told .given .1) (sym (c .before .before .before .before .before .before .before .before .before .before .before .lacks-bytes .ensures) ∙ c .before .before .before .before .before .before .before .before .before .before .if1 .left) (omega (arith, places, two, c .before .before .before .before .before .before .before .if2 .left))
 
 -- src/builds.rt:41:1
 same-length : tie.Need-same-length
@@ -131,7 +132,7 @@ returns-4 c =
     let places = c .before .before .before .before .before .before .before .before .before .before .before .before .before .before .shorter2 .ensures in
     let two = c .before .before .before .before .before .before .before .before .before .before .before .before .before .before .before .shorter .ensures in
     let spans = c .before .before .before .before .before .write-spans .ensures in
-    row-done (given s) (row s) (fill s) (s .args .k) (s .args .values .now) (s .args .image .now) (s .args .addresses .now) (s .args .offsets .now) (s .args .sizes .now) (f .plan-row .result) (planned f) (c .before .before .before .before .before .before .before .before .before .before .before .before .before .before .before .before .before .before .enum-told .given .1) (sym (c .before .before .before .before .before .before .before .before .before .before .before .before .before .before .before .before .before .lacks-bytes .ensures) ∙ c .before .before .before .before .before .before .before .before .before .before .before .before .before .before .before .before .if1 .left) (omega (arith, places, two, c .before .before .before .before .before .before .before .before .before .before .before .before .before .if2 .left))
+    row-done (given s) (row s) (fill s) (s .args .k) (s .args .values .now) (old s) (f .plan-row .result) (planned f) (c .before .before .before .before .before .before .before .before .before .before .before .before .before .before .before .before .before .before .enum-told .given .1) (sym (c .before .before .before .before .before .before .before .before .before .before .before .before .before .before .before .before .before .lacks-bytes .ensures) ∙ c .before .before .before .before .before .before .before .before .before .before .before .before .before .before .before .before .if1 .left) (omega (arith, places, two, c .before .before .before .before .before .before .before .before .before .before .before .before .before .if2 .left))
     _ _ _ _ (c .before .before .before .before .before .before .before .before .before .before .before .write-image .ensures) (spans .0) (spans .1 .0) (spans .1 .1)
 
 pub build-row-spec : {M : Type 1} → statement M

@@ -1,6 +1,8 @@
 -- `count_after` meets its contract: one law for each way.
 use mathlib.Core.Path.{sym, _∙_}
-use Rattle.output.proofs.OfferLaws.{count-nowhere, count-other, count-empty, count-more}
+use Rattle.refusal.specs.declared.Offset.the-variants.{None as Nowhere, At as Out}
+use Rattle.output.specs.Placing.{offerAt}
+use Rattle.output.proofs.OfferLaws.{offers-nowhere, offers-none, offers-made, count-none, count-empty, count-more}
 use borrow.Author.Needs.{needs}
 use Rattle.output.proofs.placing.count_after.Statement.{statement}
 use Rattle.output.proofs.placing.count_after.Tie as tie
@@ -29,25 +31,27 @@ returns : tie.Need-returns
 returns c =
     let a = c .before .before .before .before .before .before .args in
     let known = c .before .before .before .before .enum-told2 .given in
-    rw (known .1) (count-more (a .count) (known .0 .0) (a .node) (sym (c .before .before .before .is-offered .ensures) ∙ c .before .before .if1 .taken) (c .if2 .taken))
+    rw (known .1)
+    (count-more (a .count) (offerAt (a .node) (Out (known .0 .0))) (known .0 .0) (a .node .number)
+    (offers-made (a .node) (known .0 .0) (sym (c .before .before .before .is-offered .ensures) ∙ c .before .before .if1 .taken)) (c .if2 .taken))
 
--- src/placing.rt:187:1
 returns-2 : tie.Need-returns-2
-returns-2 c = rw (c .enum-told .given .1) (count-nowhere (c .before .before .args .count) (c .before .before .args .node))
+returns-2 c =
+    let a = c .before .before .args in
+    rw (c .enum-told .given .1) (count-none (a .count) (offerAt (a .node) Nowhere) (offers-nowhere (a .node)))
 
--- src/placing.rt:187:1
 returns-3 : tie.Need-returns-3
 returns-3 c =
     let a = c .before .before .before .before .before .before .args in
     let known = c .before .before .before .before .enum-told2 .given in
-    rw (known .1) (count-empty (a .count) (known .0 .0) (a .node) (sym (c .before .before .before .is-offered .ensures) ∙ c .before .before .if1 .taken) (c .if2 .left))
+    rw (known .1)
+    (count-empty (a .count) (offerAt (a .node) (Out (known .0 .0))) (known .0 .0) (a .node .number)
+    (offers-made (a .node) (known .0 .0) (sym (c .before .before .before .is-offered .ensures) ∙ c .before .before .if1 .taken)) (c .if2 .left))
 
--- src/placing.rt:187:1
 returns-4 : tie.Need-returns-4
 returns-4 c =
     let a = c .before .before .before .before .args in
-    let known = c .before .before .enum-told2 .given in
-    rw (known .1) (count-other (a .count) (known .0 .0) (a .node) (sym (c .before .is-offered .ensures) ∙ c .if1 .left))
+    count-none (a .count) (offerAt (a .node) (a .out)) (offers-none (a .node) (a .out) (sym (c .before .is-offered .ensures) ∙ c .if1 .left))
 
 pub count-after-spec : {M : Type 1} → statement M
 count-after-spec =

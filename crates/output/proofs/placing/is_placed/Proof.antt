@@ -2,8 +2,9 @@
 use mathlib.Core.Path.{sym, _∙_}
 use borrow.Author.Tests.{eq-eqb, ne-eqb}
 use lib.Dec.{eqb}
-use Rattle.output.specs.Placing.{isWritten}
-use Rattle.output.proofs.Placements.{or-middle}
+use mathlib.Core.Path.{_≡_, refl}
+use mathlib.Core.Bool.{Bool, true, false, _||_}
+use Rattle.output.specs.Items.{isWritten}
 use borrow.Author.Needs.{needs}
 use Rattle.output.proofs.placing.is_placed.Statement.{statement}
 use Rattle.output.proofs.placing.is_placed.Tie as tie
@@ -11,7 +12,10 @@ use Rattle.output.proofs.placing.is_placed.Reads as reads
 use Rattle.output.proofs.placing.is_placed.Lts as lts
 use Rattle.output.proofs.placing.is_written.Reads as is-written-reads
 
--- src/placing.rt:28:9
+or-middle : (a b c : Bool) → b ≡ true → (a || (b || c)) ≡ true
+or-middle true b c e = refl
+or-middle false b c e = rw e
+
 returns : tie.Need-returns
 returns c = rw (eq-eqb (c .before .before .args .node .kind) 2 (c .if1 .taken))
 

@@ -58,7 +58,7 @@ returns-2 c =
 returns-3 : tie.Need-returns-3
 returns-3 c =
     let s = c .before .before .before .before in
-    (length-nowhere (s .args .node) (s .args .out) (s .args .length) (sym (c .before .before .before .is-written .ensures) ∙ not-false _ (c .before .before .if1 .left)) (c .enum-told .given .1), s .pre .1)
+    (length-nowhere (s .args .node) (s .args .out) (s .args .length) (c .enum-told .given .1), s .pre .1)
 
 -- src/placing.rt:206:1
 returns-4 : tie.Need-returns-4

@@ -7,9 +7,9 @@ use Rattle.refusal.specs.Limits.{maxPosition}
 use Rattle.refusal.specs.declared.Offset.{Offset}
 use Rattle.overlap_checker.specs.Interval.{interval, Within}
 use Rattle.overlap_lent.specs.Lent.{held}
+use Rattle.overlap_checker.specs.State.{holding}
 use Rattle.output.specs.Placing.{offerAt}
-use Rattle.output.specs.Plan.{Goes}
-use Rattle.output.proofs.OfferLaws.{goes-nowhere, goes-label, goes-offered, label-accepted, other-offered}
+use Rattle.output.proofs.OfferLaws.{offers-nowhere, offers-label, offers-one, goes-none, goes-offered, answered-none, answered-one}
 use borrow.Author.Needs.{needs}
 use Rattle.output.proofs.placing.offer_node.Statement.{statement}
 use Rattle.output.proofs.placing.offer_node.Tie as tie
@@ -30,10 +30,9 @@ returns : tie.Need-returns
 returns c =
     let s = c .before .before .before .before .before in
     let a = s .args in
-    let known = c .before .before .before .out .given in
-    rw (known .1) (
-      label-accepted (held (a .positions .now) (a .sizes .now) (a .count)) (known .0 .0) (a .node) (c .if1 .taken),
-      goes-label (a .positions .now) (a .sizes .now) (a .count) (known .0 .0) (a .node) (s .pre .0) (c .if1 .taken),
+    let none = offers-label (a .node) (a .out) (c .if1 .taken) in (
+      answered-none (holding (held (a .positions .now) (a .sizes .now) (a .count))) (a .node .index) (offerAt (a .node) (a .out)) none,
+      goes-none (a .positions .now) (a .sizes .now) (a .count) (offerAt (a .node) (a .out)) (s .pre .0) none,
     )
 
 -- src/placing.rt:132:17
@@ -56,7 +55,10 @@ returns-2 : tie.Need-returns-2
 returns-2 c =
     let s = c .before .before in
     let a = s .args in
-    rw (c .enum-told .given .1) (refl, goes-nowhere (a .positions .now) (a .sizes .now) (a .count) (a .node) (s .pre .0))
+    let none : offerAt (a .node) (a .out) ≡ mathlib.Core.List.[] = rw (c .enum-told .given .1) (offers-nowhere (a .node)) in (
+      answered-none (holding (held (a .positions .now) (a .sizes .now) (a .count))) (a .node .index) (offerAt (a .node) (a .out)) none,
+      goes-none (a .positions .now) (a .sizes .now) (a .count) (offerAt (a .node) (a .out)) (s .pre .0) none,
+    )
 
 -- src/placing.rt:108:1
 returns-3 : tie.Need-returns-3
@@ -66,9 +68,10 @@ returns-3 c =
     let known = c .before .before .before .before .before .before .before .out .given in
     let other = ne-eqb (a .node .kind) 2 (c .before .before .before .before .if1 .left) in
     let within : Within (interval (known .0 .0) (a .node .number)) = (s .pre .1 .1 (known .0 .0) (known .1), small (c .before)) in
-    rw (known .1) (
-      c .offer .ensures .answer ∙ other-offered (held (a .positions .now) (a .sizes .now) (a .count)) (known .0 .0) (a .node) other,
-      goes-offered (a .positions .now) (a .sizes .now) (a .count) (s .pre .0) (known .0 .0) (a .node) (s .pre .1 .0) other within
+    let e = interval (known .0 .0) (a .node .number) in
+    let made : offerAt (a .node) (a .out) ≡ mathlib.Core.List._∷_ e mathlib.Core.List.[] = rw (known .1) (offers-one (a .node) (known .0 .0) (s .pre .1 .0) other) in (
+      answered-one (held (a .positions .now) (a .sizes .now) (a .count)) e (a .node .index) (offerAt (a .node) (a .out)) made (c .offer .result) (c .offer .ensures .answer),
+      goes-offered (a .positions .now) (a .sizes .now) (a .count) (s .pre .0) (known .0 .0) (a .node .number) (a .node .index) within (offerAt (a .node) (a .out)) made
           (c .offer .result) (c .offer .last .0) (c .offer .last .1 .0) (c .offer .ensures .answer) (c .offer .ensures .first) (c .offer .ensures .second),
     )
 

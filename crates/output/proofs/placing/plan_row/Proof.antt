@@ -3,8 +3,8 @@ use mathlib.Core.Path.{_≡_, refl, sym, _∙_}
 use Prim.Native.Nat.{ℕ, _-_, _<_}
 use native.Mathlib.Omega.{arith}
 use borrow.Author.Needs.{needs}
-use Rattle.output.specs.Plan.{Going, programOf, rowOf}
-use Rattle.output.proofs.PlanLaws.{begins, settles, goes-on, ends, out-seen}
+use Rattle.output.specs.Steps.{programOf, rowOf}
+use Rattle.output.proofs.PlanLaws.{Going, begins, settles, goes-on, ends}
 use Rattle.output.proofs.placing.plan_row.Statement.{statement}
 use Rattle.output.proofs.placing.plan_row.Tie as tie
 use Rattle.output.proofs.placing.plan_row.Reads as reads
@@ -40,14 +40,7 @@ visit-node-requires c κs = search needs
 
 -- src/placing.rt:277:13
 place-requires : tie.Need-place-requires Inv-loop μ-loop
-place-requires c κs =
-    let loop = c .before .before .before .before .before .before in
-    let a = c .before .before .before .before .before .before .before .before .before .before .before .before .before .args in
-    let p = programOf (a .banks) (a .kinds .now) (a .operands .now) (a .first .now) in
-    let row = rowOf (a .numbers .now) (a .states .now) in
-    let at = loop .loop in
-    let visit = c .before .before .before .before .visit-node in
-    (at .inv .sound, (out-seen p row (at .walk) (at .i) (visit .result) (visit .ensures .0), visit .ensures .1))
+place-requires c κs = (c .before .before .before .before .before .before .loop .inv .sound, c .before .before .before .before .visit-node .ensures .1)
 
 -- src/placing.rt:289:13
 enum-told : tie.Need-enum-told Inv-loop μ-loop

@@ -4,7 +4,7 @@ use mir.Syntax.{w64}
 use mir.ValLaws.{toZ-ofZ}
 use Rattle.iter.specs.Address.{addressOf}
 use Rattle.output.specs.Visits.{seenPos}
-use Rattle.output.specs.Spans.{told}
+use Rattle.output.specs.Spans.{addressTold}
 use borrow.Author.Needs.{needs}
 use Rattle.output.proofs.writing.address_of.Statement.{statement}
 use Rattle.output.proofs.writing.address_of.Tie as tie
@@ -26,10 +26,10 @@ enum-told : tie.Need-enum-told
 enum-told c = search needs
 
 returns : tie.Need-returns
-returns c = toZ-ofZ w64 (c .before .address .given .0 .0) (record { sfits = c .known-told .given .0 .1 }) ∙ ap told (sym (c .before .address .given .1) ∙ found (c .before .before .before))
+returns c = toZ-ofZ w64 (c .before .address .given .0 .0) (record { sfits = c .known-told .given .0 .1 }) ∙ ap addressTold (sym (c .before .address .given .1) ∙ found (c .before .before .before))
 
 returns-2 : tie.Need-returns-2
-returns-2 c = ap told (sym (c .enum-told .given .1) ∙ found (c .before .before))
+returns-2 c = ap addressTold (sym (c .enum-told .given .1) ∙ found (c .before .before))
 
 pub address-of-spec : {M : Type 1} → statement M
 address-of-spec =

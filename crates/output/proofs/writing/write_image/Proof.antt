@@ -6,9 +6,8 @@ use lib.ListN.{length, replicate, length-replicate}
 use borrow.Author.Needs.{needs}
 use Rattle.resolver.specs.Lists.{Row}
 use Rattle.resolver.specs.Once.{Program, walkTo}
-use Rattle.output.specs.Image.{imageTo}
-use Rattle.output.proofs.OwnBits.{image-length}
-use Rattle.output.proofs.WritingSteps.{walk-start, image-start, walk-next, item-fits, image-next}
+use Rattle.output.proofs.Upto.{imageTo}
+use Rattle.output.proofs.WritingSteps.{walk-start, image-start, image-keeps, walk-next, item-fits, image-next}
 use Rattle.output.proofs.writing.write_image.Statement.{statement}
 use Rattle.output.proofs.writing.write_image.Tie as tie
 
@@ -82,7 +81,7 @@ loop-again c =
 same-length : tie.Need-same-length Inv-loop μ-loop
 same-length c =
     let s = entry (c .before) in
-    ap length (c .before .loop .inv .2) ∙ image-length (given s) (row s) (s .args .values .now) _ (c .before .loop .i) ∙ lent (c .before .before .before .before .before)
+    ap length (c .before .loop .inv .2) ∙ image-keeps (given s) (row s) (s .args .values .now) _ (c .before .loop .i) ∙ lent (c .before .before .before .before .before)
 
 returns : tie.Need-returns Inv-loop μ-loop
 returns c =

@@ -2,8 +2,8 @@
 use mathlib.Core.Path.{_≡_, sym, _∙_}
 use mathlib.Core.Bool.{true}
 use borrow.Author.Tests.{not-true, not-false}
-use Rattle.output.specs.Placing.{isWritten}
-use Rattle.output.proofs.WritingSteps.{item-written}
+use Rattle.output.specs.Items.{isWritten}
+use Rattle.output.proofs.WritingSteps.{item-none, item-nowhere, item-written}
 use borrow.Author.Needs.{needs}
 use Rattle.output.proofs.writing.write_item.Statement.{statement}
 use Rattle.output.proofs.writing.write_item.Tie as tie
@@ -16,7 +16,9 @@ is-written-requires : tie.Need-is-written-requires
 is-written-requires c κs = search needs
 
 returns : tie.Need-returns
-returns c = rw (sym (c .before .is-written .ensures) ∙ not-true _ (c .if1 .taken))
+returns c =
+    let a = c .before .before .before .before .args in
+    item-none (a .image .now) (a .values .now) (a .node) (a .out) (sym (c .before .is-written .ensures) ∙ not-true _ (c .if1 .taken))
 
 enum-told : tie.Need-enum-told
 enum-told c = search needs
@@ -34,7 +36,9 @@ write-bits-requires : tie.Need-write-bits-requires
 write-bits-requires c κs = search needs
 
 returns-2 : tie.Need-returns-2
-returns-2 c = rw (writes (c .before .before), c .enum-told .given .1)
+returns-2 c =
+    let a = c .before .before .before .before .before .before .args in
+    item-nowhere (a .image .now) (a .values .now) (a .node) (a .out) (writes (c .before .before)) (c .enum-told .given .1)
 
 same-length : tie.Need-same-length
 same-length c = search needs

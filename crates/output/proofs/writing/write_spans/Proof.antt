@@ -11,8 +11,8 @@ use Rattle.resolver.specs.Lists.{Row}
 use Rattle.resolver.specs.Once.{Program, walkTo}
 use Rattle.output.specs.declared.visits.Visit.{Visit}
 use Rattle.output.specs.Visits.{seenPos}
-use Rattle.output.specs.Placing.{sizeOf}
-use Rattle.output.specs.Spans.{Span, told, spansTo, over, addresses as addressesOf, words as wordsOf, sizes as sizesOf}
+use Rattle.output.specs.Spans.{Span, sizeOf, addressTold, over, addresses as addressesOf, words as wordsOf, sizes as sizesOf}
+use Rattle.output.proofs.Upto.{spansTo}
 use Rattle.output.proofs.WritingSteps.{walk-start, spans-start, visited, walk-next, count-next, list-length, span-fits, list-next}
 use Rattle.output.proofs.writing.write_spans.Statement.{statement}
 use Rattle.output.proofs.writing.write_spans.Tie as tie
@@ -73,9 +73,9 @@ put-span-requires c κs =
     let s = entry at in
     let met = c .before .before .before .before .before .visit-node .ensures .0 in
     let h = c .before .before .before .before .before .before .loop-test .taken in (
-      span-fits (given s) (row s) (at .loop .i) (at .loop .inv .1) met address-at (s .args .addresses .now) (length (s .args .kinds .now)) h (s .pre .0) (at .loop .inv .2) (at .loop .inv .3) has,
-      span-fits (given s) (row s) (at .loop .i) (at .loop .inv .1) met word-at (s .args .offsets .now) (length (s .args .kinds .now)) h (s .pre .1 .0) (at .loop .inv .2) (at .loop .inv .4) has,
-      span-fits (given s) (row s) (at .loop .i) (at .loop .inv .1) met size-at (s .args .sizes .now) (length (s .args .kinds .now)) h (s .pre .1 .1) (at .loop .inv .2) (at .loop .inv .5) has,
+      span-fits (given s) (row s) (at .loop .i) (at .loop .inv .1) met address-at (s .args .addresses .now) (length (s .args .kinds .now)) h (s .pre .first) (at .loop .inv .2) (at .loop .inv .3) has,
+      span-fits (given s) (row s) (at .loop .i) (at .loop .inv .1) met word-at (s .args .offsets .now) (length (s .args .kinds .now)) h (s .pre .second) (at .loop .inv .2) (at .loop .inv .4) has,
+      span-fits (given s) (row s) (at .loop .i) (at .loop .inv .1) met size-at (s .args .sizes .now) (length (s .args .kinds .now)) h (s .pre .third) (at .loop .inv .2) (at .loop .inv .5) has,
     )
 
 add-i : tie.Need-add-i Inv-loop μ-loop
@@ -95,19 +95,19 @@ loop-again c =
       omega (arith, h),
       walk-next (given s) (row s) (at .loop .i) (at .loop .inv .1) met,
       count-next (given s) (row s) (at .loop .i) (at .loop .inv .1) met (at .loop .inv .2) (put .0),
-      list-next (given s) (row s) (at .loop .i) (at .loop .inv .1) met address-at (s .args .addresses .now) (length (s .args .kinds .now)) h (s .pre .0) (at .loop .inv .2) (at .loop .inv .3) (ap (λ (v : Visit). told (addressOf (v .def) (seenPos (v .seen) .position) (v .node .index))) seen) (put .1 .0),
-      list-next (given s) (row s) (at .loop .i) (at .loop .inv .1) met word-at (s .args .offsets .now) (length (s .args .kinds .now)) h (s .pre .1 .0) (at .loop .inv .2) (at .loop .inv .4) (ap (λ (v : Visit). wordOf (v .out)) seen) (put .1 .1 .0),
-      list-next (given s) (row s) (at .loop .i) (at .loop .inv .1) met size-at (s .args .sizes .now) (length (s .args .kinds .now)) h (s .pre .1 .1) (at .loop .inv .2) (at .loop .inv .5) (ap (λ (v : Visit). sizeOf (v .node)) seen) (put .1 .1 .1),
+      list-next (given s) (row s) (at .loop .i) (at .loop .inv .1) met address-at (s .args .addresses .now) (length (s .args .kinds .now)) h (s .pre .first) (at .loop .inv .2) (at .loop .inv .3) (ap (λ (v : Visit). addressTold (addressOf (v .def) (seenPos (v .seen) .position) (v .node .index))) seen) (put .1 .0),
+      list-next (given s) (row s) (at .loop .i) (at .loop .inv .1) met word-at (s .args .offsets .now) (length (s .args .kinds .now)) h (s .pre .second) (at .loop .inv .2) (at .loop .inv .4) (ap (λ (v : Visit). wordOf (v .out)) seen) (put .1 .1 .0),
+      list-next (given s) (row s) (at .loop .i) (at .loop .inv .1) met size-at (s .args .sizes .now) (length (s .args .kinds .now)) h (s .pre .third) (at .loop .inv .2) (at .loop .inv .5) (ap (λ (v : Visit). sizeOf (v .node)) seen) (put .1 .1 .1),
     )
 
 same-length : tie.Need-same-length Inv-loop μ-loop
-same-length c = let s = entry (c .before) in list-length (given s) (row s) address-at (s .args .addresses .now) (c .before .loop .i) (length (s .args .kinds .now)) (c .before .loop .inv .0) (s .pre .0) (c .before .loop .inv .3)
+same-length c = let s = entry (c .before) in list-length (given s) (row s) address-at (s .args .addresses .now) (c .before .loop .i) (length (s .args .kinds .now)) (c .before .loop .inv .0) (s .pre .first) (c .before .loop .inv .3)
 
 same-length-2 : tie.Need-same-length-2 Inv-loop μ-loop
-same-length-2 c = let s = entry (c .before) in list-length (given s) (row s) word-at (s .args .offsets .now) (c .before .loop .i) (length (s .args .kinds .now)) (c .before .loop .inv .0) (s .pre .1 .0) (c .before .loop .inv .4)
+same-length-2 c = let s = entry (c .before) in list-length (given s) (row s) word-at (s .args .offsets .now) (c .before .loop .i) (length (s .args .kinds .now)) (c .before .loop .inv .0) (s .pre .second) (c .before .loop .inv .4)
 
 same-length-3 : tie.Need-same-length-3 Inv-loop μ-loop
-same-length-3 c = let s = entry (c .before) in list-length (given s) (row s) size-at (s .args .sizes .now) (c .before .loop .i) (length (s .args .kinds .now)) (c .before .loop .inv .0) (s .pre .1 .1) (c .before .loop .inv .5)
+same-length-3 c = let s = entry (c .before) in list-length (given s) (row s) size-at (s .args .sizes .now) (c .before .loop .i) (length (s .args .kinds .now)) (c .before .loop .inv .0) (s .pre .third) (c .before .loop .inv .5)
 
 returns : tie.Need-returns Inv-loop μ-loop
 returns c =

@@ -1,0 +1,141 @@
+-- A call of the public build, as its contract has it; and what the contract says of one that was accepted.
+use mathlib.Core.Path.{_≡_, refl, sym, ap, subst, _∙_}
+use mathlib.Core.Bool.{Bool, true, false}
+use mathlib.Core.List.{List}
+use Prim.Native.Nat.{ℕ, _*_, _≤_}
+use native.Mathlib.Omega.{arith}
+use borrow.Author.Tests.{ltb-false}
+use lib.Dec.{ltb}
+use lib.ListN.{length}
+use Rattle.refusal.specs.Pick.{pick}
+use Rattle.refusal.specs.declared.Refusal.{Refusal}
+use Rattle.refusal.specs.declared.Refusal.the-variants.{TooShort}
+use Rattle.resolver.specs.Lists.{Row}
+use Rattle.resolver.specs.Once.{Program}
+use Rattle.resolver.specs.Passes.{program, rowOfPass}
+use Rattle.resolver.specs.declared.Settled.{Settled}
+use Rattle.resolver.specs.declared.Settled.the-variants.{At, Refused as Unsettled}
+use Rattle.overlap_checker.specs.declared.Entry.{Entry}
+use Rattle.overlap_checker.specs.State.{State}
+use Rattle.output.specs.Visits.{visitAt, visitsTo}
+use Rattle.output.specs.Items.{Item, itemsOf, lengthOf}
+use Rattle.output.specs.Placing.{reservesOf, Placed, holds, stops, placedAll}
+use Rattle.output.specs.Spans.{Span, spansOf}
+use Rattle.output.specs.Output.{Input, Lent, Room, roomOf, roomFor, placedBuild, buildRow, settledBuild, buildOf}
+use Rattle.output.specs.Output.{visitsOf, fillOf, passesOf, settledOf, filled, leftBy, Builds}
+use Rattle.output.specs.declared.visits.Visit.{Visit}
+use Rattle.output.specs.declared.Build.{Build}
+use Rattle.output.specs.declared.Build.the-variants.{Done, Refused}
+use Rattle.output.specs.declared.Output.{Output}
+
+-- what was given, what was lent, the answer, and what is lent afterwards
+pub record Call : Type 0 where
+  pub given : Input
+  pub old : Lent
+  pub answer : Output
+  pub new : Lent
+  pub meets : Builds given old answer new
+
+abbrev pub programIn : Call → Program
+programIn c = program (c .given .banks) (c .given .lists)
+
+-- "The build uses the row of the last pass."
+abbrev pub rowIn : Call → Row
+rowIn c = rowOfPass (c .given .lists) (c .answer .passes)
+
+abbrev pub nodesIn : Call → ℕ
+nodesIn c = length (c .given .lists .kinds)
+
+abbrev pub banksIn : Call → ℕ
+banksIn c = c .given .banks .len
+
+-- node n, as the build visits it, and those before it
+abbrev pub visitIn : Call → ℕ → Visit
+visitIn c n = visitAt (programIn c) (rowIn c) n
+
+abbrev pub visitsBefore : Call → ℕ → List Visit
+visitsBefore c n = visitsTo (programIn c) (rowIn c) n
+
+abbrev pub visitsIn : Call → List Visit
+visitsIn c = visitsBefore c (nodesIn c)
+
+abbrev pub itemsIn : Call → List Item
+itemsIn c = itemsOf (visitsIn c)
+
+abbrev pub reservesIn : Call → List Entry
+reservesIn c = reservesOf (visitsIn c)
+
+abbrev pub spansIn : Call → List Span
+spansIn c = spansOf (visitsIn c)
+
+abbrev pub valuesIn : Call → List ℕ
+valuesIn c = c .given .lists .values
+
+-- An accepted call: pass K, the image's length and the number of spans.
+pub record Accepted : Type 0 where
+  pub call : Call
+  pub k : ℕ
+  pub bits : ℕ
+  pub spans : ℕ
+  pub done : call .answer .build ≡ Done k bits spans
+
+-- ---- what the contract says of it
+
+pub refused-done : {why : Refusal} {k bits spans : ℕ} → Refused why ≡ Done k bits spans → ⊥
+refused-done e = let z : _≡_ {A = ℕ} 0 1 = cc in omega arith
+
+-- every node was placed, and there was room
+pub record Fine (banks : ℕ) (vs : List Visit) (fill : ℕ) (room : Room) (bits spans : ℕ) : Type 0 where
+  pub state : State
+  pub placed : placedAll banks vs ≡ holds state
+  pub reach : bits ≡ lengthOf fill (itemsOf vs)
+  pub count : spans ≡ length (spansOf vs)
+  pub wide : bits ≤ 8 * room .image
+  pub long : spans ≤ room .spans
+
+room-done : (room : Room) (k bits spans k′ bits′ spans′ : ℕ) → roomFor room k bits spans ≡ Done k′ bits′ spans′
+    → (bits′ ≡ bits) × (spans′ ≡ spans) × (bits ≤ 8 * room .image) × (spans ≤ room .spans)
+room-done room k bits spans k′ bits′ spans′ e = go (ltb (8 * room .image) bits) (ltb (room .spans) spans) refl refl e
+  where
+    go : (a b : Bool) → ltb (8 * room .image) bits ≡ a → ltb (room .spans) spans ≡ b
+        → pick a (Refused (TooShort 0)) (pick b (Refused (TooShort 1)) (Done k bits spans)) ≡ Done k′ bits′ spans′
+        → (bits′ ≡ bits) × (spans′ ≡ spans) × (bits ≤ 8 * room .image) × (spans ≤ room .spans)
+    go true b ea eb q = absurd (refused-done q)
+    go false true ea eb q = absurd (refused-done q)
+    go false false ea eb q = (cc, cc, ltb-false (8 * room .image) bits ea, ltb-false (room .spans) spans eb)
+
+row-fine : (banks : ℕ) (vs : List Visit) (fill : ℕ) (room : Room) (k k′ bits spans : ℕ) → buildRow banks vs fill room k ≡ Done k′ bits spans
+    → Fine banks vs fill room bits spans
+row-fine banks vs fill room k k′ bits spans e = go (placedAll banks vs) refl e
+  where
+    go : (q : Placed) → placedAll banks vs ≡ q → placedBuild room k (lengthOf fill (itemsOf vs)) (length (spansOf vs)) q ≡ Done k′ bits spans
+        → Fine banks vs fill room bits spans
+    go (stops why) h f = absurd (refused-done f)
+    go (holds s) h f =
+        let (b, n, wide, long) = room-done room k (lengthOf fill (itemsOf vs)) (length (spansOf vs)) k′ bits spans f in
+        record { state = s; placed = h; reach = b; count = n; wide = rw b wide; long = rw n long }
+
+module _ (c : Call) where
+  pub passes-are : c .answer .passes ≡ passesOf (c .given)
+  unfolding buildOf
+  passes-are = ap (λ (o : Output). o .passes) (c .meets .answer)
+
+  pub build-is : c .answer .build ≡ settledBuild (c .given) (roomOf (c .old)) (c .answer .passes) (settledOf (c .given))
+  unfolding buildOf
+  build-is =
+      ap (λ (o : Output). o .build) (c .meets .answer)
+      ∙ ap (λ (n : ℕ). settledBuild (c .given) (roomOf (c .old)) n (settledOf (c .given))) (sym passes-are)
+
+settled-fine : (b : Input) (room : Room) (passes : ℕ) (s : Settled) (k bits spans : ℕ) → settledBuild b room passes s ≡ Done k bits spans
+    → Fine (b .banks .len) (visitsOf b passes) (fillOf b) room bits spans
+settled-fine b room passes (Unsettled why) k bits spans e = absurd (refused-done e)
+settled-fine b room passes (At k′) k bits spans e = row-fine (b .banks .len) (visitsOf b passes) (fillOf b) room k′ k bits spans e
+
+module _ (a : Accepted) where
+  pub fine : Fine (banksIn (a .call)) (visitsIn (a .call)) (fillOf (a .call .given)) (roomOf (a .call .old)) (a .bits) (a .spans)
+  fine =
+      settled-fine (a .call .given) (roomOf (a .call .old)) (a .call .answer .passes) (settledOf (a .call .given)) (a .k) (a .bits) (a .spans)
+      (sym (build-is (a .call)) ∙ a .done)
+
+  pub left-is : a .call .new ≡ filled (visitsIn (a .call)) (valuesIn (a .call)) (a .call .old)
+  left-is = a .call .meets .left ∙ ap (leftBy (visitsIn (a .call)) (valuesIn (a .call)) (a .call .old)) (a .done)

@@ -1,0 +1,179 @@
+-- What people want of an accepted build's image, in document 01's words: "In an accepted build each bit of a written item is that item's own
+-- bit, most significant first, and every other bit of the lent image is zero." No two items share a bit, none has a bit of a reserve,
+-- and "image length is the larger of the fill's and the furthest end of a written item".
+use mathlib.Core.Path.{_≡_, refl, sym, ap, subst, _∙_}
+use mathlib.Core.Bool.{Bool, true, false, _&&_, _||_}
+use mathlib.Core.List.{List, [], _∷_, List·Memᴰ, List·Memᴰ·head, List·Memᴰ·not-nil, List·Memᴰ·eq-of-singleton}
+use mathlib.Core.Logic.{_⊎_, inl, inr, ⊎-elim}
+use Prim.Native.Nat.{ℕ, _+_, _*_, _≤_, _<_}
+use native.Mathlib.Nat.{le-trans}
+use native.Mathlib.Omega.{arith}
+use borrow.Author.Tests.{leb-true, eqb-true, le-leb}
+use lib.Dec.{eqb, leb}
+use lib.ListN.{length, replicate, length-replicate}
+use Rattle.refusal.specs.Pick.{pick, pick-true}
+use Rattle.refusal.specs.declared.Opt.{Opt}
+use Rattle.refusal.specs.declared.Opt.the-variants.{None, Some}
+use Rattle.refusal.specs.declared.Offset.{Offset}
+use Rattle.refusal.specs.declared.Offset.the-variants.{None as Nowhere, At as Out}
+use Rattle.iter.specs.Address.{outAt}
+use Rattle.iter.specs.declared.Node.{Node}
+use Rattle.bitvec.specs.Bits.{bitAt}
+use Rattle.blocks.specs.Bits.{NoSharedBit}
+use Rattle.overlap_checker.specs.declared.Entry.{Entry}
+use Rattle.overlap_checker.specs.Interval.{Covers}
+use Rattle.output.specs.declared.visits.Visit.{Visit}
+use Rattle.output.specs.Visits.{positionOf}
+use Rattle.output.specs.VisitLaws.{visit-member, member-visit, each-member, each-from}
+use Rattle.output.specs.Items.{Item, endOf, InItem, isWritten, standing, itemOf, imageOf}
+use Rattle.output.specs.ItemLaws.{fill-within, end-within, length-is-one, bit-of-none, bit-of-item, blank-bit}
+use Rattle.output.specs.Placing.{isOffered, isReserve, lacksOutput, bitsAt, offerOf, reserveOf}
+use Rattle.output.specs.PlacingLaws.{picked-some, OfferedBit, holds-apart, apart-one, each-apart, same-visit, written-stands, each-accepted}
+use Rattle.output.specs.Output.{Lent, fillOf}
+use Rattle.output.specs.Calls.{Call, Accepted, nodesIn, visitIn, visitsIn, itemsIn, reservesIn, valuesIn, programIn, rowIn, banksIn, fine, left-is}
+
+-- ---- bits of items and of reserves are offered
+
+or-first : (a b : Bool) → a ≡ true → (a || b) ≡ true
+or-first a b e = rw e
+
+or-last : (a b : Bool) → b ≡ true → (a || b) ≡ true
+or-last true b e = refl
+or-last false b e = e
+
+offered : (v : Visit) {e : Entry} → isOffered (v .node) ≡ true → List·Memᴰ e (bitsAt (v .out) (v .node)) → List·Memᴰ e (offerOf v)
+offered v {e} o m = subst (λ (l : List Entry). List·Memᴰ e l) (sym (pick-true (bitsAt (v .out) (v .node)) [] o)) m
+
+standing-bits : (out : Offset) (n : Node) (bit : ℕ) (x : Item) → List·Memᴰ x (standing out n) → InItem bit x
+    → (e : Entry) × List·Memᴰ e (bitsAt out n) × Covers e bit
+standing-bits Nowhere n bit x m i = absurd (List·Memᴰ·not-nil m)
+standing-bits (Out o) n bit x m i = (_, List·Memᴰ·head refl, subst (λ (y : Item). InItem bit y) (List·Memᴰ·eq-of-singleton m) i)
+
+item-offered : (bit : ℕ) (v : Visit) (x : Item) → List·Memᴰ x (itemOf v) → InItem bit x → OfferedBit bit v
+item-offered bit v x m i =
+    let w = picked-some (isWritten (v .node)) (standing (v .out) (v .node)) m in
+    let (e, me, c) = standing-bits (v .out) (v .node) bit x (w .1) i in
+    (e, offered v (or-first (isWritten (v .node)) (isReserve (v .node)) (w .0)) me, c)
+
+reserve-offered : (bit : ℕ) (v : Visit) (e : Entry) → List·Memᴰ e (reserveOf v) → Covers e bit → OfferedBit bit v
+reserve-offered bit v e m c =
+    let w = picked-some (isReserve (v .node)) (bitsAt (v .out) (v .node)) m in
+    (e, offered v (or-last (isWritten (v .node)) (isReserve (v .node)) (w .0)) (w .1), c)
+
+one-item : (v : Visit) → NoSharedBit InItem (itemOf v)
+one-item v = go (v .out) (isWritten (v .node))
+  where
+    go : (out : Offset) (b : Bool) → NoSharedBit InItem (pick b (standing out (v .node)) [])
+    go Nowhere true = tt
+    go Nowhere false = tt
+    go (Out o) b = apart-one InItem b _
+
+-- a written node is no reserve
+written-or-reserve : (n : Node) → isWritten n ≡ true → isReserve n ≡ true → ⊥
+written-or-reserve n w r =
+    let low : n .kind ≤ 6 = leb-true (n .kind) 6 (second (leb 4 (n .kind)) (leb (n .kind) 6) w) in
+    let same = eqb-true (n .kind) 7 r in
+    omega arith
+  where
+    second : (a b : Bool) → (a && b) ≡ true → b ≡ true
+    second true b h = h
+    second false b h = absurd (mathlib.Core.Bool.true≢false (sym h))
+
+-- an output position, by the bank's offset
+stands-at : (o : Opt) (position : ℕ) → lacksOutput (outAt o position) ≡ false → (f : ℕ) × (o ≡ Some f)
+stands-at None position e = absurd (mathlib.Core.Bool.true≢false e)
+stands-at (Some f) position e = (f, refl)
+
+-- the item of node n, in a bank with an offset: "offset plus position", the node's number, and its starting bit
+abbrev pub itemFor : Visit → ℕ → Item
+itemFor v offset = record { at = offset + positionOf v; size = v .node .number; from = v .node .operand }
+
+module _ (b : Accepted) where
+  -- Every written node has an item: it stands in a bank with an offset, at "offset plus position".
+  pub written-node-has-item : (n : ℕ) → n < nodesIn (b .call) → isWritten (visitIn (b .call) n .node) ≡ true
+      → (offset : ℕ) × (visitIn (b .call) n .def .offset ≡ Some offset) × List·Memᴰ (itemFor (visitIn (b .call) n) offset) (itemsIn (b .call))
+  written-node-has-item n h w =
+      let v = visitIn (b .call) n in
+      let member = visit-member (programIn (b .call)) (rowIn (b .call)) (nodesIn (b .call)) n h in
+      let acc = each-accepted (banksIn (b .call)) _ (fine b .state) (visitsIn (b .call)) (fine b .placed) member in
+      let (f, e) = stands-at (v .def .offset) (positionOf v) (written-stands (banksIn (b .call)) (acc .0) v (acc .1) w) in
+      (f, e, each-member itemOf member (own f e))
+    where
+      own : (f : ℕ) → visitIn (b .call) n .def .offset ≡ Some f → List·Memᴰ (itemFor (visitIn (b .call) n) f) (itemOf (visitIn (b .call) n))
+      own f e =
+          let v = visitIn (b .call) n in
+          let placed : v .out ≡ Out (f + positionOf v) = ap (λ (o : Opt). outAt o (positionOf v)) e in
+          subst (λ (l : List Item). List·Memᴰ (itemFor v f) l)
+          (sym (pick-true (standing (v .out) (v .node)) [] w ∙ ap (λ (o : Offset). standing o (v .node)) placed)) (List·Memᴰ·head refl)
+
+  -- And every item is a written node's.
+  pub item-has-written-node : (x : Item) → List·Memᴰ x (itemsIn (b .call))
+      → (n : ℕ) × (n < nodesIn (b .call)) × (isWritten (visitIn (b .call) n .node) ≡ true)
+      × (offset : ℕ) × (visitIn (b .call) n .def .offset ≡ Some offset) × (x ≡ itemFor (visitIn (b .call) n) offset)
+  item-has-written-node x m =
+      let (v, mv, mx) = each-from itemOf (visitsIn (b .call)) m in
+      let (n, low, same) = member-visit (programIn (b .call)) (rowIn (b .call)) (nodesIn (b .call)) mv in
+      let here = subst (λ (u : Visit). List·Memᴰ x (itemOf u)) same mx in
+      let w = picked-some (isWritten (visitIn (b .call) n .node)) (standing (visitIn (b .call) n .out) (visitIn (b .call) n .node)) here in
+      let (f, e, is) = from-out (visitIn (b .call) n .def .offset) (positionOf (visitIn (b .call) n)) (visitIn (b .call) n .node) (w .1) in
+      (n, low, w .0, f, e, is)
+    where
+      from-out : (o : Opt) (position : ℕ) (y : Node) → List·Memᴰ x (standing (outAt o position) y)
+          → (f : ℕ) × (o ≡ Some f) × (x ≡ record { at = f + position; size = y .number; from = y .operand })
+      from-out None position y k = absurd (List·Memᴰ·not-nil k)
+      from-out (Some f) position y k = (f, refl, List·Memᴰ·eq-of-singleton k)
+
+  visits-apart : NoSharedBit OfferedBit (visitsIn (b .call))
+  visits-apart = holds-apart (banksIn (b .call)) _ (fine b .state) (visitsIn (b .call)) (fine b .placed) .offered
+
+  -- No two written items share a bit.
+  pub items-share-no-bit : NoSharedBit InItem (itemsIn (b .call))
+  items-share-no-bit = each-apart itemOf InItem one-item item-offered (visitsIn (b .call)) visits-apart
+
+  -- An item keeps off the bits of every reserve that has a place in the output.
+  pub item-off-reserves : (x : Item) → List·Memᴰ x (itemsIn (b .call)) → (e : Entry) → List·Memᴰ e (reservesIn (b .call))
+      → (bit : ℕ) → InItem bit x → Covers e bit → ⊥
+  item-off-reserves x mx e me bit i c =
+      let (v, mv, ox) = each-from itemOf (visitsIn (b .call)) mx in
+      let (w, mw, oe) = each-from reserveOf (visitsIn (b .call)) me in
+      let same = same-visit (visitsIn (b .call)) visits-apart bit mv mw (item-offered bit v x ox i) (reserve-offered bit w e oe c) in
+      let written = picked-some (isWritten (v .node)) (standing (v .out) (v .node)) ox .0 in
+      let reserve = picked-some (isReserve (w .node)) (bitsAt (w .out) (w .node)) oe .0 in
+      written-or-reserve (v .node) written (subst (λ (u : Visit). isReserve (u .node) ≡ true) (sym same) reserve)
+
+  -- "Image length is the larger of the fill's and the furthest end of a written item": no less than either,
+  pub length-not-below-fill : fillOf (b .call .given) ≤ b .bits
+  length-not-below-fill = rw (fine b .reach) (fill-within (fillOf (b .call .given)) (itemsIn (b .call)))
+
+  pub length-not-below-item : (x : Item) → List·Memᴰ x (itemsIn (b .call)) → endOf x ≤ b .bits
+  length-not-below-item x m = rw (fine b .reach) (end-within (fillOf (b .call .given)) m)
+
+  -- and no more.
+  pub length-is-fill-or-end : (b .bits ≡ fillOf (b .call .given)) ⊎ ((x : Item) × List·Memᴰ x (itemsIn (b .call)) × (b .bits ≡ endOf x))
+  length-is-fill-or-end =
+      ⊎-elim
+      (λ e. inl (fine b .reach ∙ e))
+      (λ (r : (x : Item) × List·Memᴰ x (itemsIn (b .call)) × (_ ≡ endOf x)). inr (r .0, r .1, fine b .reach ∙ r .2))
+      (length-is-one (fillOf (b .call .given)) (itemsIn (b .call)))
+
+  -- every bit of the image's length is in the lent image
+  pub length-fits : b .bits ≤ 8 * length (b .call .old .image)
+  length-fits = fine b .wide
+
+  image-is : b .call .new .image ≡ imageOf (valuesIn (b .call)) (replicate (length (b .call .old .image)) 0) (itemsIn (b .call))
+  image-is = ap (λ (l : Lent). l .image) (left-is b)
+
+  -- Each bit of a written item is its own: the image's bit at its place plus j is value bit `from` plus j.
+  pub item-own-bit : (x : Item) → List·Memᴰ x (itemsIn (b .call)) → (j : ℕ) → j < x .size
+      → bitAt (b .call .new .image) (x .at + j) ≡ bitAt (valuesIn (b .call)) (x .from + j)
+  item-own-bit x m j h =
+      ap (λ (l : List ℕ). bitAt l (x .at + j)) image-is
+      ∙ bit-of-item (valuesIn (b .call)) (replicate (length (b .call .old .image)) 0) (itemsIn (b .call)) items-share-no-bit m
+      (rw (length-replicate {A = ℕ} (length (b .call .old .image)) 0) (le-trans (length-not-below-item x m) length-fits)) j h
+
+  -- Every bit of the lent image that belongs to no written item is zero.
+  pub rest-zero : (bit : ℕ) → ((x : Item) → List·Memᴰ x (itemsIn (b .call)) → InItem bit x → ⊥) → bitAt (b .call .new .image) bit ≡ 0
+  rest-zero bit none =
+      ap (λ (l : List ℕ). bitAt l bit) image-is
+      ∙ bit-of-none (valuesIn (b .call)) (replicate (length (b .call .old .image)) 0) (itemsIn (b .call)) bit none
+      ∙ blank-bit (length (b .call .old .image)) bit

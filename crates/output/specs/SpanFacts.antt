@@ -1,0 +1,244 @@
+-- The spans that an accepted build leaves: "labels (size 0) and written items in node order, with address and offset or none". No two of them
+-- share a bit, so their blocks ascend and share none. Past them the lent lists keep their old contents.
+use mathlib.Core.Path.{_≡_, refl, sym, ap, subst, _∙_}
+use mathlib.Core.Bool.{Bool, true, false, _||_}
+use mathlib.Core.List.{List, [], _∷_, _++_, map, append-assoc, List·Memᴰ, List·Memᴰ·head, List·Memᴰ·tail, List·Memᴰ·not-nil, List·Memᴰ·cases-cons}
+use mathlib.Core.List.{List·Memᴰ·eq-of-singleton}
+use mathlib.Core.Logic.{_⊎_, inl, inr, ⊎-elim}
+use Prim.Native.Nat.{ℕ, zero, suc, _+_, _≤_, _<_}
+use native.Mathlib.Omega.{arith}
+use borrow.Author.Tests.{eqb-true, eq-eqb, ne-eqb}
+use lib.Dec.{eqb}
+use lib.IntN.{ℤ, pos}
+use lib.ListN.{length, getD, take, drop, length-append, length-map}
+use lib.Seq.{take-at, drop-at}
+use Rattle.refusal.specs.Pick.{pick, pick-true, pick-false}
+use Rattle.refusal.specs.declared.Offset.{Offset}
+use Rattle.refusal.specs.declared.Offset.the-variants.{None as Nowhere, At as Out}
+use Rattle.iter.specs.Address.{unitsFrom, addressOf, outputPosition}
+use Rattle.iter.specs.Distance.{tellable}
+use Rattle.iter.specs.declared.Node.{Node}
+use Rattle.bankdef.specs.declared.Bankdef.{Bankdef}
+use Rattle.resolver.specs.Lists.{Row}
+use Rattle.resolver.specs.Once.{Program}
+use Rattle.overlap_checker.specs.declared.Entry.{Entry}
+use Rattle.overlap_checker.specs.Interval.{Covers}
+use Rattle.blocks.specs.Offsets.{offsetOf, wordOf, noOffset}
+use Rattle.blocks.specs.Spans.{spansOf as spansLent}
+use Rattle.blocks.specs.Spans as blocks-spans
+use Rattle.blocks.specs.Bits.{InPlaced, InSpan, InBlock, Some, NoSharedBit, blocks-apart}
+use Rattle.blocks.specs.Row.{InARow, blocks-in-a-row}
+use Rattle.blocks.specs.Walk.{blocksOf}
+use Rattle.output.specs.declared.visits.Visit.{Visit}
+use Rattle.output.specs.Visits.{positionOf, visitAt, visitsTo}
+use Rattle.output.specs.VisitLaws.{visits-split, each-append, each-next}
+use Rattle.output.specs.Items.{isWritten}
+use Rattle.output.specs.Kinds.{written-exactly}
+use Rattle.output.specs.Spans.{Span, isSpan, sizeOf, addressTold, spanAt, spanOf, spansOf, over, addresses, words, sizes}
+use Rattle.output.specs.Placing.{isReserve, isOffered, bitsAt, offerOf}
+use Rattle.output.specs.PlacingLaws.{picked-some, OfferedBit, holds-apart, apart-one, each-apart}
+use Rattle.output.specs.Output.{Lent}
+use Rattle.output.specs.Calls.{Call, Accepted, nodesIn, visitIn, visitsBefore, visitsIn, spansIn, programIn, rowIn, banksIn, fine, left-is}
+
+-- ---- a span's place in the lists
+
+-- how many labels and written items stand among the first n nodes
+unfoldable pub spansAmong : Call → ℕ → ℕ
+spansAmong c zero = 0
+spansAmong c (suc i) = pick (isSpan (visitIn c i .node)) (spansAmong c i + 1) (spansAmong c i)
+
+module _ (c : Call) where
+  more : (b : Bool) (l : List Span) (x : Span) → length (l ++ pick b (x ∷ []) []) ≡ pick b (length l + 1) (length l)
+  more true l x = length-append l (x ∷ [])
+  more false l x = ap length (mathlib.Core.List.append-nil l)
+
+  pub spans-counted : (n : ℕ) → length (spansOf (visitsBefore c n)) ≡ spansAmong c n
+  unfolding spansAmong visitsTo Rattle.output.specs.Visits.each
+  spans-counted zero = refl
+  spans-counted (suc i) =
+      ap length (each-next (programIn c) (rowIn c) spanOf i)
+      ∙ more (isSpan (visitIn c i .node)) (spansOf (visitsBefore c i)) (spanAt (visitIn c i))
+      ∙ ap (λ (k : ℕ). pick (isSpan (visitIn c i .node)) (k + 1) k) (spans-counted i)
+
+  -- the spans before node n, its own, and those behind it
+  spans-around : (n : ℕ) → n < nodesIn c → isSpan (visitIn c n .node) ≡ true
+      → (rest : List Span) × (spansIn c ≡ spansOf (visitsBefore c n) ++ spanAt (visitIn c n) ∷ rest)
+  spans-around n h s =
+      let (rest, e) = visits-split (programIn c) (rowIn c) (suc n) (nodesIn c) h in (
+        spansOf rest,
+        ap spansOf e
+            ∙ each-append spanOf (visitsBefore c (suc n)) rest
+            ∙ ap (λ (l : List Span). l ++ spansOf rest)
+            (each-next (programIn c) (rowIn c) spanOf n ∙ ap (λ (l : List Span). spansOf (visitsBefore c n) ++ l) (pick-true (spanAt (visitIn c n) ∷ []) [] s))
+            ∙ append-assoc (spansOf (visitsBefore c n)) (spanAt (visitIn c n) ∷ []) (spansOf rest),
+      )
+
+shown : {A B : Type 0} (f : B → A) (k : List B) (x : B) (l : List B) (rest : List A) (d : A) → getD (map f (k ++ x ∷ l) ++ rest) (length k) d ≡ f x
+shown f [] x l rest d = refl
+shown f (y ∷ k) x l rest d = shown f k x l rest d
+
+-- what a list that shows the spans holds for node n
+shown-at : {A : Type 0} (c : Call) (f : Span → A) (old : List A) (d : A) (n : ℕ) → n < nodesIn c → isSpan (visitIn c n .node) ≡ true
+    → getD (over (map f (spansIn c)) old) (spansAmong c n) d ≡ f (spanAt (visitIn c n))
+shown-at c f old d n h s =
+    let (rest, e) = spans-around c n h s in
+    ap (λ (l : List Span). getD (over (map f l) old) (spansAmong c n) d) e
+    ∙ ap (λ (k : ℕ). getD (over (map f (spansOf (visitsBefore c n) ++ spanAt (visitIn c n) ∷ rest)) old) k d) (sym (spans-counted c n))
+    ∙ shown f (spansOf (visitsBefore c n)) (spanAt (visitIn c n)) rest _ d
+
+told-address : (def : Bankdef) (position node : ℕ) → tellable def ≡ true → addressTold (addressOf def position node) ≡ unitsFrom def position
+unfolding addressOf
+told-address def position node t = rw t
+
+module _ (b : Accepted) where
+  addresses-are : b .call .new .addresses ≡ over (addresses (spansIn (b .call))) (b .call .old .addresses)
+  addresses-are = ap (λ (l : Lent). l .addresses) (left-is b)
+
+  offsets-are : b .call .new .offsets ≡ over (words (spansIn (b .call))) (b .call .old .offsets)
+  offsets-are = ap (λ (l : Lent). l .offsets) (left-is b)
+
+  sizes-are : b .call .new .sizes ≡ over (sizes (spansIn (b .call))) (b .call .old .sizes)
+  sizes-are = ap (λ (l : Lent). l .sizes) (left-is b)
+
+  -- There are as many spans as labels and written items.
+  pub span-count : b .spans ≡ spansAmong (b .call) (nodesIn (b .call))
+  span-count = fine b .count ∙ spans-counted (b .call) (nodesIn (b .call))
+
+  -- "in node order": the span of a node stands behind those of the nodes before it.
+  module _ (n : ℕ) (h : n < nodesIn (b .call)) (s : isSpan (visitIn (b .call) n .node) ≡ true) where
+    -- "The address is the start plus the whole units in the position", in a bank that addresses can be told of
+    pub span-address : tellable (visitIn (b .call) n .def) ≡ true
+        → getD (b .call .new .addresses) (spansAmong (b .call) n) (pos 0) ≡ unitsFrom (visitIn (b .call) n .def) (positionOf (visitIn (b .call) n))
+    span-address t =
+        ap (λ (l : List ℤ). getD l (spansAmong (b .call) n) (pos 0)) addresses-are
+        ∙ shown-at (b .call) (λ (x : Span). x .address) (b .call .old .addresses) (pos 0) n h s
+        ∙ told-address (visitIn (b .call) n .def) (positionOf (visitIn (b .call) n)) n t
+
+    -- "the output position is offset plus position", or none
+    pub span-offset : getD (b .call .new .offsets) (spansAmong (b .call) n) 0
+        ≡ wordOf (outputPosition (visitIn (b .call) n .def) (positionOf (visitIn (b .call) n)))
+    span-offset =
+        ap (λ (l : List ℕ). getD l (spansAmong (b .call) n) 0) offsets-are
+        ∙ shown-at (b .call) (λ (x : Span). wordOf (x .offset)) (b .call .old .offsets) 0 n h s
+
+    span-size : getD (b .call .new .sizes) (spansAmong (b .call) n) 0 ≡ sizeOf (visitIn (b .call) n .node)
+    span-size =
+        ap (λ (l : List ℕ). getD l (spansAmong (b .call) n) 0) sizes-are
+        ∙ shown-at (b .call) (λ (x : Span). x .size) (b .call .old .sizes) 0 n h s
+
+    -- "labels (size 0)", and a written item's number
+    pub span-size-label : visitIn (b .call) n .node .kind ≡ 2 → getD (b .call .new .sizes) (spansAmong (b .call) n) 0 ≡ 0
+    span-size-label e = span-size ∙ pick-true 0 (visitIn (b .call) n .node .number) (eq-eqb (visitIn (b .call) n .node .kind) 2 e)
+
+    pub span-size-item : (visitIn (b .call) n .node .kind ≡ 2 → ⊥)
+        → getD (b .call .new .sizes) (spansAmong (b .call) n) 0 ≡ visitIn (b .call) n .node .number
+    span-size-item e = span-size ∙ pick-false 0 (visitIn (b .call) n .node .number) (ne-eqb (visitIn (b .call) n .node .kind) 2 e)
+
+  -- "lent spans .. keep their old contents past what was written"
+  long-as : {A : Type 0} (f : Span → A) → length (map f (spansIn (b .call))) ≡ b .spans
+  long-as f = length-map (spansIn (b .call)) f ∙ sym (fine b .count)
+
+  pub old-addresses-stay : drop (b .spans) (b .call .new .addresses) ≡ drop (b .spans) (b .call .old .addresses)
+  old-addresses-stay =
+      ap (drop (b .spans)) addresses-are ∙ drop-at (addresses (spansIn (b .call))) _ (b .spans) (long-as (λ (x : Span). x .address))
+      ∙ ap (λ (k : ℕ). drop k (b .call .old .addresses)) (long-as (λ (x : Span). x .address))
+
+  pub old-offsets-stay : drop (b .spans) (b .call .new .offsets) ≡ drop (b .spans) (b .call .old .offsets)
+  old-offsets-stay =
+      ap (drop (b .spans)) offsets-are ∙ drop-at (words (spansIn (b .call))) _ (b .spans) (long-as (λ (x : Span). wordOf (x .offset)))
+      ∙ ap (λ (k : ℕ). drop k (b .call .old .offsets)) (long-as (λ (x : Span). wordOf (x .offset)))
+
+  pub old-sizes-stay : drop (b .spans) (b .call .new .sizes) ≡ drop (b .spans) (b .call .old .sizes)
+  old-sizes-stay =
+      ap (drop (b .spans)) sizes-are ∙ drop-at (sizes (spansIn (b .call))) _ (b .spans) (long-as (λ (x : Span). x .size))
+      ∙ ap (λ (k : ℕ). drop k (b .call .old .sizes)) (long-as (λ (x : Span). x .size))
+
+-- ---- no two spans share a bit
+
+abbrev InShown : ℕ → Span → Type 0
+InShown bit x = InPlaced bit (x .offset) (x .size)
+
+label-or-written : (n : Node) → isSpan n ≡ true → (eqb (n .kind) 2 ≡ true) ⊎ (isWritten n ≡ true)
+label-or-written n e = go (eqb (n .kind) 2) (isWritten n) e
+  where
+    go : (a b : Bool) → (a || b) ≡ true → (a ≡ true) ⊎ (b ≡ true)
+    go true b h = inl refl
+    go false b h = inr h
+
+-- an empty span has no bit
+empty-none : (bit : ℕ) (o : Offset) (size : ℕ) → size ≡ 0 → InPlaced bit o size → ⊥
+empty-none bit Nowhere size e i = i
+empty-none bit (Out o) size e i = omega (arith, i .0, i .1)
+
+placed-bits : (bit : ℕ) (out : Offset) (n : Node) → InPlaced bit out (n .number) → (e : Entry) × List·Memᴰ e (bitsAt out n) × Covers e bit
+placed-bits bit Nowhere n i = absurd i
+placed-bits bit (Out o) n i = (_, List·Memᴰ·head refl, i)
+
+offers-written : (v : Visit) {e : Entry} → isWritten (v .node) ≡ true → List·Memᴰ e (bitsAt (v .out) (v .node)) → List·Memᴰ e (offerOf v)
+offers-written v {e} w m =
+    subst (λ (l : List Entry). List·Memᴰ e l) (sym (pick-true {b = isOffered (v .node)} (bitsAt (v .out) (v .node)) [] (rw w))) m
+
+span-offered : (bit : ℕ) (v : Visit) (x : Span) → List·Memᴰ x (spanOf v) → InShown bit x → OfferedBit bit v
+span-offered bit v x m i =
+    let (s, here) = picked-some (isSpan (v .node)) (spanAt v ∷ []) m in
+    let own : InPlaced bit (v .out) (sizeOf (v .node)) = subst (λ (y : Span). InShown bit y) (List·Memᴰ·eq-of-singleton here) i in
+    ⊎-elim
+    (λ (label : eqb (v .node .kind) 2 ≡ true). absurd (empty-none bit (v .out) (sizeOf (v .node)) (pick-true 0 (v .node .number) label) own))
+    (λ (w : isWritten (v .node) ≡ true).
+    let whole : InPlaced bit (v .out) (v .node .number) =
+    subst (λ (k : ℕ). InPlaced bit (v .out) k) (pick-false 0 (v .node .number) (not-label (v .node) w)) own in
+    let (e, me, c) = placed-bits bit (v .out) (v .node) whole in
+    (e, offers-written v w me, c))
+    (label-or-written (v .node) s)
+  where
+    not-label : (n : Node) → isWritten n ≡ true → eqb (n .kind) 2 ≡ false
+    not-label n w = ne-eqb (n .kind) 2 (λ k. let h = written-exactly n .0 w in omega (arith, h .0))
+
+-- spans as they are lent, in words
+word-back : (bit : ℕ) (o : Offset) (size : ℕ) → InPlaced bit (offsetOf (wordOf o)) size → InPlaced bit o size
+word-back bit Nowhere size i = i
+word-back bit (Out o) size i = go (eqb o noOffset) i
+  where
+    go : (t : Bool) → InPlaced bit (pick t Nowhere (Out o)) size → InPlaced bit (Out o) size
+    go true h = absurd h
+    go false h = h
+
+lent-some : (bit : ℕ) (l : List Span) → Some (InSpan bit) (spansLent (words l) (sizes l)) → Some (InShown bit) l
+unfolding spansLent
+lent-some bit [] s = absurd (List·Memᴰ·not-nil (s .1))
+lent-some bit (x ∷ l) s =
+    ⊎-elim
+    (λ (e : s .0 ≡ _). (x, List·Memᴰ·head refl, word-back bit (x .offset) (x .size) (subst (λ (y : blocks-spans.Span). InSpan bit y) e (s .2))))
+    (λ (m : List·Memᴰ (s .0) (spansLent (words l) (sizes l))). let r = lent-some bit l (s .0, m, s .2) in (r .0, List·Memᴰ·tail (r .1), r .2))
+    (List·Memᴰ·cases-cons (s .1))
+
+lent-apart : (l : List Span) → NoSharedBit InShown l → NoSharedBit InSpan (spansLent (words l) (sizes l))
+unfolding spansLent
+lent-apart [] n = tt
+lent-apart (x ∷ l) n = (λ bit i s. n .0 bit (word-back bit (x .offset) (x .size) i) (lent-some bit l s), lent-apart l (n .1))
+
+module _ (b : Accepted) where
+  -- the spans that an accepted build leaves in the two lists that make blocks
+  abbrev pub spansLeft : List blocks-spans.Span
+  spansLeft = spansLent (take (b .spans) (b .call .new .offsets)) (take (b .spans) (b .call .new .sizes))
+
+  left-words : take (b .spans) (b .call .new .offsets) ≡ words (spansIn (b .call))
+  left-words = ap (take (b .spans)) (offsets-are b) ∙ take-at (words (spansIn (b .call))) _ (b .spans) (long-as b (λ (x : Span). wordOf (x .offset)))
+
+  left-sizes : take (b .spans) (b .call .new .sizes) ≡ sizes (spansIn (b .call))
+  left-sizes = ap (take (b .spans)) (sizes-are b) ∙ take-at (sizes (spansIn (b .call))) _ (b .spans) (long-as b (λ (x : Span). x .size))
+
+  -- No two spans of an accepted build share a bit,
+  pub spans-share-no-bit : NoSharedBit InSpan spansLeft
+  spans-share-no-bit =
+      rw (left-words, left-sizes)
+      (lent-apart (spansIn (b .call))
+      (each-apart spanOf InShown (λ v. apart-one InShown (isSpan (v .node)) (spanAt v)) span-offered (visitsIn (b .call))
+      (holds-apart (banksIn (b .call)) _ (fine b .state) (visitsIn (b .call)) (fine b .placed) .offered)))
+
+  -- so its blocks share none, and each ends at or before the start of every later one.
+  pub blocks-share-no-bit : NoSharedBit InBlock (blocksOf spansLeft)
+  blocks-share-no-bit = blocks-apart spansLeft spans-share-no-bit
+
+  pub blocks-stand-in-a-row : InARow (blocksOf spansLeft)
+  blocks-stand-in-a-row = blocks-in-a-row spansLeft spans-share-no-bit

@@ -1,0 +1,77 @@
+-- What the build's inner functions promise one another. A reader of the public contract needs none of it.
+use mathlib.Core.Path.{_≡_}
+use mathlib.Core.Bool.{true}
+use mathlib.Core.List.{List, [], _∷_, List·Memᴰ}
+use Prim.Native.Nat.{ℕ, _+_, _*_, _≤_, _<_}
+use lib.Dec.{ltb}
+use lib.ListN.{length}
+use Rattle.refusal.specs.Pick.{pick}
+use Rattle.refusal.specs.declared.Offset.{Offset}
+use Rattle.refusal.specs.declared.Verdict.{Verdict}
+use Rattle.refusal.specs.declared.Verdict.the-variants.{Accepted, Refused}
+use Rattle.bankdef.specs.declared.Bankdefs.{Bankdefs}
+use Rattle.iter.specs.declared.Node.{Node}
+use Rattle.resolver.specs.Lists.{Row}
+use Rattle.resolver.specs.Once.{Program}
+use Rattle.overlap_checker.specs.declared.Entry.{Entry}
+use Rattle.overlap_checker.specs.State.{holding}
+use Rattle.overlap_checker.specs.Folds.{stateAfter}
+use Rattle.overlap_lent.specs.Lent.{held, Sound}
+use Rattle.output.specs.Visits.{visits}
+use Rattle.output.specs.Items.{Item, endOf, itemsOf, lengthOf}
+use Rattle.output.specs.Placing.{Placed, holds, stops, placedAll}
+use Rattle.output.specs.Spans.{spansOf}
+use Rattle.output.specs.Output.{Lent, roomOf, buildRow, leftBy}
+use Rattle.output.specs.declared.visits.Visit.{Visit}
+use Rattle.output.specs.declared.placing.Plan.{Plan}
+use Rattle.output.specs.declared.Build.{Build}
+
+abbrev pub programOf : Bankdefs → List ℕ → List ℕ → List ℕ → Program
+programOf banks kinds operands first = record { banks = banks; kinds = kinds; operands = operands; first = first }
+
+abbrev pub rowOf : List ℕ → List ℕ → Row
+rowOf numbers states = record { numbers = numbers; states = states }
+
+-- the furthest that an offer can end
+abbrev pub maxEnd : ℕ
+maxEnd = 12884901885
+
+-- how many intervals accepted offers add to the store
+abbrev pub grown : List Entry → ℕ
+grown [] = 0
+grown (e ∷ more) = pick (ltb 0 (e .size)) 1 0 + grown more
+
+-- Where a node is accepted, the two lent lists hold what is stored after it, and the store is sound again.
+pub record Goes (positions sizes : List ℕ) (count : ℕ) (offer : List Entry) (r : Verdict) (positions′ sizes′ : List ℕ) : Type 0 where
+  pub holds : r ≡ Accepted → holding (held positions′ sizes′ (count + grown offer)) ≡ stateAfter (holding (held positions sizes count)) offer
+  pub sound : r ≡ Accepted → Sound positions′ sizes′ (count + grown offer)
+
+abbrev pub verdictPlaced : Placed → Verdict
+verdictPlaced (holds stored) = Accepted
+verdictPlaced (stops why) = Refused why
+
+-- What the first walk finds: the verdict on all nodes; accepted, the image's length and the number of spans.
+pub record Planned (p : Program) (row : Row) (fill : ℕ) (plan : Plan) : Type 0 where
+  pub verdict : plan .verdict ≡ verdictPlaced (placedAll (p .banks .len) (visits p row))
+  pub reach : plan .verdict ≡ Accepted → plan .length ≡ lengthOf fill (itemsOf (visits p row))
+  pub count : plan .verdict ≡ Accepted → plan .spans ≡ length (spansOf (visits p row))
+  pub low : plan .length ≤ maxEnd
+
+-- items that come from within `values` value bytes
+abbrev pub InValues : ℕ → List Item → Type 0
+InValues values xs = (x : Item) → List·Memᴰ x xs → x .from + x .size ≤ 8 * values
+
+-- and whose bits lie within an image of `bytes` bytes
+abbrev pub Fit : ℕ → ℕ → List Item → Type 0
+Fit values bytes xs = (x : Item) → List·Memᴰ x xs → (endOf x ≤ 8 * bytes) × (x .from + x .size ≤ 8 * values)
+
+-- there is a place for each span in each of three lists
+pub record Fits (n addresses offsets sizes : ℕ) : Type 0 where
+  pub first : n ≤ addresses
+  pub second : n ≤ offsets
+  pub third : n ≤ sizes
+
+-- The build of a row: its answer, and everything lent afterwards.
+pub record RowBuilt (p : Program) (row : Row) (fill k : ℕ) (values : List ℕ) (old : Lent) (r : Build) (new : Lent) : Type 0 where
+  pub answer : r ≡ buildRow (p .banks .len) (visits p row) fill (roomOf old) k
+  pub left : new ≡ leftBy (visits p row) values old r
