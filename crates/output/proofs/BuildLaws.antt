@@ -16,7 +16,7 @@ use Rattle.refusal.specs.declared.Refusal.the-variants.{TooShort}
 use Rattle.refusal.specs.declared.Verdict.the-variants.{Accepted, Refused as TurnedAway}
 use Rattle.resolver.specs.Lists.{Row}
 use Rattle.resolver.specs.Once.{Program}
-use Rattle.overlap_checker.proofs.Ascending.{lt-or-le}
+use Rattle.overlap_checker.specs.Ascending.{lt-or-le}
 use Rattle.output.specs.Visits.{visits}
 use Rattle.output.specs.Items.{itemsOf, lengthOf, imageOf}
 use Rattle.output.specs.ItemLaws.{end-within}

@@ -22,15 +22,13 @@ use Rattle.iter.specs.declared.Node.{Node}
 use Rattle.resolver.specs.Lists.{firstOf, isItem}
 use Rattle.overlap_checker.specs.declared.Entry.{Entry}
 use Rattle.overlap_checker.specs.Interval.{interval, Within}
-use Rattle.overlap_checker.specs.Offers.{placeFor, clashesAny, lacksRoom, verdictOf}
-use Rattle.overlap_checker.specs.State.{State, holding, tries, answer, isAccepted, inserted, keeping, after}
+use Rattle.overlap_checker.specs.State.{State, answer}
 use Rattle.overlap_checker.specs.Folds.{stateAfter}
-use Rattle.overlap_lent.specs.Lent.{held, heldAfter, countAfter, Sound}
-use Rattle.overlap_lent.proofs.Kept.{held-after, sound-after}
+use Rattle.overlap_checker.specs.Lent.{Lent as Store, Sound, Offers}
+use Rattle.overlap_checker.specs.Going.{state-after, sound-after}
 use Rattle.output.specs.Items.{Item, isWritten, standing, itemAt, lengthOf}
 use Rattle.output.specs.Placing.{isPlaced, isOffered, bitsAt, offerAt, checked, answered, tried, verdictSeen}
-use Rattle.output.specs.PlacingLaws.{after-accepted}
-use Rattle.output.specs.Steps.{Goes, grown}
+use Rattle.output.specs.Steps.{Goes}
 
 -- ---- what a node offers
 
@@ -64,65 +62,31 @@ module _ (n : Node) where
       others true b f e = absurd (mathlib.Core.Bool.true≢false f)
       others false b f e = e
 
-  pub offers-made : (o : ℕ) → isOffered n ≡ true → offerAt n (Out o) ≡ interval o (n .number) ∷ []
-  offers-made o e = pick-true (bitsAt (Out o) n) [] e
-
 -- ---- what that leaves in the store
 
-module _ (positions sizes : List ℕ) (count : ℕ) where
-  pub goes-none : (offer : List Entry) → Sound positions sizes count → offer ≡ [] → Goes positions sizes count offer Accepted positions sizes
+module _ (a : Store) where
+  pub goes-none : (offer : List Entry) → Sound a → offer ≡ [] → Goes a offer Accepted a
   unfolding stateAfter
-  goes-none offer s none =
-      rw none
-      (record {
-        holds = λ _. ap (λ (k : ℕ). holding (held positions sizes k)) (add-zero count);
-        sound = λ _. subst (λ (k : ℕ). Sound positions sizes k) (sym (add-zero count)) s;
-      })
+  goes-none offer s none = record { state = λ _. rw none; sound = s }
 
-  pub goes-refused : (offer : List Entry) (why : Refusal) → Goes positions sizes count offer (Refused why) positions sizes
-  goes-refused offer why = record { holds = λ e. absurd (never e); sound = λ e. absurd (never e) }
+  pub goes-refused : (offer : List Entry) (why : Refusal) → Sound a → Goes a offer (Refused why) a
+  goes-refused offer why s = record { state = λ e. absurd (never e); sound = s }
     where
       never : Refused why ≡ Accepted → ⊥
       never e = let z : _≡_ {A = ℕ} 0 1 = cc in omega arith
 
-  adds : (b : Bool) → count + (pick b 1 0 + 0) ≡ pick b (count + 1) count
-  adds true = refl
-  adds false = add-zero count
-
-  holds-picked : (b : Bool) (x y : List Entry) → holding (pick b x y) ≡ pick b (holding x) (holding y)
-  holds-picked true x y = refl
-  holds-picked false x y = refl
-
-  module _ (s : Sound positions sizes count) (o size node : ℕ) where
-    -- the state after an accepted offer
-    keeps : verdictOf (held positions sizes count) (interval o size) node ≡ Accepted
-        → holding (pick (ltb 0 size) (inserted (held positions sizes count) (interval o size)) (held positions sizes count))
-        ≡ stateAfter (holding (held positions sizes count)) (interval o size ∷ [])
-    unfolding stateAfter keeping tries verdictOf
-    keeps acc =
-        holds-picked (ltb 0 size) (inserted (held positions sizes count) (interval o size)) (held positions sizes count)
-        ∙ sym (after-accepted (holding (held positions sizes count)) (interval o size) node acc)
-
-    pub goes-offered : Within (interval o size) → (offer : List Entry) → offer ≡ interval o size ∷ [] → (r : Verdict) (positions′ sizes′ : List ℕ)
-        → r ≡ verdictOf (held positions sizes count) (interval o size) node
-        → positions′ ≡ heldAfter positions count (placeFor o (held positions sizes count)) o size r
-        → sizes′ ≡ heldAfter sizes count (placeFor o (held positions sizes count)) size size r
-        → Goes positions sizes count offer r positions′ sizes′
-    goes-offered within offer made r positions′ sizes′ verdict ps ss =
-        rw made
-        (record {
-          holds = λ acc. rw (ps, ss, acc, adds (ltb 0 size))
-              (ap holding (held-after positions sizes count s o size node (sym verdict ∙ acc)) ∙ keeps (sym verdict ∙ acc));
-          sound = λ acc. rw (ps, ss, acc, adds (ltb 0 size)) (sound-after positions sizes count s o size within node (sym verdict ∙ acc));
-        })
+  pub goes-offered : (e : Entry) (node : ℕ) (offer : List Entry) → offer ≡ e ∷ [] → Sound a → Within e → (r : Verdict) (b : Store)
+      → Offers a e node r b → Goes a offer r b
+  unfolding stateAfter
+  goes-offered e node offer made s within r b o =
+      record { state = λ _. state-after a e node r b s o ∙ rw made; sound = sound-after a e node r b s o within }
 
 pub answered-none : (s : State) (node : ℕ) (offer : List Entry) → offer ≡ [] → Accepted ≡ answered s node offer
 answered-none s node offer none = rw none
 
-pub answered-one : (l : List Entry) (e : Entry) (node : ℕ) (offer : List Entry) → offer ≡ e ∷ [] → (r : Verdict) → r ≡ verdictOf l e node
-    → r ≡ answered (holding l) node offer
-unfolding verdictOf tries
-answered-one l e node offer made r same = rw made same
+pub answered-one : (s : State) (e : Entry) (node : ℕ) (offer : List Entry) → offer ≡ e ∷ [] → (r : Verdict) → r ≡ answer s e node
+    → r ≡ answered s node offer
+answered-one s e node offer made r same = rw made same
 
 -- ---- the verdict on a node
 
@@ -146,18 +110,6 @@ module _ (banks bank : ℕ) (def : Bankdef) (s : State) (n : Node) (out : Offset
 
       pub verdict-offered : v ≡ Accepted → (r : Verdict) → r ≡ answered s (n .index) (offerAt n out) → r ≡ verdictSeen banks bank def s n out seen
       verdict-offered a r o = o ∙ sym (reads ∙ ap (λ (w : Verdict). firstOf w (answered s (n .index) (offerAt n out))) a)
-
--- ---- counts
-
-module _ (count : ℕ) (offer : List Entry) where
-  pub count-none : offer ≡ [] → count ≡ count + grown offer
-  count-none e = rw e (sym (add-zero count))
-
-  pub count-empty : (o size : ℕ) → offer ≡ interval o size ∷ [] → size ≤ 0 → count ≡ count + grown offer
-  count-empty o size e z = rw (e, le-ltb 0 size z) (sym (add-zero count))
-
-  pub count-more : (o size : ℕ) → offer ≡ interval o size ∷ [] → 0 < size → count + 1 ≡ count + grown offer
-  count-more o size e z = rw (e, lt-ltb 0 size z)
 
 -- ---- the image's length after a node
 

@@ -5,7 +5,7 @@ use mathlib.Core.List.{List, [], _∷_, _++_}
 use Prim.Native.Nat.{ℕ, suc, _+_, _≤_, _<_}
 use native.Mathlib.Numerals.{add-one}
 use native.Mathlib.Omega.{arith}
-use lib.ListN.{length, replicate, length-append}
+use lib.ListN.{length, replicate, length-append, length-replicate}
 use Rattle.refusal.specs.Limits.{maxOffer}
 use Rattle.refusal.specs.Pick.{pick}
 use Rattle.refusal.specs.declared.Refusal.{Refusal}
@@ -15,10 +15,10 @@ use Rattle.iter.specs.Step.{startOf}
 use Rattle.iter.specs.declared.Walk.{Walk}
 use Rattle.resolver.specs.Lists.{Row}
 use Rattle.resolver.specs.Once.{Program, walkTo}
-use Rattle.overlap_checker.specs.State.{State, holding, emptyState}
+use Rattle.overlap_checker.specs.State.{State, emptyState}
 use Rattle.overlap_checker.specs.Folds.{stateAfter}
-use Rattle.overlap_lent.specs.Lent.{held, Sound}
-use Rattle.overlap_lent.proofs.Kept.{sound-empty, held-none}
+use Rattle.overlap_checker.specs.Lent.{lent as store, stateIn, Sound}
+use Rattle.overlap_checker.specs.Going.{state-none, sound-none}
 use Rattle.output.specs.declared.placing.Plan.{Plan}
 use Rattle.output.specs.declared.visits.Visit.{Visit}
 use Rattle.output.specs.Visits.{visitOf, visitAt, visitsTo}
@@ -27,15 +27,15 @@ use Rattle.output.specs.Items.{itemOf, lengthOf}
 use Rattle.output.specs.Spans.{Span, isSpan, spanAt}
 use Rattle.output.specs.Placing.{offerOf, verdictOn, verdictSeen, holds, stops, placedIf, placedNext, placedFrom, placedAll}
 use Rattle.output.specs.PlacingLaws.{placed-append, stops-stay}
-use Rattle.output.specs.Steps.{Goes, Planned, grown, maxEnd, verdictPlaced}
+use Rattle.output.specs.Steps.{Goes, Planned, maxEnd, verdictPlaced}
 use Rattle.output.proofs.Upto.{spansTo, lengthTo, placedTo, spans-next, length-next, placed-next, spans-none, items-none, placed-none}
 
 -- The first walk before node i: the walk of the row, a sound store that holds what is placed so far, the length and the spans so far.
 pub record Going (p : Program) (row : Row) (fill i : ℕ) (walk : Walk) (positions sizes : List ℕ) (count reach spans : ℕ) : Type 0 where
   pub within : i ≤ length (p .kinds)
   pub walks : walk ≡ walkTo p row i
-  pub sound : Sound positions sizes count
-  pub placed : placedTo p row i ≡ holds (holding (held positions sizes count))
+  pub sound : Sound (store positions sizes count)
+  pub placed : placedTo p row i ≡ holds (stateIn (store positions sizes count))
   pub reaches : reach ≡ lengthTo p row fill i
   pub low : reach ≤ maxEnd
   pub counts : spans ≡ length (spansTo p row i)
@@ -73,11 +73,12 @@ module _ (p : Program) (row : Row) where
   -- the walk begins
   pub begins : (fill : ℕ) (walk : Walk) → walk ≡ startOf → fill ≤ maxOffer → Going p row fill 0 walk (replicate 512 0) (replicate 512 0) 0 fill 0
   begins fill walk e b =
+      let none = store (replicate 512 0) (replicate 512 0) 0 in
       record {
         within = omega arith;
         walks = e ∙ start-walk;
-        sound = sound-empty;
-        placed = placed-none p row ∙ ap (λ (l : List _). holds (holding l)) (sym (held-none (replicate 512 0) (replicate 512 0)));
+        sound = sound-none none (length-replicate {A = ℕ} 512 0) (length-replicate {A = ℕ} 512 0) refl;
+        placed = placed-none p row ∙ ap holds (sym (state-none none refl));
         reaches = start-length fill;
         low = omega arith;
         counts = ap length (sym (spans-none p row));
@@ -86,23 +87,23 @@ module _ (p : Program) (row : Row) where
 
   module _ (fill i : ℕ) (walk : Walk) (positions sizes : List ℕ) (count reach spans : ℕ) (g : Going p row fill i walk positions sizes count reach spans)
       (v : Visit) (visits : v ≡ visitOf p row walk i) (r : Verdict)
-      (answer : r ≡ verdictOn (p .banks .len) (holding (held positions sizes count)) v) where
+      (answer : r ≡ verdictOn (p .banks .len) (stateIn (store positions sizes count)) v) where
     is-visit : v ≡ visitAt p row i
     is-visit = visits ∙ ap (λ (w : Walk). visitOf p row w i) (g .walks)
 
-    placed-then : placedTo p row (suc i) ≡ placedIf r (stateAfter (holding (held positions sizes count)) (offerOf v))
+    placed-then : placedTo p row (suc i) ≡ placedIf r (stateAfter (stateIn (store positions sizes count)) (offerOf v))
     placed-then =
         placed-next p row i
         ∙ ap (placedNext (p .banks .len) (visitAt p row i)) (g .placed)
-        ∙ ap (λ (w : Visit). placedNext (p .banks .len) w (holds (holding (held positions sizes count)))) (sym is-visit)
-        ∙ ap (λ (x : Verdict). placedIf x (stateAfter (holding (held positions sizes count)) (offerOf v))) (sym answer)
+        ∙ ap (λ (w : Visit). placedNext (p .banks .len) w (holds (stateIn (store positions sizes count)))) (sym is-visit)
+        ∙ ap (λ (x : Verdict). placedIf x (stateAfter (stateIn (store positions sizes count)) (offerOf v))) (sym answer)
 
     -- a refused node settles the verdict
     pub settles : (why : Refusal) → i < length (p .kinds) → r ≡ Refused why → Planned p row fill (record { verdict = r; length = 0; spans = 0 })
     settles why b e =
         record {
           verdict = e ∙ sym (ap verdictPlaced (stops-on (suc i) (length (p .kinds)) why b
-              (placed-then ∙ ap (λ (x : Verdict). placedIf x (stateAfter (holding (held positions sizes count)) (offerOf v))) e)));
+              (placed-then ∙ ap (λ (x : Verdict). placedIf x (stateAfter (stateIn (store positions sizes count)) (offerOf v))) e)));
           reach = λ acc. absurd (never (sym e ∙ acc));
           count = λ acc. absurd (never (sym e ∙ acc));
           low = omega arith;
@@ -113,19 +114,18 @@ module _ (p : Program) (row : Row) where
 
     -- an accepted node hands on
     pub goes-on : i < length (p .kinds) → r ≡ Accepted → (positions′ sizes′ : List ℕ) (count′ reach′ spans′ : ℕ)
-        → Goes positions sizes count (offerOf v) r positions′ sizes′
-        → count′ ≡ count + grown (offerOf v)
+        → Goes (store positions sizes count) (offerOf v) r (store positions′ sizes′ count′)
         → reach′ ≡ lengthOf reach (itemOf v) → reach′ ≤ maxEnd
         → spans′ ≡ pick (isSpan (v .node)) (spans + 1) spans
         → Going p row fill (i + 1) (v .walk) positions′ sizes′ count′ reach′ spans′
-    goes-on b acc positions′ sizes′ count′ reach′ spans′ goes counts reaches low adds =
+    goes-on b acc positions′ sizes′ count′ reach′ spans′ goes reaches low adds =
         rw (add-one i)
         (record {
           within = b;
           walks = ap (λ (w : Visit). w .walk) is-visit ∙ next-walk i;
-          sound = rw counts (goes .sound acc);
-          placed = placed-then ∙ ap (λ (x : Verdict). placedIf x (stateAfter (holding (held positions sizes count)) (offerOf v))) acc
-              ∙ ap holds (sym (goes .holds acc) ∙ ap (λ (k : ℕ). holding (held positions′ sizes′ k)) (sym counts));
+          sound = goes .sound;
+          placed = placed-then ∙ ap (λ (x : Verdict). placedIf x (stateAfter (stateIn (store positions sizes count)) (offerOf v))) acc
+              ∙ ap holds (sym (goes .state acc));
           reaches = reaches ∙ ap (λ (k : ℕ). lengthOf k (itemOf v)) (g .reaches)
               ∙ ap (λ (w : Visit). lengthOf (lengthTo p row fill i) (itemOf w)) is-visit
               ∙ sym (length-next p row fill i);
@@ -146,7 +146,7 @@ module _ (p : Program) (row : Row) where
   ends fill i walk positions sizes count reach spans g b =
       let all : i ≡ length (p .kinds) = omega (arith, g .within) in
       record {
-        verdict = sym (ap verdictPlaced (subst (λ (k : ℕ). placedTo p row k ≡ holds (holding (held positions sizes count))) all (g .placed)));
+        verdict = sym (ap verdictPlaced (subst (λ (k : ℕ). placedTo p row k ≡ holds (stateIn (store positions sizes count))) all (g .placed)));
         reach = λ _. g .reaches ∙ ap (lengthTo p row fill) all;
         count = λ _. g .counts ∙ ap (λ (k : ℕ). length (spansTo p row k)) all;
         low = g .low;

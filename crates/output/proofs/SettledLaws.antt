@@ -34,7 +34,7 @@ use Rattle.resolver.specs.declared.Settled.the-variants.{At, Refused as Unsettl
 use Rattle.resolver.proofs.Accepted.{accepted-rows}
 use Rattle.resolver.proofs.Counts.{too-many-nodes}
 use Rattle.resolver.proofs.Parts.{first-part, row-part}
-use Rattle.overlap_checker.proofs.Ascending.{lt-or-le}
+use Rattle.overlap_checker.specs.Ascending.{lt-or-le}
 use Rattle.output.specs.Visits.{visits}
 use Rattle.output.specs.VisitLaws.{each-from, member-visit}
 use Rattle.output.specs.Items.{isWritten, standing, itemOf, itemsOf}

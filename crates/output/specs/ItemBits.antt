@@ -16,6 +16,8 @@ use Rattle.refusal.specs.declared.Opt.{Opt}
 use Rattle.refusal.specs.declared.Opt.the-variants.{None, Some}
 use Rattle.refusal.specs.declared.Offset.{Offset}
 use Rattle.refusal.specs.declared.Offset.the-variants.{None as Nowhere, At as Out}
+use Rattle.bankdef.specs.Check.{banksOf}
+use Rattle.bankdef.specs.Fill.{fillLength}
 use Rattle.iter.specs.Address.{outAt}
 use Rattle.iter.specs.declared.Node.{Node}
 use Rattle.bitvec.specs.Bits.{bitAt}
@@ -29,7 +31,7 @@ use Rattle.output.specs.Items.{Item, endOf, InItem, isWritten, standing,
 use Rattle.output.specs.ItemLaws.{fill-within, end-within, length-is-one, bit-of-none, bit-of-item, blank-bit}
 use Rattle.output.specs.Placing.{isOffered, isReserve, lacksOutput, bitsAt, offerOf, reserveOf}
 use Rattle.output.specs.PlacingLaws.{picked-some, OfferedBit, holds-apart, apart-one, each-apart, same-visit, written-stands, each-accepted}
-use Rattle.output.specs.Output.{Lent, fillOf}
+use Rattle.output.specs.Output.{Lent}
 use Rattle.output.specs.Calls.{Call, Accepted, nodesIn, visitIn, visitsIn, itemsIn, reservesIn, valuesIn, programIn, rowIn, banksIn, fine, left-is}
 
 -- ---- bits of items and of reserves are offered
@@ -88,6 +90,10 @@ stands-at (Some f) position e = (f, refl)
 abbrev pub itemFor : Visit → ℕ → Item
 itemFor v offset = record { at = offset + positionOf v; size = v .node .number; from = v .node .operand }
 
+-- "the fill's" length of a call's banks
+abbrev pub fillIn : Call → ℕ
+fillIn c = fillLength (banksOf (c .given .banks))
+
 module _ (b : Accepted) where
   -- Every written node has an item: it stands in a bank with an offset, at "offset plus position".
   pub written-node-has-item : (n : ℕ) → n < nodesIn (b .call) → isWritten (visitIn (b .call) n .node) ≡ true
@@ -142,19 +148,19 @@ module _ (b : Accepted) where
       written-or-reserve (v .node) written (subst (λ (u : Visit). isReserve (u .node) ≡ true) (sym same) reserve)
 
   -- "Image length is the larger of the fill's and the furthest end of a written item": no less than either,
-  pub length-not-below-fill : fillOf (b .call .given) ≤ b .bits
-  length-not-below-fill = rw (fine b .reach) (fill-within (fillOf (b .call .given)) (itemsIn (b .call)))
+  pub length-not-below-fill : fillIn (b .call) ≤ b .bits
+  length-not-below-fill = rw (fine b .reach) (fill-within (fillIn (b .call)) (itemsIn (b .call)))
 
   pub length-not-below-item : (x : Item) → List·Memᴰ x (itemsIn (b .call)) → endOf x ≤ b .bits
-  length-not-below-item x m = rw (fine b .reach) (end-within (fillOf (b .call .given)) m)
+  length-not-below-item x m = rw (fine b .reach) (end-within (fillIn (b .call)) m)
 
   -- and no more.
-  pub length-is-fill-or-end : (b .bits ≡ fillOf (b .call .given)) ⊎ ((x : Item) × List·Memᴰ x (itemsIn (b .call)) × (b .bits ≡ endOf x))
+  pub length-is-fill-or-end : (b .bits ≡ fillIn (b .call)) ⊎ ((x : Item) × List·Memᴰ x (itemsIn (b .call)) × (b .bits ≡ endOf x))
   length-is-fill-or-end =
       ⊎-elim
       (λ e. inl (fine b .reach ∙ e))
       (λ (r : (x : Item) × List·Memᴰ x (itemsIn (b .call)) × (_ ≡ endOf x)). inr (r .0, r .1, fine b .reach ∙ r .2))
-      (length-is-one (fillOf (b .call .given)) (itemsIn (b .call)))
+      (length-is-one (fillIn (b .call)) (itemsIn (b .call)))
 
   -- every bit of the image's length is in the lent image
   pub length-fits : b .bits ≤ 8 * length (b .call .old .image)

@@ -3,11 +3,15 @@ pub mod ItemBits
 pub mod ItemLaws
 pub mod Items
 pub mod Kinds
+pub mod OffersMade
 pub mod Output
 pub mod Placing
 pub mod PlacingLaws
+pub mod RefusedAtNode
+pub mod Rooms
 pub mod SpanFacts
 pub mod Spans
 pub mod Steps
+pub mod Unique
 pub mod VisitLaws
 pub mod Visits

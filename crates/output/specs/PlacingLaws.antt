@@ -8,12 +8,11 @@ use Prim.Native.Nat.{ℕ, zero, suc, _+_, _<_, _≤_, min, max}
 use native.Mathlib.Decide.{decLt, decLe}
 use native.Mathlib.Nat.{not-suc-le-zero}
 use native.Mathlib.Omega.{arith}
-use lib.Dec.{eqb, ltb}
-use lib.ListN.{length, take, drop, take-append-drop}
-use borrow.Author.Tests.{ltb-true, ltb-false, lt-ltb, ne-eqb}
+use lib.Dec.{eqb}
+use lib.ListN.{take, drop, take-append-drop}
 use Rattle.refusal.specs.Pick.{pick, pick-true, pick-false}
 use Rattle.refusal.specs.declared.Refusal.{Refusal}
-use Rattle.refusal.specs.declared.Refusal.the-variants.{DefaultBank, PastBank, NoOutput, Overlap, StoreFull}
+use Rattle.refusal.specs.declared.Refusal.the-variants.{DefaultBank, PastBank, NoOutput}
 use Rattle.refusal.specs.declared.Verdict.{Verdict}
 use Rattle.refusal.specs.declared.Verdict.the-variants.{Accepted, Refused}
 use Rattle.refusal.specs.declared.Offset.{Offset}
@@ -26,10 +25,12 @@ use Rattle.iter.specs.declared.Moved.the-variants.{To, Refused as Stopped}
 use Rattle.resolver.specs.Lists.{Row, firstOf}
 use Rattle.resolver.specs.Once.{Program}
 use Rattle.overlap_checker.specs.declared.Entry.{Entry}
-use Rattle.overlap_checker.specs.Interval.{end, Covers, ShareBit, sharesBit, strictlyInside, clashes}
-use Rattle.overlap_checker.specs.Offers.{placeFor, clashesAny, lacksRoom}
-use Rattle.overlap_checker.specs.State.{State, holding, tries, namedIn, answer, isAccepted, inserted, keeping, after}
-use Rattle.overlap_checker.specs.Folds.{stateAfter}
+use Rattle.overlap_checker.specs.Interval.{Covers}
+use Rattle.overlap_checker.specs.Offers.{placeFor}
+use Rattle.overlap_checker.specs.State.{State, answer, isAccepted, inserted, keeping, after}
+use Rattle.overlap_checker.specs.Folds.{stateAfter, answers, acceptedBy, accepted}
+use Rattle.overlap_checker.specs.Answers.{accepts-any-node, accepted-free, accepted-keeps, keeping-bits, after-either}
+use Rattle.overlap_checker.specs.Bits.{clash-exactly, any-of}
 use Rattle.blocks.specs.Bits.{Some, NoSharedBit}
 use Rattle.output.specs.declared.visits.Visit.{Visit}
 use Rattle.output.specs.Visits.{visitAt, visitsTo, each}
@@ -37,7 +38,7 @@ use Rattle.output.specs.VisitLaws.{visits-none, visits-next, visits-spli
 use Rattle.output.specs.Items.{isWritten}
 use Rattle.output.specs.Spans.{sizeOf}
 use Rattle.output.specs.Placing.{usesDefault, endsPast, lacksOutput, isPlaced, isOffered, offerOf, checked, answered, tried, placing, verdictSeen, verdictOn}
-use Rattle.output.specs.Placing.{bitsAt, Placed, holds, stops, placedIf, placedNext, placedFrom, placedAll}
+use Rattle.output.specs.Placing.{bitsAt, offersOf, Placed, holds, stops, placedIf, placedNext, placedFrom, placedAll}
 
 -- ---- verdicts and tests
 
@@ -118,6 +119,14 @@ pub one-offer : (v : Visit) (a b : Entry) → List·Memᴰ a (offerOf v) → Lis
 one-offer v a b ma mb =
     one-bits (v .out) (v .node) a b (picked-some (isOffered (v .node)) _ ma .1) (picked-some (isOffered (v .node)) _ mb .1)
 
+pub offer-is : (v : Visit) (e : Entry) → List·Memᴰ e (offerOf v) → offerOf v ≡ e ∷ []
+offer-is v e m = go (v .out) (isOffered (v .node)) m
+  where
+    go : (out : Offset) (b : Bool) → List·Memᴰ e (pick b (bitsAt out (v .node)) []) → pick b (bitsAt out (v .node)) [] ≡ e ∷ []
+    go out false k = absurd (List·Memᴰ·not-nil k)
+    go Nowhere true k = absurd (List·Memᴰ·not-nil k)
+    go (Out o) true k = ap (λ (f : Entry). f ∷ []) (sym (List·Memᴰ·eq-of-singleton k))
+
 -- 9, 10 and 11 in this order
 pub checked-opens : (banks bank : ℕ) (def : Bankdef) (n : Node) (at : Pos) (out : Offset)
     → checked banks bank def n at out
@@ -186,24 +195,11 @@ each-accepted banks s t (w ∷ l) e {v} m =
 
 -- ---- the store
 
--- the bits of an accepted offer belong to no stored interval
-answer-apart : (s : State) (e : Entry) (node : ℕ) → answer s e node ≡ Accepted → clashesAny e (s .intervals) ≡ false
-unfolding tries
-answer-apart s e node h = passed _ _ _ h .0
-
-apart-member : (e f : Entry) (l : List Entry) → clashesAny e l ≡ false → List·Memᴰ f l → clashes e f ≡ false
-unfolding clashesAny
-apart-member e f l h (List·Memᴰ·head {x} {xs} same) = ap (clashes e) same ∙ or-neither (clashes e x) (clashesAny e xs) h .0
-apart-member e f l h (List·Memᴰ·tail {x} {xs} m) = apart-member e f xs (or-neither (clashes e x) (clashesAny e xs) h .1) m
-
--- the test for a shared bit, read as one: where it says no, no bit belongs to both
-apart-bits : (e f : Entry) (bit : ℕ) → clashes e f ≡ false → Covers e bit → Covers f bit → ⊥
-unfolding clashes sharesBit
-apart-bits e f bit h ours theirs =
-    let none : ltb (max (e .position) (f .position)) (min (end e) (end f)) ≡ false =
-    rw (pick-false (strictlyInside (e .position) f) (sharesBit e f) (ne-eqb (e .size) 0 (λ z. omega arith))) at h in
-    let gone = ltb-false (max (e .position) (f .position)) (min (end e) (end f)) none in
-    omega arith
+-- an accepted offer shares no bit with what is stored
+apart-stored : (s : State) (e f : Entry) (node bit : ℕ) → answer s e node ≡ Accepted → List·Memᴰ f (s .intervals) → Covers e bit → Covers f bit → ⊥
+apart-stored s e f node bit acc m ours theirs =
+    let hit = any-of e (s .intervals) f m (clash-exactly e f (omega (arith, ours .0, ours .1)) .1 (bit, ours, theirs)) in
+    mathlib.Core.Bool.true≢false (sym hit ∙ accepted-free s e node acc)
 
 -- an interval that is put in is held, and those that were held stay
 inserted-new : (l : List Entry) (e : Entry) → List·Memᴰ e (inserted l e)
@@ -220,45 +216,47 @@ inserted-old l e f m = around (List·Memᴰ·append-cases (take place l) (rw tak
     around (inr b) = Memᴰ·append-right (take place l) (List·Memᴰ·tail b)
 
 keeps-one : (s : State) (e f : Entry) → List·Memᴰ f (s .intervals) → List·Memᴰ f (after s e .intervals)
-unfolding after keeping
-keeps-one s e f m = at-either (isAccepted (answer s e 0)) (ltb 0 (e .size))
-  where
-    at-either : (a b : Bool) → List·Memᴰ f (pick a (pick b (holding (inserted (s .intervals) e)) s) s .intervals)
-    at-either false b = m
-    at-either true true = inserted-old (s .intervals) e f m
-    at-either true false = m
+keeps-one s e f m = after-either s e (λ (t : State). List·Memᴰ f (t .intervals)) m (λ clear some room. inserted-old (s .intervals) e f m)
 
-pub keeps-stored : (s : State) (es : List Entry) (f : Entry) → List·Memᴰ f (s .intervals) → List·Memᴰ f (stateAfter s es .intervals)
+keeps-stored : (s : State) (es : List Entry) (f : Entry) → List·Memᴰ f (s .intervals) → List·Memᴰ f (stateAfter s es .intervals)
 unfolding stateAfter
 keeps-stored s [] f m = m
 keeps-stored s (e ∷ es) f m = keeps-stored (after s e) es f (keeps-one s e f m)
 
 -- an accepted offer of nonzero size is stored
-tries-accepted : (s : State) (e : Entry) (node : ℕ) → answer s e node ≡ Accepted
-    → (clashesAny e (s .intervals) ≡ false) × (lacksRoom (length (s .intervals)) (e .size) ≡ false)
-unfolding tries
-tries-accepted s e node acc =
-    let full = lacksRoom (length (s .intervals)) (e .size) in
-    let free = passed (clashesAny e (s .intervals)) (Overlap (namedIn s e .position) (namedIn s e .size)) (pick full (Refused (StoreFull node)) Accepted) acc in
-    (free .0, passed full (StoreFull node) Accepted (free .1) .0)
-
-pub after-accepted : (s : State) (e : Entry) (node : ℕ) → answer s e node ≡ Accepted → after s e ≡ keeping s e
-unfolding after tries
-after-accepted s e node acc = let free = tries-accepted s e node acc in rw (free .0, free .1)
-
 holds-one : (s : State) (e : Entry) (node : ℕ) → answer s e node ≡ Accepted → 0 < e .size → List·Memᴰ e (after s e .intervals)
-unfolding keeping
-holds-one s e node acc some = rw (after-accepted s e node acc, lt-ltb 0 (e .size) some) (inserted-new (s .intervals) e)
+holds-one s e node acc some = rw (accepted-keeps s e node acc, keeping-bits s e some) (inserted-new (s .intervals) e)
 
-pub holds-offer : (s : State) (node : ℕ) {es : List Entry} (e : Entry) → List·Memᴰ e es → 0 < e .size
-    → ((t : State) (f : Entry) → List·Memᴰ f es → f ≡ e)
-    → answer s e node ≡ Accepted → List·Memᴰ e (stateAfter s es .intervals)
+holds-offer : (s : State) (v : Visit) (e : Entry) → List·Memᴰ e (offerOf v) → 0 < e .size → answer s e (v .node .index) ≡ Accepted
+    → List·Memᴰ e (stateAfter s (offerOf v) .intervals)
 unfolding stateAfter
-holds-offer s node e (List·Memᴰ·head {x = f} {xs = es} same) some one acc =
-    subst (λ (g : Entry). List·Memᴰ e (stateAfter (after s g) es .intervals)) same (keeps-stored (after s e) es e (holds-one s e node acc some))
-holds-offer s node e (List·Memᴰ·tail {x = f} {xs = es} m) some one acc =
-    subst (λ (g : Entry). List·Memᴰ e (stateAfter (after s g) es .intervals)) (sym (one s f (List·Memᴰ·head refl)))
-    (keeps-stored (after s e) es e (holds-one s e node acc some))
+holds-offer s v e m some acc = rw (offer-is v e m) (holds-one s e (v .node .index) acc some)
+
+-- What is stored once all are accepted is what their offers leave, and every offer was accepted.
+folds : (s : State) (o es : List Entry) → stateAfter s (o ++ es) ≡ stateAfter (stateAfter s o) es
+unfolding stateAfter
+folds s [] es = refl
+folds s (e ∷ o) es = folds (after s e) o es
+
+accepts-one : (s : State) (v : Visit) (o es : List Entry) → offerOf v ≡ o
+    → ((e : Entry) → List·Memᴰ e (offerOf v) → answer s e (v .node .index) ≡ Accepted)
+    → accepted (stateAfter s (offerOf v)) es ≡ es → accepted s (offerOf v ++ es) ≡ offerOf v ++ es
+unfolding stateAfter answers acceptedBy
+accepts-one s v [] es same acc rest = rw same (rw same at rest)
+accepts-one s v (e ∷ o) es same acc rest =
+    let here : List·Memᴰ e (offerOf v) = subst (λ (l : List Entry). List·Memᴰ e l) (sym same) (List·Memᴰ·head refl) in
+    let one = offer-is v e here in
+    let yes : isAccepted (answer s e 0) ≡ true = sym (accepts-any-node s e (v .node .index)) ∙ ap isAccepted (acc e here) in
+    rw (one, yes) (ap (λ (l : List Entry). e ∷ l) (rw one at rest))
+
+pub placed-accepts : (banks : ℕ) (s t : State) (l : List Visit) → placedFrom banks (holds s) l ≡ holds t
+    → (t ≡ stateAfter s (offersOf l)) × (accepted s (offersOf l) ≡ offersOf l)
+unfolding each placedFrom stateAfter answers acceptedBy
+placed-accepts banks s t [] e = (cc, refl)
+placed-accepts banks s t (v ∷ l) e =
+    let first = first-holds banks s t v l e in
+    let rest = placed-accepts banks (stateAfter s (offerOf v)) t l (first .1) in
+    (rest .0 ∙ sym (folds s (offerOf v) (offersOf l)), accepts-one s v (offerOf v) (offersOf l) refl (offer-accepted banks s v (first .0)) (rest .1))
 
 -- ---- no bit is offered twice
 
@@ -281,17 +279,15 @@ holds-apart banks s t (v ∷ l) e =
           ⊎-elim
           (λ (same : w ≡ v).
           let free = subst (λ (u : Visit). OfferedBit bit u) same o in
-          apart-bits (free .0) f bit
-          (apart-member (free .0) f (s .intervals) (answer-apart s (free .0) (v .node .index) (offer-accepted banks s v (first .0) (free .0) (free .1))) m)
-          (free .2) c)
+          apart-stored s (free .0) f (v .node .index) bit (offer-accepted banks s v (first .0) (free .0) (free .1)) m (free .2) c)
           (λ (later : List·Memᴰ w l). rest .stored bit f (keeps-stored s (offerOf v) f m) c w later o)
           (List·Memᴰ·cases-cons mw);
       offered = (
         λ bit o others.
             let c = o .2 in
             rest .stored bit (o .0)
-            (holds-offer s (v .node .index) (o .0) (o .1) (omega (arith, c .0, c .1)) (λ u f m. one-offer v f (o .0) m (o .1))
-            (offer-accepted banks s v (first .0) (o .0) (o .1))) c (others .0) (others .1) (others .2),
+            (holds-offer s v (o .0) (o .1) (omega (arith, c .0, c .1)) (offer-accepted banks s v (first .0) (o .0) (o .1)))
+            c (others .0) (others .1) (others .2),
         rest .offered,
       );
     }

@@ -1,22 +1,16 @@
 -- What the build's inner functions promise one another. A reader of the public contract needs none of it.
 use mathlib.Core.Path.{_≡_}
-use mathlib.Core.Bool.{true}
-use mathlib.Core.List.{List, [], _∷_, List·Memᴰ}
-use Prim.Native.Nat.{ℕ, _+_, _*_, _≤_, _<_}
-use lib.Dec.{ltb}
+use mathlib.Core.List.{List, List·Memᴰ}
+use Prim.Native.Nat.{ℕ, _+_, _*_, _≤_}
 use lib.ListN.{length}
-use Rattle.refusal.specs.Pick.{pick}
-use Rattle.refusal.specs.declared.Offset.{Offset}
 use Rattle.refusal.specs.declared.Verdict.{Verdict}
 use Rattle.refusal.specs.declared.Verdict.the-variants.{Accepted, Refused}
 use Rattle.bankdef.specs.declared.Bankdefs.{Bankdefs}
-use Rattle.iter.specs.declared.Node.{Node}
 use Rattle.resolver.specs.Lists.{Row}
 use Rattle.resolver.specs.Once.{Program}
 use Rattle.overlap_checker.specs.declared.Entry.{Entry}
-use Rattle.overlap_checker.specs.State.{holding}
 use Rattle.overlap_checker.specs.Folds.{stateAfter}
-use Rattle.overlap_lent.specs.Lent.{held, Sound}
+use Rattle.overlap_checker.specs.Lent.{Lent as Store, stateIn, Sound}
 use Rattle.output.specs.Visits.{visits}
 use Rattle.output.specs.Items.{Item, endOf, itemsOf, lengthOf}
 use Rattle.output.specs.Placing.{Placed, holds, stops, placedAll}
@@ -36,15 +30,10 @@ rowOf numbers states = record { numbers = numbers; states = states }
 abbrev pub maxEnd : ℕ
 maxEnd = 12884901885
 
--- how many intervals accepted offers add to the store
-abbrev pub grown : List Entry → ℕ
-grown [] = 0
-grown (e ∷ more) = pick (ltb 0 (e .size)) 1 0 + grown more
-
--- Where a node is accepted, the two lent lists hold what is stored after it, and the store is sound again.
-pub record Goes (positions sizes : List ℕ) (count : ℕ) (offer : List Entry) (r : Verdict) (positions′ sizes′ : List ℕ) : Type 0 where
-  pub holds : r ≡ Accepted → holding (held positions′ sizes′ (count + grown offer)) ≡ stateAfter (holding (held positions sizes count)) offer
-  pub sound : r ≡ Accepted → Sound positions′ sizes′ (count + grown offer)
+-- Where a node is accepted, the store holds what its offer makes of it; and it is sound in any case.
+pub record Goes (a : Store) (offer : List Entry) (r : Verdict) (b : Store) : Type 0 where
+  pub state : r ≡ Accepted → stateIn b ≡ stateAfter (stateIn a) offer
+  pub sound : Sound b
 
 abbrev pub verdictPlaced : Placed → Verdict
 verdictPlaced (holds stored) = Accepted

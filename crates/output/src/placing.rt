@@ -5,6 +5,7 @@ use bankdef::Bankdefs;
 use iter::Moved;
 use iter::Node;
 use iter::Pos;
+use overlap_checker::Offered;
 use refusal::Offset;
 use refusal::Opt;
 use refusal::Refusal;
@@ -16,12 +17,11 @@ ghost use lib.ListN.{length};
 ghost use Rattle.refusal.specs.Limits.{maxOffer, maxNodes};
 ghost use Rattle.refusal.specs.Pick.{pick};
 ghost use Rattle.refusal.specs.declared.Offset.the-variants.{At as Out};
-ghost use Rattle.overlap_checker.specs.State.{holding};
-ghost use Rattle.overlap_lent.specs.Lent.{held, Sound};
+ghost use Rattle.overlap_checker.specs.Lent.{lent as store, stateIn, Sound};
 ghost use Rattle.output.specs.Items.{isWritten, itemAt, lengthOf};
-ghost use Rattle.output.specs.Placing.{isPlaced, isOffered, endsPast, lacksOutput, usesDefault, checked, offerAt, answered, verdictSeen};
+ghost use Rattle.output.specs.Placing.{isPlaced, endsPast, lacksOutput, usesDefault, checked, offerAt, answered, verdictSeen};
 ghost use Rattle.output.specs.Spans.{isSpan, sizeOf};
-ghost use Rattle.output.specs.Steps.{Goes, grown, maxEnd, programOf, rowOf, Planned};
+ghost use Rattle.output.specs.Steps.{Goes, maxEnd, programOf, rowOf, Planned};
 
 // "labels (size 0), written items (4, 5, 6) and reserves"
 fn is_placed(node: Node) -> bool
@@ -118,27 +118,36 @@ fn offer_node(
     positions: &mut [u64; 512],
     sizes: &mut [u64; 512],
     count: usize,
-) -> Verdict
-    requires { ⌜ Sound (now positions) (now sizes) count ⌝ }
+) -> Offered
+    requires { ⌜ Sound (store (now positions) (now sizes) count) ⌝ }
     requires { ⌜ isPlaced node ≡ true ⌝ }
     requires { ⌜ ((o : ℕ) → out ≡ Out o → o ≤ maxOffer) ⌝ }
-    ensures { λ r. ⌜ r ≡ answered (holding (held (now (positions .entry)) (now (sizes .entry)) count)) (node .index) (offerAt node out) ⌝ }
     ensures { λ r. ⌜
-        Goes (now (positions .entry)) (now (sizes .entry)) count (offerAt node out) r (now (positions .exit)) (now (sizes .exit))
+        r .verdict ≡ answered (stateIn (store (now (positions .entry)) (now (sizes .entry)) count)) (node .index) (offerAt node out)
+        ⌝ }
+    ensures { λ r. ⌜
+        Goes (store (now (positions .entry)) (now (sizes .entry)) count) (offerAt node out) (r .verdict)
+        (store (now (positions .exit)) (now (sizes .exit)) (r .count))
         ⌝ }
 {
     match out {
-        Offset::None => Verdict::Accepted,
+        Offset::None => Offered {
+            verdict: Verdict::Accepted,
+            count,
+        },
         Offset::At(o) => {
             if node.kind == 2 {
-                return Verdict::Accepted;
+                return Offered {
+                    verdict: Verdict::Accepted,
+                    count,
+                };
             }
-            overlap_lent::offer(positions, sizes, count, o, node.number as u64, node.index)
+            overlap_checker::offer(positions, sizes, count, o, node.number as u64, node.index)
         }
     }
 }
 
-// The verdict on a node by the position that it sees: 5 or 6 where the walk stops there, then 9 to 13.
+// The verdict on a node by the position that it sees: 5 or 6 where the walk stops there, then 9 to 13. And how many are stored then.
 fn place(
     banks: u64,
     bank: u64,
@@ -149,53 +158,37 @@ fn place(
     positions: &mut [u64; 512],
     sizes: &mut [u64; 512],
     count: usize,
-) -> Verdict
-    requires { ⌜ Sound (now positions) (now sizes) count ⌝ }
+) -> Offered
+    requires { ⌜ Sound (store (now positions) (now sizes) count) ⌝ }
     requires { ⌜ ((o : ℕ) → out ≡ Out o → o ≤ maxOffer) ⌝ }
-    ensures { λ r. ⌜ r ≡ verdictSeen banks bank def (holding (held (now (positions .entry)) (now (sizes .entry)) count)) node out seen ⌝ }
     ensures { λ r. ⌜
-        Goes (now (positions .entry)) (now (sizes .entry)) count (offerAt node out) r (now (positions .exit)) (now (sizes .exit))
+        r .verdict ≡ verdictSeen banks bank def (stateIn (store (now (positions .entry)) (now (sizes .entry)) count)) node out seen
+        ⌝ }
+    ensures { λ r. ⌜
+        Goes (store (now (positions .entry)) (now (sizes .entry)) count) (offerAt node out) (r .verdict)
+        (store (now (positions .exit)) (now (sizes .exit)) (r .count))
         ⌝ }
 {
     match seen {
-        Moved::Refused(why) => Verdict::Refused(why),
+        Moved::Refused(why) => Offered {
+            verdict: Verdict::Refused(why),
+            count,
+        },
         Moved::To(at) => {
             if !is_placed(node) {
-                return Verdict::Accepted;
+                return Offered {
+                    verdict: Verdict::Accepted,
+                    count,
+                };
             }
             let checked = check_place(banks, bank, def, node, at, out);
             match checked {
-                Verdict::Refused(why) => Verdict::Refused(why),
+                Verdict::Refused(why) => Offered {
+                    verdict: Verdict::Refused(why),
+                    count,
+                },
                 Verdict::Accepted => offer_node(node, out, positions, sizes, count),
             }
-        }
-    }
-}
-
-// "Written items, and reserves in banks with an offset, are offered to the store."
-fn is_offered(node: Node) -> bool
-    ensures { λ r. ⌜ r ≡ isOffered node ⌝ }
-{
-    if is_written(node) {
-        return true;
-    }
-    node.kind == 7
-}
-
-// How many intervals are stored after a node that is accepted.
-fn count_after(node: Node, out: Offset, count: usize) -> usize
-    requires { ⌜ count ≤ 4096 ⌝ }
-    ensures { λ r. ⌜ r ≡ count + grown (offerAt node out) ⌝ }
-{
-    match out {
-        Offset::None => count,
-        Offset::At(_) => {
-            if is_offered(node) {
-                if 0 < node.number {
-                    return count + 1;
-                }
-            }
-            count
         }
     }
 }
@@ -275,7 +268,7 @@ pub fn plan_row(
         let def = v.def;
         let seen = v.seen;
         let out = v.out;
-        let verdict = place(
+        let offered = place(
             banks.len,
             v.bank,
             def,
@@ -286,6 +279,7 @@ pub fn plan_row(
             &mut sizes,
             count,
         );
+        let verdict = offered.verdict;
         if let Verdict::Refused(_) = verdict {
             return Plan {
                 verdict,
@@ -293,7 +287,7 @@ pub fn plan_row(
                 spans: 0,
             };
         }
-        count = count_after(node, out, count);
+        count = offered.count;
         reach = length_after(node, out, reach);
         spans = spans_after(node, spans);
         walk = v.walk;

@@ -4,3 +4,4 @@ pub mod Found
 pub mod Many
 pub mod Read
 pub mod Table
+pub mod Unique

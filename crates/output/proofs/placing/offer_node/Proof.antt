@@ -6,8 +6,7 @@ use borrow.Author.Tests.{ne-eqb}
 use Rattle.refusal.specs.Limits.{maxPosition}
 use Rattle.refusal.specs.declared.Offset.{Offset}
 use Rattle.overlap_checker.specs.Interval.{interval, Within}
-use Rattle.overlap_lent.specs.Lent.{held}
-use Rattle.overlap_checker.specs.State.{holding}
+use Rattle.overlap_checker.specs.Lent.{lent as store, stateIn}
 use Rattle.output.specs.Placing.{offerAt}
 use Rattle.output.proofs.OfferLaws.{offers-nowhere, offers-label, offers-one, goes-none, goes-offered, answered-none, answered-one}
 use borrow.Author.Needs.{needs}
@@ -15,7 +14,7 @@ use Rattle.output.proofs.placing.offer_node.Statement.{statement}
 use Rattle.output.proofs.placing.offer_node.Tie as tie
 use Rattle.output.proofs.placing.offer_node.Reads as reads
 use Rattle.output.proofs.placing.offer_node.Lts as lts
-use Rattle.overlap_lent.proofs.offer.Reads as offer-reads
+use Rattle.overlap_checker.proofs.offer.Reads as offer-reads
 
 -- src/placing.rt:122:25
 enum-told : tie.Need-enum-told
@@ -31,8 +30,8 @@ returns c =
     let s = c .before .before .before .before .before in
     let a = s .args in
     let none = offers-label (a .node) (a .out) (c .if1 .taken) in (
-      answered-none (holding (held (a .positions .now) (a .sizes .now) (a .count))) (a .node .index) (offerAt (a .node) (a .out)) none,
-      goes-none (a .positions .now) (a .sizes .now) (a .count) (offerAt (a .node) (a .out)) (s .pre .0) none,
+      answered-none (stateIn (store (a .positions .now) (a .sizes .now) (a .count))) (a .node .index) (offerAt (a .node) (a .out)) none,
+      goes-none (store (a .positions .now) (a .sizes .now) (a .count)) (offerAt (a .node) (a .out)) (s .pre .0) none,
     )
 
 -- src/placing.rt:132:17
@@ -56,8 +55,8 @@ returns-2 c =
     let s = c .before .before in
     let a = s .args in
     let none : offerAt (a .node) (a .out) ≡ mathlib.Core.List.[] = rw (c .enum-told .given .1) (offers-nowhere (a .node)) in (
-      answered-none (holding (held (a .positions .now) (a .sizes .now) (a .count))) (a .node .index) (offerAt (a .node) (a .out)) none,
-      goes-none (a .positions .now) (a .sizes .now) (a .count) (offerAt (a .node) (a .out)) (s .pre .0) none,
+      answered-none (stateIn (store (a .positions .now) (a .sizes .now) (a .count))) (a .node .index) (offerAt (a .node) (a .out)) none,
+      goes-none (store (a .positions .now) (a .sizes .now) (a .count)) (offerAt (a .node) (a .out)) (s .pre .0) none,
     )
 
 -- src/placing.rt:108:1
@@ -70,9 +69,9 @@ returns-3 c =
     let within : Within (interval (known .0 .0) (a .node .number)) = (s .pre .1 .1 (known .0 .0) (known .1), small (c .before)) in
     let e = interval (known .0 .0) (a .node .number) in
     let made : offerAt (a .node) (a .out) ≡ mathlib.Core.List._∷_ e mathlib.Core.List.[] = rw (known .1) (offers-one (a .node) (known .0 .0) (s .pre .1 .0) other) in (
-      answered-one (held (a .positions .now) (a .sizes .now) (a .count)) e (a .node .index) (offerAt (a .node) (a .out)) made (c .offer .result) (c .offer .ensures .answer),
-      goes-offered (a .positions .now) (a .sizes .now) (a .count) (s .pre .0) (known .0 .0) (a .node .number) (a .node .index) within (offerAt (a .node) (a .out)) made
-          (c .offer .result) (c .offer .last .0) (c .offer .last .1 .0) (c .offer .ensures .answer) (c .offer .ensures .first) (c .offer .ensures .second),
+      answered-one (stateIn (store (a .positions .now) (a .sizes .now) (a .count))) e (a .node .index) (offerAt (a .node) (a .out)) made (c .offer .result .verdict) (c .offer .ensures .verdict),
+      goes-offered (store (a .positions .now) (a .sizes .now) (a .count)) e (a .node .index) (offerAt (a .node) (a .out)) made (s .pre .0) within
+          (c .offer .result .verdict) _ (c .offer .ensures),
     )
 
 pub offer-node-spec : {M : Type 1} → statement M

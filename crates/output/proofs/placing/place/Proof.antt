@@ -1,8 +1,7 @@
 -- `place` meets its contract: one law for each way through the tests.
 use mathlib.Core.Path.{_≡_, sym, _∙_}
 use borrow.Author.Tests.{not-true, not-false}
-use Rattle.overlap_lent.specs.Lent.{held}
-use Rattle.overlap_checker.specs.State.{holding}
+use Rattle.overlap_checker.specs.Lent.{lent as store, stateIn}
 use Rattle.output.specs.Placing.{offerAt}
 use Rattle.output.proofs.OfferLaws.{offers-unplaced, goes-none, goes-refused, verdict-stopped, verdict-unplaced, verdict-checked, verdict-offered}
 use borrow.Author.Needs.{needs}
@@ -33,8 +32,8 @@ returns c =
     let a = s .args in
     let known = c .before .before .before .seen2 .given in
     let none = sym (c .before .is-placed .ensures) ∙ not-true _ (c .if1 .taken) in (
-      verdict-unplaced (a .banks) (a .bank) (a .def) (holding (held (a .positions .now) (a .sizes .now) (a .count))) (a .node) (a .out) (a .seen) (known .0 .0) (known .1) none,
-      goes-none (a .positions .now) (a .sizes .now) (a .count) (offerAt (a .node) (a .out)) (s .pre .0) (offers-unplaced (a .node) (a .out) none),
+      verdict-unplaced (a .banks) (a .bank) (a .def) (stateIn (store (a .positions .now) (a .sizes .now) (a .count))) (a .node) (a .out) (a .seen) (known .0 .0) (known .1) none,
+      goes-none (store (a .positions .now) (a .sizes .now) (a .count)) (offerAt (a .node) (a .out)) (s .pre .0) (offers-unplaced (a .node) (a .out) none),
     )
 
 -- src/placing.rt:165:17
@@ -60,8 +59,8 @@ returns-2 : tie.Need-returns-2
 returns-2 c =
     let a = c .before .before .before .args in
     let known = c .before .seen .given in (
-      verdict-stopped (a .banks) (a .bank) (a .def) (holding (held (a .positions .now) (a .sizes .now) (a .count))) (a .node) (a .out) (a .seen) (known .0 .0) (known .1),
-      goes-refused (a .positions .now) (a .sizes .now) (a .count) (offerAt (a .node) (a .out)) (known .0 .0),
+      verdict-stopped (a .banks) (a .bank) (a .def) (stateIn (store (a .positions .now) (a .sizes .now) (a .count))) (a .node) (a .out) (a .seen) (known .0 .0) (known .1),
+      goes-refused (store (a .positions .now) (a .sizes .now) (a .count)) (offerAt (a .node) (a .out)) (known .0 .0) (c .before .before .before .pre .0),
     )
 
 -- src/placing.rt:142:1
@@ -72,9 +71,9 @@ returns-3 c =
     let known = c .before .before .before .before .before .before .before .seen2 .given in
     let placed = sym (c .before .before .before .before .before .is-placed .ensures) ∙ not-false _ (c .before .before .before .before .if1 .left) in
     let why = c .before .checked .given in (
-      verdict-checked (a .banks) (a .bank) (a .def) (holding (held (a .positions .now) (a .sizes .now) (a .count))) (a .node) (a .out) (a .seen) (known .0 .0) (known .1) placed
+      verdict-checked (a .banks) (a .bank) (a .def) (stateIn (store (a .positions .now) (a .sizes .now) (a .count))) (a .node) (a .out) (a .seen) (known .0 .0) (known .1) placed
           (c .before .before .before .check-place .result) (c .before .before .before .check-place .ensures) (why .0 .0) (why .1),
-      goes-refused (a .positions .now) (a .sizes .now) (a .count) (offerAt (a .node) (a .out)) (why .0 .0),
+      goes-refused (store (a .positions .now) (a .sizes .now) (a .count)) (offerAt (a .node) (a .out)) (why .0 .0) (s .pre .0),
     )
 
 -- src/placing.rt:142:1
@@ -84,8 +83,8 @@ returns-4 c =
     let a = s .args in
     let known = c .before .before .before .before .before .before .before .before .before .seen2 .given in
     let placed = sym (c .before .before .before .before .before .before .before .is-placed .ensures) ∙ not-false _ (c .before .before .before .before .before .before .if1 .left) in (
-      verdict-offered (a .banks) (a .bank) (a .def) (holding (held (a .positions .now) (a .sizes .now) (a .count))) (a .node) (a .out) (a .seen) (known .0 .0) (known .1) placed
-          (c .before .before .before .before .before .check-place .result) (c .before .before .before .before .before .check-place .ensures) (c .before .before .before .enum-told .given .1) (c .offer-node .result) (c .offer-node .ensures .0),
+      verdict-offered (a .banks) (a .bank) (a .def) (stateIn (store (a .positions .now) (a .sizes .now) (a .count))) (a .node) (a .out) (a .seen) (known .0 .0) (known .1) placed
+          (c .before .before .before .before .before .check-place .result) (c .before .before .before .before .before .check-place .ensures) (c .before .before .before .enum-told .given .1) (c .offer-node .result .verdict) (c .offer-node .ensures .0),
       c .offer-node .ensures .1,
     )
 

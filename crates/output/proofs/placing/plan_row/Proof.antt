@@ -10,7 +10,6 @@ use Rattle.output.proofs.placing.plan_row.Tie as tie
 use Rattle.output.proofs.placing.plan_row.Reads as reads
 use Rattle.output.proofs.placing.plan_row.Lts as lts
 use Rattle.iter.proofs.start.Reads as start-reads
-use Rattle.output.proofs.placing.count_after.Reads as count-after-reads
 use Rattle.output.proofs.placing.length_after.Reads as length-after-reads
 use Rattle.output.proofs.placing.place.Reads as place-reads
 use Rattle.output.proofs.placing.spans_after.Reads as spans-after-reads
@@ -57,44 +56,40 @@ returns c =
     let visit = c .before .before .before .before .before .before .before .visit-node in
     let placed = c .before .before .place in
     let told = c .enum-told .given in
-    settles p row (a .fill) (at .i) (at .walk) (at .positions) (at .sizes) (at .count) (at .reach) (at .spans) (at .inv) (visit .result) (visit .ensures .0) (placed .result) (placed .ensures .0)
+    settles p row (a .fill) (at .i) (at .walk) (at .positions) (at .sizes) (at .count) (at .reach) (at .spans) (at .inv) (visit .result) (visit .ensures .0) (placed .result .verdict) (placed .ensures .0)
     (told .0 .0) (c .before .before .before .before .before .before .before .before .loop-test .taken) (told .1)
 
 enum-told-2 : tie.Need-enum-told-2 Inv-loop μ-loop
 enum-told-2 c = search needs
 
--- src/placing.rt:295:9
-count-after-requires : tie.Need-count-after-requires Inv-loop μ-loop
-count-after-requires c κs = omega (arith, c .before .before .before .before .before .before .before .before .before .loop .inv .sound .few)
-
 -- src/placing.rt:296:9
 length-after-requires : tie.Need-length-after-requires Inv-loop μ-loop
-length-after-requires c κs = (c .before .before .before .before .before .before .before .before .visit-node .ensures .1, c .before .before .before .before .before .before .before .before .before .before .loop .inv .low)
+length-after-requires c κs = (c .before .before .before .before .before .before .before .visit-node .ensures .1, c .before .before .before .before .before .before .before .before .before .loop .inv .low)
 
 -- src/placing.rt:297:9
 spans-after-requires : tie.Need-spans-after-requires Inv-loop μ-loop
-spans-after-requires c κs = omega (arith, c .before .before .before .before .before .before .before .before .before .before .before .loop .inv .few, c .before .before .before .before .before .before .before .before .before .before .before .loop .inv .within, c .before .before .before .before .before .before .before .before .before .before .before .before .before .before .before .before .before .before .pre .1)
+spans-after-requires c κs = omega (arith, c .before .before .before .before .before .before .before .before .before .before .loop .inv .few, c .before .before .before .before .before .before .before .before .before .before .loop .inv .within, c .before .before .before .before .before .before .before .before .before .before .before .before .before .before .before .before .before .pre .1)
 
 -- src/placing.rt:299:9
 add-i : tie.Need-add-i Inv-loop μ-loop
-add-i c = omega (arith, c .before .before .before .before .before .before .before .before .before .before .before .before .loop-test .taken, c .before .before .before .before .before .before .before .before .before .before .before .before .before .before .before .before .before .before .before .before .pre .1)
+add-i c = omega (arith, c .before .before .before .before .before .before .before .before .before .before .before .loop-test .taken, c .before .before .before .before .before .before .before .before .before .before .before .before .before .before .before .before .before .before .before .pre .1)
 
 -- src/placing.rt:271:5
 loop-less : tie.Need-loop-less Inv-loop μ-loop
-loop-less c = omega (arith, c .before .before .before .before .before .before .before .before .before .before .before .before .loop-test .taken)
+loop-less c = omega (arith, c .before .before .before .before .before .before .before .before .before .before .before .loop-test .taken)
 
 -- src/placing.rt:271:5
 loop-again : tie.Need-loop-again Inv-loop μ-loop
 loop-again c =
-    let loop = c .before .before .before .before .before .before .before .before .before .before .before .before .before in
-    let a = c .before .before .before .before .before .before .before .before .before .before .before .before .before .before .before .before .before .before .before .before .args in
+    let loop = c .before .before .before .before .before .before .before .before .before .before .before .before in
+    let a = c .before .before .before .before .before .before .before .before .before .before .before .before .before .before .before .before .before .before .before .args in
     let p = programOf (a .banks) (a .kinds .now) (a .operands .now) (a .first .now) in
     let row = rowOf (a .numbers .now) (a .states .now) in
     let at = loop .loop in
-    let visit = c .before .before .before .before .before .before .before .before .before .before .before .visit-node in
-    let placed = c .before .before .before .before .before .before .place in
-    goes-on p row (a .fill) (at .i) (at .walk) (at .positions) (at .sizes) (at .count) (at .reach) (at .spans) (at .inv) (visit .result) (visit .ensures .0) (placed .result) (placed .ensures .0)
-    (c .before .before .before .before .before .before .before .before .before .before .before .before .loop-test .taken) (c .before .before .before .before .enum-told2 .given .1) _ _ _ _ _ (placed .ensures .1) (c .before .before .before .count-after .ensures) (c .before .before .length-after .ensures .0) (c .before .before .length-after .ensures .1)
+    let visit = c .before .before .before .before .before .before .before .before .before .before .visit-node in
+    let placed = c .before .before .before .before .before .place in
+    goes-on p row (a .fill) (at .i) (at .walk) (at .positions) (at .sizes) (at .count) (at .reach) (at .spans) (at .inv) (visit .result) (visit .ensures .0) (placed .result .verdict) (placed .ensures .0)
+    (c .before .before .before .before .before .before .before .before .before .before .before .loop-test .taken) (c .before .before .before .enum-told2 .given .1) _ _ _ _ _ (placed .ensures .1) (c .before .before .length-after .ensures .0) (c .before .before .length-after .ensures .1)
     (c .before .spans-after .ensures)
 
 -- src/placing.rt:252:1
@@ -120,7 +115,6 @@ plan-row-spec =
     enum-told
     returns
     enum-told-2
-    count-after-requires
     length-after-requires
     spans-after-requires
     add-i

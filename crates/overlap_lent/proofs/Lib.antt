@@ -1,3 +1,0 @@
-pub mod Kept
-pub mod Verdicts
-pub mod Zipped
