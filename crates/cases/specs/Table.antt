@@ -98,7 +98,9 @@ pub record Cases : Type 0 where
   pub rows : map (λ (c : Case). c .got) table ≡ map (λ (c : Case). c .said) table
 
 every-row : map (λ (c : Case). c .got) table ≡ map (λ (c : Case). c .said) table
-unfolding distanceOf firstWhere firstPair fillFrom stateAfter after keeping tries placeFor clashesAny named lacksRoom clashes sharesBit strictlyInside checked insertBy sortedBy spansOf blocksFrom layoutOf listsOf nodesTo settledBy first passTo listOf numeral bitAt digitAt digitValue paddedBit
+unfolding distanceOf firstWhere firstPair fillFrom stateAfter after keeping tries placeFor clashesAny named lacksRoom clashes sharesBit
+    strictlyInside checked insertBy sortedBy spansOf blocksFrom layoutOf listsOf nodesTo settledBy first passTo listOf numeral bitAt digitAt
+    digitValue paddedBit
 every-row = refl
 
 pub cases : Cases

@@ -1,8 +1,13 @@
 -- Uniqueness of each exported function, over its contract's own clause: the answer, and what stands in the lent slices afterwards.
-use mathlib.Core.Path.{_≡_}
-use borrow.Fn.Kinds.{Dens, resT, endedOf}
+use mathlib.Core.List.{List}
+use Prim.Native.Nat.{ℕ}
+use borrow.Fn.Kinds.{endedOf}
 use contract.Lifetimes.{Lfts}
 use denote.Triple.Clauses.{AtExit}
+use Rattle.refusal.specs.Outcome.{OneOutcome, OneView}
+use Rattle.refusal.specs.Pick.{paired}
+use Rattle.denkumari.specs.declared.DkCount.{DkCount}
+use Rattle.denkumari.specs.declared.DkLayout.{DkLayout}
 use Rattle.output.specs.Output.{Lent, lent}
 use Rattle.denkumari.specs.Unique.{one-form, one-build, one-blocks, one-hex, one-part}
 use Rattle.denkumari.proofs.forms.dk_form.Kinds as form-kinds
@@ -20,31 +25,23 @@ use Rattle.denkumari.proofs.parts.dk_part.Reads as part-reads
 abbrev formLent : (κs : Lfts 5) → AtExit (endedOf 5 form-kinds.ps form-kinds.r) κs → Lent
 formLent κs e = lent (e .1 .0 .now) (e .1 .1 .0 .now) (e .1 .1 .1 .0 .now) (e .1 .1 .1 .1 .0 .now)
 
-pub dk-form-unique : (κs : Lfts 5) (a : Dens κs form-kinds.ps) (x y : resT form-kinds.r κs .Denot)
-    (e f : AtExit (endedOf 5 form-kinds.ps form-kinds.r) κs) → form-reads.Learnt κs a x e → form-reads.Learnt κs a y f
-    → (x ≡ y) × (formLent κs e ≡ formLent κs f)
-dk-form-unique κs a x y e f p q = one-form p q
+pub dk-form-unique : OneView 5 form-kinds.ps form-kinds.r form-reads.Learnt (DkLayout × Lent) (λ κs x e. (x, formLent κs e))
+dk-form-unique κs a x y e f p q = let same = one-form p q in paired (same .0) (same .1)
 
 abbrev tablesLent : (κs : Lfts 15) → AtExit (endedOf 15 build-kinds.ps build-kinds.r) κs → Lent
 tablesLent κs e =
     let slices = e .1 .1 .1 .1 .1 .1 .1 .1 .1 .1 .1 .1 .1 in
     lent (slices .0 .now) (slices .1 .0 .now) (slices .1 .1 .0 .now) (slices .1 .1 .1 .0 .now)
 
-pub dk-build-unique : (κs : Lfts 15) (a : Dens κs build-kinds.ps) (x y : resT build-kinds.r κs .Denot)
-    (e f : AtExit (endedOf 15 build-kinds.ps build-kinds.r) κs) → build-reads.Learnt κs a x e → build-reads.Learnt κs a y f
-    → (x ≡ y) × (tablesLent κs e ≡ tablesLent κs f)
-dk-build-unique κs a x y e f p q = one-build p q
+pub dk-build-unique : OneView 15 build-kinds.ps build-kinds.r build-reads.Learnt (DkLayout × Lent) (λ κs x e. (x, tablesLent κs e))
+dk-build-unique κs a x y e f p q = let same = one-build p q in paired (same .0) (same .1)
 
-pub dk-blocks-unique : (κs : Lfts 4) (a : Dens κs blocks-kinds.ps) (x y : resT blocks-kinds.r κs .Denot)
-    (e f : AtExit (endedOf 4 blocks-kinds.ps blocks-kinds.r) κs) → blocks-reads.Learnt κs a x e → blocks-reads.Learnt κs a y f
-    → (x ≡ y) × (e .1 .1 .0 .now ≡ f .1 .1 .0 .now) × (e .1 .1 .1 .0 .now ≡ f .1 .1 .1 .0 .now)
-dk-blocks-unique κs a x y e f p q = one-blocks p q
+pub dk-blocks-unique : OneView 4 blocks-kinds.ps blocks-kinds.r blocks-reads.Learnt (DkCount × (List ℕ × List ℕ))
+    (λ κs x e. (x, (e .1 .1 .0 .now, e .1 .1 .1 .0 .now)))
+dk-blocks-unique κs a x y e f p q = let same = one-blocks p q in paired (same .0) (paired (same .1) (same .2))
 
-pub dk-hex-unique : (κs : Lfts 2) (a : Dens κs hex-kinds.ps) (x y : resT hex-kinds.r κs .Denot)
-    (e f : AtExit (endedOf 2 hex-kinds.ps hex-kinds.r) κs) → hex-reads.Learnt κs a x e → hex-reads.Learnt κs a y f
-    → (x ≡ y) × (e .1 .1 .0 .now ≡ f .1 .1 .0 .now)
-dk-hex-unique κs a x y e f p q = one-hex p q
+pub dk-hex-unique : OneView 2 hex-kinds.ps hex-kinds.r hex-reads.Learnt (DkCount × List ℕ) (λ κs x e. (x, e .1 .1 .0 .now))
+dk-hex-unique κs a x y e f p q = let same = one-hex p q in paired (same .0) (same .1)
 
-pub dk-part-unique : (κs : Lfts 1) (a : Dens κs part-kinds.ps) (x y : resT part-kinds.r κs .Denot)
-    (e f : AtExit (endedOf 1 part-kinds.ps part-kinds.r) κs) → part-reads.Learnt κs a x e → part-reads.Learnt κs a y f → x ≡ y
+pub dk-part-unique : OneOutcome 1 part-kinds.ps part-kinds.r part-reads.Learnt
 dk-part-unique κs a x y e f p q = one-part p q

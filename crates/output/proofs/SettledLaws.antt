@@ -27,13 +27,12 @@ use Rattle.resolver.specs.Lists.{Lists, Row, Rows, rowAt, isItem, pastEnd, rowF
 use Rattle.resolver.specs.Once.{Program, node}
 use Rattle.resolver.specs.Passes.{program, rowOfPass, resolutionOf}
 use Rattle.resolver.specs.Layout.{unless, layoutOf}
-use Rattle.resolver.specs.Sound.{accepted-row}
+use Rattle.resolver.specs.Sound.{accepted-row, accepted-rows}
 use Rattle.resolver.specs.declared.Resolution.{Resolution}
 use Rattle.resolver.specs.declared.Settled.{Settled}
 use Rattle.resolver.specs.declared.Settled.the-variants.{At, Refused as Unsettled}
-use Rattle.resolver.proofs.Accepted.{accepted-rows}
-use Rattle.resolver.proofs.Counts.{too-many-nodes}
-use Rattle.resolver.proofs.Parts.{first-part, row-part}
+use Rattle.resolver.specs.Counts.{too-many-nodes}
+use Rattle.resolver.specs.RowParts.{first-part, row-part}
 use Rattle.overlap_checker.specs.Ascending.{lt-or-le}
 use Rattle.output.specs.Visits.{visits}
 use Rattle.output.specs.VisitLaws.{each-from, member-visit}

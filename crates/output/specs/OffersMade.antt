@@ -31,7 +31,8 @@ use Rattle.output.specs.VisitLaws.{visits-none, visits-next, visit-membe
 use Rattle.output.specs.Items.{itemsOf, lengthOf}
 use Rattle.output.specs.Kinds.{offered-exactly}
 use Rattle.output.specs.Spans.{spansOf}
-use Rattle.output.specs.Placing.{isOffered, isReserve, bitsAt, offerOf, reserveOf, verdictOn, Placed, holds, stops, placedIf, placedNext, placedFrom, placedAll}
+use Rattle.output.specs.Placing.{isOffered, isReserve, bitsAt, offerOf, reserveOf, verdictOn}
+use Rattle.output.specs.Placing.{Placed, holds, stops, placedIf, placedNext, placedFrom, placedAll}
 use Rattle.output.specs.PlacingLaws.{placed-last}
 use Rattle.output.specs.Output.{Room, roomOf, roomFor, placedBuild, settledBuild, settledOf, fillOf}
 use Rattle.output.specs.Calls.{Call, nodesIn, banksIn, programIn, rowIn, visitIn, visitsIn, visitsBefore, reservesIn, build-is}
@@ -102,7 +103,8 @@ module _ (c : Call) where
   first-stop zero h why e = absurd (none-stops why e)
   first-stop (suc m) h why e =
       go (placedAll (banksIn c) (visitsBefore c m)) refl
-      (sym (ap (placedAll (banksIn c)) (visits-next (programIn c) (rowIn c) m) ∙ placed-last (banksIn c) (holds emptyState) (visitsBefore c m) (visitIn c m)) ∙ e)
+      (sym (ap (placedAll (banksIn c)) (visits-next (programIn c) (rowIn c) m)
+      ∙ placed-last (banksIn c) (holds emptyState) (visitsBefore c m) (visitIn c m)) ∙ e)
       (first-stop m (omega arith) why)
     where
       go : (q : Placed) → placedAll (banksIn c) (visitsBefore c m) ≡ q → placedNext (banksIn c) (visitIn c m) q ≡ stops why

@@ -37,7 +37,8 @@ use Rattle.output.specs.Visits.{visitAt, visitsTo, each}
 use Rattle.output.specs.VisitLaws.{visits-none, visits-next, visits-split, each-from}
 use Rattle.output.specs.Items.{isWritten}
 use Rattle.output.specs.Spans.{sizeOf}
-use Rattle.output.specs.Placing.{usesDefault, endsPast, lacksOutput, isPlaced, isOffered, offerOf, checked, answered, tried, placing, verdictSeen, verdictOn}
+use Rattle.output.specs.Placing.{usesDefault, endsPast, lacksOutput, isPlaced, isOffered, offerOf, checked, answered, tried}
+use Rattle.output.specs.Placing.{placing, verdictSeen, verdictOn}
 use Rattle.output.specs.Placing.{bitsAt, offersOf, Placed, holds, stops, placedIf, placedNext, placedFrom, placedAll}
 
 -- ---- verdicts and tests
@@ -178,7 +179,8 @@ written-stands banks s v acc w =
         let ends = endsPast (v .def .size) (at .position + sizeOf (v .node)) in
         let nowhere = isWritten (v .node) && lacksOutput (v .out) in
         let last = pick nowhere (Refused (NoOutput (v .node .index))) Accepted in
-        let nine = passed (usesDefault banks (v .bank)) (DefaultBank (v .node .index)) (pick ends (Refused (PastBank (v .node .index))) last) (checked-is at e) in
+        let rest = pick ends (Refused (PastBank (v .node .index))) last in
+        let nine = passed (usesDefault banks (v .bank)) (DefaultBank (v .node .index)) rest (checked-is at e) in
         let ten = passed ends (PastBank (v .node .index)) last (nine .1) in
         and-right (isWritten (v .node)) (lacksOutput (v .out)) w (passed nowhere (NoOutput (v .node .index)) Accepted (ten .1) .0)
 

@@ -14,13 +14,15 @@ use Rattle.refusal.specs.declared.Offset.the-variants.{None as Nowhere, At as O
 use Rattle.refusal.specs.declared.Opt.{Opt}
 use Rattle.refusal.specs.declared.Opt.the-variants.{None, Some}
 use Rattle.bankdef.specs.Check.{noBank}
+use Rattle.bankdef.specs.declared.Bankdef.{Bankdef}
 use Rattle.iter.specs.Address.{outAt}
 use Rattle.iter.specs.Step.{startOf, bankAfter}
 use Rattle.iter.specs.StepCases.{standing, step-cases}
 use Rattle.iter.specs.WithinLimit.{Small, Within, AllSmall, seen-within, step-within, never-past}
 use Rattle.iter.specs.declared.Stepped.{Stepped}
 use Rattle.resolver.specs.Lists.{Row}
-use Rattle.resolver.specs.Once.{Program, node, bankOf, walkTo}
+use Rattle.resolver.specs.Listed.{either-record}
+use Rattle.resolver.specs.Once.{Program, node, bankRecord, bankOf, walkTo}
 use Rattle.blocks.specs.Offsets.{offsetOf, wordOf, at-of-word}
 use Rattle.blocks.specs.Spans.{offsetWithin, spansOf, allWithin, acceptable}
 use Rattle.output.specs.Visits.{seenPos, positionOf, visitAt, visitsTo, each}
@@ -89,7 +91,8 @@ module _ (p : Program) (row : Row) (banks : OffsetsFit (p .banks)) (first : (i :
   span-fits : (i : ℕ) → Fit (spanAt (visitAt p row i))
   span-fits i =
       let bank = bankAfter (walkTo p row i .bank) (node p row i) in (
-        out-fits (getD (p .banks .defs) bank noBank .offset) (positionOf (visitAt p row i)) (banks bank) (seen-small i),
+        out-fits (bankRecord (p .banks) bank .offset) (positionOf (visitAt p row i))
+            (either-record (p .banks) bank (λ (b : Bankdef). OffsetFits (b .offset)) tt (banks bank)) (seen-small i),
         either (eqb (node p row i .kind) 2) 0 (node p row i .number) zero-le (small i),
       )
 

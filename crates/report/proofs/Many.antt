@@ -15,7 +15,7 @@ use Rattle.resolver.specs.Passes.{resolutionOf}
 use Rattle.resolver.specs.Layout.{unless, layoutOf}
 use Rattle.resolver.specs.declared.Resolution.{Resolution}
 use Rattle.resolver.specs.declared.Settled.the-variants.{Refused as Unsettled}
-use Rattle.resolver.proofs.Counts.{too-many-nodes}
+use Rattle.resolver.specs.Counts.{too-many-nodes}
 use Rattle.output.specs.Output.{Input, settledBuild, buildOf, visitsOf}
 use Rattle.form.specs.Banks.{tableOf}
 use Rattle.form.specs.Words.{byte}
