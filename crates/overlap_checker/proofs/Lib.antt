@@ -1,4 +1,3 @@
-pub mod Ascending
 pub mod Kept
 pub mod Shift
 pub mod Unique

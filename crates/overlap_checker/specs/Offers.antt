@@ -3,12 +3,8 @@ use mathlib.Core.Bool.{Bool, false, _&&_, _||_}
 use mathlib.Core.List.{List, [], _∷_}
 use Prim.Native.Nat.{ℕ, suc}
 use lib.Dec.{ltb, leb}
-use lib.ListN.{length}
 use Rattle.refusal.specs.Limits.{maxStored}
 use Rattle.refusal.specs.Pick.{pick}
-use Rattle.refusal.specs.declared.Refusal.the-variants.{Overlap, StoreFull}
-use Rattle.refusal.specs.declared.Verdict.{Verdict}
-use Rattle.refusal.specs.declared.Verdict.the-variants.{Accepted, Refused}
 use Rattle.overlap_checker.specs.declared.Entry.{Entry}
 use Rattle.overlap_checker.specs.Entries.{entryAt, entryBefore}
 use Rattle.overlap_checker.specs.Interval.{clashes}
@@ -33,11 +29,3 @@ named l e =
 -- "the store holds 512 and the offer [is] of nonzero size"
 unfoldable pub lacksRoom : ℕ → ℕ → Bool
 lacksRoom count size = ltb 0 size && leb maxStored count
-
--- "12: a placement overlaps", then "13: the store holds 512 and the offer, of nonzero size, shares no bit". An offer of size 0
--- that does not clash "is accepted".
-unfoldable pub verdictOf : List Entry → Entry → ℕ → Verdict
-verdictOf l e node =
-    pick (clashesAny e l)
-    (Refused (Overlap (named l e .position) (named l e .size)))
-    (pick (lacksRoom (length l) (e .size)) (Refused (StoreFull node)) Accepted)
