@@ -1,7 +1,7 @@
 -- Laws that join the integers of the definitions with the two sides of 0 on which the code goes on in 64 bits, and what a bank tells whose
 -- addresses can be told.
 use Prim.Native.Nat.{ℕ, suc, _+_, _*_, _-_, _≤_, _<_, _^_, _%_}
-use mathlib.Core.Path.{_≡_, refl}
+use mathlib.Core.Path.{_≡_, refl, ap}
 use mathlib.Core.Bool.{Bool, true, false, not, cond}
 use native.Mathlib.Nat.{mul-le-mul, le-of-lt, lt-of-le-of-lt}
 use native.Mathlib.Omega.{arith}
@@ -14,16 +14,14 @@ use borrow.Author.Tests.{ltb-true, leb-true, eqb-false, not-true, lt-ltb, le-ltb
 use Rattle.refusal.specs.Limits.{maxStart}
 use Rattle.bankdef.specs.Bools.{both}
 use Rattle.bankdef.specs.declared.Bankdef.{Bankdef}
-use Rattle.iter.specs.Distance.{sizeOf, tellable, gap, toAlignment}
-use Rattle.iter.specs.declared.Distance.the-variants.{Bits, Refused as NoDistance}
-use Rattle.refusal.specs.declared.Refusal.the-variants.{NegativeAlignment}
+use Rattle.iter.specs.Distance.{sizeOf, tellable}
 use Rattle.iter.specs.Signs.{size-natAbs, inBits, neg-plus}
-use Rattle.iter.specs.declared.alignment.InBits.the-variants.{Negative, At}
+use Rattle.iter.specs.declared.alignment.InBits.the-variants.{Below, At}
 
 -- a negative start, before 0 in bits
-pub below : (z : ℤ) (u p : ℕ) → ltZ z (pos 0) ≡ true → p < natAbs z * u → Negative ≡ inBits (z *ℤ pos u +ℤ pos p)
+pub below : (z : ℤ) (u p : ℕ) → ltZ z (pos 0) ≡ true → p < natAbs z * u → Below (natAbs z * u - p) ≡ inBits (z *ℤ pos u +ℤ pos p)
 below (pos n) u p e h = let l : n < 0 = ltb-true n 0 e in absurd (omega arith)
-below (negsuc n) u p e h = rw (neg-plus (suc n * u) p, lt-ltb p (suc n * u) h)
+below (negsuc n) u p e h = rw (neg-plus (suc n * u) p, lt-ltb p (suc n * u) h) (ap Below (omega arith))
 
 -- a negative start, from 0 on
 pub above : (z : ℤ) (u p : ℕ) → ltZ z (pos 0) ≡ true → natAbs z * u ≤ p → At (p - natAbs z * u) ≡ inBits (z *ℤ pos u +ℤ pos p)
@@ -47,15 +45,6 @@ start-within def e = rw (size-natAbs (def .start)) (leb-true (sizeOf (def .start
 -- a start within the limit, in units of 16 bits, is far from the end of 64 bits
 pub away-small : (n u : ℕ) → n ≤ maxStart → u < 65536 → n * u < 2 ^ 57
 away-small n u h k = lt-of-le-of-lt (mul-le-mul h (le-of-lt k)) (lit< tt)
-
--- the definition's answer, by what the code found of the address in bits
-pub by-bits : (z : ℤ) (a node n : ℕ) → At n ≡ inBits z → Bits (gap (n % a) a) ≡ toAlignment z a node
-by-bits (pos m) a node n e = cc
-by-bits (negsuc m) a node n e = cc
-
-pub by-sign : (z : ℤ) (a node : ℕ) → Negative ≡ inBits z → NoDistance (NegativeAlignment node) ≡ toAlignment z a node
-by-sign (pos m) a node e = cc
-by-sign (negsuc m) a node e = refl
 
 either-fits : (b : Bool) (x y : ℕ) → x < 2 ^ 63 → y < 2 ^ 63 → SFits w64 (cond b (negsuc x) (pos y))
 either-fits true x y h k = record { sfits = h }

@@ -175,7 +175,6 @@ not-measured : {def : Bankdef} {position a node : ℕ} {t : Told ℕ} → Measur
 not-measured (told.malformed h) e = omega arith
 not-measured (told.none h z) e = omega arith
 not-measured (told.next h k d a) e = omega arith
-not-measured (told.negative m) e = omega arith
 
 -- a distance is never refused 5
 not-five-of : (def : Bankdef) (position a node : ℕ) (why : Refusal) → distanceOf def position a node ≡ NoDistance why → numberOf why ≡ 5 → ⊥

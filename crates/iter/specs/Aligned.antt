@@ -1,30 +1,71 @@
--- The distance is what a reader expects of it: the least number of bits that brings the address to a multiple of the alignment. And
--- refusals 4 and 6 are given exactly where document 01 says.
-use Prim.Native.Nat.{ℕ, _+_, _-_, _*_, _/_, _%_, _≤_, _<_}
+-- The distance is what a reader expects of it, on both sides of 0: the least number of bits that brings the address to a multiple of the
+-- alignment. And 4 is given exactly where a bank's addresses cannot be told.
+use Prim.Native.Nat.{ℕ, zero, suc, _+_, _-_, _*_, _/_, _%_, _≤_, _<_}
 use mathlib.Core.Path.{_≡_, refl, sym, ap, subst, _∙_}
 use mathlib.Core.Bool.{Bool, true, false}
-use native.Mathlib.Nat.{mod-lt, div-add-mod', add-mul, one-mul, mul-le-mul-right, lt-of-mul-lt-mul-right}
+use native.Mathlib.Nat.{mod-lt, mod-le, mod-self, mod-eq-of-lt, div-add-mod', add-mul, add-mul-mod-self-right, one-mul, zero-mul, suc-mul, mul-le-mul-right, lt-of-mul-lt-mul-right}
 use native.Mathlib.Omega.{arith}
-use lib.Dec.{eqb}
-use lib.IntN.{ℤ, pos, negsuc, _+ℤ_}
-use lib.Signed.{ltZ}
-use borrow.Author.Tests.{ltb-true, eqb-true, eqb-false, ne-eqb}
+use lib.Dec.{eqb, ltb}
+use lib.IntN.{ℤ, pos, negsuc, negℤ, subℕ, _+ℤ_, _*ℤ_}
+use borrow.Author.Tests.{ltb-true, ltb-false, lt-ltb, le-ltb, eqb-true, eqb-false, eq-eqb, ne-eqb}
+use Rattle.refusal.specs.Bools.{either}
 use Rattle.refusal.specs.Pick.{pick, pick-true, pick-false}
 use Rattle.refusal.specs.declared.Refusal.{Refusal}
-use Rattle.refusal.specs.declared.Refusal.the-variants.{Malformed, NegativeAlignment}
+use Rattle.refusal.specs.declared.Refusal.the-variants.{Malformed}
 use Rattle.bankdef.specs.declared.Bankdef.{Bankdef}
-use Rattle.iter.specs.Distance.{tellable, addressInBits, gap, toAlignment, distanceOf}
+use Rattle.iter.specs.Distance.{tellable, addressInBits, gap, remainder, distanceTo, distanceOf}
+use Rattle.iter.specs.Signs.{neg-plus}
+use Rattle.iter.specs.declared.Distance.{Distance}
 use Rattle.iter.specs.declared.Distance.the-variants.{Bits, Refused}
 
 -- d bits from the address z bring it to a multiple of a; they are fewer than a, and no fewer bits do
 pub record Aligns (z : ℤ) (a d : ℕ) : Type 0 where
   pub below : d < a
-  pub times : ℕ
-  pub multiple : z +ℤ pos d ≡ pos (times * a)
-  pub least : (e k : ℕ) → z +ℤ pos e ≡ pos (k * a) → d ≤ e
+  pub times : ℤ
+  pub multiple : z +ℤ pos d ≡ times *ℤ pos a
+  pub least : (e : ℕ) (k : ℤ) → z +ℤ pos e ≡ k *ℤ pos a → d ≤ e
+
+-- r is z less a multiple of a, and from 0 to a - 1
+pub record Remains (z : ℤ) (a r : ℕ) : Type 0 where
+  pub below : r < a
+  pub times : ℤ
+  pub rest : z ≡ (times *ℤ pos a) +ℤ pos r
+
+-- ---- on the two sides of 0
 
 pos-same : (m n : ℕ) → pos m ≡ pos n → m ≡ n
 pos-same m n e = cc
+
+-- a number from 0 on is no negative one
+not-below : (n m : ℕ) → 0 < m → pos n ≡ negℤ (pos m) → ⊥
+not-below n zero h e = omega arith
+not-below n (suc m) h e = let z : _≡_ {A = ℕ} 0 1 = cc in omega arith
+
+-- s less s + m is -m
+less : (s m n : ℕ) → n ≡ m + s → subℕ s n ≡ negℤ (pos m)
+less s zero n e = rw (le-ltb s n (omega arith)) (ap pos (omega arith))
+less s (suc m) n e = rw (lt-ltb s n (omega arith)) (ap negsuc (omega arith))
+
+-- and only of that
+less-only : (s m n : ℕ) → 0 < m → subℕ s n ≡ negℤ (pos m) → n ≡ m + s
+less-only s m n h e =
+    either (ltb s n)
+    (λ t. let l = ltb-true s n t in below m h l (rw t at e))
+    (λ t. absurd (not-below (s - n) m h (rw t at e)))
+  where
+    negative-same : (x y : ℕ) → negsuc x ≡ negsuc y → x ≡ y
+    negative-same x y e = cc
+
+    below : (k : ℕ) → 0 < k → s < n → negsuc (n - suc s) ≡ negℤ (pos k) → n ≡ k + s
+    below zero h l e = absurd (omega arith)
+    below (suc k) h l e = omega (arith, negative-same (n - suc s) k e)
+
+neg-times : (q a : ℕ) → negℤ (pos q) *ℤ pos a ≡ negℤ (pos (q * a))
+neg-times zero a = rw (zero-mul a)
+neg-times (suc q) a = refl
+
+some-times : (k a : ℕ) → 0 < a → 0 < suc k * a
+some-times k a h = omega (arith, suc-mul k a)
 
 module _ (n a : ℕ) (h : 0 < a) where
   -- the multiple that n has passed or reached
@@ -44,22 +85,116 @@ module _ (n a : ℕ) (h : 0 < a) where
       let s : (n / a + 1) * a ≤ k * a = mul-le-mul-right a (omega (arith, lt-of-mul-lt-mul-right a l)) in
       omega (arith, reached, next)
 
-  pub gap-aligns : (b : Bool) → eqb (n % a) 0 ≡ b → Aligns (pos n) a (pick b 0 (a - n % a))
-  gap-aligns true e = record {
+  past-any : (e : ℕ) (k : ℤ) → (n % a ≡ 0 → ⊥) → pos (n + e) ≡ k *ℤ pos a → a - n % a ≤ e
+  past-any e (pos k) q m = past e k q (pos-same (n + e) (k * a) m)
+  past-any e (negsuc k) q m = absurd (not-below (n + e) (suc k * a) (some-times k a h) m)
+
+  above : (b : Bool) → eqb (n % a) 0 ≡ b → Aligns (pos n) a (pick b 0 (a - n % a))
+  above true e = record {
     below = h;
-    times = n / a;
+    times = pos (n / a);
     multiple = ap pos (omega (arith, reached, eqb-true (n % a) 0 e));
     least = λ e k m. omega arith;
   }
-  gap-aligns false e = record {
+  above false e = record {
     below = omega (arith, eqb-false (n % a) 0 e, mod-lt n h);
-    times = n / a + 1;
+    times = pos (n / a + 1);
     multiple = ap pos to-next;
-    least = λ e' k m. past e' k (eqb-false (n % a) 0 e) (pos-same (n + e') (k * a) m);
+    least = λ e' k m. past-any e' k (eqb-false (n % a) 0 e) m;
   }
+
+-- m bits before 0, the multiple above is m % a bits away
+module _ (n a : ℕ) (h : 0 < a) where
+  abbrev m : ℕ
+  m = suc n
+
+  nearest : (e : ℕ) (k : ℤ) → subℕ e m ≡ k *ℤ pos a → m % a ≤ e
+  nearest e (pos k) q =
+      either (ltb e m)
+      (λ t. absurd (not-below (k * a) (m - e) (omega (arith, ltb-true e m t)) (sym q ∙ less e (m - e) m (omega (arith, ltb-true e m t)))))
+      (λ t. omega (arith, ltb-false e m t, mod-le m a))
+  nearest e (negsuc k) q =
+      let p : m ≡ suc k * a + e = less-only e (suc k * a) m (some-times k a h) q in
+      let r : m % a ≡ e % a = ap (λ (x : ℕ). x % a) (p ∙ omega arith) ∙ add-mul-mod-self-right e (suc k) a in
+      omega (arith, r, mod-le e a)
+
+  below-zero : Aligns (negsuc n) a (m % a)
+  below-zero = record {
+    below = mod-lt m h;
+    times = negℤ (pos (m / a));
+    multiple = less (m % a) (m / a * a) m (sym (div-add-mod' m a)) ∙ sym (neg-times (m / a) a);
+    least = nearest;
+  }
+
+-- the gap of what the alignment has beyond a remainder is that remainder
+gap-back : (s a : ℕ) → s < a → gap ((a - s) % a) a ≡ s
+gap-back s a h =
+    either (eqb s 0)
+    (λ e.
+    let z : s ≡ 0 = eqb-true s 0 e in
+    let r : (a - s) % a ≡ 0 = ap (λ (x : ℕ). x % a) (omega arith) ∙ mod-self a in
+    rw r (omega arith))
+    (λ e.
+    let n = eqb-false s 0 e in
+    let r : (a - s) % a ≡ a - s = mod-eq-of-lt (omega (arith, n)) in
+    rw (r, ne-eqb (a - s) 0 (λ f. omega arith)) (omega arith))
+
+positive : (a : ℕ) → eqb a 0 ≡ false → 0 < a
+positive a e = omega (arith, eqb-false a 0 e)
 
 nonzero : (a : ℕ) → 0 < a → eqb a 0 ≡ false
 nonzero a h = ne-eqb a 0 (λ e. omega arith)
+
+-- ---- what is promised
+
+-- For every address and every nonzero alignment the distance is below the alignment, address plus distance is a multiple of it, and no
+-- smaller number serves.
+pub distance-aligns : (z : ℤ) (a : ℕ) → 0 < a → Aligns z a (distanceTo z a)
+distance-aligns (pos n) a h = rw (nonzero a h) (above n a h (eqb (n % a) 0) refl)
+distance-aligns (negsuc n) a h = rw (nonzero a h, gap-back (suc n % a) a (mod-lt (suc n) h)) (below-zero n a h)
+
+-- "The distance to alignment A is 0 for A = 0."
+pub distance-of-none : (z : ℤ) → distanceTo z 0 ≡ 0
+distance-of-none z = refl
+
+-- One number alone aligns.
+pub one-distance : (z : ℤ) (a d e : ℕ) → Aligns z a d → Aligns z a e → d ≡ e
+one-distance z a d e p q =
+    let l : d ≤ e = p .least e (q .times) (q .multiple) in
+    let g : e ≤ d = q .least d (p .times) (p .multiple) in
+    omega arith
+
+-- "the remainder from 0 to alignment - 1"
+pub remainder-remains : (z : ℤ) (a : ℕ) → 0 < a → Remains z a (remainder z a)
+remainder-remains (pos n) a h = record { below = mod-lt n h; times = pos (n / a); rest = ap pos (sym (div-add-mod' n a)) }
+remainder-remains (negsuc n) a h =
+    let s = suc n % a in
+    let l : s < a = mod-lt (suc n) h in
+    let whole : suc n ≡ suc n / a * a + s = sym (div-add-mod' (suc n) a) in
+    either (eqb s 0)
+    (λ e.
+    let z : s ≡ 0 = eqb-true s 0 e in
+    let r : (a - s) % a ≡ 0 = ap (λ (x : ℕ). x % a) (omega arith) ∙ mod-self a in
+    record {
+      below = mod-lt (a - s) h;
+      times = negℤ (pos (suc n / a));
+      rest = sym (ap (λ (x : ℤ). x +ℤ pos ((a - s) % a)) (neg-times (suc n / a) a) ∙ neg-plus (suc n / a * a) ((a - s) % a)
+          ∙ less′ ((a - s) % a) (suc n) (suc n / a * a) (omega (arith, whole)));
+    })
+    (λ e.
+    let k = eqb-false s 0 e in
+    let r : (a - s) % a ≡ a - s = mod-eq-of-lt (omega (arith, k)) in
+    let up : suc (suc n / a) * a ≡ suc n / a * a + a = suc-mul (suc n / a) a in
+    record {
+      below = mod-lt (a - s) h;
+      times = negsuc (suc n / a);
+      rest = sym (neg-plus (suc (suc n / a) * a) ((a - s) % a) ∙ less′ ((a - s) % a) (suc n) (suc (suc n / a) * a) (omega (arith, whole, up)));
+    })
+  where
+    less′ : (s m n : ℕ) → n ≡ m + s → subℕ s n ≡ negℤ (pos m)
+    less′ = less
+
+-- ---- the definition followed test by test
 
 never : (why : Refusal) (d : ℕ) → Refused why ≡ Bits d → ⊥
 never why d e = let z : _≡_ {A = ℕ} 0 1 = cc in omega arith
@@ -67,79 +202,29 @@ never why d e = let z : _≡_ {A = ℕ} 0 1 = cc in omega arith
 bits-same : (m n : ℕ) → Bits m ≡ Bits n → m ≡ n
 bits-same m n e = cc
 
-aligns-of : (t : Bool) (z : ℤ) (a node d : ℕ) → 0 < a → pick t (pick (eqb a 0) (Bits 0) (toAlignment z a node)) (Refused (Malformed node)) ≡ Bits d
-    → Aligns z a d
-aligns-of true (pos n) a node d h e =
-    let f : Bits (gap (n % a) a) ≡ Bits d = rw (nonzero a h) at e in
-    subst (λ (x : ℕ). Aligns (pos n) a x) (bits-same (gap (n % a) a) d f) (gap-aligns n a h (eqb (n % a) 0) refl)
-aligns-of true (negsuc n) a node d h e = absurd (never (NegativeAlignment node) d (rw (nonzero a h) at e))
-aligns-of false z a node d h e = absurd (never (Malformed node) d e)
-
--- A distance that is told aligns: address plus distance is a multiple of the alignment, the distance is below it, and no smaller one serves.
-pub distance-aligns : (def : Bankdef) (position a node d : ℕ) → 0 < a → distanceOf def position a node ≡ Bits d → Aligns (addressInBits def position) a d
-unfolding distanceOf
-distance-aligns def position a node d h e = aligns-of (tellable def) (addressInBits def position) a node d h e
-
--- The definition followed test by test.
 module _ (def : Bankdef) (position a node : ℕ) where
-  pub untellable : tellable def ≡ false → distanceOf def position a node ≡ Refused (Malformed node)
+  -- 4 is given exactly for a bank whose addresses cannot be told.
+  pub four-when : tellable def ≡ false → distanceOf def position a node ≡ Refused (Malformed node)
   unfolding distanceOf
-  untellable e = pick-false _ _ e
+  four-when e = pick-false _ _ e
+
+  pub told-when : tellable def ≡ true → distanceOf def position a node ≡ Bits (distanceTo (addressInBits def position) a)
+  unfolding distanceOf
+  told-when e = pick-true _ _ e
 
   pub to-none : tellable def ≡ true → a ≡ 0 → distanceOf def position a node ≡ Bits 0
-  unfolding distanceOf
-  to-none e z = rw (e, z)
+  to-none e z = told-when e ∙ ap (λ (x : ℕ). Bits (distanceTo (addressInBits def position) x)) z
 
-  pub to-some : tellable def ≡ true → (a ≡ 0 → ⊥) → distanceOf def position a node ≡ toAlignment (addressInBits def position) a node
-  unfolding distanceOf
-  to-some e n = rw (e, ne-eqb a 0 n)
+  pub to-some : tellable def ≡ true → (a ≡ 0 → ⊥) → distanceOf def position a node ≡ Bits (gap (remainder (addressInBits def position) a) a)
+  to-some e n = told-when e ∙ ap (λ (d : ℕ). Bits d) (pick-false _ _ (ne-eqb a 0 n))
 
--- 6: "a negative address in bits meets a nonzero alignment", in a bank whose addresses can be told
-pub record NegativeMeets (def : Bankdef) (position a : ℕ) : Type 0 where
-  pub told : tellable def ≡ true
-  pub nonzero : 0 < a
-  pub negative : ltZ (addressInBits def position) (pos 0) ≡ true
+  pub four-only : (why : Refusal) → distanceOf def position a node ≡ Refused why → tellable def ≡ false
+  four-only why e = either (tellable def) (λ t. absurd (never why _ (sym e ∙ told-when t))) (λ t. t)
 
-six-of : (z : ℤ) (a node : ℕ) → 0 < a → ltZ z (pos 0) ≡ true → pick (eqb a 0) (Bits 0) (toAlignment z a node) ≡ Refused (NegativeAlignment node)
-six-of (pos n) a node h e = let l : n < 0 = ltb-true n 0 e in absurd (omega arith)
-six-of (negsuc n) a node h e = rw (nonzero a h)
-
-pub positive : (a : ℕ) → eqb a 0 ≡ false → 0 < a
-positive a e = omega (arith, eqb-false a 0 e)
-
-apart : (place node : ℕ) → Refused (Malformed place) ≡ Refused (NegativeAlignment node) → ⊥
-apart place node e = let z : _≡_ {A = ℕ} 0 1 = cc in omega arith
-
-six-cases : (t b : Bool) (z : ℤ) (a node : ℕ) → pick t (pick b (Bits 0) (toAlignment z a node)) (Refused (Malformed node)) ≡ Refused (NegativeAlignment node)
-    → (t ≡ true) × (b ≡ false) × (ltZ z (pos 0) ≡ true)
-six-cases true true z a node e = absurd (never (NegativeAlignment node) 0 (sym e))
-six-cases true false (pos n) a node e = absurd (never (NegativeAlignment node) (gap (n % a) a) (sym e))
-six-cases true false (negsuc n) a node e = (refl, refl, refl)
-six-cases false b z a node e = absurd (apart node node e)
-
-four-cases : (t b : Bool) (z : ℤ) (a node : ℕ) → pick t (pick b (Bits 0) (toAlignment z a node)) (Refused (Malformed node)) ≡ Refused (Malformed node) → t
-    ≡ false
-four-cases true true z a node e = absurd (never (Malformed node) 0 (sym e))
-four-cases true false (pos n) a node e = absurd (never (Malformed node) (gap (n % a) a) (sym e))
-four-cases true false (negsuc n) a node e = absurd (apart node node (sym e))
-four-cases false b z a node e = refl
-
--- 6 is given exactly when a negative address in bits meets a nonzero alignment.
-pub six-when : (def : Bankdef) (position a node : ℕ) → NegativeMeets def position a → distanceOf def position a node ≡ Refused (NegativeAlignment node)
-unfolding distanceOf
-six-when def position a node m = pick-true _ _ (m .told) ∙ six-of (addressInBits def position) a node (m .nonzero) (m .negative)
-
-pub six-only : (def : Bankdef) (position a node : ℕ) → distanceOf def position a node ≡ Refused (NegativeAlignment node) → NegativeMeets def position a
-unfolding distanceOf
-six-only def position a node e =
-    let found = six-cases (tellable def) (eqb a 0) (addressInBits def position) a node e in
-    record { told = found .0; nonzero = positive a (found .1); negative = found .2 }
-
--- 4 is given exactly for a bank whose addresses cannot be told.
-pub four-when : (def : Bankdef) (position a node : ℕ) → tellable def ≡ false → distanceOf def position a node ≡ Refused (Malformed node)
-unfolding distanceOf
-four-when def position a node e = pick-false _ _ e
-
-pub four-only : (def : Bankdef) (position a node : ℕ) → distanceOf def position a node ≡ Refused (Malformed node) → tellable def ≡ false
-unfolding distanceOf
-four-only def position a node e = four-cases (tellable def) (eqb a 0) (addressInBits def position) a node e
+  -- A distance that is told is the one that aligns.
+  pub told-aligns : (d : ℕ) → 0 < a → distanceOf def position a node ≡ Bits d → Aligns (addressInBits def position) a d
+  told-aligns d h e =
+      either (tellable def)
+      (λ t. subst (λ (x : ℕ). Aligns (addressInBits def position) a x) (bits-same _ d (sym (told-when t) ∙ e)) (distance-aligns
+      (addressInBits def position) a h))
+      (λ t. absurd (never (Malformed node) d (sym (four-when t) ∙ e)))

@@ -1,11 +1,11 @@
 -- The distance to an alignment, over the integers (document 01, "The walk").
-use Prim.Native.Nat.{ℕ, _-_, _%_}
+use Prim.Native.Nat.{ℕ, suc, _-_, _%_}
 use mathlib.Core.Bool.{Bool, not, _&&_}
 use lib.Dec.{eqb, leb}
 use lib.IntN.{ℤ, pos, negsuc, _+ℤ_, _*ℤ_}
 use Rattle.refusal.specs.Limits.{maxStart}
 use Rattle.refusal.specs.Pick.{pick}
-use Rattle.refusal.specs.declared.Refusal.the-variants.{Malformed, NegativeAlignment}
+use Rattle.refusal.specs.declared.Refusal.the-variants.{Malformed}
 use Rattle.bankdef.specs.declared.Bankdef.{Bankdef}
 use Rattle.iter.specs.declared.Distance.{Distance}
 use Rattle.iter.specs.declared.Distance.the-variants.{Bits, Refused}
@@ -13,9 +13,10 @@ use Rattle.iter.specs.declared.Distance.the-variants.{Bits, Refused}
 -- how far an address is from 0
 abbrev pub sizeOf : ℤ → ℕ
 sizeOf (pos n) = n
-sizeOf (negsuc n) = Prim.Native.Nat.suc n
+sizeOf (negsuc n) = suc n
 
--- "address unit: 1 to 65,535 bits; start address: -2^40 to 2^40": a bank whose addresses can be told. (The unit's upper limit is its type's.)
+-- "address unit: 1 to 65,535 bits; start address: -2^40 to 2^40": a bank whose addresses can be told. (The unit's upper limit is its
+-- type's.)
 abbrev pub tellable : Bankdef → Bool
 tellable def = not (eqb (def .unit) 0) && leb (sizeOf (def .start)) maxStart
 
@@ -27,15 +28,17 @@ addressInBits def position = (def .start *ℤ pos (def .unit)) +ℤ pos position
 abbrev pub gap : ℕ → ℕ → ℕ
 gap r a = pick (eqb r 0) 0 (a - r)
 
--- "6: a negative address in bits meets a nonzero alignment"
-abbrev pub toAlignment : ℤ → ℕ → ℕ → Distance
-toAlignment (pos bits) a node = Bits (gap (bits % a) a)
-toAlignment (negsuc n) a node = Refused (NegativeAlignment node)
+-- "Use the remainder from 0 to alignment - 1: address -3 in bits with alignment 8 has remainder 5" (document 02, Ticket 3): of -m it is
+-- what the alignment has beyond the remainder of m.
+abbrev pub remainder : ℤ → ℕ → ℕ
+remainder (pos n) a = n % a
+remainder (negsuc n) a = (a - suc n % a) % a
 
--- "The distance to alignment A is 0 for A = 0. Otherwise, with r the remainder of start × unit + position by A, it is 0 for r = 0 and A - r for others."
--- `node` is the place of a refusal: 0 in a call of its own.
+-- "The distance to alignment A is 0 for A = 0. Otherwise, with r the remainder of start × unit + position by A, it is 0 for r = 0 and
+-- A - r for others."
+abbrev pub distanceTo : ℤ → ℕ → ℕ
+distanceTo z a = pick (eqb a 0) 0 (gap (remainder z a) a)
+
+-- The distance of a position in a bank. `node` is the place of a refusal: 0 in a call of its own.
 unfoldable pub distanceOf : Bankdef → ℕ → ℕ → ℕ → Distance
-distanceOf def position a node =
-    pick (tellable def)
-    (pick (eqb a 0) (Bits 0) (toAlignment (addressInBits def position) a node))
-    (Refused (Malformed node))
+distanceOf def position a node = pick (tellable def) (Bits (distanceTo (addressInBits def position) a)) (Refused (Malformed node))

@@ -11,7 +11,7 @@ use Rattle.refusal.specs.declared.Opt.the-variants.{None, Some}
 use Rattle.refusal.specs.declared.Place.the-variants.{One}
 use Rattle.refusal.specs.declared.Refusal.{Refusal}
 use Rattle.bankdef.specs.declared.Bankdef.{Bankdef}
-use Rattle.iter.specs.Aligned.{Aligns, NegativeMeets}
+use Rattle.iter.specs.Aligned.{Aligns}
 use Rattle.iter.specs.Distance.{tellable, addressInBits, distanceOf}
 use Rattle.iter.specs.Address.{unitsFrom}
 use Rattle.iter.specs.declared.Address.{Address}
@@ -41,10 +41,8 @@ pub data Measures (def : Bankdef) (position a node : ℕ) : Told ℕ → Type 0 
   malformed : tellable def ≡ false → Measures def position a node (refuses 4 (One node))
   -- "The distance to alignment A is 0 for A = 0."
   none : tellable def ≡ true → a ≡ 0 → Measures def position a node (gives 0)
-  -- otherwise the least number of bits to a multiple of A
+  -- otherwise, on either side of 0, the least number of bits to a multiple of A
   next : tellable def ≡ true → 0 < a → (d : ℕ) → Aligns (addressInBits def position) a d → Measures def position a node (gives d)
-  -- "6: a negative address in bits meets a nonzero alignment"
-  negative : NegativeMeets def position a → Measures def position a node (refuses 6 (One node))
 
 -- The address: "the start plus the whole units in the position".
 pub data Stands (def : Bankdef) (position node : ℕ) : Told ℤ → Type 0 where

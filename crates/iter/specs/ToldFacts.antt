@@ -6,7 +6,6 @@ use mathlib.Core.Bool.{Bool, true, false, _&&_, _||_}
 use mathlib.Core.Logic.{_⊎_, inl, inr, _↔_}
 use native.Mathlib.Omega.{arith}
 use lib.Dec.{eqb, ltb, leb}
-use lib.IntN.{ℤ, pos, negsuc}
 use borrow.Author.Tests.{ltb-true, ltb-false, leb-true, leb-false, eqb-true, eqb-false, eq-eqb, ne-eqb, lt-ltb, lt-leb, le-leb}
 use Rattle.refusal.specs.Bools.{either, clash, both, neither}
 use Rattle.refusal.specs.Limits.{maxPosition}
@@ -16,12 +15,12 @@ use Rattle.refusal.specs.declared.Opt.{Opt}
 use Rattle.refusal.specs.declared.Opt.the-variants.{None, Some}
 use Rattle.refusal.specs.declared.Place.the-variants.{One}
 use Rattle.refusal.specs.declared.Refusal.{Refusal}
-use Rattle.refusal.specs.declared.Refusal.the-variants.{Malformed, PositionPast, NegativeAlignment}
+use Rattle.refusal.specs.declared.Refusal.the-variants.{Malformed, PositionPast}
 use Rattle.bankdef.specs.declared.Bankdef.{Bankdef}
 use Rattle.iter.specs.Address.{unitsFrom, addressOf}
 use Rattle.iter.specs.Advance.{bad-state, sound-state, early, item, aligning, setting, asserting, other}
-use Rattle.iter.specs.Aligned.{Aligns, gap-aligns, positive}
-use Rattle.iter.specs.Distance.{tellable, addressInBits, gap, toAlignment, distanceOf}
+use Rattle.iter.specs.Aligned.{distance-aligns}
+use Rattle.iter.specs.Distance.{tellable, addressInBits, distanceTo, distanceOf}
 use Rattle.iter.specs.Figures as told
 use Rattle.iter.specs.Figures.{toldDistance, toldAddress, toldMoved, Measures, Stands, Adds, Aligning, OuterSymbol, Sees, Keeps, SoundState, Advances}
 use Rattle.iter.specs.Known.{staysKnown}
@@ -37,20 +36,19 @@ use Rattle.iter.specs.declared.Pos.{Pos}
 -- ---- the distance and the address
 
 module _ (def : Bankdef) (position a node : ℕ) where
-  measured : (t b : Bool) (z : ℤ) → tellable def ≡ t → eqb a 0 ≡ b → addressInBits def position ≡ z
-      → Measures def position a node (toldDistance (pick t (pick b (Bits 0) (toAlignment z a node)) (NoDistance (Malformed node))))
-  measured false b z e f g = told.malformed e
-  measured true true z e f g = told.none e (eqb-true a 0 f)
-  measured true false (pos n) e f g =
-      told.next e (positive a f) (gap (n % a) a)
-      (subst (λ (x : ℤ). Aligns x a (gap (n % a) a)) (sym g) (gap-aligns n a (positive a f) (eqb (n % a) 0) refl))
-  measured true false (negsuc n) e f g =
-      told.negative (record { told = e; nonzero = positive a f; negative = rw g })
+  measured : (t : Bool) → tellable def ≡ t
+      → Measures def position a node (toldDistance (pick t (Bits (distanceTo (addressInBits def position) a)) (NoDistance (Malformed node))))
+  measured false e = told.malformed e
+  measured true e =
+      either (eqb a 0)
+      (λ f. rw f (told.none e (eqb-true a 0 f)))
+      (λ f. let h : 0 < a = omega (arith, eqb-false a 0 f) in
+      told.next e h (distanceTo (addressInBits def position) a) (distance-aligns (addressInBits def position) a h))
 
   -- What is told of a distance.
   pub distance-told : Measures def position a node (toldDistance (distanceOf def position a node))
   unfolding distanceOf
-  distance-told = measured (tellable def) (eqb a 0) (addressInBits def position) refl refl refl
+  distance-told = measured (tellable def) refl
 
   pub distance-answers : {r : Distance} → r ≡ distanceOf def position a node
       → (r ≡ distanceOf def position a node) × Measures def position a node (toldDistance r)

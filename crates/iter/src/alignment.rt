@@ -5,14 +5,14 @@ use bankdef::magnitude;
 use refusal::Refusal;
 ghost use mathlib.Core.Path.{_≡_};
 ghost use mathlib.Core.Bool.{true};
-ghost use Prim.Native.Nat.{_%_, _<_};
+ghost use Prim.Native.Nat.{_<_};
 ghost use Rattle.iter.specs.Distance.{tellable, addressInBits, gap, distanceOf};
 ghost use Rattle.iter.specs.Figures.{toldDistance, Measures};
-ghost use Rattle.iter.specs.Signs.{inBits};
+ghost use Rattle.iter.specs.Signs.{inBits, remainderOf};
 
-// An address in bits, where an alignment can be met only from 0 on.
+// An address in bits, on its side of 0: so many bits before it, or from it on.
 pub enum InBits {
-    Negative,
+    Below(u64),
     At(u64),
 }
 
@@ -37,7 +37,7 @@ fn address_in_bits(def: Bankdef, position: u32) -> InBits
     let at = position as u64;
     if start < 0 {
         if at < away {
-            InBits::Negative
+            InBits::Below(away - at)
         } else {
             InBits::At(at - away)
         }
@@ -46,14 +46,24 @@ fn address_in_bits(def: Bankdef, position: u32) -> InBits
     }
 }
 
-// "with r the remainder .. by A, it is 0 for r = 0 and A - r for others"
-fn gap_to(bits: u64, alignment: u32) -> u32
+// "the remainder from 0 to alignment - 1"
+fn remainder_by(bits: InBits, alignment: u32) -> u32
     requires { ⌜ 0 < alignment ⌝ }
-    ensures { λ r. ⌜ r ≡ gap (bits % alignment) alignment ⌝ }
+    ensures { λ r. ⌜ (r ≡ remainderOf bits alignment) × (r < alignment) ⌝ }
 {
     let a = alignment as u64;
-    let excess = bits % a;
-    if excess == 0 { 0 } else { (a - excess) as u32 }
+    match bits {
+        InBits::At(n) => (n % a) as u32,
+        InBits::Below(n) => ((a - n % a) % a) as u32,
+    }
+}
+
+// "with r the remainder .. by A, it is 0 for r = 0 and A - r for others"
+fn gap_to(r: u32, alignment: u32) -> u32
+    requires { ⌜ r < alignment ⌝ }
+    ensures { λ d. ⌜ d ≡ gap r alignment ⌝ }
+{
+    if r == 0 { 0 } else { alignment - r }
 }
 
 // The bits from a position to the next multiple of the alignment. `node` is the place of a refusal.
@@ -67,8 +77,6 @@ pub fn bits_until_alignment(def: Bankdef, position: u32, alignment: u32, node: u
     if alignment == 0 {
         return Distance::Bits(0);
     }
-    match address_in_bits(def, position) {
-        InBits::At(bits) => Distance::Bits(gap_to(bits, alignment)),
-        InBits::Negative => Distance::Refused(Refusal::NegativeAlignment(node)),
-    }
+    let r = remainder_by(address_in_bits(def, position), alignment);
+    Distance::Bits(gap_to(r, alignment))
 }

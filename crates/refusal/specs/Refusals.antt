@@ -1,7 +1,7 @@
 -- Document 01, "Numbers a caller gets back", and document 02 from 17 on: the number and the place of each refusal.
 use Prim.Native.Nat.{ℕ}
 use Rattle.refusal.specs.declared.Refusal.{Refusal}
-use Rattle.refusal.specs.declared.Refusal.the-variants.{BankCount, BankNumber, BanksOverlap, Malformed, PositionPast, NegativeAlignment, LabelOffBoundary, Unresolved, DefaultBank, PastBank, NoOutput, Overlap, StoreFull, TooShort, BadStore, BadPart, PartlyCovered, FillBitDropped, OffProfile}
+use Rattle.refusal.specs.declared.Refusal.the-variants.{BankCount, BankNumber, BanksOverlap, Malformed, PositionPast, LabelOffBoundary, Unresolved, DefaultBank, PastBank, NoOutput, Overlap, StoreFull, TooShort, BadStore, BadPart, PartlyCovered, FillBitDropped, OffProfile}
 use Rattle.refusal.specs.declared.Place.{Place}
 use Rattle.refusal.specs.declared.Place.the-variants.{One, Two}
 
@@ -17,8 +17,7 @@ numberOf (BanksOverlap first second) = 3
 numberOf (Malformed place) = 4
 -- "a position would pass 4,294,967,295"
 numberOf (PositionPast node) = 5
--- "a negative address in bits meets a nonzero alignment"
-numberOf (NegativeAlignment node) = 6
+-- 6, "a negative address in bits meets a nonzero alignment", is no longer given: document 02, Ticket 3
 -- "a label in the last pass is off an address boundary"
 numberOf (LabelOffBoundary node) = 7
 -- "the last pass ended unresolved"
@@ -55,7 +54,6 @@ placeOf (BankNumber bank) = One bank
 placeOf (BanksOverlap first second) = Two first second
 placeOf (Malformed place) = One place
 placeOf (PositionPast node) = One node
-placeOf (NegativeAlignment node) = One node
 placeOf (LabelOffBoundary node) = One node
 placeOf Unresolved = One 0
 placeOf (DefaultBank node) = One node

@@ -7,7 +7,7 @@ use mathlib.Core.Path.{_≡_, refl, sym, _∙_, ap}
 use native.Mathlib.Omega.{arith}
 use Rattle.refusal.specs.Refusals.{numberOf, placeOf}
 use Rattle.refusal.specs.declared.Refusal.{Refusal}
-use Rattle.refusal.specs.declared.Refusal.the-variants.{BankCount, BankNumber, BanksOverlap, Malformed, PositionPast, NegativeAlignment, LabelOffBoundary, Unresolved, DefaultBank, PastBank, NoOutput, Overlap, StoreFull, TooShort, BadStore, BadPart, PartlyCovered, FillBitDropped, OffProfile}
+use Rattle.refusal.specs.declared.Refusal.the-variants.{BankCount, BankNumber, BanksOverlap, Malformed, PositionPast, LabelOffBoundary, Unresolved, DefaultBank, PastBank, NoOutput, Overlap, StoreFull, TooShort, BadStore, BadPart, PartlyCovered, FillBitDropped, OffProfile}
 use Rattle.refusal.specs.declared.Place.{Place}
 use Rattle.refusal.specs.declared.Place.the-variants.{One, Two}
 use Rattle.refusal.specs.declared.Verdict.{Verdict}
@@ -35,7 +35,7 @@ abbrev pub toldVerdict : Verdict → Told Nothing
 toldVerdict Accepted = gives nothing
 toldVerdict (Refused r) = toldRefusal r
 
--- the refusal of a number and a place
+-- the refusal of a number and a place; 0 and 6 are no refusal's, and `BankCount` stands in for them
 abbrev firstOf : Place → ℕ
 firstOf (One p) = p
 firstOf (Two p q) = p
@@ -53,7 +53,7 @@ refusalOf n p =
     BanksOverlap (firstOf p) (secondOf p) ∷
     Malformed (firstOf p) ∷
     PositionPast (firstOf p) ∷
-    NegativeAlignment (firstOf p) ∷
+    BankCount ∷
     LabelOffBoundary (firstOf p) ∷
     Unresolved ∷
     DefaultBank (firstOf p) ∷
@@ -75,7 +75,6 @@ refusal-back (BankNumber b) = refl
 refusal-back (BanksOverlap a b) = refl
 refusal-back (Malformed p) = refl
 refusal-back (PositionPast p) = refl
-refusal-back (NegativeAlignment p) = refl
 refusal-back (LabelOffBoundary p) = refl
 refusal-back Unresolved = refl
 refusal-back (DefaultBank p) = refl
@@ -97,7 +96,6 @@ number-some (BankNumber b) = omega arith
 number-some (BanksOverlap a b) = omega arith
 number-some (Malformed p) = omega arith
 number-some (PositionPast p) = omega arith
-number-some (NegativeAlignment p) = omega arith
 number-some (LabelOffBoundary p) = omega arith
 number-some Unresolved = omega arith
 number-some (DefaultBank p) = omega arith
@@ -115,3 +113,24 @@ number-some (OffProfile a b) = omega arith
 -- Number and place tell a refusal: two that have both in common are one.
 pub refusal-by-figures : (r s : Refusal) → numberOf r ≡ numberOf s → placeOf r ≡ placeOf s → r ≡ s
 refusal-by-figures r s n p = sym (refusal-back r) ∙ ap (λ (m : ℕ). refusalOf m (placeOf r)) n ∙ ap (refusalOf (numberOf s)) p ∙ refusal-back s
+
+-- 6 is no longer given.
+pub six-never : (r : Refusal) → numberOf r ≡ 6 → ⊥
+six-never BankCount e = omega arith
+six-never (BankNumber b) e = omega arith
+six-never (BanksOverlap a b) e = omega arith
+six-never (Malformed p) e = omega arith
+six-never (PositionPast p) e = omega arith
+six-never (LabelOffBoundary p) e = omega arith
+six-never Unresolved e = omega arith
+six-never (DefaultBank p) e = omega arith
+six-never (PastBank p) e = omega arith
+six-never (NoOutput p) e = omega arith
+six-never (Overlap a b) e = omega arith
+six-never (StoreFull p) e = omega arith
+six-never (TooShort p) e = omega arith
+six-never (BadStore p) e = omega arith
+six-never BadPart e = omega arith
+six-never PartlyCovered e = omega arith
+six-never FillBitDropped e = omega arith
+six-never (OffProfile a b) e = omega arith

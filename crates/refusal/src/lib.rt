@@ -38,7 +38,6 @@ pub enum Refusal {
     BanksOverlap(u64, u64),
     Malformed(u64),
     PositionPast(u64),
-    NegativeAlignment(u64),
     LabelOffBoundary(u64),
     Unresolved,
     DefaultBank(u64),
@@ -66,7 +65,7 @@ pub enum Place {
     Two(u64, u64),
 }
 
-// The refusal's number in document 01's table, or from 17 on in document 02.
+// The refusal's number in document 01's table, or from 17 on in document 02. 6 is no longer given.
 pub fn number(r: Refusal) -> u64
     ensures { λ n. ⌜ n ≡ numberOf r ⌝ }
 {
@@ -76,7 +75,6 @@ pub fn number(r: Refusal) -> u64
         Refusal::BanksOverlap(_, _) => 3,
         Refusal::Malformed(_) => 4,
         Refusal::PositionPast(_) => 5,
-        Refusal::NegativeAlignment(_) => 6,
         Refusal::LabelOffBoundary(_) => 7,
         Refusal::Unresolved => 8,
         Refusal::DefaultBank(_) => 9,
@@ -104,7 +102,6 @@ pub fn place_of(r: Refusal) -> Place
         Refusal::BankNumber(p) => Place::One(p),
         Refusal::Malformed(p) => Place::One(p),
         Refusal::PositionPast(p) => Place::One(p),
-        Refusal::NegativeAlignment(p) => Place::One(p),
         Refusal::LabelOffBoundary(p) => Place::One(p),
         Refusal::DefaultBank(p) => Place::One(p),
         Refusal::PastBank(p) => Place::One(p),

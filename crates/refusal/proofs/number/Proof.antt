@@ -77,10 +77,6 @@ enum-told-17 c = search needs
 enum-told-18 : tie.Need-enum-told-18
 enum-told-18 c = search needs
 
--- src/lib.rt:91:38
-enum-told-19 : tie.Need-enum-told-19
-enum-told-19 c = search needs
-
 -- src/lib.rt:69:1
 returns : tie.Need-returns
 returns c = rw (c .enum-told .given .1)
@@ -153,10 +149,6 @@ returns-17 c = rw (c .enum-told17 .given .1)
 returns-18 : tie.Need-returns-18
 returns-18 c = rw (c .enum-told18 .given .1)
 
--- src/lib.rt:69:1
-returns-19 : tie.Need-returns-19
-returns-19 c = rw (c .enum-told19 .given .1)
-
 pub number-spec : {M : Type 1} → statement M
 number-spec =
     tie.close
@@ -179,7 +171,6 @@ number-spec =
     enum-told-16
     enum-told-17
     enum-told-18
-    enum-told-19
     returns
     returns-2
     returns-3
@@ -197,5 +188,4 @@ number-spec =
     returns-15
     returns-16
     returns-17
-    returns-18
-    returns-19)
+    returns-18)

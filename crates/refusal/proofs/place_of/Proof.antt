@@ -56,10 +56,6 @@ enum-known-r-12 c = search needs
 enum-known-r-13 : tie.Need-enum-known-r-13
 enum-known-r-13 c = search needs
 
--- src/lib.rt:113:27
-enum-known-r-14 : tie.Need-enum-known-r-14
-enum-known-r-14 c = search needs
-
 -- src/lib.rt:114:31
 enum-told : tie.Need-enum-told
 enum-told c = search needs
@@ -134,27 +130,23 @@ returns-13 c = rw (c .before .r13 .given .1)
 
 -- src/lib.rt:96:1
 returns-14 : tie.Need-returns-14
-returns-14 c = rw (c .before .r14 .given .1)
+returns-14 c = rw (c .enum-told .given .1)
 
 -- src/lib.rt:96:1
 returns-15 : tie.Need-returns-15
-returns-15 c = rw (c .enum-told .given .1)
+returns-15 c = rw (c .enum-told2 .given .1)
 
 -- src/lib.rt:96:1
 returns-16 : tie.Need-returns-16
-returns-16 c = rw (c .enum-told2 .given .1)
+returns-16 c = rw (c .enum-told3 .given .1)
 
 -- src/lib.rt:96:1
 returns-17 : tie.Need-returns-17
-returns-17 c = rw (c .enum-told3 .given .1)
+returns-17 c = rw (c .enum-told4 .given .1)
 
 -- src/lib.rt:96:1
 returns-18 : tie.Need-returns-18
-returns-18 c = rw (c .enum-told4 .given .1)
-
--- src/lib.rt:96:1
-returns-19 : tie.Need-returns-19
-returns-19 c = rw (c .enum-told5 .given .1)
+returns-18 c = rw (c .enum-told5 .given .1)
 
 pub place-of-spec : {M : Type 1} → statement M
 place-of-spec =
@@ -173,7 +165,6 @@ place-of-spec =
     enum-known-r-11
     enum-known-r-12
     enum-known-r-13
-    enum-known-r-14
     enum-told
     enum-told-2
     enum-told-3
@@ -196,5 +187,4 @@ place-of-spec =
     returns-15
     returns-16
     returns-17
-    returns-18
-    returns-19)
+    returns-18)

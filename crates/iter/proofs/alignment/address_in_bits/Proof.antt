@@ -36,15 +36,19 @@ cast-away c = search needs
 mul-away : tie.Need-mul-away
 mul-away c = omega (arith, small (c .before))
 
-add-t13 : tie.Need-add-t13
-add-t13 c = omega (arith, small (c .before .before))
+sub-t12 : tie.Need-sub-t12
+sub-t12 c = search needs
+
+add-t14 : tie.Need-add-t14
+add-t14 c = omega (arith, small (c .before .before))
 
 returns : tie.Need-returns
 returns c =
     let at = c .before .before .before in
-    below (at .before .before .args .def .start) _ _
+    rw (told at)
+    (below (at .before .before .args .def .start) _ _
     (ap (λ z. ltZ z (pos 0)) (sym (start-read at)) ∙ c .before .if1 .taken)
-    (rw (told at) at (c .if2 .taken))
+    (rw (told at) at (c .if2 .taken)))
 
 returns-2 : tie.Need-returns-2
 returns-2 c =
@@ -63,4 +67,4 @@ returns-3 c =
 
 pub address-in-bits-spec : {M : Type 1} → statement M
 address-in-bits-spec =
-    tie.close (tie.spec magnitude-requires cast-away mul-away add-t13 returns returns-2 returns-3)
+    tie.close (tie.spec magnitude-requires cast-away mul-away sub-t12 add-t14 returns returns-2 returns-3)

@@ -1,12 +1,15 @@
 -- The distance: each return is what the definition picks by the same tests.
 use borrow.Author.Needs.{needs}
-use mathlib.Core.Path.{_≡_, _∙_, sym}
+use Prim.Native.Nat.{ℕ}
+use mathlib.Core.Path.{_≡_, _∙_, sym, ap}
 use mathlib.Core.Bool.{true}
 use borrow.Author.Tests.{not-true, not-false}
-use Rattle.iter.specs.Distance.{tellable, addressInBits}
-use Rattle.iter.specs.Aligned.{untellable, to-none, to-some}
+use Rattle.iter.specs.Distance.{tellable, addressInBits, gap, remainder}
+use Rattle.iter.specs.Aligned.{four-when, to-none, to-some}
+use Rattle.iter.specs.Signs.{remainderOf, remainder-of}
 use Rattle.iter.specs.ToldFacts.{distance-answers}
-use Rattle.iter.proofs.Signed.{by-bits, by-sign}
+use Rattle.iter.specs.declared.alignment.InBits.{InBits}
+use Rattle.iter.specs.declared.Distance.the-variants.{Bits}
 use Rattle.iter.proofs.alignment.bits_until_alignment.Statement.{statement}
 use Rattle.iter.proofs.alignment.bits_until_alignment.Tie as tie
 
@@ -14,7 +17,7 @@ is-tellable-requires : tie.Need-is-tellable-requires
 is-tellable-requires c κs = search needs
 
 returns : tie.Need-returns
-returns c = distance-answers _ _ _ _ (sym (untellable _ _ _ _ (sym (c .before .is-tellable .ensures) ∙ not-true _ (c .if1 .taken))))
+returns c = distance-answers _ _ _ _ (sym (four-when _ _ _ _ (sym (c .before .is-tellable .ensures) ∙ not-true _ (c .if1 .taken))))
 
 -- past the first test
 tells : (c : tie.Else1) → tellable (c .before .before .args .def) ≡ true
@@ -26,32 +29,21 @@ returns-2 c = distance-answers _ _ _ _ (sym (to-none _ _ _ _ (tells (c .before))
 address-in-bits-requires : tie.Need-address-in-bits-requires
 address-in-bits-requires c κs = tells (c .before)
 
-enum-known-bits : tie.Need-enum-known-bits
-enum-known-bits c = search needs
+remainder-by-requires : tie.Need-remainder-by-requires
+remainder-by-requires c κs = search needs
 
 gap-to-requires : tie.Need-gap-to-requires
-gap-to-requires c κs = search needs
-
-enum-told : tie.Need-enum-told
-enum-told c = search needs
+gap-to-requires c κs = c .remainder-by .ensures .1
 
 returns-3 : tie.Need-returns-3
 returns-3 c =
-    let at = c .before .before .before .before in
-    let args = at .before .before .before .before .args in
+    let at = c .before .before .before in
+    let a = at .before .before .before .args in
+    let r : c .before .remainder-by .result ≡ remainder (addressInBits (a .def) (a .position)) (a .alignment) =
+    c .before .remainder-by .ensures .0 ∙ ap (λ (b : InBits). remainderOf b (a .alignment)) (c .before .before .address-in-bits .ensures)
+    ∙ remainder-of (addressInBits (a .def) (a .position)) (a .alignment) in
     distance-answers _ _ _ _
-    (rw (c .gap-to .ensures)
-    (by-bits (addressInBits (args .def) (args .position)) (args .alignment) (args .node) _ (sym (c .before .before .bits .given .1)
-    ∙ at .address-in-bits .ensures)
-    ∙ sym (to-some _ _ _ _ (tells (at .before .before)) (at .before .if2 .left))))
-
-returns-4 : tie.Need-returns-4
-returns-4 c =
-    let at = c .before .before in
-    let args = at .before .before .before .before .args in
-    distance-answers _ _ _ _
-    (by-sign (addressInBits (args .def) (args .position)) (args .alignment) (args .node) (sym (c .enum-told .given .1) ∙ at .address-in-bits .ensures)
-    ∙ sym (to-some _ _ _ _ (tells (at .before .before)) (at .before .if2 .left)))
+    (ap (λ (d : ℕ). Bits d) (c .gap-to .ensures ∙ ap (λ (x : ℕ). gap x (a .alignment)) r) ∙ sym (to-some _ _ _ _ (tells (at .before)) (at .if2 .left)))
 
 pub bits-until-alignment-spec : {M : Type 1} → statement M
 bits-until-alignment-spec =
@@ -61,8 +53,6 @@ bits-until-alignment-spec =
     returns
     returns-2
     address-in-bits-requires
-    enum-known-bits
+    remainder-by-requires
     gap-to-requires
-    enum-told
-    returns-3
-    returns-4)
+    returns-3)

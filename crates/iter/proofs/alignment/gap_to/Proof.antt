@@ -1,19 +1,11 @@
--- The distance by the remainder: the remainder is below the alignment, and the definition picks by the same test.
+-- The distance by the remainder: the definition picks by the same test.
 use borrow.Author.Needs.{needs}
-use native.Mathlib.Nat.{mod-lt}
-use native.Mathlib.Omega.{arith}
 use borrow.Author.Tests.{eq-eqb, ne-eqb}
 use Rattle.iter.proofs.alignment.gap_to.Statement.{statement}
 use Rattle.iter.proofs.alignment.gap_to.Tie as tie
 
-rem-excess : tie.Need-rem-excess
-rem-excess c = search needs
-
 sub-result : tie.Need-sub-result
-sub-result c = omega (arith, mod-lt (c .before .args .bits) (c .before .pre))
-
-cast-result : tie.Need-cast-result
-cast-result c = search needs
+sub-result c = search needs
 
 returns : tie.Need-returns
 returns c = rw (eq-eqb _ _ (c .if1 .taken))
@@ -22,4 +14,4 @@ returns-2 : tie.Need-returns-2
 returns-2 c = rw (ne-eqb _ _ (c .if1 .left))
 
 pub gap-to-spec : {M : Type 1} → statement M
-gap-to-spec = tie.close (tie.spec rem-excess sub-result cast-result returns returns-2)
+gap-to-spec = tie.close (tie.spec sub-result returns returns-2)
