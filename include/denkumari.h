@@ -29,7 +29,7 @@ enum dk_refusal {
     DK_MALFORMED = 4,          /* a count, kind, bank number, state or value range is bad; place: the node, or 0, 1 for the count of nodes,
                                   of rows. Of a file of form 1 that is broken: the first field that is, from 0. In dk_blocks, dk_hex: 0 */
     DK_POSITION_PAST = 5,      /* a position would pass 4,294,967,295; place: the node */
-    DK_NEGATIVE_ALIGNMENT = 6, /* a negative address meets an alignment other than 0; place: the node */
+    DK_NEGATIVE_ALIGNMENT = 6, /* no longer given: alignments are met below address 0 too */
     DK_LABEL_OFF_BOUNDARY = 7, /* a label in the last pass is between two addresses; place: the node */
     DK_UNRESOLVED = 8,         /* the last pass ended unresolved; place 0 */
     DK_DEFAULT_BANK = 9,       /* bank 0 is used though there are others; place: the node */

@@ -49,6 +49,8 @@ def verdict(rust, other, documents=None):
         return head(rust), rust == other
     reason, _, said = rust.removeprefix("nosay ").partition(" ; ")
     agrees = documents is None or other == documents
+    if reason == "below":
+        return "no say: alignment below zero", agrees
     if reason != "empty":
         return f"no say: {reason}", agrees and head(other) == f"refused {reason}"
     return f"no say: empty placement, {'the same anyway' if other == said else 'departing'}", agrees

@@ -45,6 +45,15 @@ def several_banks():
     return one_row(banks, entries, bytes.fromhex("0e004012340010004600b40168aaaa7f0001"))
 
 
+def stack_below_zero():
+    """A stack that is numbered downwards from address 0, with its frames aligned below zero: from bit -40 the next multiple of
+    32 is bit -32, eight bits on, and the last frame ends at address 0."""
+    entries = [
+        (SWITCH, 1), (LABEL, 0), (INSTRUCTION, 0, 16),
+        (SWITCH, 2), (LABEL, 0), (DATA, 16, 8), (ALIGN, 0, 32), (LABEL, 0), (DATA, 24, 32)]
+    return one_row([Bank(), Bank(8, 0x0100, 64, 0), Bank(8, -6, 48, 64)], entries, bytes.fromhex("0e4001a5deadbe"))
+
+
 def several_passes():
     """A jump that is guessed long, then short: the labels behind it move, then stand still. Three passes and a last one."""
     nodes = [(SWITCH, 1), (LABEL, 0), (INSTRUCTION, 0), (LABEL, 0), (DATA, 24), (CONSTANT, 0), (LABEL, 0), (ASSERT, 0)]
@@ -64,6 +73,7 @@ EXAMPLES = {
     "clamp-mark-before": ("the same lines with the mark before the table", clamp(MARK_BEFORE)),
     "clamp-apart": ("the same with the second table behind the first, as it was meant", clamp(MARK_AFTER, 128)),
     "banks": ("code, curves, memory without output and a stack below address 0, in four banks", several_banks()),
+    "stack": ("a stack that is numbered downwards from address 0, with an alignment below zero", stack_below_zero()),
     "passes": ("a jump that turns out short, so that labels move in the second pass and stand still in the third", several_passes()),
     "past-the-end": ("a table that ends one bit past its bank", past_the_end()),
 }

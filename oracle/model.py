@@ -154,15 +154,13 @@ def sound_node(i, kind, operand, layout, value_bits):
 
 # The walk ---------------------------------------------------------------------------------------------------------------
 # "The distance to alignment A is 0 for A = 0. Otherwise, with r the remainder of start × unit + position by A, it is 0 for
-# r = 0 and A - r for others."
+# r = 0 and A - r for others." Document 02, Ticket 3: "Use the remainder from 0 to alignment - 1".
 
-def distance(bank, position, alignment, node):
+def distance(bank, position, alignment):
     if alignment == 0:
         return 0
-    address_in_bits = bank.start * bank.unit + position
-    if address_in_bits < 0:
-        raise Refused(6, node)
-    return -address_in_bits % alignment
+    remainder = (bank.start * bank.unit + position) % alignment
+    return 0 if remainder == 0 else alignment - remainder
 
 
 def row_of(layout, n):
@@ -192,7 +190,7 @@ class Pass:
             # "A node sees its bank's position before its own advance, except that a symbol (label or constant) of depth 0 in
             # a bank with label alignment is aligned first."
             if (kind == LABEL or kind == CONSTANT) and operand == 0 and bank.align is not None:
-                self.move(current, self.positions[current] + distance(bank, self.positions[current], bank.align, i), i)
+                self.move(current, self.positions[current] + distance(bank, self.positions[current], bank.align), i)
             self.seen.append((current, self.positions[current]))
             if kind == LABEL:
                 state = self.label_state(i, bank, current, is_last, before)
@@ -216,7 +214,7 @@ class Pass:
         if INSTRUCTION <= kind <= RESERVE:
             self.move(current, position + number, i)
         elif kind == ALIGN:
-            self.move(current, position + distance(bank, position, number, i), i)
+            self.move(current, position + distance(bank, position, number), i)
         elif kind == ADDR:
             self.move(current, number, i)
             self.known[current] = state == RESOLVED

@@ -24,7 +24,7 @@ LIST = compare.HERE / "replay" / "cases.tsv"
 # So many cases of each answer.
 WANTED = {
     "ok": 130, "refused 3": 25, "refused 7": 30, "refused 8": 30, "refused 9": 20, "refused 10": 30, "refused 11": 20,
-    "refused 12": 50, "no say: 1": 6, "no say: 2": 12, "no say: 4": 45, "no say: 5": 14, "no say: 6": 14, "no say: 14": 6,
+    "refused 12": 50, "no say: 1": 6, "no say: 2": 12, "no say: 4": 45, "no say: 5": 14, "no say: alignment below zero": 24, "no say: 14": 6,
     "no say: empty placement, departing": 20, "no say: empty placement, the same anyway": 14}
 
 

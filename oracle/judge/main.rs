@@ -245,8 +245,8 @@ impl Case {
         if !raw {
             let mut scout = Case::new(file, true);
             let _ = scout.resolve(file, true);
-            if let Some((number, _)) = scout.report.no_say {
-                return format!("nosay {}", number);
+            if let Some((reason, _)) = scout.report.no_say {
+                return format!("nosay {}", reason);
             }
         }
 

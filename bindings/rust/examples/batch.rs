@@ -42,7 +42,6 @@ fn refused(why: Refusal) -> String {
         Refusal::Unresolved { passes } => ("0".to_string(), Some(passes)),
         Refusal::TooShort { buffer, passes } => ((buffer as u8).to_string(), Some(passes)),
         Refusal::PositionPast { node, passes }
-        | Refusal::NegativeAlignment { node, passes }
         | Refusal::LabelOffBoundary { node, passes }
         | Refusal::DefaultBank { node, passes }
         | Refusal::PastBank { node, passes }

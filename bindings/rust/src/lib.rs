@@ -103,7 +103,7 @@ pub enum Buffer {
     Hex,
 }
 
-/// Why a call was refused. A refused call leaves everything lent as it was. `node` and `bank` count from 0, `passes` is how many passes ran.
+/// Why a call was refused. A refused call leaves everything lent as it was. Number 6 is no longer given. `node` and `bank` count from 0, `passes` is how many passes ran.
 #[derive(Clone, Copy, Debug, PartialEq, Eq)]
 #[allow(missing_docs)]
 pub enum Refusal {
@@ -117,8 +117,6 @@ pub enum Refusal {
     Malformed { place: u64 },
     /// 5: a position would pass 4,294,967,295.
     PositionPast { node: u64, passes: u64 },
-    /// 6: a negative address meets an alignment other than 0.
-    NegativeAlignment { node: u64, passes: u64 },
     /// 7: a label in the last pass is between two addresses.
     LabelOffBoundary { node: u64, passes: u64 },
     /// 8: the last pass ended unresolved.
@@ -150,7 +148,6 @@ impl Refusal {
             Refusal::BanksOverlap { .. } => 3,
             Refusal::Malformed { .. } => 4,
             Refusal::PositionPast { .. } => 5,
-            Refusal::NegativeAlignment { .. } => 6,
             Refusal::LabelOffBoundary { .. } => 7,
             Refusal::Unresolved { .. } => 8,
             Refusal::DefaultBank { .. } => 9,
@@ -172,7 +169,6 @@ impl Refusal {
             3 => Refusal::BanksOverlap { first: place, second },
             4 => Refusal::Malformed { place },
             5 => Refusal::PositionPast { node, passes },
-            6 => Refusal::NegativeAlignment { node, passes },
             7 => Refusal::LabelOffBoundary { node, passes },
             8 => Refusal::Unresolved { passes },
             9 => Refusal::DefaultBank { node, passes },

@@ -27,7 +27,7 @@ pub struct Report {
     /// Whether a case ends where the Rust stops having a say.
     pub strict: bool,
     /// The refusal of document 01 that the Rust does not have, and its node.
-    pub no_say: Option<(u32, usize)>,
+    pub no_say: Option<(&'static str, usize)>,
 }
 
 impl Report {
@@ -57,10 +57,11 @@ impl Report {
 
     pub fn pop_parent(&mut self) {}
 
-    /// Document 01 refuses here and the Rust does not. Where the report is strict the case ends.
-    pub fn leaves_domain(&mut self, number: u32, span: Span) -> Result<(), ()> {
+    /// Here the Rust has no say: `reason` is the number of a refusal that it does not have, or `below` for an alignment of an
+    /// address below zero. Where the report is strict the case ends.
+    pub fn leaves_domain(&mut self, reason: &'static str, span: Span) -> Result<(), ()> {
         if self.no_say.is_none() {
-            self.no_say = Some((number, span.node));
+            self.no_say = Some((reason, span.node));
         }
 
         if self.strict {

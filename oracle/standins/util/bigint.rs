@@ -106,7 +106,7 @@ impl BigInt {
         }
 
         if self.negative {
-            report.leaves_domain(6, span)?;
+            report.leaves_domain("below", span)?;
         }
 
         Ok(BigInt::from_dense(self.negative, &remainder(&self.dense(), &rhs.dense())))

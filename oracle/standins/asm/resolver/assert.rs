@@ -33,7 +33,7 @@ pub fn resolve_assert(
 /// A position past the limit is document 01's refusal 5.
 pub fn watch(report: &mut diagn::Report, span: diagn::Span, ctx: &asm::ResolverContext) -> Result<(), ()> {
     if ctx.bank_data.cur_position > asm::MAX_POSITION {
-        report.leaves_domain(5, span)?;
+        report.leaves_domain("5", span)?;
     }
 
     Ok(())
