@@ -54,7 +54,8 @@ same-length-2 c = search needs
 returns-2 : tie.Need-returns-2
 returns-2 c =
     rw (image-some
-    (c .before .before .before .before .before .before .before .before .before .before .before .before .before .before .before .before .before .args .hex .now) (c .before .before .before .before .before .before .before .before .before .before .before .before .before .before .if1 .left))
+    (c .before .before .before .before .before .before .before .before .before .before .before .before .before .before .before .before .before .args .hex
+    .now) (c .before .before .before .before .before .before .before .before .before .before .before .before .before .before .if1 .left))
     (writes-then (writes-then (c .before .before .before .before .before .before .before .before .before .before .before .write-word2 .ensures)
     (c .before .before .before .before .before .before .before .write-word3 .ensures)) (c .before .before .write-word4 .ensures))
 
