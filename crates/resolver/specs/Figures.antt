@@ -5,18 +5,18 @@ use mathlib.Core.Bool.{Bool, true}
 use mathlib.Core.Logic.{_↔_}
 use lib.ListN.{length}
 use Rattle.refusal.specs.Told.{Told, gives, refuses, toldRefusal}
+use Rattle.refusal.specs.declared.Place.{Place}
 use Rattle.refusal.specs.declared.Place.the-variants.{One}
 use Rattle.refusal.specs.declared.Refusal.{Refusal}
-use Rattle.refusal.specs.declared.Refusal.the-variants.{Malformed, NegativeAlignment}
+use Rattle.refusal.specs.declared.Refusal.the-variants.{Malformed}
 use Rattle.refusal.specs.declared.Verdict.{Verdict}
 use Rattle.refusal.specs.declared.Verdict.the-variants.{Accepted, Refused as TurnedAway}
 use Rattle.bankdef.specs.Check.{checkOf}
 use Rattle.bankdef.specs.declared.Bankdefs.{Bankdefs}
-use Rattle.iter.specs.declared.Moved.the-variants.{Refused as Stopped}
 use Rattle.resolver.specs.Ends.{Runs, RunsLast}
 use Rattle.resolver.specs.Layout.{Checked}
 use Rattle.resolver.specs.Lists.{Lists, listsOf}
-use Rattle.resolver.specs.NodeOrder.{seenAt, defAt, OffBoundary, GoesPast}
+use Rattle.resolver.specs.NodeOrder.{defAt, OffBoundary, GoesPast}
 use Rattle.resolver.specs.Once.{walkTo}
 use Rattle.resolver.specs.PassStates.{nodeIn}
 use Rattle.resolver.specs.Passes.{program, rowOfPass, passAt}
@@ -25,16 +25,6 @@ use Rattle.resolver.specs.Run.{IsK, Settles, runOf}
 use Rattle.resolver.specs.Told.{toldSettled}
 use Rattle.resolver.specs.declared.Pass.the-variants.{State}
 use Rattle.resolver.specs.declared.Resolution.{Resolution}
-
--- Node i stops the walk of pass `pass`, with `why`, and the pass has gone past every node before it. The pass is one that runs.
-pub record StopsFirst (banks : Bankdefs) (l : Lists) (m i : ℕ) (why : Refusal) : Type 0 where
-  pub checked : Checked banks l
-  pub pass : ℕ
-  pub isLast : Bool
-  pub runs : Runs (passAt banks l) m pass isLast
-  pub listed : i < length (l .kinds)
-  pub here : seenAt (program banks l) (rowOfPass l pass) i ≡ Stopped why
-  pub before : (j : ℕ) → j < i → GoesPast (program banks l) (rowOfPass l pass) isLast j
 
 -- "5: a position would pass 4,294,967,295": at node i of a pass that runs, and the pass has gone past every node before it.
 pub record PastFirst (banks : Bankdefs) (l : Lists) (m i : ℕ) : Type 0 where
@@ -70,8 +60,7 @@ pub record SettlesAt (banks : Bankdefs) (l : Lists) (m k n : ℕ) : Type 0 where
   pub last : Settles (passAt banks l n true)
 
 -- What a layout's answer tells, in figures. "Order: 1, 2 by ascending bank, 3, then 4 .. Then each pass in node order meets 5, 6 and 7, and 8 at
--- its end." "Refusals 5 to 14 of a
--- layout carry the passes run too, a refusing pass included."
+-- its end." "Refusals 5 to 14 of a layout carry the passes run too, a refusing pass included."
 pub record Figures (banks : Bankdefs) (l : Lists) (m : ℕ) (r : Resolution) : Type 0 where
   -- the table's refusal comes first, then the lists', and no pass is run
   pub table : (why : Refusal) → checkOf banks ≡ TurnedAway why → (toldSettled (r .settled) ≡ toldRefusal why) × (r .passes ≡ 0)
@@ -82,12 +71,12 @@ pub record Figures (banks : Bankdefs) (l : Lists) (m : ℕ) (r : Resolution) : T
       → (place : ℕ)
       → (toldSettled (r .settled) ≡ refuses 4 (One place)) ↔ ((checkOf banks ≡ Accepted) × (listsOf (banks .len) l ≡ TurnedAway (Malformed place)))
   pub five : (i : ℕ) → (toldSettled (r .settled) ≡ refuses 5 (One i)) ↔ PastFirst banks l m i
-  pub six : (i : ℕ) → (toldSettled (r .settled) ≡ refuses 6 (One i)) ↔ StopsFirst banks l m i (NegativeAlignment i)
+  -- "6 is no longer given" (document 02, Ticket 3)
+  pub six : (place : Place) → toldSettled (r .settled) ≡ refuses 6 place → ⊥
   pub seven : (i : ℕ) → (toldSettled (r .settled) ≡ refuses 7 (One i)) ↔ OffInLast banks l m i
   pub eight : (toldSettled (r .settled) ≡ refuses 8 (One 0)) ↔ LastUnresolved banks l m
   -- the pass that refuses is the last that is run
   pub run-five : (i : ℕ) (s : PastFirst banks l m i) → r .passes ≡ s .pass
-  pub run-six : (i : ℕ) (s : StopsFirst banks l m i (NegativeAlignment i)) → r .passes ≡ s .pass
   pub run-seven : (i : ℕ) (s : OffInLast banks l m i) → r .passes ≡ s .pass
   pub run-eight : (s : LastUnresolved banks l m) → r .passes ≡ s .pass
   -- "The answer holds K and the number of passes run"

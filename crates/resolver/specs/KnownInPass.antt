@@ -1,6 +1,6 @@
 -- Known-ness through a pass: "4, 6, 7, 8 keep it only if state is 0; 5 and symbols leave it; 9 makes it so exactly if state is 0". A bank's
--- position is known before a node exactly
--- when each earlier node of that bank that takes known-ness away is followed, still before the node, by an `addr` of state 0 there.
+-- position is known before a node exactly when each earlier node of that bank that takes known-ness away is followed, still before the node, by an
+-- `addr` of state 0 there.
 use Prim.Native.Nat.{ℕ, zero, suc, _≤_, _<_}
 use mathlib.Core.Path.{_≡_, refl, sym, _∙_, ap, subst}
 use mathlib.Core.Bool.{Bool, true, false}

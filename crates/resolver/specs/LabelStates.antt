@@ -1,6 +1,5 @@
 -- The state of a label in a pass: "a label is resolved when its position is known and on a boundary, stable when its address equals that of the
--- pass before (never in
--- pass 1), unresolved otherwise". It is held against the pass before, in the same bank.
+-- pass before (never in pass 1), unresolved otherwise". It is held against the pass before, in the same bank.
 use Prim.Native.Nat.{ℕ, zero, suc, _+_, _-_, _%_, _<_, _≤_, max}
 use mathlib.Core.Path.{_≡_, refl, sym, _∙_, ap, subst}
 use mathlib.Core.Bool.{Bool, true, false, not, _&&_}

@@ -111,8 +111,7 @@ rowCountSound l =
     leb 1 (l .rows) && (leb (l .rows) maxRows && (eqb (length (l .numbers)) cells && eqb (length (l .states)) cells))
 
 -- "then 4: node count, row count, limit, then the lowest node, its kind, operand and rows in order." "field 0, 1, 2 for node count, row count,
--- limit". The lists must be as long as the counts
--- say. The limit is a byte, so 0 to 255 by its type.
+-- limit". The lists must be as long as the counts say. The limit is a byte, so 0 to 255 by its type.
 unfoldable pub listsOf : ℕ → Lists → Verdict
 listsOf banks l =
     pick (nodeCountSound l)

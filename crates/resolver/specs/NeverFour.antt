@@ -51,7 +51,6 @@ module _ (def : Bankdef) (tells : tellable def ≡ true) where
   measured-not (told.malformed h) e = clash tells h
   measured-not (told.none h z) e = omega arith
   measured-not (told.next h k d a) e = omega arith
-  measured-not (told.negative m) e = omega arith
 
   distance-not : (position a node : ℕ) (why : Refusal) → distanceOf def position a node ≡ NoDistance why → numberOf why ≡ 4 → ⊥
   distance-not position a node why e n =

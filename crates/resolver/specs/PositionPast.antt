@@ -1,6 +1,5 @@
 -- "5: a position would pass 4,294,967,295", of the walk of a pass: the walk is stopped for 5 at a node exactly when the bits that the node adds,
--- or those to the label
--- alignment of a symbol, would take its bank's position past the limit; and no position of the walk ever is past it.
+-- or those to the label alignment of a symbol, would take its bank's position past the limit; and no position of the walk ever is past it.
 use Prim.Native.Nat.{ℕ, zero, suc, _<_, _≤_, zero-le}
 use mathlib.Core.Path.{_≡_, refl, sym, _∙_, ap}
 use mathlib.Core.Bool.{Bool, true, false, _&&_, _||_}

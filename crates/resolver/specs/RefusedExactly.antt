@@ -1,6 +1,6 @@
--- Refusals 5, 6, 7 and 8 of a layout, each exactly when document 01 gives it, told by number and place. "Then each pass in node order meets 5, 6 and 7,
--- and 8 at its end": a layout that passes its checks is refused at the first node that a pass meets one at, in the first pass that does, and for 8 only
--- where the last pass has gone past every node.
+-- Refusals 4, 5, 7 and 8 of a layout and its K, each exactly when document 01 gives it, told by number and place. "Then each pass in node order
+-- meets 5, 6 and 7, and 8 at its end": a layout that passes its checks is refused at the first node that a pass meets one at, in the first pass
+-- that does, and for 8 only where the last pass has gone past every node.
 use Prim.Native.Nat.{ℕ, zero, suc, _+_, _-_, _<_, _≤_, max}
 use mathlib.Core.Path.{_≡_, refl, sym, _∙_, ap, subst}
 use mathlib.Core.Bool.{Bool, true, false, _&&_}
@@ -12,10 +12,11 @@ use borrow.Author.Tests.{eqb-true, eqb-false, ne-eqb, eq-eqb, lt-ltb}
 use Rattle.refusal.specs.Limits.{maxNodes, maxRows}
 use Rattle.refusal.specs.Pick.{pick}
 use Rattle.refusal.specs.Refusals.{numberOf, placeOf}
-use Rattle.refusal.specs.Told.{Told, gives, refuses}
+use Rattle.refusal.specs.Told.{Told, gives, refuses, six-never}
+use Rattle.refusal.specs.declared.Place.{Place}
 use Rattle.refusal.specs.declared.Place.the-variants.{One}
 use Rattle.refusal.specs.declared.Refusal.{Refusal}
-use Rattle.refusal.specs.declared.Refusal.the-variants.{BankCount, BankNumber, BanksOverlap, Malformed, PositionPast, NegativeAlignment, LabelOffBoundary, Unresolved}
+use Rattle.refusal.specs.declared.Refusal.the-variants.{BankCount, BankNumber, BanksOverlap, Malformed, PositionPast, LabelOffBoundary, Unresolved}
 use Rattle.refusal.specs.declared.Verdict.{Verdict}
 use Rattle.refusal.specs.declared.Verdict.the-variants.{Accepted, Refused as TurnedAway}
 use Rattle.bankdef.specs.Check.{checkOf}
@@ -25,7 +26,7 @@ use Rattle.iter.specs.declared.Moved.{Moved}
 use Rattle.iter.specs.declared.Moved.the-variants.{To, Refused as Stopped}
 use Rattle.resolver.specs.Ends.{Runs, RunsLast, SettlesBelow, atLimit, Ending, early, last, ends, last-decides, refused-before, settled-below, settled-limit}
 use Rattle.resolver.specs.Answer.{accepted-layout}
-use Rattle.resolver.specs.Figures.{StopsFirst, PastFirst, OffInLast, LastUnresolved, SettlesAt, Figures}
+use Rattle.resolver.specs.Figures.{PastFirst, OffInLast, LastUnresolved, SettlesAt, Figures}
 use Rattle.resolver.specs.Layout.{unless, layoutOf, Checked}
 use Rattle.resolver.specs.NeverFour.{never-four}
 use Rattle.resolver.specs.Run.{Settles, at-zero}
@@ -41,6 +42,16 @@ use Rattle.resolver.specs.declared.Pass.the-variants.{State, Refused as 
 use Rattle.resolver.specs.declared.Settled.{Settled}
 use Rattle.resolver.specs.declared.Settled.the-variants.{At, Refused}
 use Rattle.resolver.specs.declared.Resolution.{Resolution}
+
+-- Node i stops the walk of pass `pass`, with `why`, and the pass has gone past every node before it. The pass is one that runs.
+pub record StopsFirst (banks : Bankdefs) (l : Lists) (m i : ℕ) (why : Refusal) : Type 0 where
+  pub checked : Checked banks l
+  pub pass : ℕ
+  pub isLast : Bool
+  pub runs : Runs (passAt banks l) m pass isLast
+  pub listed : i < length (l .kinds)
+  pub here : seenAt (program banks l) (rowOfPass l pass) i ≡ Stopped why
+  pub before : (j : ℕ) → j < i → GoesPast (program banks l) (rowOfPass l pass) isLast j
 
 -- ---- the checks before any pass
 
@@ -104,13 +115,11 @@ refused-last k (Failed w) e = inl (ap Failed (settled-same e))
 -- the number and the place of what stops a walk at node j
 refusable-place : (j : ℕ) (why : Refusal) → Refusable j why → placeOf why ≡ One j
 refusable-place j why (inl e) = rw e
-refusable-place j why (inr (inl e)) = rw e
-refusable-place j why (inr (inr e)) = rw e
+refusable-place j why (inr e) = rw e
 
 refusable-number : (j : ℕ) (why : Refusal) → Refusable j why → numberOf why ≤ 6
 refusable-number j why (inl e) = rw e (omega arith)
-refusable-number j why (inr (inl e)) = rw e (omega arith)
-refusable-number j why (inr (inr e)) = rw e (omega arith)
+refusable-number j why (inr e) = rw e (omega arith)
 
 one-same : {i j : ℕ} → One i ≡ One j → i ≡ j
 one-same e = cc
@@ -188,7 +197,7 @@ module _ (banks : Bankdefs) (l : Lists) (m : ℕ) where
       → toldSettled (layoutOf banks l m .settled) ≡ refuses (numberOf why) (placeOf why)
   settled-as why e = rw e
 
-  -- ---- 5 and 6
+  -- ---- 5
 
   stopped-first : (i : ℕ) (why : Refusal) → numberOf why ≤ 6 → placeOf why ≡ One i → Checked banks l → Refusing why → StopsFirst banks l m i why
   stopped-first i why low place c (meeting n isLast j r f) =
@@ -235,12 +244,16 @@ module _ (banks : Bankdefs) (l : Lists) (m : ℕ) where
     λ s. settled-as (PositionPast i) (stops-decides i (PositionPast i) (first-past i s)),
   )
 
-  -- 6 exactly when such a pass meets, before anything else, a node where an alignment meets a negative address.
-  pub six-exactly : (i : ℕ) → (toldSettled (layoutOf banks l m .settled) ≡ refuses 6 (One i)) ↔ StopsFirst banks l m i (NegativeAlignment i)
-  six-exactly i = (
-    λ e. let h = told (NegativeAlignment i) (omega arith) e in stopped-first i (NegativeAlignment i) (omega arith) refl (h .0) (h .1),
-    λ s. settled-as (NegativeAlignment i) (stops-decides i (NegativeAlignment i) s),
-  )
+  -- "6 is no longer given" (document 02, Ticket 3)
+  pub six-not-given : (place : Place) → toldSettled (layoutOf banks l m .settled) ≡ refuses 6 place → ⊥
+  six-not-given place e = never (layoutOf banks l m .settled) e
+    where
+      number-is : {n p : ℕ} {x y : Place} → _≡_ {A = Told ℕ} (refuses n x) (refuses p y) → n ≡ p
+      number-is e = cc
+
+      never : (x : Settled) → toldSettled x ≡ refuses 6 place → ⊥
+      never (At k) e = let z : _≡_ {A = ℕ} 0 1 = cc in omega arith
+      never (Refused why) e = six-never why (number-is e)
 
   -- ---- 7
 
@@ -447,11 +460,10 @@ module _ (banks : Bankdefs) (l : Lists) (m : ℕ) where
     lists = λ why e f. (settled-as why (lists-next why e f), run-of (lists-next why e f));
     four = four-exactly;
     five = five-exactly;
-    six = six-exactly;
+    six = six-not-given;
     seven = seven-exactly;
     eight = eight-exactly;
     run-five = λ i s. run-of (stops-decides i (PositionPast i) (first-past i s));
-    run-six = λ i s. run-of (stops-decides i (NegativeAlignment i) s);
     run-seven = λ i s. run-of (off-decides i s);
     run-eight = λ s. run-of (ending-decides s);
     accepted = K-exactly;

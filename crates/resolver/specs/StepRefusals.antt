@@ -1,19 +1,18 @@
--- What a step can be refused for, 4, 5 or 6, and that the place is the node's own number.
-use Prim.Native.Nat.{ℕ, _+_, _%_}
+-- What a step can be refused for, 4 or 5, and that the place is the node's own number.
+use Prim.Native.Nat.{ℕ, _+_}
 use mathlib.Core.Path.{_≡_, refl, subst}
 use mathlib.Core.Bool.{Bool, true, false}
 use mathlib.Core.Logic.{_⊎_, inl, inr}
 use native.Mathlib.Omega.{arith}
-use lib.Dec.{eqb, leb}
-use lib.IntN.{ℤ, pos, negsuc}
+use lib.Dec.{leb}
 use Rattle.refusal.specs.Limits.{maxPosition}
 use Rattle.refusal.specs.Pick.{pick}
 use Rattle.refusal.specs.declared.Refusal.{Refusal}
-use Rattle.refusal.specs.declared.Refusal.the-variants.{Malformed, PositionPast, NegativeAlignment}
+use Rattle.refusal.specs.declared.Refusal.the-variants.{Malformed, PositionPast}
 use Rattle.refusal.specs.declared.Opt.{Opt}
 use Rattle.refusal.specs.declared.Opt.the-variants.{None, Some}
 use Rattle.bankdef.specs.declared.Bankdef.{Bankdef}
-use Rattle.iter.specs.Distance.{tellable, addressInBits, gap, toAlignment, distanceOf}
+use Rattle.iter.specs.Distance.{tellable, addressInBits, distanceTo, distanceOf}
 use Rattle.iter.specs.Step.{movedBy, movedByDistance, alignedTo, outermostSymbol, labelAligned, seenOf, movedOn, advancedOf, steppedTo, steppedFrom, stepOf}
 use Rattle.iter.specs.declared.Distance.{Distance}
 use Rattle.iter.specs.declared.Distance.the-variants.{Bits, Refused as NoDistance}
@@ -24,9 +23,9 @@ use Rattle.iter.specs.declared.Pos.{Pos}
 use Rattle.iter.specs.declared.Stepped.{Stepped}
 use Rattle.iter.specs.declared.Walk.{Walk}
 
--- 4, 5 or 6, at node i
+-- 4 or 5, at node i
 abbrev pub Refusable : ℕ → Refusal → Type 0
-Refusable i why = (why ≡ Malformed i) ⊎ ((why ≡ PositionPast i) ⊎ (why ≡ NegativeAlignment i))
+Refusable i why = (why ≡ Malformed i) ⊎ (why ≡ PositionPast i)
 
 -- what a move, or a distance, is refused for is one of those
 record MoveOk (i : ℕ) (m : Moved) : Type 0 where
@@ -69,21 +68,16 @@ module _ (i : ℕ) where
   untold-ok : (why : Refusal) → Refusable i why → DistanceOk i (NoDistance why)
   untold-ok why h = record { refusable = λ other e. subst (Refusable i) (no-distance e) h }
 
-  by-sign : (z : ℤ) (a : ℕ) → DistanceOk i (toAlignment z a i)
-  by-sign (pos n) a = told-ok (gap (n % a) a)
-  by-sign (negsuc n) a = untold-ok (NegativeAlignment i) (inr (inr refl))
-
   distance-ok : (def : Bankdef) (position a : ℕ) → DistanceOk i (distanceOf def position a i)
   unfolding distanceOf
   distance-ok def position a =
-      choice-distance i (tellable def) (pick (eqb a 0) (Bits 0) (toAlignment (addressInBits def position) a i)) (NoDistance (Malformed i))
-      (choice-distance i (eqb a 0) (Bits 0) (toAlignment (addressInBits def position) a i) (told-ok 0) (by-sign (addressInBits def position) a))
-      (untold-ok (Malformed i) (inl refl))
+      choice-distance i (tellable def) (Bits (distanceTo (addressInBits def position) a)) (NoDistance (Malformed i))
+      (told-ok (distanceTo (addressInBits def position) a)) (untold-ok (Malformed i) (inl refl))
 
   sum-ok : (at : Pos) (bits : ℕ) (known : Bool) → MoveOk i (movedBy at bits known i)
   sum-ok at bits known =
       choice-move i (leb (at .position + bits) maxPosition) (To (record { position = at .position + bits; known = known })) (Stopped (PositionPast i)) (to-ok _)
-      (stopped-ok (PositionPast i) (inr (inl refl)))
+      (stopped-ok (PositionPast i) (inr refl))
 
   by-distance : (at : Pos) (known : Bool) (d : Distance) → DistanceOk i d → MoveOk i (movedByDistance at d known i)
   by-distance at known (Bits d) h = sum-ok at d known
@@ -119,6 +113,6 @@ module _ (def : Bankdef) (node : Node) where
   unfolding stepOf
   step-ok walk = search (choice-step, from-ok, seen-ok, malformed-ok) depth 6
 
-  -- A step is refused for 4, 5 or 6, at the node that it is over.
+  -- A step is refused for 4 or 5, at the node that it is over.
   pub step-refusals : (walk : Walk) (why : Refusal) → stepOf def walk node .seen ≡ Stopped why → Refusable (node .index) why
   step-refusals walk why e = step-ok walk .refusable why e

@@ -33,8 +33,7 @@ use Rattle.resolver.specs.declared.Pass.{Pass}
 use Rattle.resolver.specs.declared.Resolution.{Resolution}
 
 -- Lists with the same kinds and rows, as long as each other, that agree wherever a kind reads: operands of kinds 1 to 6; numbers of kinds 4 to 9,
--- but of kind 5 in
--- the first row alone; states of kinds 3 to 10. Of the value bytes a layout reads how many there are.
+-- but of kind 5 in the first row alone; states of kinds 3 to 10. Of the value bytes a layout reads how many there are.
 pub record AgreeWhereRead (l m : Lists) : Type 0 where
   pub kinds : l .kinds ≡ m .kinds
   pub rows : l .rows ≡ m .rows

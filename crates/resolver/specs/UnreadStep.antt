@@ -25,8 +25,7 @@ use Rattle.iter.specs.declared.Walk.{Walk}
 use Rattle.resolver.specs.Least.{or-past}
 
 -- Two nodes agree in what their kind reads. "The operand is a bank for 1, a depth for 2 and 3, a starting bit in the value bytes for 4 to 6,
--- otherwise unread." "Kinds 0 to 3
--- and 10 don't read the number; 0, 1 and 2 don't read the state."
+-- otherwise unread." "Kinds 0 to 3 and 10 don't read the number; 0, 1 and 2 don't read the state."
 pub record SameRead (n m : Node) : Type 0 where
   pub index : n .index ≡ m .index
   pub kind : n .kind ≡ m .kind
