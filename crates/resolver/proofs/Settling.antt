@@ -7,7 +7,7 @@ use native.Mathlib.Nat.{eq-or-lt-of-le}
 use native.Mathlib.Omega.{arith}
 use borrow.Author.Tests.{eq-eqb, ne-eqb, lt-ltb, le-ltb}
 use Rattle.refusal.specs.declared.Refusal.{Refusal}
-use Rattle.resolver.specs.Passes.{unresolved, passK, lastOf, settledBy}
+use Rattle.resolver.specs.Passes.{passK, lastOf, settledBy}
 use Rattle.resolver.specs.Ends.{Unsettled, settles, unsettled-below, K-at}
 use Rattle.resolver.specs.Least.{or-past, first-from}
 use Rattle.resolver.specs.declared.Pass.{Pass}

@@ -1,21 +1,17 @@
 -- How the passes end: which passes run, which of them is the last, and what the layout comes to by them (document 01, "Passes").
 use Prim.Native.Nat.{ℕ, _+_, _<_, _≤_, max}
-use mathlib.Core.Path.{_≡_, refl, sym, _∙_, subst}
+use mathlib.Core.Path.{_≡_, refl, _∙_}
 use mathlib.Core.Bool.{Bool, true, false, not}
-use mathlib.Core.Logic.{_⊎_, inl, inr, ⊎-elim}
 use native.Mathlib.Omega.{arith}
 use lib.Dec.{eqb}
 use borrow.Author.Tests.{eq-eqb, ne-eqb, eqb-true}
-use Rattle.refusal.specs.Pick.{pick}
 use Rattle.refusal.specs.declared.Refusal.{Refusal}
-use Rattle.refusal.specs.declared.Refusal.the-variants.{Unresolved}
 use Rattle.resolver.specs.Least.{first-at, first-from, K-counts, K-settles}
 use Rattle.resolver.specs.Passes.{unresolved, passK, lastOf, afterK, settledBy}
 use Rattle.resolver.specs.Run.{Settles, at-zero, K-below, K-not-below, by-ways, unresolved-before}
 use Rattle.resolver.specs.declared.Pass.{Pass}
 use Rattle.resolver.specs.declared.Pass.the-variants.{State, Refused as Failed}
-use Rattle.resolver.specs.declared.Settled.{Settled}
-use Rattle.resolver.specs.declared.Settled.the-variants.{At, Refused}
+use Rattle.resolver.specs.declared.Settled.the-variants.{Refused}
 use Rattle.resolver.specs.declared.Resolution.{Resolution}
 
 module _ (pass : ℕ → Bool → Pass) where

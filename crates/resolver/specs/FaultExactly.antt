@@ -1,6 +1,6 @@
 -- "4: the list .. is malformed: .. kind, bank number, state, .. value range": what a node is at fault for, exactly. A field that is not read is no part of it.
 use Prim.Native.Nat.{ℕ, zero, suc, _+_, _*_, _<_, _≤_}
-use mathlib.Core.Path.{_≡_, refl, sym, _∙_}
+use mathlib.Core.Path.{_≡_, refl}
 use mathlib.Core.Bool.{Bool, true, false, _&&_, _||_}
 use mathlib.Core.Logic.{_⊎_, inl, inr, ⊎-elim, _↔_}
 use native.Mathlib.Nat.{eq-or-lt-of-le, le-of-suc-le-suc, not-suc-le-zero}
@@ -8,7 +8,7 @@ use native.Mathlib.Omega.{arith}
 use lib.Dec.{eqb, leb, ltb}
 use lib.ListN.{getD, length}
 use borrow.Author.Tests.{eqb-true, leb-true, ltb-true, eq-eqb, le-leb, lt-ltb}
-use Rattle.bankdef.specs.Bools.{either, both, clash}
+use Rattle.bankdef.specs.Bools.{both, clash}
 use Rattle.iter.specs.declared.Node.{Node}
 use Rattle.resolver.specs.Lists.{Lists, nodeOf, isItem, pastEnd, rowFault, headFault, anyRowFault, nodeFault}
 

@@ -1,6 +1,6 @@
 -- What a pass reads of the lists: the row of its number or the last row; a node's number and state there, and for kind 5 the number in the first row.
 use Prim.Native.Nat.{ℕ, _+_, _-_, _*_, _<_, _≤_, min}
-use mathlib.Core.Path.{_≡_, refl, ap, _∙_}
+use mathlib.Core.Path.{_≡_, ap, _∙_}
 use mathlib.Core.List.{List}
 use native.Mathlib.Omega.{arith}
 use lib.ListN.{getD, length, take, drop}

@@ -3,7 +3,7 @@
 -- `addr` of state 0 there.
 use Prim.Native.Nat.{ℕ, zero, suc, _≤_, _<_}
 use mathlib.Core.Path.{_≡_, refl, sym, _∙_, ap, subst}
-use mathlib.Core.Bool.{Bool, true, false}
+use mathlib.Core.Bool.{Bool, true}
 use mathlib.Core.Logic.{_⊎_, inl, inr, ⊎-elim, _↔_}
 use native.Mathlib.Nat.{eq-or-lt-of-le, le-of-suc-le-suc, not-suc-le-zero}
 use native.Mathlib.Omega.{arith}
@@ -11,19 +11,17 @@ use lib.Dec.{eqb, leb}
 use lib.ListN.{getD, length}
 use borrow.Author.Tests.{eqb-true, eqb-false, leb-true, leb-false}
 use Rattle.refusal.specs.Limits.{maxBanks}
-use Rattle.refusal.specs.Told.{Told, gives, refuses, toldNumber, number-some}
+use Rattle.refusal.specs.Told.{Told, gives, refuses, toldNumber}
 use Rattle.refusal.specs.declared.Place.{Place}
-use Rattle.refusal.specs.declared.Refusal.{Refusal}
 use Rattle.bankdef.specs.Bools.{either}
 use Rattle.bankdef.specs.declared.Bankdef.{Bankdef}
 use Rattle.iter.specs.AdvanceFacts.{Moves, advance-moves, sight-known}
 use Rattle.iter.specs.Figures as told
 use Rattle.iter.specs.Figures.{toldMoved, Advances}
-use Rattle.iter.specs.Step.{origin, startOf, seenOf, advancedOf, bankAfter, stepOf}
+use Rattle.iter.specs.Step.{origin, startOf, bankAfter}
 use Rattle.iter.specs.StepCases.{standing}
 use Rattle.iter.specs.StepFacts.{others-kept, count-kept, own-bank, sees-before, starts-at-0}
 use Rattle.iter.specs.ToldFacts.{advance-told}
-use Rattle.iter.specs.declared.Moved.the-variants.{To}
 use Rattle.iter.specs.declared.Node.{Node}
 use Rattle.iter.specs.declared.Pos.{Pos}
 use Rattle.resolver.specs.Lists.{Row}

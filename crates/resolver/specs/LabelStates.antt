@@ -1,31 +1,30 @@
 -- The state of a label in a pass: "a label is resolved when its position is known and on a boundary, stable when its address equals that of the
 -- pass before (never in pass 1), unresolved otherwise". It is held against the pass before, in the same bank.
-use Prim.Native.Nat.{ℕ, zero, suc, _+_, _-_, _%_, _<_, _≤_, max}
-use mathlib.Core.Path.{_≡_, refl, sym, _∙_, ap, subst}
+use Prim.Native.Nat.{ℕ, zero, suc, _-_, _%_, _<_, _≤_}
+use mathlib.Core.Path.{_≡_, refl, sym, _∙_, ap}
 use mathlib.Core.Bool.{Bool, true, false, not, _&&_}
-use mathlib.Core.Logic.{_⊎_, inl, inr, ⊎-elim, _↔_}
+use mathlib.Core.Logic.{_↔_}
 use native.Mathlib.Omega.{arith}
-use lib.Dec.{eqb, leb}
+use lib.Dec.{eqb}
 use lib.ListN.{getD, length}
-use borrow.Author.Tests.{eq-eqb, ne-eqb, eqb-true, eqb-false, le-leb, lt-leb, not-true}
+use borrow.Author.Tests.{eq-eqb, ne-eqb, eqb-true}
 use Rattle.refusal.specs.Pick.{pick}
-use Rattle.refusal.specs.declared.Refusal.{Refusal}
-use Rattle.bankdef.specs.Bools.{either, both, clash}
+use Rattle.bankdef.specs.Bools.{both, clash}
 use Rattle.bankdef.specs.declared.Bankdef.{Bankdef}
 use Rattle.bankdef.specs.declared.Bankdefs.{Bankdefs}
 use Rattle.iter.specs.Address.{unitsFrom, onBoundary}
 use Rattle.iter.specs.Step.{bankAfter, startOf, stepOf}
-use Rattle.iter.specs.StepCases.{standing, step-cases}
+use Rattle.iter.specs.StepCases.{step-cases}
 use Rattle.iter.specs.declared.Moved.{Moved}
 use Rattle.iter.specs.declared.Moved.the-variants.{To, Refused as Stopped}
 use Rattle.iter.specs.declared.Node.{Node}
 use Rattle.iter.specs.declared.Pos.{Pos}
 use Rattle.iter.specs.declared.Stepped.{Stepped}
 use Rattle.iter.specs.declared.Walk.{Walk}
-use Rattle.resolver.specs.Ends.{Runs, RunsLast, after, atLimit}
+use Rattle.resolver.specs.Ends.{Runs, after, atLimit}
 use Rattle.resolver.specs.Labels.{same-address, address-same}
 use Rattle.resolver.specs.Lists.{Lists, Row}
-use Rattle.resolver.specs.NodeOrder.{seenAt, defAt, GoesPast, ran-to-end, seen-apart}
+use Rattle.resolver.specs.NodeOrder.{defAt, GoesPast, ran-to-end, seen-apart}
 use Rattle.resolver.specs.Once.{Program, node, bankOf, sameAddress, labelState, stateOf, walkTo}
 use Rattle.resolver.specs.PassStates.{seenIn, defIn, nodeIn, stateIn}
 use Rattle.resolver.specs.Passes.{program, rowOfPass, passAt, unresolved}

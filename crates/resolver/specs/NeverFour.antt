@@ -3,7 +3,6 @@
 use Prim.Native.Nat.{ℕ, _<_, _≤_}
 use mathlib.Core.Path.{_≡_, refl, sym, _∙_, ap, subst}
 use mathlib.Core.Bool.{Bool, true, false, _&&_}
-use mathlib.Core.Logic.{_⊎_, inl, inr}
 use native.Mathlib.Omega.{arith}
 use lib.Dec.{eqb, leb, ltb}
 use lib.ListN.{getD, length, length-take}
@@ -11,10 +10,9 @@ use borrow.Author.Tests.{ltb-false}
 use Rattle.refusal.specs.Refusals.{numberOf}
 use Rattle.refusal.specs.Told.{Told, toldNumber}
 use Rattle.refusal.specs.declared.Refusal.{Refusal}
-use Rattle.refusal.specs.declared.Refusal.the-variants.{Malformed}
 use Rattle.refusal.specs.declared.Verdict.the-variants.{Accepted}
 use Rattle.bankdef.specs.Bools.{either, neither, clash}
-use Rattle.bankdef.specs.Check.{noBank, banksOf, checkOf}
+use Rattle.bankdef.specs.Check.{banksOf, checkOf}
 use Rattle.bankdef.specs.Numbers.{bankFault}
 use Rattle.bankdef.specs.Refused.{Decided, NoFault, sound, decided}
 use Rattle.bankdef.specs.declared.Bankdef.{Bankdef}

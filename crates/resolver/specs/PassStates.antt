@@ -1,17 +1,16 @@
 -- "A pass is unresolved if any state is 2, stable if any is 1, otherwise resolved", of the passes of lists that the list check accepts; and the state that
 -- each node has in a pass: "0, 1 and 2 don't read the state", a label's is found, every other kind has its row's.
-use Prim.Native.Nat.{ℕ, zero, suc, _-_, _<_, _≤_, min}
-use mathlib.Core.Path.{_≡_, refl, sym, _∙_, ap, subst}
+use Prim.Native.Nat.{ℕ, _-_, _<_, _≤_, min}
+use mathlib.Core.Path.{_≡_, _∙_}
 use mathlib.Core.Bool.{Bool, true, false, not, _&&_, _||_}
-use mathlib.Core.Logic.{_⊎_, inl, inr, ⊎-elim, _↔_}
+use mathlib.Core.Logic.{_⊎_, ⊎-elim, _↔_}
 use native.Mathlib.Omega.{arith}
 use lib.Dec.{eqb, leb, ltb}
-use lib.ListN.{getD, length}
-use borrow.Author.Tests.{eq-eqb, ne-eqb, le-leb, lt-leb, leb-false, lt-ltb, eqb-true, eqb-false, ltb-false}
+use lib.ListN.{length}
+use borrow.Author.Tests.{leb-false, lt-ltb, eqb-false, ltb-false}
 use Rattle.refusal.specs.Pick.{pick}
-use Rattle.refusal.specs.declared.Refusal.{Refusal}
 use Rattle.refusal.specs.declared.Verdict.the-variants.{Accepted}
-use Rattle.bankdef.specs.Bools.{either, neither, clash}
+use Rattle.bankdef.specs.Bools.{either, neither}
 use Rattle.bankdef.specs.declared.Bankdef.{Bankdef}
 use Rattle.bankdef.specs.declared.Bankdefs.{Bankdefs}
 use Rattle.iter.specs.Address.{onBoundary}
@@ -20,14 +19,13 @@ use Rattle.iter.specs.declared.Moved.the-variants.{To, Refused as Stopped}
 use Rattle.iter.specs.declared.Node.{Node}
 use Rattle.iter.specs.declared.Pos.{Pos}
 use Rattle.iter.specs.declared.Walk.{Walk}
-use Rattle.resolver.specs.Lists.{Lists, nodeOf, isItem, pastEnd, rowFault, listsOf}
+use Rattle.resolver.specs.Lists.{Lists, isItem, pastEnd, rowFault, listsOf}
 use Rattle.resolver.specs.NodeOrder.{seenAt, defAt}
 use Rattle.resolver.specs.Once.{Going, on, off, node, closed, sameAddress, labelState, stateOf, passTo}
 use Rattle.resolver.specs.Passes.{program, rowOfPass, passAt}
 use Rattle.resolver.specs.Sound.{accepted-row, accepted-lists}
 use Rattle.resolver.specs.Walked.{stateSeen, Largest, largest}
-use Rattle.resolver.specs.declared.Pass.{Pass}
-use Rattle.resolver.specs.declared.Pass.the-variants.{State, Refused}
+use Rattle.resolver.specs.declared.Pass.the-variants.{State}
 
 module _ (banks : Bankdefs) (l : Lists) where
   -- the position that node i sees in pass n

@@ -1,32 +1,29 @@
 -- "5: a position would pass 4,294,967,295", of the walk of a pass: the walk is stopped for 5 at a node exactly when the bits that the node adds,
 -- or those to the label alignment of a symbol, would take its bank's position past the limit; and no position of the walk ever is past it.
-use Prim.Native.Nat.{ℕ, zero, suc, _<_, _≤_, zero-le}
+use Prim.Native.Nat.{ℕ, zero, suc, _<_, _≤_}
 use mathlib.Core.Path.{_≡_, refl, sym, _∙_, ap}
-use mathlib.Core.Bool.{Bool, true, false, _&&_, _||_}
+use mathlib.Core.Bool.{Bool, true, false, _&&_}
 use mathlib.Core.List.{[]}
-use mathlib.Core.Logic.{_⊎_, inl, inr, ⊎-elim, _↔_}
+use mathlib.Core.Logic.{_⊎_, inl, inr, _↔_}
 use native.Mathlib.Omega.{arith}
 use lib.Dec.{eqb, leb, ltb}
 use lib.ListN.{getD, length}
 use borrow.Author.Tests.{eq-eqb, leb-false, lt-leb, eqb-true, le-ltb, leb-true}
 use Rattle.refusal.specs.Limits.{maxBanks, maxPosition}
-use Rattle.refusal.specs.Pick.{pick}
 use Rattle.refusal.specs.Refusals.{numberOf, placeOf}
 use Rattle.refusal.specs.Told.{Told, gives, refuses, toldNumber, refusal-by-figures}
 use Rattle.refusal.specs.declared.Place.{Place}
-use Rattle.refusal.specs.declared.Place.the-variants.{One}
 use Rattle.refusal.specs.declared.Refusal.{Refusal}
-use Rattle.refusal.specs.declared.Refusal.the-variants.{Malformed, PositionPast}
-use Rattle.refusal.specs.declared.Verdict.the-variants.{Accepted}
-use Rattle.bankdef.specs.Bools.{either, both, neither}
-use Rattle.bankdef.specs.Check.{noBank, checkOf}
-use Rattle.bankdef.specs.Refused.{SoundTable, accepted}
+use Rattle.refusal.specs.declared.Refusal.the-variants.{PositionPast}
+use Rattle.bankdef.specs.Bools.{either, neither}
+use Rattle.bankdef.specs.Check.{noBank}
+use Rattle.bankdef.specs.Refused.{accepted}
 use Rattle.bankdef.specs.declared.Bankdef.{Bankdef}
 use Rattle.bankdef.specs.declared.Bankdefs.{Bankdefs}
 use Rattle.iter.specs.Advance.{outside, blind, stuck, moves}
 use Rattle.iter.specs.AdvanceFacts.{PassesLimit, SightPasses, advance-five-only, advance-five-when, sight-five-only, sight-five-when}
 use Rattle.iter.specs.Figures.{toldMoved}
-use Rattle.iter.specs.Step.{origin, seenOf, badState, advancedOf, bankAfter, malformed, stepOf}
+use Rattle.iter.specs.Step.{seenOf, badState, advancedOf, bankAfter, malformed, stepOf}
 use Rattle.iter.specs.StepCases.{standing}
 use Rattle.iter.specs.WithinLimit.{AllSmall, never-past, step-within}
 use Rattle.iter.specs.declared.Moved.{Moved}
@@ -37,7 +34,7 @@ use Rattle.iter.specs.declared.Stepped.{Stepped}
 use Rattle.iter.specs.declared.Walk.{Walk}
 use Rattle.resolver.specs.LabelStates.{switchedTo, bank-by-switches}
 use Rattle.resolver.specs.Layout.{Checked}
-use Rattle.resolver.specs.Lists.{Lists, Row, nodeOf, rowFault, headFault, anyRowFault, nodeFault, listsOf}
+use Rattle.resolver.specs.Lists.{Lists, Row, nodeOf, headFault, anyRowFault}
 use Rattle.resolver.specs.NodeOrder.{seenAt, defAt, GoesPast}
 use Rattle.resolver.specs.Once.{Program, node, walkTo}
 use Rattle.resolver.specs.PassStates.{nodeIn, sound-state-of-row}

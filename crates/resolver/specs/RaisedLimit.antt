@@ -2,25 +2,22 @@
 -- With K equal to the limit it is not: pass K + 1 then runs, and reads another row.
 use Prim.Native.Nat.{ℕ, _<_, _≤_, max}
 use mathlib.Core.Path.{_≡_, refl, sym, ap, _∙_}
-use mathlib.Core.Bool.{Bool, true, false}
-use mathlib.Core.List.{List, [], _∷_}
+use mathlib.Core.Bool.{Bool}
+use mathlib.Core.List.{[], _∷_}
 use native.Mathlib.Omega.{arith}
-use lib.Dec.{eqb}
 use borrow.Author.Tests.{ne-eqb}
 use Rattle.refusal.specs.declared.Refusal.the-variants.{Unresolved}
-use Rattle.refusal.specs.declared.Verdict.{Verdict}
-use Rattle.refusal.specs.declared.Verdict.the-variants.{Accepted, Refused as TurnedAway}
-use Rattle.bankdef.specs.Check.{checkOf, firstPair}
+use Rattle.bankdef.specs.Check.{firstPair}
 use Rattle.bankdef.specs.Search.{firstWhere}
 use Rattle.bankdef.specs.declared.Bankdefs.{Bankdefs}
 use Rattle.iter.specs.Step.{startOf, seenOf, movedOn, advancedOf, stepOf}
 use Rattle.resolver.specs.Answer.{accepted-layout, layout-bounded, layout-passes}
 use Rattle.resolver.specs.Cases.{oneBank, settledAt}
-use Rattle.resolver.specs.Ends.{RunsBefore, SettlesBelow, settled-below}
+use Rattle.resolver.specs.Ends.{SettlesBelow, settled-below}
 use Rattle.resolver.specs.Layout.{layoutOf}
-use Rattle.resolver.specs.Lists.{Lists, Row, lists, nodesTo, anyRowFault, listsOf}
+use Rattle.resolver.specs.Lists.{Lists, lists, nodesTo, anyRowFault, listsOf}
 use Rattle.resolver.specs.Once.{walkTo, passTo}
-use Rattle.resolver.specs.Passes.{passAt, rowOfPass, first, settledBy, resolutionOf}
+use Rattle.resolver.specs.Passes.{passAt, rowOfPass, first, settledBy}
 use Rattle.resolver.specs.Run.{IsK}
 use Rattle.resolver.specs.declared.Pass.{Pass}
 use Rattle.resolver.specs.declared.Settled.the-variants.{At, Refused}

@@ -1,29 +1,27 @@
 -- Refusals 4, 5, 7 and 8 of a layout and its K, each exactly when document 01 gives it, told by number and place. "Then each pass in node order
 -- meets 5, 6 and 7, and 8 at its end": a layout that passes its checks is refused at the first node that a pass meets one at, in the first pass
 -- that does, and for 8 only where the last pass has gone past every node.
-use Prim.Native.Nat.{ℕ, zero, suc, _+_, _-_, _<_, _≤_, max}
+use Prim.Native.Nat.{ℕ, zero, suc, _+_, _-_, _<_, _≤_}
 use mathlib.Core.Path.{_≡_, refl, sym, _∙_, ap, subst}
-use mathlib.Core.Bool.{Bool, true, false, _&&_}
+use mathlib.Core.Bool.{Bool, true, false}
 use mathlib.Core.Logic.{_⊎_, inl, inr, ⊎-elim, _↔_}
 use native.Mathlib.Omega.{arith}
-use lib.Dec.{eqb, leb}
+use lib.Dec.{eqb}
 use lib.ListN.{length}
 use borrow.Author.Tests.{eqb-true, eqb-false, ne-eqb, eq-eqb, lt-ltb}
-use Rattle.refusal.specs.Limits.{maxNodes, maxRows}
 use Rattle.refusal.specs.Pick.{pick}
 use Rattle.refusal.specs.Refusals.{numberOf, placeOf}
 use Rattle.refusal.specs.Told.{Told, gives, refuses, six-never}
 use Rattle.refusal.specs.declared.Place.{Place}
 use Rattle.refusal.specs.declared.Place.the-variants.{One}
 use Rattle.refusal.specs.declared.Refusal.{Refusal}
-use Rattle.refusal.specs.declared.Refusal.the-variants.{BankCount, BankNumber, BanksOverlap, Malformed, PositionPast, LabelOffBoundary, Unresolved}
+use Rattle.refusal.specs.declared.Refusal.the-variants.{Malformed, PositionPast, LabelOffBoundary, Unresolved}
 use Rattle.refusal.specs.declared.Verdict.{Verdict}
 use Rattle.refusal.specs.declared.Verdict.the-variants.{Accepted, Refused as TurnedAway}
 use Rattle.bankdef.specs.Check.{checkOf}
 use Rattle.bankdef.specs.Refused.{Decided, count, number, pair, sound, decided}
 use Rattle.bankdef.specs.declared.Bankdefs.{Bankdefs}
-use Rattle.iter.specs.declared.Moved.{Moved}
-use Rattle.iter.specs.declared.Moved.the-variants.{To, Refused as Stopped}
+use Rattle.iter.specs.declared.Moved.the-variants.{Refused as Stopped}
 use Rattle.resolver.specs.Ends.{Runs, RunsLast, SettlesBelow, atLimit, Ending, early, last, ends, last-decides, refused-before, settled-below, settled-limit}
 use Rattle.resolver.specs.Answer.{accepted-layout}
 use Rattle.resolver.specs.Figures.{PastFirst, OffInLast, LastUnresolved, SettlesAt, Figures}
@@ -31,9 +29,8 @@ use Rattle.resolver.specs.Layout.{unless, layoutOf, Checked}
 use Rattle.resolver.specs.NeverFour.{never-four}
 use Rattle.resolver.specs.Run.{Settles, at-zero}
 use Rattle.resolver.specs.PositionPast.{five-met-exactly}
-use Rattle.resolver.specs.Lists.{Lists, Row, firstOf, nodeFault, nodesTo, listsOf}
-use Rattle.resolver.specs.NodeOrder.{seenAt, defAt, OffBoundary, GoesPast, MeetsFirst, first-met, met-first, ran-to-end}
-use Rattle.resolver.specs.Once.{walkTo}
+use Rattle.resolver.specs.Lists.{Lists, firstOf, nodeFault, nodesTo, listsOf}
+use Rattle.resolver.specs.NodeOrder.{seenAt, OffBoundary, GoesPast, MeetsFirst, first-met, met-first, ran-to-end}
 use Rattle.resolver.specs.Passes.{program, rowOfPass, passAt, unresolved, lastOf, settledBy, resolutionOf}
 use Rattle.resolver.specs.StepRefusals.{Refusable, step-refusals}
 use Rattle.resolver.specs.Told.{toldSettled, by-figures}

@@ -15,7 +15,7 @@ use Rattle.refusal.specs.declared.Refusal.the-variants.{Malformed}
 use Rattle.refusal.specs.declared.Verdict.{Verdict}
 use Rattle.refusal.specs.declared.Verdict.the-variants.{Accepted, Refused}
 use Rattle.bankdef.specs.Bools.{both}
-use Rattle.refusal.specs.Told.{Told, gives, refuses, nothing, toldVerdict}
+use Rattle.refusal.specs.Told.{gives, refuses, nothing, toldVerdict}
 use Rattle.refusal.specs.declared.Place.the-variants.{One}
 use Rattle.resolver.specs.Lists.{Lists, Rows, nodeCountSound, rowCountSound, listsOf, nodeOf, rowFault, headFault, anyRowFault, nodeFault, firstOf, nodesTo}
 

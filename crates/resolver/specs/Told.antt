@@ -1,8 +1,7 @@
 -- What a layout's answer tells in document 01's figures: pass K, or a refusal's number and place.
 use Prim.Native.Nat.{ℕ}
-use mathlib.Core.Path.{_≡_, refl, sym, _∙_, ap}
+use mathlib.Core.Path.{_≡_, ap}
 use native.Mathlib.Omega.{arith}
-use Rattle.refusal.specs.Refusals.{numberOf, placeOf}
 use Rattle.refusal.specs.Told.{Told, gives, refuses, toldRefusal, refusal-by-figures}
 use Rattle.refusal.specs.declared.Place.{Place}
 use Rattle.refusal.specs.declared.Refusal.{Refusal}

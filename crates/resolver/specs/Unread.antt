@@ -1,21 +1,18 @@
 -- "A field that isn't read isn't checked", and changes nothing: two lists that differ only in fields that no kind reads get one answer.
 use Prim.Native.Nat.{ℕ, zero, suc, _+_, _-_, _*_, _≤_, _<_, min}
 use mathlib.Core.Path.{_≡_, refl, sym, _∙_, ap, fun-ext}
-use mathlib.Core.Bool.{Bool, true, false, _&&_, _||_}
+use mathlib.Core.Bool.{Bool, _&&_, _||_}
 use mathlib.Core.List.{List}
 use mathlib.Core.Logic.{⊎-elim}
 use native.Mathlib.Omega.{arith}
 use lib.Dec.{eqb, leb, ltb}
 use lib.ListN.{getD, length}
-use borrow.Author.Tests.{eq-eqb, ne-eqb, eqb-true, eqb-false, leb-true, leb-false, lt-ltb, ltb-true, ltb-false, le-ltb}
-use Rattle.refusal.specs.Pick.{pick}
-use Rattle.refusal.specs.declared.Refusal.the-variants.{Malformed}
+use borrow.Author.Tests.{eq-eqb, eqb-true, eqb-false, leb-true, leb-false, lt-ltb, ltb-false, le-ltb}
 use Rattle.refusal.specs.declared.Verdict.{Verdict}
 use Rattle.refusal.specs.declared.Verdict.the-variants.{Accepted, Refused}
 use Rattle.bankdef.specs.Bools.{either, neither}
 use Rattle.bankdef.specs.Check.{checkOf}
 use Rattle.bankdef.specs.declared.Bankdefs.{Bankdefs}
-use Rattle.iter.specs.Step.{bankAfter, startOf}
 use Rattle.iter.specs.declared.Moved.{Moved}
 use Rattle.iter.specs.declared.Moved.the-variants.{To, Refused as Stopped}
 use Rattle.iter.specs.declared.Node.{Node}
@@ -24,13 +21,12 @@ use Rattle.iter.specs.declared.Walk.{Walk}
 use Rattle.resolver.specs.FirstRow.{state-of-its-row, number-of-its-row, declared-number-of-first-row}
 use Rattle.resolver.specs.Layout.{unless, layoutOf}
 use Rattle.resolver.specs.Least.{or-past}
-use Rattle.resolver.specs.Lists.{Lists, Row, lists, rowAt, nodeOf, isItem, pastEnd, rowFault, headFault, anyRowFault, nodeFault, firstOf, nodesTo, nodeCountSound, rowCountSound, listsOf}
-use Rattle.resolver.specs.Once.{Program, Going, on, off, node, bankRecord, bankOf, stepAt, walkTo, labelState, stateOf, offBoundary, met, goesOn, meets, passTo, closed, passOf}
-use Rattle.resolver.specs.Passes.{program, rowOfPass, passAt, settledBy, resolutionOf}
+use Rattle.resolver.specs.Lists.{Lists, lists, rowAt, isItem, pastEnd, rowFault, headFault, anyRowFault, nodeFault, nodesTo, listsOf}
+use Rattle.resolver.specs.Once.{Going, on, off, node, bankOf, stepAt, walkTo, labelState, stateOf, met, meets, passTo, closed}
+use Rattle.resolver.specs.Passes.{program, passAt, settledBy, resolutionOf}
 use Rattle.resolver.specs.Sound.{accepted-node, accepted-lists}
 use Rattle.resolver.specs.UnreadStep.{SameRead, bank-same, step-same}
 use Rattle.resolver.specs.declared.Pass.{Pass}
-use Rattle.resolver.specs.declared.Resolution.{Resolution}
 
 -- Lists with the same kinds and rows, as long as each other, that agree wherever a kind reads: operands of kinds 1 to 6; numbers of kinds 4 to 9,
 -- but of kind 5 in the first row alone; states of kinds 3 to 10. Of the value bytes a layout reads how many there are.
