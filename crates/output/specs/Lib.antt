@@ -7,6 +7,7 @@ pub mod OffersMade
 pub mod Output
 pub mod Placing
 pub mod PlacingLaws
+pub mod RaisedLimit
 pub mod RefusedAtNode
 pub mod Rooms
 pub mod SpanFacts
