@@ -88,7 +88,10 @@ add-read-rows c = omega (
 read-rows-requires : tie.Need-read-rows-requires
 read-rows-requires c κs =
     let p = places
-    (c .before .before .before .before .before .before .before .before .before .before .before .before .before .before .before .before .before .before .args .file .now) (c .before .before .before .before .before .before .before .before .before .before .before .before .before .before .before .before .before .before .args .shape) (c .before .before .before .before .before .before .before .before .before .before .before .before .before .before .before .before .before .before .pre) in
+    (c .before .before .before .before .before .before .before .before .before .before .before .before .before .before .before .before .before .before .args
+    .file .now) (c .before .before .before .before .before .before .before .before .before .before .before .before .before .before .before .before .before
+    .before .args .shape) (c .before .before .before .before .before .before .before .before .before .before .before .before .before .before .before
+    .before .before .before .pre) in
     (omega (arith, p), (omega arith, omega arith))
 
 same-length : tie.Need-same-length
@@ -106,9 +109,11 @@ same-length-4 c = search needs
 returns-5 : tie.Need-returns-5
 returns-5 c =
     let a =
-    c .before .before .before .before .before .before .before .before .before .before .before .before .before .before .before .before .before .before .before .before .before .before .before .args in
+    c .before .before .before .before .before .before .before .before .before .before .before .before .before .before .before .before .before .before .before
+    .before .before .before .before .args in
     lists-read (a .file .now) (a .kinds .now) (a .operands .now) (a .numbers .now) (a .states .now) (a .shape)
-    (c .before .before .before .before .before .before .before .before .before .before .before .before .before .before .before .before .before .before .before .before .before .before .before .pre)
+    (c .before .before .before .before .before .before .before .before .before .before .before .before .before .before .before .before .before .before .before
+    .before .before .before .before .pre)
     (c .before .before .before .before .before .before .before .before .before .before .before .before .before .before .before .before .before .if1 .left)
     (c .before .before .before .before .before .before .before .before .before .before .before .before .before .before .before .before .if2 .left)
     (c .before .before .before .before .before .before .before .before .before .before .before .before .before .before .before .if3 .left)
