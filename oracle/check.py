@@ -27,7 +27,7 @@ def faults():
         file = encode(layout)
         if (folder / f"{name}.form").read_bytes() != file or encode(decode(file)) != file:
             yield f"examples/{name}.form is not what examples.py writes"
-        if "".join(f"    {line}\n" for line in model.printed(file).splitlines()) not in readme:
+        if "".join(f"    {line}\n" for line in examples.shown(model.printed(file).splitlines())) not in readme:
             yield f"examples/README.md does not have what {name}.form prints"
 
 

@@ -10,6 +10,7 @@ from struct import pack
 import model
 from form1 import (ADDR, ALIGN, ASSERT, CONSTANT, DATA, INSTRUCTION, LABEL, OPEN_DATA, RESERVE, SWITCH, Bank, Layout, encode,
                    worked_example)
+from sequencer import sequencer
 
 MARK_BEFORE, MARK_AFTER = "before", "after"
 
@@ -76,14 +77,21 @@ EXAMPLES = {
     "stack": ("a stack that is numbered downwards from address 0, with an alignment below zero", stack_below_zero()),
     "passes": ("a jump that turns out short, so that labels move in the second pass and stand still in the third", several_passes()),
     "past-the-end": ("a table that ends one bit past its bank", past_the_end()),
+    "sequencer": ("an image of the real size, 40,960 bits in 10-bit words: code, curves as long literals with marks between them, two filled banks, labels that move from pass to pass", sequencer()),
 }
+
+
+def shown(lines):
+    """The lines as the page has them: of many the first and the last, of a long one its beginning."""
+    few = lines if len(lines) <= 12 else lines[:3] + [".."] + lines[-3:]
+    return [line if len(line) <= 140 else f"{line[:60]} .. ({len(line) - 6} digits)" for line in few]
 
 
 def main():
     if "--table" in sys.argv:
         for name, (words, layout) in EXAMPLES.items():
             print(f"`{name}.form`: {words}.\n")
-            print("".join(f"    {line}\n" for line in model.printed(encode(layout)).splitlines()))
+            print("".join(f"    {line}\n" for line in shown(model.printed(encode(layout)).splitlines())))
         return
     folder = Path(sys.argv[1] if len(sys.argv) > 1 else Path(__file__).resolve().parent.parent / "examples")
     folder.mkdir(exist_ok=True)

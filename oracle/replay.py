@@ -84,8 +84,19 @@ def broken_files():
         yield encode(changed)
 
 
+def at_the_limits():
+    """Files of the longest length and one byte beyond, sound but for that, and an image that takes all that is lent."""
+    short = encode(laid([Bank(offset=0)], [(DATA, 0, 8)], b"\x5a"))
+    room = 65_000 - len(short)
+    yield from (encode(laid([Bank(offset=0)], [(DATA, 0, 8)], b"\x5a" + bytes(room + more))) for more in (0, 1))
+    full = bytes(1 + n % 255 for n in range(16_384))
+    yield encode(laid([Bank(offset=0)], [(DATA, 0, 8 * 16_384)], full))
+    yield encode(laid([Bank(offset=0)], [(DATA, 0, 8 * 16_384), (RESERVE, 0, 1), (INSTRUCTION, 0, 1)], full))
+
+
 def named():
     """The cases that are always in the list."""
+    yield from at_the_limits()
     yield from (encode(layout) for layout in documents_cases())
     yield from (encode(layout) for _, layout in examples.EXAMPLES.values())
     yield from (encode(layout) for _, _, layout in differences.DEPARTURES)
