@@ -20,6 +20,10 @@ stored=$($emulator "$out/store") || {
     exit 1
 }
 echo "C, the store: $stored"
+if ! command -v python3 >/dev/null; then
+    echo "skipped: random layouts held against oracle/model.py, for want of python3"
+    exit 0
+fi
 python3 oracle/generate.py "$seed" "$layouts" --batch >"$out/layouts"
 python3 oracle/model.py --batch <"$out/layouts" >"$out/expected"
 compare() {

@@ -3,8 +3,8 @@
  * the C library, allocates nothing, keeps nothing between calls, and may be called from any thread.
  *
  * Buffers. You own every buffer. Each is a pointer and the number of its elements (not of its bytes), and is used during the call only. The
- * pointers have to be good for their lengths, also where a length is 0 (then any pointer that is not null and is aligned for its type
- * will do). A buffer that a function writes may overlap no other of the same call. Nothing else is asked of you: every number may have any
+ * pointers have to be good for their lengths; where a length is 0 any pointer will do, NULL too. A buffer that a function writes may overlap no
+ * other of the same call. Nothing else is asked of you: every number may have any
  * value, and what is not acceptable is refused.
  *
  * Refusals. `refusal` is 0 where the call was accepted, else one of the numbers below, and `place` (and `second`) says where. A refused
@@ -19,6 +19,18 @@
 #ifdef __cplusplus
 extern "C" {
 #endif
+
+/* The version of this interface. */
+#define DENKUMARI_VERSION "0.1.0"
+
+/* Limits: what is beyond one of them is refused. */
+#define DK_MAX_BANKS 16
+#define DK_MAX_NODES 4096
+#define DK_MAX_ROWS 16
+#define DK_MAX_SPANS 4096
+#define DK_MAX_STORED 512
+#define DK_MAX_FILE 65000
+#define DK_MAX_POSITION UINT32_MAX
 
 /* What `refusal` says, and what stands in `place` with it. */
 enum dk_refusal {
@@ -154,6 +166,29 @@ struct dk_offer dk_offer(uint64_t *positions, uint64_t *sizes, uint64_t count, u
 
 /* Where in an image the block of `size` bits from bit `offset` on stands, in bytes: image + start, length bytes. Reads nothing of the image. */
 struct dk_part dk_part(const uint8_t *image, size_t image_len, uint64_t offset, uint64_t size);
+
+/* A refusal in words, without its place. */
+static inline const char *dk_words(uint64_t refusal)
+{
+    switch (refusal) {
+    case DK_ACCEPTED: return "accepted";
+    case DK_BANK_COUNT: return "there are not 1 to 16 banks";
+    case DK_BANK_NUMBER: return "a bank's number is beyond its limit, or a filled bank has size 0";
+    case DK_BANKS_OVERLAP: return "two banks overlap in the output";
+    case DK_MALFORMED: return "a count, kind, bank number, state, value range or file is malformed";
+    case DK_POSITION_PAST: return "a position would pass 4,294,967,295";
+    case DK_LABEL_OFF_BOUNDARY: return "a label in the last pass is between two addresses";
+    case DK_UNRESOLVED: return "the last pass ended unresolved";
+    case DK_DEFAULT_BANK: return "bank 0 is used though there are others";
+    case DK_PAST_BANK: return "an item ends past its bank's size";
+    case DK_NO_OUTPUT: return "an item is written in a bank that has no place in the output";
+    case DK_OVERLAP: return "a placement would share a bit with another";
+    case DK_STORE_FULL: return "512 placements are stored already";
+    case DK_TOO_SHORT: return "a lent buffer is too short";
+    case DK_BAD_PART: return "a part of an image is empty, outside it, or not on byte edges";
+    default: return "a refusal that this header has no words for";
+    }
+}
 
 #ifdef __cplusplus
 }

@@ -143,12 +143,36 @@ static void other_refusals(void)
     expect(part.refusal == DK_BAD_PART, "a part outside");
 }
 
+/* "where a length is 0 any pointer will do, NULL too" */
+static void null_with_length_0(void)
+{
+    struct dk_layout r = dk_build(NULL, 0, NULL, 0, NULL, 0, NULL, 0, NULL, 0, NULL, 0, NULL, 0, NULL, 0, NULL, 0, NULL, 0, 1, NULL, 0, 10,
+                                  NULL, 0, NULL, 0, NULL, 0, NULL, 0);
+    expect(r.refusal == DK_BANK_COUNT, "no bank and nothing lent");
+    r = dk_build(units, 1, starts, 1, bank_sizes, 1, bank_offsets, 1, aligns, 1, flags, 1, NULL, 0, NULL, 0, NULL, 0, NULL, 0, 1, NULL, 0, 10,
+                 NULL, 0, NULL, 0, NULL, 0, NULL, 0);
+    expect(r.refusal == DK_ACCEPTED && r.length == 0 && r.spans == 0, "no node and nothing lent");
+    expect(dk_form(NULL, 0, NULL, 0, NULL, 0, NULL, 0, NULL, 0).refusal == DK_MALFORMED, "no file and nothing lent");
+    expect(dk_blocks(NULL, 0, NULL, 0, NULL, 0, NULL, 0).refusal == DK_ACCEPTED, "no span and nothing lent");
+    expect(dk_hex(NULL, 0, 0, NULL, 0).refusal == DK_ACCEPTED, "hex of nothing");
+    expect(dk_part(NULL, 0, 0, 8).refusal == DK_BAD_PART, "a part of no image");
+}
+
+static void words(void)
+{
+    for (uint64_t number = 0; number <= DK_BAD_PART; number++)
+        expect(number == 6 || number == 15 || strcmp(dk_words(number), dk_words(UINT64_MAX)) != 0, "a refusal has words");
+    expect(strcmp(dk_words(DK_OVERLAP), "a placement would share a bit with another") == 0, "the words of 12");
+}
+
 int main(int argc, char **argv)
 {
     memset(&fresh, 0xa5, sizeof fresh);
     worked_example();
     refused_builds();
     other_refusals();
+    null_with_length_0();
+    words();
     files(argc > 1 ? argv[1] : "examples/worked.form");
     printf("%u tests, %u wrong\n", tests, faults);
     return faults != 0;

@@ -1,7 +1,8 @@
 //! From a table of banks and a list of nodes to an image, its spans and its blocks.
 //!
 //! Every answer comes from a library that is proved against the rules of the repository's `docs/`; this crate only passes slices to it and
-//! takes its numbers apart. It has no dependencies, allocates nothing, never panics and asks for no `unsafe`. The library is x86-64 Linux code.
+//! takes its numbers apart. It has no dependencies, never panics and asks for no `unsafe`; only [`Program`] allocates. The library is x86-64 Linux
+//! code. Stack: include/denkumari.h says what each call needs, 125 kB at the most.
 //!
 //! The whole way, from tables to image and blocks:
 //!
@@ -12,11 +13,12 @@
 #![deny(missing_docs)]
 
 mod ffi;
+mod owned;
 mod store;
+mod words;
 
+pub use owned::{Bank, Block, Built, Program, Span};
 pub use store::{NotStored, Store};
-
-use std::fmt;
 
 /// The bank has a size.
 pub const HAS_SIZE: u8 = 1;
@@ -29,6 +31,23 @@ pub const FILL: u8 = 8;
 
 /// The offset of a span that has none.
 pub const NO_OFFSET: u64 = u64::MAX;
+
+/// Kinds of nodes.
+#[allow(missing_docs)]
+pub mod kind {
+    pub const NOTHING: u8 = 0;
+    pub const SWITCH: u8 = 1;
+    pub const LABEL: u8 = 2;
+    pub const CONSTANT: u8 = 3;
+    pub const INSTRUCTION: u8 = 4;
+    /// Data of declared size, which is the first row's.
+    pub const DATA: u8 = 5;
+    pub const OPEN_DATA: u8 = 6;
+    pub const RESERVE: u8 = 7;
+    pub const ALIGN: u8 = 8;
+    pub const ADDR: u8 = 9;
+    pub const ASSERT: u8 = 10;
+}
 
 /// The banks, one element of each list for a bank. A number whose flag is clear is not read.
 #[derive(Clone, Copy, Debug)]
@@ -50,7 +69,7 @@ pub struct Banks<'a> {
 /// The nodes: a kind and an operand for each, and in each of `rows` rows, one after the other, a number and a state for each.
 #[derive(Clone, Copy, Debug)]
 pub struct Nodes<'a> {
-    /// 0 nothing, 1 bank switch, 2 label, 3 constant, 4 instruction, 5 data of declared size, 6 data of open size, 7 reserve, 8 align, 9 addr, 10 assert.
+    /// See [`kind`].
     pub kinds: &'a [u8],
     /// A bank for 1, a depth for 2 and 3, a first bit in the values for 4 to 6.
     pub operands: &'a [u32],
@@ -92,6 +111,7 @@ pub struct Layout {
 
 /// A buffer that was too short.
 #[derive(Clone, Copy, Debug, PartialEq, Eq)]
+#[non_exhaustive]
 pub enum Buffer {
     /// The image.
     Image,
@@ -103,9 +123,11 @@ pub enum Buffer {
     Hex,
 }
 
-/// Why a call was refused. A refused call leaves everything lent as it was. Number 6 is no longer given. `node` and `bank` count from 0, `passes` is how many passes ran.
+/// Why a call was refused. A refused call leaves everything lent as it was. `node` and `bank` count from 0, `passes` is how many passes ran.
+/// Number 6 is no longer given. It is printed in words.
 #[derive(Clone, Copy, Debug, PartialEq, Eq)]
 #[allow(missing_docs)]
+#[non_exhaustive]
 pub enum Refusal {
     /// 1: not 1 to 16 banks, or lists of banks of different lengths.
     BankCount,
@@ -193,14 +215,6 @@ impl Refusal {
         Refusal::TooShort { buffer, passes }
     }
 }
-
-impl fmt::Display for Refusal {
-    fn fmt(&self, f: &mut fmt::Formatter<'_>) -> fmt::Result {
-        write!(f, "refused {}: {:?}", self.number(), self)
-    }
-}
-
-impl std::error::Error for Refusal {}
 
 fn layout_of(r: ffi::DkLayout) -> Result<Layout, Refusal> {
     match r.refusal {

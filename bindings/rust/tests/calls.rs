@@ -67,3 +67,21 @@ fn blocks_hex_and_parts() {
     assert_eq!(part(&image, 8, 0), Err(Refusal::BadPart));
     assert_eq!(part(&image, u64::MAX - 7, 8), Err(Refusal::BadPart));
 }
+
+#[test]
+fn an_owned_program_grows_its_image() {
+    let mut program = Program::new(10);
+    program.bank(Bank { offset: Some(0), ..Bank::new(8) }).node(kind::DATA, 0).row(&[(8 * 5_000, 0)]).values(&[0x5a; 5_000]);
+    let built = program.build(6_000).unwrap();
+    assert_eq!((built.layout.length, built.image), (40_000, vec![0x5a; 5_000]));
+    assert_eq!((built.spans[0].offset, built.blocks), (Some(0), vec![Block { offset: 0, size: 40_000 }]));
+    assert_eq!(program.build(4_999), Err(Refusal::TooShort { buffer: Buffer::Image, passes: 2 }));
+}
+
+#[test]
+fn refusals_are_told_in_words() {
+    let refusal = Refusal::Overlap { start: 0, size: 128, passes: 2 };
+    assert_eq!(refusal.to_string(), "refused 12: a placement would share a bit with what stands from bit 0 on, 128 bits");
+    let error: Box<dyn std::error::Error> = Box::new(Refusal::TooShort { buffer: Buffer::Spans, passes: 1 });
+    assert_eq!(error.to_string(), "refused 14: the room for the lists of spans is too short");
+}

@@ -1,0 +1,40 @@
+//! Refusals in words.
+
+use crate::{Buffer, Refusal};
+use std::fmt;
+
+impl fmt::Display for Buffer {
+    fn fmt(&self, f: &mut fmt::Formatter<'_>) -> fmt::Result {
+        f.write_str(match self {
+            Buffer::Image => "the image",
+            Buffer::Spans => "the lists of spans",
+            Buffer::Blocks => "the lists of blocks",
+            Buffer::Hex => "the text",
+        })
+    }
+}
+
+impl fmt::Display for Refusal {
+    fn fmt(&self, f: &mut fmt::Formatter<'_>) -> fmt::Result {
+        write!(f, "refused {}: ", self.number())?;
+        match *self {
+            Refusal::BankCount => write!(f, "there are not 1 to 16 banks"),
+            Refusal::BankNumber { bank } => write!(f, "bank {bank} has a number beyond its limit, or is filled and has size 0"),
+            Refusal::BanksOverlap { first, second } => write!(f, "banks {first} and {second} overlap in the output"),
+            Refusal::Malformed { place } => write!(f, "a count, kind, bank number, state, value range or file is malformed, at {place}"),
+            Refusal::PositionPast { node, .. } => write!(f, "at node {node} a position would pass 4,294,967,295"),
+            Refusal::LabelOffBoundary { node, .. } => write!(f, "the label at node {node} is between two addresses"),
+            Refusal::Unresolved { passes } => write!(f, "the last of {passes} passes ended unresolved"),
+            Refusal::DefaultBank { node, .. } => write!(f, "node {node} uses bank 0 though there are others"),
+            Refusal::PastBank { node, .. } => write!(f, "node {node} ends past its bank's size"),
+            Refusal::NoOutput { node, .. } => write!(f, "node {node} is written in a bank that has no place in the output"),
+            Refusal::Overlap { start, size, .. } => write!(f, "a placement would share a bit with what stands from bit {start} on, {size} bits"),
+            Refusal::StoreFull { node, .. } => write!(f, "at node {node} 512 placements are stored already"),
+            Refusal::TooShort { buffer, .. } => write!(f, "the room for {buffer} is too short"),
+            Refusal::BadPart => write!(f, "a part of an image is empty, outside it, or not on byte edges"),
+            Refusal::Unknown { place, .. } => write!(f, "this crate has no words for it, at {place}"),
+        }
+    }
+}
+
+impl std::error::Error for Refusal {}
