@@ -185,6 +185,7 @@ static inline const char *dk_words(uint64_t refusal)
     case DK_OVERLAP: return "a placement would share a bit with another";
     case DK_STORE_FULL: return "512 placements are stored already";
     case DK_TOO_SHORT: return "a lent buffer is too short";
+    case DK_BAD_STORE: return "a store that was given is not one";
     case DK_BAD_PART: return "a part of an image is empty, outside it, or not on byte edges";
     default: return "a refusal that this header has no words for";
     }
