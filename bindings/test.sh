@@ -1,6 +1,7 @@
 #!/bin/sh
 # Builds the archive and its callers (bindings/build.sh) and runs them: document 01's worked example, refusals, buffers that must be left alone,
-# and random layouts, whose answers have to be those of oracle/model.py. test.sh [LAYOUTS [SEED]], 4,000 and 1 if not given. Says what it skipped.
+# the stack that each call takes, and random layouts, whose answers have to be those of oracle/model.py. test.sh [LAYOUTS [SEED]], 4,000 and 1 if not
+# given. Says what it skipped.
 set -eu
 root=$(cd "$(dirname "$0")/.." && pwd)
 cd "$root"
@@ -26,6 +27,7 @@ tested() {
 }
 tested C "$out/test" examples/worked.form
 tested "C, the store" "$out/store"
+tested "C, stack" "$out/stack"
 if ! command -v python3 >/dev/null; then
     echo "skipped: random layouts held against oracle/model.py, for want of python3"
     exit 0

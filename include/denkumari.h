@@ -9,7 +9,10 @@
  *
  * Refusals. `refusal` is 0 where the call was accepted, else one of the numbers below, and `place` (and `second`) says where. A refused
  * call leaves every buffer as it was, and every other field of its answer is 0, except `passes`. An accepted call leaves the lists that
- * it wrote as they were past what it wrote; the rest of the image is made zero. */
+ * it wrote as they were past what it wrote; the rest of the image is made zero.
+ *
+ * Stack. What a call needs, all its frames included, is said of each, with what was measured on the longest lists. bindings/c/stack.c measures it by
+ * painting a thread's stack, and the tests fail where a call needs more. */
 #ifndef DENKUMARI_H
 #define DENKUMARI_H
 
@@ -118,7 +121,9 @@ struct dk_offer {
  * the pass limit.
  *
  * Writes the image, bits from the top of each byte, and the spans, labels and written items in the order of the nodes: span i has addresses[i],
- * offsets[i] (in bits, or DK_NO_OFFSET) and sizes[i] (in bits, 0 for a label). The shortest of the three lists counts. */
+ * offsets[i] (in bits, or DK_NO_OFFSET) and sizes[i] (in bits, 0 for a label). The shortest of the three lists counts.
+ *
+ * It needs less than 24 KiB of stack (16.3 KiB). */
 struct dk_layout dk_build(const uint16_t *units, size_t units_len,
                           const int64_t *starts, size_t starts_len,
                           const uint32_t *bank_sizes, size_t bank_sizes_len,
@@ -137,8 +142,8 @@ struct dk_layout dk_build(const uint16_t *units, size_t units_len,
                           uint64_t *offsets, size_t offsets_len,
                           uint64_t *sizes, size_t sizes_len);
 
-/* The same for a file of form 1, at most 65,000 bytes: image and spans as above. It needs 125 kB of stack,
- * most of it for the lists of the file; dk_build needs 20 kB. */
+/* The same for a file of form 1, at most 65,000 bytes: image and spans as above. It needs less than 128 KiB of stack (120.0 KiB), most of it
+ * for the lists of the file. */
 struct dk_layout dk_form(const uint8_t *file, size_t file_len,
                          uint8_t *image, size_t image_len,
                          int64_t *addresses, size_t addresses_len,
@@ -146,25 +151,27 @@ struct dk_layout dk_form(const uint8_t *file, size_t file_len,
                          uint64_t *sizes, size_t sizes_len);
 
 /* The blocks that spans make: taken by offset, a span that starts at the end of those before it joins them. As many offsets as sizes, at
- * most 4,096 (else 4). Block i starts at bit block_offsets[i] and has block_sizes[i] bits. It needs 55 kB of
- * stack. */
+ * most 4,096 (else 4). Block i starts at bit block_offsets[i] and has block_sizes[i] bits. It needs less than 12 KiB of stack (8.3 KiB), 8 KiB
+ * of it for the spans' numbers. */
 struct dk_count dk_blocks(const uint64_t *offsets, size_t offsets_len,
                           const uint64_t *sizes, size_t sizes_len,
                           uint64_t *block_offsets, size_t block_offsets_len,
                           uint64_t *block_sizes, size_t block_sizes_len);
 
 /* The first `bits` bits of `bytes` in hex: four bits a digit, lower case, the last digit padded with zero bits, no final zero byte. Refused 4
- * where there are fewer bits, then 14 where `hex` is too short. */
+ * where there are fewer bits, then 14 where `hex` is too short. It needs less than 1 KiB of stack (at most 128 bytes). */
 struct dk_count dk_hex(const uint8_t *bytes, size_t bytes_len, uint64_t bits, uint8_t *hex, size_t hex_len);
 
 /* Offers `size` bits from bit `position` on to a store that you keep between calls: `count` intervals, ascending, no two sharing a bit, interval i
  * being sizes[i] bits from positions[i] on. Both arrays have 512 elements; with a count of 0 they may hold anything. Accepted, an offer with bits is
  * put in at its place; one of size 0, which is refused where it is strictly inside an interval, is not. Elements past the count stay. Refused 15 where the
  * store is no such store, 4 (place 0) where position is above 8,589,934,590 or size above 4,294,967,295, 12 where a bit is shared (place and second:
- * start and size of the lowest interval at or above the offer if those two share a bit, otherwise of the one below), 13 (place 0) where 512 are stored. */
+ * start and size of the lowest interval at or above the offer if those two share a bit, otherwise of the one below), 13 (place 0) where 512 are stored. It needs less than 1 KiB of
+ * stack (144 bytes). */
 struct dk_offer dk_offer(uint64_t *positions, uint64_t *sizes, uint64_t count, uint64_t position, uint64_t size);
 
-/* Where in an image the block of `size` bits from bit `offset` on stands, in bytes: image + start, length bytes. Reads nothing of the image. */
+/* Where in an image the block of `size` bits from bit `offset` on stands, in bytes: image + start, length bytes. Reads nothing of the image. It
+ * needs less than 1 KiB of stack (at most 128 bytes). */
 struct dk_part dk_part(const uint8_t *image, size_t image_len, uint64_t offset, uint64_t size);
 
 /* A refusal in words, without its place. */

@@ -15,6 +15,7 @@ use Rattle.refusal.specs.declared.Offset.the-variants.{None, At}
 use Rattle.refusal.specs.Limits.{maxNodes, maxOffer, maxPosition}
 use Rattle.refusal.specs.Pick.{pick}
 use Rattle.blocks.specs.declared.Block.{Block}
+use Rattle.blocks.specs.Acceptable.{acceptable-parts as parts}
 use Rattle.blocks.specs.Offsets.{noOffset, offsetOf}
 use Rattle.blocks.specs.Put.{Put}
 use Rattle.blocks.specs.Spans.{span, within, offsetWithin, spansOf, allWithin, acceptable}
@@ -36,16 +37,6 @@ module _ (word size : ℕ) where
   pub at-past : (o : ℕ) → offsetOf word ≡ At o → maxOffer < o → false ≡ within (span word size)
   at-past o e h = rw (e, lt-leb o maxOffer h)
 
-pub both-true : (p q : Bool) → pick p q false ≡ true → (p ≡ true) × (q ≡ true)
-both-true true q e = (refl, e)
-both-true false q e = absurd (false≢true e)
-
--- What a span within the limits has: its offset within, and its size.
-pub within-parts : (word size : ℕ) → within (span word size) ≡ true → (offsetWithin (offsetOf word) ≡ true) × (size ≤ maxPosition)
-within-parts word size e =
-    let b = both-true (offsetWithin (offsetOf word)) (leb size maxPosition) e in
-    (b .0, leb-true size maxPosition (b .1))
-
 pub at-most : (offset : Offset) (o : ℕ) → offset ≡ At o → offsetWithin offset ≡ true → o ≤ maxOffer
 at-most offset o e h = leb-true o maxOffer (rw e at h)
 
@@ -60,11 +51,13 @@ module _ (words sizes : List ℕ) (i : ℕ) (h : i < length words) (same : lengt
   unfolding allWithin
   within-goes whole e w = rw add-one (rw (spans-cons, e) at w)
 
-  pub within-stops : (whole : Bool) → within (span (getD words i 0) (getD sizes i 0)) ≡ false → allWithin (spansOf (drop i words) (drop i sizes)) ≡ whole → false ≡ whole
+  pub within-stops : (whole : Bool) → within (span (getD words i 0) (getD sizes i 0)) ≡ false
+      → allWithin (spansOf (drop i words) (drop i sizes)) ≡ whole → false ≡ whole
   unfolding allWithin
   within-stops whole e w = rw (spans-cons, e) at w
 
-pub within-ends : (words sizes : List ℕ) (i : ℕ) (whole : Bool) → i ≤ length words → length words ≤ i → allWithin (spansOf (drop i words) (drop i sizes)) ≡ whole → true ≡ whole
+pub within-ends : (words sizes : List ℕ) (i : ℕ) (whole : Bool) → i ≤ length words → length words ≤ i
+    → allWithin (spansOf (drop i words) (drop i sizes)) ≡ whole → true ≡ whole
 unfolding allWithin spansOf
 within-ends words sizes i whole h k w = rw (le-antisymm h k, drop-length words) at w
 
@@ -78,11 +71,9 @@ module _ (words sizes : List ℕ) where
   pub acceptable-few : length words ≡ length sizes → length words ≤ maxNodes → allWithin (spansOf words sizes) ≡ acceptable words sizes
   acceptable-few e h = rw (eq-eqb (length words) (length sizes) e, le-leb (length words) maxNodes h)
 
-  pub acceptable-parts : acceptable words sizes ≡ true → (length words ≡ length sizes) × (length words ≤ maxNodes) × (allWithin (spansOf words sizes) ≡ true)
-  acceptable-parts e =
-      let a = both-true (eqb (length words) (length sizes)) (pick (leb (length words) maxNodes) (allWithin (spansOf words sizes)) false) e in
-      let b = both-true (leb (length words) maxNodes) (allWithin (spansOf words sizes)) (a .1) in
-      (eqb-true (length words) (length sizes) (a .0), leb-true (length words) maxNodes (b .0), b .1)
+  pub acceptable-parts : acceptable words sizes ≡ true
+      → (length words ≡ length sizes) × (length words ≤ maxNodes) × (allWithin (spansOf words sizes) ≡ true)
+  acceptable-parts = parts words sizes
 
 pub put-nothing : (count : ℕ) (os ss : List ℕ) → Put [] count os ss count os ss
 put-nothing count os ss = record { counted = sym (add-zero count); first = refl; second = refl }

@@ -1,4 +1,6 @@
 pub mod Laws
 pub mod Ordered
+pub mod Passed
 pub mod Room
+pub mod Unique
 pub mod Walking

@@ -11,10 +11,11 @@ use lib.Seq.{sets, sets-eq}
 use Rattle.refusal.specs.declared.Place.the-variants.{One}
 use Rattle.refusal.specs.declared.Refusal.the-variants.{Malformed, TooShort}
 use Rattle.refusal.specs.Pick.{pick}
+use Rattle.refusal.specs.Told.{gives, refuses}
 use Rattle.blocks.specs.declared.Block.{Block}
 use Rattle.blocks.specs.declared.Blocks.{Blocks}
 use Rattle.blocks.specs.declared.Blocks.the-variants.{Found, Refused}
-use Rattle.blocks.specs.Outcome.{origins, sizes, over, roomFor, told, toldBy, Written, Contract}
+use Rattle.blocks.specs.Outcome.{origins, sizes, over, roomFor, toldBy, Written, Contract}
 use Rattle.blocks.specs.Put.{Put}
 use Rattle.blocks.specs.Spans.{spansOf, acceptable}
 use Rattle.blocks.specs.Walk.{blocksOf}
@@ -54,7 +55,8 @@ module _ (blocks : List Block) (os ss : List ℕ) (count : ℕ) (os₁ ss₁ : L
         record { answer = rw (e, f); first = rw (os-kept, e, f); second = rw (ss-kept, e, f) }
 
     -- A second walk, over what is lent.
-    pub enough : count ≤ length (ss₁ ++ ss) → (r : ℕ) (os₂ ss₂ : List ℕ) → Put blocks 0 (os₁ ++ os) (ss₁ ++ ss) r os₂ ss₂ → Written blocks os ss (Found count) os₂ ss₂
+    pub enough : count ≤ length (ss₁ ++ ss) → (r : ℕ) (os₂ ss₂ : List ℕ) → Put blocks 0 (os₁ ++ os) (ss₁ ++ ss) r os₂ ss₂
+        → Written blocks os ss (Found count) os₂ ss₂
     enough h r os₂ ss₂ p =
         let k = rw (ss-kept, is-all) at h in
         let f = le-leb (length blocks) (length ss) k in
@@ -65,7 +67,7 @@ module _ (blocks : List Block) (os ss : List ℕ) (count : ℕ) (os₁ ss₁ : L
         }
 
 -- The answers that `write_blocks` gives, in document 01's figures.
-answer-told : (t : Bool) (n : ℕ) → toldBy (pick t (Found n) (Refused (TooShort 2))) ≡ pick t (told 0 (One 0) n) (told 14 (One 2) 0)
+answer-told : (t : Bool) (n : ℕ) → toldBy (pick t (Found n) (Refused (TooShort 2))) ≡ pick t (gives n) (refuses 14 (One 2))
 answer-told true n = refl
 answer-told false n = refl
 
@@ -74,7 +76,8 @@ module _ (words lengths os ss : List ℕ) where
   pub malformed : acceptable words lengths ≡ false → Contract words lengths os ss (Refused (Malformed 0)) os ss
   malformed e = record { answer = rw e; figures = rw e; first = rw e; second = rw e }
 
-  pub well-formed : acceptable words lengths ≡ true → (r : Blocks) (os₁ ss₁ : List ℕ) → Written (blocksOf (spansOf words lengths)) os ss r os₁ ss₁ → Contract words lengths os ss r os₁ ss₁
+  pub well-formed : acceptable words lengths ≡ true → (r : Blocks) (os₁ ss₁ : List ℕ) → Written (blocksOf (spansOf words lengths)) os ss r os₁ ss₁
+      → Contract words lengths os ss r os₁ ss₁
   well-formed e r os₁ ss₁ w =
       let blocks = blocksOf (spansOf words lengths) in
       record {

@@ -3,7 +3,7 @@
 use mathlib.Core.Path.{_≡_, refl, ap, _∙_}
 use mathlib.Core.Bool.{Bool, true, false}
 use mathlib.Core.List.{List, [], _∷_, _++_, map, map-append}
-use Prim.Native.Nat.{ℕ, suc, _+_, _*_, _%_, _≤_, _<_}
+use Prim.Native.Nat.{ℕ, suc, _+_, _*_, _≤_, _<_}
 use native.Mathlib.Nat.{add-zero, le-antisymm}
 use native.Mathlib.Numerals.{add-one}
 use native.Mathlib.Omega.{arith}
@@ -11,10 +11,10 @@ use lib.Dec.{eqb}
 use lib.ListN.{length, getD, drop, set, length-append, length-map}
 use lib.Seq.{sets, length-sets, drop-cons, drop-length}
 use Rattle.refusal.specs.declared.Offset.the-variants.{None, At}
-use Rattle.refusal.specs.Limits.{maxNodes, maxOffer, maxPosition}
+use Rattle.refusal.specs.Limits.{maxOffer, maxPosition}
 use Rattle.refusal.specs.Pick.{pick}
 use Rattle.blocks.specs.declared.Block.{Block}
-use Rattle.blocks.specs.Keys.{spanAt}
+use Rattle.blocks.specs.Numbered.{spanAt}
 use Rattle.blocks.specs.Offsets.{offsetOf}
 use Rattle.blocks.specs.Outcome.{origins, sizes}
 use Rattle.blocks.specs.Put.{Put}
@@ -50,16 +50,16 @@ joined-small b o size i h k p q = go (eqb o (endOf b))
     go true = (h, omega arith)
     go false = (p, omega arith)
 
--- the keys, the spans, and what is lent for the blocks
-module _ (keys words lengths os₀ ss₀ : List ℕ) where
+-- the numbers, the spans, and what is lent for the blocks
+module _ (numbers words lengths os₀ ss₀ : List ℕ) where
   abbrev left : ℕ → List Span
-  left i = map (spanAt words lengths) (drop i keys)
+  left i = map (spanAt words lengths) (drop i numbers)
 
   abbrev all : List Block
-  all = blocksFrom (block 0 0) (map (spanAt words lengths) keys)
+  all = blocksFrom (block 0 0) (map (spanAt words lengths) numbers)
 
   pub record Walking (b : Block) (count : ℕ) (os ss : List ℕ) (i : ℕ) : Type 0 where
-    pub at : i ≤ length keys
+    pub at : i ≤ length numbers
     pub few : count ≤ i
     pub origin : b .origin ≤ maxOffer
     pub size : b .size ≤ i * maxPosition
@@ -70,20 +70,30 @@ module _ (keys words lengths os₀ ss₀ : List ℕ) where
     pub long₂ : length ss ≡ length ss₀
 
   pub walking-starts : Walking (block 0 0) 0 os₀ ss₀ 0
-  walking-starts = record { at = omega arith; few = omega arith; origin = omega arith; size = omega arith; counted = omega arith; first = refl; second = refl; long = refl; long₂ = refl }
+  walking-starts = record {
+    at = omega arith;
+    few = omega arith;
+    origin = omega arith;
+    size = omega arith;
+    counted = omega arith;
+    first = refl;
+    second = refl;
+    long = refl;
+    long₂ = refl;
+  }
 
   module _ (b : Block) (count : ℕ) (os ss : List ℕ) (i : ℕ) (w : Walking b count os ss i) where
-    module _ (more : i < length keys) where
+    module _ (more : i < length numbers) where
       -- the next span
       abbrev word : ℕ
-      word = getD words (getD keys i 0 % maxNodes) 0
+      word = getD words (getD numbers i 0) 0
 
       abbrev length′ : ℕ
-      length′ = getD lengths (getD keys i 0 % maxNodes) 0
+      length′ = getD lengths (getD numbers i 0) 0
 
       next : blocksFrom b (left i) ≡ closed b (offsetOf word) ++ blocksFrom (joined b (offsetOf word) length′) (left (i + 1))
       unfolding blocksFrom
-      next = rw (drop-cons keys i 0 more, add-one)
+      next = rw (drop-cons numbers i 0 more, add-one)
 
       pub walking-past : offsetOf word ≡ None → Walking b count os ss (i + 1)
       walking-past e =
@@ -100,7 +110,8 @@ module _ (keys words lengths os₀ ss₀ : List ℕ) where
             long₂ = w .long₂;
           }
 
-      pub walking-on : (o : ℕ) → offsetOf word ≡ At o → o ≤ maxOffer → length′ ≤ maxPosition → (count′ : ℕ) (os′ ss′ : List ℕ) → Put (closed b (At o)) count os ss count′ os′ ss′
+      pub walking-on : (o : ℕ) → offsetOf word ≡ At o → o ≤ maxOffer → length′ ≤ maxPosition → (count′ : ℕ) (os′ ss′ : List ℕ)
+          → Put (closed b (At o)) count os ss count′ os′ ss′
           → Walking (joined b (At o) length′) count′ os′ ss′ (i + 1)
       walking-on o e h k count′ os′ ss′ p =
           let rest = blocksFrom (joined b (At o) length′) (left (i + 1)) in
@@ -117,11 +128,11 @@ module _ (keys words lengths os₀ ss₀ : List ℕ) where
             long₂ = ap length (p .second) ∙ length-sets ss count (sizes (closed b (At o))) ∙ w .long₂;
           }
 
-    pub walking-ends : length keys ≤ i → (count′ : ℕ) (os′ ss′ : List ℕ) → Put (kept b) count os ss count′ os′ ss′ → Put all 0 os₀ ss₀ count′ os′ ss′
+    pub walking-ends : length numbers ≤ i → (count′ : ℕ) (os′ ss′ : List ℕ) → Put (kept b) count os ss count′ os′ ss′ → Put all 0 os₀ ss₀ count′ os′ ss′
     unfolding blocksFrom
     walking-ends h count′ os′ ss′ p =
-        let done : i ≡ length keys = le-antisymm (w .at) h in
-        let nil : blocksFrom b (left i) ≡ kept b = rw (done, drop-length keys) in
+        let done : i ≡ length numbers = le-antisymm (w .at) h in
+        let nil : blocksFrom b (left i) ≡ kept b = rw (done, drop-length numbers) in
         record {
           counted = p .counted ∙ (rw nil at (w .counted)) ∙ omega arith;
           first = p .first ∙ (rw nil at (w .first));

@@ -59,10 +59,12 @@ module _ (bit o size : ℕ) where
   where-is P before inside behind = ⊎-elim (λ h. ⊎-elim behind (λ k. inside (h, k)) (le-or-lt (o + size) bit)) before (le-or-lt o bit)
 
   covers-few : covers bit o size ≤ 1
-  covers-few = where-is (covers bit o size ≤ 1) (λ h. rw (covers-before h) (omega arith)) (λ h. rw (covers-in h) (omega arith)) (λ h. rw (covers-behind h) (omega arith))
+  covers-few = where-is (covers bit o size ≤ 1) (λ h. rw (covers-before h) (omega arith)) (λ h. rw (covers-in h) (omega arith))
+      (λ h. rw (covers-behind h) (omega arith))
 
   covers-is-in : 1 ≤ covers bit o size → InRun bit o size
-  covers-is-in h = where-is (InRun bit o size) (λ k. let e = covers-before k in absurd (omega arith)) (λ k. k) (λ k. let e = covers-behind k in absurd (omega arith))
+  covers-is-in h = where-is (InRun bit o size) (λ k. let e = covers-before k in absurd (omega arith)) (λ k. k)
+      (λ k. let e = covers-behind k in absurd (omega arith))
 
 covers-adds : (bit : ℕ) → Additive (covers bit)
 covers-adds bit = record {
@@ -151,8 +153,10 @@ spans-count = record {
 -- A bit lies in some block exactly when it lies in some span that has an offset.
 pub bit-in-blocks : (spans : List Span) (bit : ℕ) → Some (InBlock bit) (blocksOf spans) ↔ Some (InSpan bit) spans
 bit-in-blocks spans bit = (
-  λ h. some-is-in InSpan (λ n s. ofSpan (covers n) s) spans-count bit spans (rw (bit-kept bit spans) at (some-counted InBlock (λ n b. ofBlock (covers n) b) blocks-count bit (blocksOf spans) h)),
-  λ h. some-is-in InBlock (λ n b. ofBlock (covers n) b) blocks-count bit (blocksOf spans) (rw (← (bit-kept bit spans)) at (some-counted InSpan (λ n s. ofSpan (covers n) s) spans-count bit spans h)),
+  λ h. some-is-in InSpan (λ n s. ofSpan (covers n) s) spans-count bit spans
+      (rw (bit-kept bit spans) at (some-counted InBlock (λ n b. ofBlock (covers n) b) blocks-count bit (blocksOf spans) h)),
+  λ h. some-is-in InBlock (λ n b. ofBlock (covers n) b) blocks-count bit (blocksOf spans)
+      (rw (← (bit-kept bit spans)) at (some-counted InSpan (λ n s. ofSpan (covers n) s) spans-count bit spans h)),
 )
 
 -- Where no two spans share a bit, no two blocks do.

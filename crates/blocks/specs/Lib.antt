@@ -1,13 +1,14 @@
+pub mod Acceptable
 pub mod Bits
 pub mod Cases
 pub mod Count
-pub mod Keys
+pub mod Exactly
 pub mod Measure
+pub mod Numbered
 pub mod Offsets
 pub mod Outcome
 pub mod Put
 pub mod Rising
 pub mod Row
 pub mod Spans
-pub mod Unique
 pub mod Walk

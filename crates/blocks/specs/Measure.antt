@@ -52,7 +52,8 @@ module _ (m : ℕ → ℕ → ℕ) (a : Additive m) where
   step-keeps b None size = omega arith
   step-keeps b (At o) size = go (eqb o (endOf b)) refl
     where
-      go : (t : Bool) → eqb o (endOf b) ≡ t → total (ofBlock m) (pick t [] (kept b)) + ofBlock m (pick t (block (b .origin) (b .size + size)) (block o size)) ≡ ofBlock m b + m o size
+      go : (t : Bool) → eqb o (endOf b) ≡ t
+          → total (ofBlock m) (pick t [] (kept b)) + ofBlock m (pick t (block (b .origin) (b .size + size)) (block o size)) ≡ ofBlock m b + m o size
       go true e = rw (eqb-true o (endOf b) e, a .more (b .origin) (b .size) size) (omega arith)
       go false e = rw (kept-keeps b)
 

@@ -6,10 +6,9 @@ use Prim.Native.Nat.{ℕ}
 use lib.Dec.{leb}
 use lib.ListN.{length, drop}
 use Rattle.refusal.specs.declared.Refusal.the-variants.{Malformed, TooShort}
-use Rattle.refusal.specs.declared.Place.{Place}
 use Rattle.refusal.specs.declared.Place.the-variants.{One}
 use Rattle.refusal.specs.Pick.{pick}
-use Rattle.refusal.specs.Refusals.{numberOf, placeOf}
+use Rattle.refusal.specs.Told.{Told, gives, refuses, toldRefusal}
 use Rattle.blocks.specs.declared.Block.{Block}
 use Rattle.blocks.specs.declared.Blocks.{Blocks}
 use Rattle.blocks.specs.declared.Blocks.the-variants.{Found, Refused}
@@ -45,22 +44,16 @@ pub record Written (blocks : List Block) (origins₀ sizes₀ : List ℕ) (r : B
   pub first : origins₁ ≡ originsAfter blocks origins₀ sizes₀
   pub second : sizes₁ ≡ sizesAfter blocks origins₀ sizes₀
 
--- An answer in document 01's figures: the refusal's number and place, 0 where nothing is refused, and how many blocks there are.
-pub record Told : Type 0 where
-  pub number : ℕ
-  pub place : Place
-  pub blocks : ℕ
-
-abbrev pub told : ℕ → Place → ℕ → Told
-told number place blocks = record { number = number; place = place; blocks = blocks }
-
-abbrev pub toldBy : Blocks → Told
-toldBy (Found n) = told 0 (One 0) n
-toldBy (Refused r) = told (numberOf r) (placeOf r) 0
+-- An answer in document 01's figures: how many blocks there are, or the refusal's number and place.
+abbrev pub toldBy : Blocks → Told ℕ
+toldBy (Found n) = gives n
+toldBy (Refused r) = toldRefusal r
 
 -- A call of `get_blocks`: "Block and hex calls try 4 .., then 14", and a refusal "changes nothing lent".
 pub record Contract (words lengths origins₀ sizes₀ : List ℕ) (r : Blocks) (origins₁ sizes₁ : List ℕ) : Type 0 where
   pub answer : r ≡ pick (acceptable words lengths) (answerOf (blocksOf (spansOf words lengths)) origins₀ sizes₀) (Refused (Malformed 0))
-  pub figures : toldBy r ≡ pick (acceptable words lengths) (pick (roomFor (blocksOf (spansOf words lengths)) origins₀ sizes₀) (told 0 (One 0) (length (blocksOf (spansOf words lengths)))) (told 14 (One 2) 0)) (told 4 (One 0) 0)
+  pub figures : toldBy r ≡ pick (acceptable words lengths)
+      (pick (roomFor (blocksOf (spansOf words lengths)) origins₀ sizes₀) (gives (length (blocksOf (spansOf words lengths)))) (refuses 14 (One 2)))
+      (refuses 4 (One 0))
   pub first : origins₁ ≡ pick (acceptable words lengths) (originsAfter (blocksOf (spansOf words lengths)) origins₀ sizes₀) origins₀
   pub second : sizes₁ ≡ pick (acceptable words lengths) (sizesAfter (blocksOf (spansOf words lengths)) origins₀ sizes₀) sizes₀

@@ -65,7 +65,8 @@ from-kept b p blocks h f = go (eqb (b .size) 0)
     go true = (λ r k. f .0 r (le-trans k h), f .1)
     go false = (λ r k. (k, f .0 r (le-trans k h)), (f .0 (b .origin) h, f .1))
 
-from-closed : (b : Block) (o : Offset) (size : ℕ) (blocks : List Block) → AheadOf (b .origin) o → From ((joined b o size) .origin) blocks → From (b .origin) (closed b o ++ blocks)
+from-closed : (b : Block) (o : Offset) (size : ℕ) (blocks : List Block) → AheadOf (b .origin) o → From ((joined b o size) .origin) blocks
+    → From (b .origin) (closed b o ++ blocks)
 from-closed b None size blocks h f = f
 from-closed b (At o) size blocks h f = go (eqb o (endOf b)) f
   where
@@ -103,7 +104,8 @@ closed-some b (At o) x m = go (eqb o (endOf b)) m
 walk-some : (b : Block) (l : List Span) (x : Block) → List·Memᴰ x (blocksFrom b l) → 0 < x .size
 unfolding blocksFrom
 walk-some b [] x m = kept-some b x m
-walk-some b (s ∷ l) x m = ⊎-elim (closed-some b (s .offset) x) (walk-some (joined b (s .offset) (s .size)) l x) (List·Memᴰ·append-cases (closed b (s .offset)) m)
+walk-some b (s ∷ l) x m = ⊎-elim (closed-some b (s .offset) x) (walk-some (joined b (s .offset) (s .size)) l x)
+    (List·Memᴰ·append-cases (closed b (s .offset)) m)
 
 -- No block is empty.
 pub blocks-not-empty : (spans : List Span) (x : Block) → List·Memᴰ x (blocksOf spans) → 0 < x .size

@@ -18,7 +18,8 @@ InARow [] = Unit {0}
 InARow (b ∷ l) = NoneBelow originOf (endOf b) l × InARow l
 
 -- a block that starts no lower than b, is not empty and shares no bit with b starts no lower than b ends
-ends-before : (b : Block) (l : List Block) → NoneBelow originOf (b .origin) l → ((x : Block) → List·Memᴰ x l → 0 < x .size) → ((bit : ℕ) → InBlock bit b → Some (InBlock bit) l → ⊥)
+ends-before : (b : Block) (l : List Block) → NoneBelow originOf (b .origin) l → ((x : Block) → List·Memᴰ x l → 0 < x .size)
+    → ((bit : ℕ) → InBlock bit b → Some (InBlock bit) l → ⊥)
     → NoneBelow originOf (endOf b) l
 ends-before b [] h k s = tt
 ends-before b (c ∷ l) h k s = (

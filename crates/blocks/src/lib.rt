@@ -1,23 +1,20 @@
 // The blocks of an output: its spans, taken by offset, joined where one starts at the end of those before it. The port of
 // `BitVec::get_blocks`.
-use refusal::MAX_NODES;
 use refusal::MAX_OFFER;
 use refusal::MAX_POSITION;
 use refusal::Offset;
 use refusal::Refusal;
 ghost use mathlib.Core.Path.{_≡_};
 ghost use mathlib.Core.Bool.{true};
-ghost use mathlib.Core.List.{map};
-ghost use Prim.Native.Nat.{ℕ, _+_, _%_, _≤_, _<_, _^_};
-ghost use lib.ListN.{length, getD, set};
-ghost use Rattle.refusal.specs.Limits.{maxNodes, maxOffer};
-ghost use Rattle.blocks.specs.Keys.{keyOf, keysFrom, spanAt, Walkable};
-ghost use Rattle.blocks.specs.Offsets.{offsetOf, OffsetIs, WordIs};
-ghost use Rattle.blocks.specs.Spans.{span, within, offsetWithin, rank, spansOf, allWithin, acceptable};
-ghost use Rattle.blocks.specs.Walk.{block, endOf, kept, closed, joined, blocksFrom, blocksOf};
+ghost use Prim.Native.Nat.{_+_, _≤_, _<_, _^_};
+ghost use lib.ListN.{length, set};
+ghost use Rattle.refusal.specs.Limits.{maxNodes};
+ghost use Rattle.blocks.specs.Numbered.{Walkable, numberedBlocks};
+ghost use Rattle.blocks.specs.Offsets.{OffsetIs, WordIs};
+ghost use Rattle.blocks.specs.Spans.{span, within, spansOf, allWithin, acceptable};
+ghost use Rattle.blocks.specs.Walk.{endOf, kept, closed, joined, blocksOf};
 ghost use Rattle.blocks.specs.Put.{Put};
 ghost use Rattle.blocks.specs.Outcome.{Written, Contract};
-ghost use Rattle.sort.specs.Sorted.{sorted};
 
 // A run of bits in the output, running or written: the Rust's `BitVecBlock`, with its `current_origin` and `current_size`.
 pub struct Block {
@@ -102,44 +99,6 @@ fn are_acceptable(offsets: &[u64], sizes: &[u64]) -> bool
     all_within(offsets, sizes)
 }
 
-// An offset's rank: none comes before every offset.
-fn rank_of(offset: Offset) -> u64
-    requires { ⌜ offsetWithin offset ≡ true ⌝ }
-    ensures { λ r. ⌜ (r ≡ rank offset) × (r ≤ maxOffer + 1) ⌝ }
-{
-    match offset {
-        Offset::None => 0,
-        Offset::At(o) => o + 1,
-    }
-}
-
-// The key by which a span is sorted: its offset's rank, then its place among the spans.
-fn key_of(rank: u64, place: usize) -> u64
-    requires { ⌜ (rank ≤ maxOffer + 1) × (place < maxNodes) ⌝ }
-    ensures { λ r. ⌜ r ≡ keyOf rank place ⌝ }
-{
-    rank * MAX_NODES + place as u64
-}
-
-// The place of the span that a key stands for.
-fn place_of(key: u64) -> usize
-    ensures { λ r. ⌜ r ≡ key % maxNodes ⌝ }
-{
-    (key % MAX_NODES) as usize
-}
-
-// Fills `keys` with the keys of the spans.
-fn fill_keys(offsets: &[u64], keys: &mut [u64])
-    requires { ⌜ (length (now keys) ≡ length (now offsets)) × (length (now offsets) ≤ maxNodes) ⌝ }
-    requires { ⌜ ((k : ℕ) → k < length (now offsets) → offsetWithin (offsetOf (getD (now offsets) k 0)) ≡ true) ⌝ }
-    ensures { λ _. ⌜ now (keys .exit) ≡ keysFrom 0 (now (offsets .entry)) ⌝ }
-{
-    for i in 0..offsets.len() {
-        let rank = rank_of(offset_of(offsets[i]));
-        keys[i] = key_of(rank, i);
-    }
-}
-
 // Stores a number at a place, if there is one.
 fn put(column: &mut [u64], at: usize, value: u64)
     ensures { λ _. ⌜ now (column .exit) ≡ set (now (column .entry)) at value ⌝ }
@@ -160,7 +119,8 @@ fn end_of(block: Block) -> u64
 // Writes a block behind those written, unless it is empty, and counts it.
 fn push(block: Block, count: usize, block_offsets: &mut [u64], block_sizes: &mut [u64]) -> usize
     requires { ⌜ count ≤ maxNodes ⌝ }
-    ensures { λ r. ⌜ Put (kept block) count (now («block_offsets» .entry)) (now («block_sizes» .entry)) r (now («block_offsets» .exit)) (now («block_sizes» .exit)) ⌝ }
+    ensures { λ r. ⌜ Put (kept block) count (now («block_offsets» .entry)) (now («block_sizes» .entry)) r
+        (now («block_offsets» .exit)) (now («block_sizes» .exit)) ⌝ }
 {
     if block.size == 0 {
         return count;
@@ -179,7 +139,8 @@ fn close(
     block_sizes: &mut [u64],
 ) -> usize
     requires { ⌜ (count ≤ maxNodes) × (endOf block < 2 ^ 63) ⌝ }
-    ensures { λ r. ⌜ Put (closed block (Offset.At offset)) count (now («block_offsets» .entry)) (now («block_sizes» .entry)) r (now («block_offsets» .exit)) (now («block_sizes» .exit)) ⌝ }
+    ensures { λ r. ⌜ Put (closed block (Offset.At offset)) count
+        (now («block_offsets» .entry)) (now («block_sizes» .entry)) r (now («block_offsets» .exit)) (now («block_sizes» .exit)) ⌝ }
 {
     if offset == end_of(block) {
         return count;
@@ -205,22 +166,23 @@ fn join(block: Block, offset: u64, size: u64) -> Block
     }
 }
 
-// Walks the spans in the order of their keys, and writes the blocks that they make one behind the other, as far as the lent
+// Walks the spans in the order of their numbers, and writes the blocks that they make one behind the other, as far as the lent
 // slices go. Counts all of them.
 fn walk(
-    keys: &[u64],
+    numbers: &[u16],
     offsets: &[u64],
     sizes: &[u64],
     block_offsets: &mut [u64],
     block_sizes: &mut [u64],
 ) -> usize
-    requires { ⌜ Walkable (now keys) (now offsets) (now sizes) ⌝ }
-    ensures { λ r. ⌜ Put (blocksFrom (block 0 0) (map (spanAt (now (offsets .entry)) (now (sizes .entry))) (now (keys .entry)))) 0 (now («block_offsets» .entry)) (now («block_sizes» .entry)) r (now («block_offsets» .exit)) (now («block_sizes» .exit)) ⌝ }
+    requires { ⌜ Walkable (now numbers) (now offsets) (now sizes) ⌝ }
+    ensures { λ r. ⌜ Put (numberedBlocks (now (offsets .entry)) (now (sizes .entry)) (now (numbers .entry))) 0
+        (now («block_offsets» .entry)) (now («block_sizes» .entry)) r (now («block_offsets» .exit)) (now («block_sizes» .exit)) ⌝ }
 {
     let mut current = Block { origin: 0, size: 0 };
     let mut count = 0;
-    for i in 0..keys.len() {
-        let place = place_of(keys[i]);
+    for i in 0..numbers.len() {
+        let place = numbers[i] as usize;
         // "a span whose offset is none is passed over"
         let Offset::At(offset) = offset_of(offsets[place]) else {
             continue;
@@ -233,17 +195,18 @@ fn walk(
 
 // Writes the blocks, if there is room for all of them: a walk that is lent no room counts them first.
 fn write_blocks(
-    keys: &[u64],
+    numbers: &[u16],
     offsets: &[u64],
     sizes: &[u64],
     block_offsets: &mut [u64],
     block_sizes: &mut [u64],
 ) -> Blocks
-    requires { ⌜ Walkable (now keys) (now offsets) (now sizes) ⌝ }
-    ensures { λ r. ⌜ Written (blocksFrom (block 0 0) (map (spanAt (now (offsets .entry)) (now (sizes .entry))) (now (keys .entry)))) (now («block_offsets» .entry)) (now («block_sizes» .entry)) r (now («block_offsets» .exit)) (now («block_sizes» .exit)) ⌝ }
+    requires { ⌜ Walkable (now numbers) (now offsets) (now sizes) ⌝ }
+    ensures { λ r. ⌜ Written (numberedBlocks (now (offsets .entry)) (now (sizes .entry)) (now (numbers .entry)))
+        (now («block_offsets» .entry)) (now («block_sizes» .entry)) r (now («block_offsets» .exit)) (now («block_sizes» .exit)) ⌝ }
 {
     let count = walk(
-        keys,
+        numbers,
         offsets,
         sizes,
         &mut block_offsets[..0],
@@ -255,33 +218,24 @@ fn write_blocks(
     if block_sizes.len() < count {
         return Blocks::Refused(Refusal::TooShort(BUFFER));
     }
-    walk(keys, offsets, sizes, block_offsets, block_sizes);
+    walk(numbers, offsets, sizes, block_offsets, block_sizes);
     Blocks::Found(count as u64)
 }
 
-// Fills `keys` with the keys of the spans, in order.
-fn order_spans(offsets: &[u64], keys: &mut [u64])
-    requires { ⌜ (length (now keys) ≡ length (now offsets)) × (length (now offsets) ≤ maxNodes) ⌝ }
-    requires { ⌜ ((k : ℕ) → k < length (now offsets) → offsetWithin (offsetOf (getD (now offsets) k 0)) ≡ true) ⌝ }
-    ensures { λ _. ⌜ now (keys .exit) ≡ sorted (keysFrom 0 (now (offsets .entry))) ⌝ }
-{
-    fill_keys(offsets, keys);
-    sort::sort(keys);
-}
-
-// Writes the blocks of spans that are as they should be, with room for their keys.
+// Writes the blocks of spans that are as they should be, with room for their numbers.
 fn sort_and_write(
     offsets: &[u64],
     sizes: &[u64],
-    room: &mut [u64],
+    room: &mut [u16],
     block_offsets: &mut [u64],
     block_sizes: &mut [u64],
 ) -> Blocks
     requires { ⌜ (acceptable (now offsets) (now sizes) ≡ true) × (length (now offsets) ≤ length (now room)) ⌝ }
-    ensures { λ r. ⌜ Written (blocksOf (spansOf (now (offsets .entry)) (now (sizes .entry)))) (now («block_offsets» .entry)) (now («block_sizes» .entry)) r (now («block_offsets» .exit)) (now («block_sizes» .exit)) ⌝ }
+    ensures { λ r. ⌜ Written (blocksOf (spansOf (now (offsets .entry)) (now (sizes .entry))))
+        (now («block_offsets» .entry)) (now («block_sizes» .entry)) r (now («block_offsets» .exit)) (now («block_sizes» .exit)) ⌝ }
 {
     let n = offsets.len();
-    order_spans(offsets, &mut room[..n]);
+    sort::sort(offsets, &mut room[..n]);
     write_blocks(&room[..n], offsets, sizes, block_offsets, block_sizes)
 }
 
@@ -293,11 +247,12 @@ pub fn get_blocks(
     block_offsets: &mut [u64],
     block_sizes: &mut [u64],
 ) -> Blocks
-    ensures { λ r. ⌜ Contract (now (offsets .entry)) (now (sizes .entry)) (now («block_offsets» .entry)) (now («block_sizes» .entry)) r (now («block_offsets» .exit)) (now («block_sizes» .exit)) ⌝ }
+    ensures { λ r. ⌜ Contract (now (offsets .entry)) (now (sizes .entry)) (now («block_offsets» .entry)) (now («block_sizes» .entry)) r
+        (now («block_offsets» .exit)) (now («block_sizes» .exit)) ⌝ }
 {
     if !are_acceptable(offsets, sizes) {
         return Blocks::Refused(Refusal::Malformed(0));
     }
-    let mut room = [0u64; 4096];
+    let mut room = [0u16; 4096];
     sort_and_write(offsets, sizes, &mut room, block_offsets, block_sizes)
 }

@@ -45,7 +45,9 @@ returns c =
     let d = c .before in
     let l = head d .loop in
     let s = start (head d) in
-    within-stops (s .args .offsets .now) (s .args .sizes .now) (l .i) (d .before .before .before .loop-test .taken) (s .pre) (allWithin (spansOf (s .args .offsets .now) (s .args .sizes .now))) (sym (d .is-within .ensures) ∙ not-true (d .is-within .result) (c .if1 .taken)) (l .inv .1)
+    within-stops (s .args .offsets .now) (s .args .sizes .now) (l .i) (d .before .before .before .loop-test .taken) (s .pre)
+    (allWithin (spansOf (s .args .offsets .now) (s .args .sizes .now)))
+    (sym (d .is-within .ensures) ∙ not-true (d .is-within .result) (c .if1 .taken)) (l .inv .1)
 
 add-i : tie.Need-add-i Inv-loop μ-loop
 add-i c = search needs
@@ -57,8 +59,12 @@ loop-again : tie.Need-loop-again Inv-loop μ-loop
 loop-again c =
     let d = c .before in
     let l = head d .loop in
-    let s = start (head d) in
-    (search needs, within-goes (s .args .offsets .now) (s .args .sizes .now) (l .i) (d .before .before .before .loop-test .taken) (s .pre) (allWithin (spansOf (s .args .offsets .now) (s .args .sizes .now))) (sym (d .is-within .ensures) ∙ not-false (d .is-within .result) (c .if1 .left)) (l .inv .1))
+    let s = start (head d) in (
+      search needs,
+      within-goes (s .args .offsets .now) (s .args .sizes .now) (l .i) (d .before .before .before .loop-test .taken) (s .pre)
+          (allWithin (spansOf (s .args .offsets .now) (s .args .sizes .now)))
+          (sym (d .is-within .ensures) ∙ not-false (d .is-within .result) (c .if1 .left)) (l .inv .1),
+    )
 
 returns-2 : tie.Need-returns-2 Inv-loop μ-loop
 returns-2 c =

@@ -3,8 +3,8 @@ use borrow.Author.Needs.{needs}
 use mathlib.Core.Path.{_≡_, sym, _∙_}
 use mathlib.Core.Bool.{true}
 use borrow.Author.Tests.{not-true, not-false}
+use Rattle.blocks.specs.Acceptable.{acceptable-parts}
 use Rattle.blocks.specs.Spans.{acceptable}
-use Rattle.blocks.proofs.Laws.{acceptable-parts}
 use Rattle.blocks.proofs.Room.{malformed, well-formed}
 use Rattle.blocks.proofs.get_blocks.Statement.{statement}
 use Rattle.blocks.proofs.get_blocks.Tie as tie
@@ -23,7 +23,8 @@ returns : tie.Need-returns
 returns c =
     let d = c .before in
     let a = start d .args in
-    malformed (a .offsets .now) (a .sizes .now) (a .block-offsets .now) (a .block-sizes .now) (sym (d .are-acceptable .ensures) ∙ not-true (d .are-acceptable .result) (c .if1 .taken))
+    malformed (a .offsets .now) (a .sizes .now) (a .block-offsets .now) (a .block-sizes .now)
+    (sym (d .are-acceptable .ensures) ∙ not-true (d .are-acceptable .result) (c .if1 .taken))
 
 slice-aggregate-sort-and-write : tie.Need-slice-aggregate-sort-and-write
 slice-aggregate-sort-and-write c = search needs
@@ -45,7 +46,8 @@ returns-2 c =
     let w = c .before .before .before .before .before in
     let e = w .before .before .before .before in
     let a = start (e .before) .args in
-    well-formed (a .offsets .now) (a .sizes .now) (a .block-offsets .now) (a .block-sizes .now) (accepted e) (w .sort-and-write .result) (w .sort-and-write .last .1 .1 .1 .0) (w .sort-and-write .last .1 .1 .1 .1 .0) (w .sort-and-write .ensures)
+    well-formed (a .offsets .now) (a .sizes .now) (a .block-offsets .now) (a .block-sizes .now) (accepted e) (w .sort-and-write .result)
+    (w .sort-and-write .last .1 .1 .1 .0) (w .sort-and-write .last .1 .1 .1 .1 .0) (w .sort-and-write .ensures)
 
 pub get-blocks-spec : {M : Type 1} → statement M
 get-blocks-spec =

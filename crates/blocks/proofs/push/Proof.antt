@@ -30,7 +30,8 @@ returns-2 c =
     let p1 = p2 .before .before .before .before in
     let e = p1 .before .before in
     let a = e .before .before .before .before .args in
-    push-some (a .block) (e .if1 .left) (a .count) (a .block-offsets .now) (a .block-sizes .now) (p1 .put .last .0) (p2 .put2 .last .0) (p1 .put .ensures) (p2 .put2 .ensures)
+    push-some (a .block) (e .if1 .left) (a .count) (a .block-offsets .now) (a .block-sizes .now) (p1 .put .last .0) (p2 .put2 .last .0)
+    (p1 .put .ensures) (p2 .put2 .ensures)
 
 pub push-spec : {M : Type 1} → statement M
 push-spec =

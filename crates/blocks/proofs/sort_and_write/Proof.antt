@@ -1,50 +1,52 @@
--- `sort_and_write` meets its contract: the sorted keys stand for the spans taken by offset.
+-- `sort_and_write` meets its contract: the sorted numbers stand for the spans taken by offset.
 use borrow.Author.Needs.{needs}
 use mathlib.Core.Path.{_≡_, sym, ap, subst, _∙_}
 use mathlib.Core.Bool.{true}
-use mathlib.Core.List.{List, _++_, map}
-use Prim.Native.Nat.{_≤_}
-use lib.ListN.{length, getD, take, drop}
+use mathlib.Core.List.{List, _++_}
+use Prim.Native.Nat.{ℕ, _≤_}
+use lib.ListN.{length, take, drop}
 use lib.Seq.{length-take-le}
 use Rattle.refusal.specs.Limits.{maxNodes}
-use Rattle.sort.specs.Sorted.{sorted}
-use Rattle.blocks.specs.Keys.{keysFrom, spanAt}
+use Rattle.sort.specs.Numbers.{order}
+use Rattle.sort.specs.OrderFacts.{order-length}
+use Rattle.blocks.specs.declared.Block.{Block}
+use Rattle.blocks.specs.Acceptable.{acceptable-parts}
+use Rattle.blocks.specs.Numbered.{numberedBlocks}
 use Rattle.blocks.specs.Outcome.{Written}
-use Rattle.blocks.specs.Spans.{Span, spansOf, allWithin}
-use Rattle.blocks.specs.Walk.{block, blocksFrom}
-use Rattle.blocks.proofs.Laws.{acceptable-parts, within-parts}
-use Rattle.blocks.proofs.Ordered.{each-within, keys-walkable, keys-in-order, keys-in-front, sorted-length}
+use Rattle.blocks.specs.Spans.{spansOf, allWithin}
+use Rattle.blocks.proofs.Ordered.{blocks-in-order, order-walkable, front-is}
 use Rattle.blocks.proofs.sort_and_write.Statement.{statement}
 use Rattle.blocks.proofs.sort_and_write.Tie as tie
 
 -- the function's start, seen from the first call, and what is known of the spans there
-abbrev start : tie.After-order-spans-arg → tie.Start
+abbrev start : tie.After-sort-arg → tie.Start
 start c = c .before .before .before .before .before .before
 
-good : (s : tie.Start) → (length (s .args .offsets .now) ≡ length (s .args .sizes .now)) × (length (s .args .offsets .now) ≤ maxNodes) × (allWithin (spansOf (s .args .offsets .now) (s .args .sizes .now)) ≡ true)
-good s = acceptable-parts (s .args .offsets .now) (s .args .sizes .now) (s .pre .0)
+abbrev words : tie.Start → List ℕ
+words s = s .args .offsets .now
+
+good : (s : tie.Start)
+    → (length (words s) ≡ length (s .args .sizes .now)) × (length (words s) ≤ maxNodes) × (allWithin (spansOf (words s) (s .args .sizes .now)) ≡ true)
+good s = acceptable-parts (words s) (s .args .sizes .now) (s .pre .0)
 
 -- the front of the room, after the first call
-in-front : (c : tie.After-order-spans) → take (length (start (c .before) .args .offsets .now)) (c .order-spans .last .1 .0 ++ drop (length (start (c .before) .args .offsets .now)) (start (c .before) .args .room .now)) ≡ sorted (keysFrom 0 (start (c .before) .args .offsets .now))
+in-front : (c : tie.After-sort)
+    → take (length (words (start (c .before)))) (c .sort .last .1 .0 ++ drop (length (words (start (c .before)))) (start (c .before) .args .room .now))
+    ≡ order (words (start (c .before)))
 in-front c =
-    let a = start (c .before) .args in
-    keys-in-front (a .offsets .now) (c .order-spans .last .1 .0) (a .room .now) (c .order-spans .ensures)
+    let s = start (c .before) in
+    front-is (words s) (s .args .room .now) (c .sort .last .1 .0) (c .sort .result) (s .pre .1) (good s .1) (c .sort .ensures)
 
-slice-relend-prefix-order-spans : tie.Need-slice-relend-prefix-order-spans
-slice-relend-prefix-order-spans c = search needs
+slice-relend-prefix-sort : tie.Need-slice-relend-prefix-sort
+slice-relend-prefix-sort c = search needs
 
-slice-aggregate-order-spans : tie.Need-slice-aggregate-order-spans
-slice-aggregate-order-spans c =
+slice-aggregate-sort : tie.Need-slice-aggregate-sort
+slice-aggregate-sort c =
     let s = start c in
-    sym (length-take-le (length (s .args .offsets .now)) (s .args .room .now) (s .pre .1))
+    sym (length-take-le (length (words s)) (s .args .room .now) (s .pre .1))
 
-order-spans-requires : tie.Need-order-spans-requires
-order-spans-requires c κs =
-    let s = start c in
-    let g = good s in
-    let ws = s .args .offsets .now in
-    let zs = s .args .sizes .now in
-    ((length-take-le (length ws) (s .args .room .now) (s .pre .1), g .1), λ k lt. within-parts (getD ws k 0) (getD zs k 0) (each-within ws zs (g .0) (g .2) k lt) .0)
+sort-requires : tie.Need-sort-requires
+sort-requires c κs = search needs
 
 slice-reshare-prefix-write-blocks : tie.Need-slice-reshare-prefix-write-blocks
 slice-reshare-prefix-write-blocks c = search needs
@@ -52,14 +54,14 @@ slice-reshare-prefix-write-blocks c = search needs
 slice-aggregate-write-blocks : tie.Need-slice-aggregate-write-blocks
 slice-aggregate-write-blocks c =
     let d = c .before .before .before in
-    sym (ap length (in-front d) ∙ sorted-length (start (d .before) .args .offsets .now))
+    sym (ap length (in-front d) ∙ order-length (words (start (d .before))))
 
 write-blocks-requires : tie.Need-write-blocks-requires
 write-blocks-requires c κs =
     let d = c .before .before .before .before .before in
     let s = start (d .before) in
     let g = good s in
-    rw (in-front d) (keys-walkable (s .args .offsets .now) (s .args .sizes .now) (g .1) (g .0) (g .2))
+    rw (in-front d) (order-walkable (words s) (s .args .sizes .now) (g .0) (g .1) (g .2))
 
 same-length : tie.Need-same-length
 same-length c = search needs
@@ -75,20 +77,19 @@ returns c =
     let w = c .before .before .before .before in
     let d = w .before .before .before .before .before .before in
     let s = start (d .before) in
-    let g = good s in
-    let ws = s .args .offsets .now in
-    let zs = s .args .sizes .now in
-    subst (λ (l : List Span). Written (blocksFrom (block 0 0) l) (s .args .block-offsets .now) (s .args .block-sizes .now) (w .write-blocks .result) (w .write-blocks .last .1 .1 .1 .0) (w .write-blocks .last .1 .1 .1 .1 .0))
-    (ap (map (spanAt ws zs)) (in-front d) ∙ keys-in-order ws zs (g .1) (g .0))
+    let a = s .args in
+    let last = w .write-blocks .last in
+    subst (λ (b : List Block). Written b (a .block-offsets .now) (a .block-sizes .now) (w .write-blocks .result) (last .1 .1 .1 .0) (last .1 .1 .1 .1 .0))
+    (ap (numberedBlocks (words s) (a .sizes .now)) (in-front d) ∙ blocks-in-order (words s) (a .sizes .now) (good s .0))
     (w .write-blocks .ensures)
 
 pub sort-and-write-spec : {M : Type 1} → statement M
 sort-and-write-spec =
     tie.close
     (tie.spec
-    slice-relend-prefix-order-spans
-    slice-aggregate-order-spans
-    order-spans-requires
+    slice-relend-prefix-sort
+    slice-aggregate-sort
+    sort-requires
     slice-reshare-prefix-write-blocks
     slice-aggregate-write-blocks
     write-blocks-requires

@@ -1,56 +1,56 @@
 -- `walk` meets its contract: each turn passes a span over or takes it, by the laws of `Walking`.
 use borrow.Author.Needs.{needs}
-use mathlib.Core.Path.{_≡_, sym, ap, subst⁻¹, _∙_}
+use mathlib.Core.Path.{_≡_, sym, _∙_}
 use mathlib.Core.Bool.{true}
-use Prim.Native.Nat.{ℕ, _-_, _%_, _<_, _≤_}
+use Prim.Native.Nat.{ℕ, _-_, _<_, _≤_}
 use native.Mathlib.Omega.{arith}
 use lib.ListN.{length, getD}
-use Rattle.refusal.specs.Limits.{maxNodes, maxPosition}
+use Rattle.refusal.specs.Limits.{maxPosition}
 use Rattle.blocks.specs.Offsets.{offsetOf}
 use Rattle.blocks.specs.Spans.{offsetWithin}
-use Rattle.blocks.proofs.Laws.{at-most, within-parts}
+use Rattle.blocks.specs.Acceptable.{within-parts}
+use Rattle.blocks.proofs.Laws.{at-most}
 use Rattle.blocks.proofs.Walking.{Walking, walking-starts, walking-past, walking-on, walking-ends}
 use Rattle.blocks.proofs.walk.Statement.{statement}
 use Rattle.blocks.proofs.walk.Tie as tie
 
 abbrev Inv-loop : tie.InvT-loop
-Inv-loop keys offsets sizes block-offsets₀ block-sizes₀ current₀ count₀ i₀ i-end block-offsets block-sizes current count i =
-    Walking keys offsets sizes block-offsets₀ block-sizes₀ current count block-offsets block-sizes i
+Inv-loop numbers offsets sizes block-offsets₀ block-sizes₀ current₀ count₀ i₀ i-end block-offsets block-sizes current count i =
+    Walking numbers offsets sizes block-offsets₀ block-sizes₀ current count block-offsets block-sizes i
 
 abbrev μ-loop : tie.MeasureT-loop
-μ-loop keys offsets sizes block-offsets₀ block-sizes₀ current₀ count₀ i₀ i-end block-offsets block-sizes current count i =
-    length keys - i
+μ-loop numbers offsets sizes block-offsets₀ block-sizes₀ current₀ count₀ i₀ i-end block-offsets block-sizes current count i =
+    length numbers - i
 
--- the function's start and the loop's head, seen from the loop and from behind the call of `offset_of`
+-- the function's start and the loop's head, seen from the loop, from its body and from behind the call of `offset_of`
 abbrev start : tie.At-loop Inv-loop μ-loop → tie.Start Inv-loop μ-loop
 start c = c .before .before .before .before .before .before
 
+abbrev body : tie.After-offset-of Inv-loop μ-loop → tie.In-loop Inv-loop μ-loop
+body c = c .before .before .before
+
 abbrev head : tie.After-offset-of Inv-loop μ-loop → tie.At-loop Inv-loop μ-loop
-head c = c .before .before .before .before .before
+head c = body c .before
 
 -- the place of the span that the turn takes, and that it is one
 abbrev place : tie.At-loop Inv-loop μ-loop → ℕ
-place h = getD (start h .args .keys .now) (h .loop .i) 0 % maxNodes
+place h = getD (start h .args .numbers .now) (h .loop .i) 0
 
-is-placed : (c : tie.After-place-of Inv-loop μ-loop) → c .place-of .result < length (start (c .before .before .before) .args .offsets .now)
-is-placed c =
-    let h = c .before .before .before in
-    rw (c .place-of .ensures) (start h .pre .placed (h .loop .i) (c .before .before .loop-test .taken))
+is-placed : (c : tie.In-loop Inv-loop μ-loop) → place (c .before) < length (start (c .before) .args .offsets .now)
+is-placed c = start (c .before) .pre .placed (c .before .loop .i) (c .loop-test .taken)
 
--- the offset answer is that of the span at this place
-offset-is : (c : tie.After-offset-of Inv-loop μ-loop) → offsetOf (getD (start (head c) .args .offsets .now) (place (head c)) 0) ≡ c .offset-of .result
-offset-is c = sym (c .offset-of .ensures ∙ ap (λ (k : ℕ). offsetOf (getD (start (head c) .args .offsets .now) k 0)) (c .before .before .place-of .ensures))
+-- its word and its size
+abbrev word : tie.At-loop Inv-loop μ-loop → ℕ
+word h = getD (start h .args .offsets .now) (place h) 0
+
+abbrev size : tie.At-loop Inv-loop μ-loop → ℕ
+size h = getD (start h .args .sizes .now) (place h) 0
 
 -- the span at this place is within its limits
-span-within : (c : tie.After-offset-of Inv-loop μ-loop)
-    → (offsetWithin (offsetOf (getD (start (head c) .args .offsets .now) (place (head c)) 0)) ≡ true) × (getD (start (head c) .args .sizes .now) (place (head c)) 0 ≤ maxPosition)
+span-within : (c : tie.After-offset-of Inv-loop μ-loop) → (offsetWithin (offsetOf (word (head c))) ≡ true) × (size (head c) ≤ maxPosition)
 span-within c =
     let h = head c in
-    within-parts (getD (start h .args .offsets .now) (place h) 0) (getD (start h .args .sizes .now) (place h) 0)
-    (start h .pre .limited (place h) (start h .pre .placed (h .loop .i) (c .before .before .before .before .loop-test .taken)))
-
-size-small : (c : tie.After-offset-of Inv-loop μ-loop) → getD (start (head c) .args .sizes .now) (c .before .before .place-of .result) 0 ≤ maxPosition
-size-small c = subst⁻¹ (λ (k : ℕ). getD (start (head c) .args .sizes .now) k 0 ≤ maxPosition) (c .before .before .place-of .ensures) (span-within c .1)
+    within-parts (word h) (size h) (start h .pre .limited (place h) (is-placed (body c)))
 
 -- the offset answer, seen from behind the call of `close`
 abbrev answered : tie.After-close Inv-loop μ-loop → tie.After-offset-of Inv-loop μ-loop
@@ -59,22 +59,22 @@ answered c = c .before .before .before .before .before .before
 loop-holds : tie.Need-loop-holds Inv-loop μ-loop
 loop-holds c =
     let a = c .before .before .before .before .before .args in
-    walking-starts (a .keys .now) (a .offsets .now) (a .sizes .now) (a .block-offsets .now) (a .block-sizes .now)
+    walking-starts (a .numbers .now) (a .offsets .now) (a .sizes .now) (a .block-offsets .now) (a .block-sizes .now)
 
-mul-place-of : tie.Need-mul-place-of Inv-loop μ-loop
-mul-place-of c = search needs
+mul-place : tie.Need-mul-place Inv-loop μ-loop
+mul-place c = search needs
 
-shared-slice-read-place-of : tie.Need-shared-slice-read-place-of Inv-loop μ-loop
-shared-slice-read-place-of c = search needs
+shared-slice-read-place : tie.Need-shared-slice-read-place Inv-loop μ-loop
+shared-slice-read-place c = search needs
 
-place-of-requires : tie.Need-place-of-requires Inv-loop μ-loop
-place-of-requires c κs = search needs
+cast-place : tie.Need-cast-place Inv-loop μ-loop
+cast-place c = let h = is-placed (c .before) in omega (arith, h, start (c .before .before) .good)
 
 mul-offset-of : tie.Need-mul-offset-of Inv-loop μ-loop
-mul-offset-of c = let h = is-placed c in omega (arith, h, start (c .before .before .before) .good)
+mul-offset-of c = let h = is-placed (c .before) in omega (arith, h, start (c .before .before) .good)
 
 shared-slice-read-offset-of : tie.Need-shared-slice-read-offset-of Inv-loop μ-loop
-shared-slice-read-offset-of c = is-placed (c .before)
+shared-slice-read-offset-of c = is-placed (c .before .before)
 
 offset-of-requires : tie.Need-offset-of-requires Inv-loop μ-loop
 offset-of-requires c κs = search needs
@@ -96,27 +96,31 @@ loop-again c =
     let d = c .before .before in
     let a = start (head d) .args in
     let l = head d .loop in
-    walking-past (a .keys .now) (a .offsets .now) (a .sizes .now) (a .block-offsets .now) (a .block-sizes .now) (l .current) (l .count) (l .block-offsets) (l .block-sizes) (l .i) (l .inv)
-    (d .before .before .before .before .loop-test .taken)
-    (offset-is d ∙ c .enum-told .given .1)
+    walking-past (a .numbers .now) (a .offsets .now) (a .sizes .now) (a .block-offsets .now) (a .block-sizes .now)
+    (l .current) (l .count) (l .block-offsets) (l .block-sizes) (l .i) (l .inv)
+    (body d .loop-test .taken)
+    (sym (d .offset-of .ensures) ∙ c .enum-told .given .1)
 
 close-requires : tie.Need-close-requires Inv-loop μ-loop
 close-requires c κs = search needs
 
 mul-join : tie.Need-mul-join Inv-loop μ-loop
-mul-join c = search needs
+mul-join c =
+    let d = answered (c .before .before .before .before) in
+    let h = is-placed (body d) in
+    omega (arith, h, start (head d) .good)
 
 shared-slice-read-join : tie.Need-shared-slice-read-join Inv-loop μ-loop
 shared-slice-read-join c =
     let d = answered (c .before .before .before .before .before) in
-    rw (← (start (head d) .pre .paired)) (is-placed (d .before .before))
+    rw (← (start (head d) .pre .paired)) (is-placed (body d))
 
 join-requires : tie.Need-join-requires Inv-loop μ-loop
 join-requires c κs =
     let d = answered (c .before .before .before .before .before) in
     let l = head d .loop in
-    let s = size-small d in
-    omega (arith, l .inv .origin, l .inv .size, d .before .before .before .before .loop-test .taken, start (head d) .pre .few)
+    let s = span-within d .1 in
+    omega (arith, l .inv .origin, l .inv .size, body d .loop-test .taken, start (head d) .pre .few)
 
 add-i-2 : tie.Need-add-i-2 Inv-loop μ-loop
 add-i-2 c = search needs
@@ -131,13 +135,14 @@ loop-again-2 c =
     let o = k .before .before .before .before .offset .given in
     let a = start (head d) .args in
     let l = head d .loop in
-    let is = offset-is d ∙ o .1 in
-    rw (c .join .ensures, d .before .before .place-of .ensures)
-    (walking-on (a .keys .now) (a .offsets .now) (a .sizes .now) (a .block-offsets .now) (a .block-sizes .now) (l .current) (l .count) (l .block-offsets) (l .block-sizes) (l .i) (l .inv)
-    (d .before .before .before .before .loop-test .taken)
+    let is = sym (d .offset-of .ensures) ∙ o .1 in
+    rw (c .join .ensures)
+    (walking-on (a .numbers .now) (a .offsets .now) (a .sizes .now) (a .block-offsets .now) (a .block-sizes .now)
+    (l .current) (l .count) (l .block-offsets) (l .block-sizes) (l .i) (l .inv)
+    (body d .loop-test .taken)
     (o .0 .0)
     is
-    (at-most (offsetOf (getD (a .offsets .now) (place (head d)) 0)) (o .0 .0) is (span-within d .0))
+    (at-most (offsetOf (word (head d))) (o .0 .0) is (span-within d .0))
     (span-within d .1)
     (k .close .result)
     (k .close .last .1 .1 .1 .0)
@@ -159,7 +164,9 @@ returns c =
     let e = p .before .before .before in
     let a = start (e .before) .args in
     let l = e .before .loop in
-    walking-ends (a .keys .now) (a .offsets .now) (a .sizes .now) (a .block-offsets .now) (a .block-sizes .now) (l .current) (l .count) (l .block-offsets) (l .block-sizes) (l .i) (l .inv) (e .loop-test .left)
+    walking-ends (a .numbers .now) (a .offsets .now) (a .sizes .now) (a .block-offsets .now) (a .block-sizes .now)
+    (l .current) (l .count) (l .block-offsets) (l .block-sizes) (l .i) (l .inv)
+    (e .loop-test .left)
     (p .push .result)
     (p .push .last .1 .1 .0)
     (p .push .last .1 .1 .1 .0)
@@ -172,9 +179,9 @@ walk-spec =
     Inv-loop
     μ-loop
     loop-holds
-    mul-place-of
-    shared-slice-read-place-of
-    place-of-requires
+    mul-place
+    shared-slice-read-place
+    cast-place
     mul-offset-of
     shared-slice-read-offset-of
     offset-of-requires

@@ -1,8 +1,6 @@
 -- `write_blocks` meets its contract: the first walk counts the blocks, and the second is made only where there is room for all.
 use borrow.Author.Needs.{needs}
-use mathlib.Core.List.{map}
-use Rattle.blocks.specs.Keys.{spanAt}
-use Rattle.blocks.specs.Walk.{block, blocksFrom}
+use Rattle.blocks.specs.Numbered.{numberedBlocks}
 use Rattle.blocks.proofs.Room.{short-first, short-second, enough}
 use Rattle.blocks.proofs.write_blocks.Statement.{statement}
 use Rattle.blocks.proofs.write_blocks.Tie as tie
@@ -36,8 +34,9 @@ returns : tie.Need-returns
 returns c =
     let w = c .before .before .before .before .before in
     let a = start w .args in
-    let b = blocksFrom (block 0 0) (map (spanAt (a .offsets .now) (a .sizes .now)) (a .keys .now)) in
-    short-first b (a .block-offsets .now) (a .block-sizes .now) (w .walk .result) (w .walk .last .1 .1 .1 .0) (w .walk .last .1 .1 .1 .1 .0) (w .walk .ensures) (c .if1 .taken)
+    let b = numberedBlocks (a .offsets .now) (a .sizes .now) (a .numbers .now) in
+    short-first b (a .block-offsets .now) (a .block-sizes .now) (w .walk .result) (w .walk .last .1 .1 .1 .0) (w .walk .last .1 .1 .1 .1 .0)
+    (w .walk .ensures) (c .if1 .taken)
 
 same-length-3 : tie.Need-same-length-3
 same-length-3 c = search needs
@@ -49,8 +48,9 @@ returns-2 : tie.Need-returns-2
 returns-2 c =
     let w = c .before .before .before .before .before .before in
     let a = start w .args in
-    let b = blocksFrom (block 0 0) (map (spanAt (a .offsets .now) (a .sizes .now)) (a .keys .now)) in
-    short-second b (a .block-offsets .now) (a .block-sizes .now) (w .walk .result) (w .walk .last .1 .1 .1 .0) (w .walk .last .1 .1 .1 .1 .0) (w .walk .ensures) (c .before .if1 .left) (c .if2 .taken)
+    let b = numberedBlocks (a .offsets .now) (a .sizes .now) (a .numbers .now) in
+    short-second b (a .block-offsets .now) (a .block-sizes .now) (w .walk .result) (w .walk .last .1 .1 .1 .0) (w .walk .last .1 .1 .1 .1 .0)
+    (w .walk .ensures) (c .before .if1 .left) (c .if2 .taken)
 
 walk-requires-2 : tie.Need-walk-requires-2
 walk-requires-2 c κs = search needs
@@ -67,8 +67,9 @@ returns-3 c =
     let e = v .before .before .before in
     let w = e .before .before .before .before .before .before in
     let a = start w .args in
-    let b = blocksFrom (block 0 0) (map (spanAt (a .offsets .now) (a .sizes .now)) (a .keys .now)) in
-    enough b (a .block-offsets .now) (a .block-sizes .now) (w .walk .result) (w .walk .last .1 .1 .1 .0) (w .walk .last .1 .1 .1 .1 .0) (w .walk .ensures) (e .before .if1 .left) (e .if2 .left) (v .walk2 .result) (v .walk2 .last .1 .1 .1 .0) (v .walk2 .last .1 .1 .1 .1 .0) (v .walk2 .ensures)
+    let b = numberedBlocks (a .offsets .now) (a .sizes .now) (a .numbers .now) in
+    enough b (a .block-offsets .now) (a .block-sizes .now) (w .walk .result) (w .walk .last .1 .1 .1 .0) (w .walk .last .1 .1 .1 .1 .0)
+    (w .walk .ensures) (e .before .if1 .left) (e .if2 .left) (v .walk2 .result) (v .walk2 .last .1 .1 .1 .0) (v .walk2 .last .1 .1 .1 .1 .0) (v .walk2 .ensures)
 
 pub write-blocks-spec : {M : Type 1} → statement M
 write-blocks-spec =

@@ -1,0 +1,174 @@
+/* How much stack each call takes, on its longest lists. On a thread of its own the stack below the caller is painted, the call is made, and
+ * what it painted over is counted down from the caller's frame: every frame of the call, and the words that hand it its arguments. Prints a line
+ * for each call, and ends with 1 where one needs as much as its limit, which is what include/denkumari.h says of it. */
+#define _GNU_SOURCE
+#include <pthread.h>
+#include <stdint.h>
+#include <stdio.h>
+#include <stdlib.h>
+#include <string.h>
+
+#include "../../include/denkumari.h"
+
+enum { STACK = 1 << 20, GAP = 128, PAINT = 0x5c, NODES = 4096, FILE_MOST = 65000 };
+
+static uint8_t stack[STACK] __attribute__((aligned(4096)));
+
+/* What is lent: the longest lists. */
+static uint8_t image[16384], hex[32768], values[1], flags[2], kinds[NODES], states[NODES], file[FILE_MOST];
+static int64_t starts[2], addresses[NODES];
+static uint16_t units[2];
+static uint32_t bank_sizes[2], bank_offsets[2], aligns[2], operands[NODES], numbers[NODES];
+static uint64_t offsets[NODES], sizes[NODES], block_offsets[NODES], block_sizes[NODES], positions[512], extents[512];
+static size_t file_length;
+static uint64_t refusal;
+
+static void blocks(void)
+{
+    refusal = dk_blocks(offsets, NODES, sizes, NODES, block_offsets, NODES, block_sizes, NODES).refusal;
+}
+
+static void build(void)
+{
+    refusal = dk_build(units, 2, starts, 2, bank_sizes, 2, bank_offsets, 2, aligns, 2, flags, 2, kinds, NODES, operands, NODES,
+                       numbers, NODES, states, NODES, 1, values, sizeof values, 10, image, sizeof image, addresses, NODES,
+                       offsets, NODES, sizes, NODES).refusal;
+}
+
+static void form(void)
+{
+    refusal = dk_form(file, file_length, image, sizeof image, addresses, NODES, offsets, NODES, sizes, NODES).refusal;
+}
+
+static void digits(void)
+{
+    refusal = dk_hex(image, sizeof image, 8 * sizeof image - 3, hex, sizeof hex).refusal;
+}
+
+static void part(void)
+{
+    refusal = dk_part(image, sizeof image, 8, 16).refusal;
+}
+
+static void offer(void)
+{
+    refusal = dk_offer(positions, extents, 511, 2, 2).refusal;
+}
+
+/* The call to be made, and how much it took. */
+static void (*call)(void);
+static size_t most;
+
+/* Paints the stack up to the frame of this function but for GAP bytes, which hold the frame, and makes the call. */
+static void *painted(void *unused)
+{
+    uint8_t *here = __builtin_frame_address(0);
+    volatile uint8_t *low;
+    for (low = stack; low < here - GAP; low++)
+        *low = PAINT;
+    call();
+    for (low = stack; low < here - GAP && *low == PAINT; low++)
+        ;
+    most = (size_t)(here - low);
+    return unused;
+}
+
+static void on_a_thread(void (*what)(void))
+{
+    pthread_attr_t attributes;
+    pthread_t thread;
+    call = what;
+    if (pthread_attr_init(&attributes) || pthread_attr_setstack(&attributes, stack, sizeof stack)
+        || pthread_create(&thread, &attributes, painted, NULL) || pthread_join(thread, NULL)) {
+        puts("wrong: no thread");
+        exit(1);
+    }
+    pthread_attr_destroy(&attributes);
+}
+
+/* 512 written items of one bit, a reserve behind each, labels for the rest: the store is full, and every list is used. */
+static void fill_tables(void)
+{
+    units[0] = units[1] = 8;
+    flags[1] = DK_HAS_OFFSET;
+    kinds[0] = DK_SWITCH;
+    operands[0] = 1;
+    for (size_t i = 1; i < NODES; i++) {
+        kinds[i] = i <= 512 ? DK_INSTRUCTION : DK_LABEL;
+        operands[i] = i <= 512 ? 0 : 1;
+        numbers[i] = i <= 512 ? 8 : 0;
+    }
+}
+
+static void field(uint8_t tag, const uint8_t *bytes, size_t length)
+{
+    file[file_length++] = tag;
+    file[file_length++] = (uint8_t)(length >> 8);
+    file[file_length++] = (uint8_t)length;
+    memcpy(file + file_length, bytes, length);
+    file_length += length;
+}
+
+/* The same layout as a file of form 1. */
+static void fill_file(void)
+{
+    static uint8_t row[5 * NODES];
+    uint8_t bank[23] = {0, 8}, node[5] = {0}, limit = 10;
+    file_length = 0;
+    field(1, bank, sizeof bank);
+    bank[22] = DK_HAS_OFFSET;
+    field(1, bank, sizeof bank);
+    for (size_t i = 0; i < NODES; i++) {
+        node[0] = kinds[i];
+        node[4] = (uint8_t)operands[i];
+        field(2, node, sizeof node);
+        row[5 * i + 3] = (uint8_t)numbers[i];
+    }
+    field(3, row, sizeof row);
+    field(4, values, sizeof values);
+    field(5, &limit, 1);
+}
+
+/* 511 intervals of two bits, the first of them behind the bits that are offered. */
+static void fill_store(void)
+{
+    for (size_t i = 0; i < 511; i++) {
+        positions[i] = 4 + 2 * i;
+        extents[i] = 2;
+    }
+}
+
+/* Spans at offsets that neither rise nor fall, so that they are sorted. */
+static void shuffle_spans(void)
+{
+    for (size_t i = 0; i < NODES; i++) {
+        offsets[i] = 16 * (i * 2531 % NODES);
+        sizes[i] = 8;
+    }
+}
+
+static int measure(const char *name, void (*what)(void), size_t limit)
+{
+    int bad;
+    on_a_thread(what);
+    bad = refusal != 0 || most >= limit;
+    printf("%s%s: %zu bytes of stack, below %zu%s\n", bad ? "wrong: " : "", name, most, limit, refusal ? ", refused" : "");
+    return bad;
+}
+
+int main(void)
+{
+    int bad = 0;
+    memset(values, 0xa5, sizeof values);
+    shuffle_spans();
+    bad |= measure("dk_blocks", blocks, 12 * 1024);
+    fill_tables();
+    bad |= measure("dk_build", build, 24 * 1024);
+    fill_file();
+    bad |= measure("dk_form", form, 128 * 1024);
+    fill_store();
+    bad |= measure("dk_offer", offer, 1024);
+    bad |= measure("dk_hex", digits, 1024);
+    bad |= measure("dk_part", part, 1024);
+    return bad;
+}
