@@ -1,6 +1,5 @@
 pub mod Laws
 pub mod Ordered
-pub mod Passed
 pub mod Room
 pub mod Unique
 pub mod Walking

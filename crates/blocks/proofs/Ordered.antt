@@ -22,9 +22,9 @@ use Rattle.sort.specs.Sorted.{sortedBy, le-or-lt}
 use Rattle.blocks.specs.Acceptable.{each-within}
 use Rattle.blocks.specs.Numbered.{spanAt, numberedBlocks, Walkable}
 use Rattle.blocks.specs.Offsets.{offsetOf, wordOf, word-of-offset}
+use Rattle.blocks.specs.Passed.{same-blocks}
 use Rattle.blocks.specs.Spans.{Span, span, within, spansOf, allWithin, rankOf}
 use Rattle.blocks.specs.Walk.{block, blocksFrom, blocksOf}
-use Rattle.blocks.proofs.Passed.{same-blocks}
 
 -- The element at a place, and what stands behind it.
 module _ (x : List ℕ) (i y : ℕ) (t : List ℕ) (e : drop i x ≡ y ∷ t) where

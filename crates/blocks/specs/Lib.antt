@@ -7,6 +7,7 @@ pub mod Measure
 pub mod Numbered
 pub mod Offsets
 pub mod Outcome
+pub mod Passed
 pub mod Put
 pub mod Rising
 pub mod Row

@@ -1,4 +1,5 @@
--- A span without offset is passed over wherever it stands, so that the order in which such spans are taken changes no block.
+-- "a span whose offset is none is passed over": the blocks are those of the spans that have an offset, wherever the others stand and in whatever
+-- order they are taken.
 use mathlib.Core.Path.{_≡_, refl, sym, ap, _∙_}
 use mathlib.Core.List.{List, [], _∷_, _++_}
 use mathlib.Core.Logic.{⊎-elim}
@@ -10,15 +11,15 @@ use Rattle.sort.specs.Agree.{All, insert-least, insert-agrees}
 use Rattle.sort.specs.Order.{NoneBelow, Ascending, none-below-less, sorted-ascends}
 use Rattle.sort.specs.Sorted.{insertBy, sortedBy, insert-before, insert-after, le-or-lt}
 use Rattle.blocks.specs.declared.Block.{Block}
-use Rattle.blocks.specs.Spans.{Span}
-use Rattle.blocks.specs.Walk.{closed, joined, blocksFrom}
+use Rattle.blocks.specs.Spans.{Span, rankOf, byOffset}
+use Rattle.blocks.specs.Walk.{block, closed, joined, blocksFrom, blocksOf}
 
 -- The spans that have an offset.
-abbrev keepAt : Offset → Span → List Span → List Span
+abbrev pub keepAt : Offset → Span → List Span → List Span
 keepAt None s l = l
 keepAt (At o) s l = s ∷ l
 
-abbrev placed : List Span → List Span
+abbrev pub placed : List Span → List Span
 placed [] = []
 placed (s ∷ l) = keepAt (s .offset) s (placed l)
 
@@ -75,6 +76,20 @@ module _ (rank : Span → ℕ) where
       ∙ sym (insert-least rank s (placed (b ∷ l)) (none-below-placed (rank s) (b ∷ l) n)))
       (λ lt. rw (insert-after rank s b l lt, insert-placed s o e l (h .1)) (goes-past s b (placed l) lt (b .offset)))
       (le-or-lt (rank s) (rank b))
+
+  sorted-placed : (l : List Span) → placed (sortedBy rank l) ≡ sortedBy rank (placed l)
+  unfolding sortedBy
+  sorted-placed [] = refl
+  sorted-placed (s ∷ l) = go (s .offset) refl (sorted-placed l)
+    where
+      go : (o : Offset) → s .offset ≡ o → placed (sortedBy rank l) ≡ sortedBy rank (placed l)
+          → placed (insertBy rank s (sortedBy rank l)) ≡ sortedBy rank (keepAt o s (placed l))
+      go None e ih = insert-passed s e (sortedBy rank l) ∙ ih
+      go (At o) e ih = insert-placed s o e (sortedBy rank l) (sorted-ascends rank l) ∙ ap (insertBy rank s) ih
+
+-- Spans without offset make no difference.
+pub none-passed-over : (spans : List Span) → blocksOf spans ≡ blocksOf (placed spans)
+none-passed-over spans = walk-passes (block 0 0) (byOffset spans) ∙ ap (blocksFrom (block 0 0)) (sorted-placed rankOf spans)
 
 -- Two ranks that order spans with an offset alike take them in the same order.
 module _ (rank other : Span → ℕ)
