@@ -1,0 +1,13 @@
+pub mod Cover
+pub mod CoverFacts
+pub mod Order
+pub mod Trial
+pub mod Range
+pub mod RangeFacts
+pub mod Runs
+pub mod RunFacts
+pub mod Put
+pub mod List
+pub mod Steps
+pub mod Joined
+pub mod ListFacts
