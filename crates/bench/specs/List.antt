@@ -34,13 +34,30 @@ abbrev pub toldListed : Listed → Told ℕ
 toldListed (Runs n) = gives n
 toldListed (Refused r) = toldRefusal r
 
--- A call of `differences`: 4, then 14, place 2; and a refusal changes nothing lent.
+-- "4 .., 14 for a short list", place 2: the answer, and both slices afterwards. A refusal changes nothing lent.
+abbrev pub listAnswer : Trial → List ℕ → List ℕ → Listed
+listAnswer t firsts₀ counts₀ =
+    pick (inOrder 0 (t .offsets) (t .sizes))
+    (pick (roomFor (runsOf t) firsts₀ counts₀) (Runs (length (runsOf t))) (Refused (TooShort 2)))
+    (Refused (Malformed 0))
+
+abbrev pub listFigures : Trial → List ℕ → List ℕ → Told ℕ
+listFigures t firsts₀ counts₀ =
+    pick (inOrder 0 (t .offsets) (t .sizes))
+    (pick (roomFor (runsOf t) firsts₀ counts₀) (gives (length (runsOf t))) (refuses 14 (One 2)))
+    (refuses 4 (One 0))
+
+abbrev pub firstsAfter : Trial → List ℕ → List ℕ → List ℕ
+firstsAfter t firsts₀ counts₀ =
+    pick (inOrder 0 (t .offsets) (t .sizes)) (pick (roomFor (runsOf t) firsts₀ counts₀) (over (firsts (runsOf t)) firsts₀) firsts₀) firsts₀
+
+abbrev pub countsAfter : Trial → List ℕ → List ℕ → List ℕ
+countsAfter t firsts₀ counts₀ =
+    pick (inOrder 0 (t .offsets) (t .sizes)) (pick (roomFor (runsOf t) firsts₀ counts₀) (over (counts (runsOf t)) counts₀) counts₀) counts₀
+
+-- What `differences` promises.
 pub record Lists (t : Trial) (firsts₀ counts₀ : List ℕ) (r : Listed) (firsts₁ counts₁ : List ℕ) : Type 0 where
-  pub answer : r ≡ pick (inOrder 0 (t .offsets) (t .sizes)) (pick (roomFor (runsOf t) firsts₀ counts₀) (Runs (length (runsOf t))) (Refused (TooShort 2)))
-      (Refused (Malformed 0))
-  pub figures : toldListed r ≡ pick (inOrder 0 (t .offsets) (t .sizes))
-      (pick (roomFor (runsOf t) firsts₀ counts₀) (gives (length (runsOf t))) (refuses 14 (One 2))) (refuses 4 (One 0))
-  pub first : firsts₁ ≡ pick (inOrder 0 (t .offsets) (t .sizes))
-      (pick (roomFor (runsOf t) firsts₀ counts₀) (over (firsts (runsOf t)) firsts₀) firsts₀) firsts₀
-  pub second : counts₁ ≡ pick (inOrder 0 (t .offsets) (t .sizes))
-      (pick (roomFor (runsOf t) firsts₀ counts₀) (over (counts (runsOf t)) counts₀) counts₀) counts₀
+  pub answer : r ≡ listAnswer t firsts₀ counts₀
+  pub figures : toldListed r ≡ listFigures t firsts₀ counts₀
+  pub first : firsts₁ ≡ firstsAfter t firsts₀ counts₀
+  pub second : counts₁ ≡ countsAfter t firsts₀ counts₀
