@@ -1,6 +1,7 @@
 #!/bin/sh
-# Builds the proved archive and the programs over it: target/staticlib/libdenkumari.a, and in build/bindings the C programs batch, test, store, stack and
-# blocks_time, and, where a Rust compiler has the x86-64 target, the Rust ones batch_rust, worked_rust, calls_rust and store_rust. Says what it skipped.
+# Builds the proved archive and the programs over it: target/staticlib/libdenkumari.a, and in build/bindings the C programs batch, test, store, overlays,
+# stack and blocks_time, and, where a Rust compiler has the x86-64 target, the Rust ones batch_rust, worked_rust, calls_rust, store_rust and
+# overlays_rust. Says what it skipped.
 #
 # Not on x86-64, CC names a C compiler for it (default x86_64-linux-gnu-gcc; Debian: gcc-x86-64-linux-gnu libc6-dev-amd64-cross). RUSTC names the
 # Rust compiler.
@@ -22,7 +23,7 @@ if ! command -v "$cc" >/dev/null; then
     echo "skipped: the C and Rust programs, for want of a C compiler for x86-64 ($cc)"
     exit 0
 fi
-for program in batch test store stack blocks_time; do
+for program in batch test store overlays stack blocks_time; do
     "$cc" -std=c11 -O2 -Wall -Wextra -Werror -static -pthread -o "$out/$program" "bindings/c/$program.c" "$archive"
 done
 echo "built: libdenkumari.a and the C programs"
@@ -36,7 +37,7 @@ rust --crate-type rlib --crate-name denkumari -L target/staticlib -l static=denk
 for program in batch worked; do
     rust --extern "denkumari=$out/libdenkumari.rlib" -o "$out/${program}_rust" "bindings/rust/examples/$program.rs"
 done
-for tests in calls store; do
+for tests in calls store overlays; do
     rust --test --extern "denkumari=$out/libdenkumari.rlib" -o "$out/${tests}_rust" "bindings/rust/tests/$tests.rs"
 done
 # the loader and the libraries that these programs want, for where they run under an emulator

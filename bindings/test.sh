@@ -28,6 +28,7 @@ tested() {
 tested C "$out/test" examples/worked.form
 tested "C, the store" "$out/store"
 tested "C, stack" "$out/stack"
+tested "C, overlays" "$out/overlays"
 if ! command -v python3 >/dev/null; then
     echo "skipped: random layouts held against oracle/model.py, for want of python3"
     exit 0
@@ -48,6 +49,17 @@ compare() {
 compare "C, from files" "$out/batch"
 compare "C, from tables" "$out/batch" --tables
 
+# the bench, on cases of its own
+python3 oracle/bench.py --generate "$seed" "$layouts" >"$out/cases"
+python3 oracle/bench.py --expected <"$out/cases" >"$out/expected_cases"
+$emulator "$out/overlays" --batch <"$out/cases" >"$out/answers_cases"
+if ! cmp -s "$out/expected_cases" "$out/answers_cases"; then
+    echo "the bench: an answer differs from the model's:"
+    diff "$out/expected_cases" "$out/answers_cases" | head -4
+    exit 1
+fi
+echo "C, the bench: $(wc -l <"$out/answers_cases") cases, each answer the model's"
+
 [ -x "$out/batch_rust" ] || exit 0
 # The kit's emulator is made for the kit's own programs and does not run these.
 if [ -n "$emulator" ]; then
@@ -61,16 +73,11 @@ fi
 $emulator "$out/worked_rust" >"$out/answers"
 echo "Rust: the worked example"
 printf 'passes 1\nblock 0 10\nblock 20 10\nimage ffc002a800\n' | cmp - "$out/answers"
-# a program of C that tests itself: its last line, and whether it found a fault
-tested() {
-    name=$1
-    shift
-    said=$($emulator "$@") || {
-        echo "$name: $said"
+for tests in calls store overlays; do
+    $emulator "$out/${tests}_rust" -q >"$out/answers" || {
+        cat "$out/answers"
         exit 1
     }
-    echo "$name: $said"
-}
-tested C "$out/test" examples/worked.form
-tested "C, the store" "$out/store"
+    echo "Rust, $tests: $(grep "test result" "$out/answers")"
+done
 compare "Rust, from files" "$out/batch_rust"

@@ -55,7 +55,8 @@ enum dk_refusal {
     DK_TOO_SHORT = 14,         /* a buffer is too short; place: image 0, spans 1, blocks 2, hex 3 */
     DK_BAD_STORE = 15,         /* a store that was given is not one: over 512 intervals, or intervals past an offer's limits, empty, not
                                   ascending or sharing a bit; place: the first at fault, 512 for the count */
-    DK_BAD_PART = 16           /* a part of an image is empty, outside it, or not on byte edges; place 0 */
+    DK_BAD_PART = 16,          /* a part of an image is empty, outside it, or not on byte edges; place 0 */
+    DK_PARTLY_COVERED = 17     /* an overlay covers a range only in part; place 0 */
 };
 
 /* The offset of a span that has none. */
@@ -174,6 +175,36 @@ struct dk_offer dk_offer(uint64_t *positions, uint64_t *sizes, uint64_t count, u
  * needs less than 1 KiB of stack (at most 128 bytes). */
 struct dk_part dk_part(const uint8_t *image, size_t image_len, uint64_t offset, uint64_t size);
 
+/* Which image a range comes from. */
+enum dk_image { DK_NO_IMAGE = 0, DK_OVERLAY = 1, DK_RELEASED = 2 };
+
+/* A range of bytes, from one of two images. */
+struct dk_overlay {
+    uint64_t refusal; /* DK_ACCEPTED, DK_MALFORMED, DK_BAD_PART or DK_PARTLY_COVERED */
+    uint64_t image;   /* enum dk_image */
+    uint64_t start;   /* in bytes */
+    uint64_t length;  /* in bytes */
+};
+
+/* On the bench: a released image and an overlay of curves under trial, both at the same offsets. Block i of the overlay starts at bit offsets[i] and
+ * has sizes[i] bits; as many offsets as sizes, no block empty, ascending, no bit in two of them, else 4. Blocks may touch, and may end past the
+ * images. Says which image the `count` bytes from byte `first` on come from: the overlay where its blocks cover every bit of them, the released image
+ * where they cover none, else 17; 16 where the range is empty or outside either image. Reads neither image. */
+struct dk_overlay dk_overlay_range(const uint8_t *overlay, size_t overlay_len,
+                                   const uint8_t *released, size_t released_len,
+                                   const uint64_t *offsets, size_t offsets_len,
+                                   const uint64_t *sizes, size_t sizes_len,
+                                   uint64_t first, uint64_t count);
+
+/* The same overlay: each longest run of bytes that its blocks cover whole, inside both images, and that differ between the two, ascending. Run i is the
+ * counts[i] bytes from byte firsts[i] on. Refused 4 as above, then 14 (place 2) where a list is too short. */
+struct dk_count dk_overlay_runs(const uint8_t *overlay, size_t overlay_len,
+                                const uint8_t *released, size_t released_len,
+                                const uint64_t *offsets, size_t offsets_len,
+                                const uint64_t *sizes, size_t sizes_len,
+                                uint64_t *firsts, size_t firsts_len,
+                                uint64_t *counts, size_t counts_len);
+
 /* A refusal in words, without its place. */
 static inline const char *dk_words(uint64_t refusal)
 {
@@ -194,6 +225,7 @@ static inline const char *dk_words(uint64_t refusal)
     case DK_TOO_SHORT: return "a lent buffer is too short";
     case DK_BAD_STORE: return "a store that was given is not one";
     case DK_BAD_PART: return "a part of an image is empty, outside it, or not on byte edges";
+    case DK_PARTLY_COVERED: return "an overlay covers a range only in part";
     default: return "a refusal that this header has no words for";
     }
 }

@@ -28,6 +28,14 @@ pub struct DkPart {
     pub length: u64,
 }
 
+#[repr(C)]
+pub struct DkOverlay {
+    pub refusal: u64,
+    pub image: u64,
+    pub start: u64,
+    pub length: u64,
+}
+
 #[rustfmt::skip]
 extern "C" {
     fn dk_build(
@@ -48,6 +56,15 @@ extern "C" {
     ) -> DkCount;
     fn dk_hex(bytes: *const u8, bytes_len: usize, bits: u64, hex: *mut u8, hex_len: usize) -> DkCount;
     fn dk_part(image: *const u8, image_len: usize, offset: u64, size: u64) -> DkPart;
+    fn dk_overlay_range(
+        overlay: *const u8, overlay_len: usize, released: *const u8, released_len: usize,
+        offsets: *const u64, offsets_len: usize, sizes: *const u64, sizes_len: usize, first: u64, count: u64,
+    ) -> DkOverlay;
+    fn dk_overlay_runs(
+        overlay: *const u8, overlay_len: usize, released: *const u8, released_len: usize,
+        offsets: *const u64, offsets_len: usize, sizes: *const u64, sizes_len: usize,
+        firsts: *mut u64, firsts_len: usize, counts: *mut u64, counts_len: usize,
+    ) -> DkCount;
 }
 
 #[rustfmt::skip]
@@ -112,4 +129,28 @@ extern "C" {
 pub fn offer(positions: &mut [u64; 512], sizes: &mut [u64; 512], count: u64, position: u64, size: u64) -> DkOffer {
     // SAFETY: see the module; both arrays have the 512 elements that the function may touch
     unsafe { dk_offer(positions.as_mut_ptr(), sizes.as_mut_ptr(), count, position, size) }
+}
+
+#[rustfmt::skip]
+pub fn overlay_range(overlay: &[u8], released: &[u8], offsets: &[u64], sizes: &[u64], first: u64, count: u64) -> DkOverlay {
+    // SAFETY: see the module
+    unsafe {
+        dk_overlay_range(
+            overlay.as_ptr(), overlay.len(), released.as_ptr(), released.len(), offsets.as_ptr(), offsets.len(), sizes.as_ptr(), sizes.len(),
+            first, count,
+        )
+    }
+}
+
+#[rustfmt::skip]
+pub fn overlay_runs(
+    overlay: &[u8], released: &[u8], offsets: &[u64], sizes: &[u64], firsts: &mut [u64], counts: &mut [u64],
+) -> DkCount {
+    // SAFETY: see the module
+    unsafe {
+        dk_overlay_runs(
+            overlay.as_ptr(), overlay.len(), released.as_ptr(), released.len(), offsets.as_ptr(), offsets.len(), sizes.as_ptr(), sizes.len(),
+            firsts.as_mut_ptr(), firsts.len(), counts.as_mut_ptr(), counts.len(),
+        )
+    }
 }

@@ -13,6 +13,7 @@
 #![deny(missing_docs)]
 
 mod ffi;
+pub mod overlays;
 mod owned;
 mod store;
 mod words;
@@ -157,6 +158,8 @@ pub enum Refusal {
     TooShort { buffer: Buffer, passes: u64 },
     /// 16: a part of an image is empty, outside it, or not on byte edges.
     BadPart,
+    /// 17: an overlay covers a range only in part.
+    PartlyCovered,
     /// A number that this crate does not know: the archive is newer than the crate.
     Unknown { number: u64, place: u64 },
 }
@@ -179,6 +182,7 @@ impl Refusal {
             Refusal::StoreFull { .. } => 13,
             Refusal::TooShort { .. } => 14,
             Refusal::BadPart => 16,
+            Refusal::PartlyCovered => 17,
             Refusal::Unknown { number, .. } => number,
         }
     }
@@ -200,6 +204,7 @@ impl Refusal {
             13 => Refusal::StoreFull { node, passes },
             14 => Refusal::too_short(place, passes),
             16 => Refusal::BadPart,
+            17 => Refusal::PartlyCovered,
             _ => Refusal::Unknown { number, place },
         }
     }

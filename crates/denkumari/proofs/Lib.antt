@@ -1,4 +1,5 @@
 pub mod FormLaws
+pub mod OverlayUnique
 pub mod StoreLaws
 pub mod StoreUnique
 pub mod TableLaws

@@ -1,4 +1,5 @@
 pub mod Forms
+pub mod Overlays
 pub mod Parts
 pub mod Stores
 pub mod Tables

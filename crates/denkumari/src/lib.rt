@@ -1,6 +1,7 @@
 // The library for programs in other languages: exported functions over the proved ones, with numbers, slices and structs of
 // numbers only. include/denkumari.h tells a C program of them.
 mod forms;
+mod overlays;
 mod parts;
 mod stores;
 mod tables;
