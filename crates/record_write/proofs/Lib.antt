@@ -1,0 +1,4 @@
+pub mod AllBlocks
+pub mod BlockList
+pub mod BlockTurns
+pub mod Whole

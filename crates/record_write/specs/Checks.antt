@@ -1,0 +1,27 @@
+-- What is refused before anything is written. Document 02, Ticket 1: "Refusals: 16 for a block by document 01's rule, 4 for blocks not ascending or
+-- sharing a bit, an address past 2^32 - 1 or a bad file, then 14."
+use mathlib.Core.Bool.{Bool, true, _&&_}
+use mathlib.Core.List.{List, [], _∷_}
+use Prim.Native.Nat.{ℕ, _+_, _/_}
+use lib.Dec.{leb}
+use Rattle.blocks.specs.declared.Block.{Block}
+use Rattle.blocks.specs.Walk.{endOf}
+use Rattle.bitvec.specs.Part.{isPart}
+
+-- "a part of an image is empty, outside it, or not on byte edges": no block is.
+unfoldable pub allParts : ℕ → List Block → Bool
+allParts len [] = true
+allParts len (b ∷ l) = isPart len (b .origin) (b .size) && allParts len l
+
+-- A block ends before the next one starts, and its last byte has an address below 2^32.
+abbrev pub startsBehind : ℕ → List Block → Bool
+startsBehind end [] = true
+startsBehind end (b ∷ l) = leb end (b .origin)
+
+abbrev pub placed : ℕ → Block → List Block → Bool
+placed load b l = startsBehind (endOf b) l && leb (load + b .origin / 8 + b .size / 8) 4294967296
+
+-- So do all blocks.
+unfoldable pub allPlaced : ℕ → List Block → Bool
+allPlaced load [] = true
+allPlaced load (b ∷ l) = placed load b l && allPlaced load l

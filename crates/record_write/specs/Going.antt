@@ -1,0 +1,33 @@
+-- A text that is written piece by piece: what the private steps of the crate owe each other.
+use mathlib.Core.Path.{_≡_}
+use mathlib.Core.Bool.{true}
+use mathlib.Core.List.{List, _++_}
+use Prim.Native.Nat.{ℕ}
+use lib.ListN.{length}
+use Rattle.records.specs.Puts.{Puts}
+use Rattle.record_write.specs.Text.{linesFrom, stateFrom}
+use Rattle.record_write.specs.Checks.{allParts, allPlaced}
+use Rattle.record_write.specs.Cut.{cut, blocksIn}
+use Rattle.record_write.specs.declared.Place.{Place}
+
+-- The first part of a whole text stands in the buffer, and the rest is still to come.
+pub record Writing (whole old : List ℕ) (at : ℕ) (new rest : List ℕ) : Type 0 where
+  pub done : List ℕ
+  pub split : whole ≡ done ++ rest
+  pub puts : Puts done old at new
+
+-- A step writes text: whatever stood there before and is to come behind it.
+pub record Adds (text : List ℕ) (at : ℕ) (old : List ℕ) (end : ℕ) (new : List ℕ) : Type 0 where
+  pub goes : (whole first rest : List ℕ) → Writing whole first at old (text ++ rest) → Writing whole first end new rest
+
+-- What writing a block promises.
+pub record BlockWritten (format address : ℕ) (bytes : List ℕ) (p : Place) (old : List ℕ) (r : Place) (new : List ℕ) : Type 0 where
+  pub adds : Adds (linesFrom format (p .state) (cut address bytes)) (p .at) old (r .at) new
+  pub state : r .state ≡ stateFrom format (p .state) (cut address bytes)
+  pub long : length new ≡ length old
+
+-- What is known of the blocks when they are written.
+pub record Ready (image offsets sizes : List ℕ) (load : ℕ) : Type 0 where
+  pub paired : length offsets ≡ length sizes
+  pub parts : allParts (length image) (blocksIn offsets sizes) ≡ true
+  pub places : allPlaced load (blocksIn offsets sizes) ≡ true

@@ -1,0 +1,5 @@
+pub mod Checks
+pub mod Cut
+pub mod Going
+pub mod Outcome
+pub mod Text

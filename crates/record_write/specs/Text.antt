@@ -1,0 +1,50 @@
+-- The text of pieces, in a format: 0 is Intel HEX.
+use mathlib.Core.Path.{_≡_, refl, ap, _∙_}
+use mathlib.Core.Bool.{Bool}
+use mathlib.Core.List.{List, [], _∷_, _++_, append-assoc}
+use Prim.Native.Nat.{ℕ}
+use lib.Dec.{eqb}
+use Rattle.refusal.specs.Pick.{pick}
+use Rattle.blocks.specs.declared.Block.{Block}
+use Rattle.records.specs.Pieces.{Piece}
+use Rattle.ihex_line.specs.Format.{hexText, hexAfter, endText}
+use Rattle.record_write.specs.Cut.{piecesOf}
+
+-- The formats that are known.
+abbrev pub known : ℕ → Bool
+known format = eqb format 0
+
+-- The lines of a piece while a state is in force, the state behind it, and the end record's line.
+abbrev pub textBy : ℕ → ℕ → Piece → List ℕ
+textBy format state p = pick (eqb format 0) (hexText state p) []
+
+abbrev pub afterBy : ℕ → ℕ → Piece → ℕ
+afterBy format state p = hexAfter state p
+
+abbrev pub endBy : ℕ → List ℕ
+endBy format = pick (eqb format 0) endText []
+
+-- The lines of pieces, and the state behind them.
+unfoldable pub linesFrom : ℕ → ℕ → List Piece → List ℕ
+linesFrom format state [] = []
+linesFrom format state (p ∷ l) = textBy format state p ++ linesFrom format (afterBy format state p) l
+
+unfoldable pub stateFrom : ℕ → ℕ → List Piece → ℕ
+stateFrom format state [] = state
+stateFrom format state (p ∷ l) = stateFrom format (afterBy format state p) l
+
+-- The text of an image's blocks: at first the state is 0, and the end record comes last.
+abbrev pub textOf : ℕ → ℕ → List ℕ → List Block → List ℕ
+textOf format load image blocks = linesFrom format 0 (piecesOf load image blocks) ++ endBy format
+
+pub lines-append : (format state : ℕ) (a b : List Piece) → linesFrom format state (a ++ b) ≡ linesFrom format state a ++ linesFrom format (stateFrom format state a) b
+unfolding linesFrom stateFrom
+lines-append format state [] b = refl
+lines-append format state (p ∷ a) b =
+    ap (λ (l : List ℕ). textBy format state p ++ l) (lines-append format (afterBy format state p) a b)
+    ∙ rw append-assoc
+
+pub state-append : (format state : ℕ) (a b : List Piece) → stateFrom format state (a ++ b) ≡ stateFrom format (stateFrom format state a) b
+unfolding stateFrom
+state-append format state [] b = refl
+state-append format state (p ∷ a) b = state-append format (afterBy format state p) a b

@@ -1,0 +1,241 @@
+// The blocks of an image, written as a file of records into a lent text. Document 02, Tickets 1 and 12: what the formats share.
+use refusal::Refusal;
+use refusal::Verdict;
+ghost use mathlib.Core.Path.{_≡_};
+ghost use mathlib.Core.Bool.{true, _&&_};
+ghost use Prim.Native.Nat.{_+_, _-_, _*_, _/_, _≤_, _<_, min};
+ghost use lib.Dec.{leb, eqb};
+ghost use lib.ListN.{length, take, drop, getD};
+ghost use Rattle.records.specs.Pieces.{piece};
+ghost use Rattle.records.specs.Puts.{Puts};
+ghost use Rattle.record_write.specs.Cut.{pieceLength, blocksIn};
+ghost use Rattle.record_write.specs.Text.{known, textBy, endBy, textOf};
+ghost use Rattle.record_write.specs.Checks.{allParts, startsBehind, placed, allPlaced};
+ghost use Rattle.record_write.specs.Outcome.{input, sound, Writes};
+ghost use Rattle.blocks.specs.Walk.{block};
+ghost use Rattle.bitvec.specs.Part.{isPart};
+ghost use Rattle.record_write.specs.Going.{BlockWritten, Ready};
+
+// What writing answers: the length of the text, or why there is none.
+pub enum Written {
+    Length(u64),
+    Refused(Refusal),
+}
+
+// Where the next line goes, and the state that is in force there.
+pub struct Place {
+    pub at: usize,
+    pub state: u16,
+}
+
+fn least(a: usize, b: usize) -> usize
+    ensures { λ r. ⌜ r ≡ min a b ⌝ }
+{
+    if a < b { a } else { b }
+}
+
+// "each as long as 16 bytes, its block and its 64 KiB line allow"
+fn piece_length(address: u64, left: usize) -> usize
+    ensures { λ r. ⌜ r ≡ pieceLength address left ⌝ }
+    ensures { λ r. ⌜ (r ≤ 16) × (r ≤ left) × (0 < left → 0 < r) ⌝ }
+{
+    let line = (65_536 - address % 65_536) as usize;
+    least(16, least(left, line))
+}
+
+// The lines of a piece at the front of the part, in a format.
+fn put_piece(format: u8, out: &mut [u8], state: u16, address: u32, bytes: &[u8]) -> usize
+    ensures { λ r. ⌜ Puts (textBy format state (piece address (take 255 (now (bytes .entry))))) (now (out .entry)) r (now (out .exit)) ⌝ }
+    ensures { λ r. ⌜ r ≤ 1044 ⌝ }
+{
+    if format == 0 {
+        return ihex_line::put_piece(out, state, address, bytes);
+    }
+    0
+}
+
+// The end record's line.
+fn put_end(format: u8, out: &mut [u8]) -> usize
+    ensures { λ r. ⌜ Puts (endBy format) (now (out .entry)) r (now (out .exit)) ⌝ }
+    ensures { λ r. ⌜ r ≤ 1044 ⌝ }
+{
+    if format == 0 {
+        return ihex_line::put_end(out);
+    }
+    0
+}
+
+// The bytes of the image from `start` to `end` as pieces from an address on. (1,044 characters a byte is more than any format takes.)
+fn write_block(
+    format: u8,
+    image: &[u8],
+    start: usize,
+    end: usize,
+    address: u64,
+    text: &mut [u8],
+    place: Place,
+) -> Place
+    requires { ⌜ (start ≤ end) × (end ≤ length (now image)) × (address + (end - start) ≤ 4294967296) × (place .at ≤ 1044 * address) ⌝ }
+    ensures { λ r. ⌜ BlockWritten format address (take (end - start) (drop start (now (image .entry)))) place (now (text .entry)) r (now (text .exit)) ⌝ }
+    ensures { λ r. ⌜ r .at ≤ 1044 * (address + (end - start)) ⌝ }
+{
+    let mut at = place.at;
+    let mut state = place.state;
+    let mut here = address;
+    let mut k = start;
+    while k < end {
+        let n = piece_length(here, end - k);
+        let next = k + n;
+        let from = least(at, text.len());
+        let m = put_piece(
+            format,
+            &mut text[from..],
+            state,
+            here as u32,
+            &image[k..next],
+        );
+        at += m;
+        state = (here / 65_536) as u16;
+        here += n as u64;
+        k = next;
+    }
+    Place { at, state }
+}
+
+// Document 01's rule for a part of an image.
+fn is_part(image: &[u8], offset: u64, size: u64) -> bool
+    ensures { λ r. ⌜ r ≡ isPart (length (now (image .entry))) offset size ⌝ }
+{
+    match bitvec::part_verdict(image, offset, size) {
+        Verdict::Accepted => true,
+        Verdict::Refused(_) => false,
+    }
+}
+
+// Whether every block is a part of the image.
+fn all_parts(image: &[u8], offsets: &[u64], sizes: &[u64]) -> bool
+    ensures { λ r. ⌜ r ≡ allParts (length (now (image .entry))) (blocksIn (now (offsets .entry)) (now (sizes .entry))) ⌝ }
+{
+    let count = least(offsets.len(), sizes.len());
+    let mut i = 0;
+    while i < count {
+        if !is_part(image, offsets[i], sizes[i]) {
+            return false;
+        }
+        i += 1;
+    }
+    true
+}
+
+// Whether a block that ends `size` bits behind `offset` ends before the next one starts. (A sum could wrap.)
+fn ends_before(offset: u64, size: u64, next: u64) -> bool
+    ensures { λ r. ⌜ r ≡ leb (offset + size) next ⌝ }
+{
+    if next < offset {
+        return false;
+    }
+    size <= next - offset
+}
+
+// Whether block i ends before the one behind it starts, if there is one.
+fn ends_free(offsets: &[u64], sizes: &[u64], i: usize) -> bool
+    requires { ⌜ (i < length (now offsets)) × (length (now offsets) ≡ length (now sizes)) ⌝ }
+    ensures { λ r. ⌜ r ≡ startsBehind (getD (now (offsets .entry)) i 0 + getD (now (sizes .entry)) i 0) (blocksIn (drop (i + 1) (now (offsets .entry))) (drop (i + 1) (now (sizes .entry)))) ⌝ }
+{
+    let next = i + 1;
+    if offsets.len() <= next {
+        return true;
+    }
+    ends_before(offsets[i], sizes[i], offsets[next])
+}
+
+// Whether a block's last byte has an address below 2^32.
+fn has_address(load: u32, offset: u64, size: u64) -> bool
+    ensures { λ r. ⌜ r ≡ leb (load + offset / 8 + size / 8) 4294967296 ⌝ }
+{
+    load as u64 + offset / 8 + size / 8 <= 4_294_967_296
+}
+
+// Whether the blocks ascend, share no bit and have addresses.
+fn all_placed(offsets: &[u64], sizes: &[u64], load: u32) -> bool
+    requires { ⌜ length (now offsets) ≡ length (now sizes) ⌝ }
+    ensures { λ r. ⌜ r ≡ allPlaced load (blocksIn (now (offsets .entry)) (now (sizes .entry))) ⌝ }
+{
+    let mut i = 0;
+    while i < offsets.len() {
+        if !ends_free(offsets, sizes, i) {
+            return false;
+        }
+        if !has_address(load, offsets[i], sizes[i]) {
+            return false;
+        }
+        i += 1;
+    }
+    true
+}
+
+// Whether nothing is malformed.
+fn is_sound(format: u8, image: &[u8], offsets: &[u64], sizes: &[u64], load: u32) -> bool
+    ensures { λ r. ⌜ r ≡ sound (input format (now (image .entry)) (now (offsets .entry)) (now (sizes .entry)) load) ⌝ }
+{
+    if format != 0 {
+        return false;
+    }
+    if offsets.len() != sizes.len() {
+        return false;
+    }
+    all_placed(offsets, sizes, load)
+}
+
+// The text of all blocks and the end record. What does not fit is left out, and the length is that of the whole.
+fn write_blocks(
+    format: u8,
+    image: &[u8],
+    offsets: &[u64],
+    sizes: &[u64],
+    load: u32,
+    text: &mut [u8],
+) -> usize
+    requires { ⌜ Ready (now image) (now offsets) (now sizes) load ⌝ }
+    ensures { λ r. ⌜ Puts (textOf format load (now (image .entry)) (blocksIn (now (offsets .entry)) (now (sizes .entry)))) (now (text .entry)) r (now (text .exit)) ⌝ }
+{
+    let base = load as u64;
+    let mut place = Place { at: 0, state: 0 };
+    let mut i = 0;
+    while i < offsets.len() {
+        let start = (offsets[i] / 8) as usize;
+        let end = start + (sizes[i] / 8) as usize;
+        place = write_block(format, image, start, end, base + start as u64, text, place);
+        i += 1;
+    }
+    let at = place.at;
+    let from = least(at, text.len());
+    let m = put_end(format, &mut text[from..]);
+    at + m
+}
+
+// The blocks of an image as a file of records: the length of the text, which stands at the front of the lent text, or why there is none.
+pub fn write(
+    format: u8,
+    image: &[u8],
+    offsets: &[u64],
+    sizes: &[u64],
+    load: u32,
+    text: &mut [u8],
+) -> Written
+    ensures { λ r. ⌜ Writes (input format (now (image .entry)) (now (offsets .entry)) (now (sizes .entry)) load) (now (text .entry)) r (now (text .exit)) ⌝ }
+{
+    if !all_parts(image, offsets, sizes) {
+        return Written::Refused(Refusal::BadPart);
+    }
+    if !is_sound(format, image, offsets, sizes, load) {
+        return Written::Refused(Refusal::Malformed(0));
+    }
+    // an empty part takes nothing: the length comes first
+    let length = write_blocks(format, image, offsets, sizes, load, &mut text[0..0]);
+    if text.len() < length {
+        return Written::Refused(Refusal::TooShort(3));
+    }
+    write_blocks(format, image, offsets, sizes, load, text);
+    Written::Length(length as u64)
+}
