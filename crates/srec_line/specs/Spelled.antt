@@ -1,0 +1,64 @@
+-- Bytes that were written as digits are spelled by them: what both formats need to read their own lines back.
+use mathlib.Core.Path.{_≡_, refl, sym, ap, _∙_}
+use mathlib.Core.Bool.{true}
+use mathlib.Core.List.{List, [], _∷_, _++_}
+use Prim.Native.Nat.{ℕ, zero, suc, _+_, _*_, _/_, _%_, _<_, _≤_}
+use native.Mathlib.Omega.{arith}
+use lib.ListN.{length, getD, drop, take, length-take, length-drop}
+use lib.Seq.{getD-append-add, ext-getD, getD-take, getD-drop}
+use borrow.Author.Tests.{lt-ltb}
+use Rattle.bitvec.specs.Lists.{listOf, length-listOf, getD-listOf}
+use Rattle.records.specs.Digits.{letterOf, isDigit, bytesText, allDigits, pairAt, bytesAt}
+use Rattle.records.specs.DigitLaws.{value-of-letter}
+
+-- Every element is a byte.
+abbrev pub Bytes : List ℕ → Type 0
+Bytes l = (k : ℕ) → k < length l → getD l k 0 < 256
+
+pub bytes-cons : (b : ℕ) (l : List ℕ) → b < 256 → Bytes l → Bytes (b ∷ l)
+bytes-cons b l h p zero q = h
+bytes-cons b l h p (suc k) q = p k (omega arith)
+
+pub bytes-append : (l m : List ℕ) → Bytes l → Bytes m → Bytes (l ++ m)
+bytes-append [] m p q k h = q k h
+bytes-append (b ∷ l) m p q zero h = p 0 (omega arith)
+bytes-append (b ∷ l) m p q (suc k) h = bytes-append l m (λ j r. p (suc j) (omega arith)) q k (omega arith)
+
+digit-of-letter : (n : ℕ) → n < 16 → isDigit (letterOf n) ≡ true
+digit-of-letter n h = rw (value-of-letter n h, lt-ltb n 16 h)
+
+-- What is written is digits.
+pub digits-written : (l : List ℕ) → Bytes l → allDigits (bytesText l) ≡ true
+unfolding allDigits bytesText
+digits-written [] h = refl
+digits-written (b ∷ l) h =
+    let s : b < 256 = h 0 (omega arith) in
+    rw (digit-of-letter (b / 16) (omega arith), digit-of-letter (b % 16) (omega arith)) (digits-written l (λ k p. h (suc k) (omega arith)))
+
+-- The pairs of digits are the bytes.
+pair-written : (l : List ℕ) → Bytes l → (j : ℕ) → j < length l → pairAt (bytesText l) (2 * j) ≡ getD l j 0
+unfolding bytesText
+pair-written [] h j p = absurd (omega arith)
+pair-written (b ∷ l) h zero p =
+    let s : b < 256 = h 0 (omega arith) in
+    rw (value-of-letter (b / 16) (omega arith), value-of-letter (b % 16) (omega arith)) (omega arith)
+pair-written (b ∷ l) h (suc j) p =
+    let e : 2 * suc j ≡ suc (suc (2 * j)) = omega arith in
+    let f : 2 * suc j + 1 ≡ suc (suc (2 * j + 1)) = omega arith in
+    rw (f, e) (pair-written l (λ k q. h (suc k) (omega arith)) j (omega arith))
+
+-- The same behind other characters.
+module _ (front l : List ℕ) (h : Bytes l) where
+  pub pair-behind : (j : ℕ) → j < length l → pairAt (front ++ bytesText l) (length front + 2 * j) ≡ getD l j 0
+  pair-behind j p =
+      let e : length front + 2 * j + 1 ≡ length front + (2 * j + 1) = omega arith in
+      rw (e, getD-append-add front (bytesText l) (2 * j) 0, getD-append-add front (bytesText l) (2 * j + 1) 0) (pair-written l h j p)
+
+  pub bytes-behind : (i n : ℕ) → i + n ≤ length l → bytesAt (front ++ bytesText l) (length front + 2 * i) n ≡ take n (drop i l)
+  bytes-behind i n p =
+      let f : ℕ → ℕ = λ j. pairAt (front ++ bytesText l) (length front + 2 * i + 2 * j) in
+      ext-getD 0 (listOf n f) (take n (drop i l)) (length-listOf n f ∙ simp (length-take, length-drop) (omega arith)) (λ k q.
+      let b : k < n = omega (arith, length-listOf n f) in
+      let e : length front + 2 * i + 2 * k ≡ length front + 2 * (i + k) = omega arith in
+      getD-listOf n f k b ∙ ap (λ (x : ℕ). pairAt (front ++ bytesText l) x) e ∙ pair-behind (i + k) (omega arith)
+      ∙ sym (getD-take n (drop i l) k 0 b ∙ getD-drop i l k 0))
