@@ -19,7 +19,13 @@ from pathlib import Path
 import records
 
 HERE = Path(__file__).resolve().parent
-INTELHEX = "from intelhex import IntelHex; import sys; h = IntelHex(sys.argv[1]); print(*(f'{a}:{b}' for a, b in sorted(h.todict().items()) if a != 'start_addr'))"
+READS = """from intelhex import IntelHex; import sys
+print(*(f"{a}:{b}" for a, b in IntelHex(sys.argv[1]).todict().items() if a != "start_addr"))"""
+WRITES = """from intelhex import IntelHex; import sys; h = IntelHex()
+for word in sys.argv[2:]:
+    a, b = word.split(":")
+    h[int(a)] = int(b)
+h.write_hex_file(sys.argv[1])"""
 
 
 def run(*words):
@@ -123,7 +129,8 @@ class Objcopy:
         part, out = self.there / "part.bin", self.there / "out.txt"
         part.write_bytes(filled(given, a, a + n - 1))
         force = ["--srec-forceS3"] if width == 4 else []
-        run("objcopy", "-I", "binary", "-O", {"hex": "ihex", "srec": "srec"}[kind], "--change-section-address", f".data=0x{a:x}", *force, part, out)
+        run("objcopy", "-I", "binary", "-O", {"hex": "ihex", "srec": "srec"}[kind],
+            "--change-section-address", f".data=0x{a:x}", *force, part, out)
         return out.read_bytes()
 
 
@@ -136,15 +143,14 @@ class IntelHex:
 
     def reads(self, kind, path, given):
         if kind == "hex":
-            told = run(self.python, "-c", INTELHEX, path).split()
+            told = run(self.python, "-c", READS, path).split()
             same(self.name, path, dict(tuple(map(int, t.split(":"))) for t in told), given)
 
     def writes(self, kind, width, given):
         if kind != "hex":
             return None
         out = self.there / "out.txt"
-        script = "from intelhex import IntelHex; import sys; h = IntelHex()\nfor t in sys.argv[2:]:\n a, b = t.split(':'); h[int(a)] = int(b)\nh.write_hex_file(sys.argv[1])"
-        run(self.python, "-c", script, out, *(f"{a}:{b}" for a, b in given.items()))
+        run(self.python, "-c", WRITES, out, *(f"{a}:{b}" for a, b in given.items()))
         return out.read_bytes()
 
 

@@ -129,7 +129,9 @@ pub data-as : (w state : ℕ) (l : List ℕ) (a n : ℕ) → a ≡ addressOf w l
 data-as w state l a n p q e h k =
     rw (e, p, q)
     (record {
-      answer = ap (λ (m : ℕ). record { kind = 1; address = addressOf w l; first = 4 + 2 * w; count = m; state = w }) (sym (length-listOf (countOf l - w - 1) (λ j. pairAt l (4 + 2 * w + 2 * j))));
+      answer =
+          ap (λ (m : ℕ). record { kind = 1; address = addressOf w l; first = 4 + 2 * w; count = m; state = w })
+          (sym (length-listOf (countOf l - w - 1) (λ j. pairAt l (4 + 2 * w + 2 * j))));
       says = refl;
       room = omega (arith, q);
     })

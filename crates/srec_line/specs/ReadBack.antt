@@ -74,7 +74,9 @@ module _ (t w a : ℕ) (bytes : List ℕ) (good : Bytes bytes) (few : w + length
       (bytes-cons (checksumOf (bodyOf w a bytes)) [] (omega arith) (λ k p. absurd (omega arith)))
 
   length-whole : length whole ≡ w + length bytes + 2
-  length-whole = omega (arith, length-append (bodyOf w a bytes) (checksumOf (bodyOf w a bytes) ∷ []), length-append (addressBytes w a) bytes, length-address w a)
+  length-whole =
+      omega
+      (arith, length-append (bodyOf w a bytes) (checksumOf (bodyOf w a bytes) ∷ []), length-append (addressBytes w a) bytes, length-address w a)
 
   line-count : countOf line ≡ w + length bytes + 1
   line-count = pair-behind (83 ∷ t ∷ []) whole whole-bytes 0 (omega (arith, length-whole))
@@ -102,21 +104,37 @@ module _ (t w a : ℕ) (bytes : List ℕ) (good : Bytes bytes) (few : w + length
       let all : bytesAt line 2 (w + length bytes + 1 + 1) ≡ whole =
       bytes-behind (83 ∷ t ∷ []) whole whole-bytes 0 (w + length bytes + 1 + 1) (omega (arith, length-whole))
       ∙ take-all (w + length bytes + 1 + 1) whole (omega (arith, length-whole)) in
-      ap (λ (l : List ℕ). sumOf l % 256) all ∙ ap (λ (n : ℕ). n % 256) (sum-append body (checksumOf body ∷ []) ∙ ap (λ (n : ℕ). sumOf body + n) (sum-one (checksumOf body)))
+      ap (λ (l : List ℕ). sumOf l % 256) all
+      ∙ ap (λ (n : ℕ). n % 256) (sum-append body (checksumOf body ∷ []) ∙ ap (λ (n : ℕ). sumOf body + n) (sum-one (checksumOf body)))
       ∙ omega arith
 
   line-sound : isSound line ≡ true
   unfolding isSound
   line-sound =
       let long : length line ≡ 4 + 2 * (w + length bytes + 1) = omega (arith, length-bytesText whole, length-whole) in
-      rw (line-count, le-leb 4 (length line) (omega arith), digits-written whole whole-bytes, eq-eqb (length line) (4 + 2 * (w + length bytes + 1)) long, line-sum)
+      rw (
+        line-count,
+        le-leb 4 (length line) (omega arith),
+        digits-written whole whole-bytes,
+        eq-eqb (length line) (4 + 2 * (w + length bytes + 1)) long,
+        line-sum,
+      )
 
   module _ (state : ℕ) (own : agrees state w ≡ true) where
     data-own : a < 256 ^ w → a + length bytes ≤ 256 ^ w → dataLine w state line ≡ gives a bytes w
     unfolding dataLine
     data-own ha fit =
         let left : w + length bytes + 1 - w - 1 ≡ length bytes = omega arith in
-        rw (own, line-count, left, line-address, address-back w a ha, line-data, lt-ltb w (w + length bytes + 1) (omega arith), le-leb (a + length bytes) (256 ^ w) fit)
+        rw (
+          own,
+          line-count,
+          left,
+          line-address,
+          address-back w a ha,
+          line-data,
+          lt-ltb w (w + length bytes + 1) (omega arith),
+          le-leb (a + length bytes) (256 ^ w) fit,
+        )
 
     end-own : length bytes ≡ 0 → endLine w state line ≡ ends
     unfolding endLine

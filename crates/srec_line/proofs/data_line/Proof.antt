@@ -28,7 +28,8 @@ plain-requires-2 c κs = search needs
 returns-2 : tie.Need-returns-2
 returns-2 c =
     let a = c .before .before .before in
-    as-bad (data-short _ _ _ (sym (a .before .does-agree .ensures) ∙ not-false _ (a .if1 .left)) (omega (arith, c .before .before .pair .ensures))) (c .plain2 .ensures)
+    as-bad (data-short _ _ _ (sym (a .before .does-agree .ensures) ∙ not-false _ (a .if1 .left)) (omega (arith, c .before .before .pair .ensures)))
+    (c .plain2 .ensures)
 
 sub-left : tie.Need-sub-left
 sub-left c = search needs

@@ -31,7 +31,8 @@ plain-requires-2 c κs = search needs
 returns-2 : tie.Need-returns-2
 returns-2 c =
     let a = c .before .before .before in
-    as-bad (end-count _ _ _ (sym (a .before .does-agree .ensures) ∙ not-false _ (a .if1 .left)) (λ e. c .before .if2 .taken (c .before .before .pair .ensures ∙ e))) (c .plain2 .ensures)
+    as-bad (end-count _ _ _ (sym (a .before .does-agree .ensures) ∙ not-false _ (a .if1 .left))
+    (λ e. c .before .if2 .taken (c .before .before .pair .ensures ∙ e))) (c .plain2 .ensures)
 
 plain-requires-3 : tie.Need-plain-requires-3
 plain-requires-3 c κs = search needs
@@ -39,7 +40,8 @@ plain-requires-3 c κs = search needs
 returns-3 : tie.Need-returns-3
 returns-3 c =
     let a = c .before .before .before in
-    as-ends (end-ends _ _ _ (sym (a .before .does-agree .ensures) ∙ not-false _ (a .if1 .left)) (sym (c .before .before .pair .ensures) ∙ c .before .if2 .left)) (c .plain3 .ensures)
+    as-ends (end-ends _ _ _ (sym (a .before .does-agree .ensures) ∙ not-false _ (a .if1 .left))
+    (sym (c .before .before .pair .ensures) ∙ c .before .if2 .left)) (c .plain3 .ensures)
 
 pub end-line-spec : {M : Type 1} → statement M
 end-line-spec =

@@ -27,7 +27,9 @@ all-digits-requires : tie.Need-all-digits-requires
 all-digits-requires c κs = search needs
 
 returns-3 : tie.Need-returns-3
-returns-3 c = sym (sound-digits _ (omega arith) (sym (c .before .before .before .is-s .ensures) ∙ not-false _ (c .before .before .if2 .left)) (sym (c .before .all-digits .ensures) ∙ not-true _ (c .if3 .taken)))
+returns-3 c =
+    sym (sound-digits _ (omega arith) (sym (c .before .before .before .is-s .ensures) ∙ not-false _ (c .before .before .if2 .left))
+    (sym (c .before .all-digits .ensures) ∙ not-true _ (c .if3 .taken)))
 
 pair-requires : tie.Need-pair-requires
 pair-requires c κs = search needs
@@ -47,7 +49,8 @@ add-if4 c = search needs
 returns-4 : tie.Need-returns-4
 returns-4 c =
     let a = c .before .before in
-    sym (sound-count _ (omega arith) (sym (a .before .before .before .is-s .ensures) ∙ not-false _ (a .before .before .if2 .left)) (sym (a .before .all-digits .ensures) ∙ not-false _ (a .if3 .left))
+    sym (sound-count _ (omega arith) (sym (a .before .before .before .is-s .ensures) ∙ not-false _ (a .before .before .if2 .left))
+    (sym (a .before .all-digits .ensures) ∙ not-false _ (a .if3 .left))
     (λ e. c .if4 .taken (e ∙ ap (λ (n : ℕ). 4 + 2 * n) (sym (c .before .pair .ensures)))))
 
 add-sum-pairs : tie.Need-add-sum-pairs
@@ -60,8 +63,10 @@ returns-5 : tie.Need-returns-5
 returns-5 c =
     let p = c .before .before in
     let a = p .before in
-    ap (λ (n : ℕ). eqb n 255) (c .sum-pairs .ensures ∙ ap (λ (n : ℕ). sumOf (bytesAt (a .before .before .before .before .before .before .before .args .line .now) 2 (n + 1)) % 256) (p .pair .ensures))
-    ∙ sym (sound-sum _ (omega arith) (sym (a .before .before .before .is-s .ensures) ∙ not-false _ (a .before .before .if2 .left)) (sym (a .before .all-digits .ensures) ∙ not-false _ (a .if3 .left))
+    let l = a .before .before .before .before .before .before .before .args .line .now in
+    ap (λ (n : ℕ). eqb n 255) (c .sum-pairs .ensures ∙ ap (λ (n : ℕ). sumOf (bytesAt l 2 (n + 1)) % 256) (p .pair .ensures))
+    ∙ sym (sound-sum _ (omega arith) (sym (a .before .before .before .is-s .ensures) ∙ not-false _ (a .before .before .if2 .left))
+    (sym (a .before .all-digits .ensures) ∙ not-false _ (a .if3 .left))
     (c .before .if4 .left ∙ ap (λ (n : ℕ). 4 + 2 * n) (p .pair .ensures)))
 
 pub is-sound-spec : {M : Type 1} → statement M

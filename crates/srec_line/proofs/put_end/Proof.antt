@@ -24,8 +24,11 @@ same-length c = search needs
 returns : tie.Need-returns
 returns c =
     let s = c .before .before .before .before .before .before .before .before in
-    let w = s .args .width in
-    (with-digit w 0 [] 57 (endDigit w) (digits-two w (c .before .before .before .before .before .before .if1 .taken) .1) (c .before .before .put-line .ensures .0), c .before .before .put-line .ensures .1)
+    let w = s .args .width in (
+      with-digit w 0 [] 57 (endDigit w) (digits-two w (c .before .before .before .before .before .before .if1 .taken) .1)
+          (c .before .before .put-line .ensures .0),
+      c .before .before .put-line .ensures .1,
+    )
 
 sub-put-line-2 : tie.Need-sub-put-line-2
 sub-put-line-2 c = search needs
@@ -45,8 +48,11 @@ same-length-2 c = search needs
 returns-2 : tie.Need-returns-2
 returns-2 c =
     let s = c .before .before .before .before .before .before .before .before in
-    let w = s .args .width in
-    (with-digit w 0 [] 55 (endDigit w) (digits-four w (c .before .before .before .before .before .before .if1 .left) .1) (c .before .before .put-line2 .ensures .0), c .before .before .put-line2 .ensures .1)
+    let w = s .args .width in (
+      with-digit w 0 [] 55 (endDigit w) (digits-four w (c .before .before .before .before .before .before .if1 .left) .1)
+          (c .before .before .put-line2 .ensures .0),
+      c .before .before .put-line2 .ensures .1,
+    )
 
 pub put-end-spec : {M : Type 1} → statement M
 put-end-spec =

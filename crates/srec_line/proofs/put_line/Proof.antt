@@ -35,7 +35,9 @@ slice-aggregate-put-parts : tie.Need-slice-aggregate-put-parts
 slice-aggregate-put-parts c = search needs
 
 add-put-parts : tie.Need-add-put-parts
-add-put-parts c = record { fits = ⊎-elim (λ e. omega arith) (λ e. omega arith) (c .before .before .before .before .before .before .before .before .width-of .ensures .1) }
+add-put-parts c =
+    let w = c .before .before .before .before .before .before .before .before in
+    record { fits = ⊎-elim (λ e. omega arith) (λ e. omega arith) (w .width-of .ensures .1) }
 
 sub-put-parts : tie.Need-sub-put-parts
 sub-put-parts c = search needs
@@ -61,8 +63,9 @@ returns c =
     let n = h .before in
     let w = n .before in
     let s = w .before .before .before in (
-      line-written (s .args .digit) (s .args .width) (s .args .address) (w .width-of .result) (n .at-most-250 .result) (a .wrapping-add-u8 .result) (h .head-of .result)
-          (s .args .bytes .now) (w .width-of .ensures .0) (n .at-most-250 .ensures .0) (h .head-of .ensures) (s₁ .sum .ensures) (s₂ .sum2 .ensures) (a .wrapping-add-u8 .ensures)
+      line-written (s .args .digit) (s .args .width) (s .args .address) (w .width-of .result) (n .at-most-250 .result)
+          (a .wrapping-add-u8 .result) (h .head-of .result) (s .args .bytes .now) (w .width-of .ensures .0) (n .at-most-250 .ensures .0)
+          (h .head-of .ensures) (s₁ .sum .ensures) (s₂ .sum2 .ensures) (a .wrapping-add-u8 .ensures)
           (p .put-parts .ensures .0),
       p .put-parts .ensures .1,
     )

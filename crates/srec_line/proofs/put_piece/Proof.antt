@@ -15,8 +15,11 @@ same-length c = search needs
 returns : tie.Need-returns
 returns c =
     let s = c .before .before .before .before .before .before .before in
-    let w = s .args .width in
-    (with-digit w (s .args .address) (take 250 (s .args .bytes .now)) 49 (dataDigit w) (digits-two w (c .before .before .before .before .if1 .taken) .0) (c .before .before .put-line .ensures .0), c .before .before .put-line .ensures .1)
+    let w = s .args .width in (
+      with-digit w (s .args .address) (take 250 (s .args .bytes .now)) 49 (dataDigit w) (digits-two w (c .before .before .before .before .if1 .taken) .0)
+          (c .before .before .put-line .ensures .0),
+      c .before .before .put-line .ensures .1,
+    )
 
 put-line-requires-2 : tie.Need-put-line-requires-2
 put-line-requires-2 c κs = search needs
@@ -27,8 +30,11 @@ same-length-2 c = search needs
 returns-2 : tie.Need-returns-2
 returns-2 c =
     let s = c .before .before .before .before .before .before .before in
-    let w = s .args .width in
-    (with-digit w (s .args .address) (take 250 (s .args .bytes .now)) 51 (dataDigit w) (digits-four w (c .before .before .before .before .if1 .left) .0) (c .before .before .put-line2 .ensures .0), c .before .before .put-line2 .ensures .1)
+    let w = s .args .width in (
+      with-digit w (s .args .address) (take 250 (s .args .bytes .now)) 51 (dataDigit w) (digits-four w (c .before .before .before .before .if1 .left) .0)
+          (c .before .before .put-line2 .ensures .0),
+      c .before .before .put-line2 .ensures .1,
+    )
 
 pub put-piece-spec : {M : Type 1} → statement M
 put-piece-spec =
