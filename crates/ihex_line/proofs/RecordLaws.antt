@@ -35,10 +35,13 @@ negated s r x e z h = let b : s < 256 = omega arith in go s r b h z ∙ ap (λ (
 pub check-byte : (b : List ℕ) (n hi lo type s1 s2 s r : ℕ) → s1 ≡ sumOf (n ∷ hi ∷ lo ∷ type ∷ []) % 256 → s2 ≡ sumOf b % 256 → s ≡ (s1 + s2) % 256
     → (r + s) % 256 ≡ 0 → r < 256 → r ≡ checkOf (n ∷ hi ∷ lo ∷ type ∷ b)
 unfolding sumOf
-check-byte b n hi lo type s1 s2 s r e1 e2 e z h = negated s r (sumOf (n ∷ hi ∷ lo ∷ type ∷ b)) (added (sumOf (n ∷ hi ∷ lo ∷ type ∷ [])) (sumOf b) s1 s2 s e1 e2 e ∙ ap (λ (k : ℕ). k % 256) (omega arith)) z h
+check-byte b n hi lo type s1 s2 s r e1 e2 e z h =
+    negated s r (sumOf (n ∷ hi ∷ lo ∷ type ∷ b)) (added (sumOf (n ∷ hi ∷ lo ∷ type ∷ [])) (sumOf b) s1 s2 s e1 e2 e ∙ ap (λ (k : ℕ). k % 256) (omega arith))
+    z h
 
 module _ (old b : List ℕ) (n hi lo type ck : ℕ) where
-  pub line-stored : {o1 o2 o3 o4 o5 : List ℕ} → n ≡ length b → o1 ≡ set old 0 58 → o2 ≡ sets o1 1 (bytesText (n ∷ hi ∷ lo ∷ type ∷ [])) → o3 ≡ sets o2 9 (bytesText b)
+  pub line-stored : {o1 o2 o3 o4 o5 : List ℕ} → n ≡ length b → o1 ≡ set old 0 58 → o2 ≡ sets o1 1 (bytesText (n ∷ hi ∷ lo ∷ type ∷ [])) → o3 ≡ sets o2 9
+      (bytesText b)
       → o4 ≡ sets o3 (9 + 2 * n) (bytesText (ck ∷ [])) → o5 ≡ set o4 (9 + 2 * n + 2) 10
       → o5 ≡ sets old 0 (58 ∷ bytesText (n ∷ hi ∷ lo ∷ type ∷ b) ++ bytesText (ck ∷ []) ++ 10 ∷ [])
   unfolding bytesText
@@ -52,12 +55,21 @@ module _ (old b : List ℕ) (n hi lo type ck : ℕ) where
       end ∙ ap (λ (l : List ℕ). sets l 1 (bytesText (n ∷ hi ∷ lo ∷ type ∷ b) ++ check ++ 10 ∷ [])) e1
 
 -- What the call owes.
-pub record-put : (old b : List ℕ) (n hi lo type field ck : ℕ) {new : List ℕ} → length b ≡ n → hi ≡ field / 256 → lo ≡ field % 256 → ck ≡ checkOf (n ∷ hi ∷ lo ∷ type ∷ b)
-    → new ≡ sets old 0 (58 ∷ bytesText (n ∷ hi ∷ lo ∷ type ∷ b) ++ bytesText (ck ∷ []) ++ 10 ∷ []) → Puts (recordText type field b) old (9 + 2 * n + 2 + 1) new
+pub record-put : (old b : List ℕ) (n hi lo type field ck : ℕ) {new : List ℕ} → length b ≡ n → hi ≡ field / 256 → lo ≡ field % 256 → ck ≡ checkOf
+    (n ∷ hi ∷ lo ∷ type ∷ b)
+    → new ≡ sets old 0 (58 ∷ bytesText (n ∷ hi ∷ lo ∷ type ∷ b) ++ bytesText (ck ∷ []) ++ 10 ∷ []) → Puts (recordText type field b) old (9 + 2 * n + 2 + 1)
+    new
 unfolding recordText bytesText
 record-put old b n hi lo type field ck en eh el ec e =
     let same : n ∷ hi ∷ lo ∷ type ∷ b ≡ recordBytes type field b =
-    ap (λ (k : ℕ). k ∷ hi ∷ lo ∷ type ∷ b) (sym en) ∙ ap (λ (k : ℕ). length b ∷ k ∷ lo ∷ type ∷ b) eh ∙ ap (λ (k : ℕ). length b ∷ field / 256 ∷ k ∷ type ∷ b) el in
-    let text = e ∙ ap (λ (k : ℕ). sets old 0 (58 ∷ bytesText (n ∷ hi ∷ lo ∷ type ∷ b) ++ bytesText (k ∷ []) ++ 10 ∷ [])) ec ∙ ap (λ (l : List ℕ). sets old 0 (lineText l)) same in
+    ap (λ (k : ℕ). k ∷ hi ∷ lo ∷ type ∷ b) (sym en) ∙ ap (λ (k : ℕ). length b ∷ k ∷ lo ∷ type ∷ b) eh ∙ ap
+    (λ (k : ℕ). length b ∷ field / 256 ∷ k ∷ type ∷ b) el in
+    let text = e ∙ ap (λ (k : ℕ). sets old 0 (58 ∷ bytesText (n ∷ hi ∷ lo ∷ type ∷ b) ++ bytesText (k ∷ []) ++ 10 ∷ [])) ec ∙ ap
+    (λ (l : List ℕ). sets old 0 (lineText l)) same in
     let check = checkOf (recordBytes type field b) ∷ [] in
-    record { long = omega (arith, length-append (bytesText b ++ bytesText check) (10 ∷ []), length-append (bytesText b) (bytesText check), length-bytesText b, en); part = text }
+    record {
+      long = omega
+          (arith, length-append (bytesText b ++ bytesText check) (10 ∷ []), length-append (bytesText b) (bytesText check), length-bytesText b, en);
+      part =
+          text;
+    }

@@ -51,7 +51,8 @@ module _ (len load : ℕ) (b : Block) (l : List Block) (parts : allParts len (b 
   places-rest = and-eq-true-iff (placed load b l) (allPlaced load l) .0 places .1
 
   below-end : load + b .origin / 8 + b .size / 8 ≤ 4294967296
-  below-end = leb-true (load + b .origin / 8 + b .size / 8) 4294967296 (and-eq-true-iff (startsBehind (endOf b) l) (leb (load + b .origin / 8 + b .size / 8) 4294967296) .0 is-placed .1)
+  below-end = leb-true (load + b .origin / 8 + b .size / 8) 4294967296
+      (and-eq-true-iff (startsBehind (endOf b) l) (leb (load + b .origin / 8 + b .size / 8) 4294967296) .0 is-placed .1)
 
   pub block-fits : Fits len load b
   block-fits = let p = isPart-true len (b .origin) (b .size) is-part in record { inside = omega (arith, p .starts, p .ends, p .inside); below = below-end }
@@ -126,7 +127,8 @@ module _ (format : ℕ) (image os ss : List ℕ) (load : ℕ) (old : List ℕ) w
             places = places-rest (length image) load (here os ss i) (behind os ss i) parts-now places-now;
             few = few-rest (length image) load (here os ss i) (behind os ss i) parts-now places-now (q .at) (rw e at b);
             long = w .long ∙ g .long;
-            writing = w .adds .goes (textOf format load image (blocksIn os ss)) old (linesFrom format (q .state) rest ++ endBy format) (rw lines at (g .writing));
+            writing = w .adds .goes (textOf format load image (blocksIn os ss)) old (linesFrom format (q .state) rest ++ endBy format)
+                (rw lines at (g .writing));
           }
 
     module _ (h : length os ≤ i) where
@@ -141,6 +143,7 @@ module _ (format : ℕ) (image os ss : List ℕ) (load : ℕ) (old : List ℕ) w
           → Puts (textOf format load image (blocksIn os ss)) old (p .at + m) (take from text ++ (part ++ drop (length text - from) (drop from text)))
       unfolding piecesOf linesFrom
       all-done {m} {from} {part} e q =
-          let rest : linesLeft (p .state) i ≡ endBy format ++ [] = ap (λ (l : List Block). linesFrom format (p .state) (piecesOf load image l) ++ endBy format) last-none ∙ sym (append-nil (endBy format)) in
+          let rest : linesLeft (p .state) i ≡ endBy format ++ [] = ap
+          (λ (l : List Block). linesFrom format (p .state) (piecesOf load image l) ++ endBy format) last-none ∙ sym (append-nil (endBy format)) in
           let w = writing-on (endBy format) [] (rw rest at (g .writing)) e q in
           rw (w .split ∙ append-nil (w .done)) (w .puts)

@@ -72,11 +72,13 @@ module _ (os ss : List ℕ) (i : ℕ) where
       unfolding allPlaced
       order-stop e = rw (blocks-at, e)
 
-      pub address-stop : startsBehind (getD os i 0 + getD ss i 0) behind ≡ true → leb (load + getD os i 0 / 8 + getD ss i 0 / 8) 4294967296 ≡ false → allPlaced load left ≡ false
+      pub address-stop : startsBehind (getD os i 0 + getD ss i 0) behind ≡ true → leb (load + getD os i 0 / 8 + getD ss i 0 / 8) 4294967296 ≡ false →
+          allPlaced load left ≡ false
       unfolding allPlaced
       address-stop e f = rw (blocks-at, e, f)
 
-      pub placed-on : startsBehind (getD os i 0 + getD ss i 0) behind ≡ true → leb (load + getD os i 0 / 8 + getD ss i 0 / 8) 4294967296 ≡ true → allPlaced load left ≡ allPlaced load behind
+      pub placed-on : startsBehind (getD os i 0 + getD ss i 0) behind ≡ true → leb (load + getD os i 0 / 8 + getD ss i 0 / 8) 4294967296 ≡ true → allPlaced
+          load left ≡ allPlaced load behind
       unfolding allPlaced
       placed-on e f = rw (blocks-at, e, f)
 

@@ -52,7 +52,8 @@ module _ (format : ℕ) (image : List ℕ) (start end address at₀ state₀ : �
     pub few : at ≤ 1044 * here
     pub long : length text ≡ length old
     pub states : stateAt state here k ≡ stateAt state₀ address start
-    pub goes : (whole first rest : List ℕ) → Writing whole first at₀ old (linesAt state₀ address start ++ rest) → Writing whole first at text (linesAt state here k ++ rest)
+    pub goes : (whole first rest : List ℕ) → Writing whole first at₀ old (linesAt state₀ address start ++ rest) → Writing whole first at text
+        (linesAt state here k ++ rest)
 
   pub going-first : start ≤ end → at₀ ≤ 1044 * address → Going at₀ state₀ address start old
   going-first h f = record { low = le-refl start; high = h; place = refl; few = f; long = refl; states = refl; goes = λ whole first rest w. w }
@@ -84,7 +85,8 @@ module _ (format : ℕ) (image : List ℕ) (start end address at₀ state₀ : �
       let same : take 255 (take (k + n - k) (drop k image)) ≡ take n (drop k image) =
       ap (λ (j : ℕ). take 255 (take j (drop k image))) count ∙ take-all 255 (take n (drop k image)) short in
       let puts = rw same at q in
-      let lines : linesAt state here k ≡ textBy format state (piece here (take n (drop k image))) ++ linesFrom format (here / 65536) rest = ap (linesFrom format state) next in
+      let lines : linesAt state here k ≡ textBy format state (piece here (take n (drop k image))) ++ linesFrom format (here / 65536) rest = ap
+      (linesFrom format state) next in
       record {
         low = omega (arith, g .low);
         high = high-stays k n h bn;

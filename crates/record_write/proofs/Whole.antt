@@ -44,7 +44,8 @@ module _ (i : Input) (old : List ℕ) where
       -- what is known when the blocks are written
       pub ready : Ready (i .image) (i .offsets) (i .sizes) (i .load)
       ready =
-          let three = and-eq-true-iff (known (i .format) && eqb (length (i .offsets)) (length (i .sizes))) (allPlaced (i .load) (blocksIn (i .offsets) (i .sizes))) .0 s in
+          let three = and-eq-true-iff (known (i .format) && eqb (length (i .offsets)) (length (i .sizes)))
+          (allPlaced (i .load) (blocksIn (i .offsets) (i .sizes))) .0 s in
           let two = and-eq-true-iff (known (i .format)) (eqb (length (i .offsets)) (length (i .sizes))) .0 (three .0) in
           record { paired = eqb-true (length (i .offsets)) (length (i .sizes)) (two .1); parts = p; places = three .1 }
 
@@ -54,7 +55,8 @@ module _ (i : Input) (old : List ℕ) where
           let none : part ≡ [] = q .part ∙ sets-none (text i) 0 in
           rw none (too-short n (q .long) (rw none at h))
 
-      pub written-after : (n m : ℕ) (part new : List ℕ) → Puts (text i) [] n part → n ≤ length (part ++ old) → Puts (text i) (part ++ old) m new → Writes i old (Length n) new
+      pub written-after : (n m : ℕ) (part new : List ℕ) → Puts (text i) [] n part → n ≤ length (part ++ old) → Puts (text i) (part ++ old) m new → Writes i
+          old (Length n) new
       written-after n m part new q h w =
           let none : part ≡ [] = q .part ∙ sets-none (text i) 0 in
           all-written n new (q .long) (rw none at h) (rw none at (w .part))

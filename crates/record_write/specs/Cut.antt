@@ -55,10 +55,12 @@ turns-enough (suc k) (suc m) address (b ∷ l) h g =
 
 -- One piece, and the pieces of what is left.
 pub cut-first : (address : ℕ) (l : List ℕ) → 0 < length l
-    → cut address l ≡ piece address (take (pieceLength address (length l)) l) ∷ cut (address + pieceLength address (length l)) (drop (pieceLength address (length l)) l)
+    → cut address l ≡ piece address (take (pieceLength address (length l)) l) ∷ cut (address + pieceLength address (length l))
+    (drop (pieceLength address (length l)) l)
 unfolding cutIn
 cut-first address [] h = absurd (not-suc-le-zero h)
 cut-first address (b ∷ l) h =
     let n = pieceLength address (length (b ∷ l)) in
     let less : length (drop n (b ∷ l)) ≤ length l = omega (arith, length-drop n (b ∷ l)) in
-    ap (λ (x : List Piece). piece address (take n (b ∷ l)) ∷ x) (turns-enough (length l) (length (drop n (b ∷ l))) (address + n) (drop n (b ∷ l)) less (le-refl (length (drop n (b ∷ l)))))
+    ap (λ (x : List Piece). piece address (take n (b ∷ l)) ∷ x)
+    (turns-enough (length l) (length (drop n (b ∷ l))) (address + n) (drop n (b ∷ l)) less (le-refl (length (drop n (b ∷ l)))))

@@ -5,7 +5,7 @@ use mathlib.Core.List.{List, _++_}
 use Prim.Native.Nat.{ℕ}
 use lib.Dec.{leb, eqb}
 use lib.ListN.{length, drop}
-use Rattle.refusal.specs.Pick.{pick}
+use Rattle.refusal.specs.Pick.{pick, determined}
 use Rattle.refusal.specs.Told.{Told, gives, toldRefusal}
 use Rattle.refusal.specs.declared.Refusal.{Refusal}
 use Rattle.refusal.specs.declared.Refusal.the-variants.{Malformed, TooShort, BadPart}
@@ -44,7 +44,8 @@ answerOf i old =
 -- Accepted, the text stands at the front and what is behind it stays; refused, all stays.
 abbrev pub textAfter : Input → List ℕ → List ℕ
 textAfter i old =
-    pick (allParts (length (i .image)) (blocksIn (i .offsets) (i .sizes)) && sound i && leb (length (text i)) (length old)) (text i ++ drop (length (text i)) old) old
+    pick (allParts (length (i .image)) (blocksIn (i .offsets) (i .sizes)) && sound i && leb (length (text i)) (length old))
+    (text i ++ drop (length (text i)) old) old
 
 -- In document 01's figures.
 abbrev pub toldWritten : Written → Told ℕ
@@ -54,3 +55,7 @@ toldWritten (Refused r) = toldRefusal r
 pub record Writes (i : Input) (old : List ℕ) (r : Written) (new : List ℕ) : Type 0 where
   pub answer : r ≡ answerOf i old
   pub lent : new ≡ textAfter i old
+
+-- One answer, and one text.
+pub one-write : {i : Input} {old a b : List ℕ} {r s : Written} → Writes i old r a → Writes i old s b → (r ≡ s) × (a ≡ b)
+one-write p q = (determined (p .answer) (q .answer), determined (p .lent) (q .lent))

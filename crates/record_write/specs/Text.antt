@@ -37,7 +37,8 @@ stateFrom format state (p ∷ l) = stateFrom format (afterBy format state p) l
 abbrev pub textOf : ℕ → ℕ → List ℕ → List Block → List ℕ
 textOf format load image blocks = linesFrom format 0 (piecesOf load image blocks) ++ endBy format
 
-pub lines-append : (format state : ℕ) (a b : List Piece) → linesFrom format state (a ++ b) ≡ linesFrom format state a ++ linesFrom format (stateFrom format state a) b
+pub lines-append : (format state : ℕ) (a b : List Piece) → linesFrom format state (a ++ b) ≡ linesFrom format state a ++ linesFrom format
+    (stateFrom format state a) b
 unfolding linesFrom stateFrom
 lines-append format state [] b = refl
 lines-append format state (p ∷ a) b =

@@ -47,7 +47,8 @@ module _ (l : List ℕ) (i : ℕ) where
   unfolding firstLine taken
   cut-end h = (rw (drop-of-length-le l h), rw (drop-of-length-le l h))
 
-pub two-stores : (old : List ℕ) {mid new : List ℕ} (at b x y : ℕ) → b < 256 → mid ≡ set old at x → new ≡ set mid (at + 1) y → x ≡ letterOf (b / 16 % 16) → y ≡ letterOf (b % 16 % 16)
+pub two-stores : (old : List ℕ) {mid new : List ℕ} (at b x y : ℕ) → b < 256 → mid ≡ set old at x → new ≡ set mid (at + 1) y → x ≡ letterOf (b / 16 % 16) → y
+    ≡ letterOf (b % 16 % 16)
     → new ≡ sets old at (byteText b)
 two-stores old at b x y h p q ex ey =
     let high : b / 16 % 16 ≡ b / 16 = omega arith in

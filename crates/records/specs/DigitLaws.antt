@@ -34,7 +34,15 @@ module _ (c : ℕ) where
   pub value-lower : 97 ≤ c → c < 103 → valueOf c ≡ c - 87
   unfolding valueOf
   value-lower h k =
-      rw (le-leb 48 c (omega arith), lt-leb c 57 (omega arith), le-leb 65 c (omega arith), lt-leb c 70 (omega arith), le-leb 97 c h, le-leb c 102 (omega arith))
+      rw (
+        le-leb 48 c (omega arith),
+        lt-leb c 57 (omega arith),
+        le-leb 65 c (omega arith),
+        lt-leb c 70 (omega arith),
+        le-leb 97 c h,
+        le-leb c 102
+            (omega arith),
+      )
 
   pub value-above : 103 ≤ c → valueOf c ≡ 16
   unfolding valueOf

@@ -4,7 +4,7 @@ use mathlib.Core.List.{List}
 use Prim.Native.Nat.{ℕ, _+_, _*_, _≤_}
 use lib.Dec.{eqb}
 use lib.ListN.{length}
-use Rattle.refusal.specs.Pick.{pick}
+use Rattle.refusal.specs.Pick.{pick, determined}
 use Rattle.records.specs.Digits.{bytesAt}
 use Rattle.records.specs.declared.Line.{Line}
 
@@ -42,3 +42,7 @@ pub record Says (line : List ℕ) (state first : ℕ) (r : Line) (item : Item) :
   pub answer : r ≡ asLine state first item
   pub says : itemOf line r ≡ item
   pub room : r .first + 2 * r .count ≤ length line
+
+-- One line.
+pub one-line : {line : List ℕ} {state first : ℕ} {item : Item} {r s : Line} → Says line state first r item → Says line state first s item → r ≡ s
+one-line p q = determined (p .answer) (q .answer)

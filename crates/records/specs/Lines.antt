@@ -42,14 +42,16 @@ behind t = drop (taken t) t
 
 -- A text that is not empty is its first line and the lines behind that.
 module _ (c : ℕ) where
-  alone : (a b : Bool) → pick a ([] ∷ []) (pick (b && false) [] ((c ∷ []) ∷ [])) ≡ pick a [] (pick (b && false) [] (c ∷ [])) ∷ linesOf (drop (pick a 1 (pick (b && false) 2 1)) (c ∷ []))
+  alone : (a b : Bool) → pick a ([] ∷ []) (pick (b && false) [] ((c ∷ []) ∷ [])) ≡ pick a [] (pick (b && false) [] (c ∷ [])) ∷ linesOf
+      (drop (pick a 1 (pick (b && false) 2 1)) (c ∷ []))
   unfolding linesOf
   alone true b = refl
   alone false true = refl
   alone false false = refl
 
   -- with the lines of what follows written out
-  before-more : (d : ℕ) (t : List ℕ) (ls : List (List ℕ)) (a b : Bool) → ls ≡ linesOf (d ∷ t) → (isLf d ≡ true → ls ≡ [] ∷ linesOf t) → ls ≡ firstLine (d ∷ t) ∷ linesOf (behind (d ∷ t))
+  before-more : (d : ℕ) (t : List ℕ) (ls : List (List ℕ)) (a b : Bool) → ls ≡ linesOf (d ∷ t) → (isLf d ≡ true → ls ≡ [] ∷ linesOf t) → ls ≡ firstLine
+      (d ∷ t) ∷ linesOf (behind (d ∷ t))
       → pick a ([] ∷ ls) (pick (b && isLf d) ls (inFront c ls))
       ≡ pick a [] (pick (b && isLf d) [] (c ∷ firstLine (d ∷ t))) ∷ linesOf (drop (pick a 1 (pick (b && isLf d) 2 (suc (taken (d ∷ t))))) (c ∷ d ∷ t))
   before-more d t ls a b same lf h = go a b (isLf d) lf

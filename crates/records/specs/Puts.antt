@@ -6,6 +6,7 @@ use native.Mathlib.Decide.{decLe}
 use native.Mathlib.Nat.{add-zero, add-suc, suc-add}
 use native.Mathlib.Omega.{arith}
 use lib.ListN.{length, take, drop, set, length-append, length-drop, take-append-drop, drop-of-length-le}
+use Rattle.refusal.specs.Pick.{determined}
 use lib.Seq.{sets, take-all, take-set-le, drop-set-add, length-sets}
 
 -- The length of the text, and every character of the part afterwards.
@@ -64,13 +65,20 @@ puts-then a b {old} {mid} {part} {new} {n} {m} {from} p e q r =
     }
 
 -- The same, where the rest is lent as the part from a place on to the end, and put back.
-pub puts-rest : (a b : List ℕ) {old mid part : List ℕ} {n m from : ℕ} → Puts a old n mid → from ≡ min n (length mid) → Puts b (take (length mid - from) (drop from mid)) m part
+pub puts-rest : (a b : List ℕ) {old mid part : List ℕ} {n m from : ℕ} → Puts a old n mid → from ≡ min n (length mid) → Puts b
+    (take (length mid - from) (drop from mid)) m part
     → Puts (a ++ b) old (n + m) (take from mid ++ (part ++ drop (length mid - from) (drop from mid)))
 puts-rest a b {old} {mid} {part} {n} {m} {from} p e q =
-    let whole : take (length mid - from) (drop from mid) ≡ drop from mid = take-all (length mid - from) (drop from mid) (omega (arith, length-drop from mid)) in
-    let none : drop (length mid - from) (drop from mid) ≡ [] = drop-of-length-le (drop from mid) {i = length mid - from} (omega (arith, length-drop from mid)) in
+    let whole : take (length mid - from) (drop from mid) ≡ drop from mid = take-all (length mid - from) (drop from mid)
+    (omega (arith, length-drop from mid)) in
+    let none : drop (length mid - from) (drop from mid) ≡ [] = drop-of-length-le (drop from mid) {i = length mid - from}
+    (omega (arith, length-drop from mid)) in
     puts-then a b p e (rw whole at q) (ap (λ (l : List ℕ). take from mid ++ (part ++ l)) none ∙ ap (λ (l : List ℕ). take from mid ++ l) (append-nil part))
 
 -- The part keeps its length.
 pub puts-long : {text old new : List ℕ} {n : ℕ} → Puts text old n new → length new ≡ length old
 puts-long {text} {old} p = ap length (p .part) ∙ length-sets old 0 text
+
+-- One length, and one part.
+pub one-put : {text old a b : List ℕ} {m n : ℕ} → Puts text old m a → Puts text old n b → (m ≡ n) × (a ≡ b)
+one-put p q = (determined (p .long) (q .long), determined (p .part) (q .part))

@@ -28,14 +28,20 @@ add-if2 : tie.Need-add-if2
 add-if2 c = search needs
 
 returns-2 : tie.Need-returns-2
-returns-2 c = wrong-length (c .before .before .before .before .before .before .args .line .now) (c .before .before .before .before .char-at .result) (c .before .wide .result) (c .before .before .before .before .char-at .ensures) (c .before .before .before .if1 .left) (c .before .wide .ensures .0 ∙ c .before .before .pair .ensures) (c .if2 .taken)
+returns-2 c =
+    wrong-length (c .before .before .before .before .before .before .args .line .now) (c .before .before .before .before .char-at .result)
+    (c .before .wide .result) (c .before .before .before .before .char-at .ensures) (c .before .before .before .if1 .left)
+    (c .before .wide .ensures .0 ∙ c .before .before .pair .ensures) (c .if2 .taken)
 
 all-digits-requires : tie.Need-all-digits-requires
 all-digits-requires c κs = search needs
 
 returns-3 : tie.Need-returns-3
 returns-3 c =
-    no-digits (c .before .before .before .before .before .before .before .before .args .line .now) (c .before .before .before .before .before .before .char-at .result) (c .before .before .before .wide .result) (c .before .before .before .before .before .before .char-at .ensures) (c .before .before .before .before .before .if1 .left) (c .before .before .before .wide .ensures .0 ∙ c .before .before .before .before .pair .ensures) (c .before .before .if2 .left)
+    no-digits (c .before .before .before .before .before .before .before .before .args .line .now)
+    (c .before .before .before .before .before .before .char-at .result) (c .before .before .before .wide .result)
+    (c .before .before .before .before .before .before .char-at .ensures) (c .before .before .before .before .before .if1 .left)
+    (c .before .before .before .wide .ensures .0 ∙ c .before .before .before .before .pair .ensures) (c .before .before .if2 .left)
     (sym (c .before .all-digits .ensures) ∙ not-true _ (c .if3 .taken))
 
 add-sum-pairs : tie.Need-add-sum-pairs
@@ -46,7 +52,11 @@ sum-pairs-requires c κs = search needs
 
 returns-4 : tie.Need-returns-4
 returns-4 c =
-    by-sum (c .before .before .before .before .before .before .before .before .before .args .line .now) (c .before .before .before .before .before .before .before .char-at .result) (c .before .before .before .before .wide .result) (c .before .before .before .before .before .before .before .char-at .ensures) (c .before .before .before .before .before .before .if1 .left) (c .before .before .before .before .wide .ensures .0 ∙ c .before .before .before .before .before .pair .ensures) (c .before .before .before .if2 .left)
+    by-sum (c .before .before .before .before .before .before .before .before .before .args .line .now)
+    (c .before .before .before .before .before .before .before .char-at .result) (c .before .before .before .before .wide .result)
+    (c .before .before .before .before .before .before .before .char-at .ensures) (c .before .before .before .before .before .before .if1 .left)
+    (c .before .before .before .before .wide .ensures .0 ∙ c .before .before .before .before .before .pair .ensures)
+    (c .before .before .before .if2 .left)
     (c .sum-pairs .result) (sym (c .before .before .all-digits .ensures) ∙ not-false _ (c .before .if3 .left)) (c .sum-pairs .ensures)
 
 pub is-good-spec : {M : Type 1} → statement M

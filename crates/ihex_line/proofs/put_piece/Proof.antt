@@ -43,7 +43,8 @@ unfolding hexText
 returns c =
     let a = c .before .before .before .before .before .before .before .before .before .before .before .args in (
       puts-rest (upperText (a .in-force) (a .address / 65536)) (recordText 0 (a .address % 65536) (take 255 (a .bytes .now)))
-          (c .before .before .before .before .before .before .before .put-upper .ensures .0) (c .before .before .before .before .least .ensures) (c .before .before .put-record .ensures .0),
+          (c .before .before .before .before .before .before .before .put-upper .ensures .0) (c .before .before .before .before .least .ensures)
+          (c .before .before .put-record .ensures .0),
       omega arith,
     )
 

@@ -80,21 +80,47 @@ same-length c = search needs
 
 returns : tie.Need-returns
 returns c =
-    let a = c .before .before .before .before .before .before .before .before .before .before .before .before .before .before .before .before .before .before .before .before .before .before .before .before .before .before .before .before .before .before .args in
+    let a = c .before .before .before .before .before .before .before .before .before .before .before .before .before .before .before .before .before
+    .before .before .before .before .before .before .before .before .before .before .before .before .before .args in
     let bytes = a .bytes .now in
     let b = take 255 bytes in
-    let n = c .before .before .before .before .before .before .before .before .before .before .before .before .before .before .before .before .before .before .before .before .before .before .before .before .before .before .before .at-most-255 .result in
+    let n = c .before .before .before .before .before .before .before .before .before .before .before .before .before .before .before .before .before
+    .before .before .before .before .before .before .before .before .before .before .at-most-255 .result in
     let hi = a .field / 256 in
     let lo = a .field % 256 in
-    let ck = c .before .before .before .before .before .before .before .before .before .before .before .before .before .before .before .before .before .before .before .before .before .before .wrapping-sub-u8 .result in
-    let long = first-count bytes n (c .before .before .before .before .before .before .before .before .before .before .before .before .before .before .before .before .before .before .before .before .before .before .before .before .before .before .before .at-most-255 .ensures) in
-    let first = first-bytes bytes n (c .before .before .before .before .before .before .before .before .before .before .before .before .before .before .before .before .before .before .before .before .before .before .before .before .before .before .before .at-most-255 .ensures) in
+    let ck = c .before .before .before .before .before .before .before .before .before .before .before .before .before .before .before .before .before
+    .before .before .before .before .before .wrapping-sub-u8 .result in
+    let long = first-count bytes n
+    (c .before .before .before .before .before .before .before .before .before .before .before .before .before .before .before .before .before .before
+    .before .before .before .before .before .before .before .before .before .at-most-255 .ensures) in
+    let first = first-bytes bytes n
+    (c .before .before .before .before .before .before .before .before .before .before .before .before .before .before .before .before .before .before
+    .before .before .before .before .before .before .before .before .before .at-most-255 .ensures) in
     let check =
-    check-byte b n hi lo (a .kind) (c .before .before .before .before .before .before .before .before .before .before .before .before .before .before .before .before .before .before .before .before .before .before .before .before .before .sum .result) (c .before .before .before .before .before .before .before .before .before .before .before .before .before .before .before .before .before .before .before .before .before .before .before .before .sum2 .result) (c .before .before .before .before .before .before .before .before .before .before .before .before .before .before .before .before .before .before .before .before .before .before .before .wrapping-add-u8 .result) ck (c .before .before .before .before .before .before .before .before .before .before .before .before .before .before .before .before .before .before .before .before .before .before .before .before .before .sum .ensures)
-    (c .before .before .before .before .before .before .before .before .before .before .before .before .before .before .before .before .before .before .before .before .before .before .before .before .sum2 .ensures ∙ ap (λ (l : List ℕ). sumOf l % 256) first) (c .before .before .before .before .before .before .before .before .before .before .before .before .before .before .before .before .before .before .before .before .before .before .before .wrapping-add-u8 .ensures) (c .before .before .before .before .before .before .before .before .before .before .before .before .before .before .before .before .before .before .before .before .before .before .wrapping-sub-u8 .ensures) (omega arith) in
+    check-byte b n hi lo (a .kind)
+    (c .before .before .before .before .before .before .before .before .before .before .before .before .before .before .before .before .before .before
+    .before .before .before .before .before .before .before .sum .result)
+    (c .before .before .before .before .before .before .before .before .before .before .before .before .before .before .before .before .before .before
+    .before .before .before .before .before .before .sum2 .result)
+    (c .before .before .before .before .before .before .before .before .before .before .before .before .before .before .before .before .before .before
+    .before .before .before .before .before .wrapping-add-u8 .result) ck
+    (c .before .before .before .before .before .before .before .before .before .before .before .before .before .before .before .before .before .before
+    .before .before .before .before .before .before .before .sum .ensures)
+    (c .before .before .before .before .before .before .before .before .before .before .before .before .before .before .before .before .before .before
+    .before .before .before .before .before .before .sum2 .ensures ∙ ap (λ (l : List ℕ). sumOf l % 256) first)
+    (c .before .before .before .before .before .before .before .before .before .before .before .before .before .before .before .before .before .before
+    .before .before .before .before .before .wrapping-add-u8 .ensures)
+    (c .before .before .before .before .before .before .before .before .before .before .before .before .before .before .before .before .before .before
+    .before .before .before .before .wrapping-sub-u8 .ensures) (omega arith) in
     let stored =
-    line-stored (a .out .now) b n hi lo (a .kind) ck (sym long) (c .before .before .before .before .before .before .before .before .before .before .before .before .before .before .before .before .before .before .before .before .put .ensures) (c .before .before .before .before .before .before .before .before .before .before .before .before .before .before .before .put-pairs .ensures)
-    (c .before .before .before .before .before .before .before .before .before .before .before .put-pairs2 .ensures ∙ ap (λ (l : List ℕ). sets (c .before .before .before .before .before .before .before .before .before .before .before .before .before .before .before .put-pairs .last .0) 9 (bytesText l)) first) (c .before .before .before .before .before .before .put-pairs3 .ensures) (c .before .before .put2 .ensures) in
+    line-stored (a .out .now) b n hi lo (a .kind) ck (sym long)
+    (c .before .before .before .before .before .before .before .before .before .before .before .before .before .before .before .before .before .before
+    .before .before .put .ensures)
+    (c .before .before .before .before .before .before .before .before .before .before .before .before .before .before .before .put-pairs .ensures)
+    (c .before .before .before .before .before .before .before .before .before .before .before .put-pairs2 .ensures ∙ ap
+    (λ (l : List ℕ). sets
+    (c .before .before .before .before .before .before .before .before .before .before .before .before .before .before .before .put-pairs .last .0) 9
+    (bytesText l)) first) (c .before .before .before .before .before .before .put-pairs3 .ensures) (c .before .before .put2 .ensures) in
     (record-put (a .out .now) b n hi lo (a .kind) (a .field) ck long refl refl check stored, omega arith)
 
 pub put-record-spec : {M : Type 1} → statement M

@@ -28,8 +28,11 @@ same-length c = search needs
 
 returns-2 : tie.Need-returns-2
 returns-2 c =
-    let a = c .before .before .before .before .before .before .before .args in
-    (rw (ne-eqb (a .upper) (a .in-force) (c .before .before .before .before .before .if1 .left)) (c .before .before .put-record .ensures .0), c .before .before .put-record .ensures .1)
+    let a = c .before .before .before .before .before .before .before .args in (
+      rw (ne-eqb (a .upper) (a .in-force) (c .before .before .before .before .before .if1 .left)) (c .before .before .put-record .ensures .0),
+      c .before
+          .before .put-record .ensures .1,
+    )
 
 pub put-upper-spec : {M : Type 1} → statement M
 put-upper-spec =

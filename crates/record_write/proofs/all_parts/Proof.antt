@@ -12,7 +12,8 @@ use Rattle.record_write.proofs.all_parts.Statement.{statement}
 use Rattle.record_write.proofs.all_parts.Tie as tie
 
 abbrev Inv-loop : tie.InvT-loop
-Inv-loop image offsets sizes count i₀ i = allParts (length image) (blocksIn offsets sizes) ≡ allParts (length image) (blocksIn (drop i offsets) (drop i sizes))
+Inv-loop image offsets sizes count i₀ i =
+    allParts (length image) (blocksIn offsets sizes) ≡ allParts (length image) (blocksIn (drop i offsets) (drop i sizes))
 
 abbrev μ-loop : tie.MeasureT-loop
 μ-loop image offsets sizes count i₀ i = count - i
@@ -39,7 +40,11 @@ is-part-requires : tie.Need-is-part-requires Inv-loop μ-loop
 is-part-requires c κs = search needs
 
 returns : tie.Need-returns Inv-loop μ-loop
-returns c = sym (c .before .before .before .before .before .loop .inv ∙ parts-stop (c .before .before .before .before .before .before .before .before .before .before .args .offsets .now) (c .before .before .before .before .before .before .before .before .before .before .args .sizes .now) (c .before .before .before .before .before .loop .i) (omega arith) (omega arith) _ (sym (c .before .is-part .ensures) ∙ not-true _ (c .if1 .taken)))
+returns c =
+    sym (c .before .before .before .before .before .loop .inv ∙ parts-stop
+    (c .before .before .before .before .before .before .before .before .before .before .args .offsets .now)
+    (c .before .before .before .before .before .before .before .before .before .before .args .sizes .now)
+    (c .before .before .before .before .before .loop .i) (omega arith) (omega arith) _ (sym (c .before .is-part .ensures) ∙ not-true _ (c .if1 .taken)))
 
 add-i : tie.Need-add-i Inv-loop μ-loop
 add-i c = search needs
@@ -48,10 +53,16 @@ loop-less : tie.Need-loop-less Inv-loop μ-loop
 loop-less c = search needs
 
 loop-again : tie.Need-loop-again Inv-loop μ-loop
-loop-again c = c .before .before .before .before .before .loop .inv ∙ parts-on (c .before .before .before .before .before .before .before .before .before .before .args .offsets .now) (c .before .before .before .before .before .before .before .before .before .before .args .sizes .now) (c .before .before .before .before .before .loop .i) (omega arith) (omega arith) _ (sym (c .before .is-part .ensures) ∙ not-false _ (c .if1 .left))
+loop-again c =
+    c .before .before .before .before .before .loop .inv ∙ parts-on
+    (c .before .before .before .before .before .before .before .before .before .before .args .offsets .now)
+    (c .before .before .before .before .before .before .before .before .before .before .args .sizes .now)
+    (c .before .before .before .before .before .loop .i) (omega arith) (omega arith) _ (sym (c .before .is-part .ensures) ∙ not-false _ (c .if1 .left))
 
 returns-2 : tie.Need-returns-2 Inv-loop μ-loop
-returns-2 c = sym (c .before .loop .inv ∙ parts-done (c .before .before .before .before .before .before .args .offsets .now) (c .before .before .before .before .before .before .args .sizes .now) (c .before .loop .i) _ (omega arith))
+returns-2 c =
+    sym (c .before .loop .inv ∙ parts-done (c .before .before .before .before .before .before .args .offsets .now)
+    (c .before .before .before .before .before .before .args .sizes .now) (c .before .loop .i) _ (omega arith))
 
 pub all-parts-spec : {M : Type 1} → statement M
 all-parts-spec =

@@ -24,7 +24,10 @@ ends-free-requires : tie.Need-ends-free-requires Inv-loop μ-loop
 ends-free-requires c κs = search needs
 
 returns : tie.Need-returns Inv-loop μ-loop
-returns c = sym (c .before .before .before .loop .inv ∙ order-stop (c .before .before .before .before .before .before .args .offsets .now) (c .before .before .before .before .before .before .args .sizes .now) (c .before .before .before .loop .i) (omega arith) (omega arith) _ (sym (c .before .ends-free .ensures) ∙ not-true _ (c .if1 .taken)))
+returns c =
+    sym (c .before .before .before .loop .inv ∙ order-stop (c .before .before .before .before .before .before .args .offsets .now)
+    (c .before .before .before .before .before .before .args .sizes .now) (c .before .before .before .loop .i) (omega arith) (omega arith) _
+    (sym (c .before .ends-free .ensures) ∙ not-true _ (c .if1 .taken)))
 
 mul-has-address : tie.Need-mul-has-address Inv-loop μ-loop
 mul-has-address c = search needs
@@ -42,7 +45,13 @@ has-address-requires : tie.Need-has-address-requires Inv-loop μ-loop
 has-address-requires c κs = search needs
 
 returns-2 : tie.Need-returns-2 Inv-loop μ-loop
-returns-2 c = sym (c .before .before .before .before .before .before .before .loop .inv ∙ address-stop (c .before .before .before .before .before .before .before .before .before .before .args .offsets .now) (c .before .before .before .before .before .before .before .before .before .before .args .sizes .now) (c .before .before .before .before .before .before .before .loop .i) (omega arith) (omega arith) _ (sym (c .before .before .before .before .before .ends-free .ensures) ∙ not-false _ (c .before .before .before .before .if1 .left)) (sym (c .before .has-address .ensures) ∙ not-true _ (c .if2 .taken)))
+returns-2 c =
+    sym (c .before .before .before .before .before .before .before .loop .inv ∙ address-stop
+    (c .before .before .before .before .before .before .before .before .before .before .args .offsets .now)
+    (c .before .before .before .before .before .before .before .before .before .before .args .sizes .now)
+    (c .before .before .before .before .before .before .before .loop .i) (omega arith) (omega arith) _
+    (sym (c .before .before .before .before .before .ends-free .ensures) ∙ not-false _ (c .before .before .before .before .if1 .left))
+    (sym (c .before .has-address .ensures) ∙ not-true _ (c .if2 .taken)))
 
 add-i : tie.Need-add-i Inv-loop μ-loop
 add-i c = search needs
@@ -51,10 +60,18 @@ loop-less : tie.Need-loop-less Inv-loop μ-loop
 loop-less c = search needs
 
 loop-again : tie.Need-loop-again Inv-loop μ-loop
-loop-again c = c .before .before .before .before .before .before .before .loop .inv ∙ placed-on (c .before .before .before .before .before .before .before .before .before .before .args .offsets .now) (c .before .before .before .before .before .before .before .before .before .before .args .sizes .now) (c .before .before .before .before .before .before .before .loop .i) (omega arith) (omega arith) _ (sym (c .before .before .before .before .before .ends-free .ensures) ∙ not-false _ (c .before .before .before .before .if1 .left)) (sym (c .before .has-address .ensures) ∙ not-false _ (c .if2 .left))
+loop-again c =
+    c .before .before .before .before .before .before .before .loop .inv ∙ placed-on
+    (c .before .before .before .before .before .before .before .before .before .before .args .offsets .now)
+    (c .before .before .before .before .before .before .before .before .before .before .args .sizes .now)
+    (c .before .before .before .before .before .before .before .loop .i) (omega arith) (omega arith) _
+    (sym (c .before .before .before .before .before .ends-free .ensures) ∙ not-false _ (c .before .before .before .before .if1 .left))
+    (sym (c .before .has-address .ensures) ∙ not-false _ (c .if2 .left))
 
 returns-3 : tie.Need-returns-3 Inv-loop μ-loop
-returns-3 c = sym (c .before .loop .inv ∙ placed-done (c .before .before .before .before .args .offsets .now) (c .before .before .before .before .args .sizes .now) (c .before .loop .i) _ (omega arith))
+returns-3 c =
+    sym (c .before .loop .inv ∙ placed-done (c .before .before .before .before .args .offsets .now) (c .before .before .before .before .args .sizes .now)
+    (c .before .loop .i) _ (omega arith))
 
 pub all-placed-spec : {M : Type 1} → statement M
 all-placed-spec =

@@ -36,7 +36,9 @@ ends-before-requires : tie.Need-ends-before-requires
 ends-before-requires c κs = search needs
 
 returns-2 : tie.Need-returns-2
-returns-2 c = let a = c .before .before .before .before .before .before .before .args in rw (blocks-at (a .offsets .now) (a .sizes .now) (a .i + 1) (c .before .before .before .before .if1 .left) (omega arith)) (c .ends-before .ensures)
+returns-2 c =
+    let a = c .before .before .before .before .before .before .before .args in rw
+    (blocks-at (a .offsets .now) (a .sizes .now) (a .i + 1) (c .before .before .before .before .if1 .left) (omega arith)) (c .ends-before .ensures)
 
 pub ends-free-spec : {M : Type 1} → statement M
 ends-free-spec =

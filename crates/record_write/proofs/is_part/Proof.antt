@@ -17,10 +17,14 @@ enum-told-2 : tie.Need-enum-told-2
 enum-told-2 c = search needs
 
 returns : tie.Need-returns
-returns c = let a = c .before .before .before .before .args in part-accepted (isPart (length (a .image .now)) (a .offset) (a .size)) (c .enum-told .given .1) (c .before .before .part-verdict .ensures .answer)
+returns c =
+    let a = c .before .before .before .before .args in part-accepted (isPart (length (a .image .now)) (a .offset) (a .size)) (c .enum-told .given .1)
+    (c .before .before .part-verdict .ensures .answer)
 
 returns-2 : tie.Need-returns-2
-returns-2 c = let a = c .before .before .before .before .args in part-refused (isPart (length (a .image .now)) (a .offset) (a .size)) {r = c .enum-told2 .given .0 .0} (c .enum-told2 .given .1) (c .before .before .part-verdict .ensures .answer)
+returns-2 c =
+    let a = c .before .before .before .before .args in part-refused (isPart (length (a .image .now)) (a .offset) (a .size)) {r = c .enum-told2 .given .0 .0}
+    (c .enum-told2 .given .1) (c .before .before .part-verdict .ensures .answer)
 
 pub is-part-spec : {M : Type 1} → statement M
 is-part-spec = tie.close (tie.spec part-verdict-requires enum-told enum-told-2 returns returns-2)

@@ -25,7 +25,9 @@ value-requires : tie.Need-value-requires Inv-loop μ-loop
 value-requires c κs = search needs
 
 returns : tie.Need-returns Inv-loop μ-loop
-returns c = sym (c .before .before .before .before .loop .inv ∙ digits-stop (c .before .before .before .before .before .before .args .line .now) (c .before .before .before .before .loop .i) (c .before .before .before .loop-test .taken) (sym (c .before .value .ensures .0) ∙ c .if1 .taken))
+returns c =
+    sym (c .before .before .before .before .loop .inv ∙ digits-stop (c .before .before .before .before .before .before .args .line .now)
+    (c .before .before .before .before .loop .i) (c .before .before .before .loop-test .taken) (sym (c .before .value .ensures .0) ∙ c .if1 .taken))
 
 add-i : tie.Need-add-i Inv-loop μ-loop
 add-i c = search needs
@@ -34,7 +36,9 @@ loop-less : tie.Need-loop-less Inv-loop μ-loop
 loop-less c = search needs
 
 loop-again : tie.Need-loop-again Inv-loop μ-loop
-loop-again c = c .before .before .before .before .loop .inv ∙ digits-on (c .before .before .before .before .before .before .args .line .now) (c .before .before .before .before .loop .i) (c .before .before .before .loop-test .taken) (omega (arith, c .before .value .ensures))
+loop-again c =
+    c .before .before .before .before .loop .inv ∙ digits-on (c .before .before .before .before .before .before .args .line .now)
+    (c .before .before .before .before .loop .i) (c .before .before .before .loop-test .taken) (omega (arith, c .before .value .ensures))
 
 returns-2 : tie.Need-returns-2 Inv-loop μ-loop
 returns-2 c = sym (c .before .loop .inv ∙ digits-done (c .before .before .before .args .line .now) (c .before .loop .i) (c .loop-test .left))

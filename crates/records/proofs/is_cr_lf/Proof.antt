@@ -18,13 +18,17 @@ add-next : tie.Need-add-next
 add-next c = search needs
 
 returns-2 : tie.Need-returns-2
-returns-2 c = let a = c .before .before .before .args in rw (eq-eqb (getD (a .text .now) (a .i) 0) 13 (c .before .if1 .left), drop-of-length-le (a .text .now) {i = a .i + 1} (omega arith))
+returns-2 c =
+    let a = c .before .before .before .args in rw
+    (eq-eqb (getD (a .text .now) (a .i) 0) 13 (c .before .if1 .left), drop-of-length-le (a .text .now) {i = a .i + 1} (omega arith))
 
 shared-slice-read-result : tie.Need-shared-slice-read-result
 shared-slice-read-result c = search needs
 
 returns-3 : tie.Need-returns-3
-returns-3 c = let a = c .before .before .before .before .args in rw (eq-eqb (getD (a .text .now) (a .i) 0) 13 (c .before .before .if1 .left), drop-cons (a .text .now) (a .i + 1) 0 (omega arith))
+returns-3 c =
+    let a = c .before .before .before .before .args in rw
+    (eq-eqb (getD (a .text .now) (a .i) 0) 13 (c .before .before .if1 .left), drop-cons (a .text .now) (a .i + 1) 0 (omega arith))
 
 pub is-cr-lf-spec : {M : Type 1} → statement M
 is-cr-lf-spec =

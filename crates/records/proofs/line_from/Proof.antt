@@ -11,7 +11,8 @@ use Rattle.records.proofs.line_from.Statement.{statement}
 use Rattle.records.proofs.line_from.Tie as tie
 
 abbrev Inv-loop : tie.InvT-loop
-Inv-loop text at i₀ i = (at + length (firstLine (drop at text)) ≡ i + length (firstLine (drop i text))) × (at + taken (drop at text) ≡ i + taken (drop i text))
+Inv-loop text at i₀ i =
+    (at + length (firstLine (drop at text)) ≡ i + length (firstLine (drop i text))) × (at + taken (drop at text) ≡ i + taken (drop i text))
 
 abbrev μ-loop : tie.MeasureT-loop
 μ-loop text at i₀ i = length text - i
@@ -42,8 +43,13 @@ returns-2 : tie.Need-returns-2 Inv-loop μ-loop
 returns-2 c =
     let t = c .before .before .before .before .before .before .before .args .text .now in
     let i = c .before .before .before .before .before .loop .i in
-    let w = cut-cr-lf t i (c .before .before .before .before .loop-test .taken) (ne-eqb (getD t i 0) 10 (c .before .before .if1 .left)) (sym (c .before .is-cr-lf .ensures) ∙ c .if2 .taken) in
-    record { stop = omega (arith, c .before .before .before .before .before .loop .inv .0); next = omega (arith, c .before .before .before .before .before .loop .inv .1) }
+    let w = cut-cr-lf t i (c .before .before .before .before .loop-test .taken) (ne-eqb (getD t i 0) 10 (c .before .before .if1 .left))
+    (sym (c .before .is-cr-lf .ensures) ∙ c .if2 .taken) in
+    record {
+      stop = omega (arith, c .before .before .before .before .before .loop .inv .0);
+      next = omega
+          (arith, c .before .before .before .before .before .loop .inv .1);
+    }
 
 add-i : tie.Need-add-i Inv-loop μ-loop
 add-i c = search needs
@@ -55,7 +61,8 @@ loop-again : tie.Need-loop-again Inv-loop μ-loop
 loop-again c =
     let t = c .before .before .before .before .before .before .before .args .text .now in
     let i = c .before .before .before .before .before .loop .i in
-    let w = cut-on t i (c .before .before .before .before .loop-test .taken) (ne-eqb (getD t i 0) 10 (c .before .before .if1 .left)) (sym (c .before .is-cr-lf .ensures) ∙ c .if2 .left) in
+    let w = cut-on t i (c .before .before .before .before .loop-test .taken) (ne-eqb (getD t i 0) 10 (c .before .before .if1 .left))
+    (sym (c .before .is-cr-lf .ensures) ∙ c .if2 .left) in
     (omega (arith, c .before .before .before .before .before .loop .inv .0), omega (arith, c .before .before .before .before .before .loop .inv .1))
 
 returns-3 : tie.Need-returns-3 Inv-loop μ-loop

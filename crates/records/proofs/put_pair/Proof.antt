@@ -24,7 +24,13 @@ same-length : tie.Need-same-length
 same-length c = search needs
 
 returns : tie.Need-returns
-returns c = two-stores (c .before .before .before .before .before .before .before .before .before .before .before .args .out .now) (c .before .before .before .before .before .before .before .before .before .before .before .args .at) (c .before .before .before .before .before .before .before .before .before .before .before .args .b) (c .before .before .before .before .before .before .before .before .letter .result) (c .before .before .before .letter2 .result) (omega arith) (c .before .before .before .before .before .before .before .put .ensures) (c .before .before .put2 .ensures) (c .before .before .before .before .before .before .before .before .letter .ensures) (c .before .before .before .letter2 .ensures)
+returns c =
+    two-stores (c .before .before .before .before .before .before .before .before .before .before .before .args .out .now)
+    (c .before .before .before .before .before .before .before .before .before .before .before .args .at)
+    (c .before .before .before .before .before .before .before .before .before .before .before .args .b)
+    (c .before .before .before .before .before .before .before .before .letter .result) (c .before .before .before .letter2 .result) (omega arith)
+    (c .before .before .before .before .before .before .before .put .ensures) (c .before .before .put2 .ensures)
+    (c .before .before .before .before .before .before .before .before .letter .ensures) (c .before .before .before .letter2 .ensures)
 
 pub put-pair-spec : {M : Type 1} → statement M
 put-pair-spec =

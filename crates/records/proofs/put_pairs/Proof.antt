@@ -29,7 +29,8 @@ same-length c = ap length (c .before .before .loop .inv .1) ∙ simp length-sets
 returns : tie.Need-returns Inv-loop μ-loop
 returns c =
     let l = c .before .before .before .before .before .args .bytes .now in
-    rw (take-all (c .before .before .before .before .before .args .n) l (omega arith)) (rw (take-all (c .before .before .loop .i) l (c .if1 .taken)) at (c .before .before .loop .inv .1))
+    rw (take-all (c .before .before .before .before .before .args .n) l (omega arith))
+    (rw (take-all (c .before .before .loop .i) l (c .if1 .taken)) at (c .before .before .loop .inv .1))
 
 mul-put-pair : tie.Need-mul-put-pair Inv-loop μ-loop
 mul-put-pair c = search needs
@@ -50,7 +51,14 @@ loop-less : tie.Need-loop-less Inv-loop μ-loop
 loop-less c = search needs
 
 loop-again : tie.Need-loop-again Inv-loop μ-loop
-loop-again c = (omega arith, one-pair-more (c .before .before .before .before .before .before .before .before .before .before .args .out .now) (c .before .before .before .before .before .before .before .before .before .before .args .bytes .now) (c .before .before .before .before .before .before .before .before .before .before .args .at) (c .before .before .before .before .before .before .before .loop .i) (c .before .before .before .before .before .if1 .left) (c .before .before .before .before .before .before .before .loop .inv .1) (c .before .before .put-pair .ensures))
+loop-again c = (
+  omega arith,
+  one-pair-more (c .before .before .before .before .before .before .before .before .before .before .args .out .now)
+      (c .before .before .before .before .before .before .before .before .before .before .args .bytes .now)
+      (c .before .before .before .before .before .before .before .before .before .before .args .at)
+      (c .before .before .before .before .before .before .before .loop .i) (c .before .before .before .before .before .if1 .left)
+      (c .before .before .before .before .before .before .before .loop .inv .1) (c .before .before .put-pair .ensures),
+)
 
 same-length-2 : tie.Need-same-length-2 Inv-loop μ-loop
 same-length-2 c = ap length (c .before .loop .inv .1) ∙ simp length-sets
@@ -58,7 +66,9 @@ same-length-2 c = ap length (c .before .loop .inv .1) ∙ simp length-sets
 returns-2 : tie.Need-returns-2 Inv-loop μ-loop
 returns-2 c =
     let e : c .before .loop .i ≡ c .before .before .before .before .args .n = omega arith in
-    c .before .loop .inv .1 ∙ ap (λ (k : ℕ). sets (c .before .before .before .before .args .out .now) (c .before .before .before .before .args .at) (bytesText (take k (c .before .before .before .before .args .bytes .now)))) e
+    c .before .loop .inv .1 ∙ ap
+    (λ (k : ℕ). sets (c .before .before .before .before .args .out .now) (c .before .before .before .before .args .at)
+    (bytesText (take k (c .before .before .before .before .args .bytes .now)))) e
 
 pub put-pairs-spec : {M : Type 1} → statement M
 put-pairs-spec =

@@ -22,7 +22,8 @@ loop-holds c = (omega arith, refl)
 returns : tie.Need-returns Inv-loop μ-loop
 returns c =
     let l = c .before .before .before .before .args .bytes .now in
-    rw (take-all (c .before .before .before .before .args .n) l (omega arith)) (rw (take-all (c .before .before .loop .i) l (c .if1 .taken)) at (c .before .before .loop .inv .1))
+    rw (take-all (c .before .before .before .before .args .n) l (omega arith))
+    (rw (take-all (c .before .before .loop .i) l (c .if1 .taken)) at (c .before .before .loop .inv .1))
 
 shared-slice-read-wrapping-add-u8 : tie.Need-shared-slice-read-wrapping-add-u8 Inv-loop μ-loop
 shared-slice-read-wrapping-add-u8 c = search needs
@@ -37,7 +38,15 @@ loop-less : tie.Need-loop-less Inv-loop μ-loop
 loop-less c = search needs
 
 loop-again : tie.Need-loop-again Inv-loop μ-loop
-loop-again c = (omega arith, omega (arith, c .before .before .before .before .loop .inv .1, sum-one-more (c .before .before .before .before .before .before .args .bytes .now) (c .before .before .before .before .loop .i) (c .before .before .if1 .left)))
+loop-again c = (
+  omega arith,
+  omega (
+    arith,
+    c .before .before .before .before .loop .inv .1,
+    sum-one-more
+        (c .before .before .before .before .before .before .args .bytes .now) (c .before .before .before .before .loop .i) (c .before .before .if1 .left),
+  ),
+)
 
 returns-2 : tie.Need-returns-2 Inv-loop μ-loop
 returns-2 c =

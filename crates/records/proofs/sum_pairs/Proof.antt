@@ -39,11 +39,22 @@ loop-less c = search needs
 
 loop-again : tie.Need-loop-again Inv-loop μ-loop
 loop-again c =
-    let a = c .before .before .before .before .before .args in
-    (omega arith, omega (arith, c .before .before .before .loop .inv .1, c .wrapping-add-u8 .ensures, c .before .pair .ensures, sum-list-more (c .before .before .before .loop .j) (λ k. pairAt (a .line .now) (a .from + 2 * k))))
+    let a = c .before .before .before .before .before .args in (
+      omega arith,
+      omega (
+        arith,
+        c .before .before .before .loop .inv .1,
+        c .wrapping-add-u8 .ensures,
+        c .before .pair .ensures,
+        sum-list-more
+            (c .before .before .before .loop .j) (λ k. pairAt (a .line .now) (a .from + 2 * k)),
+      ),
+    )
 
 returns : tie.Need-returns Inv-loop μ-loop
-returns c = c .before .loop .inv .1 ∙ ap (λ (k : ℕ). sumOf (bytesAt (c .before .before .before .args .line .now) (c .before .before .before .args .from) k) % 256) (omega arith)
+returns c =
+    c .before .loop .inv .1 ∙ ap (λ (k : ℕ). sumOf (bytesAt (c .before .before .before .args .line .now) (c .before .before .before .args .from) k) % 256)
+    (omega arith)
 
 pub sum-pairs-spec : {M : Type 1} → statement M
 sum-pairs-spec =
