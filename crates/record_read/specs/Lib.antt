@@ -1,0 +1,5 @@
+pub mod Outcome
+pub mod Reading
+pub mod Sound
+pub mod Steps
+pub mod Trail
