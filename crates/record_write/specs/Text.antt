@@ -1,28 +1,31 @@
--- The text of pieces, in a format: 0 is Intel HEX.
+-- The text of pieces, in a format: 0 is Intel HEX, 2 and 4 are S-records with addresses of so many bytes.
 use mathlib.Core.Path.{_≡_, refl, ap, _∙_}
-use mathlib.Core.Bool.{Bool}
+use mathlib.Core.Bool.{Bool, _||_}
 use mathlib.Core.List.{List, [], _∷_, _++_, append-assoc}
 use Prim.Native.Nat.{ℕ}
 use lib.Dec.{eqb}
+use lib.ListN.{take}
 use Rattle.refusal.specs.Pick.{pick}
 use Rattle.blocks.specs.declared.Block.{Block}
-use Rattle.records.specs.Pieces.{Piece}
+use Rattle.records.specs.Pieces.{Piece, piece}
 use Rattle.ihex_line.specs.Format.{hexText, hexAfter, endText}
+use Rattle.srec_line.specs.Srec.{srecText, srecEnd}
 use Rattle.record_write.specs.Cut.{piecesOf}
 
 -- The formats that are known.
 abbrev pub known : ℕ → Bool
-known format = eqb format 0
+known format = eqb format 0 || eqb format 2 || eqb format 4
 
--- The lines of a piece while a state is in force, the state behind it, and the end record's line.
+-- The lines of a piece while a state is in force, the state behind it, and the end record's line. (An S-record has room for 250 bytes; a piece has at
+-- most 16.)
 abbrev pub textBy : ℕ → ℕ → Piece → List ℕ
-textBy format state p = pick (eqb format 0) (hexText state p) []
+textBy format state p = pick (eqb format 0) (hexText state p) (srecText format (piece (p .address) (take 250 (p .bytes))))
 
 abbrev pub afterBy : ℕ → ℕ → Piece → ℕ
 afterBy format state p = hexAfter state p
 
 abbrev pub endBy : ℕ → List ℕ
-endBy format = pick (eqb format 0) endText []
+endBy format = pick (eqb format 0) endText (srecEnd format)
 
 -- The lines of pieces, and the state behind them.
 unfoldable pub linesFrom : ℕ → ℕ → List Piece → List ℕ
@@ -37,8 +40,8 @@ stateFrom format state (p ∷ l) = stateFrom format (afterBy format state p) l
 abbrev pub textOf : ℕ → ℕ → List ℕ → List Block → List ℕ
 textOf format load image blocks = linesFrom format 0 (piecesOf load image blocks) ++ endBy format
 
-pub lines-append : (format state : ℕ) (a b : List Piece) → linesFrom format state (a ++ b) ≡ linesFrom format state a ++ linesFrom format
-    (stateFrom format state a) b
+pub lines-append : (format state : ℕ) (a b : List Piece)
+    → linesFrom format state (a ++ b) ≡ linesFrom format state a ++ linesFrom format (stateFrom format state a) b
 unfolding linesFrom stateFrom
 lines-append format state [] b = refl
 lines-append format state (p ∷ a) b =

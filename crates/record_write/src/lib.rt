@@ -51,7 +51,7 @@ fn put_piece(format: u8, out: &mut [u8], state: u16, address: u32, bytes: &[u8])
     if format == 0 {
         return ihex_line::put_piece(out, state, address, bytes);
     }
-    0
+    srec_line::put_piece(out, format as u16, address, bytes)
 }
 
 // The end record's line.
@@ -62,7 +62,7 @@ fn put_end(format: u8, out: &mut [u8]) -> usize
     if format == 0 {
         return ihex_line::put_end(out);
     }
-    0
+    srec_line::put_end(out, format as u16)
 }
 
 // The bytes of the image from `start` to `end` as pieces from an address on. (1,044 characters a byte is more than any format takes.)
@@ -174,11 +174,24 @@ fn all_placed(offsets: &[u64], sizes: &[u64], load: u32) -> bool
     true
 }
 
+// Whether a format is known: 0 is Intel HEX, 2 and 4 are S-records of that width.
+fn is_known(format: u8) -> bool
+    ensures { λ r. ⌜ r ≡ known format ⌝ }
+{
+    if format == 0 {
+        return true;
+    }
+    if format == 2 {
+        return true;
+    }
+    format == 4
+}
+
 // Whether nothing is malformed.
 fn is_sound(format: u8, image: &[u8], offsets: &[u64], sizes: &[u64], load: u32) -> bool
     ensures { λ r. ⌜ r ≡ sound (input format (now (image .entry)) (now (offsets .entry)) (now (sizes .entry)) load) ⌝ }
 {
-    if format != 0 {
+    if !is_known(format) {
         return false;
     }
     if offsets.len() != sizes.len() {

@@ -1,5 +1,4 @@
 -- `record_write::put_end` goes by the format.
-use mathlib.Core.Path.{refl}
 use native.Mathlib.Omega.{arith}
 use borrow.Author.Tests.{eq-eqb, ne-eqb}
 use borrow.Author.Needs.{needs}
@@ -19,8 +18,18 @@ returns c = (
   omega (arith, c .before .before .put-end .ensures .1),
 )
 
+put-end-requires-2 : tie.Need-put-end-requires-2
+put-end-requires-2 c κs = search needs
+
+same-length-2 : tie.Need-same-length-2
+same-length-2 c = search needs
+
 returns-2 : tie.Need-returns-2
-returns-2 c = (rw (ne-eqb (c .before .before .args .format) 0 (c .if1 .left)) (record { long = refl; part = refl }), omega arith)
+returns-2 c = (
+  rw (ne-eqb (c .before .before .before .before .before .before .args .format) 0 (c .before .before .before .before .if1 .left))
+      (c .before .before .put-end2 .ensures .0),
+  omega (arith, c .before .before .put-end2 .ensures .1),
+)
 
 pub put-end-spec : {M : Type 1} → statement M
-put-end-spec = tie.close (tie.spec put-end-requires same-length returns returns-2)
+put-end-spec = tie.close (tie.spec put-end-requires same-length returns put-end-requires-2 same-length-2 returns-2)

@@ -1,8 +1,8 @@
 -- `record_write::put_piece` goes by the format.
-use mathlib.Core.Path.{refl}
 use native.Mathlib.Omega.{arith}
 use borrow.Author.Tests.{eq-eqb, ne-eqb}
 use borrow.Author.Needs.{needs}
+use lib.Seq.{take-take}
 use Rattle.record_write.proofs.put_piece.Statement.{statement}
 use Rattle.record_write.proofs.put_piece.Tie as tie
 
@@ -19,8 +19,21 @@ returns c = (
   omega (arith, c .before .before .put-piece .ensures .1),
 )
 
+put-piece-requires-2 : tie.Need-put-piece-requires-2
+put-piece-requires-2 c κs = search needs
+
+same-length-2 : tie.Need-same-length-2
+same-length-2 c = search needs
+
 returns-2 : tie.Need-returns-2
-returns-2 c = (rw (ne-eqb (c .before .before .before .args .format) 0 (c .if1 .left)) (record { long = refl; part = refl }), omega arith)
+returns-2 c = (
+  rw (
+    ne-eqb (c .before .before .before .before .before .before .before .args .format) 0 (c .before .before .before .before .if1 .left),
+    take-take 250 255
+        (c .before .before .before .before .before .before .before .args .bytes .now) (omega arith),
+  ) (c .before .before .put-piece2 .ensures .0),
+  omega (arith, c .before .before .put-piece2 .ensures .1),
+)
 
 pub put-piece-spec : {M : Type 1} → statement M
-put-piece-spec = tie.close (tie.spec put-piece-requires same-length returns returns-2)
+put-piece-spec = tie.close (tie.spec put-piece-requires same-length returns put-piece-requires-2 same-length-2 returns-2)
