@@ -1,3 +1,4 @@
+pub mod Bytes
 pub mod ReadBack
 pub mod Refusals
 pub mod Writing

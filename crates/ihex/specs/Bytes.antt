@@ -1,0 +1,76 @@
+-- "The first byte of a block goes to a load address from the caller plus offset / 8": byte j of a block stands in a piece at the address j behind that, by the
+-- definition of a file's bytes and addresses that knows no writer (`GivesAt`).
+use mathlib.Core.Path.{_≡_, refl, ap, _∙_}
+use mathlib.Core.List.{List, [], _∷_, _++_, List·Memᴰ, List·Memᴰ·head, List·Memᴰ·tail, List·Memᴰ·cases-cons, List·Memᴰ·not-nil, Memᴰ·append-left, Memᴰ·append-right}
+use mathlib.Core.Logic.{⊎-elim}
+use Prim.Native.Nat.{ℕ, zero, suc, _+_, _-_, _/_, _≤_, _<_, min}
+use native.Mathlib.Decide.{decLt}
+use native.Mathlib.Nat.{not-suc-le-zero, le-refl}
+use native.Mathlib.Omega.{arith}
+use lib.ListN.{length, take, drop, getD, length-take, length-drop}
+use lib.Seq.{getD-take, getD-drop}
+use Rattle.blocks.specs.declared.Block.{Block}
+use Rattle.records.specs.Pieces.{Piece, piece, GivesAt}
+use Rattle.record_write.specs.Cut.{pieceLength, cutIn, cut, bytesIn, piecesOf}
+
+moved : {l : List Piece} {a c b d : ℕ} → a ≡ c → b ≡ d → GivesAt l a b → GivesAt l c d
+moved e f g =
+    record { from = g .from; among = g .among; index = g .index; inside = g .inside; place = g .place ∙ e; byte = g .byte ∙ f }
+
+in-longer : {l m : List Piece} {a b : ℕ} → ((p : Piece) → List·Memᴰ p l → List·Memᴰ p m) → GivesAt l a b → GivesAt m a b
+in-longer more g =
+    record { from = g .from; among = more (g .from) (g .among); index = g .index; inside = g .inside; place = g .place; byte = g .byte }
+
+-- a piece, and pieces that give what is left
+one-piece : (a n : ℕ) (x : List ℕ) (rest : List Piece) → ((i : ℕ) → i < length (drop n x) → GivesAt rest (a + n + i) (getD (drop n x) i 0))
+    → (j : ℕ) → j < length x → GivesAt (piece a (take n x) ∷ rest) (a + j) (getD x j 0)
+one-piece a n x rest more j h =
+    elim (decLt j n) [
+      | yes p ↦
+          record {
+            from = piece a (take n x);
+            among = List·Memᴰ·head refl;
+            index = j;
+            inside = omega (arith, length-take n x);
+            place = refl;
+            byte = getD-take n x j 0 p;
+          }
+      | no p ↦
+          let place : a + n + (j - n) ≡ a + j = omega arith in
+          let index : n + (j - n) ≡ j = omega arith in
+          in-longer (λ q m. List·Memᴰ·tail m)
+          (moved place (getD-drop n x (j - n) 0 ∙ ap (λ (i : ℕ). getD x i 0) index) (more (j - n) (omega (arith, length-drop n x))))
+    ]
+
+cut-in-gives : (turns a : ℕ) (l : List ℕ) → length l ≤ turns → (j : ℕ) → j < length l → GivesAt (cutIn turns a l) (a + j) (getD l j 0)
+unfolding cutIn
+cut-in-gives zero a l h j lt = absurd (omega arith)
+cut-in-gives (suc turns) a [] h j lt = absurd (not-suc-le-zero lt)
+cut-in-gives (suc turns) a (b ∷ l) h j lt =
+    let n = pieceLength a (length (b ∷ l)) in
+    let less : length (drop n (b ∷ l)) ≤ length l = omega (arith, length-drop n (b ∷ l)) in
+    one-piece a n (b ∷ l) (cutIn turns (a + n) (drop n (b ∷ l))) (λ i below. cut-in-gives turns (a + n) (drop n (b ∷ l)) (omega arith) i below) j lt
+
+-- Byte j of bytes that are cut from an address on stands j behind that address.
+pub cut-gives : (a : ℕ) (l : List ℕ) (j : ℕ) → j < length l → GivesAt (cut a l) (a + j) (getD l j 0)
+cut-gives a l j h = cut-in-gives (length l) a l (le-refl (length l)) j h
+
+block-gives : (load : ℕ) (image : List ℕ) (blocks : List Block) (b : Block) → List·Memᴰ b blocks → (j : ℕ) → j < length (bytesIn image b)
+    → GivesAt (piecesOf load image blocks) (load + b .origin / 8 + j) (getD (bytesIn image b) j 0)
+unfolding piecesOf
+block-gives load image [] b m j h = absurd (List·Memᴰ·not-nil m)
+block-gives load image (d ∷ l) b m j h =
+    let first = cut (load + d .origin / 8) (bytesIn image d) in
+    ⊎-elim
+    (λ e. rw e (in-longer (λ p k. Memᴰ·append-left (piecesOf load image l) k) (cut-gives (load + d .origin / 8) (bytesIn image d) j (rw e at h))))
+    (λ k. in-longer (λ p q. Memᴰ·append-right first q) (block-gives load image l b k j h))
+    (List·Memᴰ·cases-cons m)
+
+-- The image's own byte.
+pub image-byte-stands : (load : ℕ) (image : List ℕ) (blocks : List Block) (b : Block) → List·Memᴰ b blocks → b .origin / 8 + b .size / 8 ≤ length image
+    → (j : ℕ) → j < b .size / 8 → GivesAt (piecesOf load image blocks) (load + b .origin / 8 + j) (getD image (b .origin / 8 + j) 0)
+image-byte-stands load image blocks b m fits j h =
+    let long : length (bytesIn image b) ≡ b .size / 8 =
+    length-take (b .size / 8) (drop (b .origin / 8) image) ∙ ap (min (b .size / 8)) (length-drop (b .origin / 8) image) ∙ omega arith in
+    moved refl (getD-take (b .size / 8) (drop (b .origin / 8) image) j 0 h ∙ getD-drop (b .origin / 8) image j 0)
+    (block-gives load image blocks b m j (omega (arith, long)))
