@@ -50,11 +50,13 @@ enum dk_refusal {
     DK_DEFAULT_BANK = 9,       /* bank 0 is used though there are others; place: the node */
     DK_PAST_BANK = 10,         /* an item ends past its bank's size; place: the node */
     DK_NO_OUTPUT = 11,         /* an item is written in a bank without output offset; place: the node */
-    DK_OVERLAP = 12,           /* an item would share a bit with another; place and second: start and size of that other, in bits */
-    DK_STORE_FULL = 13,        /* over 512 items; place: the node */
+    DK_OVERLAP = 12,           /* an item would share a bit with another, or have a mark (an item of size 0) strictly inside it, or is a mark
+                                  strictly inside another; place and second: start and size of that other, in bits, of a mark its place and 0 */
+    DK_STORE_FULL = 13,        /* over 512 items, or over 512 marks; place: the node */
     DK_TOO_SHORT = 14,         /* a buffer is too short; place: image 0, spans 1, blocks 2, hex 3 */
-    DK_BAD_STORE = 15,         /* a store that was given is not one: over 512 intervals, or intervals past an offer's limits, empty, not
-                                  ascending or sharing a bit; place: the first at fault, 512 for the count */
+    DK_BAD_STORE = 15,         /* a store that was given is not one: over 512 intervals or marks, or intervals past an offer's limits, empty, not
+                                  ascending or sharing a bit, or marks past an offer's limit, out of order or strictly inside an interval;
+                                  place: 512 for either count, else the first interval at fault, else the first mark at fault */
     DK_BAD_PART = 16,          /* a part of an image is empty, outside it, or not on byte edges; place 0 */
     DK_PARTLY_COVERED = 17     /* an overlay covers a range only in part; place 0 */
 };
@@ -111,6 +113,7 @@ struct dk_offer {
     uint64_t place;
     uint64_t second;  /* of refusal 12, else 0 */
     uint64_t count;   /* how many intervals are stored afterwards; refused, the count given */
+    uint64_t marks;   /* how many marks are kept afterwards; refused, the count given */
 };
 
 /* Lays tables out. Bank i, from 0, has units[i] bits to an address, starts[i], and, where its flag is set, bank_sizes[i] (in bits),
@@ -164,12 +167,13 @@ struct dk_count dk_blocks(const uint64_t *offsets, size_t offsets_len,
 struct dk_count dk_hex(const uint8_t *bytes, size_t bytes_len, uint64_t bits, uint8_t *hex, size_t hex_len);
 
 /* Offers `size` bits from bit `position` on to a store that you keep between calls: `count` intervals, ascending, no two sharing a bit, interval i
- * being sizes[i] bits from positions[i] on. Both arrays have 512 elements; with a count of 0 they may hold anything. Accepted, an offer with bits is
- * put in at its place; one of size 0, which is refused where it is strictly inside an interval, is not. Elements past the count stay. Refused 15 where the
- * store is no such store, 4 (place 0) where position is above 8,589,934,590 or size above 4,294,967,295, 12 where a bit is shared (place and second:
- * start and size of the lowest interval at or above the offer if those two share a bit, otherwise of the one below), 13 (place 0) where 512 are stored. It needs less than 1 KiB of
- * stack (144 bytes). */
-struct dk_offer dk_offer(uint64_t *positions, uint64_t *sizes, uint64_t count, uint64_t position, uint64_t size);
+ * being sizes[i] bits from positions[i] on; and `mark_count` marks, the accepted offers of size 0, ascending, equal ones each, none strictly inside an
+ * interval. All three arrays have 512 elements; with counts of 0 they may hold anything. Accepted, an offer is put in at its place, with bits among the
+ * intervals, without among the marks. Elements past the counts stay. Refused 15 where the store is no such store, 4 (place 0) where position is above
+ * 8,589,934,590 or size above 4,294,967,295, 12 where a bit is shared or a mark would be strictly inside an interval (place and second: start and
+ * size of the lowest interval at or above the offer if those two share a bit, otherwise of the one below; where no interval is to be named, the lowest
+ * mark strictly inside the offer and 0), 13 (place 0) where 512 intervals, or for a mark 512 marks, are stored. It needs less than 1 KiB of stack. */
+struct dk_offer dk_offer(uint64_t *positions, uint64_t *sizes, uint64_t count, uint64_t *marks, uint64_t mark_count, uint64_t position, uint64_t size);
 
 /* Where in an image the block of `size` bits from bit `offset` on stands, in bytes: image + start, length bytes. Reads nothing of the image. It
  * needs less than 1 KiB of stack (at most 128 bytes). */

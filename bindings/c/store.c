@@ -6,21 +6,28 @@
 #include "../../include/denkumari.h"
 
 static uint64_t positions[512], sizes[512], count, before_positions[512], before_sizes[512];
+static uint64_t marks[512], mark_count, before_marks[512];
 static unsigned offers, faults;
 
 /* Makes an offer and expects its answer; refused, everything is as it was. */
 static void expect(uint64_t position, uint64_t size, uint64_t refusal, uint64_t place, uint64_t second, const char *what)
 {
-    uint64_t before = count;
+    uint64_t before = count, before_count = mark_count;
     memcpy(before_positions, positions, sizeof positions);
     memcpy(before_sizes, sizes, sizeof sizes);
-    struct dk_offer r = dk_offer(positions, sizes, count, position, size);
+    memcpy(before_marks, marks, sizeof marks);
+    struct dk_offer r = dk_offer(positions, sizes, count, marks, mark_count, position, size);
     count = r.count;
+    mark_count = r.marks;
     int holds = r.refusal == refusal && r.place == place && r.second == second;
     if (refusal != DK_ACCEPTED || size == 0)
         holds = holds && count == before && memcmp(positions, before_positions, sizeof positions) == 0 && memcmp(sizes, before_sizes, sizeof sizes) == 0;
     else
         holds = holds && count == before + 1;
+    if (refusal != DK_ACCEPTED || size > 0)
+        holds = holds && mark_count == before_count && memcmp(marks, before_marks, sizeof marks) == 0;
+    else
+        holds = holds && mark_count == before_count + 1;
     offers++;
     if (!holds) {
         faults++;
@@ -33,7 +40,8 @@ static void begin(void)
 {
     memset(positions, 0xa5, sizeof positions);
     memset(sizes, 0xa5, sizeof sizes);
-    count = 0;
+    memset(marks, 0xa5, sizeof marks);
+    count = mark_count = 0;
 }
 
 static void cases(void)
@@ -54,18 +62,46 @@ static void cases(void)
     expect(8589934591, 1, DK_BAD_STORE, 0, 0, "an empty interval, before the offer's own numbers");
     count = 513;
     expect(0, 1, DK_BAD_STORE, 512, 0, "a count of 513");
+    begin();
+    expect(8, 0, DK_ACCEPTED, 0, 0, "a mark");
+    expect(4, 0, DK_ACCEPTED, 0, 0, "a lower mark");
+    expect(8, 0, DK_ACCEPTED, 0, 0, "an equal mark");
+    expect(3, 6, DK_OVERLAP, 4, 0, "a block over marks, the lowest named");
+    expect(0, 4, DK_ACCEPTED, 0, 0, "a block up to a mark");
+    expect(3, 6, DK_OVERLAP, 0, 4, "an interval named before a mark");
+    expect(4, 4, DK_ACCEPTED, 0, 0, "a block from mark to mark");
+    expect(9, 0, DK_ACCEPTED, 0, 0, "a mark past all");
+    if (mark_count != 4 || marks[0] != 4 || marks[1] != 8 || marks[2] != 8 || marks[3] != 9) {
+        faults++;
+        printf("wrong: marks out of order\n");
+    }
+    marks[1] = 3;
+    expect(8589934591, 1, DK_BAD_STORE, 1, 0, "marks out of order");
+    marks[1] = 5;
+    expect(0, 1, DK_BAD_STORE, 1, 0, "a mark strictly inside an interval");
+    mark_count = 513;
+    expect(0, 1, DK_BAD_STORE, 512, 0, "a count of 513 marks");
+    begin();
+    for (unsigned i = 0; i < 512; i++)
+        expect(8, 0, DK_ACCEPTED, 0, 0, "up to 512 marks");
+    expect(8, 0, DK_STORE_FULL, 0, 0, "the 513th mark");
+    expect(7, 2, DK_OVERLAP, 8, 0, "12 before 13");
+    expect(8, 2, DK_ACCEPTED, 0, 0, "a block beside 512 marks");
 }
 
 /* Random offers; each answer by a scan of the accepted ones in no order. */
 static void scanned(uint64_t seed, uint64_t span)
 {
-    static uint64_t starts[512], lengths[512];
-    unsigned held = 0;
+    static uint64_t starts[512], lengths[512], kept[512];
+    unsigned held = 0, keeps = 0;
     begin();
     for (unsigned i = 0; i < 2000; i++) {
         seed = seed * 6364136223846793005u + 1442695040888963407u;
         uint64_t position = (seed >> 33) % span, size = (seed >> 20) % 5, end = position + size;
-        int above = -1, below = -1;
+        int above = -1, below = -1, inside = -1;
+        for (unsigned j = 0; j < keeps; j++)
+            if (position < kept[j] && kept[j] < end && (inside < 0 || kept[j] < kept[inside]))
+                inside = (int)j;
         for (unsigned j = 0; j < held; j++) {
             if (starts[j] >= position && (above < 0 || starts[j] < starts[above]))
                 above = (int)j;
@@ -76,20 +112,28 @@ static void scanned(uint64_t seed, uint64_t span)
             expect(position, size, DK_OVERLAP, starts[above], lengths[above], "a clash with the one at or above");
         else if (below >= 0 && position < starts[below] + lengths[below])
             expect(position, size, DK_OVERLAP, starts[below], lengths[below], "a clash with the one below");
-        else if (size > 0 && held == 512)
+        else if (inside >= 0)
+            expect(position, size, DK_OVERLAP, kept[inside], 0, "a mark strictly inside");
+        else if (size > 0 ? held == 512 : keeps == 512)
             expect(position, size, DK_STORE_FULL, 0, 0, "a full store");
         else {
             expect(position, size, DK_ACCEPTED, 0, 0, "an offer that shares no bit");
             if (size > 0) {
                 starts[held] = position;
                 lengths[held++] = size;
-            }
+            } else
+                kept[keeps++] = position;
         }
     }
     for (unsigned i = 1; i < held; i++)
         if (positions[i - 1] + sizes[i - 1] > positions[i]) {
             faults++;
             printf("wrong: intervals out of order\n");
+        }
+    for (unsigned i = 1; i < keeps; i++)
+        if (marks[i - 1] > marks[i]) {
+            faults++;
+            printf("wrong: marks out of order\n");
         }
 }
 

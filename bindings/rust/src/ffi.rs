@@ -120,15 +120,24 @@ pub struct DkOffer {
     pub place: u64,
     pub second: u64,
     pub count: u64,
+    pub marks: u64,
 }
 
 extern "C" {
-    fn dk_offer(positions: *mut u64, sizes: *mut u64, count: u64, position: u64, size: u64) -> DkOffer;
+    fn dk_offer(positions: *mut u64, sizes: *mut u64, count: u64, marks: *mut u64, mark_count: u64, position: u64, size: u64) -> DkOffer;
 }
 
-pub fn offer(positions: &mut [u64; 512], sizes: &mut [u64; 512], count: u64, position: u64, size: u64) -> DkOffer {
-    // SAFETY: see the module; both arrays have the 512 elements that the function may touch
-    unsafe { dk_offer(positions.as_mut_ptr(), sizes.as_mut_ptr(), count, position, size) }
+pub fn offer(
+    positions: &mut [u64; 512],
+    sizes: &mut [u64; 512],
+    count: u64,
+    marks: &mut [u64; 512],
+    mark_count: u64,
+    position: u64,
+    size: u64,
+) -> DkOffer {
+    // SAFETY: see the module; the arrays have the 512 elements that the function may touch
+    unsafe { dk_offer(positions.as_mut_ptr(), sizes.as_mut_ptr(), count, marks.as_mut_ptr(), mark_count, position, size) }
 }
 
 #[rustfmt::skip]

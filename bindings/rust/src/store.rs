@@ -1,10 +1,10 @@
-//! The store of placed intervals, by itself.
+//! The store of placed intervals and marks, by itself.
 
 use crate::ffi;
 use std::fmt;
 
-/// Intervals of bits, ascending, no two sharing a bit: the first `count` of both arrays. What the arrays hold past them matters to nothing and is
-/// left as it is.
+/// Intervals of bits, ascending, no two sharing a bit: the first `count` of two arrays; and marks, ascending, equal ones each, none strictly inside an
+/// interval: the first `mark_count` of a third. What the arrays hold past them matters to nothing and is left as it is.
 #[derive(Clone, Debug)]
 pub struct Store {
     /// First bits.
@@ -13,6 +13,10 @@ pub struct Store {
     pub sizes: [u64; 512],
     /// How many there are.
     pub count: u64,
+    /// Marks: the accepted offers of size 0.
+    pub marks: [u64; 512],
+    /// How many there are.
+    pub mark_count: u64,
 }
 
 /// Why an offer was refused. The store is left as it was.
@@ -20,13 +24,14 @@ pub struct Store {
 #[non_exhaustive]
 #[allow(missing_docs)]
 pub enum NotStored {
-    /// 15: the store is not one; the first interval at fault, or 512 for the count.
+    /// 15: the store is not one; 512 for either count, else the first interval at fault, else the first mark at fault.
     BadStore { entry: u64 },
     /// 4: the position is above 8,589,934,590, or the size above 4,294,967,295.
     Malformed,
-    /// 12: the offer shares a bit with the interval, or is empty and strictly inside one; that interval's start and size.
+    /// 12: the offer shares a bit with the interval, or is empty and strictly inside one; that interval's start and size. Or a mark is strictly inside
+    /// the offer: the lowest such mark, and size 0.
     Overlap { start: u64, size: u64 },
-    /// 13: 512 intervals are stored.
+    /// 13: 512 intervals are stored, or for an offer of size 0, 512 marks.
     Full,
     /// A number that this crate does not know: the archive is newer than the crate.
     Unknown { number: u64, place: u64 },
@@ -35,13 +40,14 @@ pub enum NotStored {
 impl Store {
     /// A store that holds nothing.
     pub const fn new() -> Store {
-        Store { positions: [0; 512], sizes: [0; 512], count: 0 }
+        Store { positions: [0; 512], sizes: [0; 512], count: 0, marks: [0; 512], mark_count: 0 }
     }
 
-    /// Offers `size` bits from bit `position` on. Accepted, and with bits, they are put in at their place.
+    /// Offers `size` bits from bit `position` on. Accepted, they are put in at their place; of size 0, among the marks.
     pub fn offer(&mut self, position: u64, size: u64) -> Result<(), NotStored> {
-        let r = ffi::offer(&mut self.positions, &mut self.sizes, self.count, position, size);
+        let r = ffi::offer(&mut self.positions, &mut self.sizes, self.count, &mut self.marks, self.mark_count, position, size);
         self.count = r.count;
+        self.mark_count = r.marks;
         match r.refusal {
             0 => Ok(()),
             4 => Err(NotStored::Malformed),
@@ -56,6 +62,11 @@ impl Store {
     pub fn intervals(&self) -> impl Iterator<Item = (u64, u64)> + '_ {
         let count = usize::try_from(self.count).unwrap_or(usize::MAX);
         self.positions.iter().copied().zip(self.sizes.iter().copied()).take(count)
+    }
+
+    /// The marks, in order.
+    pub fn marks(&self) -> impl Iterator<Item = u64> + '_ {
+        self.marks.iter().copied().take(usize::try_from(self.mark_count).unwrap_or(usize::MAX))
     }
 }
 
@@ -82,11 +93,12 @@ impl fmt::Display for NotStored {
     fn fmt(&self, f: &mut fmt::Formatter<'_>) -> fmt::Result {
         write!(f, "refused {}: ", self.number())?;
         match *self {
-            NotStored::BadStore { entry: 512 } => write!(f, "the store has over 512 intervals"),
-            NotStored::BadStore { entry } => write!(f, "interval {entry} of the store is at fault"),
+            NotStored::BadStore { entry: 512 } => write!(f, "the store has over 512 intervals or marks"),
+            NotStored::BadStore { entry } => write!(f, "interval {entry} of the store is at fault, or mark {entry}"),
             NotStored::Malformed => write!(f, "the offer is past its limits"),
+            NotStored::Overlap { start, size: 0 } => write!(f, "a mark at bit {start} is strictly inside"),
             NotStored::Overlap { start, size } => write!(f, "a bit is shared with what stands from bit {start} on, {size} bits"),
-            NotStored::Full => write!(f, "512 intervals are stored already"),
+            NotStored::Full => write!(f, "512 intervals, or marks, are stored already"),
             NotStored::Unknown { place, .. } => write!(f, "this crate has no words for it, at {place}"),
         }
     }

@@ -51,10 +51,38 @@ fn full() {
 }
 
 #[test]
+fn marks() {
+    let mut store = holding(&[(8, 0), (4, 0), (8, 0), (0, 4)]);
+    assert_eq!(store.marks().collect::<Vec<_>>(), [4, 8, 8]);
+    assert_eq!(store.offer(3, 6), Err(NotStored::Overlap { start: 0, size: 4 }));
+    assert_eq!(store.offer(4, 6), Err(NotStored::Overlap { start: 8, size: 0 }));
+    assert_eq!(store.offer(4, 4), Ok(()));
+    assert_eq!(store.offer(8, 4), Ok(()));
+    assert_eq!(store.offer(9, 0), Err(NotStored::Overlap { start: 8, size: 4 }));
+    let mut store = holding(&[(4, 0), (8, 0)]);
+    assert_eq!(store.offer(3, 6), Err(NotStored::Overlap { start: 4, size: 0 }));
+    let mut store = holding(&[(0, 8)]);
+    for _ in 0..512 {
+        store.offer(8, 0).unwrap();
+    }
+    assert_eq!(store.offer(8, 0), Err(NotStored::Full));
+    assert_eq!(store.offer(4, 0), Err(NotStored::Overlap { start: 0, size: 8 }));
+    assert_eq!(store.offer(8, 1), Ok(()));
+    store.marks[2] = 7;
+    assert_eq!(store.offer(u64::MAX, 1), Err(NotStored::BadStore { entry: 2 }));
+    store.sizes[1] = 0;
+    assert_eq!(store.offer(u64::MAX, 1), Err(NotStored::BadStore { entry: 1 }));
+    store.mark_count = 513;
+    assert_eq!(store.offer(u64::MAX, 1), Err(NotStored::BadStore { entry: 512 }));
+}
+
+#[test]
 fn whatever_lies_past_the_count() {
-    let mut store = Store { positions: [u64::MAX; 512], sizes: [7; 512], count: 0 };
+    let mut store = Store { positions: [u64::MAX; 512], sizes: [7; 512], count: 0, marks: [9; 512], mark_count: 0 };
     store.offer(3, 4).unwrap();
+    store.offer(3, 0).unwrap();
     assert_eq!((listed(&store), store.positions[1], store.sizes[1]), (vec![(3, 4)], u64::MAX, 7));
+    assert_eq!((store.mark_count, store.marks[0], store.marks[1]), (1, 3, 9));
 }
 
 #[test]

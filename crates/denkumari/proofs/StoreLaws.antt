@@ -1,5 +1,5 @@
 -- The store's answer, told in numbers; and the uniqueness of `dk_offer` over its own contract.
-use mathlib.Core.Path.{_≡_, refl, sym, ap, _∙_}
+use mathlib.Core.Path.{_≡_, refl, sym, ap, ap₂, _∙_}
 use mathlib.Core.List.{List}
 use Prim.Native.Nat.{ℕ}
 use Rattle.refusal.specs.Told.{Told, gives, refuses, Nothing, toldVerdict}
@@ -10,19 +10,22 @@ use Rattle.overlap_checker.specs.Lent.{Lent, lent, stateIn, laidInto, leaving, 
 use Rattle.denkumari.specs.Stores.{inFigures, OfferTold}
 use Rattle.denkumari.specs.declared.stores.DkOffer.{DkOffer}
 
-count-told : (t : Told Nothing) (k : ℕ) → inFigures t k .count ≡ k
-count-told (gives x) k = refl
-count-told (refuses number place) k = refl
+counts-told : (t : Told Nothing) (k j : ℕ) → (inFigures t k j .count ≡ k) × (inFigures t k j .marks ≡ j)
+counts-told (gives x) k j = (refl, refl)
+counts-told (refuses number place) k j = (refl, refl)
 
-pub told-call : (a : Lent) (e : Entry) (v : Verdict) (positions sizes : List ℕ) (k : ℕ) (r : DkOffer) → Calls a e v (lent positions sizes k)
-    → r ≡ inFigures (toldVerdict v) k → OfferTold a e r (lent positions sizes (r .count))
-told-call a e v positions sizes k r call is =
-    let figures = is ∙ ap (λ (t : Told Nothing). inFigures t k) (call .told) in
-    let same : r .count ≡ k = ap (λ (x : DkOffer). x .count) figures ∙ count-told (callFigures a e) k in
+pub told-call : (a : Lent) (e : Entry) (v : Verdict) (positions sizes : List ℕ) (k : ℕ) (marks : List ℕ) (j : ℕ) (r : DkOffer)
+    → Calls a e v (lent positions sizes k marks j) → r ≡ inFigures (toldVerdict v) k j
+    → OfferTold a e r (lent positions sizes (r .count) marks (r .marks))
+told-call a e v positions sizes k marks j r call is =
+    let figures = is ∙ ap (λ (t : Told Nothing). inFigures t k j) (call .told) in
+    let counts = counts-told (callFigures a e) k j in
+    let same : r .count ≡ k = ap (λ (x : DkOffer). x .count) figures ∙ counts .0 in
+    let also : r .marks ≡ j = ap (λ (x : DkOffer). x .marks) figures ∙ counts .1 in
     record {
-      answer = figures ∙ ap (inFigures (callFigures a e)) (sym same);
+      answer = figures ∙ ap₂ (inFigures (callFigures a e)) (sym same) (sym also);
       left =
-          ap (lent positions sizes) same
+          ap₂ (λ (n m : ℕ). lent positions sizes n marks m) same also
           ∙ call .left
           ∙ ap (λ (w : Verdict). leaving w (laidInto a (after (stateIn a) e)) a) (call .verdict);
     }

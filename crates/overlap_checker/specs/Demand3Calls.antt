@@ -1,7 +1,7 @@
--- Demand 3, of calls of `check_and_insert` one after another, from any two arrays of 512 and a count of 0, whatever else the arrays hold: each
+-- Demand 3, of calls of `check_and_insert` one after another, from any three arrays of 512 and counts of 0, whatever the arrays hold: each
 -- call on what the one before it left, each answer as its contract has it.
 use mathlib.Core.Path.{_≡_, refl, sym, ap, ap₂, _∙_, subst}
-use mathlib.Core.Logic.{_↔_}
+use mathlib.Core.Logic.{_↔_, _⊎_}
 use mathlib.Core.List.{List, [], _∷_, _++_, List·Memᴰ, List·Memᴰ·head, List·Memᴰ·tail, List·Permᴰ}
 use Prim.Native.Nat.{ℕ, _+_, _-_, _≤_, _<_}
 use native.Mathlib.Omega.{arith}
@@ -12,14 +12,15 @@ use Rattle.refusal.specs.Told.{refuses, toldVerdict}
 use Rattle.refusal.specs.declared.Place.the-variants.{Two}
 use Rattle.refusal.specs.declared.Verdict.{Verdict}
 use Rattle.overlap_checker.specs.declared.Entry.{Entry}
-use Rattle.overlap_checker.specs.Interval.{Within, StrictlyInside}
+use Rattle.overlap_checker.specs.Interval.{Within}
 use Rattle.overlap_checker.specs.Stored.{Proper}
-use Rattle.overlap_checker.specs.Naming.{IsNamed}
+use Rattle.overlap_checker.specs.Naming.{Named}
+use Rattle.overlap_checker.specs.Marks.{ProperMarks}
 use Rattle.overlap_checker.specs.State.{State, emptyState, answer, after}
-use Rattle.overlap_checker.specs.Lent.{Lent, lent, held, stateIn, Sound, laid, starts, lengths, laidInto, Calls}
-use Rattle.overlap_checker.specs.Folds.{stateAfter, answers, acceptedBy, nonzero, AllWithin, SharesBitWith, RefusedBy, CallsInTurn}
-use Rattle.overlap_checker.specs.Laid.{starts-length, lengths-length, held-laid}
-use Rattle.overlap_checker.specs.Going.{state-none, sound-none, laid-again, left-is, state-after, sound-after, folded-grows}
+use Rattle.overlap_checker.specs.Lent.{Lent, lent, held, heldMarks, stateIn, Sound, laid, starts, lengths, laidInto, Calls}
+use Rattle.overlap_checker.specs.Folds.{stateAfter, answers, acceptedBy, nonzero, empties, AllWithin, SharesBitWith, CoversMark, InsideOf, RefusedBy, CallsInTurn}
+use Rattle.overlap_checker.specs.Laid.{starts-length, lengths-length, state-laid}
+use Rattle.overlap_checker.specs.Going.{Grown, state-none, sound-none, laid-again, left-is, state-after, sound-after, folded-grows}
 use Rattle.overlap_checker.specs.Checks.{calls-offers}
 use Rattle.overlap_checker.specs.Demand3 as fold
 
@@ -35,11 +36,16 @@ laid-over f g list h =
     ∙ drop-drop k (length f) list
     ∙ sym (ap (λ (n : ℕ). drop n list) whole))
 
-laid-into-over : (a : Lent) (s t : State) → length (s .intervals) ≤ length (t .intervals) → laidInto (laidInto a s) t ≡ laidInto a t
-laid-into-over a s t h =
-    ap₂ (λ (p z : List ℕ). lent p z (length (t .intervals)))
-    (laid-over (starts (s .intervals)) (starts (t .intervals)) (a .positions) (omega (arith, starts-length (s .intervals), starts-length (t .intervals))))
-    (laid-over (lengths (s .intervals)) (lengths (t .intervals)) (a .sizes) (omega (arith, lengths-length (s .intervals), lengths-length (t .intervals))))
+laid-into-over : (a : Lent) (s t : State) → Grown s t → laidInto (laidInto a s) t ≡ laidInto a t
+laid-into-over a s t g =
+    ap₂ (λ (p z : List ℕ). lent p z (length (t .intervals)) (laid (t .marks) (laid (s .marks) (a .marks))) (length (t .marks)))
+    (laid-over (starts (s .intervals)) (starts (t .intervals)) (a .positions)
+    (omega (arith, starts-length (s .intervals), starts-length (t .intervals), g .intervals)))
+    (laid-over (lengths (s .intervals)) (lengths (t .intervals)) (a .sizes)
+    (omega (arith, lengths-length (s .intervals), lengths-length (t .intervals), g .intervals)))
+    ∙ ap
+    (λ (m : List ℕ). lent (laid (starts (t .intervals)) (a .positions)) (laid (lengths (t .intervals)) (a .sizes)) (length (t .intervals)) m (length (t .marks)))
+    (laid-over (s .marks) (t .marks) (a .marks) (g .marks))
 
 -- entries past what was laid stay
 laid-past : (f list : List ℕ) (i : ℕ) → length f ≤ i → getD (laid f list) i 0 ≡ getD list i 0
@@ -82,33 +88,47 @@ turned a (e ∷ es) (v ∷ vs) b s all run =
 
 -- ---- demand 3
 
-module _ (a : Lent) (wide : length (a .positions) ≡ maxStored) (long : length (a .sizes) ≡ maxStored) (none : a .count ≡ 0)
+module _ (a : Lent) (wide : length (a .positions) ≡ maxStored) (long : length (a .sizes) ≡ maxStored) (broad : length (a .marks) ≡ maxStored)
+    (none : a .count ≡ 0) (bare : a .markCount ≡ 0)
     (es : List Entry) (vs : List Verdict) (b : Lent) (all : AllWithin es) (run : CallsInTurn a es vs b) where
   went : Turned a es vs b
-  went = turned a es vs b (sound-none a wide long none) all run
+  went = turned a es vs b (sound-none a wide long broad none bare) all run
 
   -- The answers and what is lent afterwards are those of the fold.
   pub answers-are : vs ≡ answers emptyState es
-  answers-are = went .answered ∙ ap (λ (t : State). answers t es) (state-none a none)
+  answers-are = went .answered ∙ ap (λ (t : State). answers t es) (state-none a none bare)
 
   pub lent-is : b ≡ laidInto a (stateAfter emptyState es)
-  lent-is = went .left ∙ ap (λ (t : State). laidInto a (stateAfter t es)) (state-none a none)
+  lent-is = went .left ∙ ap (λ (t : State). laidInto a (stateAfter t es)) (state-none a none bare)
+
+  pub state-is : stateIn b ≡ stateAfter emptyState es
+  state-is = ap stateIn lent-is ∙ state-laid a (stateAfter emptyState es)
 
   pub held-is : held b ≡ stateAfter emptyState es .intervals
-  held-is = ap held lent-is ∙ held-laid a (stateAfter emptyState es)
+  held-is = ap (λ (s : State). s .intervals) state-is
+
+  pub marks-is : heldMarks b ≡ stateAfter emptyState es .marks
+  marks-is = ap (λ (s : State). s .marks) state-is
 
   -- The store is sound after every call.
   pub sound-in-turn : Sound b
   sound-in-turn = went .sound
 
-  -- What is stored is the accepted offers of nonzero size, in some order, ascending and no two sharing a bit.
+  -- What is stored is the accepted offers of nonzero size, in some order, ascending and no two sharing a bit; the marks are the positions of those of
+  -- size 0, each, in order, none strictly inside a stored interval.
   pub stored-is-accepted : List·Permᴰ (held b) (nonzero (acceptedBy es vs))
   stored-is-accepted = rw (held-is, answers-are) (fold.stored-is-accepted es)
 
   pub stored-proper : Proper (held b)
   stored-proper = rw held-is (fold.stored-proper es all)
 
-  -- Entries past the count stay.
+  pub marks-are-accepted : List·Permᴰ (heldMarks b) (empties (acceptedBy es vs))
+  marks-are-accepted = rw (marks-is, answers-are) (fold.marks-are-accepted es)
+
+  pub marks-proper : ProperMarks (held b) (heldMarks b)
+  marks-proper = rw (held-is, marks-is) (fold.marks-proper es all)
+
+  -- Entries past the count stay, and marks past theirs.
   pub past-count-stays : (i : ℕ) → b .count ≤ i
       → (getD (b .positions) i 0 ≡ getD (a .positions) i 0) × (getD (b .sizes) i 0 ≡ getD (a .sizes) i 0)
   past-count-stays i h =
@@ -118,29 +138,39 @@ module _ (a : Lent) (wide : length (a .positions) ≡ maxStored) (long : length 
         ap (λ (x : Lent). getD (x .sizes) i 0) lent-is ∙ laid-past (lengths l) (a .sizes) i (omega (arith, lengths-length l)),
       )
 
+  pub past-marks-stay : (i : ℕ) → b .markCount ≤ i → getD (b .marks) i 0 ≡ getD (a .marks) i 0
+  past-marks-stay i h =
+      let past : length (stateAfter emptyState es .marks) ≤ i = rw (ap (λ (x : Lent). x .markCount) lent-is) at h in
+      ap (λ (x : Lent). getD (x .marks) i 0) lent-is ∙ laid-past (stateAfter emptyState es .marks) (a .marks) i past
+
   -- a further call
   module _ (e : Entry) (within : Within e) (v : Verdict) (c : Lent) (call : Calls b e v c) where
     verdict-is : v ≡ answer (stateAfter emptyState es) e 0
-    verdict-is =
-        calls-offers b e v c sound-in-turn within call .verdict
-        ∙ ap (λ (l : List Entry). answer (Rattle.overlap_checker.specs.State.holding l) e 0) held-is
+    verdict-is = calls-offers b e v c sound-in-turn within call .verdict ∙ ap (λ (s : State). answer s e 0) state-is
 
-    -- It is refused 12, a nonzero offer, exactly when some bit belongs both to it and to an earlier accepted offer.
-    pub overlap-exactly : 0 < e .size → RefusedBy 12 v ↔ SharesBitWith e (acceptedBy es vs)
+    -- It is refused 12, a nonzero offer, exactly when some bit belongs both to it and to an earlier accepted offer, "or when an earlier accepted mark is
+    -- strictly inside it".
+    pub overlap-exactly : 0 < e .size → RefusedBy 12 v ↔ (SharesBitWith e (acceptedBy es vs) ⊎ CoversMark e (acceptedBy es vs))
     overlap-exactly n = rw (verdict-is, answers-are) (fold.overlap-exactly es e 0 n)
 
-    -- 13 exactly when 512 are stored and no bit belongs both to it and to an earlier accepted offer.
-    pub full-exactly : 0 < e .size → RefusedBy 13 v ↔ ((b .count ≡ maxStored) × (SharesBitWith e (acceptedBy es vs) → ⊥))
+    -- 13 exactly when 512 are stored, no bit belongs both to it and to an earlier accepted offer, "and no accepted mark is strictly inside it".
+    pub full-exactly : 0 < e .size
+        → RefusedBy 13 v ↔ ((b .count ≡ maxStored) × (SharesBitWith e (acceptedBy es vs) → ⊥) × (CoversMark e (acceptedBy es vs) → ⊥))
     full-exactly n = rw (verdict-is, answers-are, lent-is) (fold.full-exactly es e 0 n)
 
-    -- An offer of size 0 is refused 12 exactly when its position is strictly inside a stored interval, and with no other number.
-    pub empty-exactly : e .size ≡ 0 → RefusedBy 12 v ↔ ((f : Entry) × List·Memᴰ f (held b) × StrictlyInside (e .position) f)
+    -- A mark is refused 12 exactly when it is strictly inside a stored interval, 13 exactly when it is not and 512 marks are kept.
+    pub empty-exactly : e .size ≡ 0 → RefusedBy 12 v ↔ InsideOf (e .position) (held b)
     empty-exactly z = rw (verdict-is, held-is) (fold.empty-exactly es e 0 z)
 
-    pub empty-only : e .size ≡ 0 → (number : ℕ) → 0 < number → RefusedBy number v → number ≡ 12
-    empty-only z number some r = fold.empty-only (stateAfter emptyState es) e 0 z number some (rw verdict-is at r)
+    pub mark-full-exactly : e .size ≡ 0 → RefusedBy 13 v ↔ ((b .markCount ≡ maxStored) × (InsideOf (e .position) (held b) → ⊥))
+    mark-full-exactly z = rw (verdict-is, held-is, ap (λ (x : Lent). x .markCount) lent-is) (fold.mark-full-exactly es e 0 z)
 
-    -- 12 names the lowest stored start at or above the offer if those two clash, otherwise the one below.
+    -- No other number comes.
+    pub only-two : (number : ℕ) → 0 < number → RefusedBy number v → (number ≡ 12) ⊎ (number ≡ 13)
+    only-two number some r = fold.only-two (stateAfter emptyState es) e 0 number some (rw verdict-is at r)
+
+    -- 12 names the lowest stored start at or above the offer if those two clash, otherwise the one below; where no interval is to be named, the lowest
+    -- mark strictly inside the offer, with size 0.
     pub overlap-names-rule : RefusedBy 12 v
-        → (f : Entry) × (toldVerdict v ≡ refuses 12 (Two (f .position) (f .size))) × IsNamed (held b) e f
-    overlap-names-rule r = rw (verdict-is, held-is) (fold.overlap-names-rule es e 0 all (rw verdict-is at r))
+        → (f : Entry) × (toldVerdict v ≡ refuses 12 (Two (f .position) (f .size))) × Named (stateIn b) e f
+    overlap-names-rule r = rw (verdict-is, held-is, marks-is) (fold.overlap-names-rule es e 0 all (rw verdict-is at r))

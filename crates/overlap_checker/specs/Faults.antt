@@ -1,6 +1,6 @@
--- What 15 and 4 mean. A store is sound exactly when its entries are at most 512 and proper, said of all of them with bits; a call is refused 15
--- exactly when its store is not sound, and 4 exactly when its store is and the offer is past the limits; and the place that 15 names is the first
--- entry with which those before it are not proper.
+-- What 15 and 4 mean. A store is sound exactly when its intervals are at most 512 and proper, said of all of them with bits, and so its marks; a call
+-- is refused 15 exactly when its store is not sound, and 4 exactly when its store is and the offer is past the limits; and the place that 15 names is
+-- the first interval, or else the first mark, with which those before it are not proper.
 use mathlib.Core.Path.{_≡_, refl, sym, ap, _∙_}
 use mathlib.Core.Logic.{_↔_, ⊎-elim}
 use mathlib.Core.Bool.{true, true≢false}
@@ -16,12 +16,14 @@ use Rattle.overlap_checker.specs.declared.Entry.{Entry}
 use Rattle.overlap_checker.specs.Entries.{entryAt}
 use Rattle.overlap_checker.specs.Interval.{end, ShareBit, Within, pastLimits}
 use Rattle.overlap_checker.specs.Stored.{atFault, firstFault, Proper}
+use Rattle.overlap_checker.specs.Marks.{markAtFault, firstMarkFault, ProperMarks}
+use Rattle.overlap_checker.specs.MarkLaws.{Resting, lies, no-mark-fault, mark-fault-le, resting, orderly, resting-proper, proper-resting}
 use Rattle.overlap_checker.specs.State.{answer, figures}
-use Rattle.overlap_checker.specs.Lent.{Lent, held, stateIn, Sound, callFigures, Calls}
+use Rattle.overlap_checker.specs.Lent.{Lent, held, heldMarks, stateIn, Sound, callFigures, Calls}
 use Rattle.overlap_checker.specs.Folds.{RefusedBy}
 use Rattle.overlap_checker.specs.Ascending.{told, lt-or-le, fault-le, not-past, within-limits, Ascending, no-fault, sits, faultless, ascending, sits-at, ends-before}
 use Rattle.overlap_checker.specs.Answers.{three-ways, tries-overlaps, tries-full, tries-passes}
-use Rattle.overlap_checker.specs.Checks.{checks-count, checks-fault, checks-limits, checks-passes, four-ways}
+use Rattle.overlap_checker.specs.Checks.{sound-fine, fine-sound, checks-count, checks-mark-count, checks-fault, checks-mark-fault, checks-limits, checks-passes, six-ways}
 
 -- ---- ascending is proper
 
@@ -61,12 +63,25 @@ proper-from floor (e ∷ l) p h = (
 pub proper-ascending : (l : List Entry) → Proper l → Ascending 0 l
 proper-ascending l p = proper-from 0 l p (λ i m. omega arith)
 
--- A store is sound exactly when it has at most 512 entries and they are proper. (Its arrays have 512 places.)
-pub sound-exactly : (a : Lent) → length (a .positions) ≡ maxStored → length (a .sizes) ≡ maxStored
-    → Sound a ↔ ((a .count ≤ maxStored) × Proper (held a))
-sound-exactly a wide long = (
-  (λ h. (h .few, ascending-proper (held a) (ascending 0 (held a) (h .faultless)))),
-  (λ h. record { few = h .0; wide = wide; long = long; faultless = faultless 0 (held a) (proper-ascending (held a) (h .1)) }),
+-- A store is sound exactly when it has at most 512 intervals and 512 marks and they are proper. (Its arrays have 512 places.)
+pub sound-exactly : (a : Lent) → length (a .positions) ≡ maxStored → length (a .sizes) ≡ maxStored → length (a .marks) ≡ maxStored
+    → Sound a ↔ ((a .count ≤ maxStored) × (a .markCount ≤ maxStored) × Proper (held a) × ProperMarks (held a) (heldMarks a))
+sound-exactly a wide long broad = (
+  (λ h. (
+    h .few,
+    h .fewMarks,
+    ascending-proper (held a) (ascending 0 (held a) (h .faultless)),
+    resting-proper (held a) (heldMarks a) (resting (held a) 0 (heldMarks a) (h .orderly)),
+  )),
+  (λ h. record {
+    few = h .0;
+    wide = wide;
+    long = long;
+    faultless = faultless 0 (held a) (proper-ascending (held a) (h .2));
+    fewMarks = h .1;
+    broad = broad;
+    orderly = orderly (held a) 0 (heldMarks a) (proper-resting (held a) (heldMarks a) (h .3));
+  }),
 )
 
 -- ---- the first entry at fault
@@ -89,6 +104,27 @@ first-fault-exactly l h =
     let (before, with-it) = first-splits 0 l h in
     (ascending-proper (take (firstFault 0 l) l) before, (λ p. with-it (proper-ascending (take (suc (firstFault 0 l)) l) p)))
 
+first-mark-splits : (l : List Entry) (floor : ℕ) (ms : List ℕ) → firstMarkFault l floor ms < length ms
+    → Resting l floor (take (firstMarkFault l floor ms) ms) × (Resting l floor (take (suc (firstMarkFault l floor ms)) ms) → ⊥)
+unfolding firstMarkFault
+first-mark-splits l floor [] h = absurd (omega arith)
+first-mark-splits l floor (m ∷ ms) h =
+    ⊎-elim
+    (λ bad. rw bad (tt, (λ a. true≢false (sym bad ∙ no-mark-fault l floor m (a .0)))))
+    (λ fine. let (before, with-it) =
+    first-mark-splits l m ms (let g : suc (firstMarkFault l m ms) < suc (length ms) = rw fine at h in omega arith) in
+    rw fine ((lies l floor m fine, before), (λ a. with-it (a .1))))
+    (told (markAtFault l floor m))
+
+-- The marks before the first at fault are proper, and with it they are not.
+pub first-mark-fault-exactly : (l : List Entry) (ms : List ℕ) → firstMarkFault l 0 ms < length ms
+    → ProperMarks l (take (firstMarkFault l 0 ms) ms) × (ProperMarks l (take (suc (firstMarkFault l 0 ms)) ms) → ⊥)
+first-mark-fault-exactly l ms h =
+    let (before, with-it) = first-mark-splits l 0 ms h in (
+      resting-proper l (take (firstMarkFault l 0 ms) ms) before,
+      (λ p. with-it (proper-resting l (take (suc (firstMarkFault l 0 ms)) ms) p)),
+    )
+
 -- ---- the call
 
 abbrev pub numberIn : Told Nothing → ℕ
@@ -107,50 +143,70 @@ module _ (a : Lent) (e : Entry) where
       three-ways (stateIn a) e (λ h. over (ap numberIn (tries-overlaps (stateIn a) e _ _ _ h))) (λ h l. full (ap numberIn (tries-full (stateIn a) e _ _ _ h l)))
       (λ h l. none (ap numberIn (tries-passes (stateIn a) e _ _ _ h l)))
 
-module _ (a : Lent) (wide : length (a .positions) ≡ maxStored) (long : length (a .sizes) ≡ maxStored)
+module _ (a : Lent) (wide : length (a .positions) ≡ maxStored) (long : length (a .sizes) ≡ maxStored) (broad : length (a .marks) ≡ maxStored)
     (e : Entry) (v : Verdict) (b : Lent) (c : Calls a e v b) where
-  faulty : a .count ≤ maxStored → length (held a) ≤ firstFault 0 (held a) → Sound a
-  faulty few none = record { few = few; wide = wide; long = long; faultless = omega (arith, fault-le 0 (held a)) }
-
   by-figures : {t : Told Nothing} {n : ℕ} → callFigures a e ≡ t → RefusedBy n v → numberIn t ≡ n
   by-figures is r = same-number v (c .told ∙ is) r
 
   -- A call is refused 15 exactly when its store is not sound.
   pub bad-store-exactly : RefusedBy 15 v ↔ (Sound a → ⊥)
   bad-store-exactly = (
-    (λ r s. four-ways a e (λ (n : ℕ). r) r r
+    (λ r s. six-ways a e
         (λ many. let f = s .few in omega arith)
-        (λ few fault. let f = s .faultless in omega arith)
-        (λ few none past. let z : 4 ≡ 15 = by-figures (checks-limits a e _ _ _ few none past) r in omega arith)
-        (λ few none fine. let is = by-figures (checks-passes a e _ _ _ few none fine) r in
+        (λ few many. let f = s .fewMarks in omega arith)
+        (λ few marks fault. let f = s .faultless in omega arith)
+        (λ few marks none fault. let f = s .orderly in omega arith)
+        (λ fine past. let z : 4 ≡ 15 = by-figures (checks-limits a e _ _ _ fine past) r in omega arith)
+        (λ fine within. let is = by-figures (checks-passes a e _ _ _ fine within) r in
         answer-numbers a e (λ n. omega arith) (λ n. omega arith) (λ n. omega arith))),
-    (λ bad. four-ways a e (λ (n : ℕ). bad) bad bad
+    (λ bad. six-ways a e
         (λ many. (One maxStored, c .told ∙ checks-count a e _ _ _ many))
-        (λ few fault. (One (firstFault 0 (held a)), c .told ∙ checks-fault a e _ _ _ few fault))
-        (λ few none past. absurd (bad (faulty few none)))
-        (λ few none fine. absurd (bad (faulty few none)))),
+        (λ few many. (One maxStored, c .told ∙ checks-mark-count a e _ _ _ many))
+        (λ few marks fault. (One (firstFault 0 (held a)), c .told ∙ checks-fault a e _ _ _ few marks fault))
+        (λ few marks none fault. (One (firstMarkFault (held a) 0 (heldMarks a)), c .told ∙ checks-mark-fault a e _ _ _ few marks none fault))
+        (λ fine past. absurd (bad (fine-sound a wide long broad fine)))
+        (λ fine within. absurd (bad (fine-sound a wide long broad fine)))),
   )
 
   -- It is refused 4 exactly when its store is sound and the offer past the limits.
   pub malformed-exactly : RefusedBy 4 v ↔ (Sound a × (Within e → ⊥))
   malformed-exactly = (
-    (λ r. four-ways a e (λ (n : ℕ). r) r r
+    (λ r. six-ways a e
         (λ many. let z : 15 ≡ 4 = by-figures (checks-count a e _ _ _ many) r in absurd (omega arith))
-        (λ few fault. let z : 15 ≡ 4 = by-figures (checks-fault a e _ _ _ few fault) r in absurd (omega arith))
-        (λ few none past. (faulty few none, (λ w. true≢false (sym past ∙ not-past e w))))
-        (λ few none fine. let is = by-figures (checks-passes a e _ _ _ few none fine) r in
+        (λ few many. let z : 15 ≡ 4 = by-figures (checks-mark-count a e _ _ _ many) r in absurd (omega arith))
+        (λ few marks fault. let z : 15 ≡ 4 = by-figures (checks-fault a e _ _ _ few marks fault) r in absurd (omega arith))
+        (λ few marks none fault. let z : 15 ≡ 4 = by-figures (checks-mark-fault a e _ _ _ few marks none fault) r in absurd (omega arith))
+        (λ fine past. (fine-sound a wide long broad fine, (λ w. true≢false (sym past ∙ not-past e w))))
+        (λ fine within. let is = by-figures (checks-passes a e _ _ _ fine within) r in
         absurd (answer-numbers a e (λ n. omega arith) (λ n. omega arith) (λ n. omega arith)))),
-    (λ h. ⊎-elim (λ past. (One 0, c .told ∙ checks-limits a e _ _ _ (h .0 .few) (omega (arith, h .0 .faultless)) past))
+    (λ h. ⊎-elim (λ past. (One 0, c .told ∙ checks-limits a e _ _ _ (sound-fine a (h .0)) past))
         (λ fine. absurd (h .1 (within-limits e fine)))
         (told (pastLimits e))),
   )
 
-  -- The place of 15: 512 for the count, otherwise the first entry at fault.
-  pub bad-store-place : (Sound a → ⊥)
-      → ((maxStored < a .count) → toldVerdict v ≡ refuses 15 (One maxStored))
-      × ((a .count ≤ maxStored) → (firstFault 0 (held a) < length (held a)) × (toldVerdict v ≡ refuses 15 (One (firstFault 0 (held a)))))
-  bad-store-place bad = (
-    (λ many. c .told ∙ checks-count a e _ _ _ many),
-    (λ few. ⊎-elim (λ fault. (fault, c .told ∙ checks-fault a e _ _ _ few fault)) (λ none. absurd (bad (faulty few none)))
-        (lt-or-le (firstFault 0 (held a)) (length (held a)))),
-  )
+  -- The place of 15: 512 for either count, then the first interval at fault, then the first mark at fault.
+  pub count-place : maxStored < a .count → toldVerdict v ≡ refuses 15 (One maxStored)
+  count-place many = c .told ∙ checks-count a e _ _ _ many
+
+  pub mark-count-place : maxStored < a .markCount → toldVerdict v ≡ refuses 15 (One maxStored)
+  mark-count-place many = c .told ∙ checks-mark-count a e _ _ _ many
+
+  module _ (few : a .count ≤ maxStored) (marks : a .markCount ≤ maxStored) where
+    pub interval-place : (Proper (held a) → ⊥)
+        → (firstFault 0 (held a) < length (held a)) × (toldVerdict v ≡ refuses 15 (One (firstFault 0 (held a))))
+    interval-place bad =
+        ⊎-elim (λ fault. (fault, c .told ∙ checks-fault a e _ _ _ few marks fault))
+        (λ none. absurd (bad (ascending-proper (held a) (ascending 0 (held a) (omega (arith, fault-le 0 (held a), none))))))
+        (lt-or-le (firstFault 0 (held a)) (length (held a)))
+
+    pub mark-place : Proper (held a) → (ProperMarks (held a) (heldMarks a) → ⊥)
+        → (firstMarkFault (held a) 0 (heldMarks a) < length (heldMarks a))
+        × (toldVerdict v ≡ refuses 15 (One (firstMarkFault (held a) 0 (heldMarks a))))
+    mark-place good bad =
+        let whole = faultless 0 (held a) (proper-ascending (held a) good) in
+        ⊎-elim (λ fault. (fault, c .told ∙ checks-mark-fault a e _ _ _ few marks (omega (arith, whole)) fault))
+        (λ none. absurd
+        (bad
+        (resting-proper (held a) (heldMarks a)
+        (resting (held a) 0 (heldMarks a) (omega (arith, mark-fault-le (held a) 0 (heldMarks a), none))))))
+        (lt-or-le (firstMarkFault (held a) 0 (heldMarks a)) (length (heldMarks a)))

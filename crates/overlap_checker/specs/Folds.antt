@@ -8,7 +8,7 @@ use Rattle.refusal.specs.Told.{refuses, toldVerdict}
 use Rattle.refusal.specs.declared.Place.{Place}
 use Rattle.refusal.specs.declared.Verdict.{Verdict}
 use Rattle.overlap_checker.specs.declared.Entry.{Entry}
-use Rattle.overlap_checker.specs.Interval.{Covers, Within}
+use Rattle.overlap_checker.specs.Interval.{Covers, StrictlyInside, Within}
 use Rattle.overlap_checker.specs.Lent.{Lent, Calls}
 use Rattle.overlap_checker.specs.State.{State, answer, after, isAccepted}
 
@@ -36,6 +36,11 @@ unfoldable pub nonzero : List Entry → List Entry
 nonzero [] = []
 nonzero (e ∷ es) = pick (ltb 0 (e .size)) (e ∷ nonzero es) (nonzero es)
 
+-- the positions of those of size 0
+unfoldable pub empties : List Entry → List ℕ
+empties [] = []
+empties (e ∷ es) = pick (ltb 0 (e .size)) (empties es) (e .position ∷ empties es)
+
 -- every offer of the list is within the limits
 abbrev pub AllWithin : List Entry → Type 0
 AllWithin es = (e : Entry) → List·Memᴰ e es → Within e
@@ -43,6 +48,18 @@ AllWithin es = (e : Entry) → List·Memᴰ e es → Within e
 -- some bit belongs both to an interval and to one of the list
 abbrev pub SharesBitWith : Entry → List Entry → Type 0
 SharesBitWith e fs = (f : Entry) × (bit : ℕ) × List·Memᴰ f fs × Covers e bit × Covers f bit
+
+-- one of the list is a mark, an offer of size 0, strictly inside an interval
+abbrev pub CoversMark : Entry → List Entry → Type 0
+CoversMark e fs = (f : Entry) × List·Memᴰ f fs × (f .size ≡ 0) × StrictlyInside (f .position) e
+
+-- one of some positions is strictly inside an interval
+abbrev pub HasInside : Entry → List ℕ → Type 0
+HasInside e ms = (m : ℕ) × List·Memᴰ m ms × StrictlyInside m e
+
+-- a position is strictly inside an interval of the list
+abbrev pub InsideOf : ℕ → List Entry → Type 0
+InsideOf m l = (f : Entry) × List·Memᴰ f l × StrictlyInside m f
 
 -- refused with a number of document 01's table
 abbrev pub RefusedBy : ℕ → Verdict → Type 0

@@ -12,16 +12,19 @@ use Rattle.refusal.specs.declared.Refusal.{Refusal}
 use Rattle.refusal.specs.declared.Verdict.{Verdict}
 use Rattle.refusal.specs.declared.Verdict.the-variants.{Accepted, Refused}
 use Rattle.overlap_checker.specs.declared.Entry.{Entry}
-use Rattle.overlap_checker.specs.Interval.{end, Within}
+use Rattle.overlap_checker.specs.Interval.{interval, end, Within}
 use Rattle.overlap_checker.specs.Stored.{firstFault}
 use Rattle.overlap_checker.specs.Offers.{placeFor, clashesAny}
-use Rattle.overlap_checker.specs.State.{State, holding, emptyState, answer, inserted, after}
-use Rattle.overlap_checker.specs.Lent.{Lent, zipped, held, stateIn, Sound, laidInto, starts, lengths, leaving, Offers}
+use Rattle.overlap_checker.specs.Marks.{countBelow, firstMarkFault}
+use Rattle.overlap_checker.specs.Rising.{Rising, place-counts, starts-rising}
+use Rattle.overlap_checker.specs.MarkLaws.{Resting, resting, resting-rising, orderly, resting-inserted, resting-marked, length-marked}
+use Rattle.overlap_checker.specs.State.{State, emptyState, answer, inserted, after}
+use Rattle.overlap_checker.specs.Lent.{Spans, Lent, spansOf, zipped, heldIn, held, heldMarks, stateIn, Intact, Sound, laidInto, starts, lengths, leaving, Offers}
 use Rattle.overlap_checker.specs.Folds.{stateAfter, AllWithin}
 use Rattle.overlap_checker.specs.Ascending.{lt-or-le, or-neither, Sits, Ascending, ascending, faultless}
 use Rattle.overlap_checker.specs.Neighbours.{place-le, none-below, one-below, ends-low, ends-high}
-use Rattle.overlap_checker.specs.Answers.{refused-keeps, after-either}
-use Rattle.overlap_checker.specs.Laid.{starts-length, lengths-length, laid-length, held-laid, laid-held}
+use Rattle.overlap_checker.specs.Answers.{clear-apart, refused-keeps, after-either}
+use Rattle.overlap_checker.specs.Laid.{starts-length, lengths-length, laid-length, laid-front, held-laid, state-laid, laid-state}
 use Rattle.overlap_checker.specs.Laid as laws
 
 -- ---- an interval put in
@@ -47,21 +50,38 @@ length-inserted l e =
 
 -- ---- the pure state
 
--- at most 512 intervals, none at fault
+-- at most 512 intervals and as many marks, none at fault
 pub record Fits (s : State) : Type 0 where
   pub few : length (s .intervals) ≤ maxStored
   pub up : Ascending 0 (s .intervals)
+  pub fewMarks : length (s .marks) ≤ maxStored
+  pub rests : Resting (s .intervals) 0 (s .marks)
 
 pub fits-empty : Fits emptyState
-fits-empty = record { few = omega arith; up = tt }
+fits-empty = record { few = omega arith; up = tt; fewMarks = omega arith; rests = tt }
+
+-- an offer of size 0 clashes as its position alone
+of-none : (s : State) (e : Entry) → e .size ≡ 0 → clashesAny e (s .intervals) ≡ false → clashesAny (interval (e .position) 0) (s .intervals) ≡ false
+of-none s e z h = ap (λ (n : ℕ). clashesAny (interval (e .position) n) (s .intervals)) (sym z) ∙ h
 
 pub fits-after : (s : State) (e : Entry) → Within e → Fits s → Fits (after s e)
 fits-after s e within f =
     after-either s e Fits f
-    (λ clear n room.
+    (λ clear n room. let apart = clear-apart s e clear in
     record {
       few = omega (arith, length-inserted (s .intervals) e);
-      up = ascending-inserted 0 (s .intervals) e (f .up) clear (record { above = omega arith; nonempty = n; within = within });
+      up = ascending-inserted 0 (s .intervals) e (f .up) (apart .0) (record { above = omega arith; nonempty = n; within = within });
+      fewMarks = f .fewMarks;
+      rests = resting-inserted (s .intervals) e 0 (s .marks) (f .rests) (apart .1);
+    })
+    (λ clear z room.
+    record {
+      few = f .few;
+      up = f .up;
+      fewMarks = omega (arith, length-marked (s .marks) (e .position));
+      rests =
+          resting-marked (s .intervals) (e .position) 0 (s .marks) (f .rests)
+          (record { above = omega arith; within = within .0; outside = of-none s e z (clear-apart s e clear .0) });
     })
 
 pub fits-folded : (s : State) (es : List Entry) → AllWithin es → Fits s → Fits (stateAfter s es)
@@ -70,41 +90,87 @@ fits-folded s [] w f = f
 fits-folded s (e ∷ es) w f =
     fits-folded (after s e) es (λ g m. w g (List·Memᴰ·tail m)) (fits-after s e (w e (List·Memᴰ·head refl)) f)
 
--- the count never falls
-pub after-grows : (s : State) (e : Entry) → length (s .intervals) ≤ length (after s e .intervals)
-after-grows s e =
-    after-either s e (λ (t : State). length (s .intervals) ≤ length (t .intervals)) (omega arith)
-    (λ clear n room. omega (arith, length-inserted (s .intervals) e))
+-- the counts never fall
+pub record Grown (s t : State) : Type 0 where
+  pub intervals : length (s .intervals) ≤ length (t .intervals)
+  pub marks : length (s .marks) ≤ length (t .marks)
 
-pub folded-grows : (s : State) (es : List Entry) → length (s .intervals) ≤ length (stateAfter s es .intervals)
+pub after-grows : (s : State) (e : Entry) → Grown s (after s e)
+after-grows s e =
+    after-either s e (Grown s) (record { intervals = omega arith; marks = omega arith })
+    (λ clear n room. record { intervals = omega (arith, length-inserted (s .intervals) e); marks = omega arith })
+    (λ clear z room. record { intervals = omega arith; marks = omega (arith, length-marked (s .marks) (e .position)) })
+
+pub folded-grows : (s : State) (es : List Entry) → Grown s (stateAfter s es)
 unfolding stateAfter
-folded-grows s [] = omega arith
-folded-grows s (e ∷ es) = let rest = folded-grows (after s e) es in omega (arith, after-grows s e)
+folded-grows s [] = record { intervals = omega arith; marks = omega arith }
+folded-grows s (e ∷ es) =
+    let rest = folded-grows (after s e) es in
+    let one = after-grows s e in
+    record { intervals = omega (arith, one .intervals, rest .intervals); marks = omega (arith, one .marks, rest .marks) }
 
 -- ---- the arrays
 
+-- two arrays with intervals of which none is at fault
+module _ (a : Spans) (s : Intact a) where
+  pub length-in : length (heldIn a) ≡ a .count
+  length-in = laws.held-length a (s .few) (s .wide) (s .long)
+
+  pub ascends-in : Ascending 0 (heldIn a)
+  ascends-in = ascending 0 (heldIn a) (s .faultless)
+
+  -- the starts are in order, and the place of an offer is how many of them are below it
+  pub starts-rise : Rising 0 (take (a .count) (a .positions))
+  starts-rise = rw (laws.starts-held a (s .few) (s .wide) (s .long)) at (starts-rising 0 (heldIn a) ascends-in)
+
+  pub place-is-count : (p : ℕ) → placeFor p (heldIn a) ≡ countBelow p (take (a .count) (a .positions))
+  place-is-count p = place-counts p (heldIn a) ∙ ap (countBelow p) (laws.starts-held a (s .few) (s .wide) (s .long))
+
 module _ (a : Lent) (s : Sound a) where
+  pub intact : Intact (spansOf a)
+  intact = record { few = s .few; wide = s .wide; long = s .long; faultless = s .faultless }
+
   pub held-length : length (held a) ≡ a .count
-  held-length = laws.held-length a (s .few) (s .wide) (s .long)
+  held-length = length-in (spansOf a) intact
 
   pub held-ascends : Ascending 0 (held a)
   held-ascends = ascending 0 (held a) (s .faultless)
 
+  pub marks-length : length (heldMarks a) ≡ a .markCount
+  marks-length = laws.marks-length a (s .few) (s .wide) (s .long) (s .fewMarks) (s .broad)
+
+  pub marks-rest : Resting (held a) 0 (heldMarks a)
+  marks-rest = resting (held a) 0 (heldMarks a) (s .orderly)
+
+  pub marks-rise : Rising 0 (heldMarks a)
+  marks-rise = resting-rising (held a) 0 (heldMarks a) marks-rest
+
   pub fits-in : Fits (stateIn a)
-  fits-in = record { few = omega (arith, held-length, s .few); up = held-ascends }
+  fits-in =
+      record {
+        few = omega (arith, held-length, s .few);
+        up = held-ascends;
+        fewMarks = omega (arith, marks-length, s .fewMarks);
+        rests = marks-rest;
+      }
 
   pub laid-again : laidInto a (stateIn a) ≡ a
-  laid-again = laid-held a (s .few) (s .wide) (s .long)
+  laid-again = laid-state a (s .few) (s .wide) (s .long) (s .fewMarks) (s .broad)
 
 -- a state that fits, laid into arrays of 512, is sound
-pub sound-laid : (a : Lent) (s : State) → length (a .positions) ≡ maxStored → length (a .sizes) ≡ maxStored → Fits s → Sound (laidInto a s)
-sound-laid a s wide long f =
+pub sound-laid : (a : Lent) (s : State) → length (a .positions) ≡ maxStored → length (a .sizes) ≡ maxStored → length (a .marks) ≡ maxStored → Fits s
+    → Sound (laidInto a s)
+sound-laid a s wide long broad f =
     let l = s .intervals in
+    let is = held-laid (spansOf a) l in
     record {
       few = f .few;
       wide = laid-length (starts l) (a .positions) (omega (arith, starts-length l, f .few)) ∙ wide;
       long = laid-length (lengths l) (a .sizes) (omega (arith, lengths-length l, f .few)) ∙ long;
-      faultless = rw (held-laid a s) (faultless 0 l (f .up));
+      faultless = rw is (faultless 0 l (f .up));
+      fewMarks = f .fewMarks;
+      broad = laid-length (s .marks) (a .marks) (omega (arith, f .fewMarks)) ∙ broad;
+      orderly = rw (is, laid-front (s .marks) (a .marks)) (orderly l 0 (s .marks) (f .rests));
     }
 
 -- ---- one offer
@@ -121,24 +187,36 @@ module _ (a : Lent) (e : Entry) (node : ℕ) (v : Verdict) (b : Lent) (s : Sound
 
   -- It holds the state after the offer.
   pub state-after : stateIn b ≡ after (stateIn a) e
-  state-after = ap stateIn left-is ∙ ap holding (held-laid a (after (stateIn a) e))
+  state-after = ap stateIn left-is ∙ state-laid a (after (stateIn a) e)
 
   pub count-is : b .count ≡ length (after (stateIn a) e .intervals)
   count-is = ap (λ (c : Lent). c .count) left-is
 
+  pub mark-count-is : b .markCount ≡ length (after (stateIn a) e .marks)
+  mark-count-is = ap (λ (c : Lent). c .markCount) left-is
+
   -- It is sound again.
   pub sound-after : Within e → Sound b
   sound-after within =
-      subst Sound (sym left-is) (sound-laid a (after (stateIn a) e) (s .wide) (s .long) (fits-after (stateIn a) e within (fits-in a s)))
+      subst Sound (sym left-is) (sound-laid a (after (stateIn a) e) (s .wide) (s .long) (s .broad) (fits-after (stateIn a) e within (fits-in a s)))
 
 -- ---- to begin with
 
--- Any store of count 0 is empty, whatever its other entries hold, and it is sound.
-pub state-none : (a : Lent) → a .count ≡ 0 → stateIn a ≡ emptyState
+-- Any store whose counts are 0 is empty, whatever its arrays hold, and it is sound.
+pub state-none : (a : Lent) → a .count ≡ 0 → a .markCount ≡ 0 → stateIn a ≡ emptyState
 unfolding zipped
-state-none a none = rw none
+state-none a none bare = rw (none, bare)
 
-pub sound-none : (a : Lent) → length (a .positions) ≡ maxStored → length (a .sizes) ≡ maxStored → a .count ≡ 0 → Sound a
-unfolding zipped firstFault
-sound-none a wide long none =
-    record { few = omega arith; wide = wide; long = long; faultless = rw none }
+pub sound-none : (a : Lent) → length (a .positions) ≡ maxStored → length (a .sizes) ≡ maxStored → length (a .marks) ≡ maxStored
+    → a .count ≡ 0 → a .markCount ≡ 0 → Sound a
+unfolding zipped firstFault firstMarkFault
+sound-none a wide long broad none bare =
+    record {
+      few = omega arith;
+      wide = wide;
+      long = long;
+      faultless = rw none;
+      fewMarks = omega arith;
+      broad = broad;
+      orderly = rw bare;
+    }

@@ -10,8 +10,8 @@ use Rattle.refusal.specs.Limits.{maxStored}
 use Rattle.overlap_checker.specs.declared.Entry.{Entry}
 use Rattle.overlap_checker.specs.Interval.{interval}
 use Rattle.overlap_checker.specs.Entries.{entryAt}
-use Rattle.overlap_checker.specs.State.{State}
-use Rattle.overlap_checker.specs.Lent.{Lent, lent, zipped, held, stateIn, laid, starts, lengths, laidInto}
+use Rattle.overlap_checker.specs.State.{State, holding}
+use Rattle.overlap_checker.specs.Lent.{Spans, spans, Lent, lent, spansOf, zipped, heldIn, heldMarks, stateIn, laid, starts, lengths, laidSpans, laidInto}
 
 pub length-zipped : (a b : List ℕ) → length a ≡ length b → length (zipped a b) ≡ length a
 unfolding zipped
@@ -65,41 +65,57 @@ pub lengths-length : (l : List Entry) → length (lengths l) ≡ length l
 lengths-length l = length-map l (λ (e : Entry). e .size)
 
 -- What is laid into the arrays is held there.
-pub held-laid : (a : Lent) (s : State) → held (laidInto a s) ≡ s .intervals
-held-laid a s =
-    let l = s .intervals in
+pub held-laid : (a : Spans) (l : List Entry) → heldIn (laidSpans a l) ≡ l
+held-laid a l =
     ap₂ zipped
     (rw (← starts-length l) (laid-front (starts l) (a .positions)))
     (rw (← lengths-length l) (laid-front (lengths l) (a .sizes)))
     ∙ zipped-apart l
 
--- a count within the arrays
-module _ (a : Lent) (few : a .count ≤ maxStored) (wide : length (a .positions) ≡ maxStored) (long : length (a .sizes) ≡ maxStored) where
+-- a count within the two arrays
+module _ (a : Spans) (few : a .count ≤ maxStored) (wide : length (a .positions) ≡ maxStored) (long : length (a .sizes) ≡ maxStored) where
   take-positions : length (take (a .count) (a .positions)) ≡ a .count
   take-positions = length-take-le (a .count) (a .positions) (omega arith)
 
   take-sizes : length (take (a .count) (a .sizes)) ≡ a .count
   take-sizes = length-take-le (a .count) (a .sizes) (omega arith)
 
-  pub held-length : length (held a) ≡ a .count
+  pub held-length : length (heldIn a) ≡ a .count
   held-length = length-zipped (take (a .count) (a .positions)) (take (a .count) (a .sizes)) (take-positions ∙ sym take-sizes) ∙ take-positions
 
-  pub held-at : (i : ℕ) → i < a .count → entryAt (held a) i ≡ interval (getD (a .positions) i 0) (getD (a .sizes) i 0)
+  pub held-at : (i : ℕ) → i < a .count → entryAt (heldIn a) i ≡ interval (getD (a .positions) i 0) (getD (a .sizes) i 0)
   held-at i h =
       zipped-at (take (a .count) (a .positions)) (take (a .count) (a .sizes)) i (omega (arith, take-positions)) (omega (arith, take-sizes))
       ∙ ap₂ interval (getD-take (a .count) (a .positions) i 0 h) (getD-take (a .count) (a .sizes) i 0 h)
 
-  pub starts-held : starts (held a) ≡ take (a .count) (a .positions)
+  pub starts-held : starts (heldIn a) ≡ take (a .count) (a .positions)
   starts-held = starts-zipped (take (a .count) (a .positions)) (take (a .count) (a .sizes)) (take-positions ∙ sym take-sizes)
 
-  pub lengths-held : lengths (held a) ≡ take (a .count) (a .sizes)
+  pub lengths-held : lengths (heldIn a) ≡ take (a .count) (a .sizes)
   lengths-held = lengths-zipped (take (a .count) (a .positions)) (take (a .count) (a .sizes)) (take-positions ∙ sym take-sizes)
 
   -- What is held, laid again, changes nothing.
-  pub laid-held : laidInto a (stateIn a) ≡ a
+  pub laid-held : laidSpans a (heldIn a) ≡ a
   laid-held =
-      ap₂ (λ (f : List ℕ) (n : ℕ). lent f (laid (lengths (held a)) (a .sizes)) n)
+      ap₂ (λ (f : List ℕ) (n : ℕ). spans f (laid (lengths (heldIn a)) (a .sizes)) n)
       (ap (λ (f : List ℕ). laid f (a .positions)) starts-held ∙ laid-own (a .count) (a .positions) (omega arith))
       held-length
-      ∙ ap (λ (f : List ℕ). lent (a .positions) f (a .count))
+      ∙ ap (λ (f : List ℕ). spans (a .positions) f (a .count))
       (ap (λ (f : List ℕ). laid f (a .sizes)) lengths-held ∙ laid-own (a .count) (a .sizes) (omega arith))
+
+-- ---- all three
+
+pub state-laid : (a : Lent) (s : State) → stateIn (laidInto a s) ≡ s
+state-laid a s = ap₂ holding (held-laid (spansOf a) (s .intervals)) (laid-front (s .marks) (a .marks))
+
+module _ (a : Lent) (few : a .count ≤ maxStored) (wide : length (a .positions) ≡ maxStored) (long : length (a .sizes) ≡ maxStored)
+    (fewMarks : a .markCount ≤ maxStored) (broad : length (a .marks) ≡ maxStored) where
+  pub marks-length : length (heldMarks a) ≡ a .markCount
+  marks-length = length-take-le (a .markCount) (a .marks) (omega arith)
+
+  pub laid-state : laidInto a (stateIn a) ≡ a
+  laid-state =
+      ap (λ (x : Spans). lent (x .positions) (x .sizes) (x .count) (laid (heldMarks a) (a .marks)) (length (heldMarks a)))
+      (laid-held (spansOf a) few wide long)
+      ∙ ap₂ (λ (l : List ℕ) (n : ℕ). lent (a .positions) (a .sizes) (a .count) l n)
+      (laid-own (a .markCount) (a .marks) (omega arith)) marks-length

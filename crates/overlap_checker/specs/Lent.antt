@@ -1,5 +1,7 @@
--- The store as it is lent: two arrays, positions and sizes, and a count. What they hold, when that is sound, and what a call leaves there.
+-- The store as it is lent: two arrays, positions and sizes, and a count; an array of marks, and theirs. What they hold, when that is sound, and
+-- what a call leaves there.
 use mathlib.Core.Path.{_≡_}
+use mathlib.Core.Bool.{_||_}
 use mathlib.Core.List.{List, [], _∷_, _++_, map}
 use Prim.Native.Nat.{ℕ, _+_, _≤_}
 use lib.Dec.{ltb}
@@ -16,15 +18,31 @@ use Rattle.overlap_checker.specs.declared.Entry.{Entry}
 use Rattle.overlap_checker.specs.declared.Offered.{Offered}
 use Rattle.overlap_checker.specs.Interval.{interval, pastLimits}
 use Rattle.overlap_checker.specs.Stored.{firstFault}
+use Rattle.overlap_checker.specs.Marks.{firstMarkFault}
 use Rattle.overlap_checker.specs.State.{State, holding, putAt, answer, figures, after}
+
+-- the intervals' part
+pub record Spans : Type 0 where
+  pub positions : List ℕ
+  pub sizes : List ℕ
+  pub count : ℕ
+
+abbrev pub spans : List ℕ → List ℕ → ℕ → Spans
+spans positions sizes count = record { positions = positions; sizes = sizes; count = count }
 
 pub record Lent : Type 0 where
   pub positions : List ℕ
   pub sizes : List ℕ
   pub count : ℕ
+  pub marks : List ℕ
+  pub markCount : ℕ
 
-abbrev pub lent : List ℕ → List ℕ → ℕ → Lent
-lent positions sizes count = record { positions = positions; sizes = sizes; count = count }
+abbrev pub lent : List ℕ → List ℕ → ℕ → List ℕ → ℕ → Lent
+lent positions sizes count marks markCount =
+    record { positions = positions; sizes = sizes; count = count; marks = marks; markCount = markCount }
+
+abbrev pub spansOf : Lent → Spans
+spansOf a = spans (a .positions) (a .sizes) (a .count)
 
 -- ---- what is held
 
@@ -35,18 +53,35 @@ zipped (p ∷ positions) [] = []
 zipped (p ∷ positions) (s ∷ sizes) = interval p s ∷ zipped positions sizes
 
 -- the stored intervals are the first `count`
+abbrev pub heldIn : Spans → List Entry
+heldIn a = zipped (take (a .count) (a .positions)) (take (a .count) (a .sizes))
+
 abbrev pub held : Lent → List Entry
-held a = zipped (take (a .count) (a .positions)) (take (a .count) (a .sizes))
+held a = heldIn (spansOf a)
+
+-- and the marks the first of theirs
+abbrev pub heldMarks : Lent → List ℕ
+heldMarks a = take (a .markCount) (a .marks)
 
 abbrev pub stateIn : Lent → State
-stateIn a = holding (held a)
+stateIn a = holding (held a) (heldMarks a)
 
--- A store that 15 has nothing to say of. (That the arrays have 512 places is their type's to say.)
+-- Intervals that 15 has nothing to say of. (That the arrays have 512 places is their type's to say.)
+pub record Intact (a : Spans) : Type 0 where
+  pub few : a .count ≤ maxStored
+  pub wide : length (a .positions) ≡ maxStored
+  pub long : length (a .sizes) ≡ maxStored
+  pub faultless : firstFault 0 (heldIn a) ≡ length (heldIn a)
+
+-- A store that 15 has nothing to say of.
 pub record Sound (a : Lent) : Type 0 where
   pub few : a .count ≤ maxStored
   pub wide : length (a .positions) ≡ maxStored
   pub long : length (a .sizes) ≡ maxStored
   pub faultless : firstFault 0 (held a) ≡ length (held a)
+  pub fewMarks : a .markCount ≤ maxStored
+  pub broad : length (a .marks) ≡ maxStored
+  pub orderly : firstMarkFault (held a) 0 (heldMarks a) ≡ length (heldMarks a)
 
 -- ---- what is left
 
@@ -60,13 +95,19 @@ starts l = map (λ (e : Entry). e .position) l
 abbrev pub lengths : List Entry → List ℕ
 lengths l = map (λ (e : Entry). e .size) l
 
--- the arrays with a state laid into them
+-- the two arrays with intervals laid into them
+abbrev pub laidSpans : Spans → List Entry → Spans
+laidSpans a l = spans (laid (starts l) (a .positions)) (laid (lengths l) (a .sizes)) (length l)
+
+-- the three arrays with a state laid into them: "Marks past their count stay."
 abbrev pub laidInto : Lent → State → Lent
 laidInto a s =
     record {
       positions = laid (starts (s .intervals)) (a .positions);
       sizes = laid (lengths (s .intervals)) (a .sizes);
       count = length (s .intervals);
+      marks = laid (s .marks) (a .marks);
+      markCount = length (s .marks);
     }
 
 -- "Each refusal .. changes nothing lent."
@@ -78,9 +119,9 @@ leaving (Refused why) new old = old
 abbrev pub putIn : List ℕ → ℕ → ℕ → ℕ → List ℕ
 putIn list count place number = putAt place number (take count list) ++ drop (count + 1) list
 
--- a refusal hands the count back
-abbrev pub refusedWith : ℕ → Refusal → Offered
-refusedWith count why = record { verdict = Refused why; count = count }
+-- a refusal hands both counts back
+abbrev pub refusedWith : ℕ → ℕ → Refusal → Offered
+refusedWith count marks why = record { verdict = Refused why; count = count; marks = marks }
 
 -- ---- the two calls
 
@@ -90,13 +131,14 @@ pub record Offers (a : Lent) (e : Entry) (node : ℕ) (v : Verdict) (b : Lent) :
   pub told : toldVerdict v ≡ figures (stateIn a) e node
   pub left : b ≡ leaving v (laidInto a (after (stateIn a) e)) a
 
--- "A store call tries 15, 4, 12, 13." "15 the first entry at fault, 512 for the count": what is given for 15 at an entry, for 4, and
--- otherwise.
+-- "A store call tries 15, 4, 12, 13." "15 the first entry at fault, 512 for the count": first the counts, 512 for either, then the first interval at
+-- fault, then the first mark at fault. What is given for 15 at a place, for 4, and otherwise.
 unfoldable pub checks : {X : Type 0} → Lent → Entry → (ℕ → X) → X → X → X
 checks a e bad malformed otherwise =
-    pick (ltb maxStored (a .count)) (bad maxStored)
+    pick (ltb maxStored (a .count) || ltb maxStored (a .markCount)) (bad maxStored)
     (pick (ltb (firstFault 0 (held a)) (length (held a))) (bad (firstFault 0 (held a)))
-    (pick (pastLimits e) malformed otherwise))
+    (pick (ltb (firstMarkFault (held a) 0 (heldMarks a)) (length (heldMarks a))) (bad (firstMarkFault (held a) 0 (heldMarks a)))
+    (pick (pastLimits e) malformed otherwise)))
 
 abbrev pub callAnswer : Lent → Entry → Verdict
 callAnswer a e = checks a e (λ (entry : ℕ). Refused (BadStore entry)) (Refused (Malformed 0)) (answer (stateIn a) e 0)

@@ -11,9 +11,12 @@ pub mod Going
 pub mod Interval
 pub mod Laid
 pub mod Lent
+pub mod MarkLaws
+pub mod Marks
 pub mod Naming
 pub mod Neighbours
 pub mod Offers
+pub mod Rising
 pub mod State
 pub mod Stored
 pub mod Unique

@@ -76,20 +76,6 @@ starts-above p floor (f ∷ l) a (suc i) h m =
     (λ g. all-above p f l a g (suc i) m)
     (lt-or-le (f .position) p)
 
--- the entry in the middle settles one half: all before it start below the position where it does, all after it at or above
-module _ (p floor : ℕ) (l : List Entry) (a : Ascending floor l) (mid : ℕ) where
-  pub lower-half : mid < length l → entryAt l mid .position < p → (i : ℕ) → i < mid + 1 → entryAt l i .position < p
-  lower-half m h i g =
-      ⊎-elim (λ less. omega (arith, ends-before floor l a i mid less m))
-      (λ same. let e : i ≡ mid = omega arith in rw e h)
-      (lt-or-le i mid)
-
-  pub upper-half : p ≤ entryAt l mid .position → (i : ℕ) → mid ≤ i → i < length l → p ≤ entryAt l i .position
-  upper-half h i g m =
-      ⊎-elim (λ more. omega (arith, ends-before floor l a mid i more m))
-      (λ same. let e : i ≡ mid = omega arith in rw e h)
-      (lt-or-le mid i)
-
 -- ---- a clash
 
 pub clash-above : (e f : Entry) → e .position ≤ f .position → 0 < f .size → f .position < end e → clashes e f ≡ true
@@ -199,3 +185,18 @@ module _ (l : List Entry) (a : Ascending 0 l) (e : Entry) (k : ℕ) (at : k ≡ 
 
       pub free : clashesAny e l ≡ false
       free = no-clash e l (λ i m. ⊎-elim (λ h. clear-below i h) (λ h. clear-above i h m) (lt-or-le i k))
+
+-- a position: the interval below it is the only one that it can be strictly inside of
+pub mark-below : (l : List Entry) → Ascending 0 l → (m k : ℕ) → k ≡ placeFor m l
+    → clashesAny (interval m 0) l ≡ clashes (interval m 0) (entryBefore l k)
+mark-below l a m k at =
+    ⊎-elim (λ hit. any-before (interval m 0) l k hit ∙ sym hit) (λ under. free l a (interval m 0) k at over under ∙ sym under)
+    (told (clashes (interval m 0) (entryBefore l k)))
+  where
+    over : clashes (interval m 0) (entryAt l k) ≡ false
+    over =
+        ⊎-elim
+        (λ inside. apart-above (interval m 0) (entryAt l k) (starts-above m 0 l a k (omega (arith, at)) inside)
+        (omega (arith, starts-above m 0 l a k (omega (arith, at)) inside)))
+        (λ past. ap (λ (f : Entry). clashes (interval m 0) f) (List·getD-eq-default l (interval 0 0) {n = k} past) ∙ empty-apart (interval m 0))
+        (lt-or-le k (length l))

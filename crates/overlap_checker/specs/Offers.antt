@@ -1,5 +1,5 @@
 -- An offer held against a list of intervals: its place among them, and the one that it clashes with.
-use mathlib.Core.Bool.{Bool, false, _&&_, _||_}
+use mathlib.Core.Bool.{Bool, false, _||_}
 use mathlib.Core.List.{List, [], _∷_}
 use Prim.Native.Nat.{ℕ, suc}
 use lib.Dec.{ltb, leb}
@@ -26,6 +26,7 @@ named l e =
     (entryAt l (placeFor (e .position) l))
     (entryBefore l (placeFor (e .position) l))
 
--- "the store holds 512 and the offer [is] of nonzero size"
-unfoldable pub lacksRoom : ℕ → ℕ → Bool
-lacksRoom count size = ltb 0 size && leb maxStored count
+-- "13: the store holds 512 and the offer, of nonzero size, shares no bit"; "13 also when 512 marks are kept and another is acceptable": no room for an
+-- offer of this size in a store of so many intervals and so many marks
+unfoldable pub lacksRoom : ℕ → ℕ → ℕ → Bool
+lacksRoom intervals marks size = leb maxStored (pick (ltb 0 size) intervals marks)

@@ -1,5 +1,6 @@
--- Refusal 12 names a stored interval that clashes with the offer: the lowest at or above it, or else the one below.
-use mathlib.Core.Path.{_≡_, refl, sym, ap, _∙_, subst}
+-- Refusal 12 names a stored interval that clashes with the offer: the lowest at or above it, or else the one below; where none clashes, the
+-- lowest mark strictly inside it.
+use mathlib.Core.Path.{_≡_, refl, sym, ap, ap₂, _∙_, subst}
 use mathlib.Core.Logic.{_⊎_, inl, inr, ⊎-elim}
 use mathlib.Core.Bool.{true, false, true≢false}
 use mathlib.Core.List.{List, [], _∷_, List·Memᴰ, List·Memᴰ·head, List·Memᴰ·tail, List·Memᴰ·cases-cons, List·Memᴰ·not-nil}
@@ -9,10 +10,16 @@ use native.Mathlib.Omega.{arith}
 use lib.ListN.{length, List·getD-eq-default}
 use Rattle.overlap_checker.specs.declared.Entry.{Entry}
 use Rattle.overlap_checker.specs.Entries.{entryAt}
-use Rattle.overlap_checker.specs.Interval.{interval, clashes}
-use Rattle.overlap_checker.specs.Naming.{LowestAbove, HighestBelow, IsNamed}
+use Rattle.overlap_checker.specs.Interval.{interval, StrictlyInside, clashes}
+use Rattle.overlap_checker.specs.Naming.{LowestAbove, HighestBelow, IsNamed, IsNamedMark, Named}
 use Rattle.overlap_checker.specs.Offers.{placeFor, clashesAny, named}
 use Rattle.overlap_checker.specs.Ascending.{told, lt-or-le, Ascending, sits-at, ends-before}
+use Rattle.overlap_checker.specs.Marks.{crossesAny, lowestInside}
+use Rattle.overlap_checker.specs.State.{State, namedIn, meets}
+use Rattle.overlap_checker.specs.Bits.{any-of}
+use Rattle.overlap_checker.specs.Rising.{Rising}
+use Rattle.overlap_checker.specs.MarkLaws.{lowest-least}
+use Rattle.overlap_checker.specs.Answers.{hit-either, named-interval, named-mark}
 use Rattle.overlap_checker.specs.Neighbours.{place-le, starts-below, starts-above, empty-apart, before-is, clear-above, free}
 
 -- ---- members and indices
@@ -140,3 +147,36 @@ named-once l a e f g p q =
 
     cross : {h k : Entry} → IsNamed l e k → IsNamed l e h → LowestAbove l e h → HighestBelow l e k → h ≡ k
     cross {h} {k} n m x y = absurd (true≢false (sym (m .clash) ∙ y .otherwise h (m .member) (x .starts)))
+
+-- ---- marks
+
+apart-from : (e : Entry) (l : List Entry) → clashesAny e l ≡ false → (g : Entry) → List·Memᴰ g l → clashes e g ≡ false
+apart-from e l none g m =
+    ⊎-elim (λ hit. absurd (true≢false (sym (any-of e l g m hit) ∙ none))) (λ out. out) (told (clashes e g))
+
+-- Where the offer meets something, what 12 names is what the rules say.
+pub named-as : (s : State) (e : Entry) → Ascending 0 (s .intervals) → Rising 0 (s .marks) → meets s e ≡ true → Named s e (namedIn s e)
+named-as s e up rise hit =
+    ⊎-elim
+    (λ clash. rw (named-interval s e clash) (inl (named-is (s .intervals) up e (placeFor (e .position) (s .intervals)) refl clash)))
+    (λ none. let cross : crossesAny e (s .marks) ≡ true =
+    ⊎-elim (λ clash. absurd (true≢false (sym clash ∙ none))) (λ c. c) (hit-either s e hit) in
+    let (member, inside, least) = lowest-least e 0 (s .marks) rise cross in
+    rw (named-mark s e none)
+    (inr
+    (record { clear = apart-from e (s .intervals) none; member = member; empty = refl; inside = inside; lowest = least })))
+    (told (clashesAny e (s .intervals)))
+
+-- Two that the rules name are one.
+pub named-one : (s : State) → Ascending 0 (s .intervals) → (e f g : Entry) → Named s e f → Named s e g → f ≡ g
+named-one s a e f g p q =
+    ⊎-elim
+    (λ i. ⊎-elim (λ j. named-once (s .intervals) a e f g i j) (λ j. absurd (true≢false (sym (i .clash) ∙ j .clear f (i .member)))) q)
+    (λ i. ⊎-elim (λ j. absurd (true≢false (sym (j .clash) ∙ i .clear g (j .member)))) (both i) q)
+    p
+  where
+    both : IsNamedMark (s .intervals) (s .marks) e f → IsNamedMark (s .intervals) (s .marks) e g → f ≡ g
+    both i j =
+        ap₂ interval
+        (omega (arith, i .lowest (g .position) (j .member) (j .inside), j .lowest (f .position) (i .member) (i .inside)))
+        (i .empty ∙ sym (j .empty))

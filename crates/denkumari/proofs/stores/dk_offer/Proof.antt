@@ -15,7 +15,7 @@ tell-offer-requires : tie.Need-tell-offer-requires
 tell-offer-requires c κs = search needs
 
 returns : tie.Need-returns
-returns c = told-call _ _ _ _ _ _ _ (c .before .check-and-insert .ensures) (c .tell-offer .ensures)
+returns c = told-call _ _ _ _ _ _ _ _ _ (c .before .check-and-insert .ensures) (c .tell-offer .ensures)
 
 pub dk-offer-spec : {M : Type 1} → statement M
 dk-offer-spec = tie.close (tie.spec check-and-insert-requires tell-offer-requires returns)

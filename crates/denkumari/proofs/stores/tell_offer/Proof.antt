@@ -37,7 +37,7 @@ returns-2 c =
     let s = told .before .before .before .before .before in
     rw (told .before .before .before .verdict .given .1)
     (c .tell-place .ensures
-    ∙ ap₂ (λ (n : ℕ) (p : Place). inFigures (refuses n p) (s .args .count)) (told .before .number .ensures) (told .place-of .ensures))
+    ∙ ap₂ (λ (n : ℕ) (p : Place). inFigures (refuses n p) (s .args .count) (s .args .marks)) (told .before .number .ensures) (told .place-of .ensures))
 
 pub tell-offer-spec : {M : Type 1} → statement M
 tell-offer-spec =
