@@ -9,7 +9,7 @@ beside the Rust and beside the proved program. Each part has the document's sent
     model.py --batch   many files, each behind four bytes of length, big-endian; a line for each"""
 
 import sys
-from bisect import bisect_left
+from bisect import bisect_left, bisect_right, insort
 from collections import namedtuple
 from struct import iter_unpack, unpack, unpack_from
 
@@ -274,11 +274,12 @@ class Passes:
 
 class Store:
     def __init__(self):
-        self.starts, self.ends = [], []
+        self.starts, self.ends, self.marks = [], [], []
 
     # "an offer of nonzero size is kept in ascending order if it shares no bit. Refusal 12 names the lowest stored start at or
     # above the offer if those two share a bit, otherwise the one below." "an offer of size 0 is refused exactly when its
-    # position is strictly inside a stored interval; otherwise it is accepted and not stored."
+    # position is strictly inside a stored interval; otherwise it is accepted" and remembered as a mark, apart from intervals: "A block is refused
+    # when a mark is strictly inside it", "naming the lowest such mark unless an interval is to be named".
     def offer(self, position, size, node):
         above = bisect_left(self.starts, position)
         end = position + size
@@ -286,11 +287,15 @@ class Store:
             raise self.names(above)
         if above > 0 and self.ends[above - 1] > position:
             raise self.names(above - 1)
-        if size == 0:
-            return
-        # 13: "the store holds 512 and the offer, of nonzero size, shares no bit"
-        if len(self.starts) == MAX_STORED:
+        past = bisect_right(self.marks, position)
+        if past < len(self.marks) and self.marks[past] < end:
+            raise Refused(12, self.marks[past], 0)
+        # 13: "the store holds 512 and the offer, of nonzero size, shares no bit"; "also when 512 marks are kept and another is acceptable"
+        if len(self.marks if size == 0 else self.starts) == MAX_STORED:
             raise Refused(13, node)
+        if size == 0:
+            insort(self.marks, position)
+            return
         self.starts.insert(above, position)
         self.ends.insert(above, end)
 

@@ -52,7 +52,7 @@ static void part(void)
 
 static void offer(void)
 {
-    refusal = dk_offer(positions, extents, 511, 2, 2).refusal;
+    refusal = dk_offer(positions, extents, 511, marks, 0, 2, 2).refusal;
 }
 
 /* The call to be made, and how much it took. */

@@ -17,7 +17,8 @@ use Rattle.iter.specs.declared.Distance.the-variants.{Bits}
 use Rattle.overlap_checker.specs.declared.Entry.{Entry}
 use Rattle.overlap_checker.specs.Interval.{interval, clashes, sharesBit, strictlyInside}
 use Rattle.overlap_checker.specs.Offers.{placeFor, clashesAny, named, lacksRoom}
-use Rattle.overlap_checker.specs.State.{emptyState, tries, answer, keeping, after}
+use Rattle.overlap_checker.specs.Marks.{countBelow, crossesAny, lowestInside}
+use Rattle.overlap_checker.specs.State.{emptyState, meets, tries, namedIn, answer, keeping, after}
 use Rattle.overlap_checker.specs.Folds.{stateAfter}
 use Rattle.resolver.specs.Cases.{answerFor}
 use Rattle.resolver.specs.Layout.{layoutOf}
@@ -98,9 +99,9 @@ pub record Cases : Type 0 where
   pub rows : map (λ (c : Case). c .got) table ≡ map (λ (c : Case). c .said) table
 
 every-row : map (λ (c : Case). c .got) table ≡ map (λ (c : Case). c .said) table
-unfolding distanceOf firstWhere firstPair fillFrom stateAfter after keeping tries placeFor clashesAny named lacksRoom clashes sharesBit
-    strictlyInside checked insertBy sortedBy spansOf blocksFrom layoutOf listsOf nodesTo settledBy first passTo listOf numeral bitAt digitAt
-    digitValue paddedBit
+unfolding distanceOf firstWhere firstPair fillFrom stateAfter after keeping tries meets namedIn countBelow crossesAny lowestInside placeFor
+    clashesAny named lacksRoom clashes sharesBit strictlyInside checked insertBy sortedBy spansOf blocksFrom layoutOf listsOf nodesTo settledBy
+    first passTo listOf numeral bitAt digitAt digitValue paddedBit
 every-row = refl
 
 pub cases : Cases

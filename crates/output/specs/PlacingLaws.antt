@@ -218,7 +218,8 @@ inserted-old l e f m = around (List·Memᴰ·append-cases (take place l) (rw tak
     around (inr b) = Memᴰ·append-right (take place l) (List·Memᴰ·tail b)
 
 keeps-one : (s : State) (e f : Entry) → List·Memᴰ f (s .intervals) → List·Memᴰ f (after s e .intervals)
-keeps-one s e f m = after-either s e (λ (t : State). List·Memᴰ f (t .intervals)) m (λ clear some room. inserted-old (s .intervals) e f m)
+keeps-one s e f m =
+    after-either s e (λ (t : State). List·Memᴰ f (t .intervals)) m (λ clear some room. inserted-old (s .intervals) e f m) (λ clear none room. m)
 
 keeps-stored : (s : State) (es : List Entry) (f : Entry) → List·Memᴰ f (s .intervals) → List·Memᴰ f (stateAfter s es .intervals)
 unfolding stateAfter

@@ -1,5 +1,5 @@
 -- Refusals 9 to 13, each with what it is given for exactly: "The build walks the nodes and tries 9, 10, 11, 12, 13 at each."
-use mathlib.Core.Path.{_≡_, refl, sym, ap, subst, _∙_}
+use mathlib.Core.Path.{_≡_, refl, sym, ap, ap₂, subst, _∙_}
 use mathlib.Core.Bool.{Bool, true, false, _&&_}
 use mathlib.Core.List.{List, [], _∷_, List·Memᴰ}
 use mathlib.Core.List.{List·Permᴰ, List·Permᴰ·nil, List·Permᴰ·cons, List·Permᴰ·swap, List·Permᴰ·trans}
@@ -33,15 +33,14 @@ use Rattle.resolver.specs.Lists.{firstOf}
 use Rattle.resolver.specs.declared.Settled.{Settled}
 use Rattle.resolver.specs.declared.Settled.the-variants.{At, Refused as Unsettled}
 use Rattle.overlap_checker.specs.declared.Entry.{Entry}
-use Rattle.overlap_checker.specs.Interval.{StrictlyInside}
+use Rattle.overlap_checker.specs.Interval.{interval, StrictlyInside}
 use Rattle.overlap_checker.specs.State.{State, emptyState, answer}
-use Rattle.overlap_checker.specs.Folds.{stateAfter, accepted, nonzero, AllWithin, SharesBitWith, RefusedBy}
+use Rattle.overlap_checker.specs.Folds.{stateAfter, accepted, nonzero, empties, AllWithin, SharesBitWith, CoversMark, HasInside, InsideOf, RefusedBy}
 use Rattle.overlap_checker.specs.Answers.{three-ways, answer-overlaps, answer-full, answer-passes}
-use Rattle.overlap_checker.specs.Ascending.{Ascending}
-use Rattle.overlap_checker.specs.Going.{fits-empty, fits-folded}
-use Rattle.overlap_checker.specs.Naming.{IsNamed}
-use Rattle.overlap_checker.specs.WhatIsStored.{stored-accepted, accepted-stored}
-use Rattle.overlap_checker.specs.Demand3.{overlap-offered, full-offered, full-place, empty-offered, empty-only, overlap-names, stored-is-accepted, stored-few}
+use Rattle.overlap_checker.specs.Going.{Fits, fits-empty, fits-folded}
+use Rattle.overlap_checker.specs.Naming.{Named}
+use Rattle.overlap_checker.specs.WhatIsStored.{stored-accepted, accepted-stored, mark-accepted, accepted-mark}
+use Rattle.overlap_checker.specs.Demand3.{overlap-offered, full-offered, full-place, empty-offered, mark-full-offered, overlap-names, stored-is-accepted, marks-are-accepted, stored-few, marks-few}
 use Rattle.output.specs.declared.visits.Visit.{Visit}
 use Rattle.output.specs.declared.Build.{Build}
 use Rattle.output.specs.declared.Build.the-variants.{Done, Refused}
@@ -372,7 +371,7 @@ module _ (c : Call) (n : ℕ) (r : Reaches c n) where
 abbrev pub offersBefore : Call → ℕ → List Entry
 offersBefore c n = offersOf (visitsBefore c n)
 
-perm-length : {k l : List Entry} → List·Permᴰ k l → length k ≡ length l
+perm-length : {A : Type 0} {k l : List A} → List·Permᴰ k l → length k ≡ length l
 perm-length List·Permᴰ·nil = refl
 perm-length (List·Permᴰ·cons e d) = ap suc (perm-length d)
 perm-length (List·Permᴰ·swap e g) = refl
@@ -438,27 +437,56 @@ module _ (c : Call) (n : ℕ) (r : Reaches c n) (p : GetsPast c n r) (e : Entry)
     λ w. (w .0, w .1, offers-are-stored (w .0) (w .2) (omega (arith, w .4 .0, w .4 .1)), w .3, w .4),
   )
 
+  -- the marks kept are the offers of size 0 of the nodes before
+  marks-before : HasInside e (r .stored .marks) ↔ CoversMark e (offersBefore c n)
+  marks-before = (
+    λ w.
+        let m = mark-accepted (offersBefore c n) (w .0) (subst (λ (s : State). List·Memᴰ (w .0) (s .marks)) stored-is (w .1)) in (
+          m .0,
+          subst (λ (l : List Entry). List·Memᴰ (m .0) l) all-accepted (m .1),
+          m .2,
+          subst (λ (k : ℕ). StrictlyInside k e) (sym (m .3)) (w .2),
+        ),
+    λ w. (
+      w .0 .position,
+      subst (λ (s : State). List·Memᴰ (w .0 .position) (s .marks)) (sym stored-is)
+          (accepted-mark (offersBefore c n) (w .0) (w .2) (subst (λ (l : List Entry). List·Memᴰ (w .0) l) (sym all-accepted) (w .1))),
+      w .3,
+    ),
+  )
+
   any-place : (number : ℕ) → 12 ≤ number → ((place : Place) × RefusedThere c n number place) ↔ RefusedBy number (answer (r .stored) e n)
   any-place number high = (
     λ t. (t .0, refused-by-store number (t .0) high .0 (t .1)),
     λ t. (t .0, refused-by-store number (t .0) high .1 (t .1)),
   )
 
-  -- "12: a placement overlaps": refused there exactly when some bit belongs to node n's placement and to that of a node before it.
-  pub refused-12-exactly : 0 < e .size → ((place : Place) × RefusedThere c n 12 place) ↔ SharesBitWith e (offersBefore c n)
+  -- "12: a placement overlaps": refused there exactly when some bit belongs to node n's placement and to that of a node before it, "or when an earlier
+  -- accepted mark is strictly inside it".
+  pub refused-12-exactly : 0 < e .size
+      → ((place : Place) × RefusedThere c n 12 place) ↔ (SharesBitWith e (offersBefore c n) ⊎ CoversMark e (offersBefore c n))
   refused-12-exactly some = (
-    λ t. shares-before .0 (overlap-offered (r .stored) e n some .0 (any-place 12 (omega arith) .0 t)),
-    λ w. any-place 12 (omega arith) .1 (overlap-offered (r .stored) e n some .1 (shares-before .1 w)),
+    λ t.
+        ⊎-elim (λ w. inl (shares-before .0 w)) (λ w. inr (marks-before .0 w))
+        (overlap-offered (r .stored) e n some .0 (any-place 12 (omega arith) .0 t)),
+    λ h.
+        any-place 12 (omega arith) .1
+        (overlap-offered (r .stored) e n some .1 (⊎-elim (λ w. inl (shares-before .1 w)) (λ w. inr (marks-before .1 w)) h)),
   )
 
-  -- "an offer of size 0 is refused exactly when its position is strictly inside a stored interval"
+  -- strictly inside a stored interval is strictly inside the placement of a node before
+  inside-before : InsideOf (e .position) (r .stored .intervals) ↔ InsideOf (e .position) (offersBefore c n)
+  inside-before = (
+    λ w. (w .0, stored-from-offers (w .0) (w .1), w .2),
+    λ w. (w .0, offers-are-stored (w .0) (w .1) (omega (arith, w .2 .0, w .2 .1)), w .2),
+  )
+
+  -- "an offer of size 0 is refused exactly when its position is strictly inside a stored interval", or 513 marks would be kept
   pub refused-12-empty-exactly : e .size ≡ 0
-      → ((place : Place) × RefusedThere c n 12 place) ↔ ((f : Entry) × List·Memᴰ f (offersBefore c n) × StrictlyInside (e .position) f)
+      → ((place : Place) × RefusedThere c n 12 place) ↔ InsideOf (e .position) (offersBefore c n)
   refused-12-empty-exactly none = (
-    λ t. let w = empty-offered (r .stored) e n none .0 (any-place 12 (omega arith) .0 t) in (w .0, stored-from-offers (w .0) (w .1), w .2),
-    λ w.
-        any-place 12 (omega arith) .1
-        (empty-offered (r .stored) e n none .1 (w .0, offers-are-stored (w .0) (w .1) (omega (arith, w .2 .0, w .2 .1)), w .2)),
+    λ t. inside-before .0 (empty-offered (r .stored) e n none .0 (any-place 12 (omega arith) .0 t)),
+    λ w. any-place 12 (omega arith) .1 (empty-offered (r .stored) e n none .1 (inside-before .1 w)),
   )
 
   -- "13: the store holds 512 and the offer, of nonzero size, shares no bit": 512 of the placements before are of nonzero size.
@@ -468,31 +496,62 @@ module _ (c : Call) (n : ℕ) (r : Reaches c n) (p : GetsPast c n r) (e : Entry)
       ∙ perm-length (stored-is-accepted (offersBefore c n))
       ∙ ap (λ (l : List Entry). length (nonzero l)) all-accepted
 
+  marks-many : length (r .stored .marks) ≡ length (empties (offersBefore c n))
+  marks-many =
+      ap (λ (s : State). length (s .marks)) stored-is
+      ∙ perm-length (marks-are-accepted (offersBefore c n))
+      ∙ ap (λ (l : List Entry). length (empties l)) all-accepted
+
   few-stored : length (r .stored .intervals) ≤ maxStored
   few-stored = subst (λ (s : State). length (s .intervals) ≤ maxStored) (sym stored-is) (stored-few (offersBefore c n))
 
+  few-marks : length (r .stored .marks) ≤ maxStored
+  few-marks = subst (λ (s : State). length (s .marks) ≤ maxStored) (sym stored-is) (marks-few (offersBefore c n))
+
+  -- 13, and it has the node as its place: 512 are stored, no bit is shared, "and no accepted mark is strictly inside it";
   pub refused-13-exactly : 0 < e .size
-      → RefusedThere c n 13 (One n) ↔ ((length (nonzero (offersBefore c n)) ≡ maxStored) × (SharesBitWith e (offersBefore c n) → ⊥))
+      → RefusedThere c n 13 (One n)
+      ↔ ((length (nonzero (offersBefore c n)) ≡ maxStored) × (SharesBitWith e (offersBefore c n) → ⊥) × (CoversMark e (offersBefore c n) → ⊥))
   refused-13-exactly some =
       let offered = full-offered (r .stored) e n few-stored some in (
         λ t.
             let h = offered .0 (any-place 13 (omega arith) .0 (One n, t)) in
-            (sym stored-many ∙ h .0, λ w. h .1 (shares-before .1 w)),
+            (sym stored-many ∙ h .0, λ w. h .1 (shares-before .1 w), λ w. h .2 (marks-before .1 w)),
         λ h.
             refused-by-store 13 (One n) (omega arith) .1
-            (full-place (r .stored) e n (offered .1 (stored-many ∙ h .0, λ w. h .1 (shares-before .0 w)))),
+            (full-place (r .stored) e n
+            (offered .1 (stored-many ∙ h .0, λ w. h .1 (shares-before .0 w), λ w. h .2 (marks-before .0 w)))),
       )
 
-  -- an offer of size 0 is never refused 13
-  pub empty-never-13 : e .size ≡ 0 → (place : Place) → RefusedThere c n 13 place → ⊥
-  empty-never-13 none place t =
-      let z : _≡_ {A = ℕ} 13 12 = empty-only (r .stored) e n none 13 (omega arith) (any-place 13 (omega arith) .0 (place, t)) in omega arith
+  -- a mark is refused 13, at its node, exactly when 512 marks are kept and it is strictly inside no placement before.
+  pub refused-13-empty-exactly : e .size ≡ 0
+      → RefusedThere c n 13 (One n)
+      ↔ ((length (empties (offersBefore c n)) ≡ maxStored) × (InsideOf (e .position) (offersBefore c n) → ⊥))
+  refused-13-empty-exactly none =
+      let offered = mark-full-offered (r .stored) e n few-marks none in (
+        λ t.
+            let h = offered .0 (any-place 13 (omega arith) .0 (One n, t)) in
+            (sym marks-many ∙ h .0, λ w. h .1 (inside-before .1 w)),
+        λ h.
+            refused-by-store 13 (One n) (omega arith) .1
+            (full-place (r .stored) e n (offered .1 (marks-many ∙ h .0, λ w. h .1 (inside-before .0 w)))),
+      )
 
-  -- "Refusal 12 names the lowest stored start at or above the offer if those two share a bit, otherwise the one below."
+  -- "Refusal 12 names the lowest stored start at or above the offer if those two share a bit, otherwise the one below", "naming the lowest such mark
+  -- unless an interval is to be named".
   pub refused-12-names : AllWithin (offersBefore c n) → (place : Place) → RefusedThere c n 12 place
-      → (f : Entry) × (place ≡ Two (f .position) (f .size)) × List·Memᴰ f (offersBefore c n) × IsNamed (r .stored .intervals) e f
+      → (f : Entry) × (place ≡ Two (f .position) (f .size)) × List·Memᴰ f (offersBefore c n) × Named (r .stored) e f
   refused-12-names within place t =
-      let up = subst (λ (s : State). Ascending 0 (s .intervals)) (sym stored-is) (fits-folded emptyState (offersBefore c n) within fits-empty .up) in
+      let fits = subst Fits (sym stored-is) (fits-folded emptyState (offersBefore c n) within fits-empty) in
       let told = refused-by-store 12 place (omega arith) .0 t in
-      let (f, named, is) = overlap-names (r .stored) e n up (place, told) in
-      (f, same-told (sym told ∙ named) .1, stored-from-offers f (is .member), is)
+      let (f, named, is) = overlap-names (r .stored) e n fits (place, told) in
+      (f, same-told (sym told ∙ named) .1, from-offers f is, is)
+    where
+      -- what is named, an interval or a mark, is an offer of a node before
+      from-offers : (f : Entry) → Named (r .stored) e f → List·Memᴰ f (offersBefore c n)
+      from-offers f (inl is) = stored-from-offers f (is .member)
+      from-offers f (inr is) =
+          let m = mark-accepted (offersBefore c n) (f .position) (subst (λ (s : State). List·Memᴰ (f .position) (s .marks)) stored-is (is .member)) in
+          let same : m .0 ≡ f = ap₂ interval (m .3) (m .2 ∙ sym (is .empty)) in
+          subst (λ (g : Entry). List·Memᴰ g (offersBefore c n)) same
+          (subst (λ (l : List Entry). List·Memᴰ (m .0) l) all-accepted (m .1))

@@ -118,36 +118,50 @@ fn offer_node(
     positions: &mut [u64; 512],
     sizes: &mut [u64; 512],
     count: usize,
+    marks: &mut [u64; 512],
+    mark_count: usize,
 ) -> Offered
-    requires { ⌜ Sound (store (now positions) (now sizes) count) ⌝ }
+    requires { ⌜ Sound (store (now positions) (now sizes) count (now marks) «mark_count») ⌝ }
     requires { ⌜ isPlaced node ≡ true ⌝ }
     requires { ⌜ ((o : ℕ) → out ≡ Out o → o ≤ maxOffer) ⌝ }
     ensures { λ r. ⌜
-        r .verdict ≡ answered (stateIn (store (now (positions .entry)) (now (sizes .entry)) count)) (node .index) (offerAt node out)
+        r .verdict ≡ answered (stateIn (store (now (positions .entry)) (now (sizes .entry)) count (now (marks .entry)) «mark_count»))
+        (node .index) (offerAt node out)
         ⌝ }
     ensures { λ r. ⌜
-        Goes (store (now (positions .entry)) (now (sizes .entry)) count) (offerAt node out) (r .verdict)
-        (store (now (positions .exit)) (now (sizes .exit)) (r .count))
+        Goes (store (now (positions .entry)) (now (sizes .entry)) count (now (marks .entry)) «mark_count») (offerAt node out) (r .verdict)
+        (store (now (positions .exit)) (now (sizes .exit)) (r .count) (now (marks .exit)) (r .marks))
         ⌝ }
 {
     match out {
         Offset::None => Offered {
             verdict: Verdict::Accepted,
             count,
+            marks: mark_count,
         },
         Offset::At(o) => {
             if node.kind == 2 {
                 return Offered {
                     verdict: Verdict::Accepted,
                     count,
+                    marks: mark_count,
                 };
             }
-            overlap_checker::offer(positions, sizes, count, o, node.number as u64, node.index)
+            overlap_checker::offer(
+                positions,
+                sizes,
+                count,
+                marks,
+                mark_count,
+                o,
+                node.number as u64,
+                node.index,
+            )
         }
     }
 }
 
-// The verdict on a node by the position that it sees: 5 or 6 where the walk stops there, then 9 to 13. And how many are stored then.
+// The verdict on a node by the position that it sees: 5 or 6 where the walk stops there, then 9 to 13. And how many intervals and marks are stored then.
 fn place(
     banks: u64,
     bank: u64,
@@ -158,27 +172,32 @@ fn place(
     positions: &mut [u64; 512],
     sizes: &mut [u64; 512],
     count: usize,
+    marks: &mut [u64; 512],
+    mark_count: usize,
 ) -> Offered
-    requires { ⌜ Sound (store (now positions) (now sizes) count) ⌝ }
+    requires { ⌜ Sound (store (now positions) (now sizes) count (now marks) «mark_count») ⌝ }
     requires { ⌜ ((o : ℕ) → out ≡ Out o → o ≤ maxOffer) ⌝ }
     ensures { λ r. ⌜
-        r .verdict ≡ verdictSeen banks bank def (stateIn (store (now (positions .entry)) (now (sizes .entry)) count)) node out seen
+        r .verdict ≡ verdictSeen banks bank def
+        (stateIn (store (now (positions .entry)) (now (sizes .entry)) count (now (marks .entry)) «mark_count»)) node out seen
         ⌝ }
     ensures { λ r. ⌜
-        Goes (store (now (positions .entry)) (now (sizes .entry)) count) (offerAt node out) (r .verdict)
-        (store (now (positions .exit)) (now (sizes .exit)) (r .count))
+        Goes (store (now (positions .entry)) (now (sizes .entry)) count (now (marks .entry)) «mark_count») (offerAt node out) (r .verdict)
+        (store (now (positions .exit)) (now (sizes .exit)) (r .count) (now (marks .exit)) (r .marks))
         ⌝ }
 {
     match seen {
         Moved::Refused(why) => Offered {
             verdict: Verdict::Refused(why),
             count,
+            marks: mark_count,
         },
         Moved::To(at) => {
             if !is_placed(node) {
                 return Offered {
                     verdict: Verdict::Accepted,
                     count,
+                    marks: mark_count,
                 };
             }
             let checked = check_place(banks, bank, def, node, at, out);
@@ -186,8 +205,11 @@ fn place(
                 Verdict::Refused(why) => Offered {
                     verdict: Verdict::Refused(why),
                     count,
+                    marks: mark_count,
                 },
-                Verdict::Accepted => offer_node(node, out, positions, sizes, count),
+                Verdict::Accepted => {
+                    offer_node(node, out, positions, sizes, count, marks, mark_count)
+                }
             }
         }
     }
@@ -258,6 +280,8 @@ pub fn plan_row(
     let mut positions = [0u64; 512];
     let mut sizes = [0u64; 512];
     let mut count: usize = 0;
+    let mut marks = [0u64; 512];
+    let mut mark_count: usize = 0;
     let mut walk = iter::start();
     let mut reach = fill;
     let mut spans: u64 = 0;
@@ -278,6 +302,8 @@ pub fn plan_row(
             &mut positions,
             &mut sizes,
             count,
+            &mut marks,
+            mark_count,
         );
         let verdict = offered.verdict;
         if let Verdict::Refused(_) = verdict {
@@ -288,6 +314,7 @@ pub fn plan_row(
             };
         }
         count = offered.count;
+        mark_count = offered.marks;
         reach = length_after(node, out, reach);
         spans = spans_after(node, spans);
         walk = v.walk;

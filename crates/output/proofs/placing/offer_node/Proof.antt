@@ -30,8 +30,8 @@ returns c =
     let s = c .before .before .before .before .before in
     let a = s .args in
     let none = offers-label (a .node) (a .out) (c .if1 .taken) in (
-      answered-none (stateIn (store (a .positions .now) (a .sizes .now) (a .count))) (a .node .index) (offerAt (a .node) (a .out)) none,
-      goes-none (store (a .positions .now) (a .sizes .now) (a .count)) (offerAt (a .node) (a .out)) (s .pre .0) none,
+      answered-none (stateIn (store (a .positions .now) (a .sizes .now) (a .count) (a .marks .now) (a .mark-count))) (a .node .index) (offerAt (a .node) (a .out)) none,
+      goes-none (store (a .positions .now) (a .sizes .now) (a .count) (a .marks .now) (a .mark-count)) (offerAt (a .node) (a .out)) (s .pre .0) none,
     )
 
 -- src/placing.rt:132:17
@@ -41,12 +41,12 @@ cast-offer c = search needs
 -- src/placing.rt:127:13
 offer-requires : tie.Need-offer-requires
 offer-requires c κs =
-    let s = c .before .before .before .before .before .before .before .before in
-    let known = c .before .before .before .before .before .before .out .given in
+    let s = c .before .before .before .before .before .before .before .before .before in
+    let known = c .before .before .before .before .before .before .before .out .given in
     (s .pre .0, (s .pre .1 .1 (known .0 .0) (known .1), search needs))
 
 -- a node's number is within an offer's limits, by its type
-small : (c : tie.After-struct-known2) → c .before .before .before .before .before .before .before .before .args .node .number ≤ maxPosition
+small : (c : tie.After-struct-known2) → c .before .before .before .before .before .before .before .before .before .args .node .number ≤ maxPosition
 small c = search needs
 
 -- src/placing.rt:108:1
@@ -55,22 +55,22 @@ returns-2 c =
     let s = c .before .before in
     let a = s .args in
     let none : offerAt (a .node) (a .out) ≡ mathlib.Core.List.[] = rw (c .enum-told .given .1) (offers-nowhere (a .node)) in (
-      answered-none (stateIn (store (a .positions .now) (a .sizes .now) (a .count))) (a .node .index) (offerAt (a .node) (a .out)) none,
-      goes-none (store (a .positions .now) (a .sizes .now) (a .count)) (offerAt (a .node) (a .out)) (s .pre .0) none,
+      answered-none (stateIn (store (a .positions .now) (a .sizes .now) (a .count) (a .marks .now) (a .mark-count))) (a .node .index) (offerAt (a .node) (a .out)) none,
+      goes-none (store (a .positions .now) (a .sizes .now) (a .count) (a .marks .now) (a .mark-count)) (offerAt (a .node) (a .out)) (s .pre .0) none,
     )
 
 -- src/placing.rt:108:1
 returns-3 : tie.Need-returns-3
 returns-3 c =
-    let s = c .before .before .before .before .before .before .before .before .before in
+    let s = c .before .before .before .before .before .before .before .before .before .before in
     let a = s .args in
-    let known = c .before .before .before .before .before .before .before .out .given in
-    let other = ne-eqb (a .node .kind) 2 (c .before .before .before .before .if1 .left) in
+    let known = c .before .before .before .before .before .before .before .before .out .given in
+    let other = ne-eqb (a .node .kind) 2 (c .before .before .before .before .before .if1 .left) in
     let within : Within (interval (known .0 .0) (a .node .number)) = (s .pre .1 .1 (known .0 .0) (known .1), small (c .before)) in
     let e = interval (known .0 .0) (a .node .number) in
     let made : offerAt (a .node) (a .out) ≡ mathlib.Core.List._∷_ e mathlib.Core.List.[] = rw (known .1) (offers-one (a .node) (known .0 .0) (s .pre .1 .0) other) in (
-      answered-one (stateIn (store (a .positions .now) (a .sizes .now) (a .count))) e (a .node .index) (offerAt (a .node) (a .out)) made (c .offer .result .verdict) (c .offer .ensures .verdict),
-      goes-offered (store (a .positions .now) (a .sizes .now) (a .count)) e (a .node .index) (offerAt (a .node) (a .out)) made (s .pre .0) within
+      answered-one (stateIn (store (a .positions .now) (a .sizes .now) (a .count) (a .marks .now) (a .mark-count))) e (a .node .index) (offerAt (a .node) (a .out)) made (c .offer .result .verdict) (c .offer .ensures .verdict),
+      goes-offered (store (a .positions .now) (a .sizes .now) (a .count) (a .marks .now) (a .mark-count)) e (a .node .index) (offerAt (a .node) (a .out)) made (s .pre .0) within
           (c .offer .result .verdict) _ (c .offer .ensures),
     )
 

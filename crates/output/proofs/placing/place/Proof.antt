@@ -32,8 +32,8 @@ returns c =
     let a = s .args in
     let known = c .before .before .before .seen2 .given in
     let none = sym (c .before .is-placed .ensures) ∙ not-true _ (c .if1 .taken) in (
-      verdict-unplaced (a .banks) (a .bank) (a .def) (stateIn (store (a .positions .now) (a .sizes .now) (a .count))) (a .node) (a .out) (a .seen) (known .0 .0) (known .1) none,
-      goes-none (store (a .positions .now) (a .sizes .now) (a .count)) (offerAt (a .node) (a .out)) (s .pre .0) (offers-unplaced (a .node) (a .out) none),
+      verdict-unplaced (a .banks) (a .bank) (a .def) (stateIn (store (a .positions .now) (a .sizes .now) (a .count) (a .marks .now) (a .mark-count))) (a .node) (a .out) (a .seen) (known .0 .0) (known .1) none,
+      goes-none (store (a .positions .now) (a .sizes .now) (a .count) (a .marks .now) (a .mark-count)) (offerAt (a .node) (a .out)) (s .pre .0) (offers-unplaced (a .node) (a .out) none),
     )
 
 -- src/placing.rt:165:17
@@ -51,16 +51,16 @@ enum-told c = search needs
 -- src/placing.rt:168:38
 offer-node-requires : tie.Need-offer-node-requires
 offer-node-requires c κs =
-    let s = c .before .before .before .before .before .before .before .before .before .before in
-    (s .pre .0, (sym (c .before .before .before .before .before .before .is-placed .ensures) ∙ not-false _ (c .before .before .before .before .before .if1 .left), s .pre .1))
+    let s = c .before .before .before .before .before .before .before .before .before .before .before in
+    (s .pre .0, (sym (c .before .before .before .before .before .before .before .is-placed .ensures) ∙ not-false _ (c .before .before .before .before .before .before .if1 .left), s .pre .1))
 
 -- src/placing.rt:142:1
 returns-2 : tie.Need-returns-2
 returns-2 c =
     let a = c .before .before .before .args in
     let known = c .before .seen .given in (
-      verdict-stopped (a .banks) (a .bank) (a .def) (stateIn (store (a .positions .now) (a .sizes .now) (a .count))) (a .node) (a .out) (a .seen) (known .0 .0) (known .1),
-      goes-refused (store (a .positions .now) (a .sizes .now) (a .count)) (offerAt (a .node) (a .out)) (known .0 .0) (c .before .before .before .pre .0),
+      verdict-stopped (a .banks) (a .bank) (a .def) (stateIn (store (a .positions .now) (a .sizes .now) (a .count) (a .marks .now) (a .mark-count))) (a .node) (a .out) (a .seen) (known .0 .0) (known .1),
+      goes-refused (store (a .positions .now) (a .sizes .now) (a .count) (a .marks .now) (a .mark-count)) (offerAt (a .node) (a .out)) (known .0 .0) (c .before .before .before .pre .0),
     )
 
 -- src/placing.rt:142:1
@@ -71,20 +71,20 @@ returns-3 c =
     let known = c .before .before .before .before .before .before .before .seen2 .given in
     let placed = sym (c .before .before .before .before .before .is-placed .ensures) ∙ not-false _ (c .before .before .before .before .if1 .left) in
     let why = c .before .checked .given in (
-      verdict-checked (a .banks) (a .bank) (a .def) (stateIn (store (a .positions .now) (a .sizes .now) (a .count))) (a .node) (a .out) (a .seen) (known .0 .0) (known .1) placed
+      verdict-checked (a .banks) (a .bank) (a .def) (stateIn (store (a .positions .now) (a .sizes .now) (a .count) (a .marks .now) (a .mark-count))) (a .node) (a .out) (a .seen) (known .0 .0) (known .1) placed
           (c .before .before .before .check-place .result) (c .before .before .before .check-place .ensures) (why .0 .0) (why .1),
-      goes-refused (store (a .positions .now) (a .sizes .now) (a .count)) (offerAt (a .node) (a .out)) (why .0 .0) (s .pre .0),
+      goes-refused (store (a .positions .now) (a .sizes .now) (a .count) (a .marks .now) (a .mark-count)) (offerAt (a .node) (a .out)) (why .0 .0) (s .pre .0),
     )
 
 -- src/placing.rt:142:1
 returns-4 : tie.Need-returns-4
 returns-4 c =
-    let s = c .before .before .before .before .before .before .before .before .before .before .before in
+    let s = c .before .before .before .before .before .before .before .before .before .before .before .before in
     let a = s .args in
-    let known = c .before .before .before .before .before .before .before .before .before .seen2 .given in
-    let placed = sym (c .before .before .before .before .before .before .before .is-placed .ensures) ∙ not-false _ (c .before .before .before .before .before .before .if1 .left) in (
-      verdict-offered (a .banks) (a .bank) (a .def) (stateIn (store (a .positions .now) (a .sizes .now) (a .count))) (a .node) (a .out) (a .seen) (known .0 .0) (known .1) placed
-          (c .before .before .before .before .before .check-place .result) (c .before .before .before .before .before .check-place .ensures) (c .before .before .before .enum-told .given .1) (c .offer-node .result .verdict) (c .offer-node .ensures .0),
+    let known = c .before .before .before .before .before .before .before .before .before .before .seen2 .given in
+    let placed = sym (c .before .before .before .before .before .before .before .before .is-placed .ensures) ∙ not-false _ (c .before .before .before .before .before .before .before .if1 .left) in (
+      verdict-offered (a .banks) (a .bank) (a .def) (stateIn (store (a .positions .now) (a .sizes .now) (a .count) (a .marks .now) (a .mark-count))) (a .node) (a .out) (a .seen) (known .0 .0) (known .1) placed
+          (c .before .before .before .before .before .before .check-place .result) (c .before .before .before .before .before .before .check-place .ensures) (c .before .before .before .before .enum-told .given .1) (c .offer-node .result .verdict) (c .offer-node .ensures .0),
       c .offer-node .ensures .1,
     )
 

@@ -16,11 +16,11 @@ use Rattle.output.proofs.placing.spans_after.Reads as spans-after-reads
 use Rattle.output.proofs.visits.visit_node.Reads as visit-node-reads
 
 abbrev Inv-loop : tie.InvT-loop
-Inv-loop banks kinds operands first numbers states fill positions₀ sizes₀ count₀ walk₀ reach₀ spans₀ i₀ positions sizes count walk reach spans i =
-    Going (programOf banks kinds operands first) (rowOf numbers states) fill i walk positions sizes count reach spans
+Inv-loop banks kinds operands first numbers states fill positions₀ sizes₀ count₀ marks₀ mark-count₀ walk₀ reach₀ spans₀ i₀ positions sizes count marks mark-count walk reach spans i =
+    Going (programOf banks kinds operands first) (rowOf numbers states) fill i walk positions sizes count marks mark-count reach spans
 
 abbrev μ-loop : tie.MeasureT-loop
-μ-loop banks kinds operands first numbers states fill positions₀ sizes₀ count₀ walk₀ reach₀ spans₀ i₀ positions sizes count walk reach spans i =
+μ-loop banks kinds operands first numbers states fill positions₀ sizes₀ count₀ marks₀ mark-count₀ walk₀ reach₀ spans₀ i₀ positions sizes count marks mark-count walk reach spans i =
     lib.ListN.length kinds - i
 
 -- src/placing.rt:267:9
@@ -39,7 +39,7 @@ visit-node-requires c κs = search needs
 
 -- src/placing.rt:277:13
 place-requires : tie.Need-place-requires Inv-loop μ-loop
-place-requires c κs = (c .before .before .before .before .before .before .loop .inv .sound, c .before .before .before .before .visit-node .ensures .1)
+place-requires c κs = (c .before .before .before .before .before .before .before .loop .inv .sound, c .before .before .before .before .before .visit-node .ensures .1)
 
 -- src/placing.rt:289:13
 enum-told : tie.Need-enum-told Inv-loop μ-loop
@@ -48,48 +48,48 @@ enum-told c = search needs
 -- src/placing.rt:289:13
 returns : tie.Need-returns Inv-loop μ-loop
 returns c =
-    let loop = c .before .before .before .before .before .before .before .before .before in
-    let a = c .before .before .before .before .before .before .before .before .before .before .before .before .before .before .before .before .args in
+    let loop = c .before .before .before .before .before .before .before .before .before .before in
+    let a = c .before .before .before .before .before .before .before .before .before .before .before .before .before .before .before .before .before .args in
     let p = programOf (a .banks) (a .kinds .now) (a .operands .now) (a .first .now) in
     let row = rowOf (a .numbers .now) (a .states .now) in
     let at = loop .loop in
-    let visit = c .before .before .before .before .before .before .before .visit-node in
+    let visit = c .before .before .before .before .before .before .before .before .visit-node in
     let placed = c .before .before .place in
     let told = c .enum-told .given in
-    settles p row (a .fill) (at .i) (at .walk) (at .positions) (at .sizes) (at .count) (at .reach) (at .spans) (at .inv) (visit .result) (visit .ensures .0) (placed .result .verdict) (placed .ensures .0)
-    (told .0 .0) (c .before .before .before .before .before .before .before .before .loop-test .taken) (told .1)
+    settles p row (a .fill) (at .i) (at .walk) (at .positions) (at .sizes) (at .count) (at .marks) (at .mark-count) (at .reach) (at .spans) (at .inv) (visit .result) (visit .ensures .0) (placed .result .verdict) (placed .ensures .0)
+    (told .0 .0) (c .before .before .before .before .before .before .before .before .before .loop-test .taken) (told .1)
 
 enum-told-2 : tie.Need-enum-told-2 Inv-loop μ-loop
 enum-told-2 c = search needs
 
 -- src/placing.rt:296:9
 length-after-requires : tie.Need-length-after-requires Inv-loop μ-loop
-length-after-requires c κs = (c .before .before .before .before .before .before .before .visit-node .ensures .1, c .before .before .before .before .before .before .before .before .before .loop .inv .low)
+length-after-requires c κs = (c .before .before .before .before .before .before .before .before .visit-node .ensures .1, c .before .before .before .before .before .before .before .before .before .before .loop .inv .low)
 
 -- src/placing.rt:297:9
 spans-after-requires : tie.Need-spans-after-requires Inv-loop μ-loop
-spans-after-requires c κs = omega (arith, c .before .before .before .before .before .before .before .before .before .before .loop .inv .few, c .before .before .before .before .before .before .before .before .before .before .loop .inv .within, c .before .before .before .before .before .before .before .before .before .before .before .before .before .before .before .before .before .pre .1)
+spans-after-requires c κs = omega (arith, c .before .before .before .before .before .before .before .before .before .before .before .loop .inv .few, c .before .before .before .before .before .before .before .before .before .before .before .loop .inv .within, c .before .before .before .before .before .before .before .before .before .before .before .before .before .before .before .before .before .before .pre .1)
 
 -- src/placing.rt:299:9
 add-i : tie.Need-add-i Inv-loop μ-loop
-add-i c = omega (arith, c .before .before .before .before .before .before .before .before .before .before .before .loop-test .taken, c .before .before .before .before .before .before .before .before .before .before .before .before .before .before .before .before .before .before .before .pre .1)
+add-i c = omega (arith, c .before .before .before .before .before .before .before .before .before .before .before .before .loop-test .taken, c .before .before .before .before .before .before .before .before .before .before .before .before .before .before .before .before .before .before .before .before .pre .1)
 
 -- src/placing.rt:271:5
 loop-less : tie.Need-loop-less Inv-loop μ-loop
-loop-less c = omega (arith, c .before .before .before .before .before .before .before .before .before .before .before .loop-test .taken)
+loop-less c = omega (arith, c .before .before .before .before .before .before .before .before .before .before .before .before .loop-test .taken)
 
 -- src/placing.rt:271:5
 loop-again : tie.Need-loop-again Inv-loop μ-loop
 loop-again c =
-    let loop = c .before .before .before .before .before .before .before .before .before .before .before .before in
-    let a = c .before .before .before .before .before .before .before .before .before .before .before .before .before .before .before .before .before .before .before .args in
+    let loop = c .before .before .before .before .before .before .before .before .before .before .before .before .before in
+    let a = c .before .before .before .before .before .before .before .before .before .before .before .before .before .before .before .before .before .before .before .before .args in
     let p = programOf (a .banks) (a .kinds .now) (a .operands .now) (a .first .now) in
     let row = rowOf (a .numbers .now) (a .states .now) in
     let at = loop .loop in
-    let visit = c .before .before .before .before .before .before .before .before .before .before .visit-node in
+    let visit = c .before .before .before .before .before .before .before .before .before .before .before .visit-node in
     let placed = c .before .before .before .before .before .place in
-    goes-on p row (a .fill) (at .i) (at .walk) (at .positions) (at .sizes) (at .count) (at .reach) (at .spans) (at .inv) (visit .result) (visit .ensures .0) (placed .result .verdict) (placed .ensures .0)
-    (c .before .before .before .before .before .before .before .before .before .before .before .loop-test .taken) (c .before .before .before .enum-told2 .given .1) _ _ _ _ _ (placed .ensures .1) (c .before .before .length-after .ensures .0) (c .before .before .length-after .ensures .1)
+    goes-on p row (a .fill) (at .i) (at .walk) (at .positions) (at .sizes) (at .count) (at .marks) (at .mark-count) (at .reach) (at .spans) (at .inv) (visit .result) (visit .ensures .0) (placed .result .verdict) (placed .ensures .0)
+    (c .before .before .before .before .before .before .before .before .before .before .before .before .loop-test .taken) (c .before .before .before .enum-told2 .given .1) _ _ _ _ _ _ _ (placed .ensures .1) (c .before .before .length-after .ensures .0) (c .before .before .length-after .ensures .1)
     (c .before .spans-after .ensures)
 
 -- src/placing.rt:252:1
@@ -100,7 +100,7 @@ returns-2 c =
     let p = programOf (a .banks) (a .kinds .now) (a .operands .now) (a .first .now) in
     let row = rowOf (a .numbers .now) (a .states .now) in
     let at = loop .loop in
-    ends p row (a .fill) (at .i) (at .walk) (at .positions) (at .sizes) (at .count) (at .reach) (at .spans) (at .inv) (c .loop-test .left)
+    ends p row (a .fill) (at .i) (at .walk) (at .positions) (at .sizes) (at .count) (at .marks) (at .mark-count) (at .reach) (at .spans) (at .inv) (c .loop-test .left)
 
 pub plan-row-spec : {M : Type 1} → statement M
 plan-row-spec =
