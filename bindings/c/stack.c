@@ -19,7 +19,7 @@ static uint8_t image[16384], hex[32768], values[1], flags[2], kinds[NODES], stat
 static int64_t starts[2], addresses[NODES];
 static uint16_t units[2];
 static uint32_t bank_sizes[2], bank_offsets[2], aligns[2], operands[NODES], numbers[NODES];
-static uint64_t offsets[NODES], sizes[NODES], block_offsets[NODES], block_sizes[NODES], positions[512], extents[512];
+static uint64_t offsets[NODES], sizes[NODES], block_offsets[NODES], block_sizes[NODES], positions[512], extents[512], marks[512];
 static size_t file_length;
 static uint64_t refusal;
 
