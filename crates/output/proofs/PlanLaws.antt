@@ -31,7 +31,8 @@ use Rattle.output.specs.Steps.{Goes, Planned, maxEnd, verdictPlaced}
 use Rattle.output.proofs.Upto.{spansTo, lengthTo, placedTo, spans-next, length-next, placed-next, spans-none, items-none, placed-none}
 
 -- The first walk before node i: the walk of the row, a sound store that holds what is placed so far, the length and the spans so far.
-pub record Going (p : Program) (row : Row) (fill i : ℕ) (walk : Walk) (positions sizes : List ℕ) (count : ℕ) (marks : List ℕ) (marked reach spans : ℕ) : Type 0 where
+pub record Going (p : Program) (row : Row) (fill i : ℕ) (walk : Walk) (positions sizes : List ℕ) (count : ℕ) (marks : List ℕ)
+    (marked reach spans : ℕ) : Type 0 where
   pub within : i ≤ length (p .kinds)
   pub walks : walk ≡ walkTo p row i
   pub sound : Sound (store positions sizes count marks marked)
@@ -71,7 +72,8 @@ module _ (p : Program) (row : Row) where
   start-length fill = ap (lengthOf fill) (sym (items-none p row))
 
   -- the walk begins
-  pub begins : (fill : ℕ) (walk : Walk) → walk ≡ startOf → fill ≤ maxOffer → Going p row fill 0 walk (replicate 512 0) (replicate 512 0) 0 (replicate 512 0) 0 fill 0
+  pub begins : (fill : ℕ) (walk : Walk) → walk ≡ startOf → fill ≤ maxOffer
+      → Going p row fill 0 walk (replicate 512 0) (replicate 512 0) 0 (replicate 512 0) 0 fill 0
   begins fill walk e b =
       let none = store (replicate 512 0) (replicate 512 0) 0 (replicate 512 0) 0 in
       record {
@@ -86,7 +88,8 @@ module _ (p : Program) (row : Row) where
         few = omega arith;
       }
 
-  module _ (fill i : ℕ) (walk : Walk) (positions sizes : List ℕ) (count : ℕ) (marks : List ℕ) (marked reach spans : ℕ) (g : Going p row fill i walk positions sizes count marks marked reach spans)
+  module _ (fill i : ℕ) (walk : Walk) (positions sizes : List ℕ) (count : ℕ) (marks : List ℕ) (marked reach spans : ℕ)
+      (g : Going p row fill i walk positions sizes count marks marked reach spans)
       (v : Visit) (visits : v ≡ visitOf p row walk i) (r : Verdict)
       (answer : r ≡ verdictOn (p .banks .len) (stateIn (store positions sizes count marks marked)) v) where
     is-visit : v ≡ visitAt p row i
@@ -142,7 +145,8 @@ module _ (p : Program) (row : Row) where
         adds-few false k = omega arith
 
   -- all nodes are placed
-  pub ends : (fill i : ℕ) (walk : Walk) (positions sizes : List ℕ) (count : ℕ) (marks : List ℕ) (marked reach spans : ℕ) → Going p row fill i walk positions sizes count marks marked reach spans
+  pub ends : (fill i : ℕ) (walk : Walk) (positions sizes : List ℕ) (count : ℕ) (marks : List ℕ) (marked reach spans : ℕ)
+      → Going p row fill i walk positions sizes count marks marked reach spans
       → length (p .kinds) ≤ i → Planned p row fill (record { verdict = Accepted; length = reach; spans = spans })
   ends fill i walk positions sizes count marks marked reach spans g b =
       let all : i ≡ length (p .kinds) = omega (arith, g .within) in

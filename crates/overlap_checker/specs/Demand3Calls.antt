@@ -44,7 +44,8 @@ laid-into-over a s t g =
     (laid-over (lengths (s .intervals)) (lengths (t .intervals)) (a .sizes)
     (omega (arith, lengths-length (s .intervals), lengths-length (t .intervals), g .intervals)))
     ∙ ap
-    (λ (m : List ℕ). lent (laid (starts (t .intervals)) (a .positions)) (laid (lengths (t .intervals)) (a .sizes)) (length (t .intervals)) m (length (t .marks)))
+    (λ (m : List ℕ). lent (laid (starts (t .intervals)) (a .positions)) (laid (lengths (t .intervals)) (a .sizes)) (length (t .intervals)) m
+    (length (t .marks)))
     (laid-over (s .marks) (t .marks) (a .marks) (g .marks))
 
 -- entries past what was laid stay

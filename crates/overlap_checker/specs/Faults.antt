@@ -140,7 +140,8 @@ module _ (a : Lent) (e : Entry) where
   answer-numbers : {Y : Type 0} → (numberIn (figures (stateIn a) e 0) ≡ 12 → Y) → (numberIn (figures (stateIn a) e 0) ≡ 13 → Y)
       → (numberIn (figures (stateIn a) e 0) ≡ 0 → Y) → Y
   answer-numbers over full none =
-      three-ways (stateIn a) e (λ h. over (ap numberIn (tries-overlaps (stateIn a) e _ _ _ h))) (λ h l. full (ap numberIn (tries-full (stateIn a) e _ _ _ h l)))
+      three-ways (stateIn a) e (λ h. over (ap numberIn (tries-overlaps (stateIn a) e _ _ _ h)))
+      (λ h l. full (ap numberIn (tries-full (stateIn a) e _ _ _ h l)))
       (λ h l. none (ap numberIn (tries-passes (stateIn a) e _ _ _ h l)))
 
 module _ (a : Lent) (wide : length (a .positions) ≡ maxStored) (long : length (a .sizes) ≡ maxStored) (broad : length (a .marks) ≡ maxStored)
