@@ -32,6 +32,7 @@ impl fmt::Display for Refusal {
             Refusal::StoreFull { node, .. } => write!(f, "at node {node} 512 placements are stored already"),
             Refusal::TooShort { buffer, .. } => write!(f, "the room for {buffer} is too short"),
             Refusal::BadPart => write!(f, "a part of an image is empty, outside it, or not on byte edges"),
+            Refusal::PartlyCovered => write!(f, "the overlay covers a range only in part"),
             Refusal::Unknown { place, .. } => write!(f, "this crate has no words for it, at {place}"),
         }
     }
