@@ -127,7 +127,7 @@ struct dk_offer {
  * Writes the image, bits from the top of each byte, and the spans, labels and written items in the order of the nodes: span i has addresses[i],
  * offsets[i] (in bits, or DK_NO_OFFSET) and sizes[i] (in bits, 0 for a label). The shortest of the three lists counts.
  *
- * It needs less than 24 KiB of stack (16.3 KiB). */
+ * It needs less than 24 KiB of stack (20.3 KiB). */
 struct dk_layout dk_build(const uint16_t *units, size_t units_len,
                           const int64_t *starts, size_t starts_len,
                           const uint32_t *bank_sizes, size_t bank_sizes_len,
@@ -146,7 +146,7 @@ struct dk_layout dk_build(const uint16_t *units, size_t units_len,
                           uint64_t *offsets, size_t offsets_len,
                           uint64_t *sizes, size_t sizes_len);
 
-/* The same for a file of form 1, at most 65,000 bytes: image and spans as above. It needs less than 128 KiB of stack (120.0 KiB), most of it
+/* The same for a file of form 1, at most 65,000 bytes: image and spans as above. It needs less than 128 KiB of stack (124.0 KiB), most of it
  * for the lists of the file. */
 struct dk_layout dk_form(const uint8_t *file, size_t file_len,
                          uint8_t *image, size_t image_len,
