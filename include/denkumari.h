@@ -193,7 +193,7 @@ struct dk_overlay {
 /* On the bench: a released image and an overlay of curves under trial, both at the same offsets. Block i of the overlay starts at bit offsets[i] and
  * has sizes[i] bits; as many offsets as sizes, no block empty, ascending, no bit in two of them, else 4. Blocks may touch, and may end past the
  * images. Says which image the `count` bytes from byte `first` on come from: the overlay where its blocks cover every bit of them, the released image
- * where they cover none, else 17; 16 where the range is empty or outside either image. Reads neither image. */
+ * where they cover none, else 17; 16 where the range is empty or outside either image. Reads neither image. It needs less than 1 KiB of stack. */
 struct dk_overlay dk_overlay_range(const uint8_t *overlay, size_t overlay_len,
                                    const uint8_t *released, size_t released_len,
                                    const uint64_t *offsets, size_t offsets_len,
@@ -201,7 +201,7 @@ struct dk_overlay dk_overlay_range(const uint8_t *overlay, size_t overlay_len,
                                    uint64_t first, uint64_t count);
 
 /* The same overlay: each longest run of bytes that its blocks cover whole, inside both images, and that differ between the two, ascending. Run i is the
- * counts[i] bytes from byte firsts[i] on. Refused 4 as above, then 14 (place 2) where a list is too short. */
+ * counts[i] bytes from byte firsts[i] on. Refused 4 as above, then 14 (place 2) where a list is too short. It needs less than 1 KiB of stack. */
 struct dk_count dk_overlay_runs(const uint8_t *overlay, size_t overlay_len,
                                 const uint8_t *released, size_t released_len,
                                 const uint64_t *offsets, size_t offsets_len,

@@ -55,6 +55,16 @@ static void offer(void)
     refusal = dk_offer(positions, extents, 511, marks, 0, 2, 2).refusal;
 }
 
+static void range(void)
+{
+    refusal = dk_overlay_range(image, sizeof image, image, sizeof image, block_offsets, NODES, block_sizes, NODES, 0, 1).refusal;
+}
+
+static void runs(void)
+{
+    refusal = dk_overlay_runs(image, sizeof image, values, sizeof values, block_offsets, NODES, block_sizes, NODES, offsets, NODES, sizes, NODES).refusal;
+}
+
 /* The call to be made, and how much it took. */
 static void (*call)(void);
 static size_t most;
@@ -147,6 +157,15 @@ static void shuffle_spans(void)
     }
 }
 
+/* As many blocks of an overlay, a byte each. */
+static void fill_overlay(void)
+{
+    for (size_t i = 0; i < NODES; i++) {
+        block_offsets[i] = 16 * i;
+        block_sizes[i] = 8;
+    }
+}
+
 static int measure(const char *name, void (*what)(void), size_t limit)
 {
     int bad;
@@ -170,5 +189,8 @@ int main(void)
     bad |= measure("dk_offer", offer, 1024);
     bad |= measure("dk_hex", digits, 1024);
     bad |= measure("dk_part", part, 1024);
+    fill_overlay();
+    bad |= measure("dk_overlay_range", range, 1024);
+    bad |= measure("dk_overlay_runs", runs, 1024);
     return bad;
 }

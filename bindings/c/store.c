@@ -137,9 +137,46 @@ static void scanned(uint64_t seed, uint64_t span)
         }
 }
 
+/* 512 intervals and 512 marks, offered in many orders: every order is accepted and leaves the same store, and one more of each kind is refused. */
+static void shuffled(uint64_t seed)
+{
+    static uint64_t at[1024], size[1024], first_positions[512], first_sizes[512], first_marks[512];
+    for (unsigned turn = 0; turn < 24; turn++) {
+        for (unsigned i = 0; i < 512; i++) {
+            at[i] = 16 * i;
+            size[i] = 1 + i % 16;
+            at[512 + i] = 16 * (i / 2); /* on the first bit of a block, two on each */
+            size[512 + i] = 0;
+        }
+        for (unsigned i = 1023; turn > 0 && i > 0; i--) {
+            seed = seed * 6364136223846793005u + 1442695040888963407u;
+            unsigned j = (unsigned)((seed >> 33) % (i + 1));
+            uint64_t a = at[i], b = size[i];
+            at[i] = at[j], size[i] = size[j];
+            at[j] = a, size[j] = b;
+        }
+        begin();
+        for (unsigned i = 0; i < 1024; i++)
+            expect(at[i], size[i], DK_ACCEPTED, 0, 0, "an offer of a full store, in some order");
+        if (turn == 0) {
+            memcpy(first_positions, positions, sizeof positions);
+            memcpy(first_sizes, sizes, sizeof sizes);
+            memcpy(first_marks, marks, sizeof marks);
+        }
+        if (memcmp(positions, first_positions, sizeof positions) != 0 || memcmp(sizes, first_sizes, sizeof sizes) != 0 ||
+            memcmp(marks, first_marks, sizeof marks) != 0) {
+            faults++;
+            printf("wrong: another order leaves another store\n");
+        }
+        expect(16 * 512, 1, DK_STORE_FULL, 0, 0, "the 513th interval");
+        expect(16 * 512, 0, DK_STORE_FULL, 0, 0, "the 513th mark");
+    }
+}
+
 int main(void)
 {
     cases();
+    shuffled(5);
     scanned(1, 400);
     scanned(2, 5000);
     scanned(3, 1000000);
