@@ -4,7 +4,7 @@ use Prim.Native.Nat.{ℕ, _*_, _<_, _≤_, max}
 use mathlib.Core.Path.{_≡_, refl, sym, _∙_, ap}
 use mathlib.Core.Bool.{Bool, true, false}
 use lib.Dec.{ltb}
-use lib.ListN.{length}
+use lib.ListN.{length, take}
 use Rattle.refusal.specs.Pick.{pick}
 use Rattle.refusal.specs.declared.Refusal.the-variants.{TooShort}
 use Rattle.resolver.specs.Layout.{layoutOf}
@@ -12,6 +12,9 @@ use Rattle.resolver.specs.RaisedLimit.{same-for-limits-above, passes-within-lim
 use Rattle.resolver.specs.declared.Resolution.{Resolution}
 use Rattle.resolver.specs.declared.Settled.{Settled}
 use Rattle.resolver.specs.declared.Settled.the-variants.{At, Refused as Unsettled}
+use Rattle.blocks.specs.Spans.{spansOf as spansLent}
+use Rattle.blocks.specs.Walk.{blocksOf}
+use Rattle.output.specs.SpanFacts.{spansLeft}
 use Rattle.output.specs.Calls.{Accepted, refused-done, build-is}
 use Rattle.output.specs.Output.{Input, Lent, Room, roomOf, visitsOf, fillOf, placedBuild, settledBuild, settledOf, buildOf, leftBy, Builds}
 use Rattle.output.specs.Items.{itemsOf, lengthOf}
@@ -77,6 +80,14 @@ raised-limit-keeps-build a n below more q =
     let settled : settledOf b ≡ At (a .k) =
     settled-k b (roomOf (a .call .old)) (a .call .answer .passes) (settledOf b) (sym (build-is (a .call)) ∙ a .done) in
     same-outcome-above b (a .k) settled below n more (a .call .old) (a .call .meets) q
+
+-- So the blocks that its spans make are the same.
+pub raised-limit-keeps-blocks : (a : Accepted) (n : ℕ) → a .k < a .call .given .limit → a .k < n
+    → {s : Output} {other : Lent} → Builds (withLimit (a .call .given) n) (a .call .old) s other
+    → blocksOf (spansLent (take (a .spans) (other .offsets)) (take (a .spans) (other .sizes))) ≡ blocksOf (spansLeft a)
+raised-limit-keeps-blocks a n below more q =
+    ap (λ (l : Lent). blocksOf (spansLent (take (a .spans) (l .offsets)) (take (a .spans) (l .sizes))))
+    (raised-limit-keeps-build a n below more q .1)
 
 -- "passes run never exceed the larger of 1 and the limit, refused builds included"
 pub build-passes-within-limit : (b : Input) (old : Lent) {r : Output} {new : Lent} → Builds b old r new → r .passes ≤ max 1 (b .limit)
