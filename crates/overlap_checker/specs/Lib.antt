@@ -5,9 +5,11 @@ pub mod Checks
 pub mod Demand3
 pub mod Demand3Calls
 pub mod Entries
+pub mod Exchange
 pub mod Faults
 pub mod Folds
 pub mod Going
+pub mod Insertion
 pub mod Interval
 pub mod Laid
 pub mod Lent
@@ -16,6 +18,7 @@ pub mod Marks
 pub mod Naming
 pub mod Neighbours
 pub mod Offers
+pub mod Reordered
 pub mod Rising
 pub mod State
 pub mod Stored
