@@ -9,6 +9,8 @@ pub mod Placing
 pub mod PlacingLaws
 pub mod RaisedLimit
 pub mod RefusedAtNode
+pub mod ReorderLaws
+pub mod Reordered
 pub mod Rooms
 pub mod SpanFacts
 pub mod Spans
