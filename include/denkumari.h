@@ -224,7 +224,7 @@ static inline const char *dk_words(uint64_t refusal)
     case DK_DEFAULT_BANK: return "bank 0 is used though there are others";
     case DK_PAST_BANK: return "an item ends past its bank's size";
     case DK_NO_OUTPUT: return "an item is written in a bank that has no place in the output";
-    case DK_OVERLAP: return "a placement would share a bit with another";
+    case DK_OVERLAP: return "a placement would share a bit with another, or have a mark strictly inside it";
     case DK_STORE_FULL: return "512 placements are stored already";
     case DK_TOO_SHORT: return "a lent buffer is too short";
     case DK_BAD_STORE: return "a store that was given is not one";

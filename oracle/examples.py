@@ -34,6 +34,13 @@ def clamp(mark, second_at=64):
     return one_row([Bank(), Bank(8, 0x8000, 512, 0)], [(SWITCH, 1)] + mark_before + table + mark_after + second, CLAMP_FORCE + CURRENT_LIMITS)
 
 
+def mark_inside(mark_first):
+    """A mark of zero bits in the middle of what becomes the clamp force table, and the table, in either order of their lines."""
+    mark = [(ADDR, 0, 32), (RESERVE, 0, 0)]
+    table = [(ADDR, 0, 0), (LABEL, 0), (DATA, 0, 128)]
+    return one_row([Bank(), Bank(8, 0x8000, 512, 0)], [(SWITCH, 1)] + (mark + table if mark_first else table + mark), CLAMP_FORCE)
+
+
 def several_banks():
     """Code and curves in flash, variables in memory without output, a stack that is numbered downwards from address 0."""
     banks = [Bank(), Bank(8, 0x0100, 256, 0, None, True), Bank(16, 0x4000, 128, 256, 32, True), Bank(8, 0x20, 64), Bank(8, -8, 64)]
@@ -73,6 +80,8 @@ EXAMPLES = {
     "clamp-mark-after": ("the March failure: a clamp force table, then a mark of zero bits on its first word, then a second table that lands inside the first", clamp(MARK_AFTER)),
     "clamp-mark-before": ("the same lines with the mark before the table", clamp(MARK_BEFORE)),
     "clamp-apart": ("the same with the second table behind the first, as it was meant", clamp(MARK_AFTER, 128)),
+    "mark-then-table": ("a mark in the middle of the table, on a line before it: since marks count wherever they come, the table is refused, and the mark named with size 0", mark_inside(True)),
+    "table-then-mark": ("the same lines the other way round: the mark is refused, and the table named", mark_inside(False)),
     "banks": ("code, curves, memory without output and a stack below address 0, in four banks", several_banks()),
     "stack": ("a stack that is numbered downwards from address 0, with an alignment below zero", stack_below_zero()),
     "passes": ("a jump that turns out short, so that labels move in the second pass and stand still in the third", several_passes()),

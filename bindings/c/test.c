@@ -162,7 +162,7 @@ static void words(void)
 {
     for (uint64_t number = 0; number <= DK_BAD_PART; number++)
         expect(number == 6 || strcmp(dk_words(number), dk_words(UINT64_MAX)) != 0, "a refusal that is given has words");
-    expect(strcmp(dk_words(DK_OVERLAP), "a placement would share a bit with another") == 0, "the words of 12");
+    expect(strstr(dk_words(DK_OVERLAP), "share a bit") != NULL, "the words of 12");
 }
 
 int main(int argc, char **argv)

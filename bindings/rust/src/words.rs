@@ -28,6 +28,7 @@ impl fmt::Display for Refusal {
             Refusal::DefaultBank { node, .. } => write!(f, "node {node} uses bank 0 though there are others"),
             Refusal::PastBank { node, .. } => write!(f, "node {node} ends past its bank's size"),
             Refusal::NoOutput { node, .. } => write!(f, "node {node} is written in a bank that has no place in the output"),
+            Refusal::Overlap { start, size: 0, .. } => write!(f, "a placement would have the mark at bit {start} strictly inside it"),
             Refusal::Overlap { start, size, .. } => write!(f, "a placement would share a bit with what stands from bit {start} on, {size} bits"),
             Refusal::StoreFull { node, .. } => write!(f, "at node {node} 512 placements are stored already"),
             Refusal::TooShort { buffer, .. } => write!(f, "the room for {buffer} is too short"),
