@@ -5,7 +5,9 @@
 drawn cases of several families, each from a seed of its own, so that one can be had again by its name alone.
 
     generate.py SEED NAME     writes one case to standard output, NAME as compare.py prints it, e.g. "near 23456"
-    generate.py SEED COUNT --batch    writes many, each behind four bytes of length, big-endian"""
+    generate.py SEED COUNT --batch    writes many, each behind four bytes of length, big-endian
+    generate.py SEED COUNT --form-2   the same as files of form 2, with fill bits
+    generate.py SEED COUNT --paged    the same of layouts for the paged device, most of them in the profile, in either form"""
 
 import sys
 from itertools import count, product
@@ -488,6 +490,60 @@ def drawn(seed, number):
     return f"{name} {number}", made if isinstance(made, bytes) else encode(made, unread=draw.choice((0, 0, TOP)))
 
 
+def in_form_2(draw, file):
+    """A drawn file of form 1 as one of form 2, with fill bits of any sort, now and then with a byte that breaks it or with form 1's tags."""
+    whole = [one(16, bytes([draw.choice((2,) * 30 + (0, 1, 3))]))]
+    at = 0
+    while at + 3 <= len(file):
+        tag, length = file[at], int.from_bytes(file[at + 1:at + 3], "big")
+        payload = file[at + 3:at + 3 + length]
+        if tag == 1 and draw.randrange(60):
+            bit = draw.choice((0, 0, 1)) if len(whole) > 1 or draw.randrange(20) == 0 else 0
+            whole.append(one(17, payload + bytes([bit if draw.randrange(80) else 2])))
+        else:
+            whole.append(file[at:at + 3 + length])
+        at += 3 + length
+    made = b"".join(whole) + file[at:]
+    if made and draw.randrange(20) == 0:
+        place = draw.randrange(min(len(made), 120))
+        made = made[:place] + bytes([draw.randrange(256)]) + made[place + 1:]
+    return made
+
+
+def paged(draw):
+    """A layout for the paged device, with a rule broken now and then."""
+    page = draw.choice((16, 32, 64))
+    off = lambda n: n + draw.choice((1, 3)) if draw.randrange(25) == 0 else n
+    banks, end = [Bank(unit=8)], 0
+    for _ in range(draw.randint(1, 4)):
+        pages = draw.randint(0, 6)
+        unit, align = off(draw.choice((8, 16))), draw.choice((None, None, 0, 8, 16, 32))
+        if draw.randrange(6) == 0:
+            banks.append(Bank(unit, draw.randint(-4, 40), draw.choice((None, 96)), None, align))
+            continue
+        size = None if draw.randrange(40) == 0 else off(pages * page)
+        banks.append(Bank(unit, draw.randint(0, 40), size, off(end), align and off(align), bool(size) and draw.random() < 0.6))
+        end += pages * page + page * draw.choice((0, 0, 1))
+    row_count = draw.randint(1, 3)
+    draft = Draft(draw, banks, row_count)
+    draft.add(SWITCH, draw.choice((0,) + (1,) * 12))
+    for _ in range(draw.randint(1, 14)):
+        kind = draw.choice((SWITCH, SWITCH, LABEL, INSTRUCTION, DATA, RESERVE, ALIGN, ALIGN, ADDR, ADDR))
+        if kind == SWITCH:
+            draft.add(SWITCH, draw.randrange(1, len(banks)))
+        elif kind == LABEL:
+            draft.add(LABEL, draw.choice((0, 0, 1)))
+        elif kind in (INSTRUCTION, DATA):
+            draft.item(draw.choice((8, 8, 16, 24)), kind=kind)
+        elif kind == RESERVE:
+            draft.add(RESERVE, 0, draw.choice((0, 8, 16)))
+        elif kind == ALIGN:
+            draft.add(ALIGN, 0, [off(draw.choice((0, 8, 16, 64)))] * (row_count - 1) + [off(8)])
+        else:
+            draft.add(ADDR, 0, [16 * draw.randrange(8)] * (row_count - 1) + [off(16 * draw.randrange(8))])
+    return draft.layout()
+
+
 def gridded():
     for grid in GRIDS:
         for i, layout in enumerate(grid()):
@@ -529,8 +585,26 @@ def batched(files):
     return b"".join(len(file).to_bytes(4, "big") + file for file in files)
 
 
+def cases_of_form_2(seed, how_many):
+    """Files of form 2: every other one of a layout that is drawn for it, the others of any family."""
+    for number in range(how_many):
+        draw = Random(f"{seed}/form 2/{number}")
+        yield in_form_2(draw, encode(paged(draw)) if number % 2 else drawn(seed, number)[1])
+
+
+def cases_in_pages(seed, how_many):
+    for number in range(how_many):
+        draw = Random(f"{seed}/paged/{number}")
+        file = encode(paged(draw))
+        yield in_form_2(draw, file) if number % 3 == 0 else file
+
+
 def main():
     seed = sys.argv[1]
+    made = {"--form-2": cases_of_form_2, "--paged": cases_in_pages}.get(sys.argv[3] if len(sys.argv) > 3 else "")
+    if made:
+        sys.stdout.buffer.write(batched(made(seed, int(sys.argv[2]))))
+        return
     if sys.argv[3:] == ["--batch"]:
         sys.stdout.buffer.write(batched(file for _, file in cases(seed, int(sys.argv[2]))))
         return

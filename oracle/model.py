@@ -1,19 +1,24 @@
 #!/usr/bin/env python3
-"""Document 01 once more, in Python: from a form 1 file to the text that `layout` prints.
+"""Documents 01 and 02 once more, in Python: from a file of form 1 or 2 to the text that `layout` prints.
 
-Written from document 01 and the readings settled for it (docs/DECISIONS.md), and from nothing else, so that it can stand
+Written from the documents and the readings settled for them (docs/DECISIONS.md), and from nothing else, so that it can stand
 beside the Rust and beside the proved program. Each part has the document's sentences above it.
 
     model.py           a file on standard input; prints what `layout` prints
     model.py --line    the same file; prints one line of the comparison's protocol (oracle/README.md)
-    model.py --batch   many files, each behind four bytes of length, big-endian; a line for each"""
+    model.py --batch   many files, each behind four bytes of length, big-endian; a line for each
 
+    --fill N           the fill's choice: 0 inherited (the default), 1 full, any other is refused
+    --page N           in the profile of the paged device, with this page size in bits
+    --padding          a line of the protocol has each bank's padding too, and in the profile its pages"""
+
+import argparse
 import sys
 from bisect import bisect_left, bisect_right, insort
 from collections import namedtuple
 from struct import iter_unpack, unpack, unpack_from
 
-MAX_FILE = 65_000
+MAX_FILE = {1: 65_000, 2: 65_536}
 MAX_BANKS, MAX_NODES, MAX_ROWS, MAX_STORED = 16, 4_096, 16, 512
 MAX_START = 2 ** 40
 MAX_POSITION = 4_294_967_295
@@ -22,10 +27,13 @@ LENT_IMAGE_BITS, LENT_SPANS = 16_384 * 8, 4_096
 NOTHING, SWITCH, LABEL, CONSTANT, INSTRUCTION, DATA, OPEN_DATA, RESERVE, ALIGN, ADDR, ASSERT = range(11)
 RESOLVED, STABLE, UNRESOLVED = range(3)
 
-Bank = namedtuple("Bank", "unit start size offset align fill")
-Layout = namedtuple("Layout", "banks nodes rows values limit")
+Bank = namedtuple("Bank", "unit start size offset align fill fill_bit")
+Layout = namedtuple("Layout", "form banks nodes rows values limit")
 Span = namedtuple("Span", "address offset size")
-Answer = namedtuple("Answer", "k run length hex spans blocks")
+Answer = namedtuple("Answer", "k run length hex spans blocks padding pages")
+# What a caller chooses: the fill (Ticket 8) and, in the profile of the paged device (Ticket 9), the page size in bits.
+Choices = namedtuple("Choices", "fill page", defaults=(0, None))
+INHERITED, FULL = 0, 1
 
 
 class Refused(Exception):
@@ -35,32 +43,58 @@ class Refused(Exception):
         self.number, self.place, self.run = number, place, None
 
 
-# Form 1 -----------------------------------------------------------------------------------------------------------------
+# The file ---------------------------------------------------------------------------------------------------------------
 # "Fields have a one-byte tag and a two-byte length, big-endian throughout, in this order: 1 bank, 2 node, 3 row, 4 values,
 # one field; 5 pass limit, 1 byte. A broken file (a field missing, unknown, out of order or extra, a wrong length, flags
 # above 15) is 4 with the first such field's index, from 0."
+# Document 02, Ticket 7: "Form 2 begins with a field of tag 16 holding one byte, 2. Its banks use tag 17, with a payload one
+# byte longer (fill bit, 0 or 1); fields 2 to 5 stay." "Form 2 may have 65,536 bytes." First byte 16 is form 2.
 
-def read_form(data):
-    if len(data) > MAX_FILE:
+def form_of(data):
+    return 2 if data[:1] == b"\x10" else 1
+
+
+def fields_of(data, form):
+    """The fields of a sound file of a form, each as tag and payload."""
+    if len(data) > MAX_FILE[form]:
         raise Refused(4, 0)
-    banks, nodes, rows, values, limit = [], [], [], None, None
-    at = index = newest = 0
-    while limit is None:
-        broken = Refused(4, index)
+    bank_tag, bank_length = (1, 23) if form == 1 else (17, 24)
+    fields, nodes = [], 0
+    at = newest = 0
+    while not fields or fields[-1][0] != 5:
+        broken = Refused(4, len(fields))
         if at + 3 > len(data):
             raise broken
         tag, length = unpack_from(">BH", data, at)
         payload = data[at + 3:at + 3 + length]
         if len(payload) < length:
             raise broken
-        # Banks, nodes and rows may repeat, the next kind of field may be any up to the values; after them the limit.
-        if not (newest <= tag <= 4 and tag != 0 if newest < 4 else tag == 5):
-            raise broken
-        if tag != 4 and length != (23, 5, 5 * len(nodes), None, 1)[tag - 1]:
-            raise broken
-        if tag == 1:
-            if payload[22] > 15:
+        if form == 2 and not fields:
+            if tag != 16 or payload != b"\x02":
                 raise broken
+        else:
+            # Banks, nodes and rows may repeat, the next kind of field may be any up to the values; after them the limit.
+            place = {bank_tag: 1, 2: 2, 3: 3, 4: 4, 5: 5}.get(tag, 0)
+            if not (newest <= place <= 4 and place != 0 if newest < 4 else place == 5):
+                raise broken
+            if place != 4 and length != (bank_length, 5, 5 * nodes, None, 1)[place - 1]:
+                raise broken
+            if place == 1 and (payload[22] > 15 or (form == 2 and payload[23] > 1)):
+                raise broken
+            nodes += place == 2
+            newest = place
+        at += 3 + length
+        fields.append((tag, payload))
+    if at < len(data):
+        raise Refused(4, len(fields))
+    return fields
+
+
+def read_form(data):
+    form = form_of(data)
+    banks, nodes, rows, values, limit = [], [], [], b"", None
+    for tag, payload in fields_of(data, form):
+        if tag in (1, 17):
             banks.append(read_bank(payload))
         elif tag == 2:
             nodes.append(unpack(">BI", payload))
@@ -68,21 +102,17 @@ def read_form(data):
             rows.append(list(iter_unpack(">IB", payload)))
         elif tag == 4:
             values = payload
-        else:
+        elif tag == 5:
             limit = payload[0]
-        at += 3 + length
-        index += 1
-        newest = tag
-    if at < len(data):
-        raise Refused(4, index)
-    return Layout(banks, nodes, rows, values, limit)
+    return Layout(form, banks, nodes, rows, values, limit)
 
 
-# "unit 2 bytes, signed start 8, size 4, offset 4, label alignment 4, flags 1: size 1, offset 2, label alignment 4, fill 8"
+# "unit 2 bytes, signed start 8, size 4, offset 4, label alignment 4, flags 1: size 1, offset 2, label alignment 4, fill 8";
+# in form 2 the fill bit behind the flags.
 def read_bank(payload):
-    unit, start, size, offset, align, flags = unpack(">HqIIIB", payload)
+    unit, start, size, offset, align, flags = unpack(">HqIIIB", payload[:23])
     return Bank(unit, start, size if flags & 1 else None, offset if flags & 2 else None, align if flags & 4 else None,
-                flags & 8 != 0)
+                flags & 8 != 0, payload[23] if len(payload) > 23 else 0)
 
 
 # Banks ------------------------------------------------------------------------------------------------------------------
@@ -92,8 +122,9 @@ def check_banks(banks):
     if not 1 <= len(banks) <= MAX_BANKS:
         raise Refused(1, 0)
     # 2: "a bank number is beyond its limit, or a filled bank has size 0"
+    # Document 02, Ticket 6: "2 also for bank 0 with fill bit one, filled or not"
     for i, bank in enumerate(banks):
-        if bank.unit == 0 or abs(bank.start) > MAX_START or (bank.fill and bank.size == 0):
+        if bank.unit == 0 or abs(bank.start) > MAX_START or (bank.fill and bank.size == 0) or bank.fill_bit > (i != 0):
             raise Refused(2, i)
     # 3: "Pairs are compared in rising order; bank 0 and banks without offset never are."
     for i in range(1, len(banks)):
@@ -110,25 +141,38 @@ def overlap(a, b):
 
 
 # "Fill takes every bank in order, bank 0 too. With fill, size and offset, let h = offset + size - 1; if the image length is
-# below h, it becomes h + 1."
-def fill_length(banks):
+# below h, it becomes h + 1." Document 02, Ticket 8: "or full fill, where the fill's length is the largest offset + size
+# among banks with fill, size and offset, or 0"
+def fill_length(banks, choice):
+    ranges = [fill_range(bank) for bank in banks if fill_range(bank)]
+    if choice == FULL:
+        return max((end for _, end in ranges), default=0)
     length = 0
-    for bank in banks:
-        if bank.fill and bank.size is not None and bank.offset is not None:
-            h = bank.offset + bank.size - 1
-            if length < h:
-                length = h + 1
+    for offset, end in ranges:
+        h = end - 1
+        if length < h:
+            length = h + 1
     return length
 
 
-# The list ---------------------------------------------------------------------------------------------------------------
-# "then 4: node count, row count, limit, then the lowest node, its kind, operand and rows in order."
+def fill_range(bank):
+    """The range of a bank with fill, size and offset."""
+    if bank.fill and bank.size is not None and bank.offset is not None:
+        return bank.offset, bank.offset + bank.size
+    return None
 
-def check_list(layout):
+
+# The list ---------------------------------------------------------------------------------------------------------------
+# "then 4: node count, row count, limit, then the lowest node, its kind, operand and rows in order." Document 02, Ticket 8:
+# "4 for an unknown choice, after the limit (field 3)"
+
+def check_list(layout, choices):
     if len(layout.nodes) > MAX_NODES:
         raise Refused(4, 0)
     if not 1 <= len(layout.rows) <= MAX_ROWS:
         raise Refused(4, 1)
+    if choices.fill not in (INHERITED, FULL):
+        raise Refused(4, 3)
     value_bits = 8 * len(layout.values)
     for i, (kind, operand) in enumerate(layout.nodes):
         if not sound_node(i, kind, operand, layout, value_bits):
@@ -150,6 +194,44 @@ def sound_node(i, kind, operand, layout, value_bits):
         if state > UNRESOLVED or (reads_number and operand + number > value_bits):
             return False
     return True
+
+
+# The profile ------------------------------------------------------------------------------------------------------------
+# Document 02, Ticket 9: "page size in bits and every nonzero alignment must have exactly one bit set, every bank with an
+# offset must have its offset on a page and a size of whole pages, address units are 8 or 16, and `addr` goes only to a
+# multiple of its bank's unit, in every row. The answer names the first rule broken, 1 to 6 in this order, each ascending:
+# page size (place 0), alignments (banks, then nodes in every row), offset, size (none breaks it), unit, `addr`."
+
+def profile(layout, page):
+    ragged = lambda n: bin(n).count("1") != 1
+    numbers = lambda i: (row[i][0] for row in layout.rows)
+    banks = list(enumerate(layout.banks))
+    if ragged(page):
+        raise Refused(19, 1, 0)
+    for i, bank in banks:
+        if bank.align and ragged(bank.align):
+            raise Refused(19, 2, i)
+    for i, (kind, _) in enumerate(layout.nodes):
+        if kind == ALIGN and any(n and ragged(n) for n in numbers(i)):
+            raise Refused(19, 2, i)
+    with_offset = [(i, bank) for i, bank in banks if bank.offset is not None]
+    for i, bank in with_offset:
+        if bank.offset % page:
+            raise Refused(19, 3, i)
+    for i, bank in with_offset:
+        if bank.size is None or bank.size % page:
+            raise Refused(19, 4, i)
+    for i, bank in banks:
+        if bank.unit not in (8, 16):
+            raise Refused(19, 5, i)
+    current = 0
+    for i, (kind, operand) in enumerate(layout.nodes):
+        if kind == SWITCH:
+            current = operand
+        if kind == ADDR and any(n % layout.banks[current].unit for n in numbers(i)):
+            raise Refused(19, 6, i)
+    # "then with each bank's pages, its size over the page size, none without an offset"
+    return [None if bank.offset is None else bank.size // page for bank in layout.banks]
 
 
 # The walk ---------------------------------------------------------------------------------------------------------------
@@ -175,6 +257,8 @@ class Pass:
         # "Each bank's position starts at 0, known, and is kept through switches. The walk begins in bank 0."
         self.positions = [0] * len(layout.banks)
         self.known = [True] * len(layout.banks)
+        # Document 02, Ticket 2: "the sum of bits lost to `align` and to label alignment"
+        self.lost = [0] * len(layout.banks)
         self.state = RESOLVED
         self.seen = []          # for each node its bank and the position that it sees
         self.addresses = {}     # for each label its address
@@ -190,7 +274,7 @@ class Pass:
             # "A node sees its bank's position before its own advance, except that a symbol (label or constant) of depth 0 in
             # a bank with label alignment is aligned first."
             if (kind == LABEL or kind == CONSTANT) and operand == 0 and bank.align is not None:
-                self.move(current, self.positions[current] + distance(bank, self.positions[current], bank.align), i)
+                self.pad(current, distance(bank, self.positions[current], bank.align), i)
             self.seen.append((current, self.positions[current]))
             if kind == LABEL:
                 state = self.label_state(i, bank, current, is_last, before)
@@ -207,6 +291,10 @@ class Pass:
             raise Refused(5, node)
         self.positions[current] = position
 
+    def pad(self, current, bits, node):
+        self.move(current, self.positions[current] + bits, node)
+        self.lost[current] += bits
+
     # "Afterwards 4 to 7 add their number, 8 adds the distance to alignment, 9 sets the position. Known-ness: 4, 6, 7, 8 keep
     # it only if state is 0; 5 and symbols leave it; 9 makes it so exactly if state is 0."
     def advance(self, i, kind, number, state, bank, current):
@@ -214,7 +302,7 @@ class Pass:
         if INSTRUCTION <= kind <= RESERVE:
             self.move(current, position + number, i)
         elif kind == ALIGN:
-            self.move(current, position + distance(bank, position, number), i)
+            self.pad(current, distance(bank, position, number), i)
         elif kind == ADDR:
             self.move(current, number, i)
             self.known[current] = state == RESOLVED
@@ -306,10 +394,10 @@ class Store:
 # The build --------------------------------------------------------------------------------------------------------------
 # "The build walks the nodes and tries 9, 10, 11, 12, 13 at each. 14 comes last: image, then spans."
 
-def build(layout, passes):
+def build(layout, passes, choices):
     row, first_row = row_of(layout, passes.run), layout.rows[0]
     store, spans, written = Store(), [], []
-    length = fill_length(layout.banks)
+    length = fill_length(layout.banks, choices.fill)
     for i, (kind, operand) in enumerate(layout.nodes):
         is_written = INSTRUCTION <= kind <= OPEN_DATA
         if not (is_written or kind == LABEL or kind == RESERVE):
@@ -317,8 +405,8 @@ def build(layout, passes):
         current, position = passes.newest.seen[i]
         bank = layout.banks[current]
         size = 0 if kind == LABEL else first_row[i][0] if kind == DATA else row[i][0]
-        # 9: "bank 0 is used while other banks exist"
-        if current == 0 and len(layout.banks) > 1:
+        # 9: "bank 0 is used while other banks exist"; document 02, Ticket 13: "9 in form 2 also with one bank"
+        if current == 0 and (len(layout.banks) > 1 or layout.form == 2):
             raise Refused(9, i)
         # 10: "an item ends past its bank's size"
         if bank.size is not None and position + size > bank.size:
@@ -340,17 +428,25 @@ def build(layout, passes):
         raise Refused(14, 0)
     if len(spans) > LENT_SPANS:
         raise Refused(14, 1)
-    return length, hex_of(length, written, layout.values), spans
+    return length, hex_of(length, written, layout.values, layout.banks), spans
 
 
 # "Bits run from the top of each byte, value bytes too." "Hex takes four bits a digit, lower case, the last digit padded with
-# zero bits."
-def hex_of(length, written, values):
+# zero bits." Document 02, Ticket 6: "In a bank other than bank 0 with fill, size and offset, every bit of its range inside
+# the image length that belongs to no written item takes the fill bit, reserved bits too."
+def hex_of(length, written, values, banks):
     digits = (length + 3) // 4
+    bits = lambda offset, end: (1 << end - offset) - 1 << 4 * digits - end
     all_values, value_bits = int.from_bytes(values, "big"), 8 * len(values)
     image = 0
+    for bank in banks[1:]:
+        if fill_range(bank) and bank.fill_bit:
+            offset, end = fill_range(bank)
+            if offset < min(end, length):
+                image |= bits(offset, min(end, length))
     for offset, size, start in written:
         item = all_values >> (value_bits - start - size) & (1 << size) - 1
+        image &= ~bits(offset, offset + size)
         image |= item << (4 * digits - offset - size)
     return format(image, f"0{digits}x") if digits else ""
 
@@ -371,39 +467,46 @@ def blocks_of(spans):
 # "Order: 1, 2 by ascending bank, 3, then 4 [..]. Then each pass in node order meets 5, 6 and 7, and 8 at its end." "Refusals 5
 # to 14 of a layout carry the passes run too, a refusing pass included."
 
-def answer(data):
+# Document 02: "19 (new), after 4 and before the first pass"
+def answer(data, choices=Choices()):
     layout = read_form(data)
     check_banks(layout.banks)
-    check_list(layout)
+    check_list(layout, choices)
+    pages = None if choices.page is None else profile(layout, choices.page)
     passes = Passes(layout)
     try:
-        length, image, spans = build(layout, passes)
+        length, image, spans = build(layout, passes, choices)
     except Refused as refused:
         refused.run = passes.run
         raise
-    return Answer(passes.k, passes.run, length, image, spans, blocks_of(spans))
+    return Answer(passes.k, passes.run, length, image, spans, blocks_of(spans), passes.newest.lost, pages)
 
 
 # "The first line is K. An empty image prints `image` alone. A refusal prints `refused`, number and place, one space between."
-def printed(data):
+def printed(data, choices=Choices()):
     try:
-        a = answer(data)
+        a = answer(data, choices)
     except Refused as refused:
         return " ".join(map(str, ("refused", refused.number, *refused.place))) + "\n"
     lines = [f"passes {a.k}"] + [f"block {offset} {size}" for offset, size in a.blocks] + [f"image {a.hex}".rstrip()]
     return "".join(line + "\n" for line in lines)
 
 
-def line(data):
+def line(data, choices=Choices(), with_padding=False):
     """The whole answer in one line of the comparison's protocol."""
     try:
-        a = answer(data)
+        a = answer(data, choices)
     except Refused as refused:
         run = "" if refused.run is None else f" passes {refused.run}"
         return " ".join(map(str, ("refused", refused.number, *refused.place))) + run
     spans = ",".join(f"{s.address}:{'-' if s.offset is None else s.offset}:{s.size}" for s in a.spans)
     blocks = ",".join(f"{offset}:{size}" for offset, size in a.blocks)
-    return f"ok {a.k} {a.run} {a.length} {a.hex or '-'} | spans {spans or '-'} | blocks {blocks or '-'}"
+    said = f"ok {a.k} {a.run} {a.length} {a.hex or '-'} | spans {spans or '-'} | blocks {blocks or '-'}"
+    if with_padding:
+        said += " | padding " + ",".join(map(str, a.padding))
+        if a.pages is not None:
+            said += " | pages " + ",".join("-" if n is None else str(n) for n in a.pages)
+    return said
 
 
 def batch(stream):
@@ -416,13 +519,21 @@ def batch(stream):
 
 
 def main():
+    parser = argparse.ArgumentParser(description=__doc__, formatter_class=argparse.RawDescriptionHelpFormatter)
+    parser.add_argument("--line", action="store_true")
+    parser.add_argument("--batch", action="store_true")
+    parser.add_argument("--padding", action="store_true")
+    parser.add_argument("--fill", type=int, default=INHERITED)
+    parser.add_argument("--page", type=int)
+    asked = parser.parse_args()
+    choices = Choices(asked.fill, asked.page)
     data = sys.stdin.buffer.read()
-    if "--batch" in sys.argv:
-        sys.stdout.write("".join(line(file) + "\n" for file in batch(data)))
-    elif "--line" in sys.argv:
-        print(line(data))
+    if asked.batch:
+        sys.stdout.write("".join(line(file, choices, asked.padding) + "\n" for file in batch(data)))
+    elif asked.line:
+        print(line(data, choices, asked.padding))
     else:
-        sys.stdout.write(printed(data))
+        sys.stdout.write(printed(data, choices))
 
 
 if __name__ == "__main__":
