@@ -1,101 +1,9 @@
-// A file of form 1, laid out in one call.
+// A layout file, laid out in one call.
 use crate::DkLayout;
 use crate::told::tell_layout;
-use form::Form;
-use form::Shape;
-use output::Build;
-use output::Output;
 ghost use mathlib.Core.Path.{_≡_};
-ghost use Prim.Native.Nat.{_*_, _≤_};
-ghost use lib.ListN.{length, take};
-ghost use Rattle.form.specs.Shape.{formOf};
-ghost use Rattle.form.specs.Lists.{kindsOf, operandsOf, numbersOf, statesOf};
 ghost use Rattle.output.specs.Output.{lent};
-ghost use Rattle.denkumari.specs.Forms.{FormBuilt, FormTold, HeldIn};
-
-// Room for the lists of any sound file. A node takes 8 of its 65,000 bytes, and 5 more in each row.
-const ROOM: usize = 8_192;
-
-const CELLS: usize = 13_056;
-
-// The build of a sound file, whose lists stand in the front of those lent.
-fn build_read(
-    file: &[u8],
-    shape: Shape,
-    kinds: &[u8],
-    operands: &[u32],
-    numbers: &[u32],
-    states: &[u8],
-    image: &mut [u8],
-    addresses: &mut [i64],
-    offsets: &mut [u64],
-    sizes: &mut [u64],
-) -> Output
-    requires { ⌜ HeldIn (now file) shape (now kinds) (now operands) (now numbers) (now states) ⌝ }
-    ensures { λ r. ⌜
-        FormBuilt (now (file .entry))
-        (lent (now (image .entry)) (now (addresses .entry)) (now (offsets .entry)) (now (sizes .entry))) r
-        (lent (now (image .exit)) (now (addresses .exit)) (now (offsets .exit)) (now (sizes .exit)))
-        ⌝ }
-{
-    let nodes = shape.nodes as usize;
-    let cells = shape.rows as usize * nodes;
-    output::build_output(
-        form::read_banks(file),
-        &kinds[..nodes],
-        &operands[..nodes],
-        &numbers[..cells],
-        &states[..cells],
-        shape.rows,
-        form::read_values(file),
-        shape.limit,
-        image,
-        addresses,
-        offsets,
-        sizes,
-    )
-}
-
-// The build of a file: its lists are read into arrays that are large enough for any file.
-fn build_form(
-    file: &[u8],
-    image: &mut [u8],
-    addresses: &mut [i64],
-    offsets: &mut [u64],
-    sizes: &mut [u64],
-) -> Output
-    ensures { λ r. ⌜
-        FormBuilt (now (file .entry))
-        (lent (now (image .entry)) (now (addresses .entry)) (now (offsets .entry)) (now (sizes .entry))) r
-        (lent (now (image .exit)) (now (addresses .exit)) (now (offsets .exit)) (now (sizes .exit)))
-        ⌝ }
-{
-    match form::read_shape(file) {
-        Form::Broken(why) => Output {
-            build: Build::Refused(why),
-            passes: 0,
-        },
-        Form::Sound(shape) => {
-            let mut kinds = [0u8; ROOM];
-            let mut operands = [0u32; ROOM];
-            let mut numbers = [0u32; CELLS];
-            let mut states = [0u8; CELLS];
-            form::read_lists(file, &mut kinds, &mut operands, &mut numbers, &mut states);
-            build_read(
-                file,
-                shape,
-                &kinds,
-                &operands,
-                &numbers,
-                &states,
-                image,
-                addresses,
-                offsets,
-                sizes,
-            )
-        }
-    }
-}
+ghost use Rattle.denkumari.specs.Forms.{FormTold};
 
 // Lays a file of form 1 out: the image, and the spans in three lists. A refused call changes nothing that is lent.
 #[no_mangle]
@@ -112,5 +20,5 @@ pub extern "C" fn dk_form(
         (lent (now (image .exit)) (now (addresses .exit)) (now (offsets .exit)) (now (sizes .exit)))
         ⌝ }
 {
-    tell_layout(build_form(file, image, addresses, offsets, sizes))
+    tell_layout(filed::build_file(file, image, addresses, offsets, sizes))
 }

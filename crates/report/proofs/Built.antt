@@ -1,11 +1,9 @@
--- From the build's contract to its text: an accepted build fits what is lent, and its spans stand at the front of the lent lists.
+-- From the contract of a file's build to its text: an accepted build fits what is lent, and its spans stand at the front of the lent lists.
 use mathlib.Core.Path.{_≡_, refl, sym, ap, ap₂, subst, _∙_}
 use mathlib.Core.Bool.{Bool, true, false}
-use mathlib.Core.List.{List, [], _∷_}
-use Prim.Native.Nat.{ℕ, zero, suc, _+_, _-_, _*_, _≤_, min, zero-le}
+use mathlib.Core.List.{List, [], _∷_, _++_}
+use Prim.Native.Nat.{ℕ, zero, suc, _+_, _-_, _*_, _≤_, _<_, min, zero-le}
 use native.Mathlib.Omega.{arith}
-use mir.Syntax.{w32}
-use mir.Val.{Fits as FitsWidth}
 use lib.Dec.{ltb}
 use lib.ListN.{length, getD, take, drop, replicate, length-map}
 use lib.Seq.{take-at, getD-drop}
@@ -22,20 +20,25 @@ use Rattle.blocks.specs.Spans.{acceptable}
 use Rattle.output.specs.Items.{itemsOf, lengthOf, imageOf}
 use Rattle.output.specs.Placing.{Placed, holds, stops, placedAll}
 use Rattle.output.specs.Spans.{Span, spansOf, words, sizes}
-use Rattle.output.specs.Output.{Input, Lent, Room, roomOf, roomFor, placedBuild, settledBuild, buildOf, visitsOf, fillOf, passesOf, settledOf}
-use Rattle.output.specs.Output.{filled, leftBy, Builds}
+use Rattle.output.specs.Output.{Input, input, Lent, Room, roomOf, roomFor, placedBuild, settledBuild, buildOf, visitsOf, fillOf, passesOf, settledOf}
+use Rattle.output.specs.Output.{filled, leftBy}
 use Rattle.output.specs.declared.Build.{Build}
 use Rattle.output.specs.declared.Build.the-variants.{Done, Refused}
 use Rattle.output.specs.declared.Output.{Output}
 use Rattle.form.specs.Fields.{by-test}
+use Rattle.form.specs.Banks.{tableOf}
+use Rattle.form.specs.Columns.{column}
+use Rattle.form.specs.Lists.{cells}
+use Rattle.form.specs.Shape.{formOf, nodeCount, rowsStart, rowCount}
+use Rattle.form.specs.Words.{word32}
+use Rattle.form.specs.declared.Form.{Form}
+use Rattle.form.specs.declared.Form.the-variants.{Sound, Broken}
+use Rattle.filed.specs.Filed.{listsIn, outputBy, FileBuilt}
 use Rattle.text.specs.Lines.{refusalText}
-use Rattle.report.specs.Report.{imageRoom, spanRoom, lentRoom, doneText, answerText, builtText, laidText}
+use Rattle.report.specs.Report.{imageRoom, spanRoom, lentRoom, doneText, answerText, builtText, reportText}
 use Rattle.report.specs.Steps.{Fitting, answered, OffsetsFit}
 use Rattle.report.proofs.Fitting.{fit-acceptable, spans-fit}
-
--- a number of 32 bits is within the limit
-pub word-limit : {n : ℕ} → FitsWidth w32 n → n ≤ maxPosition
-word-limit f = omega (arith, f .fits)
+use Rattle.report.proofs.Table.{word-fits, table-fits}
 
 -- a part of numbers within the limit
 small-take : (n : ℕ) (l : List ℕ) → ((i : ℕ) → getD l i 0 ≤ maxPosition) → (i : ℕ) → getD (take n l) i 0 ≤ maxPosition
@@ -85,16 +88,24 @@ module _ (room : Room) (k bits n : ℕ) where
       let vs = visitsOf b passes in
       fits-placed k₁ (lengthOf (fillOf b) (itemsOf vs)) (length (spansOf vs)) (placedAll (b .banks .len) vs) e
 
+-- what is printed of a layout
+abbrev layoutText : Input → Output → List ℕ
+layoutText b answer = answerText (visitsOf b (answer .passes)) (b .lists .values) (answer .build)
+
+abbrev laidText : Input → List ℕ
+laidText b = layoutText b (buildOf b lentRoom)
+
 module _ (b : Input) (old : Lent) (hi : length (old .image) ≡ imageRoom) (ha : length (old .addresses) ≡ spanRoom) (ho : length (old .offsets) ≡ spanRoom)
-    (hs : length (old .sizes) ≡ spanRoom) (r : Output) (new : Lent) (built : Builds b old r new) where
+    (hs : length (old .sizes) ≡ spanRoom) (r : Output) (new : Lent) (answer : r ≡ buildOf b (roomOf old))
+    (left : new ≡ leftBy (visitsOf b (r .passes)) (b .lists .values) old (r .build)) where
   room-is : roomOf old ≡ lentRoom
   room-is = rw (hi, ha, ho, hs) refl
 
   answer-is : r ≡ buildOf b lentRoom
-  answer-is = built .answer ∙ ap (buildOf b) room-is
+  answer-is = answer ∙ ap (buildOf b) room-is
 
   refused-build : (why : Refusal) → r .build ≡ Refused why → refusalText why ≡ laidText b
-  refused-build why e = ap (answerText (visitsOf b (r .passes)) (b .lists .values)) (sym e) ∙ ap (builtText b) answer-is
+  refused-build why e = ap (answerText (visitsOf b (r .passes)) (b .lists .values)) (sym e) ∙ ap (layoutText b) answer-is
 
   module _ (k bits n : ℕ) (e : r .build ≡ Done k bits n) where
     abbrev spans : List Span
@@ -110,7 +121,7 @@ module _ (b : Input) (old : Lent) (hi : length (old .image) ≡ imageRoom) (ha :
     within = inside r answer-is e
 
     left-is : new ≡ filled (visitsOf b (r .passes)) (b .lists .values) old
-    left-is = built .left ∙ ap (leftBy (visitsOf b (r .passes)) (b .lists .values) old) e
+    left-is = left ∙ ap (leftBy (visitsOf b (r .passes)) (b .lists .values) old) e
 
     offsets-part : take n (new .offsets) ≡ words spans
     offsets-part =
@@ -130,10 +141,10 @@ module _ (b : Input) (old : Lent) (hi : length (old .image) ≡ imageRoom) (ha :
     done-build : doneText k bits (take n (new .offsets)) (take n (new .sizes)) (new .image) ≡ laidText b
     done-build =
         ap₂ (λ (a c : List ℕ). doneText k bits a c (new .image)) offsets-part sizes-part ∙ ap (doneText k bits (words spans) (sizes spans)) image-is
-        ∙ ap (answerText (visitsOf b (r .passes)) (b .lists .values)) (sym e) ∙ ap (builtText b) answer-is
+        ∙ ap (answerText (visitsOf b (r .passes)) (b .lists .values)) (sym e) ∙ ap (layoutText b) answer-is
 
   -- whatever the build answers
-  pub build-text : (q : Build) → r .build ≡ q → answered q (new .image) (new .offsets) (new .sizes) ≡ laidText b
+  build-text : (q : Build) → r .build ≡ q → answered q (new .image) (new .offsets) (new .sizes) ≡ laidText b
   build-text (Refused why) e = refused-build why e
   build-text (Done k bits n) e = done-build k bits n e
 
@@ -149,9 +160,60 @@ module _ (b : Input) (old : Lent) (hi : length (old .image) ≡ imageRoom) (ha :
         (row-small (min (r .passes) (b .lists .rows) - 1)) (length (b .lists .kinds)) in
         rw (offsets-part k bits n e, sizes-part k bits n e) (fit-acceptable (spans k bits n e) all (omega (arith, w .1, w .2)))
 
-    pub build-fits : (q : Build) → r .build ≡ q → length (new .image) ≡ imageRoom → length (new .offsets) ≡ spanRoom → length (new .sizes) ≡ spanRoom
+    build-fits : (q : Build) → r .build ≡ q → length (new .image) ≡ imageRoom → length (new .offsets) ≡ spanRoom → length (new .sizes) ≡ spanRoom
         → Fitting q (new .image) (new .offsets) (new .sizes)
     build-fits (Refused why) e gi go gs = tt
     build-fits (Done k bits n) e gi go gs =
         let w = within k bits n e in
         (rw gi (w .0), w .0, rw go (w .1), rw gs (w .1), accepted k bits n e)
+
+-- ---- the layout of a file
+
+-- five bytes a cell, each number of 32 bits
+small-append : (l m : List ℕ) → ((i : ℕ) → getD l i 0 ≤ maxPosition) → ((i : ℕ) → getD m i 0 ≤ maxPosition) → (i : ℕ) → getD (l ++ m) i 0 ≤ maxPosition
+small-append [] m hl hm i = hm i
+small-append (x ∷ l) m hl hm zero = hl 0
+small-append (x ∷ l) m hl hm (suc i) = small-append l m (λ j. hl (suc j)) hm i
+
+module _ (read : ℕ → ℕ) (small : (at : ℕ) → read at ≤ maxPosition) where
+  small-column : (step at n i : ℕ) → getD (column read step at n) i 0 ≤ maxPosition
+  unfolding column
+  small-column step at zero i = zero-le
+  small-column step at (suc n) zero = small at
+  small-column step at (suc n) (suc i) = small-column step (at + step) n i
+
+  small-cells : (nodes at rows i : ℕ) → getD (cells read nodes at rows) i 0 ≤ maxPosition
+  unfolding cells
+  small-cells nodes at zero i = zero-le
+  small-cells nodes at (suc rows) i =
+      small-append (column read 5 at nodes) (cells read nodes (at + (3 + 5 * nodes)) rows) (small-column 5 at nodes)
+      (small-cells nodes (at + (3 + 5 * nodes)) rows) i
+
+module _ (file : List ℕ) (bytes : (i : ℕ) → getD file i 0 < 256) (old : Lent) (hi : length (old .image) ≡ imageRoom)
+    (ha : length (old .addresses) ≡ spanRoom) (ho : length (old .offsets) ≡ spanRoom) (hs : length (old .sizes) ≡ spanRoom) (r : Output) (new : Lent)
+    (built : FileBuilt file old r new) where
+  told : (f : Form) → formOf file ≡ f → r ≡ outputBy file (roomOf old) f
+  told f e = built .answer ∙ ap (outputBy file (roomOf old)) e
+
+  room : roomOf old ≡ lentRoom
+  room = rw (hi, ha, ho, hs) refl
+
+  text-by : (f : Form) → formOf file ≡ f → answered (r .build) (new .image) (new .offsets) (new .sizes) ≡ builtText file (outputBy file lentRoom f)
+  text-by (Broken why) e = ap (λ (o : Output). answered (o .build) (new .image) (new .offsets) (new .sizes)) (told (Broken why) e)
+  text-by (Sound s) e =
+      build-text (input (tableOf file) (listsIn file) (s .limit)) old hi ha ho hs r new (told (Sound s) e) (built .left) (r .build) refl
+
+  pub file-text : answered (r .build) (new .image) (new .offsets) (new .sizes) ≡ reportText file
+  unfolding reportText
+  file-text = text-by (formOf file) refl
+
+  fits-by : (f : Form) → formOf file ≡ f → length (new .image) ≡ imageRoom → length (new .offsets) ≡ spanRoom → length (new .sizes) ≡ spanRoom
+      → Fitting (r .build) (new .image) (new .offsets) (new .sizes)
+  fits-by (Broken why) e gi go gs = rw (told (Broken why) e) tt
+  fits-by (Sound s) e gi go gs =
+      build-fits (input (tableOf file) (listsIn file) (s .limit)) old hi ha ho hs r new (told (Sound s) e) (built .left) (table-fits file bytes)
+      (small-cells (word32 file) (word-fits file bytes) (nodeCount file) (rowsStart file + 3) (rowCount file)) (r .build) refl gi go gs
+
+  pub file-fits : length (new .image) ≡ imageRoom → length (new .offsets) ≡ spanRoom → length (new .sizes) ≡ spanRoom
+      → Fitting (r .build) (new .image) (new .offsets) (new .sizes)
+  file-fits = fits-by (formOf file) refl

@@ -24,7 +24,7 @@ past-table (suc k) zero = tt
 past-table (suc k) (suc j) = past-table k j
 
 module _ (file : List ℕ) (bytes : (i : ℕ) → getD file i 0 < 256) where
-  word-fits : (at : ℕ) → word32 file at ≤ maxPosition
+  pub word-fits : (at : ℕ) → word32 file at ≤ maxPosition
   unfolding word32 word16
   word-fits at = omega (arith, bytes at, bytes (at + 1), bytes (at + 2), bytes (at + 2 + 1))
 

@@ -1,12 +1,6 @@
-// What the program prints for a file: the form read, the layout built, its blocks and its hex digits, and the text of them.
-use bankdef::Bankdefs;
+// What the program prints for a file: its layout built, its blocks and its hex digits, and the text of them.
 use blocks::Blocks;
-use form::Form;
-use form::Shape;
 use output::Build;
-use refusal::MAX_NODES;
-use refusal::Refusal;
-use refusal::Verdict;
 use text::Written;
 ghost use mathlib.Core.Path.{_≡_};
 ghost use mathlib.Core.Bool.{true};
@@ -14,14 +8,10 @@ ghost use Prim.Native.Nat.{_+_, _*_, _/_, _<_, _≤_};
 ghost use lib.ListN.{length};
 ghost use Rattle.refusal.specs.Limits.{maxNodes};
 ghost use Rattle.bitvec.specs.HexDigits.{hexOf, digitCount};
-ghost use Rattle.form.specs.Banks.{tableOf};
-ghost use Rattle.form.specs.Shape.{formOf};
-ghost use Rattle.output.specs.Output.{input};
-ghost use Rattle.resolver.specs.Lists.{lists};
 ghost use Rattle.text.specs.Lines.{layoutText};
 ghost use Rattle.text.specs.Puts.{Puts};
-ghost use Rattle.report.specs.Report.{imageRoom, spanRoom, doneText, laidText, soundText, countRefusal, reportText};
-ghost use Rattle.report.specs.Steps.{Fitting, answered, OffsetsFit};
+ghost use Rattle.report.specs.Report.{imageRoom, spanRoom, doneText, reportText};
+ghost use Rattle.report.specs.Steps.{Fitting, answered};
 ghost use Rattle.blocks.specs.Spans.{acceptable};
 
 // The lines of a layout whose blocks are found. The room lent for the hex digits suffices.
@@ -143,16 +133,9 @@ fn put_answer(build: Build, image: &[u8], offsets: &[u64], sizes: &[u64], out: &
     }
 }
 
-// Builds the layout in what is lent, and puts its text.
+// Builds the file's layout in what is lent, and puts its text.
 fn put_build(
-    banks: Bankdefs,
-    kinds: &[u8],
-    operands: &[u32],
-    numbers: &[u32],
-    states: &[u8],
-    rows: u64,
-    values: &[u8],
-    limit: u8,
+    file: &[u8],
     image: &mut [u8],
     addresses: &mut [i64],
     offsets: &mut [u64],
@@ -163,160 +146,27 @@ fn put_build(
     requires { ⌜ length (now addresses) ≡ spanRoom ⌝ }
     requires { ⌜ length (now offsets) ≡ spanRoom ⌝ }
     requires { ⌜ length (now sizes) ≡ spanRoom ⌝ }
-    requires { ⌜ OffsetsFit banks ⌝ }
-    ensures { λ r. ⌜
-        Puts
-        (laidText (input banks
-        (lists (now (kinds .entry)) (now (operands .entry)) (now (numbers .entry)) (now (states .entry)) rows (now (values .entry)))
-        limit))
-        (now (out .entry)) 0 r (now (out .exit))
-        ⌝ }
+    ensures { λ r. ⌜ Puts (reportText (now (file .entry))) (now (out .entry)) 0 r (now (out .exit)) ⌝ }
 {
-    let answer = output::build_output(
-        banks,
-        kinds,
-        operands,
-        numbers,
-        states,
-        rows,
-        values,
-        limit,
-        image,
-        addresses,
-        offsets,
-        sizes,
-    );
+    let answer = filed::build_file(file, image, addresses, offsets, sizes);
     let build = answer.build;
     put_answer(build, image, offsets, sizes, out)
 }
 
-// Lends room for the image and the spans.
-fn put_layout(
-    banks: Bankdefs,
-    kinds: &[u8],
-    operands: &[u32],
-    numbers: &[u32],
-    states: &[u8],
-    rows: u64,
-    values: &[u8],
-    limit: u8,
-    out: &mut [u8],
-) -> Written
-    requires { ⌜ OffsetsFit banks ⌝ }
-    ensures { λ r. ⌜
-        Puts
-        (laidText (input banks
-        (lists (now (kinds .entry)) (now (operands .entry)) (now (numbers .entry)) (now (states .entry)) rows (now (values .entry)))
-        limit))
-        (now (out .entry)) 0 r (now (out .exit))
-        ⌝ }
+// What the program prints for a file's bytes, put at the front of `out`. Lends room for the image and the spans.
+pub fn report(file: &[u8], out: &mut [u8]) -> Written
+    ensures { λ r. ⌜ Puts (reportText (now (file .entry))) (now (out .entry)) 0 r (now (out .exit)) ⌝ }
 {
     let mut image = [0u8; 16384];
     let mut addresses = [0i64; 4096];
     let mut offsets = [0u64; 4096];
     let mut sizes = [0u64; 4096];
     put_build(
-        banks,
-        kinds,
-        operands,
-        numbers,
-        states,
-        rows,
-        values,
-        limit,
+        file,
         &mut image,
         &mut addresses,
         &mut offsets,
         &mut sizes,
         out,
     )
-}
-
-// Reads the lists of a sound file into what is lent, which suffices, and puts the text of their layout.
-fn put_lists(
-    file: &[u8],
-    shape: Shape,
-    kinds: &mut [u8],
-    operands: &mut [u32],
-    numbers: &mut [u32],
-    states: &mut [u8],
-    out: &mut [u8],
-) -> Written
-    requires { ⌜ formOf (now file) ≡ Form.Sound shape ⌝ }
-    requires { ⌜ shape .nodes ≤ maxNodes ⌝ }
-    requires { ⌜ maxNodes ≤ length (now kinds) ⌝ }
-    requires { ⌜ maxNodes ≤ length (now operands) ⌝ }
-    requires { ⌜ 13000 ≤ length (now numbers) ⌝ }
-    requires { ⌜ 13000 ≤ length (now states) ⌝ }
-    ensures { λ r. ⌜ Puts (soundText (now (file .entry)) shape) (now (out .entry)) 0 r (now (out .exit)) ⌝ }
-{
-    form::read_lists(file, kinds, operands, numbers, states);
-    let banks = form::read_banks(file);
-    let values = form::read_values(file);
-    let nodes = shape.nodes as usize;
-    let cells = shape.rows as usize * nodes;
-    put_layout(
-        banks,
-        &kinds[..nodes],
-        &operands[..nodes],
-        &numbers[..cells],
-        &states[..cells],
-        shape.rows,
-        values,
-        shape.limit,
-        out,
-    )
-}
-
-// Lends room for the lists. A file of 65,000 bytes has at most 13,000 numbers and states.
-fn put_few(file: &[u8], shape: Shape, out: &mut [u8]) -> Written
-    requires { ⌜ formOf (now file) ≡ Form.Sound shape ⌝ }
-    requires { ⌜ shape .nodes ≤ maxNodes ⌝ }
-    ensures { λ r. ⌜ Puts (soundText (now (file .entry)) shape) (now (out .entry)) 0 r (now (out .exit)) ⌝ }
-{
-    let mut kinds = [0u8; 4096];
-    let mut operands = [0u32; 4096];
-    let mut numbers = [0u32; 13000];
-    let mut states = [0u8; 13000];
-    put_lists(
-        file,
-        shape,
-        &mut kinds,
-        &mut operands,
-        &mut numbers,
-        &mut states,
-        out,
-    )
-}
-
-// Why a layout with too many nodes is refused: for its banks, or else for the count.
-fn count_refusal(banks: Bankdefs) -> Refusal
-    ensures { λ r. ⌜ r ≡ countRefusal banks ⌝ }
-{
-    match bankdef::check(banks) {
-        Verdict::Refused(why) => why,
-        Verdict::Accepted => Refusal::Malformed(0),
-    }
-}
-
-// The text of a sound file.
-fn put_sound(file: &[u8], shape: Shape, out: &mut [u8]) -> Written
-    requires { ⌜ formOf (now file) ≡ Form.Sound shape ⌝ }
-    ensures { λ r. ⌜ Puts (soundText (now (file .entry)) shape) (now (out .entry)) 0 r (now (out .exit)) ⌝ }
-{
-    if MAX_NODES < shape.nodes {
-        let banks = form::read_banks(file);
-        return text::put_refusal(out, 0, count_refusal(banks));
-    }
-    put_few(file, shape, out)
-}
-
-// What the program prints for a file's bytes, put at the front of `out`.
-pub fn report(file: &[u8], out: &mut [u8]) -> Written
-    ensures { λ r. ⌜ Puts (reportText (now (file .entry))) (now (out .entry)) 0 r (now (out .exit)) ⌝ }
-{
-    match form::read_shape(file) {
-        Form::Sound(shape) => put_sound(file, shape, out),
-        Form::Broken(why) => text::put_refusal(out, 0, why),
-    }
 }

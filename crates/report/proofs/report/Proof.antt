@@ -1,49 +1,37 @@
--- `report` meets its contract: a sound file is laid out, a broken one refused.
-use mathlib.Core.Path.{sym, _∙_}
-use Rattle.report.specs.Report.{reportText}
+-- `report` meets its contract: the arrays are as long as `put_build` requires.
 use borrow.Author.Needs.{needs}
 use Rattle.report.proofs.report.Statement.{statement}
 use Rattle.report.proofs.report.Tie as tie
 
-read-shape-requires : tie.Need-read-shape-requires
-read-shape-requires c κs = search needs
+slice-aggregate-put-build : tie.Need-slice-aggregate-put-build
+slice-aggregate-put-build c = search needs
 
-enum-known-shape : tie.Need-enum-known-shape
-enum-known-shape c = search needs
+slice-aggregate-put-build-2 : tie.Need-slice-aggregate-put-build-2
+slice-aggregate-put-build-2 c = search needs
 
-put-sound-requires : tie.Need-put-sound-requires
-put-sound-requires c κs = sym (c .before .before .before .before .read-shape .ensures) ∙ c .before .before .shape .given .1
+slice-aggregate-put-build-3 : tie.Need-slice-aggregate-put-build-3
+slice-aggregate-put-build-3 c = search needs
 
-enum-known-why : tie.Need-enum-known-why
-enum-known-why c = search needs
+slice-aggregate-put-build-4 : tie.Need-slice-aggregate-put-build-4
+slice-aggregate-put-build-4 c = search needs
 
-put-refusal-requires : tie.Need-put-refusal-requires
-put-refusal-requires c κs = search needs
+put-build-requires : tie.Need-put-build-requires
+put-build-requires c κs = (search needs, (search needs, (search needs, search needs)))
 
 same-length : tie.Need-same-length
 same-length c = search needs
 
 returns : tie.Need-returns
-unfolding reportText
-returns c = rw (sym (c .before .before .before .before .before .before .before .read-shape .ensures) ∙ c .before .before .before .before .before .shape .given .1) (c .before .before .put-sound .ensures)
-
-same-length-2 : tie.Need-same-length-2
-same-length-2 c = search needs
-
-returns-2 : tie.Need-returns-2
-unfolding reportText
-returns-2 c = rw (sym (c .before .before .before .before .before .before .before .read-shape .ensures) ∙ c .before .before .before .before .before .why .given .1) (c .before .before .put-refusal .ensures)
+returns c = search needs
 
 pub report-spec : {M : Type 1} → statement M
 report-spec =
     tie.close
     (tie.spec
-    read-shape-requires
-    enum-known-shape
-    put-sound-requires
-    enum-known-why
-    put-refusal-requires
+    slice-aggregate-put-build
+    slice-aggregate-put-build-2
+    slice-aggregate-put-build-3
+    slice-aggregate-put-build-4
+    put-build-requires
     same-length
-    returns
-    same-length-2
-    returns-2)
+    returns)

@@ -7,8 +7,8 @@ use borrow.Author.Needs.{needs}
 use Rattle.denkumari.proofs.forms.dk_form.Statement.{statement}
 use Rattle.denkumari.proofs.forms.dk_form.Tie as tie
 
-build-form-requires : tie.Need-build-form-requires
-build-form-requires c κs = search needs
+build-file-requires : tie.Need-build-file-requires
+build-file-requires c κs = search needs
 
 tell-layout-requires : tie.Need-tell-layout-requires
 tell-layout-requires c κs = search needs
@@ -28,14 +28,14 @@ same-length-4 c = search needs
 returns : tie.Need-returns
 returns c =
     let a = c .before .before .before .before .before .before .before .before .before .before .before .before .before .before .before .before .before .args in
-    let b = c .before .before .before .before .before .before .before .before .build-form in
+    let b = c .before .before .before .before .before .before .before .before .build-file in
     record { answer = c .tell-layout .ensures ∙ ap layoutTold (b .ensures .answer); built = as-told (a .file .now) (lent (a .image .now) (a .addresses .now) (a .offsets .now) (a .sizes .now)) (b .ensures) }
 
 pub dk-form-spec : {M : Type 1} → statement M
 dk-form-spec =
     tie.close
     (tie.spec
-    build-form-requires
+    build-file-requires
     tell-layout-requires
     same-length
     same-length-2

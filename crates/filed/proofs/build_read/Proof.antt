@@ -1,11 +1,11 @@
 -- `build_read` meets its contract: the fronts of the lists are the file's lists.
 use mathlib.Core.Path.{sym}
 use lib.Seq.{length-take-le}
-use Rattle.denkumari.proofs.FormLaws.{laid-out}
+use Rattle.filed.proofs.Laws.{laid-out}
 use Rattle.output.specs.Output.{lent}
 use borrow.Author.Needs.{needs}
-use Rattle.denkumari.proofs.forms.build_read.Statement.{statement}
-use Rattle.denkumari.proofs.forms.build_read.Tie as tie
+use Rattle.filed.proofs.build_read.Statement.{statement}
+use Rattle.filed.proofs.build_read.Tie as tie
 
 mul-cells : tie.Need-mul-cells
 mul-cells c = search needs

@@ -1,11 +1,11 @@
--- `build_form` meets its contract: a broken file changes nothing, and a sound one's lists fit the arrays.
+-- `build_file` meets its contract: a broken file changes nothing, and a sound one's lists fit the arrays.
 use mathlib.Core.Path.{sym, _∙_}
-use Rattle.denkumari.proofs.FormLaws.{held, broken}
+use Rattle.filed.proofs.Laws.{held, broken}
 use native.Mathlib.Omega.{arith}
 use Rattle.output.specs.Output.{lent}
 use borrow.Author.Needs.{needs}
-use Rattle.denkumari.proofs.forms.build_form.Statement.{statement}
-use Rattle.denkumari.proofs.forms.build_form.Tie as tie
+use Rattle.filed.proofs.build_file.Statement.{statement}
+use Rattle.filed.proofs.build_file.Tie as tie
 
 read-shape-requires : tie.Need-read-shape-requires
 read-shape-requires c κs = search needs
@@ -68,8 +68,8 @@ same-length-4 c = search needs
 returns-2 : tie.Need-returns-2
 returns-2 c = search needs
 
-pub build-form-spec : {M : Type 1} → statement M
-build-form-spec =
+pub build-file-spec : {M : Type 1} → statement M
+build-file-spec =
     tie.close
     (tie.spec
     read-shape-requires

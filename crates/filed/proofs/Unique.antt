@@ -1,0 +1,18 @@
+-- Uniqueness over the contract's own clause: the answer, and what stands in the lent slices afterwards.
+use borrow.Fn.Kinds.{endedOf}
+use contract.Lifetimes.{Lfts}
+use denote.Triple.Clauses.{AtExit}
+use Rattle.refusal.specs.Outcome.{OneView}
+use Rattle.refusal.specs.Pick.{paired}
+use Rattle.output.specs.Output.{Lent, lent}
+use Rattle.output.specs.declared.Output.{Output}
+use Rattle.filed.specs.Unique.{one-file-build}
+use Rattle.filed.proofs.build_file.Kinds as build-kinds
+use Rattle.filed.proofs.build_file.Reads as build-reads
+
+-- what is lent to the build, at exit
+abbrev fileLent : (κs : Lfts 5) → AtExit (endedOf 5 build-kinds.ps build-kinds.r) κs → Lent
+fileLent κs e = lent (e .1 .0 .now) (e .1 .1 .0 .now) (e .1 .1 .1 .0 .now) (e .1 .1 .1 .1 .0 .now)
+
+pub build-file-unique : OneView 5 build-kinds.ps build-kinds.r build-reads.Learnt (Output × Lent) (λ κs x e. (x, fileLent κs e))
+build-file-unique κs a x y e f p q = let same = one-file-build p q in paired (same .0) (same .1)

@@ -1,0 +1,96 @@
+// A layout file, laid out: what it says goes to the build. The way from a file to its build stands here once.
+use form::Form;
+use form::Shape;
+use output::Build;
+use output::Output;
+ghost use mathlib.Core.Path.{_≡_};
+ghost use Prim.Native.Nat.{_*_, _≤_};
+ghost use lib.ListN.{length, take};
+ghost use Rattle.form.specs.Shape.{formOf};
+ghost use Rattle.form.specs.Lists.{kindsOf, operandsOf, numbersOf, statesOf};
+ghost use Rattle.output.specs.Output.{lent};
+ghost use Rattle.filed.specs.Filed.{FileBuilt, HeldIn};
+
+// Room for the lists of any sound file. A node takes 8 of its 65,000 bytes, and 5 more in each row.
+const ROOM: usize = 8_192;
+
+const CELLS: usize = 13_056;
+
+// The build of a sound file, whose lists stand in the front of those lent.
+fn build_read(
+    file: &[u8],
+    shape: Shape,
+    kinds: &[u8],
+    operands: &[u32],
+    numbers: &[u32],
+    states: &[u8],
+    image: &mut [u8],
+    addresses: &mut [i64],
+    offsets: &mut [u64],
+    sizes: &mut [u64],
+) -> Output
+    requires { ⌜ HeldIn (now file) shape (now kinds) (now operands) (now numbers) (now states) ⌝ }
+    ensures { λ r. ⌜
+        FileBuilt (now (file .entry))
+        (lent (now (image .entry)) (now (addresses .entry)) (now (offsets .entry)) (now (sizes .entry))) r
+        (lent (now (image .exit)) (now (addresses .exit)) (now (offsets .exit)) (now (sizes .exit)))
+        ⌝ }
+{
+    let nodes = shape.nodes as usize;
+    let cells = shape.rows as usize * nodes;
+    output::build_output(
+        form::read_banks(file),
+        &kinds[..nodes],
+        &operands[..nodes],
+        &numbers[..cells],
+        &states[..cells],
+        shape.rows,
+        form::read_values(file),
+        shape.limit,
+        image,
+        addresses,
+        offsets,
+        sizes,
+    )
+}
+
+// The build of a file: its lists are read into arrays that are large enough for any file. A refused call changes nothing that is lent.
+pub fn build_file(
+    file: &[u8],
+    image: &mut [u8],
+    addresses: &mut [i64],
+    offsets: &mut [u64],
+    sizes: &mut [u64],
+) -> Output
+    ensures { λ r. ⌜
+        FileBuilt (now (file .entry))
+        (lent (now (image .entry)) (now (addresses .entry)) (now (offsets .entry)) (now (sizes .entry))) r
+        (lent (now (image .exit)) (now (addresses .exit)) (now (offsets .exit)) (now (sizes .exit)))
+        ⌝ }
+{
+    match form::read_shape(file) {
+        Form::Broken(why) => Output {
+            build: Build::Refused(why),
+            passes: 0,
+        },
+        Form::Sound(shape) => {
+            let mut kinds = [0u8; ROOM];
+            let mut operands = [0u32; ROOM];
+            let mut numbers = [0u32; CELLS];
+            let mut states = [0u8; CELLS];
+            form::read_lists(file, &mut kinds, &mut operands, &mut numbers, &mut states);
+            build_read(
+                file,
+                shape,
+                &kinds,
+                &operands,
+                &numbers,
+                &states,
+                image,
+                addresses,
+                offsets,
+                sizes,
+            )
+        }
+    }
+}
