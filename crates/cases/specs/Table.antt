@@ -32,7 +32,7 @@ use Rattle.bitvec.specs.HexDigits.{hexOf, digitAt, digitValue, paddedBit}
 use Rattle.sort.specs.Sorted.{insertBy, sortedBy}
 use Rattle.blocks.specs.Spans.{spansOf}
 use Rattle.blocks.specs.Walk.{blocksFrom, blocksOf}
-use Rattle.output.specs.Placing.{checked, placing}
+use Rattle.output.specs.Placing.{closesDefault, checked, placing}
 use Rattle.iter.specs.Address.{outputPosition}
 use Rattle.cases.specs.Figures.{ofVerdict, ofDistance, ofBlocks, ofResolution}
 
@@ -52,7 +52,7 @@ forty = record { unit = 10; start = pos 0; size = Some 40; offset = Some 0; alig
 abbrev tenAt : ℕ → List ℕ
 tenAt position =
     ofVerdict
-    (placing 2 1 forty emptyState (record { index = 5; kind = 4; operand = 0; number = 10; state = 0 })
+    (placing (closesDefault 2) 1 forty emptyState (record { index = 5; kind = 4; operand = 0; number = 10; state = 0 })
     (record { position = position; known = true }) (outputPosition forty position))
 
 -- what the store answers to an offer after others

@@ -1,7 +1,7 @@
 -- The build's answer by what the first walk found, one law for each return.
 use mathlib.Core.Path.{_≡_, refl, sym, ap, subst, _∙_}
 use mathlib.Core.Logic.{⊎-elim}
-use mathlib.Core.Bool.{true, false}
+use mathlib.Core.Bool.{Bool, true, false}
 use mathlib.Core.List.{List, List·Memᴰ}
 use Prim.Native.Nat.{ℕ, _+_, _-_, _*_, _/_, _≤_, _<_, min}
 use native.Mathlib.Nat.{le-trans, mul-le-mul-right, add-mul, one-mul}
@@ -14,11 +14,13 @@ use Rattle.refusal.specs.Pick.{pick, pick-true, pick-false}
 use Rattle.refusal.specs.declared.Refusal.{Refusal}
 use Rattle.refusal.specs.declared.Refusal.the-variants.{TooShort}
 use Rattle.refusal.specs.declared.Verdict.the-variants.{Accepted, Refused as TurnedAway}
+use Rattle.bankdef.specs.Check.{banksOf}
 use Rattle.resolver.specs.Lists.{Row}
 use Rattle.resolver.specs.Once.{Program}
 use Rattle.overlap_checker.specs.Ascending.{lt-or-le}
 use Rattle.output.specs.Visits.{visits}
 use Rattle.output.specs.Items.{itemsOf, lengthOf, imageOf}
+use Rattle.output.specs.Blank.{blank-zeros}
 use Rattle.output.specs.ItemLaws.{end-within}
 use Rattle.output.specs.Placing.{Placed, holds, stops, placedAll}
 use Rattle.output.specs.Spans.{spansOf, over, addresses, words, sizes}
@@ -55,34 +57,34 @@ built-by : (room : Room) (k bits spans : ℕ) (q : Placed) → verdictPlaced q �
 built-by room k bits spans (holds l) e = refl
 built-by room k bits spans (stops why) e = absurd (let z : _≡_ {A = ℕ} 0 1 = cc in omega arith)
 
-module _ (p : Program) (row : Row) (fill k : ℕ) (values : List ℕ) (old : Lent) (plan : Plan) (planned : Planned p row fill plan) where
+module _ (p : Program) (row : Row) (closed : Bool) (fill k : ℕ) (values : List ℕ) (old : Lent) (plan : Plan) (planned : Planned p row closed fill plan) where
   -- a build that changes nothing
-  kept : (why : Refusal) → Refused why ≡ buildRow (p .banks .len) (visits p row) fill (roomOf old) k → RowBuilt p row fill k values old (Refused why) old
+  kept : (why : Refusal) → Refused why ≡ buildRow closed (visits p row) fill (roomOf old) k → RowBuilt p row closed fill k values old (Refused why) old
   kept why e = record { answer = e; left = refl }
 
-  pub row-stopped : (why : Refusal) → plan .verdict ≡ TurnedAway why → RowBuilt p row fill k values old (Refused why) old
+  pub row-stopped : (why : Refusal) → plan .verdict ≡ TurnedAway why → RowBuilt p row closed fill k values old (Refused why) old
   row-stopped why e =
       kept why
       (sym (ap (placedBuild (roomOf old) k (lengthOf fill (itemsOf (visits p row))) (length (spansOf (visits p row))))
-      (stopped-by (placedAll (p .banks .len) (visits p row)) why (sym (planned .verdict) ∙ e))))
+      (stopped-by (placedAll closed (visits p row)) why (sym (planned .verdict) ∙ e))))
 
   module _ (accepted : plan .verdict ≡ Accepted) where
-    answers : buildRow (p .banks .len) (visits p row) fill (roomOf old) k ≡ roomFor (roomOf old) k (plan .length) (plan .spans)
+    answers : buildRow closed (visits p row) fill (roomOf old) k ≡ roomFor (roomOf old) k (plan .length) (plan .spans)
     answers =
-        built-by (roomOf old) k (lengthOf fill (itemsOf (visits p row))) (length (spansOf (visits p row))) (placedAll (p .banks .len) (visits p row))
+        built-by (roomOf old) k (lengthOf fill (itemsOf (visits p row))) (length (spansOf (visits p row))) (placedAll closed (visits p row))
         (sym (planned .verdict) ∙ accepted)
         ∙ ap (λ (n : ℕ). roomFor (roomOf old) k n (length (spansOf (visits p row)))) (sym (planned .reach accepted))
         ∙ ap (λ (n : ℕ). roomFor (roomOf old) k (plan .length) n) (sym (planned .count accepted))
 
-    pub row-short-image : ltb (8 * length (old .image)) (plan .length) ≡ true → RowBuilt p row fill k values old (Refused (TooShort 0)) old
+    pub row-short-image : ltb (8 * length (old .image)) (plan .length) ≡ true → RowBuilt p row closed fill k values old (Refused (TooShort 0)) old
     row-short-image short = kept (TooShort 0) (sym (answers ∙ pick-true (Refused (TooShort 0)) _ short))
 
     module _ (long : ltb (8 * length (old .image)) (plan .length) ≡ false) where
-      rest : buildRow (p .banks .len) (visits p row) fill (roomOf old) k
+      rest : buildRow closed (visits p row) fill (roomOf old) k
           ≡ pick (ltb (roomOf old .spans) (plan .spans)) (Refused (TooShort 1)) (Done k (plan .length) (plan .spans))
       rest = answers ∙ pick-false (Refused (TooShort 0)) _ long
 
-      pub row-short-spans : roomOf old .spans < plan .spans → RowBuilt p row fill k values old (Refused (TooShort 1)) old
+      pub row-short-spans : roomOf old .spans < plan .spans → RowBuilt p row closed fill k values old (Refused (TooShort 1)) old
       row-short-spans short = kept (TooShort 1) (sym (rest ∙ pick-true (Refused (TooShort 1)) _ (lt-ltb _ _ short)))
 
       -- the image is long enough for every written item
@@ -104,9 +106,9 @@ module _ (p : Program) (row : Row) (fill k : ℕ) (values : List ℕ) (old : Len
             → addressed′ ≡ over (addresses (spansOf (visits p row))) (old .addresses)
             → offsets′ ≡ over (words (spansOf (visits p row))) (old .offsets)
             → sized′ ≡ over (sizes (spansOf (visits p row))) (old .sizes)
-            → RowBuilt p row fill k values old (Done k (plan .length) (plan .spans)) (lent image′ addressed′ offsets′ sized′)
+            → RowBuilt p row closed fill k values old (Done k (plan .length) (plan .spans)) (lent image′ addressed′ offsets′ sized′)
         row-done image′ addressed′ offsets′ sized′ a b c d =
             record {
               answer = sym (rest ∙ pick-false (Refused (TooShort 1)) _ (le-ltb _ _ enough));
-              left = rw (a, b, c, d);
+              left = rw (a, b, c, d, blank-zeros (banksOf (p .banks)) (plan .length) (length (old .image)));
             }

@@ -90,25 +90,25 @@ answered-one s e node offer made r same = rw made same
 
 -- ---- the verdict on a node
 
-module _ (banks bank : ℕ) (def : Bankdef) (s : State) (n : Node) (out : Offset) (seen : Moved) where
-  pub verdict-stopped : (why : Refusal) → seen ≡ Stopped why → Refused why ≡ verdictSeen banks bank def s n out seen
+module _ (closed : Bool) (bank : ℕ) (def : Bankdef) (s : State) (n : Node) (out : Offset) (seen : Moved) where
+  pub verdict-stopped : (why : Refusal) → seen ≡ Stopped why → Refused why ≡ verdictSeen closed bank def s n out seen
   verdict-stopped why e = rw e
 
   module _ (at : Pos) (e : seen ≡ To at) where
-    pub verdict-unplaced : isPlaced n ≡ false → Accepted ≡ verdictSeen banks bank def s n out seen
-    verdict-unplaced none = sym (ap (verdictSeen banks bank def s n out) e ∙ pick-false (tried banks bank def s n at out) Accepted none)
+    pub verdict-unplaced : isPlaced n ≡ false → Accepted ≡ verdictSeen closed bank def s n out seen
+    verdict-unplaced none = sym (ap (verdictSeen closed bank def s n out) e ∙ pick-false (tried closed bank def s n at out) Accepted none)
 
-    module _ (placed : isPlaced n ≡ true) (v : Verdict) (checks : v ≡ checked banks bank def n at out) where
-      reads : verdictSeen banks bank def s n out seen ≡ firstOf v (answered s (n .index) (offerAt n out))
+    module _ (placed : isPlaced n ≡ true) (v : Verdict) (checks : v ≡ checked closed bank def n at out) where
+      reads : verdictSeen closed bank def s n out seen ≡ firstOf v (answered s (n .index) (offerAt n out))
       reads =
-          ap (verdictSeen banks bank def s n out) e
-          ∙ pick-true (tried banks bank def s n at out) Accepted placed
+          ap (verdictSeen closed bank def s n out) e
+          ∙ pick-true (tried closed bank def s n at out) Accepted placed
           ∙ ap (λ (w : Verdict). firstOf w (answered s (n .index) (offerAt n out))) (sym checks)
 
-      pub verdict-checked : (why : Refusal) → v ≡ Refused why → Refused why ≡ verdictSeen banks bank def s n out seen
+      pub verdict-checked : (why : Refusal) → v ≡ Refused why → Refused why ≡ verdictSeen closed bank def s n out seen
       verdict-checked why r = sym (reads ∙ ap (λ (w : Verdict). firstOf w (answered s (n .index) (offerAt n out))) r)
 
-      pub verdict-offered : v ≡ Accepted → (r : Verdict) → r ≡ answered s (n .index) (offerAt n out) → r ≡ verdictSeen banks bank def s n out seen
+      pub verdict-offered : v ≡ Accepted → (r : Verdict) → r ≡ answered s (n .index) (offerAt n out) → r ≡ verdictSeen closed bank def s n out seen
       verdict-offered a r o = o ∙ sym (reads ∙ ap (λ (w : Verdict). firstOf w (answered s (n .index) (offerAt n out))) a)
 
 -- ---- the image's length after a node

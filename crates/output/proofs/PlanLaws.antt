@@ -31,12 +31,12 @@ use Rattle.output.specs.Steps.{Goes, Planned, maxEnd, verdictPlaced}
 use Rattle.output.proofs.Upto.{spansTo, lengthTo, placedTo, spans-next, length-next, placed-next, spans-none, items-none, placed-none}
 
 -- The first walk before node i: the walk of the row, a sound store that holds what is placed so far, the length and the spans so far.
-pub record Going (p : Program) (row : Row) (fill i : ℕ) (walk : Walk) (positions sizes : List ℕ) (count : ℕ) (marks : List ℕ)
+pub record Going (p : Program) (row : Row) (closed : Bool) (fill i : ℕ) (walk : Walk) (positions sizes : List ℕ) (count : ℕ) (marks : List ℕ)
     (marked reach spans : ℕ) : Type 0 where
   pub within : i ≤ length (p .kinds)
   pub walks : walk ≡ walkTo p row i
   pub sound : Sound (store positions sizes count marks marked)
-  pub placed : placedTo p row i ≡ holds (stateIn (store positions sizes count marks marked))
+  pub placed : placedTo p row closed i ≡ holds (stateIn (store positions sizes count marks marked))
   pub reaches : reach ≡ lengthTo p row fill i
   pub low : reach ≤ maxEnd
   pub counts : spans ≡ length (spansTo p row i)
@@ -44,13 +44,13 @@ pub record Going (p : Program) (row : Row) (fill i : ℕ) (walk : Walk) (positio
 
 module _ (p : Program) (row : Row) where
   -- a refusal stays
-  stops-on : (i n : ℕ) (why : Refusal) → i ≤ n → placedTo p row i ≡ stops why → placedTo p row n ≡ stops why
-  stops-on i n why b e =
+  stops-on : (closed : Bool) (i n : ℕ) (why : Refusal) → i ≤ n → placedTo p row closed i ≡ stops why → placedTo p row closed n ≡ stops why
+  stops-on closed i n why b e =
       let r = visits-split p row i n b in
-      ap (placedAll (p .banks .len)) (r .1)
-      ∙ placed-append (p .banks .len) (holds emptyState) (visitsTo p row i) (r .0)
-      ∙ ap (λ (q : Rattle.output.specs.Placing.Placed). placedFrom (p .banks .len) q (r .0)) e
-      ∙ stops-stay (p .banks .len) why (r .0)
+      ap (placedAll closed) (r .1)
+      ∙ placed-append closed (holds emptyState) (visitsTo p row i) (r .0)
+      ∙ ap (λ (q : Rattle.output.specs.Placing.Placed). placedFrom closed q (r .0)) e
+      ∙ stops-stay closed why (r .0)
 
   count-next : (i : ℕ) → length (spansTo p row (suc i)) ≡ pick (isSpan (visitAt p row i .node)) (length (spansTo p row i) + 1) (length (spansTo p row i))
   count-next i = ap length (spans-next p row i) ∙ at-either (isSpan (visitAt p row i .node))
@@ -72,41 +72,41 @@ module _ (p : Program) (row : Row) where
   start-length fill = ap (lengthOf fill) (sym (items-none p row))
 
   -- the walk begins
-  pub begins : (fill : ℕ) (walk : Walk) → walk ≡ startOf → fill ≤ maxOffer
-      → Going p row fill 0 walk (replicate 512 0) (replicate 512 0) 0 (replicate 512 0) 0 fill 0
-  begins fill walk e b =
+  pub begins : (closed : Bool) (fill : ℕ) (walk : Walk) → walk ≡ startOf → fill ≤ maxOffer
+      → Going p row closed fill 0 walk (replicate 512 0) (replicate 512 0) 0 (replicate 512 0) 0 fill 0
+  begins closed fill walk e b =
       let none = store (replicate 512 0) (replicate 512 0) 0 (replicate 512 0) 0 in
       record {
         within = omega arith;
         walks = e ∙ start-walk;
         sound =
             sound-none none (length-replicate {A = ℕ} 512 0) (length-replicate {A = ℕ} 512 0) (length-replicate {A = ℕ} 512 0) refl refl;
-        placed = placed-none p row ∙ ap holds (sym (state-none none refl refl));
+        placed = placed-none p row closed ∙ ap holds (sym (state-none none refl refl));
         reaches = start-length fill;
         low = omega arith;
         counts = ap length (sym (spans-none p row));
         few = omega arith;
       }
 
-  module _ (fill i : ℕ) (walk : Walk) (positions sizes : List ℕ) (count : ℕ) (marks : List ℕ) (marked reach spans : ℕ)
-      (g : Going p row fill i walk positions sizes count marks marked reach spans)
+  module _ (closed : Bool) (fill i : ℕ) (walk : Walk) (positions sizes : List ℕ) (count : ℕ) (marks : List ℕ) (marked reach spans : ℕ)
+      (g : Going p row closed fill i walk positions sizes count marks marked reach spans)
       (v : Visit) (visits : v ≡ visitOf p row walk i) (r : Verdict)
-      (answer : r ≡ verdictOn (p .banks .len) (stateIn (store positions sizes count marks marked)) v) where
+      (answer : r ≡ verdictOn closed (stateIn (store positions sizes count marks marked)) v) where
     is-visit : v ≡ visitAt p row i
     is-visit = visits ∙ ap (λ (w : Walk). visitOf p row w i) (g .walks)
 
-    placed-then : placedTo p row (suc i) ≡ placedIf r (stateAfter (stateIn (store positions sizes count marks marked)) (offerOf v))
+    placed-then : placedTo p row closed (suc i) ≡ placedIf r (stateAfter (stateIn (store positions sizes count marks marked)) (offerOf v))
     placed-then =
-        placed-next p row i
-        ∙ ap (placedNext (p .banks .len) (visitAt p row i)) (g .placed)
-        ∙ ap (λ (w : Visit). placedNext (p .banks .len) w (holds (stateIn (store positions sizes count marks marked)))) (sym is-visit)
+        placed-next p row closed i
+        ∙ ap (placedNext closed (visitAt p row i)) (g .placed)
+        ∙ ap (λ (w : Visit). placedNext closed w (holds (stateIn (store positions sizes count marks marked)))) (sym is-visit)
         ∙ ap (λ (x : Verdict). placedIf x (stateAfter (stateIn (store positions sizes count marks marked)) (offerOf v))) (sym answer)
 
     -- a refused node settles the verdict
-    pub settles : (why : Refusal) → i < length (p .kinds) → r ≡ Refused why → Planned p row fill (record { verdict = r; length = 0; spans = 0 })
+    pub settles : (why : Refusal) → i < length (p .kinds) → r ≡ Refused why → Planned p row closed fill (record { verdict = r; length = 0; spans = 0 })
     settles why b e =
         record {
-          verdict = e ∙ sym (ap verdictPlaced (stops-on (suc i) (length (p .kinds)) why b
+          verdict = e ∙ sym (ap verdictPlaced (stops-on closed (suc i) (length (p .kinds)) why b
               (placed-then ∙ ap (λ (x : Verdict). placedIf x (stateAfter (stateIn (store positions sizes count marks marked)) (offerOf v))) e)));
           reach = λ acc. absurd (never (sym e ∙ acc));
           count = λ acc. absurd (never (sym e ∙ acc));
@@ -121,7 +121,7 @@ module _ (p : Program) (row : Row) where
         → Goes (store positions sizes count marks marked) (offerOf v) r (store positions′ sizes′ count′ marks′ marked′)
         → reach′ ≡ lengthOf reach (itemOf v) → reach′ ≤ maxEnd
         → spans′ ≡ pick (isSpan (v .node)) (spans + 1) spans
-        → Going p row fill (i + 1) (v .walk) positions′ sizes′ count′ marks′ marked′ reach′ spans′
+        → Going p row closed fill (i + 1) (v .walk) positions′ sizes′ count′ marks′ marked′ reach′ spans′
     goes-on b acc positions′ sizes′ count′ marks′ marked′ reach′ spans′ goes reaches low adds =
         rw (add-one i)
         (record {
@@ -145,13 +145,13 @@ module _ (p : Program) (row : Row) where
         adds-few false k = omega arith
 
   -- all nodes are placed
-  pub ends : (fill i : ℕ) (walk : Walk) (positions sizes : List ℕ) (count : ℕ) (marks : List ℕ) (marked reach spans : ℕ)
-      → Going p row fill i walk positions sizes count marks marked reach spans
-      → length (p .kinds) ≤ i → Planned p row fill (record { verdict = Accepted; length = reach; spans = spans })
-  ends fill i walk positions sizes count marks marked reach spans g b =
+  pub ends : (closed : Bool) (fill i : ℕ) (walk : Walk) (positions sizes : List ℕ) (count : ℕ) (marks : List ℕ) (marked reach spans : ℕ)
+      → Going p row closed fill i walk positions sizes count marks marked reach spans
+      → length (p .kinds) ≤ i → Planned p row closed fill (record { verdict = Accepted; length = reach; spans = spans })
+  ends closed fill i walk positions sizes count marks marked reach spans g b =
       let all : i ≡ length (p .kinds) = omega (arith, g .within) in
       record {
-        verdict = sym (ap verdictPlaced (subst (λ (k : ℕ). placedTo p row k ≡ holds (stateIn (store positions sizes count marks marked))) all (g .placed)));
+        verdict = sym (ap verdictPlaced (subst (λ (k : ℕ). placedTo p row closed k ≡ holds (stateIn (store positions sizes count marks marked))) all (g .placed)));
         reach = λ _. g .reaches ∙ ap (lengthTo p row fill) all;
         count = λ _. g .counts ∙ ap (λ (k : ℕ). length (spansTo p row k)) all;
         low = g .low;

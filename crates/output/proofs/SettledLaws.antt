@@ -39,7 +39,7 @@ use Rattle.output.specs.VisitLaws.{each-from, member-visit}
 use Rattle.output.specs.Items.{isWritten, standing, itemOf, itemsOf}
 use Rattle.output.specs.Placing.{Placed, holds, stops, placedAll}
 use Rattle.output.specs.PlacingLaws.{picked-some}
-use Rattle.output.specs.Output.{Input, input, Lent, Room, roomOf, roomFor, placedBuild, settledBuild, buildOf, visitsOf, passesOf, settledOf}
+use Rattle.output.specs.Output.{Input, input, closedOf, Lent, Room, roomOf, roomFor, placedBuild, settledBuild, buildOf, visitsOf, passesOf, settledOf}
 use Rattle.output.specs.Output.{toldBuild, roomTold, placedTold, settledTold, leftBy, Builds}
 use Rattle.output.specs.Steps.{programOf, rowOf, InValues, RowBuilt}
 use Rattle.output.specs.declared.visits.Visit.{Visit}
@@ -90,11 +90,11 @@ placed-told room k bits spans (holds s) = room-told room k bits spans
 
 settled-told : (b : Input) (room : Room) (s : Settled) → toldBuild (settledBuild b room (passesOf b) s) ≡ settledTold b room s
 settled-told b room (Unsettled why) = refl
-settled-told b room (At k) = placed-told room k _ _ (placedAll (b .banks .len) (visitsOf b (passesOf b)))
+settled-told b room (At k) = placed-told room k _ _ (placedAll (closedOf b) (visitsOf b (passesOf b)))
 
 -- the contract, from the build by the passes that were run
 pub contract : (b : Input) (r : Resolution) → r ≡ layoutOf (b .banks) (b .lists) (b .limit) → (old new : Lent) (x : Build)
-    → x ≡ settledBuild b (roomOf old) (r .passes) (r .settled) → new ≡ leftBy (visitsOf b (r .passes)) (b .lists .values) old x
+    → x ≡ settledBuild b (roomOf old) (r .passes) (r .settled) → new ≡ leftBy (b .banks) (visitsOf b (r .passes)) (b .lists .values) old x
     → Builds b old (record { build = x; passes = r .passes }) new
 unfolding buildOf
 contract b r e old new x same left =
@@ -176,7 +176,7 @@ module _ (banks : Bankdefs) (l : Lists) (m : ℕ) (r : Resolution) (resolves : r
       pub finished : (old new : Lent) (x : Build)
           → RowBuilt (programOf banks (l .kinds) (l .operands) (take (length (l .kinds) - 0) (drop 0 (l .numbers))))
           (rowOf (take (start + length (l .kinds) - start) (drop start (l .numbers))) (take (start + length (l .kinds) - start) (drop start (l .states))))
-          (fillLength (banksOf banks)) k (l .values) old x new
+          (closedOf (input banks l m)) (fillLength (banksOf banks)) k (l .values) old x new
           → Builds (input banks l m) old (record { build = x; passes = r .passes }) new
       finished old new x raw =
           let built = rw (part-program, part-row) at raw in

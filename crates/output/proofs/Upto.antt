@@ -4,7 +4,7 @@ use mathlib.Core.Bool.{Bool, true, false}
 use mathlib.Core.List.{List, [], _∷_, _++_}
 use Prim.Native.Nat.{ℕ, suc, _+_, _≤_}
 use native.Mathlib.Omega.{arith}
-use lib.ListN.{length, replicate, length-append}
+use lib.ListN.{length, length-append}
 use Rattle.refusal.specs.Pick.{pick}
 use Rattle.resolver.specs.Lists.{Row}
 use Rattle.resolver.specs.Once.{Program, walkTo}
@@ -27,11 +27,11 @@ spansTo p row n = spansOf (visitsTo p row n)
 abbrev pub lengthTo : Program → Row → ℕ → ℕ → ℕ
 lengthTo p row fill n = lengthOf fill (itemsTo p row n)
 
-abbrev pub imageTo : Program → Row → List ℕ → ℕ → ℕ → List ℕ
-imageTo p row values bytes n = imageOf values (replicate bytes 0) (itemsTo p row n)
+abbrev pub imageTo : Program → Row → List ℕ → List ℕ → ℕ → List ℕ
+imageTo p row values blank n = imageOf values blank (itemsTo p row n)
 
-abbrev pub placedTo : Program → Row → ℕ → Placed
-placedTo p row n = placedAll (p .banks .len) (visitsTo p row n)
+abbrev pub placedTo : Program → Row → Bool → ℕ → Placed
+placedTo p row closed n = placedAll closed (visitsTo p row n)
 
 module _ (p : Program) (row : Row) where
   pub spans-next : (i : ℕ) → spansTo p row (suc i) ≡ pick (isSpan (visitAt p row i .node)) (spansTo p row i ++ spanAt (visitAt p row i) ∷ []) (spansTo p row i)
@@ -47,13 +47,13 @@ module _ (p : Program) (row : Row) where
   pub length-next : (fill i : ℕ) → lengthTo p row fill (suc i) ≡ lengthOf (lengthTo p row fill i) (itemOf (visitAt p row i))
   length-next fill i = ap (lengthOf fill) (each-next p row itemOf i) ∙ lengths-append fill (itemsTo p row i) (itemOf (visitAt p row i))
 
-  pub image-next : (values : List ℕ) (bytes i : ℕ)
-      → imageTo p row values bytes (suc i) ≡ imageOf values (imageTo p row values bytes i) (itemOf (visitAt p row i))
-  image-next values bytes i =
-      ap (imageOf values (replicate bytes 0)) (each-next p row itemOf i) ∙ image-append values (replicate bytes 0) (itemsTo p row i) (itemOf (visitAt p row i))
+  pub image-next : (values blank : List ℕ) (i : ℕ)
+      → imageTo p row values blank (suc i) ≡ imageOf values (imageTo p row values blank i) (itemOf (visitAt p row i))
+  image-next values blank i =
+      ap (imageOf values blank) (each-next p row itemOf i) ∙ image-append values blank (itemsTo p row i) (itemOf (visitAt p row i))
 
-  pub placed-next : (i : ℕ) → placedTo p row (suc i) ≡ placedNext (p .banks .len) (visitAt p row i) (placedTo p row i)
-  placed-next i = ap (placedAll (p .banks .len)) (visits-next p row i) ∙ placed-last (p .banks .len) _ (visitsTo p row i) (visitAt p row i)
+  pub placed-next : (closed : Bool) (i : ℕ) → placedTo p row closed (suc i) ≡ placedNext closed (visitAt p row i) (placedTo p row closed i)
+  placed-next closed i = ap (placedAll closed) (visits-next p row i) ∙ placed-last closed _ (visitsTo p row i) (visitAt p row i)
 
   pub spans-none : spansTo p row 0 ≡ []
   unfolding each
@@ -63,9 +63,9 @@ module _ (p : Program) (row : Row) where
   unfolding each
   items-none = ap itemsOf (visits-none p row)
 
-  pub placed-none : placedTo p row 0 ≡ holds emptyState
+  pub placed-none : (closed : Bool) → placedTo p row closed 0 ≡ holds emptyState
   unfolding placedFrom
-  placed-none = ap (placedAll (p .banks .len)) (visits-none p row)
+  placed-none closed = ap (placedAll closed) (visits-none p row)
 
   -- the spans grow
   pub spans-grow : (i n : ℕ) → i ≤ n → length (spansTo p row i) ≤ length (spansTo p row n)

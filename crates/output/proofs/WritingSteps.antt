@@ -7,7 +7,7 @@ use native.Mathlib.Nat.{le-trans}
 use native.Mathlib.Numerals.{add-one}
 use native.Mathlib.Omega.{arith}
 use borrow.Author.Tests.{le-leb}
-use lib.ListN.{length, set, replicate, length-replicate, length-map}
+use lib.ListN.{length, set, length-map}
 use Rattle.refusal.specs.Pick.{pick, pick-true}
 use Rattle.refusal.specs.declared.Offset.{Offset}
 use Rattle.refusal.specs.declared.Offset.the-variants.{None as Nowhere, At as Out}
@@ -57,15 +57,15 @@ module _ (p : Program) (row : Row) where
   unfolding walkTo
   walk-start e = e
 
-  pub image-start : (values : List ℕ) (bytes : ℕ) {image : List ℕ} → image ≡ replicate bytes 0 → image ≡ imageTo p row values bytes 0
+  pub image-start : (values : List ℕ) {blank image : List ℕ} → image ≡ blank → image ≡ imageTo p row values blank 0
   unfolding imageOf
-  image-start values bytes e = e ∙ ap (imageOf values (replicate bytes 0)) (sym (items-none p row))
+  image-start values {blank} e = e ∙ ap (imageOf values blank) (sym (items-none p row))
 
   pub spans-start : spansTo p row 0 ≡ []
   spans-start = spans-none p row
 
-  pub image-keeps : (values : List ℕ) (bytes i : ℕ) → length (imageTo p row values bytes i) ≡ bytes
-  image-keeps values bytes i = image-length values (replicate bytes 0) (itemsTo p row i) ∙ length-replicate bytes 0
+  pub image-keeps : (values blank : List ℕ) (i : ℕ) → length (imageTo p row values blank i) ≡ length blank
+  image-keeps values blank i = image-length values blank (itemsTo p row i)
 
   span-counts : (i : ℕ) → isSpan (node p row i) ≡ true → length (spansTo p row (suc i)) ≡ length (spansTo p row i) + 1
   span-counts i s =
@@ -90,16 +90,16 @@ module _ (p : Program) (row : Row) where
     walk-next = ap (λ (w : Visit). w .walk) visited ∙ rw add-one
 
     -- the image
-    module _ (values : List ℕ) (bytes : ℕ) {image : List ℕ} (before : image ≡ imageTo p row values bytes i) where
-      pub item-fits : (n : ℕ) → Fit (length values) bytes (itemsTo p row n) → i < n → Fit (length values) (length image) (itemOf v)
+    module _ (values blank : List ℕ) {image : List ℕ} (before : image ≡ imageTo p row values blank i) where
+      pub item-fits : (n : ℕ) → Fit (length values) (length blank) (itemsTo p row n) → i < n → Fit (length values) (length image) (itemOf v)
       item-fits n fit h =
-          rw (before, image-keeps values bytes i, visited) (λ x m. fit x (each-member itemOf (visit-member p row n i h) m))
+          rw (before, image-keeps values blank i, visited) (λ x m. fit x (each-member itemOf (visit-member p row n i h) m))
 
-      pub image-next : {after : List ℕ} → after ≡ imageOf values image (itemOf v) → after ≡ imageTo p row values bytes (i + 1)
+      pub image-next : {after : List ℕ} → after ≡ imageOf values image (itemOf v) → after ≡ imageTo p row values blank (i + 1)
       image-next e =
           e ∙ ap (λ (m : List ℕ). imageOf values m (itemOf v)) before
-          ∙ ap (λ (w : Visit). imageOf values (imageTo p row values bytes i) (itemOf w)) visited
-          ∙ rw add-one (sym (image-step p row values bytes i))
+          ∙ ap (λ (w : Visit). imageOf values (imageTo p row values blank i) (itemOf w)) visited
+          ∙ rw add-one (sym (image-step p row values blank i))
 
     -- the lists of spans
     pub count-next : {count next : ℕ} → count ≡ length (spansTo p row i) → next ≡ pick (isSpan (v .node)) (count + 1) count

@@ -10,6 +10,7 @@ use lib.ListN.{length}
 use Rattle.refusal.specs.Pick.{pick}
 use Rattle.refusal.specs.declared.Refusal.{Refusal}
 use Rattle.refusal.specs.declared.Refusal.the-variants.{TooShort}
+use Rattle.bankdef.specs.Check.{banksOf}
 use Rattle.resolver.specs.Lists.{Row}
 use Rattle.resolver.specs.Once.{Program}
 use Rattle.resolver.specs.Passes.{program, rowOfPass}
@@ -19,9 +20,10 @@ use Rattle.overlap_checker.specs.declared.Entry.{Entry}
 use Rattle.overlap_checker.specs.State.{State}
 use Rattle.output.specs.Visits.{visitAt, visitsTo}
 use Rattle.output.specs.Items.{Item, itemsOf, lengthOf}
+use Rattle.output.specs.Blank.{blankOf}
 use Rattle.output.specs.Placing.{reservesOf, Placed, holds, stops, placedAll}
 use Rattle.output.specs.Spans.{Span, spansOf}
-use Rattle.output.specs.Output.{Input, Lent, Room, roomOf, roomFor, placedBuild, buildRow, settledBuild, buildOf}
+use Rattle.output.specs.Output.{Input, closedOf, Lent, Room, roomOf, roomFor, placedBuild, buildRow, settledBuild, buildOf}
 use Rattle.output.specs.Output.{visitsOf, fillOf, passesOf, settledOf, filled, leftBy, Builds}
 use Rattle.output.specs.declared.visits.Visit.{Visit}
 use Rattle.output.specs.declared.Build.{Build}
@@ -46,8 +48,9 @@ rowIn c = rowOfPass (c .given .lists) (c .answer .passes)
 abbrev pub nodesIn : Call → ℕ
 nodesIn c = length (c .given .lists .kinds)
 
-abbrev pub banksIn : Call → ℕ
-banksIn c = c .given .banks .len
+-- whether bank 0 is closed
+abbrev pub closedIn : Call → Bool
+closedIn c = closedOf (c .given)
 
 -- node n, as the build visits it, and those before it
 abbrev pub visitIn : Call → ℕ → Visit
@@ -85,9 +88,9 @@ pub refused-done : {why : Refusal} {k bits spans : ℕ} → Refused why ≡ Done
 refused-done e = let z : _≡_ {A = ℕ} 0 1 = cc in omega arith
 
 -- every node was placed, and there was room
-pub record Fine (banks : ℕ) (vs : List Visit) (fill : ℕ) (room : Room) (bits spans : ℕ) : Type 0 where
+pub record Fine (closed : Bool) (vs : List Visit) (fill : ℕ) (room : Room) (bits spans : ℕ) : Type 0 where
   pub state : State
-  pub placed : placedAll banks vs ≡ holds state
+  pub placed : placedAll closed vs ≡ holds state
   pub reach : bits ≡ lengthOf fill (itemsOf vs)
   pub count : spans ≡ length (spansOf vs)
   pub wide : bits ≤ 8 * room .image
@@ -104,12 +107,12 @@ room-done room k bits spans k′ bits′ spans′ e = go (ltb (8 * room .image) 
     go false true ea eb q = absurd (refused-done q)
     go false false ea eb q = (cc, cc, ltb-false (8 * room .image) bits ea, ltb-false (room .spans) spans eb)
 
-row-fine : (banks : ℕ) (vs : List Visit) (fill : ℕ) (room : Room) (k k′ bits spans : ℕ) → buildRow banks vs fill room k ≡ Done k′ bits spans
-    → Fine banks vs fill room bits spans
-row-fine banks vs fill room k k′ bits spans e = go (placedAll banks vs) refl e
+row-fine : (closed : Bool) (vs : List Visit) (fill : ℕ) (room : Room) (k k′ bits spans : ℕ) → buildRow closed vs fill room k ≡ Done k′ bits spans
+    → Fine closed vs fill room bits spans
+row-fine closed vs fill room k k′ bits spans e = go (placedAll closed vs) refl e
   where
-    go : (q : Placed) → placedAll banks vs ≡ q → placedBuild room k (lengthOf fill (itemsOf vs)) (length (spansOf vs)) q ≡ Done k′ bits spans
-        → Fine banks vs fill room bits spans
+    go : (q : Placed) → placedAll closed vs ≡ q → placedBuild room k (lengthOf fill (itemsOf vs)) (length (spansOf vs)) q ≡ Done k′ bits spans
+        → Fine closed vs fill room bits spans
     go (stops why) h f = absurd (refused-done f)
     go (holds s) h f =
         let (b, n, wide, long) = room-done room k (lengthOf fill (itemsOf vs)) (length (spansOf vs)) k′ bits spans f in
@@ -127,15 +130,19 @@ module _ (c : Call) where
       ∙ ap (λ (n : ℕ). settledBuild (c .given) (roomOf (c .old)) n (settledOf (c .given))) (sym passes-are)
 
 settled-fine : (b : Input) (room : Room) (passes : ℕ) (s : Settled) (k bits spans : ℕ) → settledBuild b room passes s ≡ Done k bits spans
-    → Fine (b .banks .len) (visitsOf b passes) (fillOf b) room bits spans
+    → Fine (closedOf b) (visitsOf b passes) (fillOf b) room bits spans
 settled-fine b room passes (Unsettled why) k bits spans e = absurd (refused-done e)
-settled-fine b room passes (At k′) k bits spans e = row-fine (b .banks .len) (visitsOf b passes) (fillOf b) room k′ k bits spans e
+settled-fine b room passes (At k′) k bits spans e = row-fine (closedOf b) (visitsOf b passes) (fillOf b) room k′ k bits spans e
 
 module _ (a : Accepted) where
-  pub fine : Fine (banksIn (a .call)) (visitsIn (a .call)) (fillOf (a .call .given)) (roomOf (a .call .old)) (a .bits) (a .spans)
+  pub fine : Fine (closedIn (a .call)) (visitsIn (a .call)) (fillOf (a .call .given)) (roomOf (a .call .old)) (a .bits) (a .spans)
   fine =
       settled-fine (a .call .given) (roomOf (a .call .old)) (a .call .answer .passes) (settledOf (a .call .given)) (a .k) (a .bits) (a .spans)
       (sym (build-is (a .call)) ∙ a .done)
 
-  pub left-is : a .call .new ≡ filled (visitsIn (a .call)) (valuesIn (a .call)) (a .call .old)
-  left-is = a .call .meets .left ∙ ap (leftBy (visitsIn (a .call)) (valuesIn (a .call)) (a .call .old)) (a .done)
+  -- the image before any item is written
+  abbrev pub blankIn : List ℕ
+  blankIn = blankOf (banksOf (a .call .given .banks)) (a .bits) (length (a .call .old .image))
+
+  pub left-is : a .call .new ≡ filled blankIn (visitsIn (a .call)) (valuesIn (a .call)) (a .call .old)
+  left-is = a .call .meets .left ∙ ap (leftBy (a .call .given .banks) (visitsIn (a .call)) (valuesIn (a .call)) (a .call .old)) (a .done)

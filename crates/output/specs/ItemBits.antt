@@ -10,7 +10,7 @@ use native.Mathlib.Nat.{le-trans}
 use native.Mathlib.Omega.{arith}
 use borrow.Author.Tests.{leb-true, eqb-true, le-leb}
 use lib.Dec.{eqb, leb}
-use lib.ListN.{length, replicate, length-replicate}
+use lib.ListN.{length}
 use Rattle.refusal.specs.Pick.{pick, pick-true}
 use Rattle.refusal.specs.declared.Opt.{Opt}
 use Rattle.refusal.specs.declared.Opt.the-variants.{None, Some}
@@ -28,11 +28,12 @@ use Rattle.output.specs.declared.visits.Visit.{Visit}
 use Rattle.output.specs.Visits.{positionOf}
 use Rattle.output.specs.VisitLaws.{visit-member, member-visit, each-member, each-from}
 use Rattle.output.specs.Items.{Item, endOf, InItem, isWritten, standing, itemOf, imageOf}
-use Rattle.output.specs.ItemLaws.{fill-within, end-within, length-is-one, bit-of-none, bit-of-item, blank-bit}
+use Rattle.output.specs.ItemLaws.{fill-within, end-within, length-is-one, bit-of-none, bit-of-item}
+use Rattle.output.specs.Blank.{blankOf, blank-length, blank-bit}
 use Rattle.output.specs.Placing.{isOffered, isReserve, lacksOutput, bitsAt, offerOf, reserveOf}
 use Rattle.output.specs.PlacingLaws.{picked-some, OfferedBit, holds-apart, apart-one, each-apart, same-visit, written-stands, each-accepted}
 use Rattle.output.specs.Output.{Lent}
-use Rattle.output.specs.Calls.{Call, Accepted, nodesIn, visitIn, visitsIn, itemsIn, reservesIn, valuesIn, programIn, rowIn, banksIn, fine, left-is}
+use Rattle.output.specs.Calls.{Call, Accepted, nodesIn, visitIn, visitsIn, itemsIn, reservesIn, valuesIn, programIn, rowIn, closedIn, fine, blankIn, left-is}
 
 -- ---- bits of items and of reserves are offered
 
@@ -101,8 +102,8 @@ module _ (b : Accepted) where
   written-node-has-item n h w =
       let v = visitIn (b .call) n in
       let member = visit-member (programIn (b .call)) (rowIn (b .call)) (nodesIn (b .call)) n h in
-      let acc = each-accepted (banksIn (b .call)) _ (fine b .state) (visitsIn (b .call)) (fine b .placed) member in
-      let (f, e) = stands-at (v .def .offset) (positionOf v) (written-stands (banksIn (b .call)) (acc .0) v (acc .1) w) in
+      let acc = each-accepted (closedIn (b .call)) _ (fine b .state) (visitsIn (b .call)) (fine b .placed) member in
+      let (f, e) = stands-at (v .def .offset) (positionOf v) (written-stands (closedIn (b .call)) (acc .0) v (acc .1) w) in
       (f, e, each-member itemOf member (own f e))
     where
       own : (f : ℕ) → visitIn (b .call) n .def .offset ≡ Some f → List·Memᴰ (itemFor (visitIn (b .call) n) f) (itemOf (visitIn (b .call) n))
@@ -130,7 +131,7 @@ module _ (b : Accepted) where
       from-out (Some f) position y k = (f, refl, List·Memᴰ·eq-of-singleton k)
 
   visits-apart : NoSharedBit OfferedBit (visitsIn (b .call))
-  visits-apart = holds-apart (banksIn (b .call)) _ (fine b .state) (visitsIn (b .call)) (fine b .placed) .offered
+  visits-apart = holds-apart (closedIn (b .call)) _ (fine b .state) (visitsIn (b .call)) (fine b .placed) .offered
 
   -- No two written items share a bit.
   pub items-share-no-bit : NoSharedBit InItem (itemsIn (b .call))
@@ -166,7 +167,7 @@ module _ (b : Accepted) where
   pub length-fits : b .bits ≤ 8 * length (b .call .old .image)
   length-fits = fine b .wide
 
-  image-is : b .call .new .image ≡ imageOf (valuesIn (b .call)) (replicate (length (b .call .old .image)) 0) (itemsIn (b .call))
+  image-is : b .call .new .image ≡ imageOf (valuesIn (b .call)) (blankIn b) (itemsIn (b .call))
   image-is = ap (λ (l : Lent). l .image) (left-is b)
 
   -- Each bit of a written item is its own: the image's bit at its place plus j is value bit `from` plus j.
@@ -174,12 +175,14 @@ module _ (b : Accepted) where
       → bitAt (b .call .new .image) (x .at + j) ≡ bitAt (valuesIn (b .call)) (x .from + j)
   item-own-bit x m j h =
       ap (λ (l : List ℕ). bitAt l (x .at + j)) image-is
-      ∙ bit-of-item (valuesIn (b .call)) (replicate (length (b .call .old .image)) 0) (itemsIn (b .call)) items-share-no-bit m
-      (rw (length-replicate {A = ℕ} (length (b .call .old .image)) 0) (le-trans (length-not-below-item x m) length-fits)) j h
+      ∙ bit-of-item (valuesIn (b .call)) (blankIn b) (itemsIn (b .call)) items-share-no-bit m
+      (rw (blank-length (banksOf (b .call .given .banks)) (b .bits) (length (b .call .old .image))) (le-trans (length-not-below-item x m) length-fits)) j h
 
-  -- Every bit of the lent image that belongs to no written item is zero.
+  -- Every bit of the lent image that belongs to no written item is the blank's,
+  pub rest-blank : (bit : ℕ) → ((x : Item) → List·Memᴰ x (itemsIn (b .call)) → InItem bit x → ⊥) → bitAt (b .call .new .image) bit ≡ bitAt (blankIn b) bit
+  rest-blank bit none =
+      ap (λ (l : List ℕ). bitAt l bit) image-is ∙ bit-of-none (valuesIn (b .call)) (blankIn b) (itemsIn (b .call)) bit none
+
+  -- and so zero.
   pub rest-zero : (bit : ℕ) → ((x : Item) → List·Memᴰ x (itemsIn (b .call)) → InItem bit x → ⊥) → bitAt (b .call .new .image) bit ≡ 0
-  rest-zero bit none =
-      ap (λ (l : List ℕ). bitAt l bit) image-is
-      ∙ bit-of-none (valuesIn (b .call)) (replicate (length (b .call .old .image)) 0) (itemsIn (b .call)) bit none
-      ∙ blank-bit (length (b .call .old .image)) bit
+  rest-zero bit none = rest-blank bit none ∙ blank-bit (banksOf (b .call .given .banks)) (b .bits) (length (b .call .old .image)) bit

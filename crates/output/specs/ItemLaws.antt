@@ -83,10 +83,10 @@ module _ (values : List ℕ) where
       bit-of-item (written blank (y .at) values (y .from) (y .size)) k (apart .1) m
       (subst (λ (n : ℕ). endOf x ≤ 8 * n) (sym (length-written blank (y .at) values (y .from) (y .size))) fits) j h
 
--- a blank image has no bit set
-pub blank-bit : (bytes k : ℕ) → bitAt (replicate bytes 0) k ≡ 0
+-- zeros have no bit set
+pub zeros-bit : (bytes k : ℕ) → bitAt (replicate bytes 0) k ≡ 0
 unfolding bitAt
-blank-bit bytes k = rw (zero-byte (k / 8)) (rw (zero-div (2 ^ (8 - 1 - k % 8))) refl)
+zeros-bit bytes k = rw (zero-byte (k / 8)) (rw (zero-div (2 ^ (8 - 1 - k % 8))) refl)
   where
     zero-byte : (j : ℕ) → _≡_ {A = ℕ} (getD (replicate bytes 0) j 0) 0
     zero-byte j =

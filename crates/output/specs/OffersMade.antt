@@ -35,7 +35,7 @@ use Rattle.output.specs.Placing.{isOffered, isReserve, bitsAt, offerOf, 
 use Rattle.output.specs.Placing.{Placed, holds, stops, placedIf, placedNext, placedFrom, placedAll}
 use Rattle.output.specs.PlacingLaws.{placed-last}
 use Rattle.output.specs.Output.{Room, roomOf, roomFor, placedBuild, settledBuild, settledOf, fillOf}
-use Rattle.output.specs.Calls.{Call, nodesIn, banksIn, programIn, rowIn, visitIn, visitsIn, visitsBefore, reservesIn, build-is}
+use Rattle.output.specs.Calls.{Call, nodesIn, closedIn, programIn, rowIn, visitIn, visitsIn, visitsBefore, reservesIn, build-is}
 
 module _ (c : Call) (n : ℕ) where
   bits-at : (offset : ℕ) → visitIn c n .def .offset ≡ Some offset
@@ -82,8 +82,8 @@ pub record FirstRefused (c : Call) (why : Refusal) : Type 0 where
   pub n : ℕ
   pub listed : n < nodesIn c
   pub stored : State
-  pub before : placedAll (banksIn c) (visitsBefore c n) ≡ holds stored
-  pub verdict : verdictOn (banksIn c) stored (visitIn c n) ≡ TurnedAway why
+  pub before : placedAll (closedIn c) (visitsBefore c n) ≡ holds stored
+  pub verdict : verdictOn (closedIn c) stored (visitIn c n) ≡ TurnedAway why
 
 module _ (c : Call) where
   stopped : (v : Verdict) (s : State) (why : Refusal) → placedIf v s ≡ stops why → v ≡ TurnedAway why
@@ -93,25 +93,25 @@ module _ (c : Call) where
   stops-same : {a b : Refusal} → stops a ≡ stops b → a ≡ b
   stops-same e = cc
 
-  none-stops : (why : Refusal) → placedAll (banksIn c) (visitsBefore c 0) ≡ stops why → ⊥
+  none-stops : (why : Refusal) → placedAll (closedIn c) (visitsBefore c 0) ≡ stops why → ⊥
   unfolding placedFrom
   none-stops why e =
-      let q : holds emptyState ≡ stops why = sym (ap (placedAll (banksIn c)) (visits-none (programIn c) (rowIn c))) ∙ e in
+      let q : holds emptyState ≡ stops why = sym (ap (placedAll (closedIn c)) (visits-none (programIn c) (rowIn c))) ∙ e in
       let z : _≡_ {A = ℕ} 0 1 = cc in omega arith
 
-  first-stop : (m : ℕ) → m ≤ nodesIn c → (why : Refusal) → placedAll (banksIn c) (visitsBefore c m) ≡ stops why → FirstRefused c why
+  first-stop : (m : ℕ) → m ≤ nodesIn c → (why : Refusal) → placedAll (closedIn c) (visitsBefore c m) ≡ stops why → FirstRefused c why
   first-stop zero h why e = absurd (none-stops why e)
   first-stop (suc m) h why e =
-      go (placedAll (banksIn c) (visitsBefore c m)) refl
-      (sym (ap (placedAll (banksIn c)) (visits-next (programIn c) (rowIn c) m)
-      ∙ placed-last (banksIn c) (holds emptyState) (visitsBefore c m) (visitIn c m)) ∙ e)
+      go (placedAll (closedIn c) (visitsBefore c m)) refl
+      (sym (ap (placedAll (closedIn c)) (visits-next (programIn c) (rowIn c) m)
+      ∙ placed-last (closedIn c) (holds emptyState) (visitsBefore c m) (visitIn c m)) ∙ e)
       (first-stop m (omega arith) why)
     where
-      go : (q : Placed) → placedAll (banksIn c) (visitsBefore c m) ≡ q → placedNext (banksIn c) (visitIn c m) q ≡ stops why
-          → (placedAll (banksIn c) (visitsBefore c m) ≡ stops why → FirstRefused c why) → FirstRefused c why
+      go : (q : Placed) → placedAll (closedIn c) (visitsBefore c m) ≡ q → placedNext (closedIn c) (visitIn c m) q ≡ stops why
+          → (placedAll (closedIn c) (visitsBefore c m) ≡ stops why → FirstRefused c why) → FirstRefused c why
       go (stops other) is f earlier = earlier (is ∙ f)
       go (holds s) is f earlier =
-          record { n = m; listed = h; stored = s; before = is; verdict = stopped (verdictOn (banksIn c) s (visitIn c m)) _ why f }
+          record { n = m; listed = h; stored = s; before = is; verdict = stopped (verdictOn (closedIn c) s (visitIn c m)) _ why f }
 
   refused-same : {a b : Refusal} → Refused a ≡ Refused b → b ≡ a
   refused-same e = cc
@@ -126,13 +126,13 @@ module _ (c : Call) where
   count = length (spansOf (visitsIn c))
 
   abbrev ForRoom : Refusal → Type 0
-  ForRoom why = (stored : State) × (placedAll (banksIn c) (visitsIn c) ≡ holds stored) × ((why ≡ TooShort 0) ⊎ (why ≡ TooShort 1))
+  ForRoom why = (stored : State) × (placedAll (closedIn c) (visitsIn c) ≡ holds stored) × ((why ≡ TooShort 0) ⊎ (why ≡ TooShort 1))
 
   -- A build whose passes settled is refused at the first node that is, or else, all nodes placed, for room.
   pub refused-where : (k : ℕ) → settledOf (c .given) ≡ At k → (why : Refusal) → c .answer .build ≡ Refused why
       → FirstRefused c why ⊎ ForRoom why
   refused-where k settled why e =
-      go (placedAll (banksIn c) (visitsIn c)) refl
+      go (placedAll (closedIn c) (visitsIn c)) refl
       (sym (build-is c ∙ ap (settledBuild (c .given) (roomOf (c .old)) (c .answer .passes)) settled) ∙ e)
     where
       short : (a b : Bool) → pick a (Refused (TooShort 0)) (pick b (Refused (TooShort 1)) (Done k bits count)) ≡ Refused why
@@ -141,7 +141,7 @@ module _ (c : Call) where
       short false true f = inr (refused-same f)
       short false false f = absurd (done-refused f)
 
-      go : (q : Placed) → placedAll (banksIn c) (visitsIn c) ≡ q
+      go : (q : Placed) → placedAll (closedIn c) (visitsIn c) ≡ q
           → placedBuild (roomOf (c .old)) k bits count q ≡ Refused why
           → FirstRefused c why ⊎ ForRoom why
       go (stops other) is f = inl (first-stop (nodesIn c) (omega arith) why (is ∙ ap stops (sym (refused-same f))))

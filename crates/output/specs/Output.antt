@@ -1,10 +1,11 @@
 -- The build's answer, and what stands in everything lent afterwards (document 01).
 use mathlib.Core.Path.{_≡_}
 use Prim.Native.Nat.{ℕ, _*_, min}
+use mathlib.Core.Bool.{Bool}
 use mathlib.Core.List.{List}
 use lib.Dec.{ltb}
 use lib.IntN.{ℤ}
-use lib.ListN.{length, replicate}
+use lib.ListN.{length}
 use Rattle.refusal.specs.Pick.{pick}
 use Rattle.refusal.specs.Told.{Told, gives, refuses, toldRefusal}
 use Rattle.refusal.specs.declared.Place.the-variants.{One}
@@ -20,7 +21,8 @@ use Rattle.resolver.specs.declared.Settled.{Settled}
 use Rattle.resolver.specs.declared.Settled.the-variants.{At, Refused as Unsettled}
 use Rattle.output.specs.Visits.{visits}
 use Rattle.output.specs.Items.{Item, itemsOf, lengthOf, imageOf}
-use Rattle.output.specs.Placing.{Placed, holds, stops, placedAll}
+use Rattle.output.specs.Blank.{blankOf}
+use Rattle.output.specs.Placing.{closesDefault, Placed, holds, stops, placedAll}
 use Rattle.output.specs.Spans.{spansOf, over, addresses, words, sizes}
 use Rattle.output.specs.declared.visits.Visit.{Visit}
 use Rattle.output.specs.declared.Build.{Build}
@@ -69,21 +71,25 @@ abbrev pub placedBuild : Room → ℕ → ℕ → ℕ → Placed → Build
 placedBuild room k bits spans (stops why) = Refused why
 placedBuild room k bits spans (holds stored) = roomFor room k bits spans
 
--- the build of a row: how many banks there are, the row's visits, the fill's length, the room, and pass K
-abbrev pub buildRow : ℕ → List Visit → ℕ → Room → ℕ → Build
-buildRow banks vs fill room k =
-    placedBuild room k (lengthOf fill (itemsOf vs)) (length (spansOf vs)) (placedAll banks vs)
+-- the build of a row: whether bank 0 is closed, the row's visits, the fill's length, the room, and pass K
+abbrev pub buildRow : Bool → List Visit → ℕ → Room → ℕ → Build
+buildRow closed vs fill room k =
+    placedBuild room k (lengthOf fill (itemsOf vs)) (length (spansOf vs)) (placedAll closed vs)
 
 -- "The build uses the row of the last pass."
 abbrev pub visitsOf : Input → ℕ → List Visit
 visitsOf b passes = visits (program (b .banks) (b .lists)) (rowOfPass (b .lists) passes)
+
+-- "9: bank 0 is used while other banks exist"
+abbrev pub closedOf : Input → Bool
+closedOf b = closesDefault (b .banks .len)
 
 abbrev pub fillOf : Input → ℕ
 fillOf b = fillLength (banksOf (b .banks))
 
 abbrev pub settledBuild : Input → Room → ℕ → Settled → Build
 settledBuild b room passes (Unsettled why) = Refused why
-settledBuild b room passes (At k) = buildRow (b .banks .len) (visitsOf b passes) (fillOf b) room k
+settledBuild b room passes (At k) = buildRow (closedOf b) (visitsOf b passes) (fillOf b) room k
 
 abbrev pub passesOf : Input → ℕ
 passesOf b = layoutOf (b .banks) (b .lists) (b .limit) .passes
@@ -121,25 +127,24 @@ abbrev pub settledTold : Input → Room → Settled → Told Figures
 settledTold b room (Unsettled why) = toldRefusal why
 settledTold b room (At k) =
     placedTold room k (lengthOf (fillOf b) (itemsOf (visitsOf b (passesOf b)))) (length (spansOf (visitsOf b (passesOf b))))
-    (placedAll (b .banks .len) (visitsOf b (passesOf b)))
+    (placedAll (closedOf b) (visitsOf b (passesOf b)))
 
 -- ---- what is lent afterwards
 
--- What an accepted build leaves: the items' bits, and "the rest of the lent image is zero"; the spans, and the lists' "old contents past
--- what was written".
-abbrev pub filled : List Visit → List ℕ → Lent → Lent
-filled vs values old =
+-- What an accepted build leaves: the items' bits over a blank image; the spans, and the lists' "old contents past what was written".
+abbrev pub filled : List ℕ → List Visit → List ℕ → Lent → Lent
+filled blank vs values old =
     record {
-      image = imageOf values (replicate (length (old .image)) 0) (itemsOf vs);
+      image = imageOf values blank (itemsOf vs);
       addresses = over (addresses (spansOf vs)) (old .addresses);
       offsets = over (words (spansOf vs)) (old .offsets);
       sizes = over (sizes (spansOf vs)) (old .sizes);
     }
 
 -- "Each refusal .. changes nothing lent."
-abbrev pub leftBy : List Visit → List ℕ → Lent → Build → Lent
-leftBy vs values old (Done k bits spans) = filled vs values old
-leftBy vs values old (Refused why) = old
+abbrev pub leftBy : Bankdefs → List Visit → List ℕ → Lent → Build → Lent
+leftBy banks vs values old (Done k bits spans) = filled (blankOf (banksOf banks) bits (length (old .image))) vs values old
+leftBy banks vs values old (Refused why) = old
 
 -- ---- the contract
 
@@ -147,4 +152,4 @@ leftBy vs values old (Refused why) = old
 pub record Builds (b : Input) (old : Lent) (r : Output) (new : Lent) : Type 0 where
   pub answer : r ≡ buildOf b (roomOf old)
   pub figures : toldBuild (r .build) ≡ settledTold b (roomOf old) (settledOf b)
-  pub left : new ≡ leftBy (visitsOf b (r .passes)) (b .lists .values) old (r .build)
+  pub left : new ≡ leftBy (b .banks) (visitsOf b (r .passes)) (b .lists .values) old (r .build)

@@ -63,9 +63,12 @@ reservesOf vs = each reserveOf vs
 
 -- ---- 9, 10 and 11
 
--- "9: bank 0 is used while other banks exist"
-abbrev pub usesDefault : ℕ → ℕ → Bool
-usesDefault banks bank = eqb bank 0 && ltb 1 banks
+-- "9: bank 0 is used while other banks exist": bank 0 is closed then, to labels, written items and reserves.
+abbrev pub closesDefault : ℕ → Bool
+closesDefault banks = ltb 1 banks
+
+abbrev pub usesDefault : Bool → ℕ → Bool
+usesDefault closed bank = eqb bank 0 && closed
 
 -- "10: an item ends past its bank's size"
 abbrev pub endsPast : Opt → ℕ → Bool
@@ -76,11 +79,11 @@ abbrev pub lacksOutput : Offset → Bool
 lacksOutput Nowhere = true
 lacksOutput (Out o) = false
 
--- 9, 10 and 11, in this order. `banks` is how many there are, `bank` the one that the node stands in, `out` the node's place in the
+-- 9, 10 and 11, in this order. `closed` says whether bank 0 is, `bank` is the one that the node stands in, `out` the node's place in the
 -- output.
-unfoldable pub checked : ℕ → ℕ → Bankdef → Node → Pos → Offset → Verdict
-checked banks bank def n at out =
-    pick (usesDefault banks bank) (Refused (DefaultBank (n .index)))
+unfoldable pub checked : Bool → ℕ → Bankdef → Node → Pos → Offset → Verdict
+checked closed bank def n at out =
+    pick (usesDefault closed bank) (Refused (DefaultBank (n .index)))
     (pick (endsPast (def .size) (at .position + sizeOf n)) (Refused (PastBank (n .index)))
     (pick (isWritten n && lacksOutput out) (Refused (NoOutput (n .index))) Accepted))
 
@@ -92,21 +95,21 @@ answered stored node [] = Accepted
 answered stored node (e ∷ none) = answer stored e node
 
 -- "The build walks the nodes and tries 9, 10, 11, 12, 13 at each."
-abbrev pub tried : ℕ → ℕ → Bankdef → State → Node → Pos → Offset → Verdict
-tried banks bank def stored n at out =
-    firstOf (checked banks bank def n at out) (answered stored (n .index) (offerAt n out))
+abbrev pub tried : Bool → ℕ → Bankdef → State → Node → Pos → Offset → Verdict
+tried closed bank def stored n at out =
+    firstOf (checked closed bank def n at out) (answered stored (n .index) (offerAt n out))
 
 -- "9 and 10 apply to labels (size 0), written items (4, 5, 6) and reserves; 11 to written items."
-abbrev pub placing : ℕ → ℕ → Bankdef → State → Node → Pos → Offset → Verdict
-placing banks bank def stored n at out = pick (isPlaced n) (tried banks bank def stored n at out) Accepted
+abbrev pub placing : Bool → ℕ → Bankdef → State → Node → Pos → Offset → Verdict
+placing closed bank def stored n at out = pick (isPlaced n) (tried closed bank def stored n at out) Accepted
 
 -- the verdict on a node by the position that it sees: 5 or 6 where the walk stops there
-abbrev pub verdictSeen : ℕ → ℕ → Bankdef → State → Node → Offset → Moved → Verdict
-verdictSeen banks bank def stored n out (Stopped why) = Refused why
-verdictSeen banks bank def stored n out (To at) = placing banks bank def stored n at out
+abbrev pub verdictSeen : Bool → ℕ → Bankdef → State → Node → Offset → Moved → Verdict
+verdictSeen closed bank def stored n out (Stopped why) = Refused why
+verdictSeen closed bank def stored n out (To at) = placing closed bank def stored n at out
 
-abbrev pub verdictOn : ℕ → State → Visit → Verdict
-verdictOn banks stored v = verdictSeen banks (v .bank) (v .def) stored (v .node) (v .out) (v .seen)
+abbrev pub verdictOn : Bool → State → Visit → Verdict
+verdictOn closed stored v = verdictSeen closed (v .bank) (v .def) stored (v .node) (v .out) (v .seen)
 
 -- ---- all nodes
 
@@ -120,14 +123,14 @@ placedIf Accepted stored = holds stored
 placedIf (Refused why) stored = stops why
 
 -- a node placed after those before it
-abbrev pub placedNext : ℕ → Visit → Placed → Placed
-placedNext banks v (stops why) = stops why
-placedNext banks v (holds stored) = placedIf (verdictOn banks stored v) (stateAfter stored (offerOf v))
+abbrev pub placedNext : Bool → Visit → Placed → Placed
+placedNext closed v (stops why) = stops why
+placedNext closed v (holds stored) = placedIf (verdictOn closed stored v) (stateAfter stored (offerOf v))
 
 -- visits placed one after another
-unfoldable pub placedFrom : ℕ → Placed → List Visit → Placed
-placedFrom banks q [] = q
-placedFrom banks q (v ∷ l) = placedFrom banks (placedNext banks v q) l
+unfoldable pub placedFrom : Bool → Placed → List Visit → Placed
+placedFrom closed q [] = q
+placedFrom closed q (v ∷ l) = placedFrom closed (placedNext closed v q) l
 
-abbrev pub placedAll : ℕ → List Visit → Placed
-placedAll banks vs = placedFrom banks (holds emptyState) vs
+abbrev pub placedAll : Bool → List Visit → Placed
+placedAll closed vs = placedFrom closed (holds emptyState) vs

@@ -68,35 +68,35 @@ first-accepted (Refused r) w e = absurd (refused-accepted e)
 
 -- ---- visits placed one after another
 
-module _ (banks : ℕ) where
-  pub placed-append : (q : Placed) (k l : List Visit) → placedFrom banks q (k ++ l) ≡ placedFrom banks (placedFrom banks q k) l
+module _ (closed : Bool) where
+  pub placed-append : (q : Placed) (k l : List Visit) → placedFrom closed q (k ++ l) ≡ placedFrom closed (placedFrom closed q k) l
   unfolding placedFrom
   placed-append q [] l = refl
-  placed-append q (v ∷ k) l = placed-append (placedNext banks v q) k l
+  placed-append q (v ∷ k) l = placed-append (placedNext closed v q) k l
 
-  pub placed-last : (q : Placed) (k : List Visit) (v : Visit) → placedFrom banks q (k ++ v ∷ []) ≡ placedNext banks v (placedFrom banks q k)
+  pub placed-last : (q : Placed) (k : List Visit) (v : Visit) → placedFrom closed q (k ++ v ∷ []) ≡ placedNext closed v (placedFrom closed q k)
   unfolding placedFrom
   placed-last q k v = placed-append q k (v ∷ [])
 
   -- a refusal stays
-  pub stops-stay : (why : Refusal) (l : List Visit) → placedFrom banks (stops why) l ≡ stops why
+  pub stops-stay : (why : Refusal) (l : List Visit) → placedFrom closed (stops why) l ≡ stops why
   unfolding placedFrom
   stops-stay why [] = refl
   stops-stay why (v ∷ l) = stops-stay why l
 
   -- the first of visits that were all accepted
-  if-holds : (v : Verdict) (s t : State) (l : List Visit) → placedFrom banks (placedIf v s) l ≡ holds t
-      → (v ≡ Accepted) × (placedFrom banks (holds s) l ≡ holds t)
+  if-holds : (v : Verdict) (s t : State) (l : List Visit) → placedFrom closed (placedIf v s) l ≡ holds t
+      → (v ≡ Accepted) × (placedFrom closed (holds s) l ≡ holds t)
   if-holds Accepted s t l e = (refl, e)
   if-holds (Refused why) s t l e = absurd (stops-holds (sym (stops-stay why l) ∙ e))
 
-  first-holds : (s t : State) (v : Visit) (l : List Visit) → placedFrom banks (holds s) (v ∷ l) ≡ holds t
-      → (verdictOn banks s v ≡ Accepted) × (placedFrom banks (holds (stateAfter s (offerOf v))) l ≡ holds t)
+  first-holds : (s t : State) (v : Visit) (l : List Visit) → placedFrom closed (holds s) (v ∷ l) ≡ holds t
+      → (verdictOn closed s v ≡ Accepted) × (placedFrom closed (holds (stateAfter s (offerOf v))) l ≡ holds t)
   unfolding placedFrom
-  first-holds s t v l e = if-holds (verdictOn banks s v) (stateAfter s (offerOf v)) t l e
+  first-holds s t v l e = if-holds (verdictOn closed s v) (stateAfter s (offerOf v)) t l e
 
   -- what came before visits that were all accepted
-  pub before-holds : (q : Placed) (t : State) (l : List Visit) → placedFrom banks q l ≡ holds t → (s : State) × (q ≡ holds s)
+  pub before-holds : (q : Placed) (t : State) (l : List Visit) → placedFrom closed q l ≡ holds t → (s : State) × (q ≡ holds s)
   before-holds (holds s) t l e = (s, refl)
   before-holds (stops why) t l e = absurd (stops-holds (sym (stops-stay why l) ∙ e))
 
@@ -106,10 +106,10 @@ pub picked-some : {X : Type 0} (b : Bool) (l : List X) {x : X} → List·Memᴰ 
 picked-some true l m = (refl, m)
 picked-some false l m = absurd (List·Memᴰ·not-nil m)
 
-seen-placing : (banks : ℕ) (s : State) (v : Visit) (seen : Moved) → verdictSeen banks (v .bank) (v .def) s (v .node) (v .out) seen ≡ Accepted
-    → (at : Pos) × (seen ≡ To at) × (placing banks (v .bank) (v .def) s (v .node) at (v .out) ≡ Accepted)
-seen-placing banks s v (To at) e = (at, refl, e)
-seen-placing banks s v (Stopped why) e = absurd (refused-accepted e)
+seen-placing : (closed : Bool) (s : State) (v : Visit) (seen : Moved) → verdictSeen closed (v .bank) (v .def) s (v .node) (v .out) seen ≡ Accepted
+    → (at : Pos) × (seen ≡ To at) × (placing closed (v .bank) (v .def) s (v .node) at (v .out) ≡ Accepted)
+seen-placing closed s v (To at) e = (at, refl, e)
+seen-placing closed s v (Stopped why) e = absurd (refused-accepted e)
 
 -- a visit makes one offer at most
 one-bits : (out : Offset) (n : Node) (a b : Entry) → List·Memᴰ a (bitsAt out n) → List·Memᴰ b (bitsAt out n) → a ≡ b
@@ -129,24 +129,24 @@ offer-is v e m = go (v .out) (isOffered (v .node)) m
     go (Out o) true k = ap (λ (f : Entry). f ∷ []) (sym (List·Memᴰ·eq-of-singleton k))
 
 -- 9, 10 and 11 in this order
-pub checked-opens : (banks bank : ℕ) (def : Bankdef) (n : Node) (at : Pos) (out : Offset)
-    → checked banks bank def n at out
-    ≡ pick (usesDefault banks bank) (Refused (DefaultBank (n .index)))
+pub checked-opens : (closed : Bool) (bank : ℕ) (def : Bankdef) (n : Node) (at : Pos) (out : Offset)
+    → checked closed bank def n at out
+    ≡ pick (usesDefault closed bank) (Refused (DefaultBank (n .index)))
     (pick (endsPast (def .size) (at .position + sizeOf n)) (Refused (PastBank (n .index)))
     (pick (isWritten n && lacksOutput out) (Refused (NoOutput (n .index))) Accepted))
 unfolding checked
-checked-opens banks bank def n at out = refl
+checked-opens closed bank def n at out = refl
 
 -- every offer of an accepted visit was answered, and accepted
-pub offer-accepted : (banks : ℕ) (s : State) (v : Visit) → verdictOn banks s v ≡ Accepted → (e : Entry) → List·Memᴰ e (offerOf v)
+pub offer-accepted : (closed : Bool) (s : State) (v : Visit) → verdictOn closed s v ≡ Accepted → (e : Entry) → List·Memᴰ e (offerOf v)
     → answer s e (v .node .index) ≡ Accepted
-offer-accepted banks s v acc e m =
+offer-accepted closed s v acc e m =
     let n = v .node in
     let o = picked-some (isOffered n) _ m .0 in
-    let seen = seen-placing banks s v (v .seen) acc in
-    let all : tried banks (v .bank) (v .def) s n (seen .0) (v .out) ≡ Accepted =
-    rw (pick-true (tried banks (v .bank) (v .def) s n (seen .0) (v .out)) Accepted (or-second (eqb (n .kind) 2) (isOffered n) o)) at (seen .2) in
-    only (offerOf v) (first-accepted (checked banks (v .bank) (v .def) n (seen .0) (v .out)) (answered s (n .index) (offerOf v)) all .1)
+    let seen = seen-placing closed s v (v .seen) acc in
+    let all : tried closed (v .bank) (v .def) s n (seen .0) (v .out) ≡ Accepted =
+    rw (pick-true (tried closed (v .bank) (v .def) s n (seen .0) (v .out)) Accepted (or-second (eqb (n .kind) 2) (isOffered n) o)) at (seen .2) in
+    only (offerOf v) (first-accepted (checked closed (v .bank) (v .def) n (seen .0) (v .out)) (answered s (n .index) (offerOf v)) all .1)
     (λ a ma. one-offer v a e ma m) m
   where
     only : (l : List Entry) → answered s (v .node .index) l ≡ Accepted → ((a : Entry) → List·Memᴰ a l → a ≡ e) → List·Memᴰ e l
@@ -155,44 +155,44 @@ offer-accepted banks s v acc e m =
     only (f ∷ l) a one k = subst (λ (g : Entry). answer s g (v .node .index) ≡ Accepted) (one f (List·Memᴰ·head refl)) a
 
 -- an accepted visit passed 11: what is written stands somewhere in the output
-pub written-stands : (banks : ℕ) (s : State) (v : Visit) → verdictOn banks s v ≡ Accepted → isWritten (v .node) ≡ true → lacksOutput (v .out) ≡ false
-written-stands banks s v acc w =
+pub written-stands : (closed : Bool) (s : State) (v : Visit) → verdictOn closed s v ≡ Accepted → isWritten (v .node) ≡ true → lacksOutput (v .out) ≡ false
+written-stands closed s v acc w =
     let n = v .node in
-    let seen = seen-placing banks s v (v .seen) acc in
+    let seen = seen-placing closed s v (v .seen) acc in
     let placed : isPlaced n ≡ true = or-second (eqb (n .kind) 2) (isOffered n) (rw w) in
-    let all : tried banks (v .bank) (v .def) s n (seen .0) (v .out) ≡ Accepted =
-    rw (pick-true (tried banks (v .bank) (v .def) s n (seen .0) (v .out)) Accepted placed) at (seen .2) in
-    through (seen .0) (first-accepted (checked banks (v .bank) (v .def) n (seen .0) (v .out)) (answered s (n .index) (offerOf v)) all .0)
+    let all : tried closed (v .bank) (v .def) s n (seen .0) (v .out) ≡ Accepted =
+    rw (pick-true (tried closed (v .bank) (v .def) s n (seen .0) (v .out)) Accepted placed) at (seen .2) in
+    through (seen .0) (first-accepted (checked closed (v .bank) (v .def) n (seen .0) (v .out)) (answered s (n .index) (offerOf v)) all .0)
   where
     and-right : (a b : Bool) → a ≡ true → (a && b) ≡ false → b ≡ false
     and-right true b h e = e
     and-right false b h e = absurd (mathlib.Core.Bool.true≢false (sym h))
 
-    checked-is : (at : Pos) → checked banks (v .bank) (v .def) (v .node) at (v .out) ≡ Accepted
-        → pick (usesDefault banks (v .bank)) (Refused (DefaultBank (v .node .index)))
+    checked-is : (at : Pos) → checked closed (v .bank) (v .def) (v .node) at (v .out) ≡ Accepted
+        → pick (usesDefault closed (v .bank)) (Refused (DefaultBank (v .node .index)))
         (pick (endsPast (v .def .size) (at .position + sizeOf (v .node))) (Refused (PastBank (v .node .index)))
         (pick (isWritten (v .node) && lacksOutput (v .out)) (Refused (NoOutput (v .node .index))) Accepted)) ≡ Accepted
-    checked-is at e = sym (checked-opens banks (v .bank) (v .def) (v .node) at (v .out)) ∙ e
+    checked-is at e = sym (checked-opens closed (v .bank) (v .def) (v .node) at (v .out)) ∙ e
 
-    through : (at : Pos) → checked banks (v .bank) (v .def) (v .node) at (v .out) ≡ Accepted → lacksOutput (v .out) ≡ false
+    through : (at : Pos) → checked closed (v .bank) (v .def) (v .node) at (v .out) ≡ Accepted → lacksOutput (v .out) ≡ false
     through at e =
         let ends = endsPast (v .def .size) (at .position + sizeOf (v .node)) in
         let nowhere = isWritten (v .node) && lacksOutput (v .out) in
         let last = pick nowhere (Refused (NoOutput (v .node .index))) Accepted in
         let rest = pick ends (Refused (PastBank (v .node .index))) last in
-        let nine = passed (usesDefault banks (v .bank)) (DefaultBank (v .node .index)) rest (checked-is at e) in
+        let nine = passed (usesDefault closed (v .bank)) (DefaultBank (v .node .index)) rest (checked-is at e) in
         let ten = passed ends (PastBank (v .node .index)) last (nine .1) in
         and-right (isWritten (v .node)) (lacksOutput (v .out)) w (passed nowhere (NoOutput (v .node .index)) Accepted (ten .1) .0)
 
 -- each of visits that were all accepted was
-pub each-accepted : (banks : ℕ) (s t : State) (l : List Visit) → placedFrom banks (holds s) l ≡ holds t → {v : Visit} → List·Memᴰ v l
-    → (u : State) × (verdictOn banks u v ≡ Accepted)
-each-accepted banks s t [] e m = absurd (List·Memᴰ·not-nil m)
-each-accepted banks s t (w ∷ l) e {v} m =
-    let first = first-holds banks s t w l e in
+pub each-accepted : (closed : Bool) (s t : State) (l : List Visit) → placedFrom closed (holds s) l ≡ holds t → {v : Visit} → List·Memᴰ v l
+    → (u : State) × (verdictOn closed u v ≡ Accepted)
+each-accepted closed s t [] e m = absurd (List·Memᴰ·not-nil m)
+each-accepted closed s t (w ∷ l) e {v} m =
+    let first = first-holds closed s t w l e in
     ⊎-elim
-    (λ (same : v ≡ w). (s, subst (λ (u : Visit). verdictOn banks s u ≡ Accepted) (sym same) (first .0)))
-    (λ (later : List·Memᴰ v l). each-accepted banks (stateAfter s (offerOf w)) t l (first .1) later)
+    (λ (same : v ≡ w). (s, subst (λ (u : Visit). verdictOn closed s u ≡ Accepted) (sym same) (first .0)))
+    (λ (later : List·Memᴰ v l). each-accepted closed (stateAfter s (offerOf w)) t l (first .1) later)
     (List·Memᴰ·cases-cons m)
 
 -- ---- the store
@@ -252,14 +252,14 @@ accepts-one s v (e ∷ o) es same acc rest =
     let yes : isAccepted (answer s e 0) ≡ true = sym (accepts-any-node s e (v .node .index)) ∙ ap isAccepted (acc e here) in
     rw (one, yes) (ap (λ (l : List Entry). e ∷ l) (rw one at rest))
 
-pub placed-accepts : (banks : ℕ) (s t : State) (l : List Visit) → placedFrom banks (holds s) l ≡ holds t
+pub placed-accepts : (closed : Bool) (s t : State) (l : List Visit) → placedFrom closed (holds s) l ≡ holds t
     → (t ≡ stateAfter s (offersOf l)) × (accepted s (offersOf l) ≡ offersOf l)
 unfolding each placedFrom stateAfter answers acceptedBy
-placed-accepts banks s t [] e = (cc, refl)
-placed-accepts banks s t (v ∷ l) e =
-    let first = first-holds banks s t v l e in
-    let rest = placed-accepts banks (stateAfter s (offerOf v)) t l (first .1) in
-    (rest .0 ∙ sym (folds s (offerOf v) (offersOf l)), accepts-one s v (offerOf v) (offersOf l) refl (offer-accepted banks s v (first .0)) (rest .1))
+placed-accepts closed s t [] e = (cc, refl)
+placed-accepts closed s t (v ∷ l) e =
+    let first = first-holds closed s t v l e in
+    let rest = placed-accepts closed (stateAfter s (offerOf v)) t l (first .1) in
+    (rest .0 ∙ sym (folds s (offerOf v) (offersOf l)), accepts-one s v (offerOf v) (offersOf l) refl (offer-accepted closed s v (first .0)) (rest .1))
 
 -- ---- no bit is offered twice
 
@@ -272,24 +272,24 @@ pub record Apart (s : State) (l : List Visit) : Type 0 where
   pub stored : (bit : ℕ) (f : Entry) → List·Memᴰ f (s .intervals) → Covers f bit → (v : Visit) → List·Memᴰ v l → OfferedBit bit v → ⊥
   pub offered : NoSharedBit OfferedBit l
 
-pub holds-apart : (banks : ℕ) (s t : State) (l : List Visit) → placedFrom banks (holds s) l ≡ holds t → Apart s l
-holds-apart banks s t [] e = record { stored = λ bit f m c v mv o. List·Memᴰ·not-nil mv; offered = tt }
-holds-apart banks s t (v ∷ l) e =
-    let first = first-holds banks s t v l e in
-    let rest = holds-apart banks (stateAfter s (offerOf v)) t l (first .1) in
+pub holds-apart : (closed : Bool) (s t : State) (l : List Visit) → placedFrom closed (holds s) l ≡ holds t → Apart s l
+holds-apart closed s t [] e = record { stored = λ bit f m c v mv o. List·Memᴰ·not-nil mv; offered = tt }
+holds-apart closed s t (v ∷ l) e =
+    let first = first-holds closed s t v l e in
+    let rest = holds-apart closed (stateAfter s (offerOf v)) t l (first .1) in
     record {
       stored = λ bit f m c w mw o.
           ⊎-elim
           (λ (same : w ≡ v).
           let free = subst (λ (u : Visit). OfferedBit bit u) same o in
-          apart-stored s (free .0) f (v .node .index) bit (offer-accepted banks s v (first .0) (free .0) (free .1)) m (free .2) c)
+          apart-stored s (free .0) f (v .node .index) bit (offer-accepted closed s v (first .0) (free .0) (free .1)) m (free .2) c)
           (λ (later : List·Memᴰ w l). rest .stored bit f (keeps-stored s (offerOf v) f m) c w later o)
           (List·Memᴰ·cases-cons mw);
       offered = (
         λ bit o others.
             let c = o .2 in
             rest .stored bit (o .0)
-            (holds-offer s v (o .0) (o .1) (omega (arith, c .0, c .1)) (offer-accepted banks s v (first .0) (o .0) (o .1)))
+            (holds-offer s v (o .0) (o .1) (omega (arith, c .0, c .1)) (offer-accepted closed s v (first .0) (o .0) (o .1)))
             c (others .0) (others .1) (others .2),
         rest .offered,
       );

@@ -16,7 +16,7 @@ use Rattle.blocks.specs.Spans.{spansOf as spansLent}
 use Rattle.blocks.specs.Walk.{blocksOf}
 use Rattle.output.specs.SpanFacts.{spansLeft}
 use Rattle.output.specs.Calls.{Accepted, refused-done, build-is}
-use Rattle.output.specs.Output.{Input, Lent, Room, roomOf, visitsOf, fillOf, placedBuild, settledBuild, settledOf, buildOf, leftBy, Builds}
+use Rattle.output.specs.Output.{Input, closedOf, Lent, Room, roomOf, visitsOf, fillOf, placedBuild, settledBuild, settledOf, buildOf, leftBy, Builds}
 use Rattle.output.specs.Items.{itemsOf, lengthOf}
 use Rattle.output.specs.Spans.{spansOf}
 use Rattle.output.specs.Placing.{Placed, holds, stops, placedAll}
@@ -47,7 +47,7 @@ module _ (b : Input) (k : ℕ) (accepted : settledOf b ≡ At k) (below : k < b 
       → Builds b old r new → Builds (withLimit b n) old s other → (s ≡ r) × (other ≡ new)
   same-outcome-above old {r} {s} p q =
       let e : s ≡ r = q .answer ∙ same-build-above (roomOf old) ∙ sym (p .answer) in
-      (e, q .left ∙ ap (λ (x : Output). leftBy (visitsOf b (x .passes)) (b .lists .values) old (x .build)) e ∙ sym (p .left))
+      (e, q .left ∙ ap (λ (x : Output). leftBy (b .banks) (visitsOf b (x .passes)) (b .lists .values) old (x .build)) e ∙ sym (p .left))
 
 -- the K that an accepted build answers is the layout's
 abbrev kOf : Build → ℕ
@@ -68,7 +68,7 @@ settled-k : (b : Input) (room : Room) (passes : ℕ) {k bits spans : ℕ} (s : S
 settled-k b room passes (Unsettled why) e = absurd (refused-done e)
 settled-k b room passes (At j) e =
     let vs = visitsOf b passes in
-    ap At (k-of-placed room j (lengthOf (fillOf b) (itemsOf vs)) (length (spansOf vs)) (placedAll (b .banks .len) vs) e)
+    ap At (k-of-placed room j (lengthOf (fillOf b) (itemsOf vs)) (length (spansOf vs)) (placedAll (closedOf b) vs) e)
 
 -- An accepted build whose K is below its limit: a call with any limit above K, over the same banks and lists and with the same things lent, has the
 -- same answer (K, passes run, length and number of spans) and leaves the same image and spans, to the last byte lent.

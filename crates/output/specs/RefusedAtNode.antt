@@ -52,8 +52,8 @@ use Rattle.output.specs.Spans.{sizeOf, spansOf}
 use Rattle.output.specs.Placing.{isPlaced, isOffered, usesDefault, endsPast, lacksOutput, offerOf, offersOf, checked, answered, tried, placing, verdictOn}
 use Rattle.output.specs.Placing.{verdictSeen, Placed, holds, stops, placedIf, placedNext, placedFrom, placedAll}
 use Rattle.output.specs.PlacingLaws.{refused-accepted, placed-append, placed-last, stops-stay, checked-opens, picked-some, offer-is, placed-accepts}
-use Rattle.output.specs.Output.{Room, roomOf, roomFor, placedBuild, buildRow, settledBuild, settledOf, visitsOf, fillOf, toldBuild}
-use Rattle.output.specs.Calls.{Call, nodesIn, banksIn, programIn, rowIn, visitIn, visitsIn, visitsBefore, build-is}
+use Rattle.output.specs.Output.{Input, closedOf, Room, roomOf, roomFor, placedBuild, buildRow, settledBuild, settledOf, visitsOf, fillOf, toldBuild}
+use Rattle.output.specs.Calls.{Call, nodesIn, closedIn, programIn, rowIn, visitIn, visitsIn, visitsBefore, build-is}
 
 -- ---- a build that gets to a node
 
@@ -63,14 +63,14 @@ pub record Reaches (c : Call) (n : ℕ) : Type 0 where
   pub settled : settledOf (c .given) ≡ At k
   pub listed : n < nodesIn c
   pub stored : State
-  pub before : placedAll (banksIn c) (visitsBefore c n) ≡ holds stored
+  pub before : placedAll (closedIn c) (visitsBefore c n) ≡ holds stored
   pub at : Pos
   pub sees : visitIn c n .seen ≡ To at
 
 -- The build is refused at node n, with a number and a place.
 pub record RefusedThere (c : Call) (n number : ℕ) (place : Place) : Type 0 where
   pub why : Refusal
-  pub stopped : placedAll (banksIn c) (visitsBefore c (suc n)) ≡ stops why
+  pub stopped : placedAll (closedIn c) (visitsBefore c (suc n)) ≡ stops why
   pub told : toldBuild (c .answer .build) ≡ refuses number place
 
 -- ---- what document 01 says of 9, 10 and 11
@@ -80,10 +80,10 @@ abbrev pub PlacedKind : ℕ → Type 0
 PlacedKind kind = (kind ≡ 2) ⊎ ((4 ≤ kind) × (kind ≤ 7))
 
 -- "9: bank 0 is used while other banks exist"
-pub record Nine (banks : ℕ) (v : Visit) : Type 0 where
+pub record Nine (b : Input) (v : Visit) : Type 0 where
   pub placed : PlacedKind (v .node .kind)
   pub default : v .bank ≡ 0
-  pub others : 1 < banks
+  pub others : 1 < b .banks .len
 
 -- "10: an item ends past its bank's size"
 pub record Ten (v : Visit) (position : ℕ) : Type 0 where
@@ -99,15 +99,15 @@ pub record Eleven (v : Visit) : Type 0 where
 
 -- ---- the tests mean that
 
-module _ (banks : ℕ) (v : Visit) where
+module _ (b : Input) (v : Visit) where
   both : (a b : Bool) → (a && b) ≡ true → (a ≡ true) × (b ≡ true)
   both true b e = (refl, e)
   both false b e = absurd (mathlib.Core.Bool.true≢false (sym e))
 
-  uses-default : (usesDefault banks (v .bank) ≡ true) ↔ ((v .bank ≡ 0) × (1 < banks))
+  uses-default : (usesDefault (closedOf b) (v .bank) ≡ true) ↔ ((v .bank ≡ 0) × (1 < b .banks .len))
   uses-default = (
-    λ e. let h = both (eqb (v .bank) 0) (ltb 1 banks) e in (eqb-true (v .bank) 0 (h .0), ltb-true 1 banks (h .1)),
-    λ h. rw (eq-eqb (v .bank) 0 (h .0), lt-ltb 1 banks (h .1)),
+    λ e. let h = both (eqb (v .bank) 0) (closedOf b) e in (eqb-true (v .bank) 0 (h .0), ltb-true 1 (b .banks .len) (h .1)),
+    λ h. rw (eq-eqb (v .bank) 0 (h .0), lt-ltb 1 (b .banks .len) (h .1)),
   )
 
   past : (o : Opt) (end : ℕ) → (endsPast o end ≡ true) ↔ ((size : ℕ) × (o ≡ Some size) × (size < end))
@@ -136,14 +136,14 @@ not-holds {b} i n = decided b (λ e. absurd (n (i .0 e))) (λ e. e)
 
 -- ---- a node's refusal, by its cause
 
-pub data Cause (banks : ℕ) (s : State) (v : Visit) (at : Pos) (why : Refusal) : Type 0 where
-  nine : isPlaced (v .node) ≡ true → usesDefault banks (v .bank) ≡ true → why ≡ DefaultBank (v .node .index) → Cause banks s v at why
-  ten : isPlaced (v .node) ≡ true → usesDefault banks (v .bank) ≡ false → endsPast (v .def .size) (at .position + sizeOf (v .node)) ≡ true
-      → why ≡ PastBank (v .node .index) → Cause banks s v at why
-  eleven : isPlaced (v .node) ≡ true → usesDefault banks (v .bank) ≡ false → endsPast (v .def .size) (at .position + sizeOf (v .node)) ≡ false
-      → (isWritten (v .node) && lacksOutput (v .out)) ≡ true → why ≡ NoOutput (v .node .index) → Cause banks s v at why
-  store : isPlaced (v .node) ≡ true → usesDefault banks (v .bank) ≡ false → endsPast (v .def .size) (at .position + sizeOf (v .node)) ≡ false
-      → (isWritten (v .node) && lacksOutput (v .out)) ≡ false → answered s (v .node .index) (offerOf v) ≡ TurnedAway why → Cause banks s v at why
+pub data Cause (closed : Bool) (s : State) (v : Visit) (at : Pos) (why : Refusal) : Type 0 where
+  nine : isPlaced (v .node) ≡ true → usesDefault closed (v .bank) ≡ true → why ≡ DefaultBank (v .node .index) → Cause closed s v at why
+  ten : isPlaced (v .node) ≡ true → usesDefault closed (v .bank) ≡ false → endsPast (v .def .size) (at .position + sizeOf (v .node)) ≡ true
+      → why ≡ PastBank (v .node .index) → Cause closed s v at why
+  eleven : isPlaced (v .node) ≡ true → usesDefault closed (v .bank) ≡ false → endsPast (v .def .size) (at .position + sizeOf (v .node)) ≡ false
+      → (isWritten (v .node) && lacksOutput (v .out)) ≡ true → why ≡ NoOutput (v .node .index) → Cause closed s v at why
+  store : isPlaced (v .node) ≡ true → usesDefault closed (v .bank) ≡ false → endsPast (v .def .size) (at .position + sizeOf (v .node)) ≡ false
+      → (isWritten (v .node) && lacksOutput (v .out)) ≡ false → answered s (v .node .index) (offerOf v) ≡ TurnedAway why → Cause closed s v at why
 
 turned-same : {a b : Refusal} → TurnedAway a ≡ TurnedAway b → b ≡ a
 turned-same e = cc
@@ -151,7 +151,7 @@ turned-same e = cc
 never : {why : Refusal} → Accepted ≡ TurnedAway why → ⊥
 never e = let z : _≡_ {A = ℕ} 0 1 = cc in omega arith
 
-module _ (banks : ℕ) (s : State) (v : Visit) (at : Pos) where
+module _ (closed : Bool) (s : State) (v : Visit) (at : Pos) where
   abbrev index : ℕ
   index = v .node .index
 
@@ -165,34 +165,34 @@ module _ (banks : ℕ) (s : State) (v : Visit) (at : Pos) where
   opened =
       pick (isPlaced (v .node))
       (firstOf
-      (pick (usesDefault banks (v .bank)) (TurnedAway (DefaultBank (v .node .index)))
+      (pick (usesDefault closed (v .bank)) (TurnedAway (DefaultBank (v .node .index)))
       (pick (endsPast (v .def .size) (at .position + sizeOf (v .node))) (TurnedAway (PastBank (v .node .index)))
       (pick (isWritten (v .node) && lacksOutput (v .out)) (TurnedAway (NoOutput (v .node .index))) Accepted)))
       (answered s (v .node .index) (offerOf v)))
       Accepted
 
-  opens : placing banks (v .bank) (v .def) s (v .node) at (v .out) ≡ opened
+  opens : placing closed (v .bank) (v .def) s (v .node) at (v .out) ≡ opened
   unfolding opened
   opens =
       ap (λ (w : Verdict). pick (isPlaced (v .node)) (firstOf w (answered s (v .node .index) (offerOf v))) Accepted)
-      (checked-opens banks (v .bank) (v .def) (v .node) at (v .out))
+      (checked-opens closed (v .bank) (v .def) (v .node) at (v .out))
 
-  pub cause-of : (why : Refusal) → placing banks (v .bank) (v .def) s (v .node) at (v .out) ≡ TurnedAway why → Cause banks s v at why
+  pub cause-of : (why : Refusal) → placing closed (v .bank) (v .def) s (v .node) at (v .out) ≡ TurnedAway why → Cause closed s v at why
   unfolding opened
-  cause-of why e = go (isPlaced (v .node)) (usesDefault banks (v .bank)) ends nowhere refl refl refl refl (sym opens ∙ e)
+  cause-of why e = go (isPlaced (v .node)) (usesDefault closed (v .bank)) ends nowhere refl refl refl refl (sym opens ∙ e)
     where
-      go : (p d q w : Bool) → isPlaced (v .node) ≡ p → usesDefault banks (v .bank) ≡ d → endsPast (v .def .size) (at .position + sizeOf (v .node)) ≡ q
+      go : (p d q w : Bool) → isPlaced (v .node) ≡ p → usesDefault closed (v .bank) ≡ d → endsPast (v .def .size) (at .position + sizeOf (v .node)) ≡ q
           → (isWritten (v .node) && lacksOutput (v .out)) ≡ w
           → pick p (firstOf (pick d (TurnedAway (DefaultBank index)) (pick q (TurnedAway (PastBank index)) (pick w (TurnedAway (NoOutput index)) Accepted)))
           (answered s index (offerOf v))) Accepted ≡ TurnedAway why
-          → Cause banks s v at why
+          → Cause closed s v at why
       go false d q w ep ed eq ew h = absurd (never h)
       go true true q w ep ed eq ew h = nine ep ed (turned-same h)
       go true false true w ep ed eq ew h = ten ep ed eq (turned-same h)
       go true false false true ep ed eq ew h = eleven ep ed eq ew (turned-same h)
       go true false false false ep ed eq ew h = store ep ed eq ew h
 
-  pub cause-refuses : (why : Refusal) → Cause banks s v at why → placing banks (v .bank) (v .def) s (v .node) at (v .out) ≡ TurnedAway why
+  pub cause-refuses : (why : Refusal) → Cause closed s v at why → placing closed (v .bank) (v .def) s (v .node) at (v .out) ≡ TurnedAway why
   unfolding opened
   cause-refuses why (nine p d e) = opens ∙ rw (p, d, e)
   cause-refuses why (ten p d q e) = opens ∙ rw (p, d, q, e)
@@ -206,35 +206,35 @@ module _ (c : Call) (n : ℕ) (r : Reaches c n) where
   visit = visitIn c n
 
   abbrev verdict : Verdict
-  verdict = placing (banksIn c) (visit .bank) (visit .def) (r .stored) (visit .node) (r .at) (visit .out)
+  verdict = placing (closedIn c) (visit .bank) (visit .def) (r .stored) (visit .node) (r .at) (visit .out)
 
-  placed-there : placedAll (banksIn c) (visitsBefore c (suc n)) ≡ placedIf verdict (stateAfter (r .stored) (offerOf visit))
+  placed-there : placedAll (closedIn c) (visitsBefore c (suc n)) ≡ placedIf verdict (stateAfter (r .stored) (offerOf visit))
   placed-there =
-      ap (placedAll (banksIn c)) (visits-next (programIn c) (rowIn c) n)
-      ∙ placed-last (banksIn c) (holds emptyState) (visitsBefore c n) visit
-      ∙ ap (placedNext (banksIn c) visit) (r .before)
+      ap (placedAll (closedIn c)) (visits-next (programIn c) (rowIn c) n)
+      ∙ placed-last (closedIn c) (holds emptyState) (visitsBefore c n) visit
+      ∙ ap (placedNext (closedIn c) visit) (r .before)
       ∙ ap
-      (λ (m : Moved). placedIf (verdictSeen (banksIn c) (visit .bank) (visit .def) (r .stored) (visit .node) (visit .out) m)
+      (λ (m : Moved). placedIf (verdictSeen (closedIn c) (visit .bank) (visit .def) (r .stored) (visit .node) (visit .out) m)
       (stateAfter (r .stored) (offerOf visit)))
       (r .sees)
 
   -- the whole build stops there
-  stops-all : (why : Refusal) → placedAll (banksIn c) (visitsBefore c (suc n)) ≡ stops why → c .answer .build ≡ Refused why
+  stops-all : (why : Refusal) → placedAll (closedIn c) (visitsBefore c (suc n)) ≡ stops why → c .answer .build ≡ Refused why
   stops-all why e =
       let (rest, split) = visits-split (programIn c) (rowIn c) (suc n) (nodesIn c) (r .listed) in
-      let whole : placedAll (banksIn c) (visitsIn c) ≡ stops why =
-      ap (placedAll (banksIn c)) split
-      ∙ placed-append (banksIn c) (holds emptyState) (visitsBefore c (suc n)) rest
-      ∙ ap (λ (q : Placed). placedFrom (banksIn c) q rest) e
-      ∙ stops-stay (banksIn c) why rest in
+      let whole : placedAll (closedIn c) (visitsIn c) ≡ stops why =
+      ap (placedAll (closedIn c)) split
+      ∙ placed-append (closedIn c) (holds emptyState) (visitsBefore c (suc n)) rest
+      ∙ ap (λ (q : Placed). placedFrom (closedIn c) q rest) e
+      ∙ stops-stay (closedIn c) why rest in
       build-is c
       ∙ ap (settledBuild (c .given) (roomOf (c .old)) (c .answer .passes)) (r .settled)
       ∙ ap (placedBuild (roomOf (c .old)) (r .k) (lengthOf (fillOf (c .given)) (itemsOf (visitsIn c))) (length (spansOf (visitsIn c)))) whole
 
-  pub there : (why : Refusal) → Cause (banksIn c) (r .stored) visit (r .at) why → RefusedThere c n (numberOf why) (placeOf why)
+  pub there : (why : Refusal) → Cause (closedIn c) (r .stored) visit (r .at) why → RefusedThere c n (numberOf why) (placeOf why)
   there why cause =
       let stop = placed-there ∙ ap (λ (w : Verdict). placedIf w (stateAfter (r .stored) (offerOf visit)))
-      (cause-refuses (banksIn c) (r .stored) visit (r .at) why cause) in
+      (cause-refuses (closedIn c) (r .stored) visit (r .at) why cause) in
       record { why = why; stopped = stop; told = ap toldBuild (stops-all why stop) }
 
   stops-if : (w : Verdict) (s : State) (why : Refusal) → placedIf w s ≡ stops why → w ≡ TurnedAway why
@@ -242,9 +242,9 @@ module _ (c : Call) (n : ℕ) (r : Reaches c n) where
   stops-if (TurnedAway other) s why e = cc
 
   pub cause-there : (number : ℕ) (place : Place) → RefusedThere c n number place
-      → (why : Refusal) × Cause (banksIn c) (r .stored) visit (r .at) why × (numberOf why ≡ number) × (placeOf why ≡ place)
+      → (why : Refusal) × Cause (closedIn c) (r .stored) visit (r .at) why × (numberOf why ≡ number) × (placeOf why ≡ place)
   cause-there number place t =
-      let cause = cause-of (banksIn c) (r .stored) visit (r .at) (t .why) (stops-if verdict _ (t .why) (sym placed-there ∙ t .stopped)) in
+      let cause = cause-of (closedIn c) (r .stored) visit (r .at) (t .why) (stops-if verdict _ (t .why) (sym placed-there ∙ t .stopped)) in
       let told : toldRefusal (t .why) ≡ refuses number place = sym (ap toldBuild (stops-all (t .why) (t .stopped))) ∙ t .told in
       (t .why, cause, same-number told, same-place told)
     where
@@ -278,64 +278,64 @@ module _ (c : Call) (n : ℕ) (r : Reaches c n) where
   placed-kind : isPlaced (met .node) ≡ true ↔ PlacedKind (met .node .kind)
   placed-kind = placed-exactly (met .node)
 
-  nine-test : isPlaced (met .node) ≡ true → usesDefault (banksIn c) (met .bank) ≡ true → Nine (banksIn c) met
+  nine-test : isPlaced (met .node) ≡ true → usesDefault (closedIn c) (met .bank) ≡ true → Nine (c .given) met
   nine-test p d =
-      let h = uses-default (banksIn c) met .0 d in
+      let h = uses-default (c .given) met .0 d in
       record { placed = placed-kind .0 p; default = h .0; others = h .1 }
 
   -- past 9: the test says no
-  not-nine : isPlaced (met .node) ≡ true → (Nine (banksIn c) met → ⊥) → usesDefault (banksIn c) (met .bank) ≡ false
-  not-nine p none = decided (usesDefault (banksIn c) (met .bank)) (λ d. absurd (none (nine-test p d))) (λ d. d)
+  not-nine : isPlaced (met .node) ≡ true → (Nine (c .given) met → ⊥) → usesDefault (closedIn c) (met .bank) ≡ false
+  not-nine p none = decided (usesDefault (closedIn c) (met .bank)) (λ d. absurd (none (nine-test p d))) (λ d. d)
 
-  nine-not : usesDefault (banksIn c) (met .bank) ≡ false → Nine (banksIn c) met → ⊥
-  nine-not d h = holds-not (uses-default (banksIn c) met) d (h .default, h .others)
+  nine-not : usesDefault (closedIn c) (met .bank) ≡ false → Nine (c .given) met → ⊥
+  nine-not d h = holds-not (uses-default (c .given) met) d (h .default, h .others)
 
   ten-test : isPlaced (met .node) ≡ true → endsPast (met .def .size) (r .at .position + sizeOf (met .node)) ≡ true → Ten met (r .at .position)
   ten-test p q =
-      let h = past (banksIn c) met (met .def .size) (r .at .position + sizeOf (met .node)) .0 q in
+      let h = past (c .given) met (met .def .size) (r .at .position + sizeOf (met .node)) .0 q in
       record { placed = placed-kind .0 p; size = h .0; sized = h .1; past = h .2 }
 
   not-ten : isPlaced (met .node) ≡ true → (Ten met (r .at .position) → ⊥) → endsPast (met .def .size) (r .at .position + sizeOf (met .node)) ≡ false
   not-ten p none = decided (endsPast (met .def .size) (r .at .position + sizeOf (met .node))) (λ q. absurd (none (ten-test p q))) (λ q. q)
 
   ten-not : endsPast (met .def .size) (r .at .position + sizeOf (met .node)) ≡ false → Ten met (r .at .position) → ⊥
-  ten-not q h = holds-not (past (banksIn c) met (met .def .size) (r .at .position + sizeOf (met .node))) q (h .size, h .sized, h .past)
+  ten-not q h = holds-not (past (c .given) met (met .def .size) (r .at .position + sizeOf (met .node))) q (h .size, h .sized, h .past)
 
   eleven-exactly : ((isWritten (met .node) && lacksOutput (met .out)) ≡ true) ↔ Eleven met
   eleven-exactly = (
     λ e.
-        let (w, l) = both (banksIn c) met (isWritten (met .node)) (lacksOutput (met .out)) e in
+        let (w, l) = both (c .given) met (isWritten (met .node)) (lacksOutput (met .out)) e in
         let k = written-exactly (met .node) .0 w in
-        record { written = k; nowhere = lacks (banksIn c) met (met .def .offset) (positionOf met) .0 l },
-    λ h. rw (written-exactly (met .node) .1 (h .written), lacks (banksIn c) met (met .def .offset) (positionOf met) .1 (h .nowhere)),
+        record { written = k; nowhere = lacks (c .given) met (met .def .offset) (positionOf met) .0 l },
+    λ h. rw (written-exactly (met .node) .1 (h .written), lacks (c .given) met (met .def .offset) (positionOf met) .1 (h .nowhere)),
   )
 
   -- "9: bank 0 is used while other banks exist", by a label, a written item or a reserve.
-  pub refused-9-exactly : RefusedThere c n 9 (One n) ↔ Nine (banksIn c) (visitIn c n)
+  pub refused-9-exactly : RefusedThere c n 9 (One n) ↔ Nine (c .given) (visitIn c n)
   refused-9-exactly = (
     λ t. let (why, cause, number, place) = cause-there c n r 9 (One n) t in from why cause number,
-    λ h. there c n r (DefaultBank n) (nine (placed-kind .1 (h .placed)) (uses-default (banksIn c) met .1 (h .default, h .others)) refl),
+    λ h. there c n r (DefaultBank n) (nine (placed-kind .1 (h .placed)) (uses-default (c .given) met .1 (h .default, h .others)) refl),
   )
     where
-      from : (why : Refusal) → Cause (banksIn c) (r .stored) (visitIn c n) (r .at) why → numberOf why ≡ 9 → Nine (banksIn c) (visitIn c n)
+      from : (why : Refusal) → Cause (closedIn c) (r .stored) (visitIn c n) (r .at) why → numberOf why ≡ 9 → Nine (c .given) (visitIn c n)
       from why (nine p d e) k = nine-test p d
       from why (ten p d q e) k = absurd (let z = ap numberOf e in omega arith)
       from why (eleven p d q w e) k = absurd (let z = ap numberOf e in omega arith)
       from why (store p d q w a) k = absurd (let z = store-number (r .stored) n (offerOf (visitIn c n)) why a in omega arith)
 
   -- "10: an item ends past its bank's size", where 9 isn't.
-  pub refused-10-exactly : RefusedThere c n 10 (One n) ↔ ((Nine (banksIn c) (visitIn c n) → ⊥) × Ten (visitIn c n) (r .at .position))
+  pub refused-10-exactly : RefusedThere c n 10 (One n) ↔ ((Nine (c .given) (visitIn c n) → ⊥) × Ten (visitIn c n) (r .at .position))
   refused-10-exactly = (
     λ t. let (why, cause, number, place) = cause-there c n r 10 (One n) t in from why cause number,
     λ h.
         let t = h .1 in
         let p = placed-kind .1 (t .placed) in
         there c n r (PastBank n)
-        (ten p (not-nine p (h .0)) (past (banksIn c) met (met .def .size) (r .at .position + sizeOf (met .node)) .1 (t .size, t .sized, t .past)) refl),
+        (ten p (not-nine p (h .0)) (past (c .given) met (met .def .size) (r .at .position + sizeOf (met .node)) .1 (t .size, t .sized, t .past)) refl),
   )
     where
-      from : (why : Refusal) → Cause (banksIn c) (r .stored) (visitIn c n) (r .at) why → numberOf why ≡ 10
-          → (Nine (banksIn c) (visitIn c n) → ⊥) × Ten (visitIn c n) (r .at .position)
+      from : (why : Refusal) → Cause (closedIn c) (r .stored) (visitIn c n) (r .at) why → numberOf why ≡ 10
+          → (Nine (c .given) (visitIn c n) → ⊥) × Ten (visitIn c n) (r .at .position)
       from why (nine p d e) k = absurd (let z = ap numberOf e in omega arith)
       from why (ten p d q e) k = (nine-not d, ten-test p q)
       from why (eleven p d q w e) k = absurd (let z = ap numberOf e in omega arith)
@@ -343,7 +343,7 @@ module _ (c : Call) (n : ℕ) (r : Reaches c n) where
 
   -- "11: an item is written in a bank without output offset", where neither 9 nor 10 is.
   pub refused-11-exactly : RefusedThere c n 11 (One n)
-      ↔ ((Nine (banksIn c) (visitIn c n) → ⊥) × (Ten (visitIn c n) (r .at .position) → ⊥) × Eleven (visitIn c n))
+      ↔ ((Nine (c .given) (visitIn c n) → ⊥) × (Ten (visitIn c n) (r .at .position) → ⊥) × Eleven (visitIn c n))
   refused-11-exactly = (
     λ t. let (why, cause, number, place) = cause-there c n r 11 (One n) t in from why cause number,
     λ h.
@@ -352,8 +352,8 @@ module _ (c : Call) (n : ℕ) (r : Reaches c n) where
         there c n r (NoOutput n) (eleven p (not-nine p (h .0)) (not-ten p (h .1)) (eleven-exactly .1 e) refl),
   )
     where
-      from : (why : Refusal) → Cause (banksIn c) (r .stored) (visitIn c n) (r .at) why → numberOf why ≡ 11
-          → (Nine (banksIn c) (visitIn c n) → ⊥) × (Ten (visitIn c n) (r .at .position) → ⊥) × Eleven (visitIn c n)
+      from : (why : Refusal) → Cause (closedIn c) (r .stored) (visitIn c n) (r .at) why → numberOf why ≡ 11
+          → (Nine (c .given) (visitIn c n) → ⊥) × (Ten (visitIn c n) (r .at .position) → ⊥) × Eleven (visitIn c n)
       from why (nine p d e) k = absurd (let z = ap numberOf e in omega arith)
       from why (ten p d q e) k = absurd (let z = ap numberOf e in omega arith)
       from why (eleven p d q w e) k = (nine-not d, ten-not q, eleven-exactly .0 w)
@@ -363,7 +363,7 @@ module _ (c : Call) (n : ℕ) (r : Reaches c n) where
 
   -- the build gets past 9, 10 and 11 at node n
   pub record GetsPast : Type 0 where
-    pub nine : Nine (banksIn c) (visitIn c n) → ⊥
+    pub nine : Nine (c .given) (visitIn c n) → ⊥
     pub ten : Ten (visitIn c n) (r .at .position) → ⊥
     pub eleven : Eleven (visitIn c n) → ⊥
 
@@ -398,7 +398,7 @@ module _ (c : Call) (n : ℕ) (r : Reaches c n) (p : GetsPast c n r) (e : Entry)
     λ t. to (answer (r .stored) e n) refl t,
   )
     where
-      from : (why : Refusal) → Cause (banksIn c) (r .stored) (visitIn c n) (r .at) why → numberOf why ≡ number → placeOf why ≡ place
+      from : (why : Refusal) → Cause (closedIn c) (r .stored) (visitIn c n) (r .at) why → numberOf why ≡ number → placeOf why ≡ place
           → toldVerdict (answer (r .stored) e n) ≡ refuses number place
       from why (nine x d q) k l = absurd (let z = ap numberOf q in omega arith)
       from why (ten x d m q) k l = absurd (let z = ap numberOf q in omega arith)
@@ -416,10 +416,10 @@ module _ (c : Call) (n : ℕ) (r : Reaches c n) (p : GetsPast c n r) (e : Entry)
 
   -- what is stored are the offers of the nodes before, those of nonzero size
   stored-is : r .stored ≡ stateAfter emptyState (offersBefore c n)
-  stored-is = placed-accepts (banksIn c) emptyState (r .stored) (visitsBefore c n) (r .before) .0
+  stored-is = placed-accepts (closedIn c) emptyState (r .stored) (visitsBefore c n) (r .before) .0
 
   all-accepted : accepted emptyState (offersBefore c n) ≡ offersBefore c n
-  all-accepted = placed-accepts (banksIn c) emptyState (r .stored) (visitsBefore c n) (r .before) .1
+  all-accepted = placed-accepts (closedIn c) emptyState (r .stored) (visitsBefore c n) (r .before) .1
 
   pub stored-from-offers : (f : Entry) → List·Memᴰ f (r .stored .intervals) → List·Memᴰ f (offersBefore c n)
   stored-from-offers f m =

@@ -6,7 +6,7 @@ use mathlib.Core.Path.{_≡_, refl, sym, ap, _∙_}
 use mathlib.Core.List.{List, [], _∷_, List·Memᴰ·head}
 use mathlib.Core.List.{List·Permᴰ, List·Permᴰ·nil, List·Permᴰ·cons, List·Permᴰ·swap, List·Permᴰ·trans}
 use Prim.Native.Nat.{ℕ, max}
-use lib.ListN.{length, replicate}
+use lib.ListN.{length}
 use Rattle.refusal.specs.declared.Verdict.the-variants.{Accepted as Yes}
 use Rattle.bankdef.specs.Check.{banksOf}
 use Rattle.bankdef.specs.Fill.{fillLength}
@@ -18,9 +18,10 @@ use Rattle.bitvec.specs.Bits.{bitAt, ofBits}
 use Rattle.bitvec.specs.Written.{written, writtenBit, Writes, accepted-written}
 use Rattle.blocks.specs.Bits.{NoSharedBit}
 use Rattle.output.specs.Items.{Item, endOf, InItem, lengthOf, imageOf}
+use Rattle.output.specs.Blank.{blankOf}
 use Rattle.output.specs.ReorderLaws.{put, put-swap, max-swap, apart-reordered}
 use Rattle.output.specs.Output.{Lent}
-use Rattle.output.specs.Calls.{Accepted, itemsIn, valuesIn, fine, left-is}
+use Rattle.output.specs.Calls.{Accepted, itemsIn, valuesIn, fine, blankIn, left-is}
 use Rattle.output.specs.ItemBits.{fillIn, items-share-no-bit}
 
 -- ---- lists of items
@@ -92,13 +93,19 @@ module _ (a b : Accepted) (order : List·Permᴰ (itemsIn (a .call)) (itemsIn (b
       fine a .reach ∙ reordered-items-same-length (fillIn (a .call)) order
       ∙ ap (λ (d : Bankdefs). lengthOf (fillLength (banksOf d)) (itemsIn (b .call))) banks ∙ sym (fine b .reach)
 
-  -- "Writing the accepted items' bits in any order gives the same image": over the same value bytes, and with as many bytes lent, they leave
-  -- the same image, to the last byte lent.
-  pub reordered-builds-same-image : valuesIn (a .call) ≡ valuesIn (b .call) → length (a .call .old .image) ≡ length (b .call .old .image)
-      → a .call .new .image ≡ b .call .new .image
-  reordered-builds-same-image values lent =
+  -- "Writing the accepted items' bits in any order gives the same image": over the same banks and value bytes, and with as many bytes lent, they
+  -- leave the same image, to the last byte lent.
+  pub reordered-builds-same-image : a .call .given .banks ≡ b .call .given .banks → valuesIn (a .call) ≡ valuesIn (b .call)
+      → length (a .call .old .image) ≡ length (b .call .old .image) → a .call .new .image ≡ b .call .new .image
+  reordered-builds-same-image banks values lent =
       ap (λ (l : Lent). l .image) (left-is a)
-      ∙ reordered-items-same-image (valuesIn (a .call)) (replicate (length (a .call .old .image)) 0) order (items-share-no-bit a)
-      ∙ ap (λ (v : List ℕ). imageOf v (replicate (length (a .call .old .image)) 0) (itemsIn (b .call))) values
-      ∙ ap (λ (n : ℕ). imageOf (valuesIn (b .call)) (replicate n 0) (itemsIn (b .call))) lent
+      ∙ reordered-items-same-image (valuesIn (a .call)) (blankIn a) order (items-share-no-bit a)
+      ∙ ap (λ (v : List ℕ). imageOf v (blankIn a) (itemsIn (b .call))) values
+      ∙ ap (λ (blank : List ℕ). imageOf (valuesIn (b .call)) blank (itemsIn (b .call))) same-blank
       ∙ sym (ap (λ (l : Lent). l .image) (left-is b))
+    where
+      same-blank : blankIn a ≡ blankIn b
+      same-blank =
+          ap (λ (d : Bankdefs). blankOf (banksOf d) (a .bits) (length (a .call .old .image))) banks
+          ∙ ap (λ (n : ℕ). blankOf (banksOf (b .call .given .banks)) n (length (a .call .old .image))) (reordered-builds-same-length banks)
+          ∙ ap (λ (n : ℕ). blankOf (banksOf (b .call .given .banks)) (b .bits) n) lent

@@ -18,14 +18,14 @@ use Rattle.output.specs.Items.{lengthOf}
 use Rattle.output.specs.Placing.{Placed, holds, placedAll}
 use Rattle.output.specs.Output.{Lent, Room, roomOf, settledOf, fillOf, passesOf, Figures, toldBuild, roomTold, placedTold, settledTold, leftBy, visitsOf}
 use Rattle.output.specs.declared.Build.the-variants.{Refused}
-use Rattle.output.specs.Calls.{Call, banksIn, visitsIn, itemsIn, spansIn, valuesIn, passes-are}
+use Rattle.output.specs.Calls.{Call, closedIn, visitsIn, itemsIn, spansIn, valuesIn, passes-are}
 
 -- The passes settled, and every node was accepted.
 pub record AllPlaced (c : Call) : Type 0 where
   pub k : ℕ
   pub settled : settledOf (c .given) ≡ At k
   pub stored : State
-  pub placed : placedAll (banksIn c) (visitsIn c) ≡ holds stored
+  pub placed : placedAll (closedIn c) (visitsIn c) ≡ holds stored
 
 -- the image's length, and how many spans there are
 abbrev pub lengthIn : Call → ℕ
@@ -50,7 +50,7 @@ module _ (c : Call) (all : AllPlaced c) where
       (λ (n : ℕ). placedTold (roomOf (c .old)) (all .k)
       (lengthOf (fillOf (c .given)) (Rattle.output.specs.Items.itemsOf (visitsOf (c .given) n)))
       (length (Rattle.output.specs.Spans.spansOf (visitsOf (c .given) n)))
-      (placedAll (banksIn c) (visitsOf (c .given) n)))
+      (placedAll (closedIn c) (visitsOf (c .given) n)))
       (sym (passes-are c))
       ∙ ap (placedTold (roomOf (c .old)) (all .k) (lengthIn c) (spanCount c)) (all .placed)
 
@@ -136,4 +136,4 @@ module _ (c : Call) (all : AllPlaced c) where
 
 -- "Each refusal .. changes nothing lent."
 pub refused-keeps : (c : Call) (why : Refusal) → c .answer .build ≡ Refused why → c .new ≡ c .old
-refused-keeps c why e = c .meets .left ∙ ap (leftBy (visitsIn c) (valuesIn c) (c .old)) e
+refused-keeps c why e = c .meets .left ∙ ap (leftBy (c .given .banks) (visitsIn c) (valuesIn c) (c .old)) e

@@ -38,7 +38,7 @@ use Rattle.output.specs.Spans.{Span, isSpan, sizeOf, addressTold, spanAt
 use Rattle.output.specs.Placing.{isReserve, isOffered, bitsAt, offerOf}
 use Rattle.output.specs.PlacingLaws.{picked-some, OfferedBit, holds-apart, apart-one, each-apart}
 use Rattle.output.specs.Output.{Lent}
-use Rattle.output.specs.Calls.{Call, Accepted, nodesIn, visitIn, visitsBefore, visitsIn, spansIn, programIn, rowIn, banksIn, fine, left-is}
+use Rattle.output.specs.Calls.{Call, Accepted, nodesIn, visitIn, visitsBefore, visitsIn, spansIn, programIn, rowIn, closedIn, fine, left-is}
 
 -- ---- a span's place in the lists
 
@@ -234,7 +234,7 @@ module _ (b : Accepted) where
       rw (left-words, left-sizes)
       (lent-apart (spansIn (b .call))
       (each-apart spanOf InShown (λ v. apart-one InShown (isSpan (v .node)) (spanAt v)) span-offered (visitsIn (b .call))
-      (holds-apart (banksIn (b .call)) _ (fine b .state) (visitsIn (b .call)) (fine b .placed) .offered)))
+      (holds-apart (closedIn (b .call)) _ (fine b .state) (visitsIn (b .call)) (fine b .placed) .offered)))
 
   -- so its blocks share none, and each ends at or before the start of every later one.
   pub blocks-share-no-bit : NoSharedBit InBlock (blocksOf spansLeft)

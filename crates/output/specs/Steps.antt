@@ -1,5 +1,6 @@
 -- What the build's inner functions promise one another. A reader of the public contract needs none of it.
 use mathlib.Core.Path.{_≡_}
+use mathlib.Core.Bool.{Bool}
 use mathlib.Core.List.{List, List·Memᴰ}
 use Prim.Native.Nat.{ℕ, _+_, _*_, _≤_}
 use lib.ListN.{length}
@@ -40,8 +41,8 @@ verdictPlaced (holds stored) = Accepted
 verdictPlaced (stops why) = Refused why
 
 -- What the first walk finds: the verdict on all nodes; accepted, the image's length and the number of spans.
-pub record Planned (p : Program) (row : Row) (fill : ℕ) (plan : Plan) : Type 0 where
-  pub verdict : plan .verdict ≡ verdictPlaced (placedAll (p .banks .len) (visits p row))
+pub record Planned (p : Program) (row : Row) (closed : Bool) (fill : ℕ) (plan : Plan) : Type 0 where
+  pub verdict : plan .verdict ≡ verdictPlaced (placedAll closed (visits p row))
   pub reach : plan .verdict ≡ Accepted → plan .length ≡ lengthOf fill (itemsOf (visits p row))
   pub count : plan .verdict ≡ Accepted → plan .spans ≡ length (spansOf (visits p row))
   pub low : plan .length ≤ maxEnd
@@ -61,6 +62,6 @@ pub record Fits (n addresses offsets sizes : ℕ) : Type 0 where
   pub third : n ≤ sizes
 
 -- The build of a row: its answer, and everything lent afterwards.
-pub record RowBuilt (p : Program) (row : Row) (fill k : ℕ) (values : List ℕ) (old : Lent) (r : Build) (new : Lent) : Type 0 where
-  pub answer : r ≡ buildRow (p .banks .len) (visits p row) fill (roomOf old) k
-  pub left : new ≡ leftBy (visits p row) values old r
+pub record RowBuilt (p : Program) (row : Row) (closed : Bool) (fill k : ℕ) (values : List ℕ) (old : Lent) (r : Build) (new : Lent) : Type 0 where
+  pub answer : r ≡ buildRow closed (visits p row) fill (roomOf old) k
+  pub left : new ≡ leftBy (p .banks) (visits p row) values old r

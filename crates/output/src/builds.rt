@@ -1,6 +1,7 @@
 // The public build: the passes, the first walk, then, once nothing can be refused any more, the second.
 use crate::Build;
 use crate::Output;
+use crate::placing::closes_default;
 use crate::placing::plan_row;
 use crate::writing::write_image;
 use crate::writing::write_spans;
@@ -19,6 +20,7 @@ ghost use Rattle.bankdef.specs.Fill.{fillLength};
 ghost use Rattle.resolver.specs.Lists.{lists};
 ghost use Rattle.output.specs.Visits.{visits};
 ghost use Rattle.output.specs.Items.{itemsOf};
+ghost use Rattle.output.specs.Placing.{closesDefault};
 ghost use Rattle.output.specs.Output.{input, lent, Builds};
 ghost use Rattle.output.specs.Steps.{programOf, rowOf, maxEnd, InValues, RowBuilt};
 
@@ -58,13 +60,14 @@ fn build_row(
         ⌝ }
     ensures { λ r. ⌜
         RowBuilt (programOf banks (now (kinds .entry)) (now (operands .entry)) (now (first .entry)))
-        (rowOf (now (numbers .entry)) (now (states .entry))) (fillLength (banksOf banks)) k (now (values .entry))
+        (rowOf (now (numbers .entry)) (now (states .entry))) (closesDefault (banks .len)) (fillLength (banksOf banks)) k (now (values .entry))
         (lent (now (image .entry)) (now (addresses .entry)) (now (offsets .entry)) (now (sizes .entry))) r
         (lent (now (image .exit)) (now (addresses .exit)) (now (offsets .exit)) (now (sizes .exit)))
         ⌝ }
 {
     let fill = bankdef::fill_length(banks);
-    let plan = plan_row(banks, kinds, operands, first, numbers, states, fill);
+    let closed = closes_default(banks.len);
+    let plan = plan_row(banks, kinds, operands, first, numbers, states, closed, fill);
     let verdict = plan.verdict;
     if let Verdict::Refused(why) = verdict {
         return Build::Refused(why);

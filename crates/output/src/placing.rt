@@ -19,7 +19,7 @@ ghost use Rattle.refusal.specs.Pick.{pick};
 ghost use Rattle.refusal.specs.declared.Offset.the-variants.{At as Out};
 ghost use Rattle.overlap_checker.specs.Lent.{lent as store, stateIn, Sound};
 ghost use Rattle.output.specs.Items.{isWritten, itemAt, lengthOf};
-ghost use Rattle.output.specs.Placing.{isPlaced, endsPast, lacksOutput, usesDefault, checked, offerAt, answered, verdictSeen};
+ghost use Rattle.output.specs.Placing.{isPlaced, endsPast, lacksOutput, closesDefault, usesDefault, checked, offerAt, answered, verdictSeen};
 ghost use Rattle.output.specs.Spans.{isSpan, sizeOf};
 ghost use Rattle.output.specs.Steps.{Goes, maxEnd, programOf, rowOf, Planned};
 
@@ -73,12 +73,18 @@ fn lacks_output(out: Offset) -> bool
     }
 }
 
-// "9: bank 0 is used while other banks exist"
-fn uses_default(banks: u64, bank: u64) -> bool
-    ensures { λ r. ⌜ r ≡ usesDefault banks bank ⌝ }
+// "9: bank 0 is used while other banks exist": whether bank 0 is closed.
+pub fn closes_default(banks: u64) -> bool
+    ensures { λ r. ⌜ r ≡ closesDefault banks ⌝ }
+{
+    1 < banks
+}
+
+fn uses_default(closed: bool, bank: u64) -> bool
+    ensures { λ r. ⌜ r ≡ usesDefault closed bank ⌝ }
 {
     if bank == 0 {
-        return 1 < banks;
+        return closed;
     }
     false
 }
@@ -94,12 +100,12 @@ fn written_nowhere(node: Node, out: Offset) -> bool
 }
 
 // 9, 10 and 11, in this order.
-fn check_place(banks: u64, bank: u64, def: Bankdef, node: Node, at: Pos, out: Offset) -> Verdict
-    ensures { λ r. ⌜ r ≡ checked banks bank def node at out ⌝ }
+fn check_place(closed: bool, bank: u64, def: Bankdef, node: Node, at: Pos, out: Offset) -> Verdict
+    ensures { λ r. ⌜ r ≡ checked closed bank def node at out ⌝ }
 {
     let size = def.size;
     let end = (at.position as u64) + size_of(node);
-    if uses_default(banks, bank) {
+    if uses_default(closed, bank) {
         return Verdict::Refused(Refusal::DefaultBank(node.index));
     }
     if ends_past(size, end) {
@@ -163,7 +169,7 @@ fn offer_node(
 
 // The verdict on a node by the position that it sees: 5 or 6 where the walk stops there, then 9 to 13. And how many intervals and marks are stored then.
 fn place(
-    banks: u64,
+    closed: bool,
     bank: u64,
     def: Bankdef,
     node: Node,
@@ -178,7 +184,7 @@ fn place(
     requires { ⌜ Sound (store (now positions) (now sizes) count (now marks) «mark_count») ⌝ }
     requires { ⌜ ((o : ℕ) → out ≡ Out o → o ≤ maxOffer) ⌝ }
     ensures { λ r. ⌜
-        r .verdict ≡ verdictSeen banks bank def
+        r .verdict ≡ verdictSeen closed bank def
         (stateIn (store (now (positions .entry)) (now (sizes .entry)) count (now (marks .entry)) «mark_count»)) node out seen
         ⌝ }
     ensures { λ r. ⌜
@@ -200,7 +206,7 @@ fn place(
                     marks: mark_count,
                 };
             }
-            let checked = check_place(banks, bank, def, node, at, out);
+            let checked = check_place(closed, bank, def, node, at, out);
             match checked {
                 Verdict::Refused(why) => Offered {
                     verdict: Verdict::Refused(why),
@@ -269,12 +275,13 @@ pub fn plan_row(
     first: &[u32],
     numbers: &[u32],
     states: &[u8],
+    closed: bool,
     fill: u64,
 ) -> Plan
     requires { ⌜ (fill ≤ maxOffer) × (length (now kinds) ≤ maxNodes) ⌝ }
     ensures { λ r. ⌜
         Planned (programOf banks (now (kinds .entry)) (now (operands .entry)) (now (first .entry)))
-        (rowOf (now (numbers .entry)) (now (states .entry))) fill r
+        (rowOf (now (numbers .entry)) (now (states .entry))) closed fill r
         ⌝ }
 {
     let mut positions = [0u64; 512];
@@ -293,7 +300,7 @@ pub fn plan_row(
         let seen = v.seen;
         let out = v.out;
         let offered = place(
-            banks.len,
+            closed,
             v.bank,
             def,
             node,

@@ -1,5 +1,6 @@
 -- `build_row` meets its contract: one law of BuildLaws for each return.
 use mathlib.Core.Path.{_≡_, sym, subst, _∙_}
+use mathlib.Core.Bool.{Bool}
 use Prim.Native.Nat.{ℕ, _*_, _≤_, _<_, min}
 use native.Mathlib.Omega.{arith}
 use lib.Dec.{ltb}
@@ -8,6 +9,7 @@ use Rattle.bankdef.specs.Check.{banksOf}
 use Rattle.bankdef.specs.Fill.{fillLength}
 use Rattle.resolver.specs.Lists.{Row}
 use Rattle.resolver.specs.Once.{Program}
+use Rattle.output.specs.Placing.{closesDefault}
 use Rattle.output.specs.Output.{Lent, lent}
 use Rattle.output.specs.Steps.{Planned, programOf, rowOf}
 use Rattle.output.proofs.BuildLaws.{row-stopped, row-short-image, row-short-spans, row-done, items-fit, spans-fit}
@@ -17,6 +19,7 @@ use Rattle.output.proofs.builds.build_row.Tie as tie
 use Rattle.output.proofs.builds.build_row.Reads as reads
 use Rattle.output.proofs.builds.build_row.Lts as lts
 use Rattle.bankdef.proofs.fill_length.Reads as fill-length-reads
+use Rattle.output.proofs.placing.closes_default.Reads as closes-default-reads
 use Rattle.output.proofs.builds.lacks_bytes.Reads as lacks-bytes-reads
 use Rattle.output.proofs.builds.shorter.Reads as shorter-reads
 use Rattle.output.proofs.placing.plan_row.Reads as plan-row-reads
@@ -35,16 +38,25 @@ old s = lent (s .args .image .now) (s .args .addresses .now) (s .args .offsets .
 abbrev fill : tie.Start → ℕ
 fill s = fillLength (banksOf (s .args .banks))
 
+abbrev closed : tie.Start → Bool
+closed s = closesDefault (s .args .banks .len)
+
 abbrev begin : tie.After-plan-row → tie.Start
-begin c = c .before .before .before .before .before .before .before .before .before .before .before
+begin c = c .before .before .before .before .before .before .before .before .before .before .before .before
 
 -- what the first walk found, from the fill's own length
-planned : (c : tie.After-plan-row) → Planned (given (begin c)) (row (begin c)) (fill (begin c)) (c .plan-row .result)
-planned c = subst (λ (f : ℕ). Planned (given (begin c)) (row (begin c)) f (c .plan-row .result)) (c .before .fill-length .ensures .0) (c .plan-row .ensures)
+planned : (c : tie.After-plan-row) → Planned (given (begin c)) (row (begin c)) (closed (begin c)) (fill (begin c)) (c .plan-row .result)
+planned c =
+    subst (λ (f : ℕ). Planned (given (begin c)) (row (begin c)) (closed (begin c)) f (c .plan-row .result)) (c .before .before .fill-length .ensures .0)
+    (subst (λ (b : Bool). Planned (given (begin c)) (row (begin c)) b (c .before .before .fill-length .result) (c .plan-row .result))
+    (c .before .closes-default .ensures) (c .plan-row .ensures))
 
 -- src/builds.rt:59:9
 fill-length-requires : tie.Need-fill-length-requires
 fill-length-requires c κs = search needs
+
+closes-default-requires : tie.Need-closes-default-requires
+closes-default-requires c κs = search needs
 
 -- src/builds.rt:60:9
 plan-row-requires : tie.Need-plan-row-requires
@@ -59,7 +71,7 @@ returns : tie.Need-returns
 returns c =
     let f = c .before .before .before in
     let s = begin f in
-    row-stopped (given s) (row s) (fill s) (s .args .k) (s .args .values .now) (old s) (f .plan-row .result) (planned f) (c .before .verdict .given .0 .0) (c .before .verdict .given .1)
+    row-stopped (given s) (row s) (closed s) (fill s) (s .args .k) (s .args .values .now) (old s) (f .plan-row .result) (planned f) (c .before .verdict .given .0 .0) (c .before .verdict .given .1)
 
 enum-told : tie.Need-enum-told
 enum-told c = search needs
@@ -73,7 +85,7 @@ returns-2 : tie.Need-returns-2
 returns-2 c =
     let f = c .before .before .before .before in
     let s = begin f in
-    row-short-image (given s) (row s) (fill s) (s .args .k) (s .args .values .now) (old s) (f .plan-row .result) (planned f) (c .before .before .enum-told .given .1) (sym (c .before .lacks-bytes .ensures) ∙ c .if1 .taken)
+    row-short-image (given s) (row s) (closed s) (fill s) (s .args .k) (s .args .values .now) (old s) (f .plan-row .result) (planned f) (c .before .before .enum-told .given .1) (sym (c .before .lacks-bytes .ensures) ∙ c .if1 .taken)
 
 -- src/builds.rt:70:9
 shorter-requires : tie.Need-shorter-requires
@@ -90,14 +102,14 @@ returns-3 c =
     let s = begin f in
     let places = c .before .shorter2 .ensures in
     let two = c .before .before .shorter .ensures in
-    row-short-spans (given s) (row s) (fill s) (s .args .k) (s .args .values .now) (old s) (f .plan-row .result) (planned f) (c .before .before .before .before .before .enum-told .given .1) (sym (c .before .before .before .before .lacks-bytes .ensures) ∙ c .before .before .before .if1 .left) (omega (arith, places, two, c .if2 .taken))
+    row-short-spans (given s) (row s) (closed s) (fill s) (s .args .k) (s .args .values .now) (old s) (f .plan-row .result) (planned f) (c .before .before .before .before .before .enum-told .given .1) (sym (c .before .before .before .before .lacks-bytes .ensures) ∙ c .before .before .before .if1 .left) (omega (arith, places, two, c .if2 .taken))
 
 -- src/builds.rt:75:5
 write-image-requires : tie.Need-write-image-requires
 write-image-requires c κs =
     let f = c .before .before .before .before .before .before .before .before in
     let s = begin f in
-    items-fit (given s) (row s) (fill s) (s .args .k) (s .args .values .now) (old s) (f .plan-row .result) (planned f) (c .before .before .before .before .before .before .enum-told .given .1) (sym (c .before .before .before .before .before .lacks-bytes .ensures) ∙ c .before .before .before .before .if1 .left) (s .pre .1)
+    items-fit (given s) (row s) (closed s) (fill s) (s .args .k) (s .args .values .now) (old s) (f .plan-row .result) (planned f) (c .before .before .before .before .before .before .enum-told .given .1) (sym (c .before .before .before .before .before .lacks-bytes .ensures) ∙ c .before .before .before .before .if1 .left) (s .pre .1)
 
 -- src/builds.rt:78:5
 write-spans-requires : tie.Need-write-spans-requires
@@ -106,7 +118,7 @@ write-spans-requires c κs =
     let s = begin f in
     let places = c .before .before .before .before .before .before .before .before .shorter2 .ensures in
     let two = c .before .before .before .before .before .before .before .before .before .shorter .ensures in
-    spans-fit (given s) (row s) (fill s) (s .args .k) (s .args .values .now) (old s) (f .plan-row .result) (planned f) (c .before .before .before .before .before .before .before .before .before .before .before .before .enum-told .given .1) (sym (c .before .before .before .before .before .before .before .before .before .before .before .lacks-bytes .ensures) ∙ c .before .before .before .before .before .before .before .before .before .before .if1 .left) (omega (arith, places, two, c .before .before .before .before .before .before .before .if2 .left))
+    spans-fit (given s) (row s) (closed s) (fill s) (s .args .k) (s .args .values .now) (old s) (f .plan-row .result) (planned f) (c .before .before .before .before .before .before .before .before .before .before .before .before .enum-told .given .1) (sym (c .before .before .before .before .before .before .before .before .before .before .before .lacks-bytes .ensures) ∙ c .before .before .before .before .before .before .before .before .before .before .if1 .left) (omega (arith, places, two, c .before .before .before .before .before .before .before .if2 .left))
 
 -- src/builds.rt:41:1
 same-length : tie.Need-same-length
@@ -132,7 +144,7 @@ returns-4 c =
     let places = c .before .before .before .before .before .before .before .before .before .before .before .before .before .before .shorter2 .ensures in
     let two = c .before .before .before .before .before .before .before .before .before .before .before .before .before .before .before .shorter .ensures in
     let spans = c .before .before .before .before .before .write-spans .ensures in
-    row-done (given s) (row s) (fill s) (s .args .k) (s .args .values .now) (old s) (f .plan-row .result) (planned f) (c .before .before .before .before .before .before .before .before .before .before .before .before .before .before .before .before .before .before .enum-told .given .1) (sym (c .before .before .before .before .before .before .before .before .before .before .before .before .before .before .before .before .before .lacks-bytes .ensures) ∙ c .before .before .before .before .before .before .before .before .before .before .before .before .before .before .before .before .if1 .left) (omega (arith, places, two, c .before .before .before .before .before .before .before .before .before .before .before .before .before .if2 .left))
+    row-done (given s) (row s) (closed s) (fill s) (s .args .k) (s .args .values .now) (old s) (f .plan-row .result) (planned f) (c .before .before .before .before .before .before .before .before .before .before .before .before .before .before .before .before .before .before .enum-told .given .1) (sym (c .before .before .before .before .before .before .before .before .before .before .before .before .before .before .before .before .before .lacks-bytes .ensures) ∙ c .before .before .before .before .before .before .before .before .before .before .before .before .before .before .before .before .if1 .left) (omega (arith, places, two, c .before .before .before .before .before .before .before .before .before .before .before .before .before .if2 .left))
     _ _ _ _ (c .before .before .before .before .before .before .before .before .before .before .before .write-image .ensures) (spans .0) (spans .1 .0) (spans .1 .1)
 
 pub build-row-spec : {M : Type 1} → statement M
@@ -140,6 +152,7 @@ build-row-spec =
     tie.close
     (tie.spec
     fill-length-requires
+    closes-default-requires
     plan-row-requires
     enum-known-verdict
     returns

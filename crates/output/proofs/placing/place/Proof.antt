@@ -32,7 +32,7 @@ returns c =
     let a = s .args in
     let known = c .before .before .before .seen2 .given in
     let none = sym (c .before .is-placed .ensures) ∙ not-true _ (c .if1 .taken) in (
-      verdict-unplaced (a .banks) (a .bank) (a .def) (stateIn (store (a .positions .now) (a .sizes .now) (a .count) (a .marks .now) (a .mark-count))) (a .node) (a .out) (a .seen) (known .0 .0) (known .1) none,
+      verdict-unplaced (a .closed) (a .bank) (a .def) (stateIn (store (a .positions .now) (a .sizes .now) (a .count) (a .marks .now) (a .mark-count))) (a .node) (a .out) (a .seen) (known .0 .0) (known .1) none,
       goes-none (store (a .positions .now) (a .sizes .now) (a .count) (a .marks .now) (a .mark-count)) (offerAt (a .node) (a .out)) (s .pre .0) (offers-unplaced (a .node) (a .out) none),
     )
 
@@ -59,7 +59,7 @@ returns-2 : tie.Need-returns-2
 returns-2 c =
     let a = c .before .before .before .args in
     let known = c .before .seen .given in (
-      verdict-stopped (a .banks) (a .bank) (a .def) (stateIn (store (a .positions .now) (a .sizes .now) (a .count) (a .marks .now) (a .mark-count))) (a .node) (a .out) (a .seen) (known .0 .0) (known .1),
+      verdict-stopped (a .closed) (a .bank) (a .def) (stateIn (store (a .positions .now) (a .sizes .now) (a .count) (a .marks .now) (a .mark-count))) (a .node) (a .out) (a .seen) (known .0 .0) (known .1),
       goes-refused (store (a .positions .now) (a .sizes .now) (a .count) (a .marks .now) (a .mark-count)) (offerAt (a .node) (a .out)) (known .0 .0) (c .before .before .before .pre .0),
     )
 
@@ -71,7 +71,7 @@ returns-3 c =
     let known = c .before .before .before .before .before .before .before .seen2 .given in
     let placed = sym (c .before .before .before .before .before .is-placed .ensures) ∙ not-false _ (c .before .before .before .before .if1 .left) in
     let why = c .before .checked .given in (
-      verdict-checked (a .banks) (a .bank) (a .def) (stateIn (store (a .positions .now) (a .sizes .now) (a .count) (a .marks .now) (a .mark-count))) (a .node) (a .out) (a .seen) (known .0 .0) (known .1) placed
+      verdict-checked (a .closed) (a .bank) (a .def) (stateIn (store (a .positions .now) (a .sizes .now) (a .count) (a .marks .now) (a .mark-count))) (a .node) (a .out) (a .seen) (known .0 .0) (known .1) placed
           (c .before .before .before .check-place .result) (c .before .before .before .check-place .ensures) (why .0 .0) (why .1),
       goes-refused (store (a .positions .now) (a .sizes .now) (a .count) (a .marks .now) (a .mark-count)) (offerAt (a .node) (a .out)) (why .0 .0) (s .pre .0),
     )
@@ -83,7 +83,7 @@ returns-4 c =
     let a = s .args in
     let known = c .before .before .before .before .before .before .before .before .before .before .seen2 .given in
     let placed = sym (c .before .before .before .before .before .before .before .before .is-placed .ensures) ∙ not-false _ (c .before .before .before .before .before .before .before .if1 .left) in (
-      verdict-offered (a .banks) (a .bank) (a .def) (stateIn (store (a .positions .now) (a .sizes .now) (a .count) (a .marks .now) (a .mark-count))) (a .node) (a .out) (a .seen) (known .0 .0) (known .1) placed
+      verdict-offered (a .closed) (a .bank) (a .def) (stateIn (store (a .positions .now) (a .sizes .now) (a .count) (a .marks .now) (a .mark-count))) (a .node) (a .out) (a .seen) (known .0 .0) (known .1) placed
           (c .before .before .before .before .before .before .check-place .result) (c .before .before .before .before .before .before .check-place .ensures) (c .before .before .before .before .enum-told .given .1) (c .offer-node .result .verdict) (c .offer-node .ensures .0),
       c .offer-node .ensures .1,
     )

@@ -16,11 +16,11 @@ use Rattle.output.proofs.placing.spans_after.Reads as spans-after-reads
 use Rattle.output.proofs.visits.visit_node.Reads as visit-node-reads
 
 abbrev Inv-loop : tie.InvT-loop
-Inv-loop banks kinds operands first numbers states fill positions₀ sizes₀ count₀ marks₀ mark-count₀ walk₀ reach₀ spans₀ i₀ positions sizes count marks mark-count walk reach spans i =
-    Going (programOf banks kinds operands first) (rowOf numbers states) fill i walk positions sizes count marks mark-count reach spans
+Inv-loop banks kinds operands first numbers states closed fill positions₀ sizes₀ count₀ marks₀ mark-count₀ walk₀ reach₀ spans₀ i₀ positions sizes count marks mark-count walk reach spans i =
+    Going (programOf banks kinds operands first) (rowOf numbers states) closed fill i walk positions sizes count marks mark-count reach spans
 
 abbrev μ-loop : tie.MeasureT-loop
-μ-loop banks kinds operands first numbers states fill positions₀ sizes₀ count₀ marks₀ mark-count₀ walk₀ reach₀ spans₀ i₀ positions sizes count marks mark-count walk reach spans i =
+μ-loop banks kinds operands first numbers states closed fill positions₀ sizes₀ count₀ marks₀ mark-count₀ walk₀ reach₀ spans₀ i₀ positions sizes count marks mark-count walk reach spans i =
     lib.ListN.length kinds - i
 
 -- src/placing.rt:267:9
@@ -31,7 +31,7 @@ start-requires c κs = search needs
 loop-holds : tie.Need-loop-holds Inv-loop μ-loop
 loop-holds c =
     let s = c .before .before .before .before .before .before in
-    begins (programOf (s .args .banks) (s .args .kinds .now) (s .args .operands .now) (s .args .first .now)) (rowOf (s .args .numbers .now) (s .args .states .now)) (s .args .fill) (c .start .result) (c .start .ensures) (s .pre .0)
+    begins (programOf (s .args .banks) (s .args .kinds .now) (s .args .operands .now) (s .args .first .now)) (rowOf (s .args .numbers .now) (s .args .states .now)) (s .args .closed) (s .args .fill) (c .start .result) (c .start .ensures) (s .pre .0)
 
 -- src/placing.rt:272:13
 visit-node-requires : tie.Need-visit-node-requires Inv-loop μ-loop
@@ -56,7 +56,7 @@ returns c =
     let visit = c .before .before .before .before .before .before .before .before .visit-node in
     let placed = c .before .before .place in
     let told = c .enum-told .given in
-    settles p row (a .fill) (at .i) (at .walk) (at .positions) (at .sizes) (at .count) (at .marks) (at .mark-count) (at .reach) (at .spans) (at .inv) (visit .result) (visit .ensures .0) (placed .result .verdict) (placed .ensures .0)
+    settles p row (a .closed) (a .fill) (at .i) (at .walk) (at .positions) (at .sizes) (at .count) (at .marks) (at .mark-count) (at .reach) (at .spans) (at .inv) (visit .result) (visit .ensures .0) (placed .result .verdict) (placed .ensures .0)
     (told .0 .0) (c .before .before .before .before .before .before .before .before .before .loop-test .taken) (told .1)
 
 enum-told-2 : tie.Need-enum-told-2 Inv-loop μ-loop
@@ -88,7 +88,7 @@ loop-again c =
     let at = loop .loop in
     let visit = c .before .before .before .before .before .before .before .before .before .before .before .visit-node in
     let placed = c .before .before .before .before .before .place in
-    goes-on p row (a .fill) (at .i) (at .walk) (at .positions) (at .sizes) (at .count) (at .marks) (at .mark-count) (at .reach) (at .spans) (at .inv) (visit .result) (visit .ensures .0) (placed .result .verdict) (placed .ensures .0)
+    goes-on p row (a .closed) (a .fill) (at .i) (at .walk) (at .positions) (at .sizes) (at .count) (at .marks) (at .mark-count) (at .reach) (at .spans) (at .inv) (visit .result) (visit .ensures .0) (placed .result .verdict) (placed .ensures .0)
     (c .before .before .before .before .before .before .before .before .before .before .before .before .loop-test .taken) (c .before .before .before .enum-told2 .given .1) _ _ _ _ _ _ _ (placed .ensures .1) (c .before .before .length-after .ensures .0) (c .before .before .length-after .ensures .1)
     (c .before .spans-after .ensures)
 
@@ -100,7 +100,7 @@ returns-2 c =
     let p = programOf (a .banks) (a .kinds .now) (a .operands .now) (a .first .now) in
     let row = rowOf (a .numbers .now) (a .states .now) in
     let at = loop .loop in
-    ends p row (a .fill) (at .i) (at .walk) (at .positions) (at .sizes) (at .count) (at .marks) (at .mark-count) (at .reach) (at .spans) (at .inv) (c .loop-test .left)
+    ends p row (a .closed) (a .fill) (at .i) (at .walk) (at .positions) (at .sizes) (at .count) (at .marks) (at .mark-count) (at .reach) (at .spans) (at .inv) (c .loop-test .left)
 
 pub plan-row-spec : {M : Type 1} → statement M
 plan-row-spec =

@@ -15,7 +15,7 @@ abbrev Inv-loop : tie.InvT-loop
 Inv-loop banks kinds operands first numbers states values image₀ walk₀ i₀ image walk i =
     (i ≤ length kinds)
     × (walk ≡ walkTo (record { banks = banks; kinds = kinds; operands = operands; first = first }) (record { numbers = numbers; states = states }) i)
-    × (image ≡ imageTo (record { banks = banks; kinds = kinds; operands = operands; first = first }) (record { numbers = numbers; states = states }) values (length image₀) i)
+    × (image ≡ imageTo (record { banks = banks; kinds = kinds; operands = operands; first = first }) (record { numbers = numbers; states = states }) values (replicate (length image₀) 0) i)
 
 abbrev μ-loop : tie.MeasureT-loop
 μ-loop banks kinds operands first numbers states values image₀ walk₀ i₀ image walk i = length kinds - i
@@ -49,7 +49,7 @@ loop-holds c =
     let s = c .before .before .before .before .before .before .before .before .before .before .before .before in (
       omega arith,
       walk-start (given s) (row s) (c .start .ensures),
-      image-start (given s) (row s) (s .args .values .now) (length (c .before .before .before .clear .last .0)) (cleared (c .before .before .before)),
+      image-start (given s) (row s) (s .args .values .now) (cleared (c .before .before .before)),
     )
 
 visit-node-requires : tie.Need-visit-node-requires Inv-loop μ-loop
@@ -59,8 +59,8 @@ write-item-requires : tie.Need-write-item-requires Inv-loop μ-loop
 write-item-requires c κs =
     let at = c .before .before .before .before in
     let s = entry at in
-    item-fits (given s) (row s) (at .loop .i) (at .loop .inv .1) (c .before .before .visit-node .ensures .0) (s .args .values .now) (length (at .before .before .before .before .clear .last .0)) (at .loop .inv .2)
-    (length (s .args .kinds .now)) (rw (lent (at .before .before .before .before)) (s .pre)) (c .before .before .before .loop-test .taken)
+    item-fits (given s) (row s) (at .loop .i) (at .loop .inv .1) (c .before .before .visit-node .ensures .0) (s .args .values .now) (replicate (length (at .before .before .before .before .clear .last .0)) 0) (at .loop .inv .2)
+    (length (s .args .kinds .now)) (rw (length-replicate {A = ℕ} (length (at .before .before .before .before .clear .last .0)) 0, lent (at .before .before .before .before)) (s .pre)) (c .before .before .before .loop-test .taken)
 
 add-i : tie.Need-add-i Inv-loop μ-loop
 add-i c = omega (arith, c .before .before .before .before .before .before .before .loop-test .taken, c .before .before .before .before .before .before .before .before .before .before .before .before .before .before .before .before .before .before .before .before .before .good)
@@ -75,20 +75,20 @@ loop-again c =
     let met = c .before .before .before .before .before .before .visit-node .ensures .0 in (
       omega (arith, c .before .before .before .before .before .before .before .loop-test .taken),
       walk-next (given s) (row s) (at .loop .i) (at .loop .inv .1) met,
-      image-next (given s) (row s) (at .loop .i) (at .loop .inv .1) met (s .args .values .now) (length (at .before .before .before .before .clear .last .0)) (at .loop .inv .2) (c .before .before .before .write-item .ensures),
+      image-next (given s) (row s) (at .loop .i) (at .loop .inv .1) met (s .args .values .now) (replicate (length (at .before .before .before .before .clear .last .0)) 0) (at .loop .inv .2) (c .before .before .before .write-item .ensures),
     )
 
 same-length : tie.Need-same-length Inv-loop μ-loop
 same-length c =
     let s = entry (c .before) in
-    ap length (c .before .loop .inv .2) ∙ image-keeps (given s) (row s) (s .args .values .now) _ (c .before .loop .i) ∙ lent (c .before .before .before .before .before)
+    ap length (c .before .loop .inv .2) ∙ image-keeps (given s) (row s) (s .args .values .now) _ (c .before .loop .i) ∙ length-replicate _ 0 ∙ lent (c .before .before .before .before .before)
 
 returns : tie.Need-returns Inv-loop μ-loop
 returns c =
     let s = entry (c .before) in
     c .before .loop .inv .2
-    ∙ ap (λ (bytes : ℕ). imageTo (given s) (row s) (s .args .values .now) bytes (c .before .loop .i)) (lent (c .before .before .before .before .before))
-    ∙ ap (imageTo (given s) (row s) (s .args .values .now) (length (s .args .image .now))) (omega arith)
+    ∙ ap (λ (bytes : ℕ). imageTo (given s) (row s) (s .args .values .now) (replicate bytes 0) (c .before .loop .i)) (lent (c .before .before .before .before .before))
+    ∙ ap (imageTo (given s) (row s) (s .args .values .now) (replicate (length (s .args .image .now)) 0)) (omega arith)
 
 pub write-image-spec : {M : Type 1} → statement M
 write-image-spec =
