@@ -21,7 +21,7 @@ use Rattle.blocks.specs.Spans.{spansOf, acceptable}
 use Rattle.blocks.specs.Walk.{blocksOf}
 use Rattle.blocks.specs.Count.{blocks-few}
 use Rattle.blocks.specs.Outcome.{origins, sizes, over, roomFor, Contract}
-use Rattle.blocks.proofs.Laws.{acceptable-parts}
+use Rattle.blocks.specs.Acceptable.{acceptable-parts}
 use Rattle.text.specs.Lines.{blockWord, line, passesText, blocksText, imageText, layoutText}
 use Rattle.report.specs.Report.{doneText}
 

@@ -1,5 +1,4 @@
 pub mod Blocks
-pub mod Ends
 pub mod Image
 pub mod Sets
 pub mod Spaced

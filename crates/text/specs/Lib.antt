@@ -1,5 +1,6 @@
 pub mod Ascii
 pub mod Decimal
+pub mod Ends
 pub mod Example
 pub mod Lines
 pub mod Puts

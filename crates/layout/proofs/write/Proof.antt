@@ -4,7 +4,7 @@ use Prim.Native.Nat.{_≤_}
 use native.Mathlib.Omega.{arith}
 use lib.ListN.{length}
 use lib.Seq.{length-take-le}
-use Rattle.text.proofs.Ends.{fits-of}
+use Rattle.text.specs.Ends.{fits-of}
 use Rattle.report.specs.Report.{reportText}
 use borrow.Author.Needs.{needs}
 use Rattle.layout.proofs.write.Statement.{statement}

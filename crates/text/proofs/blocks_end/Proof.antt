@@ -4,7 +4,7 @@ use mathlib.Core.Path.{_≡_, sym, ap, _∙_}
 use borrow.Author.Needs.{needs}
 use native.Mathlib.Omega.{arith}
 use lib.ListN.{length, getD, length-append}
-use Rattle.text.proofs.Ends.{end-same, end-short, fits-of, short-of}
+use Rattle.text.specs.Ends.{end-same, end-short, fits-of, short-of}
 use Rattle.text.proofs.Blocks.{blocks-upto, blocks-more}
 use Rattle.text.specs.Lines.{line, blockWord, blocksText}
 use mathlib.Core.List.{[], _∷_}

@@ -6,7 +6,7 @@ use borrow.Author.Needs.{needs}
 use native.Mathlib.Omega.{arith}
 use lib.ListN.{length}
 use Rattle.text.specs.Lines.{spaced, blocksText}
-use Rattle.text.proofs.Ends.{end-same, end-short, fits-of, short-of}
+use Rattle.text.specs.Ends.{end-same, end-short, fits-of, short-of}
 use Rattle.text.proofs.Whole.{layout-length}
 use Rattle.text.proofs.layout_end.Statement.{statement}
 use Rattle.text.proofs.layout_end.Tie as tie

@@ -5,7 +5,7 @@ use borrow.Author.Needs.{needs}
 use native.Mathlib.Omega.{arith}
 use lib.ListN.{length, drop}
 use Rattle.text.specs.Lines.{spaced}
-use Rattle.text.proofs.Ends.{end-same, end-short, fits-of, short-of}
+use Rattle.text.specs.Ends.{end-same, end-short, fits-of, short-of}
 use Rattle.text.proofs.Spaced.{spaced-left, spaced-done}
 use Rattle.text.proofs.line_end.Statement.{statement}
 use Rattle.text.proofs.line_end.Tie as tie

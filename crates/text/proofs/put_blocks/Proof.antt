@@ -5,7 +5,7 @@ use borrow.Author.Needs.{needs}
 use native.Mathlib.Omega.{arith}
 use lib.ListN.{length}
 use Rattle.text.specs.Lines.{blocksText}
-use Rattle.text.proofs.Ends.{fits-of, short-of, puts-short, puts-writes}
+use Rattle.text.specs.Ends.{fits-of, short-of, puts-short, puts-writes}
 use Rattle.text.proofs.Blocks.{blocks-lent}
 use Rattle.text.proofs.put_blocks.Statement.{statement}
 use Rattle.text.proofs.put_blocks.Tie as tie

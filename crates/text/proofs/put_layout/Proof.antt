@@ -6,7 +6,7 @@ use native.Mathlib.Omega.{arith}
 use lib.ListN.{length}
 use Rattle.text.specs.Lines.{blocksText, layoutText}
 use Rattle.text.proofs.Blocks.{blocks-lent}
-use Rattle.text.proofs.Ends.{fits-of, short-of, puts-short, puts-writes}
+use Rattle.text.specs.Ends.{fits-of, short-of, puts-short, puts-writes}
 use Rattle.text.proofs.put_layout.Statement.{statement}
 use Rattle.text.proofs.put_layout.Tie as tie
 

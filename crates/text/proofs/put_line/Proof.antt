@@ -2,7 +2,7 @@
 use borrow.Author.Needs.{needs}
 use native.Mathlib.Omega.{arith}
 use lib.ListN.{length}
-use Rattle.text.proofs.Ends.{fits-of, short-of, puts-short, puts-writes}
+use Rattle.text.specs.Ends.{fits-of, short-of, puts-short, puts-writes}
 use Rattle.text.specs.Lines.{spaced}
 use Rattle.text.proofs.Spaced.{line-length}
 use Prim.Native.Nat.{_+_}

@@ -2,7 +2,7 @@
 use borrow.Author.Needs.{needs}
 use native.Mathlib.Omega.{arith}
 use lib.ListN.{length}
-use Rattle.text.proofs.Ends.{fits-of, short-of, puts-short, puts-writes}
+use Rattle.text.specs.Ends.{fits-of, short-of, puts-short, puts-writes}
 use Rattle.text.proofs.put_number.Statement.{statement}
 use Rattle.text.proofs.put_number.Tie as tie
 
