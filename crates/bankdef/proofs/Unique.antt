@@ -12,7 +12,7 @@ pub magnitude-unique : OneOutcome 0 magnitude-kinds.ps magnitude-kinds.r magnitu
 magnitude-unique κs a x y e f p q = determined p q
 
 pub check-unique : OneOutcome 0 check-kinds.ps check-kinds.r check-reads.Learnt
-check-unique κs a x y e f p q = determined p q
+check-unique κs a x y e f p q = determined (p .0) (q .0)
 
 pub fill-length-unique : OneOutcome 0 fill-length-kinds.ps fill-length-kinds.r fill-length-reads.Learnt
 fill-length-unique κs a x y e f p q = determined (p .0) (q .0)

@@ -8,7 +8,7 @@ use lib.ListN.{replicate}
 use Rattle.refusal.specs.Refusals.{numberOf}
 use Rattle.refusal.specs.declared.Opt.{Opt}
 use Rattle.refusal.specs.declared.Opt.the-variants.{None, Some}
-use Rattle.refusal.specs.declared.Refusal.the-variants.{BanksOverlap}
+use Rattle.refusal.specs.declared.Refusal.the-variants.{BankNumber, BanksOverlap}
 use Rattle.refusal.specs.declared.Verdict.{Verdict}
 use Rattle.refusal.specs.declared.Verdict.the-variants.{Accepted, Refused}
 use Rattle.bankdef.specs.declared.Bankdef.{Bankdef}
@@ -19,7 +19,7 @@ use Rattle.bankdef.specs.Fill.{fillFrom, fillLength}
 
 -- a bank of eight-bit units from address 0, by its offset, size and fill
 abbrev pub bank : Opt → Opt → Bool → Bankdef
-bank offset size fill = record { unit = 8; start = pos 0; size = size; offset = offset; align = None; fill = fill }
+bank offset size fill = record { unit = 8; start = pos 0; size = size; offset = offset; align = None; fill = fill; «fill_bit» = 0 }
 
 -- a table of bank 0 and two more
 abbrev pub table : Bankdef → Bankdef → Bankdefs
@@ -39,3 +39,19 @@ pub bank-cases : (two 0 (Some 8) 8 (Some 8) ≡ Accepted) × (two 0 (Some 9) 8 (
     (BanksOverlap 1 2)) × (two 0 (Some 8) 8 None ≡ Accepted) × (numberOf (BanksOverlap 1 2) ≡ 3) × (alone 1 ≡ 0) × (alone 2 ≡ 2)
 unfolding firstWhere firstPair fillFrom
 bank-cases = (refl, refl, refl, refl, refl, refl, refl)
+
+-- a bank of eight-bit units with neither size nor offset, by its fill and its fill bit
+abbrev pub bitBank : Bool → ℕ → Bankdef
+bitBank fill bit = record { unit = 8; start = pos 0; size = None; offset = None; align = None; fill = fill; «fill_bit» = bit }
+
+-- the verdict on a table of two
+abbrev pub pair : Bankdef → Bankdef → Verdict
+pair a b = checkOf (record { defs = a ∷ b ∷ replicate 14 noBank; len = 2 })
+
+-- Ticket 6: "2 also for bank 0 with fill bit one, filled or not". In another bank a fill bit of one is sound, without fill, size and
+-- offset too; in each a fill bit of two is none.
+pub fill-bit-cases : (pair (bitBank true 1) (bitBank true 0) ≡ Refused (BankNumber 0)) × (pair (bitBank false 1) (bitBank true 0) ≡ Refused (BankNumber 0)) ×
+    (pair (bitBank true 0) (bitBank false 1) ≡ Accepted) × (pair (bitBank true 0) (bitBank false 2) ≡ Refused (BankNumber 1)) ×
+    (pair (bitBank false 2) (bitBank false 2) ≡ Refused (BankNumber 0))
+unfolding firstWhere firstPair
+fill-bit-cases = (refl, refl, refl, refl, refl)

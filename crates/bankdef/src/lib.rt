@@ -12,11 +12,14 @@ ghost use Rattle.refusal.specs.Limits.{maxBanks, maxOffer};
 ghost use Rattle.bankdef.specs.Numbers.{isZero, bankFault};
 ghost use Rattle.bankdef.specs.Overlap.{rangesOverlap, pairOverlaps};
 ghost use Rattle.bankdef.specs.Search.{firstWhere};
-ghost use Rattle.bankdef.specs.Check.{firstPair, noBank, banksOf, checkOf};
+ghost use Rattle.refusal.specs.Told.{toldVerdict};
+ghost use Rattle.bankdef.specs.Check.{firstFault, firstPair, noBank, banksOf, checkOf};
+ghost use Rattle.bankdef.specs.Told.{Checks};
 ghost use Rattle.bankdef.specs.Fill.{filledBy, fillLength};
 
 // A bank: address unit in bits, start address, and, each optional, size in bits, output offset and label alignment; and
-// whether its range is filled. The types carry document 01's limits, but for a unit of 0 and the start's range.
+// whether its range is filled, and with which bit (Ticket 6). The types carry document 01's limits, but for a unit of 0 and the
+// start's range; the fill bit is 0 or 1.
 pub struct Bankdef {
     pub unit: u16,
     pub start: i64,
@@ -24,6 +27,7 @@ pub struct Bankdef {
     pub offset: Opt,
     pub align: Opt,
     pub fill: bool,
+    pub fill_bit: u8,
 }
 
 // The table: the first `len` of `defs`, bank 0 included.
@@ -54,7 +58,7 @@ fn is_zero(size: Opt) -> bool
     }
 }
 
-// Whether a number of the bank is beyond its limit, or the bank is filled and has size 0.
+// Whether a number of the bank is beyond its limit, its fill bit is none, or the bank is filled and has size 0.
 fn at_fault(b: Bankdef) -> bool
     ensures { λ r. ⌜ r ≡ bankFault b ⌝ }
 {
@@ -66,13 +70,17 @@ fn at_fault(b: Bankdef) -> bool
     if MAX_START < magnitude(start) {
         return true;
     }
+    let bit = b.fill_bit;
+    if 1 < bit {
+        return true;
+    }
     let fill = b.fill;
     let size = b.size;
     fill && is_zero(size)
 }
 
-// The first of the table's `n` banks that is at fault, or `n` where none is.
-fn first_fault(banks: Bankdefs, n: usize) -> usize
+// The first of the table's `n` banks that is at fault by its own record, or `n` where none is.
+fn first_unsound(banks: Bankdefs, n: usize) -> usize
     requires { ⌜ n ≤ maxBanks ⌝ }
     ensures { λ r. ⌜ r ≡ firstWhere bankFault (take n (banks .defs)) ⌝ }
 {
@@ -83,6 +91,19 @@ fn first_fault(banks: Bankdefs, n: usize) -> usize
         }
     }
     n
+}
+
+// The first of the table's `n` banks that is at fault, or `n` where none is: bank 0 also for a fill bit of one.
+fn first_fault(banks: Bankdefs, n: usize) -> usize
+    requires { ⌜ (0 < n) × (n ≤ maxBanks) ⌝ }
+    ensures { λ r. ⌜ r ≡ firstFault (take n (banks .defs)) ⌝ }
+{
+    let zero = banks.defs[0];
+    let bit = zero.fill_bit;
+    if bit == 1 {
+        return 0;
+    }
+    first_unsound(banks, n)
 }
 
 // The bit after the last of `size` bits from `offset`.
@@ -159,6 +180,7 @@ fn check_bank_overlap(banks: Bankdefs, n: usize) -> Verdict
 // Whether the table is refused: its count, the numbers of each bank, the pairs.
 pub fn check(banks: Bankdefs) -> Verdict
     ensures { λ r. ⌜ r ≡ checkOf banks ⌝ }
+    ensures { λ r. ⌜ Checks banks (toldVerdict r) ⌝ }
 {
     let len = banks.len;
     if len == 0 {

@@ -1,17 +1,18 @@
 -- `bankdef::at_fault` meets its contract: at each return the tests that led there decide the parts of `bankFault`, the start's by its
 -- magnitude.
 use mathlib.Core.Path.{_≡_, ap, _∙_}
-use mathlib.Core.Bool.{_&&_}
+use mathlib.Core.Bool.{_&&_, _||_}
 use Prim.Native.Nat.{_≤_, _<_}
 use borrow.Author.Needs.{needs}
-use borrow.Author.Tests.{eq-eqb, ne-eqb, le-leb, lt-leb}
+use borrow.Author.Tests.{eq-eqb, ne-eqb, le-leb, lt-leb, lt-ltb, le-ltb}
 use native.Mathlib.Omega.{arith}
 use mir.Syntax.{w64}
 use mir.Val.{SFits}
 use mir.ValLaws.{toZ-ofZ}
+use lib.Dec.{ltb}
 use lib.IntN.{natAbs}
 use Rattle.refusal.specs.Limits.{maxStart}
-use Rattle.bankdef.specs.Numbers.{isZero, bankFault, start-by-magnitude}
+use Rattle.bankdef.specs.Numbers.{isZero, fillBit, bankFault, start-by-magnitude}
 use Rattle.bankdef.proofs.at_fault.Statement.{statement}
 use Rattle.bankdef.proofs.at_fault.Tie as tie
 
@@ -34,9 +35,9 @@ returns-2 c =
     let past : maxStart < natAbs (b .start) = omega (arith, c .if2 .taken, magnitude-of (c .before)) in
     rw (ne-eqb (b .unit) 0 (c .before .before .before .if1 .left), start-by-magnitude (b .start), lt-leb (natAbs (b .start)) maxStart past)
 
--- where the unit and the start are sound, the fill and the size are left
-rest : (c : tie.Else2) → bankFault (c .before .before .before .before .args .b) ≡ (c .before .before .before .before .args .b .fill && isZero
-    (c .before .before .before .before .args .b .size))
+-- where the unit and the start are sound, the fill bit, the fill and the size are left
+rest : (c : tie.Else2) → bankFault (c .before .before .before .before .args .b) ≡ (ltb 1 (fillBit (c .before .before .before .before .args .b)) ||
+    (c .before .before .before .before .args .b .fill && isZero (c .before .before .before .before .args .b .size)))
 rest c =
     let b = c .before .before .before .before .args .b in
     let within : natAbs (b .start) ≤ maxStart = omega (arith, c .if2 .left, magnitude-of (c .before)) in
@@ -46,11 +47,14 @@ is-zero-requires : tie.Need-is-zero-requires
 is-zero-requires c κs = search needs
 
 returns-3 : tie.Need-returns-3
-returns-3 c = rw (rest (c .before .before), c .before .if3 .taken) (c .is-zero .ensures)
+returns-3 c = rw (rest (c .before), lt-ltb 1 _ (c .if3 .taken))
 
 returns-4 : tie.Need-returns-4
-returns-4 c = rw (rest (c .before), c .if3 .left)
+returns-4 c = rw (rest (c .before .before .before), le-ltb 1 _ (c .before .before .if3 .left), c .before .if4 .taken) (c .is-zero .ensures)
+
+returns-5 : tie.Need-returns-5
+returns-5 c = rw (rest (c .before .before), le-ltb 1 _ (c .before .if3 .left), c .if4 .left)
 
 pub at-fault-spec : {M : Type 1} → statement M
 at-fault-spec =
-    tie.close (tie.spec returns magnitude-requires returns-2 is-zero-requires returns-3 returns-4)
+    tie.close (tie.spec returns magnitude-requires returns-2 returns-3 is-zero-requires returns-4 returns-5)

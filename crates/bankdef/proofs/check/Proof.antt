@@ -1,25 +1,31 @@
 -- `bankdef::check` meets its contract: at each return the tests that led there decide the cases of `checkOf`.
-use mathlib.Core.Path.{_≡_}
+use mathlib.Core.Path.{_≡_, sym, subst}
 use mathlib.Core.Bool.{true, false}
 use borrow.Author.Needs.{needs}
 use borrow.Author.Tests.{le-leb, lt-leb, lt-ltb, le-ltb}
 use native.Mathlib.Omega.{arith}
 use lib.ListN.{length}
 use lib.Seq.{length-take-le}
-use Rattle.bankdef.specs.Numbers.{bankFault}
-use Rattle.bankdef.specs.Search.{firstWhere, someWhere}
-use Rattle.bankdef.specs.Check.{countSound, banksOf}
+use Rattle.refusal.specs.Told.{toldVerdict}
+use Rattle.refusal.specs.declared.Verdict.{Verdict}
+use Rattle.bankdef.specs.declared.Bankdefs.{Bankdefs}
+use Rattle.bankdef.specs.Check.{countSound, banksOf, firstFault, someFault, checkOf}
+use Rattle.bankdef.specs.Told.{Checks, check-told}
 use Rattle.bankdef.proofs.Walk.{within}
 use Rattle.bankdef.proofs.check.Statement.{statement}
 use Rattle.bankdef.proofs.check.Tie as tie
 
+-- what the answer says, it says in figures too
+figures : {t : Bankdefs} {v : Verdict} → v ≡ checkOf t → (v ≡ checkOf t) × Checks t (toldVerdict v)
+figures {t} {v} e = (e, subst (λ (w : Verdict). Checks t (toldVerdict w)) (sym e) (check-told t))
+
 returns : tie.Need-returns
-returns c = rw (c .if1 .taken)
+returns c = figures (rw (c .if1 .taken))
 
 returns-2 : tie.Need-returns-2
 returns-2 c =
     let len = c .before .before .args .banks .len in
-    rw (le-leb 1 len (omega (arith, c .before .if1 .left)), lt-leb len 16 (c .if2 .taken))
+    figures (rw (le-leb 1 len (omega (arith, c .before .if1 .left)), lt-leb len 16 (c .if2 .taken)))
 
 first-fault-requires : tie.Need-first-fault-requires
 first-fault-requires c κs = search needs
@@ -39,9 +45,9 @@ returns-3 : tie.Need-returns-3
 returns-3 c =
     let d = c .before .before in
     let t = d .before .before .args .banks in
-    let some : someWhere bankFault (banksOf t) ≡ true = lt-ltb (firstWhere bankFault (banksOf t)) (length (banksOf t)) (omega
+    let some : someFault (banksOf t) ≡ true = lt-ltb (firstFault (banksOf t)) (length (banksOf t)) (omega
     (arith, count d, c .if3 .taken, c .before .first-fault .ensures)) in
-    rw (sound d, some, c .before .first-fault .ensures)
+    figures (rw (sound d, some, c .before .first-fault .ensures))
 
 check-bank-overlap-requires : tie.Need-check-bank-overlap-requires
 check-bank-overlap-requires c κs = search needs
@@ -50,9 +56,9 @@ returns-4 : tie.Need-returns-4
 returns-4 c =
     let d = c .before .before .before in
     let t = d .before .before .args .banks in
-    let none : someWhere bankFault (banksOf t) ≡ false = le-ltb (firstWhere bankFault (banksOf t)) (length (banksOf t)) (omega
+    let none : someFault (banksOf t) ≡ false = le-ltb (firstFault (banksOf t)) (length (banksOf t)) (omega
     (arith, count d, c .before .if3 .left, c .before .before .first-fault .ensures)) in
-    rw (sound d, none) (c .check-bank-overlap .ensures)
+    figures (rw (sound d, none) (c .check-bank-overlap .ensures))
 
 pub check-spec : {M : Type 1} → statement M
 check-spec =
