@@ -10,4 +10,5 @@ pub mod SharedBit
 pub mod Told
 pub mod Fill
 pub mod FillFacts
+pub mod FillBits
 pub mod Cases

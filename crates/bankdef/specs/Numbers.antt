@@ -10,7 +10,7 @@ use borrow.Author.Tests.{ltb-true, ltb-false, lt-ltb, leb-true, leb-false, lt-le
 use lib.Dec.{ltb, leb, eqb}
 use lib.IntN.{ℤ, pos, negℤ, natAbs}
 use lib.Signed.{leZ}
-use Rattle.bankdef.specs.Bools.{either, clash, both, neither}
+use Rattle.bankdef.specs.Bools.{either, clash, both, neither, or-left, or-right, or-else}
 use Rattle.bankdef.specs.Integers.{between}
 use Rattle.refusal.specs.Limits.{maxStart}
 use Rattle.refusal.specs.declared.Opt.{Opt}
@@ -75,16 +75,6 @@ pub data Faulty (i : ℕ) (b : Bankdef) : Type 0 where
   no-bit : 1 < fillBit b → Faulty i b
   filled-empty : b .fill ≡ true → b .size ≡ Some 0 → Faulty i b
   bank-0-one : i ≡ 0 → fillBit b ≡ 1 → Faulty i b
-
-or-left : (x y : Bool) → x ≡ true → (x || y) ≡ true
-or-left x y e = rw e
-
-or-right : (x y : Bool) → y ≡ true → (x || y) ≡ true
-or-right true y e = refl
-or-right false y e = e
-
-or-else : (x y : Bool) → x ≡ false → (x || y) ≡ true → y ≡ true
-or-else x y f e = rw f at e
 
 zero-size : (o : Opt) → isZero o ≡ true → o ≡ Some 0
 zero-size None e = absurd (clash e refl)

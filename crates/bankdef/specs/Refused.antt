@@ -1,13 +1,13 @@
 -- Refusals 1, 2 and 3 of a table, each exactly when document 01 gives it, with its place. `decided` says it whole; what is asked for most,
 -- the overlap, stands by itself in `refused-3` and `named`, and what a caller learns of an accepted table in `accepted`.
 use mathlib.Core.Path.{_≡_, refl, ap, subst}
-use mathlib.Core.Bool.{Bool, true, false, _&&_}
+use mathlib.Core.Bool.{true, false}
 use mathlib.Core.List.{List}
 use mathlib.Core.Logic.{_↔_}
 use Prim.Native.Nat.{ℕ, zero, suc, _≤_, _<_}
 use native.Mathlib.Omega.{arith}
-use borrow.Author.Tests.{ltb-true, lt-ltb, leb-true, eqb-true, eq-eqb, ne-eqb}
-use lib.Dec.{ltb, leb, eqb}
+use borrow.Author.Tests.{ltb-true, lt-ltb, leb-true, eqb-true, ne-eqb}
+use lib.Dec.{leb}
 use lib.ListN.{length, getD, length-take}
 use lib.Seq.{getD-take}
 use Rattle.refusal.specs.Limits.{maxBanks}
