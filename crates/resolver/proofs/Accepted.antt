@@ -14,30 +14,31 @@ use Rattle.resolver.specs.Figures.{Figures}
 use Rattle.resolver.specs.RefusedExactly.{layout-figures}
 pub use Rattle.resolver.specs.Sound.{accepted-rows}
 use Rattle.resolver.specs.Sound.{ListFigures, lists-figures}
+use Rattle.resolver.specs.declared.Choices.{Choices}
 use Rattle.resolver.specs.declared.Settled.the-variants.{Refused as Turned}
 use Rattle.resolver.specs.declared.Resolution.{Resolution}
 
 -- what turns a layout away, and what is left to the passes
-module _ (banks : Bankdefs) (l : Lists) (m : ℕ) where
+module _ (banks : Bankdefs) (l : Lists) (choices : Choices) where
   pub banks-refused : {v : Verdict} {why : Refusal} {r : Resolution} → v ≡ checkOf banks → v ≡ Refused why
-      → r ≡ record { settled = Turned why; passes = 0 } → r ≡ layoutOf banks l m
+      → r ≡ record { settled = Turned why; passes = 0 } → r ≡ layoutOf banks l choices
   unfolding layoutOf
   banks-refused e f h = rw (sym e ∙ f) h
 
   module _ {v : Verdict} (e : v ≡ checkOf banks) (f : v ≡ Accepted) where
-    pub lists-refused : {w : Verdict} {why : Refusal} {r : Resolution} → w ≡ listsOf (banks .len) l → w ≡ Refused why
-        → r ≡ record { settled = Turned why; passes = 0 } → r ≡ layoutOf banks l m
+    pub lists-refused : {w : Verdict} {why : Refusal} {r : Resolution} → w ≡ listsOf (banks .len) l (choices .fill) → w ≡ Refused why
+        → r ≡ record { settled = Turned why; passes = 0 } → r ≡ layoutOf banks l choices
     unfolding layoutOf
     lists-refused g h k = rw (sym e ∙ f, sym g ∙ h) k
 
-    pub both-accepted : {w : Verdict} {r : Resolution} → w ≡ listsOf (banks .len) l → w ≡ Accepted
-        → r ≡ resolutionOf banks (lists (l .kinds) (l .operands) (l .numbers) (l .states) (l .rows) []) m → r ≡ layoutOf banks l m
+    pub both-accepted : {w : Verdict} {r : Resolution} → w ≡ listsOf (banks .len) l (choices .fill) → w ≡ Accepted
+        → r ≡ resolutionOf banks (lists (l .kinds) (l .operands) (l .numbers) (l .states) (l .rows) []) (choices .limit) → r ≡ layoutOf banks l choices
     unfolding layoutOf
     both-accepted g h k = rw (sym e ∙ f, sym g ∙ h) k
 
 -- an answer is what the definition gives, and so it tells what that tells
-pub layout-told : (banks : Bankdefs) (l : Lists) (m : ℕ) {r : Resolution} → r ≡ layoutOf banks l m → (r ≡ layoutOf banks l m) × Figures banks l m r
-layout-told banks l m e = (e, subst (Figures banks l m) (sym e) (layout-figures banks l m))
+pub layout-told : (banks : Bankdefs) (l : Lists) (choices : Choices) {r : Resolution} → r ≡ layoutOf banks l choices → (r ≡ layoutOf banks l choices) × Figures banks l choices r
+layout-told banks l choices e = (e, subst (Figures banks l choices) (sym e) (layout-figures banks l choices))
 
-pub lists-told : (banks : ℕ) (l : Lists) {v : Verdict} → v ≡ listsOf banks l → (v ≡ listsOf banks l) × ListFigures banks l v
-lists-told banks l e = (e, subst (ListFigures banks l) (sym e) (lists-figures banks l))
+pub lists-told : (banks : ℕ) (l : Lists) (fill : ℕ) {v : Verdict} → v ≡ listsOf banks l fill → (v ≡ listsOf banks l fill) × ListFigures banks l fill v
+lists-told banks l fill e = (e, subst (ListFigures banks l fill) (sym e) (lists-figures banks l fill))

@@ -10,6 +10,7 @@ use Rattle.resolver.specs.Layout.{unless, layoutOf}
 use Rattle.resolver.specs.Lists.{Lists, listsOf}
 use Rattle.resolver.specs.Passes.{passAt, resolutionOf}
 use Rattle.resolver.specs.Run.{Counted, accepted-passes, passes-bounded}
+use Rattle.resolver.specs.declared.Choices.{Choices}
 use Rattle.resolver.specs.declared.Settled.the-variants.{At}
 use Rattle.resolver.specs.declared.Resolution.{Resolution}
 
@@ -27,27 +28,32 @@ unless-runs Accepted r n h = h
 unless-runs (TurnedAway why) r n h = omega arith
 
 -- The same of the layout's answer, whose passes are those of its rows.
-module _ (banks : Bankdefs) (l : Lists) (m : ℕ) where
-  pub accepted-layout : (k : ℕ) → layoutOf banks l m .settled ≡ At k → Counted (passAt banks l) m k (layoutOf banks l m)
+module _ (banks : Bankdefs) (l : Lists) (choices : Choices) where
+  pub accepted-layout : (k : ℕ) → layoutOf banks l choices .settled ≡ At k → Counted (passAt banks l) (choices .limit) k (layoutOf banks l choices)
   unfolding layoutOf
   accepted-layout k e =
-      let a = unless-told (checkOf banks) (unless (listsOf (banks .len) l) (resolutionOf banks l m)) e in
-      let f : unless (listsOf (banks .len) l) (resolutionOf banks l m) .settled ≡ At k = rw a at e in
-      let b = unless-told (listsOf (banks .len) l) (resolutionOf banks l m) f in
-      let g : resolutionOf banks l m .settled ≡ At k = rw b at f in
-      rw (a, b) (accepted-passes (passAt banks l) m k g)
+      let a = unless-told (checkOf banks) (unless (listsOf (banks .len) l (choices .fill)) (resolutionOf banks l (choices .limit))) e in
+      let f : unless (listsOf (banks .len) l (choices .fill)) (resolutionOf banks l (choices .limit)) .settled ≡ At k = rw a at e in
+      let b = unless-told (listsOf (banks .len) l (choices .fill)) (resolutionOf banks l (choices .limit)) f in
+      let g : resolutionOf banks l (choices .limit) .settled ≡ At k = rw b at f in
+      rw (a, b) (accepted-passes (passAt banks l) (choices .limit) k g)
 
-  -- an accepted layout's lists and banks pass their checks, whatever the limit
-  pub layout-passes : (k : ℕ) → layoutOf banks l m .settled ≡ At k → (n : ℕ) → layoutOf banks l n ≡ resolutionOf banks l n
+  -- an accepted layout's lists and banks pass their checks, whatever the limit and whether bank 0 may be used alone
+  pub layout-passes :
+      (k : ℕ)
+      → layoutOf banks l choices .settled ≡ At k
+      → (others : Choices)
+      → others .fill ≡ choices .fill
+      → layoutOf banks l others ≡ resolutionOf banks l (others .limit)
   unfolding layoutOf
-  layout-passes k e n =
-      let c = unless-accepts (checkOf banks) (unless (listsOf (banks .len) l) (resolutionOf banks l m)) e in
-      let f : unless (listsOf (banks .len) l) (resolutionOf banks l m) .settled ≡ At k = rw c at e in
-      let d = unless-accepts (listsOf (banks .len) l) (resolutionOf banks l m) f in
-      rw (c, d)
+  layout-passes k e others same =
+      let c = unless-accepts (checkOf banks) (unless (listsOf (banks .len) l (choices .fill)) (resolutionOf banks l (choices .limit))) e in
+      let f : unless (listsOf (banks .len) l (choices .fill)) (resolutionOf banks l (choices .limit)) .settled ≡ At k = rw c at e in
+      let d = unless-accepts (listsOf (banks .len) l (choices .fill)) (resolutionOf banks l (choices .limit)) f in
+      rw (c, same, d)
 
-  pub layout-bounded : layoutOf banks l m .passes ≤ max 1 m
+  pub layout-bounded : layoutOf banks l choices .passes ≤ max 1 (choices .limit)
   unfolding layoutOf
   layout-bounded =
-      unless-runs (checkOf banks) (unless (listsOf (banks .len) l) (resolutionOf banks l m)) (max 1 m)
-      (unless-runs (listsOf (banks .len) l) (resolutionOf banks l m) (max 1 m) (passes-bounded (passAt banks l) m .1))
+      unless-runs (checkOf banks) (unless (listsOf (banks .len) l (choices .fill)) (resolutionOf banks l (choices .limit))) (max 1 (choices .limit))
+      (unless-runs (listsOf (banks .len) l (choices .fill)) (resolutionOf banks l (choices .limit)) (max 1 (choices .limit)) (passes-bounded (passAt banks l) (choices .limit) .1))

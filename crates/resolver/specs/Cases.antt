@@ -10,7 +10,7 @@ use Rattle.refusal.specs.declared.Opt.the-variants.{None}
 use Rattle.bankdef.specs.Check.{noBank, firstPair}
 use Rattle.bankdef.specs.Search.{firstWhere}
 use Rattle.bankdef.specs.declared.Bankdefs.{Bankdefs}
-use Rattle.resolver.specs.Layout.{layoutOf}
+use Rattle.resolver.specs.Layout.{byDefault, layoutOf}
 use Rattle.resolver.specs.Lists.{lists, nodesTo, listsOf}
 use Rattle.resolver.specs.Once.{passTo}
 use Rattle.resolver.specs.Passes.{first, settledBy}
@@ -26,7 +26,7 @@ oneBank =
 
 -- the layout's answer for a limit
 abbrev pub answerFor : ℕ → Resolution
-answerFor m = layoutOf oneBank (lists [] [] [] [] 1 []) m
+answerFor m = layoutOf oneBank (lists [] [] [] [] 1 []) (byDefault m)
 
 -- K, and the passes run
 abbrev pub settledAt : ℕ → ℕ → Resolution

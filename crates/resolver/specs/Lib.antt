@@ -1,6 +1,7 @@
 pub mod Answer
 pub mod Before
 pub mod Cases
+pub mod Chosen
 pub mod Counts
 pub mod Ends
 pub mod FaultExactly
@@ -13,6 +14,7 @@ pub mod Layout
 pub mod Least
 pub mod Listed
 pub mod Lists
+pub mod ListsExactly
 pub mod NeverFour
 pub mod NodeOrder
 pub mod Once

@@ -110,12 +110,17 @@ rowCountSound l =
     let cells = l .rows * length (l .kinds) in
     leb 1 (l .rows) && (leb (l .rows) maxRows && (eqb (length (l .numbers)) cells && eqb (length (l .states)) cells))
 
+-- "inherited fill .. or full fill" (document 02, Ticket 8): 0 or 1
+abbrev pub knownFill : ℕ → Bool
+knownFill fill = leb fill 1
+
 -- "then 4: node count, row count, limit, then the lowest node, its kind, operand and rows in order." "field 0, 1, 2 for node count, row count,
--- limit". The lists must be as long as the counts say. The limit is a byte, so 0 to 255 by its type.
-unfoldable pub listsOf : ℕ → Lists → Verdict
-listsOf banks l =
+-- limit"; "4 for an unknown choice, after the limit (field 3)" (document 02, Ticket 8). The lists must be as long as the counts say. The limit is a
+-- byte, so 0 to 255 by its type.
+unfoldable pub listsOf : ℕ → Lists → ℕ → Verdict
+listsOf banks l fill =
     pick (nodeCountSound l)
-    (pick (rowCountSound l) (nodesTo banks l (length (l .kinds))) (Refused (Malformed 1)))
+    (pick (rowCountSound l) (pick (knownFill fill) (nodesTo banks l (length (l .kinds))) (Refused (Malformed 3))) (Refused (Malformed 1)))
     (Refused (Malformed 0))
 
 -- Rows whose lengths agree with the counts: what the list check has shown before it looks at a node.

@@ -116,10 +116,10 @@ listed-tells banks e whole bank h =
     (λ f. absurd (no-fault banks e bank (rw (length-take (banks .len) (banks .defs)) (omega arith)) f))
     (λ f. f))
 
-module _ (banks : Bankdefs) (l : Lists) (c : Checked banks l) where
+module _ (banks : Bankdefs) (l : Lists) {fill : ℕ} (c : Checked banks l fill) where
   pub listed-kind : (i : ℕ) → i < length (l .kinds) → getD (l .kinds) i 0 ≤ 10
   listed-kind i h =
-      let s = accepted-lists (banks .len) l (c .lists) in
+      let s = accepted-lists (banks .len) l fill (c .lists) in
       let e = accepted-node (banks .len) l (length (l .kinds)) (s .nodes) i h in
       let a = neither (headFault (banks .len) (nodeOf (l .kinds) (l .operands) (l .numbers) (l .states) 0 i)) (anyRowFault l i (l .rows)) e in
       let b = neither (ltb 10 (getD (l .kinds) i 0)) (eqb (getD (l .kinds) i 0) 1 && leb (banks .len) (getD (l .operands) i 0)) (a .0) in
@@ -133,4 +133,4 @@ module _ (banks : Bankdefs) (l : Lists) (c : Checked banks l) where
       let walk = walkTo (program banks l) (rowOfPass l n) i in
       step-not-four (defAt (program banks l) (rowOfPass l n) i)
       (listed-tells banks (c .table) whole (bankAfter (walk .bank) (nodeIn banks l n i)) (stands-listed banks l c n i isLast h all))
-      walk (nodeIn banks l n i) (listed-kind i h) (sound-state-of-row banks l (c .lists) n i h) (sound-numbers banks l c n i isLast h all)
+      walk (nodeIn banks l n i) (listed-kind i h) (sound-state-of-row banks l fill (c .lists) n i h) (sound-numbers banks l c n i isLast h all)

@@ -70,11 +70,11 @@ sound-state bytes n e h =
     let a : (true && ltb 2 (n .state)) || (isItem (n .kind) && pastEnd bytes n) ≡ false = rw (lt-ltb 2 (n .kind) h) at e in
     ltb-false 2 (n .state) (neither (ltb 2 (n .state)) (isItem (n .kind) && pastEnd bytes n) a .0)
 
-module _ (banks : Bankdefs) (l : Lists) (sound : listsOf (banks .len) l ≡ Accepted) (n : ℕ) where
+module _ (banks : Bankdefs) (l : Lists) (fill : ℕ) (sound : listsOf (banks .len) l fill ≡ Accepted) (n : ℕ) where
   -- a state that is read is at most 2, as the list check has it of every row
   pub sound-state-of-row : (i : ℕ) → i < length (l .kinds) → 2 < nodeIn banks l n i .kind → nodeIn banks l n i .state ≤ 2
   sound-state-of-row i h k =
-      let s = accepted-lists (banks .len) l sound in
+      let s = accepted-lists (banks .len) l fill sound in
       let some = s .rows .some in
       let row : min n (l .rows) - 1 < l .rows = omega arith in
       sound-state (length (l .values)) (nodeIn banks l n i)

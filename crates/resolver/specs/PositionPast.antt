@@ -108,11 +108,11 @@ module _ (def : Bankdef) (walk : Walk) (n : Node) where
 
 -- ---- a pass of a layout that has passed its checks
 
-module _ (banks : Bankdefs) (l : Lists) (c : Checked banks l) where
+module _ (banks : Bankdefs) (l : Lists) {fill : ℕ} (c : Checked banks l fill) where
   -- a switch that is listed names a bank of the table
   switch-sound : (i : ℕ) → i < length (l .kinds) → getD (l .kinds) i 0 ≡ 1 → getD (l .operands) i 0 < banks .len
   switch-sound i h k =
-      let s = accepted-lists (banks .len) l (c .lists) in
+      let s = accepted-lists (banks .len) l fill (c .lists) in
       let e = accepted-node (banks .len) l (length (l .kinds)) (s .nodes) i h in
       let a = neither (headFault (banks .len) (nodeOf (l .kinds) (l .operands) (l .numbers) (l .states) 0 i)) (anyRowFault l i (l .rows)) e in
       let b = neither (ltb 10 (getD (l .kinds) i 0)) (eqb (getD (l .kinds) i 0) 1 && leb (banks .len) (getD (l .operands) i 0)) (a .0) in
@@ -140,7 +140,7 @@ module _ (banks : Bankdefs) (l : Lists) (c : Checked banks l) where
         let bank = stands-listed in
         let b = bankAfter (walkTo (program banks l) (rowOfPass l n) i .bank) (nodeIn banks l n i) in
         let outside : leb maxBanks b ≡ false = lt-leb maxBanks b (omega arith) in
-        rw outside (good-state (nodeIn banks l n i) (sound-state-of-row banks l (c .lists) n i h))
+        rw outside (good-state (nodeIn banks l n i) (sound-state-of-row banks l fill (c .lists) n i h))
       where
         good-state : (x : Node) → (2 < x .kind → x .state ≤ 2) → badState x ≡ false
         good-state x s =

@@ -7,7 +7,7 @@ use native.Mathlib.Nat.{eq-or-lt-of-le, le-of-suc-le-suc}
 use native.Mathlib.Omega.{arith}
 use lib.Dec.{leb, eqb}
 use lib.ListN.{length}
-use borrow.Author.Tests.{leb-true, eqb-true}
+use borrow.Author.Tests.{leb-true, eqb-true, le-leb, lt-leb}
 use Rattle.refusal.specs.Limits.{maxNodes, maxRows}
 use Rattle.refusal.specs.Pick.{pick}
 use Rattle.refusal.specs.declared.Refusal.{Refusal}
@@ -17,7 +17,7 @@ use Rattle.refusal.specs.declared.Verdict.the-variants.{Accepted, Refused}
 use Rattle.bankdef.specs.Bools.{both}
 use Rattle.refusal.specs.Told.{gives, refuses, nothing, toldVerdict}
 use Rattle.refusal.specs.declared.Place.the-variants.{One}
-use Rattle.resolver.specs.Lists.{Lists, Rows, nodeCountSound, rowCountSound, listsOf, nodeOf, rowFault, headFault, anyRowFault, nodeFault, firstOf, nodesTo}
+use Rattle.resolver.specs.Lists.{Lists, Rows, nodeCountSound, rowCountSound, knownFill, listsOf, nodeOf, rowFault, headFault, anyRowFault, nodeFault, firstOf, nodesTo}
 
 both-accept : (v w : Verdict) → firstOf v w ≡ Accepted → (v ≡ Accepted) × (w ≡ Accepted)
 both-accept Accepted w e = (refl, e)
@@ -101,25 +101,35 @@ module _ (banks : ℕ) (l : Lists) where
       (λ (g : i < n). rw (lowest-refused n i (record { listed = g; fault = a .fault; none = a .none })))
       (eq-or-lt-of-le (le-of-suc-le-suc (a .listed)))
 
--- What the verdict on the lists tells, in figures: "field 0, 1, 2 for node count, row count, limit", in this order, then the lowest node.
-pub record ListFigures (banks : ℕ) (l : Lists) (v : Verdict) : Type 0 where
+-- What the verdict on the lists tells, in figures: "field 0, 1, 2 for node count, row count, limit", in this order, then "an unknown choice, after the
+-- limit (field 3)", then the lowest node.
+pub record ListFigures (banks : ℕ) (l : Lists) (fill : ℕ) (v : Verdict) : Type 0 where
   pub nodes : nodeCountSound l ≡ false → toldVerdict v ≡ refuses 4 (One 0)
   pub rows : nodeCountSound l ≡ true → rowCountSound l ≡ false → toldVerdict v ≡ refuses 4 (One 1)
-  pub lowest : nodeCountSound l ≡ true → rowCountSound l ≡ true → (i : ℕ) → Lowest banks l (length (l .kinds)) i → toldVerdict v ≡ refuses 4 (One i)
+  pub choice : nodeCountSound l ≡ true → rowCountSound l ≡ true → 1 < fill → toldVerdict v ≡ refuses 4 (One 3)
+  pub lowest :
+      nodeCountSound l ≡ true
+      → rowCountSound l ≡ true
+      → fill ≤ 1
+      → (i : ℕ)
+      → Lowest banks l (length (l .kinds)) i
+      → toldVerdict v ≡ refuses 4 (One i)
   pub none :
       nodeCountSound l ≡ true
       → rowCountSound l ≡ true
+      → fill ≤ 1
       → ((i : ℕ) → i < length (l .kinds) → nodeFault banks l i ≡ false)
       → toldVerdict v ≡ gives nothing
 
-pub lists-figures : (banks : ℕ) (l : Lists) → ListFigures banks l (listsOf banks l)
+pub lists-figures : (banks : ℕ) (l : Lists) (fill : ℕ) → ListFigures banks l fill (listsOf banks l fill)
 unfolding listsOf
-lists-figures banks l =
+lists-figures banks l fill =
     record {
       nodes = λ a. rw a;
       rows = λ a b. rw (a, b);
-      lowest = λ a b i w. rw (a, b, lowest-refused banks l (length (l .kinds)) i w);
-      none = λ a b all. rw (a, b, none-refused banks l (length (l .kinds)) all);
+      choice = λ a b h. rw (a, b, lt-leb fill 1 h);
+      lowest = λ a b h i w. rw (a, b, le-leb fill 1 h, lowest-refused banks l (length (l .kinds)) i w);
+      none = λ a b h all. rw (a, b, le-leb fill 1 h, none-refused banks l (length (l .kinds)) all);
     }
 
 -- ---- what the accepted lists are
@@ -129,23 +139,26 @@ through : (t : Bool) (v : Verdict) (why : Refusal) → pick t v (Refused why) �
 through true v why e = (refl, e)
 through false v why e = (cc, cc)
 
--- Lists that are accepted: the counts are within their limits and the lists as long as they say, and no node is at fault.
-pub record SoundLists (banks : ℕ) (l : Lists) : Type 0 where
+-- Lists that are accepted: the counts are within their limits and the lists as long as they say, the choice is known, and no node is at fault.
+pub record SoundLists (banks : ℕ) (l : Lists) (fill : ℕ) : Type 0 where
   pub few : length (l .kinds) ≤ maxNodes
   pub operands : length (l .operands) ≡ length (l .kinds)
   pub rows : Rows (length (l .kinds)) (l .rows) (l .numbers) (l .states)
+  pub choice : fill ≤ 1
   pub nodes : nodesTo banks l (length (l .kinds)) ≡ Accepted
 
-pub accepted-lists : (banks : ℕ) (l : Lists) → listsOf banks l ≡ Accepted → SoundLists banks l
+pub accepted-lists : (banks : ℕ) (l : Lists) (fill : ℕ) → listsOf banks l fill ≡ Accepted → SoundLists banks l fill
 unfolding listsOf
-accepted-lists banks l e =
+accepted-lists banks l fill e =
     let n = length (l .kinds) in
     let fits = eqb (length (l .operands)) n in
     let numbered = eqb (length (l .numbers)) (l .rows * n) in
     let stated = eqb (length (l .states)) (l .rows * n) in
     let counts = leb 1 (l .rows) && (leb (l .rows) maxRows && (numbered && stated)) in
-    let a = through (leb n maxNodes && fits) (pick counts (nodesTo banks l n) (Refused (Malformed 1))) (Malformed 0) e in
-    let b = through counts (nodesTo banks l n) (Malformed 1) (a .1) in
+    let chosen = pick (knownFill fill) (nodesTo banks l n) (Refused (Malformed 3)) in
+    let a = through (leb n maxNodes && fits) (pick counts chosen (Refused (Malformed 1))) (Malformed 0) e in
+    let b = through counts chosen (Malformed 1) (a .1) in
+    let h = through (knownFill fill) (nodesTo banks l n) (Malformed 3) (b .1) in
     let c = both (leb n maxNodes) fits (a .0) in
     let d = both (leb 1 (l .rows)) (leb (l .rows) maxRows && (numbered && stated)) (b .0) in
     let f = both (leb (l .rows) maxRows) (numbered && stated) (d .1) in
@@ -159,9 +172,10 @@ accepted-lists banks l e =
         numbered = eqb-true (length (l .numbers)) (l .rows * n) (g .0);
         stated = eqb-true (length (l .states)) (l .rows * n) (g .1);
       };
-      nodes = b .1;
+      choice = leb-true fill 1 (h .0);
+      nodes = h .1;
     }
 
-pub accepted-rows : (banks : ℕ) (l : Lists) {v : Verdict} → v ≡ listsOf banks l → v ≡ Accepted
+pub accepted-rows : (banks : ℕ) (l : Lists) (fill : ℕ) {v : Verdict} → v ≡ listsOf banks l fill → v ≡ Accepted
     → Rows (length (l .kinds)) (l .rows) (l .numbers) (l .states)
-accepted-rows banks l g h = accepted-lists banks l (sym g ∙ h) .rows
+accepted-rows banks l fill g h = accepted-lists banks l fill (sym g ∙ h) .rows

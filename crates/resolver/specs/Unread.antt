@@ -26,6 +26,7 @@ use Rattle.resolver.specs.Once.{Going, on, off, node, bankOf, stepAt, wa
 use Rattle.resolver.specs.Passes.{program, passAt, settledBy, resolutionOf}
 use Rattle.resolver.specs.Sound.{accepted-node, accepted-lists}
 use Rattle.resolver.specs.UnreadStep.{SameRead, bank-same, step-same}
+use Rattle.resolver.specs.declared.Choices.{Choices}
 use Rattle.resolver.specs.declared.Pass.{Pass}
 
 -- Lists with the same kinds and rows, as long as each other, that agree wherever a kind reads: operands of kinds 1 to 6; numbers of kinds 4 to 9,
@@ -155,19 +156,19 @@ module _ (banks : Bankdefs) (kinds : List ℕ) (rows : ℕ) (operands numbers st
   nodes-same zero h = refl
   nodes-same (suc n) h = rw (nodes-same n (omega arith), fault-same n h)
 
-  check-same : listsOf (banks .len) one ≡ listsOf (banks .len) two
+  check-same : (fill : ℕ) → listsOf (banks .len) one fill ≡ listsOf (banks .len) two fill
   unfolding listsOf
-  check-same = rw (agree .operand-count, agree .number-count, agree .state-count, nodes-same (length kinds) (omega arith))
+  check-same fill = rw (agree .operand-count, agree .number-count, agree .state-count, nodes-same (length kinds) (omega arith))
 
   -- ---- the passes of accepted lists
 
-  module _ (sound : listsOf (banks .len) one ≡ Accepted) where
+  module _ (fill : ℕ) (sound : listsOf (banks .len) one fill ≡ Accepted) where
     some-row : 1 ≤ rows
-    some-row = accepted-lists (banks .len) one sound .rows .some
+    some-row = accepted-lists (banks .len) one fill sound .rows .some
 
     known-kind : (i : ℕ) → i < length kinds → getD kinds i 0 ≤ 10
     known-kind i g =
-        let s = accepted-lists (banks .len) one sound in
+        let s = accepted-lists (banks .len) one fill sound in
         let e = accepted-node (banks .len) one (length kinds) (s .nodes) i g in
         let a = neither (headFault (banks .len) (nodeOne 0 i)) (anyRowFault one i rows) e in
         let b = neither (ltb 10 (getD kinds i 0)) (eqb (getD kinds i 0) 1 && leb (banks .len) (getD operands i 0)) (a .0) in
@@ -237,19 +238,20 @@ module _ (banks : Bankdefs) (kinds : List ℕ) (rows : ℕ) (operands numbers st
     settled-same : (m : ℕ) → resolutionOf banks one m ≡ resolutionOf banks two m
     settled-same m = ap (λ (pass : ℕ → Bool → Pass). settledBy pass m) (fun-ext (λ n. fun-ext (λ b. pass-same n b)))
 
-  layout-same : (m : ℕ) → layoutOf banks one m ≡ layoutOf banks two m
+  layout-same : (choices : Choices) → layoutOf banks one choices ≡ layoutOf banks two choices
   unfolding layoutOf
-  layout-same m = ap (unless (checkOf banks)) (by-check (listsOf (banks .len) one) refl)
+  layout-same choices = ap (unless (checkOf banks)) (by-check (listsOf (banks .len) one (choices .fill)) refl)
     where
-      by-check : (v : Verdict) → listsOf (banks .len) one ≡ v
-          → unless (listsOf (banks .len) one) (resolutionOf banks one m) ≡ unless (listsOf (banks .len) two) (resolutionOf banks two m)
-      by-check Accepted e = rw (← check-same, e) (settled-same e m)
-      by-check (Refused why) e = rw (← check-same, e)
+      by-check : (v : Verdict) → listsOf (banks .len) one (choices .fill) ≡ v →
+          unless (listsOf (banks .len) one (choices .fill)) (resolutionOf banks one (choices .limit)) ≡
+          unless (listsOf (banks .len) two (choices .fill)) (resolutionOf banks two (choices .limit))
+      by-check Accepted e = rw (← (check-same (choices .fill)), e) (settled-same (choices .fill) e (choices .limit))
+      by-check (Refused why) e = rw (← (check-same (choices .fill)), e)
 
 -- Two lists that agree wherever a kind reads get one answer, K, refusal and passes run.
-pub unread-changes-nothing : (banks : Bankdefs) (l m : Lists) → AgreeWhereRead l m → (limit : ℕ) → layoutOf banks l limit ≡ layoutOf banks m limit
-unread-changes-nothing banks l m a limit =
-    ap (λ (x : Lists). layoutOf banks x limit) moved
+pub unread-changes-nothing : (banks : Bankdefs) (l m : Lists) → AgreeWhereRead l m → (choices : Choices) → layoutOf banks l choices ≡ layoutOf banks m choices
+unread-changes-nothing banks l m a choices =
+    ap (λ (x : Lists). layoutOf banks x choices) moved
     ∙ layout-same banks (m .kinds) (m .rows) (l .operands) (l .numbers) (l .states) (l .values) (m .operands) (m .numbers) (m .states) (m .values)
     (record {
       operand-count = a .operand-count;
@@ -260,7 +262,7 @@ unread-changes-nothing banks l m a limit =
       number = a .numbers;
       state = a .states;
     })
-    limit
+    choices
   where
     moved : l ≡ lists (m .kinds) (l .operands) (l .numbers) (l .states) (m .rows) (l .values)
     moved = rw (← (a .kinds), ← (a .rows))

@@ -199,8 +199,8 @@ fn check_nodes(
     Verdict::Accepted
 }
 
-// The list check: the counts, with the lengths of the lists that they stand for, then each node. The limit is a byte, so that every
-// limit is sound.
+// The list check: the counts, with the lengths of the lists that they stand for, the choice of the fill, then each node. The limit is a
+// byte, so that every limit is sound.
 pub fn check_lists(
     banks: u64,
     kinds: &[u8],
@@ -209,13 +209,14 @@ pub fn check_lists(
     states: &[u8],
     rows: u64,
     values: &[u8],
+    fill: u8,
 ) -> Verdict
     ensures { λ r. ⌜ r ≡ listsOf banks
         (lists (now (kinds .entry)) (now (operands .entry)) (now (numbers .entry)) (now (states .entry)) rows (now (values .entry)))
-        ⌝ }
+        fill ⌝ }
     ensures told { λ r. ⌜ ListFigures banks
         (lists (now (kinds .entry)) (now (operands .entry)) (now (numbers .entry)) (now (states .entry)) rows (now (values .entry)))
-        r ⌝ }
+        fill r ⌝ }
 {
     let n = kinds.len();
     if MAX_NODES < n as u64 {
@@ -236,6 +237,9 @@ pub fn check_lists(
     }
     if states.len() != cells {
         return malformed(1);
+    }
+    if 1 < fill {
+        return malformed(3);
     }
     check_nodes(banks, kinds, operands, numbers, states, rows, values)
 }

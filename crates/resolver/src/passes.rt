@@ -1,4 +1,5 @@
 // The passes: which row each reads, pass K, and how many are run.
+use crate::Choices;
 use crate::Pass;
 use crate::Resolution;
 use crate::Settled;
@@ -182,20 +183,29 @@ pub fn resolve(
     states: &[u8],
     rows: u64,
     values: &[u8],
-    limit: u8,
+    choices: Choices,
 ) -> Resolution
     ensures { λ r. ⌜ r ≡ layoutOf banks
         (lists (now (kinds .entry)) (now (operands .entry)) (now (numbers .entry)) (now (states .entry)) rows (now (values .entry)))
-        limit ⌝ }
+        choices ⌝ }
     ensures told { λ r. ⌜ Figures banks
         (lists (now (kinds .entry)) (now (operands .entry)) (now (numbers .entry)) (now (states .entry)) rows (now (values .entry)))
-        limit r ⌝ }
+        choices r ⌝ }
 {
     match check(banks) {
         Verdict::Refused(why) => turned_away(why),
         Verdict::Accepted => {
             let len = banks.len;
-            match check_lists(len, kinds, operands, numbers, states, rows, values) {
+            match check_lists(
+                len,
+                kinds,
+                operands,
+                numbers,
+                states,
+                rows,
+                values,
+                choices.fill,
+            ) {
                 Verdict::Refused(why) => turned_away(why),
                 Verdict::Accepted => resolve_iteratively(
                     banks,
@@ -204,7 +214,7 @@ pub fn resolve(
                     numbers,
                     states,
                     rows,
-                    limit,
+                    choices.limit,
                 ),
             }
         }

@@ -1,9 +1,9 @@
--- One law for each count that is turned away, in the definition's order; then the nodes.
+-- One law for each count and for the choice that is turned away, in the definition's order; then the nodes.
 use mathlib.Core.Path.{_∙_}
 use native.Mathlib.Nat.{mul-le-mul}
 use native.Mathlib.Omega.{arith}
 use Rattle.resolver.specs.Lists.{Lists, lists}
-use Rattle.resolver.proofs.Counts.{too-many-nodes, other-operands, no-rows, too-many-rows, other-numbers, other-states, sound-counts}
+use Rattle.resolver.proofs.Counts.{too-many-nodes, other-operands, no-rows, too-many-rows, other-numbers, other-states, unknown-choice, sound-counts}
 use Rattle.resolver.proofs.Accepted.{lists-told}
 use borrow.Author.Needs.{needs}
 use Rattle.resolver.proofs.lists.check_lists.Statement.{statement}
@@ -17,14 +17,14 @@ malformed-requires c κs = search needs
 
 returns : tie.Need-returns
 returns c = let s = c .before .before .before .before .before .before .before in
-    lists-told (s .args .banks) (given s) (c .malformed .ensures ∙ too-many-nodes (s .args .banks) (given s) (c .before .if1 .taken))
+    lists-told (s .args .banks) (given s) (s .args .fill) (c .malformed .ensures ∙ too-many-nodes (s .args .banks) (given s) (s .args .fill) (c .before .if1 .taken))
 
 malformed-requires-2 : tie.Need-malformed-requires-2
 malformed-requires-2 c κs = search needs
 
 returns-2 : tie.Need-returns-2
 returns-2 c = let s = c .before .before .before .before .before .before .before .before in
-    lists-told (s .args .banks) (given s) (c .malformed2 .ensures ∙ other-operands (s .args .banks) (given s) (c .before .before .if1 .left)
+    lists-told (s .args .banks) (given s) (s .args .fill) (c .malformed2 .ensures ∙ other-operands (s .args .banks) (given s) (s .args .fill) (c .before .before .if1 .left)
     (c .before .if2 .taken))
 
 malformed-requires-3 : tie.Need-malformed-requires-3
@@ -32,7 +32,7 @@ malformed-requires-3 c κs = search needs
 
 returns-3 : tie.Need-returns-3
 returns-3 c = let s = c .before .before .before .before .before .before .before .before .before in
-    lists-told (s .args .banks) (given s) (c .malformed3 .ensures ∙ no-rows (s .args .banks) (given s) (c .before .before .before .if1 .left)
+    lists-told (s .args .banks) (given s) (s .args .fill) (c .malformed3 .ensures ∙ no-rows (s .args .banks) (given s) (s .args .fill) (c .before .before .before .if1 .left)
     (c .before .before .if2 .left) (c .before .if3 .taken))
 
 malformed-requires-4 : tie.Need-malformed-requires-4
@@ -40,7 +40,7 @@ malformed-requires-4 c κs = search needs
 
 returns-4 : tie.Need-returns-4
 returns-4 c = let s = c .before .before .before .before .before .before .before .before .before .before in
-    lists-told (s .args .banks) (given s) (c .malformed4 .ensures ∙ too-many-rows (s .args .banks) (given s)
+    lists-told (s .args .banks) (given s) (s .args .fill) (c .malformed4 .ensures ∙ too-many-rows (s .args .banks) (given s) (s .args .fill)
     (c .before .before .before .before .if1 .left) (c .before .before .before .if2 .left) (c .before .before .if3 .left) (c .before .if4 .taken))
 
 mul-cells : tie.Need-mul-cells
@@ -51,7 +51,7 @@ malformed-requires-5 c κs = search needs
 
 returns-5 : tie.Need-returns-5
 returns-5 c = let s = c .before .before .before .before .before .before .before .before .before .before .before in
-    lists-told (s .args .banks) (given s) (c .malformed5 .ensures ∙ other-numbers (s .args .banks) (given s)
+    lists-told (s .args .banks) (given s) (s .args .fill) (c .malformed5 .ensures ∙ other-numbers (s .args .banks) (given s) (s .args .fill)
     (c .before .before .before .before .before .if1 .left) (c .before .before .before .before .if2 .left) (c .before .before .before .if3 .left)
     (c .before .before .if4 .left) (c .before .if5 .taken))
 
@@ -60,20 +60,32 @@ malformed-requires-6 c κs = search needs
 
 returns-6 : tie.Need-returns-6
 returns-6 c = let s = c .before .before .before .before .before .before .before .before .before .before .before .before in
-    lists-told (s .args .banks) (given s) (c .malformed6 .ensures ∙ other-states (s .args .banks) (given s)
+    lists-told (s .args .banks) (given s) (s .args .fill) (c .malformed6 .ensures ∙ other-states (s .args .banks) (given s) (s .args .fill)
     (c .before .before .before .before .before .before .if1 .left) (c .before .before .before .before .before .if2 .left)
     (c .before .before .before .before .if3 .left) (c .before .before .before .if4 .left) (c .before .before .if5 .left)
     (c .before .if6 .taken))
 
-check-nodes-requires : tie.Need-check-nodes-requires
-check-nodes-requires c κs = search needs
+malformed-requires-7 : tie.Need-malformed-requires-7
+malformed-requires-7 c κs = search needs
 
 returns-7 : tie.Need-returns-7
 returns-7 c =
-    let s = c .before .before .before .before .before .before .before .before .before .before .before .before in
-    lists-told (s .args .banks) (given s) (sound-counts (s .args .banks) (given s) (c .before .before .before .before .before .before .if1 .left)
-    (c .before .before .before .before .before .if2 .left) (c .before .before .before .before .if3 .left) (c .before .before .before .if4 .left)
-    (c .before .before .if5 .left) (c .before .if6 .left) (c .check-nodes .ensures))
+    let s = c .before .before .before .before .before .before .before .before .before .before .before .before .before in
+    lists-told (s .args .banks) (given s) (s .args .fill) (c .malformed7 .ensures ∙ unknown-choice (s .args .banks) (given s) (s .args .fill)
+    (c .before .before .before .before .before .before .before .if1 .left) (c .before .before .before .before .before .before .if2 .left)
+    (c .before .before .before .before .before .if3 .left) (c .before .before .before .before .if4 .left)
+    (c .before .before .before .if5 .left) (c .before .before .if6 .left) (omega (arith, c .before .if7 .taken)))
+
+check-nodes-requires : tie.Need-check-nodes-requires
+check-nodes-requires c κs = search needs
+
+returns-8 : tie.Need-returns-8
+returns-8 c =
+    let s = c .before .before .before .before .before .before .before .before .before .before .before .before .before in
+    lists-told (s .args .banks) (given s) (s .args .fill) (sound-counts (s .args .banks) (given s) (s .args .fill)
+    (c .before .before .before .before .before .before .before .if1 .left) (c .before .before .before .before .before .before .if2 .left)
+    (c .before .before .before .before .before .if3 .left) (c .before .before .before .before .if4 .left)
+    (c .before .before .before .if5 .left) (c .before .before .if6 .left) (omega (arith, c .before .if7 .left)) (c .check-nodes .ensures))
 
 pub check-lists-spec : {M : Type 1} → statement M
 check-lists-spec =
@@ -92,5 +104,7 @@ check-lists-spec =
     returns-5
     malformed-requires-6
     returns-6
+    malformed-requires-7
+    returns-7
     check-nodes-requires
-    returns-7)
+    returns-8)
