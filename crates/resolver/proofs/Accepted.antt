@@ -37,7 +37,8 @@ module _ (banks : Bankdefs) (l : Lists) (choices : Choices) where
     both-accepted g h k = rw (sym e ∙ f, sym g ∙ h) k
 
 -- an answer is what the definition gives, and so it tells what that tells
-pub layout-told : (banks : Bankdefs) (l : Lists) (choices : Choices) {r : Resolution} → r ≡ layoutOf banks l choices → (r ≡ layoutOf banks l choices) × Figures banks l choices r
+pub layout-told : (banks : Bankdefs) (l : Lists) (choices : Choices) {r : Resolution} → r ≡ layoutOf banks l choices
+    → (r ≡ layoutOf banks l choices) × Figures banks l choices r
 layout-told banks l choices e = (e, subst (Figures banks l choices) (sym e) (layout-figures banks l choices))
 
 pub lists-told : (banks : ℕ) (l : Lists) (fill : ℕ) {v : Verdict} → v ≡ listsOf banks l fill → (v ≡ listsOf banks l fill) × ListFigures banks l fill v

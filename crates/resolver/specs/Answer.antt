@@ -56,4 +56,5 @@ module _ (banks : Bankdefs) (l : Lists) (choices : Choices) where
   unfolding layoutOf
   layout-bounded =
       unless-runs (checkOf banks) (unless (listsOf (banks .len) l (choices .fill)) (resolutionOf banks l (choices .limit))) (max 1 (choices .limit))
-      (unless-runs (listsOf (banks .len) l (choices .fill)) (resolutionOf banks l (choices .limit)) (max 1 (choices .limit)) (passes-bounded (passAt banks l) (choices .limit) .1))
+      (unless-runs (listsOf (banks .len) l (choices .fill)) (resolutionOf banks l (choices .limit)) (max 1 (choices .limit))
+      (passes-bounded (passAt banks l) (choices .limit) .1))

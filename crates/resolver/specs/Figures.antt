@@ -69,7 +69,8 @@ pub record Figures (banks : Bankdefs) (l : Lists) (choices : Choices) (r : Resol
   -- after those checks 4 is not given: of a table that has as many records as it counts banks
   pub four : banks .len ≤ length (banks .defs)
       → (place : ℕ)
-      → (toldSettled (r .settled) ≡ refuses 4 (One place)) ↔ ((checkOf banks ≡ Accepted) × (listsOf (banks .len) l (choices .fill) ≡ TurnedAway (Malformed place)))
+      → (toldSettled (r .settled) ≡ refuses 4 (One place)) ↔
+      ((checkOf banks ≡ Accepted) × (listsOf (banks .len) l (choices .fill) ≡ TurnedAway (Malformed place)))
   pub five : (i : ℕ) → (toldSettled (r .settled) ≡ refuses 5 (One i)) ↔ PastFirst banks l choices i
   -- "6 is no longer given" (document 02, Ticket 3)
   pub six : (place : Place) → toldSettled (r .settled) ≡ refuses 6 place → ⊥

@@ -133,13 +133,16 @@ module _ (banks : Bankdefs) (l : Lists) (choices : Choices) where
   unfolding layoutOf
   past-checks why high e = table (checkOf banks) refl e
     where
-      lists-too : checkOf banks ≡ Accepted → (w : Verdict) → listsOf (banks .len) l (choices .fill) ≡ w → unless w (resolutionOf banks l (choices .limit)) .settled ≡ Refused why
+      lists-too : checkOf banks ≡ Accepted → (w : Verdict) → listsOf (banks .len) l (choices .fill) ≡ w
+          → unless w (resolutionOf banks l (choices .limit)) .settled ≡ Refused why
           → Checked banks l (choices .fill)
       lists-too c Accepted f e = record { table = c; lists = f }
       lists-too c (TurnedAway other) f e =
           absurd (below-five why (lists-four (banks .len) l (choices .fill) .four why (f ∙ ap TurnedAway (settled-same e))) high)
 
-      table : (v : Verdict) → checkOf banks ≡ v → unless v (unless (listsOf (banks .len) l (choices .fill)) (resolutionOf banks l (choices .limit))) .settled ≡ Refused why → Checked banks l (choices .fill)
+      table : (v : Verdict) → checkOf banks ≡ v
+          → unless v (unless (listsOf (banks .len) l (choices .fill)) (resolutionOf banks l (choices .limit))) .settled ≡ Refused why
+          → Checked banks l (choices .fill)
       table Accepted f e = lists-too f (listsOf (banks .len) l (choices .fill)) refl e
       table (TurnedAway other) f e =
           absurd (let low = table-number banks (checkOf banks) (decided banks) why (f ∙ ap TurnedAway (settled-same e)) in let b : ⊥ = omega arith in b)
@@ -185,7 +188,8 @@ module _ (banks : Bankdefs) (l : Lists) (choices : Choices) where
   ending-decides u = checked-passes (u .checked) ∙ last-decides (passAt banks l) (choices .limit) (u .pass) (u .runs) .1 ∙ rw (u .ends)
 
   -- what is refused with 5 or more, told
-  told : (why : Refusal) → 5 ≤ numberOf why → toldSettled (layoutOf banks l choices .settled) ≡ refuses (numberOf why) (placeOf why) → Checked banks l (choices .fill) × Refusing why
+  told : (why : Refusal) → 5 ≤ numberOf why → toldSettled (layoutOf banks l choices .settled) ≡ refuses (numberOf why) (placeOf why)
+      → Checked banks l (choices .fill) × Refusing why
   told why high e =
       let f = by-figures (layoutOf banks l choices .settled) why e in
       let c = past-checks why high f in
@@ -197,7 +201,8 @@ module _ (banks : Bankdefs) (l : Lists) (choices : Choices) where
 
   -- ---- 5
 
-  stopped-first : (i : ℕ) (why : Refusal) → numberOf why ≤ 6 → placeOf why ≡ One i → Checked banks l (choices .fill) → Refusing why → StopsFirst banks l choices i why
+  stopped-first : (i : ℕ) (why : Refusal) → numberOf why ≤ 6 → placeOf why ≡ One i → Checked banks l (choices .fill) → Refusing why
+      → StopsFirst banks l choices i why
   stopped-first i why low place c (meeting n isLast j r f) =
       ⊎-elim
       (λ (e : seenAt (program banks l) (rowOfPass l n) j ≡ Stopped why).
@@ -309,7 +314,8 @@ module _ (banks : Bankdefs) (l : Lists) (choices : Choices) where
   eight-at-end u = ran-to-end (program banks l) (rowOfPass l (u .pass)) (rowOfPass l (u .pass - 1)) (eqb (u .pass) 1) true 2 (u .ends)
 
   -- "If none is found, 8": where each of the passes 1 to M is unresolved, pass M was the last, and M passes were run.
-  pub none-found : Checked banks l (choices .fill) → 0 < choices .limit → ((p : ℕ) → 1 ≤ p → p ≤ choices .limit → unresolved (passAt banks l p (eqb p (choices .limit))) ≡ true) →
+  pub none-found : Checked banks l (choices .fill) → 0 < choices .limit →
+      ((p : ℕ) → 1 ≤ p → p ≤ choices .limit → unresolved (passAt banks l p (eqb p (choices .limit))) ≡ true) →
       layoutOf banks l choices ≡ record { settled = Refused Unresolved; passes = choices .limit }
   none-found c some none =
       ending-decides
@@ -317,7 +323,8 @@ module _ (banks : Bankdefs) (l : Lists) (choices : Choices) where
         checked = c;
         pass = choices .limit;
         runs = atLimit (omega arith) (λ p. λ low. λ high. rw (ne-eqb p (choices .limit) (λ q. omega arith)) at (none p low (omega arith)));
-        ends = two-of (passAt banks l (choices .limit) true) (rw (eq-eqb (choices .limit) (choices .limit) refl) at (none (choices .limit) (omega arith) (omega arith)));
+        ends = two-of (passAt banks l (choices .limit) true)
+            (rw (eq-eqb (choices .limit) (choices .limit) refl) at (none (choices .limit) (omega arith) (omega arith)));
       })
 
   -- ---- the checks before any pass, and 4
@@ -353,11 +360,13 @@ module _ (banks : Bankdefs) (l : Lists) (choices : Choices) where
     λ h. settled-as (Malformed place) (lists-next (Malformed place) (h .0) (h .1)),
   )
     where
-      lists-too : checkOf banks ≡ Accepted → (w : Verdict) → listsOf (banks .len) l (choices .fill) ≡ w → layoutOf banks l choices .settled ≡ Refused (Malformed place)
+      lists-too : checkOf banks ≡ Accepted → (w : Verdict) → listsOf (banks .len) l (choices .fill) ≡ w
+          → layoutOf banks l choices .settled ≡ Refused (Malformed place)
           → (checkOf banks ≡ Accepted) × (listsOf (banks .len) l (choices .fill) ≡ TurnedAway (Malformed place))
       lists-too c Accepted f e =
           let k : Checked banks l (choices .fill) = record { table = c; lists = f } in
-          let g : resolutionOf banks l (choices .limit) .settled ≡ Refused (Malformed place) = ap (λ (x : Resolution). x .settled) (sym (checked-passes k)) ∙ e in
+          let g : resolutionOf banks l (choices .limit) .settled ≡ Refused (Malformed place) =
+          ap (λ (x : Resolution). x .settled) (sym (checked-passes k)) ∙ e in
           absurd (not-four-in-pass k whole (Malformed place) refl (refusing (Malformed place) g))
       lists-too c (TurnedAway why) f e =
           let g = sym (ap (λ (x : Resolution). x .settled) (lists-next why c f)) ∙ e in
@@ -395,7 +404,8 @@ module _ (banks : Bankdefs) (l : Lists) (choices : Choices) where
           → resolutionOf banks l (choices .limit) ≡ record { settled = At k; passes = n }
       so p j e q w = e ∙ rw (q, w, settles-so k (passAt banks l n true) (s .last))
 
-      by-limit : (a : Bool) → eqb (choices .limit) 0 ≡ a → (b : Bool) → eqb k (choices .limit) ≡ b → resolutionOf banks l (choices .limit) ≡ record { settled = At k; passes = n }
+      by-limit : (a : Bool) → eqb (choices .limit) 0 ≡ a → (b : Bool) → eqb k (choices .limit) ≡ b
+          → resolutionOf banks l (choices .limit) ≡ record { settled = At k; passes = n }
       by-limit true z b f =
           let zero : choices .limit ≡ 0 = eqb-true (choices .limit) 0 z in
           let none : k ≡ 0 = s .is .none zero in
@@ -407,7 +417,8 @@ module _ (banks : Bankdefs) (l : Lists) (choices : Choices) where
           let some : 0 < choices .limit = omega arith in
           let c : n ≡ k = s .count ∙ rw (f, lt-ltb 0 (choices .limit) some) in
           let open-before : (p : ℕ) → 1 ≤ p → p < choices .limit → unresolved (passAt banks l p false) ≡ true = rw same at (s .is .before) in
-          so (choices .limit) (choices .limit) (settled-limit (passAt banks l) (choices .limit) (choices .limit) (omega arith) open-before) (omega arith) (sym same)
+          so (choices .limit) (choices .limit) (settled-limit (passAt banks l) (choices .limit) (choices .limit) (omega arith) open-before)
+          (omega arith) (sym same)
       by-limit false z false f =
           let other = eqb-false (choices .limit) 0 z in
           let apart = eqb-false k (choices .limit) f in
@@ -437,7 +448,8 @@ module _ (banks : Bankdefs) (l : Lists) (choices : Choices) where
       from (TurnedAway why) f w g = absurd (never (table-first why f))
 
   -- K and the passes run, exactly.
-  pub K-exactly : (k n : ℕ) → ((toldSettled (layoutOf banks l choices .settled) ≡ gives k) × (layoutOf banks l choices .passes ≡ n)) ↔ SettlesAt banks l choices k n
+  pub K-exactly : (k n : ℕ) → ((toldSettled (layoutOf banks l choices .settled) ≡ gives k) × (layoutOf banks l choices .passes ≡ n)) ↔
+      SettlesAt banks l choices k n
   K-exactly k n = (
     λ e.
         let f = gives-settled (layoutOf banks l choices .settled) k (e .0) in

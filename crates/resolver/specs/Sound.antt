@@ -17,7 +17,8 @@ use Rattle.refusal.specs.declared.Verdict.the-variants.{Accepted, Refused}
 use Rattle.bankdef.specs.Bools.{both}
 use Rattle.refusal.specs.Told.{gives, refuses, nothing, toldVerdict}
 use Rattle.refusal.specs.declared.Place.the-variants.{One}
-use Rattle.resolver.specs.Lists.{Lists, Rows, nodeCountSound, rowCountSound, knownFill, listsOf, nodeOf, rowFault, headFault, anyRowFault, nodeFault, firstOf, nodesTo}
+use Rattle.resolver.specs.Lists.{Lists, Rows, nodeCountSound, rowCountSound, knownFill, listsOf, nodeOf}
+use Rattle.resolver.specs.Lists.{rowFault, headFault, anyRowFault, nodeFault, firstOf, nodesTo}
 
 both-accept : (v w : Verdict) → firstOf v w ≡ Accepted → (v ≡ Accepted) × (w ≡ Accepted)
 both-accept Accepted w e = (refl, e)

@@ -17,14 +17,16 @@ malformed-requires c κs = search needs
 
 returns : tie.Need-returns
 returns c = let s = c .before .before .before .before .before .before .before in
-    lists-told (s .args .banks) (given s) (s .args .fill) (c .malformed .ensures ∙ too-many-nodes (s .args .banks) (given s) (s .args .fill) (c .before .if1 .taken))
+    lists-told (s .args .banks) (given s) (s .args .fill) (c .malformed .ensures ∙ too-many-nodes (s .args .banks) (given s)
+    (s .args .fill) (c .before .if1 .taken))
 
 malformed-requires-2 : tie.Need-malformed-requires-2
 malformed-requires-2 c κs = search needs
 
 returns-2 : tie.Need-returns-2
 returns-2 c = let s = c .before .before .before .before .before .before .before .before in
-    lists-told (s .args .banks) (given s) (s .args .fill) (c .malformed2 .ensures ∙ other-operands (s .args .banks) (given s) (s .args .fill) (c .before .before .if1 .left)
+    lists-told (s .args .banks) (given s) (s .args .fill) (c .malformed2 .ensures ∙ other-operands (s .args .banks) (given s) (s .args .fill)
+    (c .before .before .if1 .left)
     (c .before .if2 .taken))
 
 malformed-requires-3 : tie.Need-malformed-requires-3
@@ -32,7 +34,8 @@ malformed-requires-3 c κs = search needs
 
 returns-3 : tie.Need-returns-3
 returns-3 c = let s = c .before .before .before .before .before .before .before .before .before in
-    lists-told (s .args .banks) (given s) (s .args .fill) (c .malformed3 .ensures ∙ no-rows (s .args .banks) (given s) (s .args .fill) (c .before .before .before .if1 .left)
+    lists-told (s .args .banks) (given s) (s .args .fill) (c .malformed3 .ensures ∙ no-rows (s .args .banks) (given s) (s .args .fill)
+    (c .before .before .before .if1 .left)
     (c .before .before .if2 .left) (c .before .if3 .taken))
 
 malformed-requires-4 : tie.Need-malformed-requires-4
