@@ -20,7 +20,7 @@ use Rattle.resolver.specs.declared.Resolution.{Resolution}
 abbrev pub oneBank : Bankdefs
 oneBank =
     record {
-      defs = record { unit = 8; start = pos 0; size = None; offset = None; align = None; fill = false } ∷ replicate 15 noBank;
+      defs = record { unit = 8; start = pos 0; size = None; offset = None; align = None; fill = false; «fill_bit» = 0 } ∷ replicate 15 noBank;
       len = 1;
     }
 

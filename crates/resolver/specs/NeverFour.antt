@@ -13,7 +13,7 @@ use Rattle.refusal.specs.declared.Refusal.{Refusal}
 use Rattle.refusal.specs.declared.Verdict.the-variants.{Accepted}
 use Rattle.bankdef.specs.Bools.{either, neither, clash}
 use Rattle.bankdef.specs.Check.{banksOf, checkOf}
-use Rattle.bankdef.specs.Numbers.{bankFault}
+use Rattle.bankdef.specs.Numbers.{bankFault, fault-anywhere}
 use Rattle.bankdef.specs.Refused.{Decided, NoFault, sound, decided}
 use Rattle.bankdef.specs.declared.Bankdef.{Bankdef}
 use Rattle.bankdef.specs.declared.Bankdefs.{Bankdefs}
@@ -113,7 +113,7 @@ pub listed-tells : (banks : Bankdefs) → checkOf banks ≡ Accepted → banks .
 listed-tells banks e whole bank h =
     sound-told (bankRecord banks bank)
     (either (bankFault (bankRecord banks bank))
-    (λ f. absurd (no-fault banks e bank (rw (length-take (banks .len) (banks .defs)) (omega arith)) f))
+    (λ f. absurd (no-fault banks e bank (rw (length-take (banks .len) (banks .defs)) (omega arith)) (fault-anywhere bank (bankRecord banks bank) f)))
     (λ f. f))
 
 module _ (banks : Bankdefs) (l : Lists) {fill : ℕ} (c : Checked banks l fill) where

@@ -34,6 +34,7 @@ fn no_record() -> Bankdef
         offset: Opt::None,
         align: Opt::None,
         fill: false,
+        fill_bit: 0,
     }
 }
 

@@ -40,18 +40,18 @@ resolve-iteratively-requires c κs =
 returns : tie.Need-returns
 returns c = let s = c .before .before .before .before .before .before .before .before .before .before in
     layout-told (s .args .banks) (given s) (s .args .choices) (banks-refused (s .args .banks) (given s) (s .args .choices)
-    (c .before .before .before .before .check .ensures) (c .before .before .why .given .1) (c .turned-away .ensures))
+    (c .before .before .before .before .check .ensures .0) (c .before .before .why .given .1) (c .turned-away .ensures))
 
 returns-2 : tie.Need-returns-2
 returns-2 c = let s = c .before .before .before .before .before .before .before .before .before .before .before .before .before in
     layout-told (s .args .banks) (given s) (s .args .choices) (lists-refused (s .args .banks) (given s) (s .args .choices)
-    (c .before .before .before .before .before .before .before .check .ensures) (c .before .before .before .before .before .enum-told .given .1)
+    (c .before .before .before .before .before .before .before .check .ensures .0) (c .before .before .before .before .before .enum-told .given .1)
     (c .before .before .before .before .check-lists .ensures .0) (c .before .before .why2 .given .1) (c .turned-away2 .ensures))
 
 returns-3 : tie.Need-returns-3
 returns-3 c = let s = c .before .before .before .before .before .before .before .before .before .before .before .before in
     layout-told (s .args .banks) (given s) (s .args .choices) (both-accepted (s .args .banks) (given s) (s .args .choices)
-    (c .before .before .before .before .before .before .check .ensures) (c .before .before .before .before .enum-told .given .1)
+    (c .before .before .before .before .before .before .check .ensures .0) (c .before .before .before .before .enum-told .given .1)
     (c .before .before .before .check-lists .ensures .0) (c .before .enum-told2 .given .1) (c .resolve-iteratively .ensures))
 
 pub resolve-spec : {M : Type 1} → statement M
