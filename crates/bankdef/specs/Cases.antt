@@ -1,7 +1,7 @@
 -- The cases of document 01 that speak of banks and are marked P, as one statement.
 use mathlib.Core.Path.{_≡_, refl}
 use mathlib.Core.Bool.{Bool, true, false}
-use mathlib.Core.List.{_∷_}
+use mathlib.Core.List.{List, _∷_}
 use Prim.Native.Nat.{ℕ}
 use lib.IntN.{pos}
 use lib.ListN.{replicate}
@@ -15,7 +15,7 @@ use Rattle.bankdef.specs.declared.Bankdef.{Bankdef}
 use Rattle.bankdef.specs.declared.Bankdefs.{Bankdefs}
 use Rattle.bankdef.specs.Search.{firstWhere}
 use Rattle.bankdef.specs.Check.{noBank, banksOf, firstPair, checkOf}
-use Rattle.bankdef.specs.Fill.{fillFrom, fillLength}
+use Rattle.bankdef.specs.Fill.{fillFrom, fillLength, fullLength, fillBy}
 
 -- a bank of eight-bit units from address 0, by its offset, size and fill
 abbrev pub bank : Opt → Opt → Bool → Bankdef
@@ -55,3 +55,12 @@ pub fill-bit-cases : (pair (bitBank true 1) (bitBank true 0) ≡ Refused (BankNu
     (pair (bitBank false 2) (bitBank false 2) ≡ Refused (BankNumber 0))
 unfolding firstWhere firstPair
 fill-bit-cases = (refl, refl, refl, refl, refl)
+
+-- Ticket 8: "A one-bit lock bank at offset 8 after a filled byte is missing from the image, because the inherited rule does nothing when the
+-- length equals the bank's last bit." Inherited fill gives 8 bits, full fill 9.
+abbrev pub lockBank : List Bankdef
+lockBank = banksOf (table (bank (Some 0) (Some 8) true) (bank (Some 8) (Some 1) true))
+
+pub lock-bank : (fillBy 0 lockBank ≡ 8) × (fillBy 1 lockBank ≡ 9)
+unfolding fillFrom fullLength
+lock-bank = (refl, refl)

@@ -1,8 +1,8 @@
--- Document 01, "Banks": the length that fill gives the image.
-use Prim.Native.Nat.{ℕ, _+_, _-_}
+-- Document 01, "Banks": the length that fill gives the image. Ticket 8: full fill beside it.
+use Prim.Native.Nat.{ℕ, _+_, _-_, max}
 use mathlib.Core.Bool.{Bool, true, false}
 use mathlib.Core.List.{List, [], _∷_}
-use lib.Dec.{ltb}
+use lib.Dec.{ltb, eqb}
 use Rattle.refusal.specs.Pick.{pick}
 use Rattle.refusal.specs.declared.Opt.{Opt}
 use Rattle.refusal.specs.declared.Opt.the-variants.{None, Some}
@@ -28,3 +28,22 @@ fillFrom n (b ∷ l) = fillFrom (filledBy (b .fill) (b .size) (b .offset) n) l
 -- "bank 0 too"; an image that nothing is written to begins at length 0
 abbrev pub fillLength : List Bankdef → ℕ
 fillLength l = fillFrom 0 l
+
+-- Ticket 8: "offset + size among banks with fill, size and offset"; of another bank 0
+abbrev pub endBy : Bool → Opt → Opt → ℕ
+endBy true (Some size) (Some offset) = offset + size
+endBy true (Some size) None = 0
+endBy true None offset = 0
+endBy false size offset = 0
+
+abbrev pub fillEnd : Bankdef → ℕ
+fillEnd b = endBy (b .fill) (b .size) (b .offset)
+
+-- "full fill, where the fill's length is the largest offset + size .., or 0"
+unfoldable pub fullLength : List Bankdef → ℕ
+fullLength [] = 0
+fullLength (b ∷ l) = max (fillEnd b) (fullLength l)
+
+-- "Add a choice to the build: inherited fill, the default .., or full fill": 1 is full fill. (A choice above 1 is refused before the fill.)
+abbrev pub fillBy : ℕ → List Bankdef → ℕ
+fillBy choice l = pick (eqb choice 1) (fullLength l) (fillLength l)

@@ -10,5 +10,6 @@ pub mod SharedBit
 pub mod Told
 pub mod Fill
 pub mod FillFacts
+pub mod FullFill
 pub mod FillBits
 pub mod Cases

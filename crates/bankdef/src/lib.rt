@@ -5,7 +5,7 @@ use refusal::Opt;
 use refusal::Refusal;
 use refusal::Verdict;
 ghost use mathlib.Core.Path.{_≡_};
-ghost use Prim.Native.Nat.{_+_, _≤_, _<_};
+ghost use Prim.Native.Nat.{_+_, _≤_, _<_, max};
 ghost use lib.IntN.{natAbs};
 ghost use lib.ListN.{take, drop, getD};
 ghost use Rattle.refusal.specs.Limits.{maxBanks, maxOffer};
@@ -15,7 +15,7 @@ ghost use Rattle.bankdef.specs.Search.{firstWhere};
 ghost use Rattle.refusal.specs.Told.{toldVerdict};
 ghost use Rattle.bankdef.specs.Check.{firstFault, firstPair, noBank, banksOf, checkOf};
 ghost use Rattle.bankdef.specs.Told.{Checks};
-ghost use Rattle.bankdef.specs.Fill.{filledBy, fillLength};
+ghost use Rattle.bankdef.specs.Fill.{filledBy, fillEnd, fillLength, fullLength, fillBy};
 
 // A bank: address unit in bits, start address, and, each optional, size in bits, output offset and label alignment; and
 // whether its range is filled, and with which bit (Ticket 6). The types carry document 01's limits, but for a unit of 0 and the
@@ -197,6 +197,26 @@ pub fn check(banks: Bankdefs) -> Verdict
     check_bank_overlap(banks, n)
 }
 
+// The end of a bank with fill, size and offset; of any other, 0.
+fn fill_end(b: Bankdef) -> u64
+    ensures { λ r. ⌜ r ≡ fillEnd b ⌝ }
+    ensures { λ r. ⌜ r ≤ maxOffer ⌝ }
+{
+    let fill = b.fill;
+    if !fill {
+        return 0;
+    }
+    let size = b.size;
+    let Opt::Some(size) = size else {
+        return 0;
+    };
+    let offset = b.offset;
+    let Opt::Some(offset) = offset else {
+        return 0;
+    };
+    end(offset, size)
+}
+
 // The image's length after the bank's fill, from `length` before it. The bank's last bit is document 01's h, so its end is h + 1, and
 // `length` is below h where `length + 1` is below the end; that asks for no h where a bank ends at 0.
 fn filled(b: Bankdef, length: u64) -> u64
@@ -204,19 +224,7 @@ fn filled(b: Bankdef, length: u64) -> u64
     ensures { λ r. ⌜ r ≡ filledBy (b .fill) (b .size) (b .offset) length ⌝ }
     ensures { λ r. ⌜ r ≤ maxOffer ⌝ }
 {
-    let fill = b.fill;
-    if !fill {
-        return length;
-    }
-    let size = b.size;
-    let Opt::Some(size) = size else {
-        return length;
-    };
-    let offset = b.offset;
-    let Opt::Some(offset) = offset else {
-        return length;
-    };
-    let end = end(offset, size);
+    let end = fill_end(b);
     if length + 1 < end { end } else { length }
 }
 
@@ -234,14 +242,52 @@ fn fill_banks(banks: Bankdefs, n: usize) -> u64
     length
 }
 
-// The length that fill gives an empty image: every bank of the table, bank 0 too. A table has no bank past the sixteenth.
-pub fn fill_length(banks: Bankdefs) -> u64
-    ensures { λ r. ⌜ (r ≡ fillLength (banksOf banks)) × (r ≤ maxOffer) ⌝ }
+// The larger of `length` and the bank's end, where the bank has fill, size and offset.
+fn reached(b: Bankdef, length: u64) -> u64
+    requires { ⌜ length ≤ maxOffer ⌝ }
+    ensures { λ r. ⌜ r ≡ max length (fillEnd b) ⌝ }
+    ensures { λ r. ⌜ r ≤ maxOffer ⌝ }
+{
+    let end = fill_end(b);
+    if length < end { end } else { length }
+}
+
+// The largest end among the table's first `n` banks.
+fn full_banks(banks: Bankdefs, n: usize) -> u64
+    requires { ⌜ n ≤ maxBanks ⌝ }
+    ensures { λ r. ⌜ r ≡ fullLength (take n (banks .defs)) ⌝ }
+    ensures { λ r. ⌜ r ≤ maxOffer ⌝ }
+{
+    let mut length = 0;
+    for i in 0..n {
+        let b = banks.defs[i];
+        length = reached(b, length);
+    }
+    length
+}
+
+// The fill's length over the table's first `n` banks, by the choice.
+fn fill_chosen(banks: Bankdefs, n: usize, choice: u8) -> u64
+    requires { ⌜ n ≤ maxBanks ⌝ }
+    ensures { λ r. ⌜ r ≡ fillBy choice (take n (banks .defs)) ⌝ }
+    ensures { λ r. ⌜ r ≤ maxOffer ⌝ }
+{
+    if choice == 1 {
+        full_banks(banks, n)
+    } else {
+        fill_banks(banks, n)
+    }
+}
+
+// The length that fill gives an empty image: every bank of the table, bank 0 too; full fill where `choice` is 1, and otherwise inherited
+// fill. A table has no bank past the sixteenth.
+pub fn fill_length(banks: Bankdefs, choice: u8) -> u64
+    ensures { λ r. ⌜ (r ≡ fillBy choice (banksOf banks)) × (r ≤ maxOffer) ⌝ }
 {
     let len = banks.len;
     if len < MAX_BANKS {
-        fill_banks(banks, len as usize)
+        fill_chosen(banks, len as usize, choice)
     } else {
-        fill_banks(banks, MAX_BANKS as usize)
+        fill_chosen(banks, MAX_BANKS as usize, choice)
     }
 }

@@ -4,15 +4,15 @@ use borrow.Author.Needs.{needs}
 use native.Mathlib.Omega.{arith}
 use lib.ListN.{take, length-map}
 use lib.Seq.{take-all}
-use Rattle.bankdef.specs.Fill.{fillLength}
+use Rattle.bankdef.specs.Fill.{fillBy}
 use Rattle.bankdef.proofs.fill_length.Statement.{statement}
 use Rattle.bankdef.proofs.fill_length.Tie as tie
 
-fill-banks-requires : tie.Need-fill-banks-requires
-fill-banks-requires c κs = search needs
+fill-chosen-requires : tie.Need-fill-chosen-requires
+fill-chosen-requires c κs = search needs
 
-fill-banks-requires-2 : tie.Need-fill-banks-requires-2
-fill-banks-requires-2 c κs = search needs
+fill-chosen-requires-2 : tie.Need-fill-chosen-requires-2
+fill-chosen-requires-2 c κs = search needs
 
 returns : tie.Need-returns
 returns c = search needs
@@ -24,7 +24,7 @@ returns-2 c =
     let all = sym (length-map (t .defs) _) ∙ s .good .0 .1 .1 .0 .1 .0 .1 in
     let e : take 16 (t .defs) ≡ take (t .len) (t .defs) =
     take-all 16 (t .defs) (omega (arith, all)) ∙ sym (take-all (t .len) (t .defs) (omega (arith, all, c .before .if1 .left))) in
-    (c .fill-banks2 .ensures .0 ∙ ap fillLength e, search needs)
+    (c .fill-chosen2 .ensures .0 ∙ ap (fillBy (s .args .choice)) e, search needs)
 
 pub fill-length-spec : {M : Type 1} → statement M
-fill-length-spec = tie.close (tie.spec fill-banks-requires fill-banks-requires-2 returns returns-2)
+fill-length-spec = tie.close (tie.spec fill-chosen-requires fill-chosen-requires-2 returns returns-2)
