@@ -10,6 +10,7 @@ pub mod FirstRow
 pub mod KnownInPass
 pub mod LabelStates
 pub mod Labels
+pub mod LastPass
 pub mod Layout
 pub mod Least
 pub mod Listed

@@ -433,7 +433,8 @@ module _ (banks : Bankdefs) (l : Lists) (choices : Choices) where
           } in
           so (k + 1) k (settled-below (passAt banks l) (choices .limit) k r) (sym c) refl
 
-  checked-of : (k : ℕ) → layoutOf banks l choices .settled ≡ At k → Checked banks l (choices .fill)
+  -- An accepted layout has passed its checks.
+  pub checked-of : (k : ℕ) → layoutOf banks l choices .settled ≡ At k → Checked banks l (choices .fill)
   checked-of k e = from (checkOf banks) refl (listsOf (banks .len) l (choices .fill)) refl
     where
       never : {why : Refusal} {n : ℕ} → layoutOf banks l choices ≡ record { settled = Refused why; passes = n } → ⊥
