@@ -46,7 +46,7 @@ case got said = record { got = got; said = said }
 
 -- "bank size 40": a bank of ten-bit words with an offset
 abbrev forty : Bankdef
-forty = record { unit = 10; start = pos 0; size = Some 40; offset = Some 0; align = None; fill = false }
+forty = record { unit = 10; start = pos 0; size = Some 40; offset = Some 0; align = None; fill = false; «fill_bit» = 0 }
 
 -- ten bits of data, met at a position in bank 1 of two
 abbrev tenAt : ℕ → List ℕ

@@ -21,13 +21,14 @@ use Rattle.iter.specs.declared.Node.{Node}
 use Rattle.refusal.specs.declared.Verdict.{Verdict}
 use Rattle.refusal.specs.declared.Verdict.the-variants.{Accepted, Refused as TurnedAway}
 use Rattle.bankdef.specs.Check.{banksOf, checkOf}
-use Rattle.bankdef.specs.Fill.{fillLength}
+use Rattle.bankdef.specs.Fill.{fillBy}
 use Rattle.bankdef.specs.declared.Bankdefs.{Bankdefs}
 use Rattle.resolver.specs.Lists.{Lists, Row, Rows, rowAt, isItem, pastEnd, rowFault, nodeOf, nodesTo, listsOf}
 use Rattle.resolver.specs.Once.{Program, node}
 use Rattle.resolver.specs.Passes.{program, rowOfPass, resolutionOf}
 use Rattle.resolver.specs.Layout.{unless, layoutOf}
 use Rattle.resolver.specs.Sound.{accepted-row, accepted-rows}
+use Rattle.resolver.specs.declared.Choices.{Choices}
 use Rattle.resolver.specs.declared.Resolution.{Resolution}
 use Rattle.resolver.specs.declared.Settled.{Settled}
 use Rattle.resolver.specs.declared.Settled.the-variants.{At, Refused as Unsettled}
@@ -65,12 +66,13 @@ and-second : (a b : Bool) → a ≡ true → (a && b) ≡ false → b ≡ false
 and-second true b h e = e
 and-second false b h e = absurd (mathlib.Core.Bool.true≢false (sym h))
 
-nodes-accepted : (banks : ℕ) (l : Lists) → listsOf banks l ≡ Accepted → nodesTo banks l (length (l .kinds)) ≡ Accepted
+nodes-accepted : (banks : ℕ) (l : Lists) (fill : ℕ) → listsOf banks l fill ≡ Accepted → nodesTo banks l (length (l .kinds)) ≡ Accepted
 unfolding listsOf
-nodes-accepted banks l e =
-    through (leb 1 (l .rows) && (leb (l .rows) maxRows && (eqb (length (l .numbers)) (l .rows * length (l .kinds)) && eqb (length (l .states)) (l .rows * length (l .kinds)))))
-    (nodesTo banks l (length (l .kinds))) (Malformed 1)
-    (through (leb (length (l .kinds)) maxNodes && eqb (length (l .operands)) (length (l .kinds))) _ (Malformed 0) e)
+nodes-accepted banks l fill e =
+    through (leb fill 1) (nodesTo banks l (length (l .kinds))) (Malformed 3)
+    (through (leb 1 (l .rows) && (leb (l .rows) maxRows && (eqb (length (l .numbers)) (l .rows * length (l .kinds)) && eqb (length (l .states)) (l .rows * length (l .kinds)))))
+    _ (Malformed 1)
+    (through (leb (length (l .kinds)) maxNodes && eqb (length (l .operands)) (length (l .kinds))) _ (Malformed 0) e))
 
 -- ---- the answer, as it is and in figures
 
@@ -93,7 +95,7 @@ settled-told b room (Unsettled why) = refl
 settled-told b room (At k) = placed-told room k _ _ (placedAll (closedOf b) (visitsOf b (passesOf b)))
 
 -- the contract, from the build by the passes that were run
-pub contract : (b : Input) (r : Resolution) → r ≡ layoutOf (b .banks) (b .lists) (b .limit) → (old new : Lent) (x : Build)
+pub contract : (b : Input) (r : Resolution) → r ≡ layoutOf (b .banks) (b .lists) (b .choices) → (old new : Lent) (x : Build)
     → x ≡ settledBuild b (roomOf old) (r .passes) (r .settled) → new ≡ leftBy (b .banks) (visitsOf b (r .passes)) (b .lists .values) old x
     → Builds b old (record { build = x; passes = r .passes }) new
 unfolding buildOf
@@ -110,21 +112,21 @@ contract b r e old new x same left =
     out : Build → ℕ → Output
     out y n = record { build = y; passes = n }
 
-module _ (banks : Bankdefs) (l : Lists) (m : ℕ) (r : Resolution) (resolves : r ≡ layoutOf banks l m) where
+module _ (banks : Bankdefs) (l : Lists) (m : Choices) (r : Resolution) (resolves : r ≡ layoutOf banks l m) where
   module _ (k : ℕ) (settles : r .settled ≡ At k) where
-    checks : listsOf (banks .len) l ≡ Accepted
+    checks : listsOf (banks .len) l (m .fill) ≡ Accepted
     unfolding layoutOf
     checks =
         let whole : layoutOf banks l m .settled ≡ At k = sym (ap (λ (q : Resolution). q .settled) resolves) ∙ settles in
-        let (a, inner) = unless-at (checkOf banks) (unless (listsOf (banks .len) l) (resolutionOf banks l m)) k whole in
-        unless-at (listsOf (banks .len) l) (resolutionOf banks l m) k inner .0
+        let (a, inner) = unless-at (checkOf banks) (unless (listsOf (banks .len) l (m .fill)) (resolutionOf banks l (m .limit))) k whole in
+        unless-at (listsOf (banks .len) l (m .fill)) (resolutionOf banks l (m .limit)) k inner .0
 
     pub settled-rows : Rows (length (l .kinds)) (l .rows) (l .numbers) (l .states)
-    settled-rows = accepted-rows (banks .len) l (sym checks) refl
+    settled-rows = accepted-rows (banks .len) l (m .fill) (sym checks) refl
 
     pub settled-few : length (l .kinds) ≤ maxNodes
     settled-few =
-        ⊎-elim (λ many. absurd (never (too-many-nodes (banks .len) l many ∙ checks))) (λ few. few) (lt-or-le maxNodes (length (l .kinds)))
+        ⊎-elim (λ many. absurd (never (too-many-nodes (banks .len) l (m .fill) many ∙ checks))) (λ few. few) (lt-or-le maxNodes (length (l .kinds)))
       where
         never : TurnedAway (Malformed 0) ≡ Accepted → ⊥
         never e = let z : _≡_ {A = ℕ} 0 1 = cc in omega arith
@@ -133,7 +135,7 @@ module _ (banks : Bankdefs) (l : Lists) (m : ℕ) (r : Resolution) (resolves : r
     node-within : (n : ℕ) → n < l .rows → (i : ℕ) → i < length (l .kinds) → isWritten (node (program banks l) (rowAt l n) i) ≡ true
         → node (program banks l) (rowAt l n) i .operand + node (program banks l) (rowAt l n) i .number ≤ 8 * length (l .values)
     node-within n h i b w =
-        let fault = accepted-row (banks .len) l (length (l .kinds)) (nodes-accepted (banks .len) l checks) i b n h in
+        let fault = accepted-row (banks .len) l (length (l .kinds)) (nodes-accepted (banks .len) l (m .fill) checks) i b n h in
         let v = nodeOf (l .kinds) (l .operands) (l .numbers) (l .states) n i in
         ltb-false (8 * length (l .values)) (v .operand + v .number)
         (and-second (isItem (v .kind)) (pastEnd (length (l .values)) v) w
@@ -176,7 +178,7 @@ module _ (banks : Bankdefs) (l : Lists) (m : ℕ) (r : Resolution) (resolves : r
       pub finished : (old new : Lent) (x : Build)
           → RowBuilt (programOf banks (l .kinds) (l .operands) (take (length (l .kinds) - 0) (drop 0 (l .numbers))))
           (rowOf (take (start + length (l .kinds) - start) (drop start (l .numbers))) (take (start + length (l .kinds) - start) (drop start (l .states))))
-          (closedOf (input banks l m)) (fillLength (banksOf banks)) k (l .values) old x new
+          (closedOf (input banks l m)) (fillBy (m .fill) (banksOf banks)) k (l .values) old x new
           → Builds (input banks l m) old (record { build = x; passes = r .passes }) new
       finished old new x raw =
           let built = rw (part-program, part-row) at raw in

@@ -17,7 +17,6 @@ use Rattle.refusal.specs.declared.Opt.the-variants.{None, Some}
 use Rattle.refusal.specs.declared.Offset.{Offset}
 use Rattle.refusal.specs.declared.Offset.the-variants.{None as Nowhere, At as Out}
 use Rattle.bankdef.specs.Check.{banksOf}
-use Rattle.bankdef.specs.Fill.{fillLength}
 use Rattle.iter.specs.Address.{outAt}
 use Rattle.iter.specs.declared.Node.{Node}
 use Rattle.bitvec.specs.Bits.{bitAt}
@@ -32,7 +31,7 @@ use Rattle.output.specs.ItemLaws.{fill-within, end-within, length-is-one
 use Rattle.output.specs.Blank.{blankOf, blank-length, blank-bit}
 use Rattle.output.specs.Placing.{isOffered, isReserve, lacksOutput, bitsAt, offerOf, reserveOf}
 use Rattle.output.specs.PlacingLaws.{picked-some, OfferedBit, holds-apart, apart-one, each-apart, same-visit, written-stands, each-accepted}
-use Rattle.output.specs.Output.{Lent}
+use Rattle.output.specs.Output.{Lent, fillOf}
 use Rattle.output.specs.Calls.{Call, Accepted, nodesIn, visitIn, visitsIn, itemsIn, reservesIn, valuesIn, programIn, rowIn, closedIn, fine, blankIn, left-is}
 
 -- ---- bits of items and of reserves are offered
@@ -91,9 +90,9 @@ stands-at (Some f) position e = (f, refl)
 abbrev pub itemFor : Visit → ℕ → Item
 itemFor v offset = record { at = offset + positionOf v; size = v .node .number; from = v .node .operand }
 
--- "the fill's" length of a call's banks
+-- "the fill's" length of a call's banks, by its choice
 abbrev pub fillIn : Call → ℕ
-fillIn c = fillLength (banksOf (c .given .banks))
+fillIn c = fillOf (c .given)
 
 module _ (b : Accepted) where
   -- Every written node has an item: it stands in a bank with an offset, at "offset plus position".

@@ -12,11 +12,12 @@ use Rattle.refusal.specs.declared.Place.the-variants.{One}
 use Rattle.refusal.specs.declared.Refusal.{Refusal}
 use Rattle.refusal.specs.declared.Refusal.the-variants.{TooShort}
 use Rattle.bankdef.specs.Check.{banksOf}
-use Rattle.bankdef.specs.Fill.{fillLength}
+use Rattle.bankdef.specs.Fill.{fillBy}
 use Rattle.bankdef.specs.declared.Bankdefs.{Bankdefs}
 use Rattle.resolver.specs.Lists.{Lists}
 use Rattle.resolver.specs.Passes.{program, rowOfPass}
 use Rattle.resolver.specs.Layout.{layoutOf}
+use Rattle.resolver.specs.declared.Choices.{Choices}
 use Rattle.resolver.specs.declared.Settled.{Settled}
 use Rattle.resolver.specs.declared.Settled.the-variants.{At, Refused as Unsettled}
 use Rattle.output.specs.Visits.{visits}
@@ -31,14 +32,14 @@ use Rattle.output.specs.declared.Output.{Output}
 
 -- ---- what is given, and what is lent
 
--- What a build is given: the banks, the lists, the pass limit.
+-- What a build is given: the banks, the lists, and what a caller chooses: the pass limit and the fill.
 pub record Input : Type 0 where
   pub banks : Bankdefs
   pub lists : Lists
-  pub limit : ℕ
+  pub choices : Choices
 
-abbrev pub input : Bankdefs → Lists → ℕ → Input
-input banks l limit = record { banks = banks; lists = l; limit = limit }
+abbrev pub input : Bankdefs → Lists → Choices → Input
+input banks l choices = record { banks = banks; lists = l; choices = choices }
 
 -- What is lent: the image's bytes, and three lists for the spans.
 pub record Lent : Type 0 where
@@ -84,18 +85,19 @@ visitsOf b passes = visits (program (b .banks) (b .lists)) (rowOfPass (b .lists)
 abbrev pub closedOf : Input → Bool
 closedOf b = closesDefault (b .banks .len)
 
+-- "Add a choice to the build: inherited fill .. or full fill" (document 02, Ticket 8): the fill's length, by the choice
 abbrev pub fillOf : Input → ℕ
-fillOf b = fillLength (banksOf (b .banks))
+fillOf b = fillBy (b .choices .fill) (banksOf (b .banks))
 
 abbrev pub settledBuild : Input → Room → ℕ → Settled → Build
 settledBuild b room passes (Unsettled why) = Refused why
 settledBuild b room passes (At k) = buildRow (closedOf b) (visitsOf b passes) (fillOf b) room k
 
 abbrev pub passesOf : Input → ℕ
-passesOf b = layoutOf (b .banks) (b .lists) (b .limit) .passes
+passesOf b = layoutOf (b .banks) (b .lists) (b .choices) .passes
 
 abbrev pub settledOf : Input → Settled
-settledOf b = layoutOf (b .banks) (b .lists) (b .limit) .settled
+settledOf b = layoutOf (b .banks) (b .lists) (b .choices) .settled
 
 -- The answer: "K, passes run, image length, number of spans", or one refusal, with the passes run.
 unfoldable pub buildOf : Input → Room → Output

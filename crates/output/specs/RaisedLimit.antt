@@ -7,7 +7,7 @@ use lib.Dec.{ltb}
 use lib.ListN.{length, take}
 use Rattle.refusal.specs.Pick.{pick}
 use Rattle.refusal.specs.declared.Refusal.the-variants.{TooShort}
-use Rattle.resolver.specs.Layout.{layoutOf}
+use Rattle.resolver.specs.Layout.{layoutOf, withLimit as limited}
 use Rattle.resolver.specs.RaisedLimit.{same-for-limits-above, passes-within-limit}
 use Rattle.resolver.specs.declared.Resolution.{Resolution}
 use Rattle.resolver.specs.declared.Settled.{Settled}
@@ -24,23 +24,23 @@ use Rattle.output.specs.declared.Build.{Build}
 use Rattle.output.specs.declared.Build.the-variants.{Done, Refused}
 use Rattle.output.specs.declared.Output.{Output}
 
--- the same banks and lists, with another limit
+-- the same banks, lists and other choices, with another limit
 abbrev pub withLimit : Input → ℕ → Input
-withLimit b limit = record { banks = b .banks; lists = b .lists; limit = limit }
+withLimit b limit = record { banks = b .banks; lists = b .lists; choices = limited (b .choices) limit }
 
 -- what a build makes of the passes does not read the limit
 same-of-passes : (b : Input) (n : ℕ) (room : Room) (passes : ℕ) (s : Settled) → settledBuild (withLimit b n) room passes s ≡ settledBuild b room passes s
 same-of-passes b n room passes (At k) = refl
 same-of-passes b n room passes (Unsettled why) = refl
 
-module _ (b : Input) (k : ℕ) (accepted : settledOf b ≡ At k) (below : k < b .limit) (n : ℕ) (more : k < n) where
+module _ (b : Input) (k : ℕ) (accepted : settledOf b ≡ At k) (below : k < b .choices .limit) (n : ℕ) (more : k < n) where
   -- one answer: the build or its refusal, K and the passes run
   pub same-build-above : (room : Room) → buildOf (withLimit b n) room ≡ buildOf b room
   unfolding buildOf
   same-build-above room =
       ap (λ (r : Resolution). record { build = settledBuild (withLimit b n) room (r .passes) (r .settled); passes = r .passes })
-      (same-for-limits-above (b .banks) (b .lists) (b .limit) k accepted below n more)
-      ∙ rw (same-of-passes b n room (layoutOf (b .banks) (b .lists) (b .limit) .passes) (settledOf b))
+      (same-for-limits-above (b .banks) (b .lists) (b .choices) k accepted below n more)
+      ∙ rw (same-of-passes b n room (layoutOf (b .banks) (b .lists) (b .choices) .passes) (settledOf b))
 
   -- Two calls over the same banks, lists and lent contents, one with the limit and one with any above K, have one outcome.
   pub same-outcome-above : (old : Lent) {r s : Output} {new other : Lent}
@@ -70,9 +70,9 @@ settled-k b room passes (At j) e =
     let vs = visitsOf b passes in
     ap At (k-of-placed room j (lengthOf (fillOf b) (itemsOf vs)) (length (spansOf vs)) (placedAll (closedOf b) vs) e)
 
--- An accepted build whose K is below its limit: a call with any limit above K, over the same banks and lists and with the same things lent, has the
--- same answer (K, passes run, length and number of spans) and leaves the same image and spans, to the last byte lent.
-pub raised-limit-keeps-build : (a : Accepted) (n : ℕ) → a .k < a .call .given .limit → a .k < n
+-- An accepted build whose K is below its limit: a call with any limit above K, over the same banks, lists and other choices and with the same things
+-- lent, has the same answer (K, passes run, length and number of spans) and leaves the same image and spans, to the last byte lent.
+pub raised-limit-keeps-build : (a : Accepted) (n : ℕ) → a .k < a .call .given .choices .limit → a .k < n
     → {s : Output} {other : Lent} → Builds (withLimit (a .call .given) n) (a .call .old) s other
     → (s ≡ a .call .answer) × (other ≡ a .call .new)
 raised-limit-keeps-build a n below more q =
@@ -82,7 +82,7 @@ raised-limit-keeps-build a n below more q =
     same-outcome-above b (a .k) settled below n more (a .call .old) (a .call .meets) q
 
 -- So the blocks that its spans make are the same.
-pub raised-limit-keeps-blocks : (a : Accepted) (n : ℕ) → a .k < a .call .given .limit → a .k < n
+pub raised-limit-keeps-blocks : (a : Accepted) (n : ℕ) → a .k < a .call .given .choices .limit → a .k < n
     → {s : Output} {other : Lent} → Builds (withLimit (a .call .given) n) (a .call .old) s other
     → blocksOf (spansLent (take (a .spans) (other .offsets)) (take (a .spans) (other .sizes))) ≡ blocksOf (spansLeft a)
 raised-limit-keeps-blocks a n below more q =
@@ -90,6 +90,6 @@ raised-limit-keeps-blocks a n below more q =
     (raised-limit-keeps-build a n below more q .1)
 
 -- "passes run never exceed the larger of 1 and the limit, refused builds included"
-pub build-passes-within-limit : (b : Input) (old : Lent) {r : Output} {new : Lent} → Builds b old r new → r .passes ≤ max 1 (b .limit)
+pub build-passes-within-limit : (b : Input) (old : Lent) {r : Output} {new : Lent} → Builds b old r new → r .passes ≤ max 1 (b .choices .limit)
 unfolding buildOf
-build-passes-within-limit b old p = rw (p .answer) (passes-within-limit (b .banks) (b .lists) (b .limit))
+build-passes-within-limit b old p = rw (p .answer) (passes-within-limit (b .banks) (b .lists) (b .choices))

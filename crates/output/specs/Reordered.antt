@@ -9,7 +9,7 @@ use Prim.Native.Nat.{ℕ, max}
 use lib.ListN.{length}
 use Rattle.refusal.specs.declared.Verdict.the-variants.{Accepted as Yes}
 use Rattle.bankdef.specs.Check.{banksOf}
-use Rattle.bankdef.specs.Fill.{fillLength}
+use Rattle.bankdef.specs.Fill.{fillBy}
 use Rattle.bankdef.specs.declared.Bankdefs.{Bankdefs}
 use Rattle.bitvec.specs.Lists.{listOf}
 use Rattle.bitvec.specs.Numeral.{numeral}
@@ -87,17 +87,19 @@ reordered-writes-same-image {values} {image} p apart w w′ =
 
 -- Two accepted builds whose written items (output position, size, starting bit) are the same in some order.
 module _ (a b : Accepted) (order : List·Permᴰ (itemsIn (a .call)) (itemsIn (b .call))) where
-  -- Over the same banks, and so with the same fill, they give the same length.
-  pub reordered-builds-same-length : a .call .given .banks ≡ b .call .given .banks → a .bits ≡ b .bits
-  reordered-builds-same-length banks =
+  -- Over the same banks and with the same fill chosen they give the same length.
+  pub reordered-builds-same-length : a .call .given .banks ≡ b .call .given .banks → a .call .given .choices .fill ≡ b .call .given .choices .fill
+      → a .bits ≡ b .bits
+  reordered-builds-same-length banks fill =
       fine a .reach ∙ reordered-items-same-length (fillIn (a .call)) order
-      ∙ ap (λ (d : Bankdefs). lengthOf (fillLength (banksOf d)) (itemsIn (b .call))) banks ∙ sym (fine b .reach)
+      ∙ ap (λ (d : Bankdefs). lengthOf (fillBy (a .call .given .choices .fill) (banksOf d)) (itemsIn (b .call))) banks
+      ∙ ap (λ (choice : ℕ). lengthOf (fillBy choice (banksOf (b .call .given .banks))) (itemsIn (b .call))) fill ∙ sym (fine b .reach)
 
-  -- "Writing the accepted items' bits in any order gives the same image": over the same banks and value bytes, and with as many bytes lent, they
-  -- leave the same image, to the last byte lent.
-  pub reordered-builds-same-image : a .call .given .banks ≡ b .call .given .banks → valuesIn (a .call) ≡ valuesIn (b .call)
-      → length (a .call .old .image) ≡ length (b .call .old .image) → a .call .new .image ≡ b .call .new .image
-  reordered-builds-same-image banks values lent =
+  -- "Writing the accepted items' bits in any order gives the same image": over the same banks, fill chosen and value bytes, and with as many bytes
+  -- lent, they leave the same image, to the last byte lent.
+  pub reordered-builds-same-image : a .call .given .banks ≡ b .call .given .banks → a .call .given .choices .fill ≡ b .call .given .choices .fill
+      → valuesIn (a .call) ≡ valuesIn (b .call) → length (a .call .old .image) ≡ length (b .call .old .image) → a .call .new .image ≡ b .call .new .image
+  reordered-builds-same-image banks fill values lent =
       ap (λ (l : Lent). l .image) (left-is a)
       ∙ reordered-items-same-image (valuesIn (a .call)) (blankIn a) order (items-share-no-bit a)
       ∙ ap (λ (v : List ℕ). imageOf v (blankIn a) (itemsIn (b .call))) values
@@ -107,5 +109,5 @@ module _ (a b : Accepted) (order : List·Permᴰ (itemsIn (a .call)) (itemsIn (b
       same-blank : blankIn a ≡ blankIn b
       same-blank =
           ap (λ (d : Bankdefs). blankOf (banksOf d) (a .bits) (length (a .call .old .image))) banks
-          ∙ ap (λ (n : ℕ). blankOf (banksOf (b .call .given .banks)) n (length (a .call .old .image))) (reordered-builds-same-length banks)
+          ∙ ap (λ (n : ℕ). blankOf (banksOf (b .call .given .banks)) n (length (a .call .old .image))) (reordered-builds-same-length banks fill)
           ∙ ap (λ (n : ℕ). blankOf (banksOf (b .call .given .banks)) (b .bits) n) lent

@@ -8,6 +8,7 @@ use crate::writing::write_spans;
 use bankdef::Bankdefs;
 use refusal::Refusal;
 use refusal::Verdict;
+use resolver::Choices;
 use resolver::Settled;
 ghost use mathlib.Core.Path.{_≡_};
 ghost use mathlib.Core.Bool.{true};
@@ -16,7 +17,7 @@ ghost use lib.Dec.{ltb};
 ghost use lib.ListN.{length};
 ghost use Rattle.refusal.specs.Limits.{maxNodes, maxRows};
 ghost use Rattle.bankdef.specs.Check.{banksOf};
-ghost use Rattle.bankdef.specs.Fill.{fillLength};
+ghost use Rattle.bankdef.specs.Fill.{fillBy};
 ghost use Rattle.resolver.specs.Lists.{lists};
 ghost use Rattle.output.specs.Visits.{visits};
 ghost use Rattle.output.specs.Items.{itemsOf};
@@ -48,6 +49,7 @@ fn build_row(
     states: &[u8],
     values: &[u8],
     k: u64,
+    choices: Choices,
     image: &mut [u8],
     addresses: &mut [i64],
     offsets: &mut [u64],
@@ -60,12 +62,12 @@ fn build_row(
         ⌝ }
     ensures { λ r. ⌜
         RowBuilt (programOf banks (now (kinds .entry)) (now (operands .entry)) (now (first .entry)))
-        (rowOf (now (numbers .entry)) (now (states .entry))) (closesDefault (banks .len)) (fillLength (banksOf banks)) k (now (values .entry))
+        (rowOf (now (numbers .entry)) (now (states .entry))) (closesDefault (banks .len)) (fillBy (choices .fill) (banksOf banks)) k (now (values .entry))
         (lent (now (image .entry)) (now (addresses .entry)) (now (offsets .entry)) (now (sizes .entry))) r
         (lent (now (image .exit)) (now (addresses .exit)) (now (offsets .exit)) (now (sizes .exit)))
         ⌝ }
 {
-    let fill = bankdef::fill_length(banks);
+    let fill = bankdef::fill_length(banks, choices.fill);
     let closed = closes_default(banks.len);
     let plan = plan_row(banks, kinds, operands, first, numbers, states, closed, fill);
     let verdict = plan.verdict;
@@ -128,7 +130,7 @@ pub fn build_output(
     states: &[u8],
     rows: u64,
     values: &[u8],
-    limit: u8,
+    choices: Choices,
     image: &mut [u8],
     addresses: &mut [i64],
     offsets: &mut [u64],
@@ -138,7 +140,7 @@ pub fn build_output(
         Builds
         (input banks
         (lists (now (kinds .entry)) (now (operands .entry)) (now (numbers .entry)) (now (states .entry)) rows (now (values .entry)))
-        limit)
+        choices)
         (lent (now (image .entry)) (now (addresses .entry)) (now (offsets .entry)) (now (sizes .entry))) r
         (lent (now (image .exit)) (now (addresses .exit)) (now (offsets .exit)) (now (sizes .exit)))
         ⌝ }
@@ -151,7 +153,7 @@ pub fn build_output(
         states,
         rows,
         values,
-        limit,
+        choices,
     );
     let settled = resolution.settled;
     let passes = resolution.passes;
@@ -173,6 +175,7 @@ pub fn build_output(
                 &states[a..e],
                 values,
                 k,
+                choices,
                 image,
                 addresses,
                 offsets,

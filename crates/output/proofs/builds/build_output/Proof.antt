@@ -30,10 +30,10 @@ given s = lists (s .args .kinds .now) (s .args .operands .now) (s .args .numbers
 -- where the passes settled, the rows are as long as the counts say
 module _ (c : tie.After-resolve) (k : ℕ) (settles : c .resolve .result .settled ≡ At k) where
   rows : Rows (length (begin c .args .kinds .now)) (begin c .args .rows) (begin c .args .numbers .now) (begin c .args .states .now)
-  rows = settled-rows (begin c .args .banks) (given (begin c)) (begin c .args .limit) (c .resolve .result) (c .resolve .ensures .0) k settles
+  rows = settled-rows (begin c .args .banks) (given (begin c)) (begin c .args .choices) (c .resolve .result) (c .resolve .ensures .0) k settles
 
   few : length (begin c .args .kinds .now) ≤ maxNodes
-  few = settled-few (begin c .args .banks) (given (begin c)) (begin c .args .limit) (c .resolve .result) (c .resolve .ensures .0) k settles
+  few = settled-few (begin c .args .banks) (given (begin c)) (begin c .args .choices) (c .resolve .result) (c .resolve .ensures .0) k settles
 
   -- so the lists have few numbers
   cells : begin c .args .rows * length (begin c .args .kinds .now) ≤ 65536
@@ -122,14 +122,14 @@ build-row-requires : tie.Need-build-row-requires
 build-row-requires c κs =
     let f = c .before .before .before .before .before .before .before .before .before .before .before in
     let told = c .before .before .before .before .before .before .before .before .before .settled2 .given in
-    (few f (told .0 .0) (told .1), part-values (begin f .args .banks) (given (begin f)) (begin f .args .limit) (f .resolve .result) (f .resolve .ensures .0) (told .0 .0) (told .1) (c .before .before .before .before .before .before .before .row-start .result) (c .before .before .before .before .before .before .before .row-start .ensures .0))
+    (few f (told .0 .0) (told .1), part-values (begin f .args .banks) (given (begin f)) (begin f .args .choices) (f .resolve .result) (f .resolve .ensures .0) (told .0 .0) (told .1) (c .before .before .before .before .before .before .before .row-start .result) (c .before .before .before .before .before .before .before .row-start .ensures .0))
 
 -- src/builds.rt:98:1
 returns : tie.Need-returns
 returns c =
     let f = c .before .before .before in
     let told = c .before .settled .given in
-    refused (begin f .args .banks) (given (begin f)) (begin f .args .limit) (f .resolve .result) (f .resolve .ensures .0) (told .0 .0) (told .1) (old (begin f))
+    refused (begin f .args .banks) (given (begin f)) (begin f .args .choices) (f .resolve .result) (f .resolve .ensures .0) (told .0 .0) (told .1) (old (begin f))
 
 -- src/builds.rt:98:1
 same-length : tie.Need-same-length
@@ -152,7 +152,7 @@ returns-2 : tie.Need-returns-2
 returns-2 c =
     let f = c .before .before .before .before .before .before .before .before .before .before .before .before .before .before .before .before .before .before .before in
     let told = c .before .before .before .before .before .before .before .before .before .before .before .before .before .before .before .before .before .settled2 .given in
-    finished (begin f .args .banks) (given (begin f)) (begin f .args .limit) (f .resolve .result) (f .resolve .ensures .0) (told .0 .0) (told .1) (c .before .before .before .before .before .before .before .before .before .before .before .before .before .before .before .row-start .result) (c .before .before .before .before .before .before .before .before .before .before .before .before .before .before .before .row-start .ensures .0) (old (begin f))
+    finished (begin f .args .banks) (given (begin f)) (begin f .args .choices) (f .resolve .result) (f .resolve .ensures .0) (told .0 .0) (told .1) (c .before .before .before .before .before .before .before .before .before .before .before .before .before .before .before .row-start .result) (c .before .before .before .before .before .before .before .before .before .before .before .before .before .before .before .row-start .ensures .0) (old (begin f))
     _ (c .before .before .before .before .before .before .before .build-row .result) (c .before .before .before .before .before .before .before .build-row .ensures)
 
 pub build-output-spec : {M : Type 1} → statement M

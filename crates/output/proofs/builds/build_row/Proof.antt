@@ -6,7 +6,7 @@ use native.Mathlib.Omega.{arith}
 use lib.Dec.{ltb}
 use lib.ListN.{length}
 use Rattle.bankdef.specs.Check.{banksOf}
-use Rattle.bankdef.specs.Fill.{fillLength}
+use Rattle.bankdef.specs.Fill.{fillBy}
 use Rattle.resolver.specs.Lists.{Row}
 use Rattle.resolver.specs.Once.{Program}
 use Rattle.output.specs.Placing.{closesDefault}
@@ -36,7 +36,7 @@ abbrev old : tie.Start → Lent
 old s = lent (s .args .image .now) (s .args .addresses .now) (s .args .offsets .now) (s .args .sizes .now)
 
 abbrev fill : tie.Start → ℕ
-fill s = fillLength (banksOf (s .args .banks))
+fill s = fillBy (s .args .choices .fill) (banksOf (s .args .banks))
 
 abbrev closed : tie.Start → Bool
 closed s = closesDefault (s .args .banks .len)
