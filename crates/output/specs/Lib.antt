@@ -1,5 +1,6 @@
 pub mod Blank
 pub mod Calls
+pub mod DefaultBank
 pub mod Fills
 pub mod ItemBits
 pub mod ItemLaws

@@ -32,7 +32,7 @@ use Rattle.output.specs.declared.Output.{Output}
 
 -- ---- what is given, and what is lent
 
--- What a build is given: the banks, the lists, and what a caller chooses: the pass limit and the fill.
+-- What a build is given: the banks, the lists, and what a caller chooses: the pass limit, the fill, and whether bank 0 may be used alone.
 pub record Input : Type 0 where
   pub banks : Bankdefs
   pub lists : Lists
@@ -81,9 +81,9 @@ buildRow closed vs fill room k =
 abbrev pub visitsOf : Input → ℕ → List Visit
 visitsOf b passes = visits (program (b .banks) (b .lists)) (rowOfPass (b .lists) passes)
 
--- "9: bank 0 is used while other banks exist"
+-- whether bank 0 is closed, by the banks there are and by the caller's choice
 abbrev pub closedOf : Input → Bool
-closedOf b = closesDefault (b .banks .len)
+closedOf b = closesDefault (b .banks .len) (b .choices .«default_bank»)
 
 -- "Add a choice to the build: inherited fill .. or full fill" (document 02, Ticket 8): the fill's length, by the choice
 abbrev pub fillOf : Input → ℕ

@@ -1,6 +1,6 @@
 -- What the build asks of each node in turn: refusals 9 to 13, and the intervals stored (document 01, "Image, spans, blocks").
 use Prim.Native.Nat.{ℕ, _+_}
-use mathlib.Core.Bool.{Bool, true, false, _&&_, _||_}
+use mathlib.Core.Bool.{Bool, true, false, not, _&&_, _||_}
 use mathlib.Core.List.{List, [], _∷_}
 use lib.Dec.{eqb, ltb}
 use Rattle.refusal.specs.Pick.{pick}
@@ -63,9 +63,10 @@ reservesOf vs = each reserveOf vs
 
 -- ---- 9, 10 and 11
 
--- "9: bank 0 is used while other banks exist": bank 0 is closed then, to labels, written items and reserves.
-abbrev pub closesDefault : ℕ → Bool
-closesDefault banks = ltb 1 banks
+-- "9: bank 0 is used while other banks exist": bank 0 is closed then, to labels, written items and reserves. "Refused even when it is alone"
+-- (document 02, Ticket 13), where the caller does not let it be used alone.
+abbrev pub closesDefault : ℕ → Bool → Bool
+closesDefault banks alone = not alone || ltb 1 banks
 
 abbrev pub usesDefault : Bool → ℕ → Bool
 usesDefault closed bank = eqb bank 0 && closed

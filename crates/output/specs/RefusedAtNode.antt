@@ -49,7 +49,7 @@ use Rattle.output.specs.VisitLaws.{visits-next, visits-split}
 use Rattle.output.specs.Items.{isWritten, itemsOf, lengthOf}
 use Rattle.output.specs.Kinds.{written-exactly, offered-exactly, placed-exactly}
 use Rattle.output.specs.Spans.{sizeOf, spansOf}
-use Rattle.output.specs.Placing.{isPlaced, isOffered, usesDefault, endsPast, lacksOutput, offerOf, offersOf, checked, answered, tried, placing, verdictOn}
+use Rattle.output.specs.Placing.{isPlaced, isOffered, closesDefault, usesDefault, endsPast, lacksOutput, offerOf, offersOf, checked, answered, tried, placing, verdictOn}
 use Rattle.output.specs.Placing.{verdictSeen, Placed, holds, stops, placedIf, placedNext, placedFrom, placedAll}
 use Rattle.output.specs.PlacingLaws.{refused-accepted, placed-append, placed-last, stops-stay, checked-opens, picked-some, offer-is, placed-accepts}
 use Rattle.output.specs.Output.{Input, closedOf, Room, roomOf, roomFor, placedBuild, buildRow, settledBuild, settledOf, visitsOf, fillOf, toldBuild}
@@ -75,15 +75,19 @@ pub record RefusedThere (c : Call) (n number : ℕ) (place : Place) : Type 0 whe
 
 -- ---- what document 01 says of 9, 10 and 11
 
+-- bank 0 may not be used
+abbrev pub Closed : Input → Type 0
+Closed b = (b .choices .«default_bank» ≡ false) ⊎ (1 < b .banks .len)
+
 -- "labels (size 0), written items (4, 5, 6) and reserves"
 abbrev pub PlacedKind : ℕ → Type 0
 PlacedKind kind = (kind ≡ 2) ⊎ ((4 ≤ kind) × (kind ≤ 7))
 
--- "9: bank 0 is used while other banks exist"
+-- "9: bank 0 is used while other banks exist", or where it may not be used alone (document 02, Ticket 13)
 pub record Nine (b : Input) (v : Visit) : Type 0 where
   pub placed : PlacedKind (v .node .kind)
   pub default : v .bank ≡ 0
-  pub others : 1 < b .banks .len
+  pub closed : Closed b
 
 -- "10: an item ends past its bank's size"
 pub record Ten (v : Visit) (position : ℕ) : Type 0 where
@@ -104,10 +108,24 @@ module _ (b : Input) (v : Visit) where
   both true b e = (refl, e)
   both false b e = absurd (mathlib.Core.Bool.true≢false (sym e))
 
-  uses-default : (usesDefault (closedOf b) (v .bank) ≡ true) ↔ ((v .bank ≡ 0) × (1 < b .banks .len))
+  closed-exactly : (closedOf b ≡ true) ↔ Closed b
+  closed-exactly = (
+    λ e. opens (b .choices .«default_bank») refl e,
+    ⊎-elim (λ (no-leave : b .choices .«default_bank» ≡ false). rw no-leave) (λ (others : 1 < b .banks .len). shuts (b .choices .«default_bank») others),
+  )
+    where
+      opens : (alone : Bool) → b .choices .«default_bank» ≡ alone → closesDefault (b .banks .len) alone ≡ true → Closed b
+      opens true is e = inr (ltb-true 1 (b .banks .len) e)
+      opens false is e = inl is
+
+      shuts : (alone : Bool) → 1 < b .banks .len → closesDefault (b .banks .len) alone ≡ true
+      shuts true others = lt-ltb 1 (b .banks .len) others
+      shuts false others = refl
+
+  uses-default : (usesDefault (closedOf b) (v .bank) ≡ true) ↔ ((v .bank ≡ 0) × Closed b)
   uses-default = (
-    λ e. let h = both (eqb (v .bank) 0) (closedOf b) e in (eqb-true (v .bank) 0 (h .0), ltb-true 1 (b .banks .len) (h .1)),
-    λ h. rw (eq-eqb (v .bank) 0 (h .0), lt-ltb 1 (b .banks .len) (h .1)),
+    λ e. let h = both (eqb (v .bank) 0) (closedOf b) e in (eqb-true (v .bank) 0 (h .0), closed-exactly .0 (h .1)),
+    λ h. rw (eq-eqb (v .bank) 0 (h .0), closed-exactly .1 (h .1)),
   )
 
   past : (o : Opt) (end : ℕ) → (endsPast o end ≡ true) ↔ ((size : ℕ) × (o ≡ Some size) × (size < end))
@@ -281,14 +299,14 @@ module _ (c : Call) (n : ℕ) (r : Reaches c n) where
   nine-test : isPlaced (met .node) ≡ true → usesDefault (closedIn c) (met .bank) ≡ true → Nine (c .given) met
   nine-test p d =
       let h = uses-default (c .given) met .0 d in
-      record { placed = placed-kind .0 p; default = h .0; others = h .1 }
+      record { placed = placed-kind .0 p; default = h .0; closed = h .1 }
 
   -- past 9: the test says no
   not-nine : isPlaced (met .node) ≡ true → (Nine (c .given) met → ⊥) → usesDefault (closedIn c) (met .bank) ≡ false
   not-nine p none = decided (usesDefault (closedIn c) (met .bank)) (λ d. absurd (none (nine-test p d))) (λ d. d)
 
   nine-not : usesDefault (closedIn c) (met .bank) ≡ false → Nine (c .given) met → ⊥
-  nine-not d h = holds-not (uses-default (c .given) met) d (h .default, h .others)
+  nine-not d h = holds-not (uses-default (c .given) met) d (h .default, h .closed)
 
   ten-test : isPlaced (met .node) ≡ true → endsPast (met .def .size) (r .at .position + sizeOf (met .node)) ≡ true → Ten met (r .at .position)
   ten-test p q =
@@ -310,11 +328,11 @@ module _ (c : Call) (n : ℕ) (r : Reaches c n) where
     λ h. rw (written-exactly (met .node) .1 (h .written), lacks (c .given) met (met .def .offset) (positionOf met) .1 (h .nowhere)),
   )
 
-  -- "9: bank 0 is used while other banks exist", by a label, a written item or a reserve.
+  -- "9: bank 0 is used while other banks exist", or may not be used alone, by a label, a written item or a reserve.
   pub refused-9-exactly : RefusedThere c n 9 (One n) ↔ Nine (c .given) (visitIn c n)
   refused-9-exactly = (
     λ t. let (why, cause, number, place) = cause-there c n r 9 (One n) t in from why cause number,
-    λ h. there c n r (DefaultBank n) (nine (placed-kind .1 (h .placed)) (uses-default (c .given) met .1 (h .default, h .others)) refl),
+    λ h. there c n r (DefaultBank n) (nine (placed-kind .1 (h .placed)) (uses-default (c .given) met .1 (h .default, h .closed)) refl),
   )
     where
       from : (why : Refusal) → Cause (closedIn c) (r .stored) (visitIn c n) (r .at) why → numberOf why ≡ 9 → Nine (c .given) (visitIn c n)

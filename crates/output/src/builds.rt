@@ -62,13 +62,13 @@ fn build_row(
         ⌝ }
     ensures { λ r. ⌜
         RowBuilt (programOf banks (now (kinds .entry)) (now (operands .entry)) (now (first .entry)))
-        (rowOf (now (numbers .entry)) (now (states .entry))) (closesDefault (banks .len)) (fillBy (choices .fill) (banksOf banks)) k (now (values .entry))
+        (rowOf (now (numbers .entry)) (now (states .entry))) (closesDefault (banks .len) (choices .«default_bank»)) (fillBy (choices .fill) (banksOf banks)) k (now (values .entry))
         (lent (now (image .entry)) (now (addresses .entry)) (now (offsets .entry)) (now (sizes .entry))) r
         (lent (now (image .exit)) (now (addresses .exit)) (now (offsets .exit)) (now (sizes .exit)))
         ⌝ }
 {
     let fill = bankdef::fill_length(banks, choices.fill);
-    let closed = closes_default(banks.len);
+    let closed = closes_default(banks.len, choices.default_bank);
     let plan = plan_row(banks, kinds, operands, first, numbers, states, closed, fill);
     let verdict = plan.verdict;
     if let Verdict::Refused(why) = verdict {

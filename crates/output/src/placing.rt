@@ -73,11 +73,14 @@ fn lacks_output(out: Offset) -> bool
     }
 }
 
-// "9: bank 0 is used while other banks exist": whether bank 0 is closed.
-pub fn closes_default(banks: u64) -> bool
-    ensures { λ r. ⌜ r ≡ closesDefault banks ⌝ }
+// "9: bank 0 is used while other banks exist", "even when it is alone" where it may not be used alone: whether bank 0 is closed.
+pub fn closes_default(banks: u64, alone: bool) -> bool
+    ensures { λ r. ⌜ r ≡ closesDefault banks alone ⌝ }
 {
-    1 < banks
+    if alone {
+        return 1 < banks;
+    }
+    true
 }
 
 fn uses_default(closed: bool, bank: u64) -> bool

@@ -39,7 +39,7 @@ abbrev fill : tie.Start → ℕ
 fill s = fillBy (s .args .choices .fill) (banksOf (s .args .banks))
 
 abbrev closed : tie.Start → Bool
-closed s = closesDefault (s .args .banks .len)
+closed s = closesDefault (s .args .banks .len) (s .args .choices .«default_bank»)
 
 abbrev begin : tie.After-plan-row → tie.Start
 begin c = c .before .before .before .before .before .before .before .before .before .before .before .before
