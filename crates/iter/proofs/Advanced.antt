@@ -1,28 +1,63 @@
 -- What the proofs of the walk share beyond the laws of specs/Advance.antt.
-use Prim.Native.Nat.{ℕ, zero, suc, _<_, _≤_}
-use mathlib.Core.Path.{_≡_, refl, sym, ap, _∙_}
+use Prim.Native.Nat.{ℕ, zero, suc, _+_, _-_, _<_, _≤_}
+use mathlib.Core.Path.{_≡_, refl, sym}
 use mathlib.Core.Bool.{Bool, true, false}
 use mathlib.Core.List.{List, [], _∷_}
 use native.Mathlib.Nat.{le-of-suc-le-suc}
 use native.Mathlib.Omega.{arith}
 use lib.Dec.{leb}
 use lib.ListN.{getD, length}
-use borrow.Author.Tests.{leb-false}
-use Rattle.refusal.specs.Bools.{neither}
+use borrow.Author.Tests.{leb-false, le-leb, lt-leb, eq-eqb, ne-eqb}
+use Rattle.refusal.specs.Bools.{either, neither}
 use Rattle.refusal.specs.Limits.{maxBanks}
-use Rattle.refusal.specs.Pick.{pick-true}
-use Rattle.refusal.specs.declared.Opt.{Opt}
-use Rattle.refusal.specs.declared.Opt.the-variants.{Some}
+use Rattle.refusal.specs.Pick.{pick-true, pick-false}
+use Rattle.refusal.specs.declared.Refusal.{Refusal}
+use Rattle.refusal.specs.declared.Opt.the-variants.{None, Some}
 use Rattle.bankdef.specs.declared.Bankdef.{Bankdef}
-use Rattle.iter.specs.Step.{alignedTo, outermostSymbol, labelAligned, seenOf, badState, malformed}
+use Rattle.iter.specs.Step.{alignedTo, outermostSymbol, seenOf, badState, advancedOf, still, alignedMotion, seenSkips, seenMotion, advanceSkips, advanceMotion, maxSum, lostAfter, malformed}
+use Rattle.iter.specs.ToldFacts.{none-skipped}
+use Rattle.iter.specs.declared.Moved.{Moved}
+use Rattle.iter.specs.declared.Moved.the-variants.{To, Refused}
 use Rattle.iter.specs.declared.Pos.{Pos}
 use Rattle.iter.specs.declared.Node.{Node}
 
--- a symbol of depth 0 in a bank with label alignment
-pub label-aligned : (def : Bankdef) (at : Pos) (node : Node) (a : ℕ) → outermostSymbol node ≡ true → def .align ≡ Some a
-    → alignedTo def at a (at .known) (node .index) ≡ seenOf def at node
-unfolding seenOf
-label-aligned def at node a t e = sym (pick-true _ _ t ∙ ap (λ (o : Opt). labelAligned def o at (node .index)) e)
+module _ (def : Bankdef) (at : Pos) (node : Node) where
+  -- a node that is no symbol of depth 0
+  pub sight-plain : outermostSymbol node ≡ false → still (To at) ≡ seenMotion def at node
+  unfolding seenOf seenSkips
+  sight-plain e = rw e
+
+  -- a bank without label alignment
+  pub sight-unaligned : def .align ≡ None → still (To at) ≡ seenMotion def at node
+  unfolding seenOf seenSkips
+  sight-unaligned e = either (outermostSymbol node) (λ t. rw (t, e)) (λ t. rw t)
+
+  -- a symbol of depth 0 in a bank with label alignment
+  pub sight-aligned : (a : ℕ) → outermostSymbol node ≡ true → def .align ≡ Some a
+      → alignedMotion def at a (at .known) (node .index) ≡ seenMotion def at node
+  unfolding seenOf seenSkips
+  sight-aligned a t e = rw (t, e)
+
+  -- an advance that is refused, one of a kind that does not align, and one that does
+  pub advance-stopped : (why : Refusal) → advancedOf def at node ≡ Refused why → still (Refused why) ≡ advanceMotion def at node
+  unfolding advanceSkips
+  advance-stopped why e = rw e
+
+  pub advance-still : {m : Moved} → advancedOf def at node ≡ m → (node .kind ≡ 8 → ⊥) → still m ≡ advanceMotion def at node
+  unfolding advanceSkips
+  advance-still e n = rw (ne-eqb (node .kind) 8 n, none-skipped (advancedOf def at node), e)
+
+  pub advance-aligned : (known : Bool) → advancedOf def at node ≡ alignedTo def at (node .number) known (node .index) → node .kind ≡ 8
+      → alignedMotion def at (node .number) known (node .index) ≡ advanceMotion def at node
+  unfolding advanceSkips
+  advance-aligned known e k = rw (eq-eqb (node .kind) 8 k, e)
+
+-- a sum of bits that stays within 64 bits, and one that does not
+pub sum-within : (lost bits : ℕ) → bits ≤ maxSum → lost ≤ maxSum - bits → lost + bits ≡ lostAfter lost bits
+sum-within lost bits h k = sym (pick-true _ _ (le-leb (lost + bits) maxSum (omega arith)))
+
+pub sum-stops : (lost bits : ℕ) → bits ≤ maxSum → maxSum - bits < lost → maxSum ≡ lostAfter lost bits
+sum-stops lost bits h k = sym (pick-false _ _ (lt-leb (lost + bits) maxSum (omega arith)))
 
 -- an element within the list is read whatever stands for those outside
 pub any-default : {A : Type 0} (l : List A) (i : ℕ) (d e : A) → i < length l → getD l i d ≡ getD l i e

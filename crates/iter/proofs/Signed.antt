@@ -10,7 +10,7 @@ use lib.IntN.{ℤ, pos, negsuc, natAbs, _+ℤ_, _*ℤ_}
 use lib.Signed.{ltZ}
 use mir.Syntax.{w64}
 use mir.Val.{SFits}
-use borrow.Author.Tests.{ltb-true, leb-true, eqb-false, not-true, lt-ltb, le-ltb}
+use borrow.Author.Tests.{ltb-true, leb-true, lt-ltb, le-ltb}
 use Rattle.refusal.specs.Limits.{maxStart}
 use Rattle.bankdef.specs.Bools.{both}
 use Rattle.bankdef.specs.declared.Bankdef.{Bankdef}
@@ -32,12 +32,6 @@ above (negsuc n) u p e h = rw (neg-plus (suc n * u) p, le-ltb p (suc n * u) h)
 pub from : (z : ℤ) (u p : ℕ) → ltZ z (pos 0) ≡ false → At (natAbs z * u + p) ≡ inBits (z *ℤ pos u +ℤ pos p)
 from (pos n) u p e = refl
 from (negsuc n) u p e = cc
-
-nonzero : (u : ℕ) → (u ≡ 0 → ⊥) → 0 < u
-nonzero u h = omega (arith, h)
-
-pub unit-positive : (def : Bankdef) → tellable def ≡ true → 0 < def .unit
-unit-positive def e = nonzero (def .unit) (eqb-false (def .unit) 0 (not-true (eqb (def .unit) 0) (both (not (eqb (def .unit) 0)) _ e .0)))
 
 pub start-within : (def : Bankdef) → tellable def ≡ true → natAbs (def .start) ≤ maxStart
 start-within def e = rw (size-natAbs (def .start)) (leb-true (sizeOf (def .start)) maxStart (both (not (eqb (def .unit) 0)) _ e .1))

@@ -30,7 +30,7 @@ pub is-tellable-unique : OneOutcome 0 is-tellable-kinds.ps is-tellable-kinds.r i
 is-tellable-unique κs a x y e f p q = determined p q
 
 pub get-address-unique : OneOutcome 0 get-address-kinds.ps get-address-kinds.r get-address-reads.Learnt
-get-address-unique κs a x y e f p q = determined p q
+get-address-unique κs a x y e f p q = determined (p .0) (q .0)
 
 pub get-output-position-unique : OneOutcome 0 get-output-position-kinds.ps get-output-position-kinds.r get-output-position-reads.Learnt
 get-output-position-unique κs a x y e f p q = determined (p .0) (q .0)
@@ -51,4 +51,4 @@ pub start-unique : OneOutcome 0 start-kinds.ps start-kinds.r start-reads.Learnt
 start-unique κs a x y e f p q = determined p q
 
 pub step-unique : OneOutcome 0 step-kinds.ps step-kinds.r step-reads.Learnt
-step-unique κs a x y e f p q = determined p q
+step-unique κs a x y e f p q = determined (p .0) (q .0)

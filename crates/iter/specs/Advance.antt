@@ -11,7 +11,7 @@ use Rattle.refusal.specs.declared.Refusal.{Refusal}
 use Rattle.refusal.specs.declared.Refusal.the-variants.{Malformed}
 use Rattle.bankdef.specs.declared.Bankdef.{Bankdef}
 use Rattle.iter.specs.Known.{staysKnown}
-use Rattle.iter.specs.Step.{origin, movedBy, alignedTo, seenOf, resolved, badState, movedOn, advancedOf, bankAfter, kept, malformed, stepOf}
+use Rattle.iter.specs.Step.{origin, movedBy, alignedTo, seenOf, resolved, badState, movedOn, advancedOf, bankAfter, kept, stopped, stepSkips, malformed, stepOf}
 use Rattle.iter.specs.declared.Pos.{Pos}
 use Rattle.iter.specs.declared.Node.{Node}
 use Rattle.iter.specs.declared.Walk.{Walk}
@@ -86,22 +86,23 @@ module _ (def : Bankdef) (at : Pos) (node : Node) where
 
 -- A step, by what the node sees and where it moves.
 module _ (def : Bankdef) (walk : Walk) (node : Node) (bank : ℕ) (e : bank ≡ bankAfter (walk .bank) node) where
-  pub outside : malformed bank node ≡ true → stepOf def walk node ≡ record { seen = Refused (Malformed (node .index)); walk = walk }
+  pub outside : malformed bank node ≡ true → stepOf def walk node ≡ stopped walk (Malformed (node .index))
   unfolding stepOf
   outside h = rw (sym e, h)
 
   module _ (sound : malformed bank node ≡ false) where
     pub blind : (why : Refusal) → seenOf def (getD (walk .at) bank origin) node ≡ Refused why
-        → stepOf def walk node ≡ record { seen = Refused why; walk = walk }
+        → stepOf def walk node ≡ stopped walk why
     unfolding stepOf
     blind why s = rw (sym e, sound, s)
 
     pub stuck : (p : Pos) (why : Refusal) → seenOf def (getD (walk .at) bank origin) node ≡ To p → advancedOf def p node ≡ Refused why
-        → stepOf def walk node ≡ record { seen = Refused why; walk = walk }
+        → stepOf def walk node ≡ stopped walk why
     unfolding stepOf
     stuck p why s a = rw (sym e, sound, s, a)
 
     pub moves : (p q : Pos) → seenOf def (getD (walk .at) bank origin) node ≡ To p → advancedOf def p node ≡ To q
-        → stepOf def walk node ≡ record { seen = To p; walk = kept walk bank q }
+        → let s = stepSkips def (getD (walk .at) bank origin) p node in
+        stepOf def walk node ≡ record { seen = To p; skipped = s; walk = kept walk bank q (s .bits) }
     unfolding stepOf
     moves p q s a = rw (sym e, sound, s, a)

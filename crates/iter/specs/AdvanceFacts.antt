@@ -26,7 +26,8 @@ use Rattle.iter.specs.Known.{staysKnown}
 use Rattle.iter.specs.Step.{movedByDistance, labelAligned, seenOf, badState, advancedOf}
 use Rattle.iter.specs.ToldFacts.{distance-told, outer-symbol, sight-told, advance-told}
 use Rattle.iter.specs.declared.Distance.{Distance}
-use Rattle.iter.specs.declared.Distance.the-variants.{Bits, Refused as NoDistance}
+use Rattle.iter.specs.declared.Distance.the-variants.{Skips, Refused as NoDistance}
+use Rattle.iter.specs.declared.Skipped.{Skipped}
 use Rattle.iter.specs.declared.Moved.{Moved}
 use Rattle.iter.specs.declared.Moved.the-variants.{To, Refused}
 use Rattle.iter.specs.declared.Node.{Node}
@@ -38,7 +39,7 @@ pub record Moves (def : Bankdef) (at : Pos) (node : Node) (q : Pos) : Type 0 whe
   pub adds-number : 4 ≤ node .kind → node .kind ≤ 7 → q .position ≡ at .position + node .number
   -- "8 adds the distance to alignment"
   pub adds-distance : node .kind ≡ 8
-      → (d : ℕ) × (distanceOf def (at .position) (node .number) (node .index) ≡ Bits d) × (q .position ≡ at .position + d)
+      → (s : Skipped) × (distanceOf def (at .position) (node .number) (node .index) ≡ Skips s) × (q .position ≡ at .position + s .bits)
   -- "9 sets the position"
   pub sets-position : node .kind ≡ 9 → q .position ≡ node .number
   -- no other kind moves it
@@ -109,8 +110,8 @@ module _ (def : Bankdef) (at : Pos) (node : Node) (q : Pos) where
       left (inl f) = ap (λ (p : Pos). p .known) (sym e) ∙ keeps .leaves f
       left (inr s) = absurd (still-apart h (omega arith) s)
 
-  aligned : (known : Bool) (d : ℕ) → node .kind ≡ 8 → distanceOf def (at .position) (node .number) (node .index) ≡ Bits d
-      → told.Keeps (at .known) node known → record { position = at .position + d; known = known } ≡ q → Moves def at node q
+  aligned : (known : Bool) (s : Skipped) → node .kind ≡ 8 → distanceOf def (at .position) (node .number) (node .index) ≡ Skips s
+      → told.Keeps (at .known) node known → record { position = at .position + s .bits; known = known } ≡ q → Moves def at node q
   aligned known d k f keeps e = record {
     adds-number = λ h l. absurd (omega arith);
     adds-distance = λ k. (d, f, ap (λ (p : Pos). p .position) (sym e));
@@ -153,7 +154,7 @@ module _ (def : Bankdef) (at : Pos) (node : Node) (q : Pos) where
 -- the bits that a node's advance adds
 pub data AddsBits (def : Bankdef) (at : Pos) (node : Node) : ℕ → Type 0 where
   number : 4 ≤ node .kind → node .kind ≤ 7 → AddsBits def at node (node .number)
-  distance : node .kind ≡ 8 → (d : ℕ) → distanceOf def (at .position) (node .number) (node .index) ≡ Bits d → AddsBits def at node d
+  distance : node .kind ≡ 8 → (s : Skipped) → distanceOf def (at .position) (node .number) (node .index) ≡ Skips s → AddsBits def at node (s .bits)
 
 -- "5: a position would pass 4,294,967,295"
 pub record PassesLimit (def : Bankdef) (at : Pos) (node : Node) : Type 0 where
@@ -167,14 +168,14 @@ pub record SightPasses (def : Bankdef) (at : Pos) (node : Node) : Type 0 where
   pub symbol : OuterSymbol node
   pub align : ℕ
   pub has-align : def .align ≡ Some align
-  pub bits : ℕ
-  pub has-bits : distanceOf def (at .position) align (node .index) ≡ Bits bits
-  pub past : maxPosition < at .position + bits
+  pub skips : Skipped
+  pub has-skips : distanceOf def (at .position) align (node .index) ≡ Skips skips
+  pub past : maxPosition < at .position + skips .bits
 
-not-measured : {def : Bankdef} {position a node : ℕ} {t : Told ℕ} → Measures def position a node t → toldNumber t ≡ 5 → ⊥
+not-measured : {def : Bankdef} {position a node : ℕ} {t : Told Skipped} → Measures def position a node t → toldNumber t ≡ 5 → ⊥
 not-measured (told.malformed h) e = omega arith
 not-measured (told.none h z) e = omega arith
-not-measured (told.next h k d a) e = omega arith
+not-measured (told.next h k s a w) e = omega arith
 
 -- a distance is never refused 5
 not-five-of : (def : Bankdef) (position a node : ℕ) (why : Refusal) → distanceOf def position a node ≡ NoDistance why → numberOf why ≡ 5 → ⊥
@@ -194,7 +195,7 @@ module _ (def : Bankdef) (at : Pos) (node : Node) where
       record { sound = s; bits = node .number; adds = number h k; past = l }
   past-from (told.aligns s k known keeps (told.by d f (told.sum l))) e = absurd (omega arith)
   past-from (told.aligns s k known keeps (told.by d f (told.past l))) e =
-      record { sound = s; bits = d; adds = distance k d f; past = l }
+      record { sound = s; bits = d .bits; adds = distance k d f; past = l }
   past-from (told.aligns s k known keeps (told.untold why f)) e =
       absurd (not-five-of def (at .position) (node .number) (node .index) why f e)
   past-from (told.sets s k known sets) e = absurd (omega arith)
@@ -210,7 +211,7 @@ module _ (def : Bankdef) (at : Pos) (node : Node) where
   past-of (distance k d f) s l =
       ap toldMoved (sound-state def at node s ∙ aligning def at node k
       ∙ ap (λ (x : Distance). movedByDistance at x (staysKnown (at .known) node) (node .index)) f
-      ∙ pick-false _ _ (lt-leb (at .position + d) maxPosition l))
+      ∙ pick-false _ _ (lt-leb (at .position + d .bits) maxPosition l))
 
   -- and wherever they do, with the node as its place.
   pub advance-five-when : PassesLimit def at node → toldMoved (advancedOf def at node) ≡ refuses 5 (One (node .index))
@@ -221,7 +222,7 @@ module _ (def : Bankdef) (at : Pos) (node : Node) where
   sight-from (told.unaligned h) e = absurd (omega arith)
   sight-from (told.aligned s a f (told.by d g (told.sum l))) e = absurd (omega arith)
   sight-from (told.aligned s a f (told.by d g (told.past l))) e =
-      record { symbol = s; align = a; has-align = f; bits = d; has-bits = g; past = l }
+      record { symbol = s; align = a; has-align = f; skips = d; has-skips = g; past = l }
   sight-from (told.aligned s a f (told.untold why g)) e = absurd (not-five-of def (at .position) a (node .index) why g e)
 
   -- What a node sees is refused 5 only where a symbol of depth 0 is aligned past the limit,
@@ -234,8 +235,8 @@ module _ (def : Bankdef) (at : Pos) (node : Node) where
   sight-five-when p =
       ap toldMoved (pick-true _ _ (outer-symbol node .1 (p .symbol))
       ∙ ap (λ (o : Opt). labelAligned def o at (node .index)) (p .has-align)
-      ∙ ap (λ (x : Distance). movedByDistance at x (at .known) (node .index)) (p .has-bits)
-      ∙ pick-false _ _ (lt-leb (at .position + p .bits) maxPosition (p .past)))
+      ∙ ap (λ (x : Distance). movedByDistance at x (at .known) (node .index)) (p .has-skips)
+      ∙ pick-false _ _ (lt-leb (at .position + p .skips .bits) maxPosition (p .past)))
 
   sight-known-from : {t : Told Pos} (p : Pos) → Sees def at node t → t ≡ gives p → p .known ≡ at .known
   sight-known-from p (told.other h) e = ap (λ (x : Pos). x .known) (sym (gives-same e))

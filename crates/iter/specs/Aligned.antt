@@ -3,7 +3,7 @@
 use Prim.Native.Nat.{ℕ, zero, suc, _+_, _-_, _*_, _/_, _%_, _≤_, _<_}
 use mathlib.Core.Path.{_≡_, refl, sym, ap, subst, _∙_}
 use mathlib.Core.Bool.{Bool, true, false}
-use native.Mathlib.Nat.{mod-lt, mod-le, mod-self, mod-eq-of-lt, div-add-mod', add-mul, add-mul-mod-self-right, one-mul, zero-mul, suc-mul, mul-le-mul-right, lt-of-mul-lt-mul-right}
+use native.Mathlib.Nat.{mod-lt, mod-le, mod-self, mod-eq-of-lt, div-add-mod', add-mul, add-mul-mod-self-right, one-mul, zero-mul, zero-div, suc-mul, mul-le-mul-right, lt-of-mul-lt-mul-right}
 use native.Mathlib.Omega.{arith}
 use lib.Dec.{eqb, ltb}
 use lib.IntN.{ℤ, pos, negsuc, negℤ, subℕ, _+ℤ_, _*ℤ_}
@@ -13,10 +13,11 @@ use Rattle.refusal.specs.Pick.{pick, pick-true, pick-false}
 use Rattle.refusal.specs.declared.Refusal.{Refusal}
 use Rattle.refusal.specs.declared.Refusal.the-variants.{Malformed}
 use Rattle.bankdef.specs.declared.Bankdef.{Bankdef}
-use Rattle.iter.specs.Distance.{tellable, addressInBits, gap, remainder, distanceTo, distanceOf}
+use Rattle.iter.specs.Distance.{tellable, addressInBits, gap, remainder, distanceTo, skipsOf, noSkip, distanceOf}
 use Rattle.iter.specs.Signs.{neg-plus}
 use Rattle.iter.specs.declared.Distance.{Distance}
-use Rattle.iter.specs.declared.Distance.the-variants.{Bits, Refused}
+use Rattle.iter.specs.declared.Distance.the-variants.{Skips, Refused}
+use Rattle.iter.specs.declared.Skipped.{Skipped}
 
 -- d bits from the address z bring it to a multiple of a; they are fewer than a, and no fewer bits do
 pub record Aligns (z : ℤ) (a d : ℕ) : Type 0 where
@@ -196,11 +197,15 @@ remainder-remains (negsuc n) a h =
 
 -- ---- the definition followed test by test
 
-never : (why : Refusal) (d : ℕ) → Refused why ≡ Bits d → ⊥
-never why d e = let z : _≡_ {A = ℕ} 0 1 = cc in omega arith
+never : (why : Refusal) (s : Skipped) → Refused why ≡ Skips s → ⊥
+never why s e = let z : _≡_ {A = ℕ} 0 1 = cc in omega arith
 
-bits-same : (m n : ℕ) → Bits m ≡ Bits n → m ≡ n
-bits-same m n e = cc
+pub skips-same : {s t : Skipped} → Skips s ≡ Skips t → s ≡ t
+skips-same e = cc
+
+-- a distance of 0 skips no unit
+none-in : (def : Bankdef) → skipsOf def 0 ≡ noSkip
+none-in def = rw (zero-div (def .unit))
 
 module _ (def : Bankdef) (position a node : ℕ) where
   -- 4 is given exactly for a bank whose addresses cannot be told.
@@ -208,23 +213,24 @@ module _ (def : Bankdef) (position a node : ℕ) where
   unfolding distanceOf
   four-when e = pick-false _ _ e
 
-  pub told-when : tellable def ≡ true → distanceOf def position a node ≡ Bits (distanceTo (addressInBits def position) a)
+  pub told-when : tellable def ≡ true → distanceOf def position a node ≡ Skips (skipsOf def (distanceTo (addressInBits def position) a))
   unfolding distanceOf
   told-when e = pick-true _ _ e
 
-  pub to-none : tellable def ≡ true → a ≡ 0 → distanceOf def position a node ≡ Bits 0
-  to-none e z = told-when e ∙ ap (λ (x : ℕ). Bits (distanceTo (addressInBits def position) x)) z
+  pub to-none : tellable def ≡ true → a ≡ 0 → distanceOf def position a node ≡ Skips noSkip
+  to-none e z = told-when e ∙ ap (λ (x : ℕ). Skips (skipsOf def (distanceTo (addressInBits def position) x))) z
+      ∙ ap (λ (s : Skipped). Skips s) (none-in def)
 
-  pub to-some : tellable def ≡ true → (a ≡ 0 → ⊥) → distanceOf def position a node ≡ Bits (gap (remainder (addressInBits def position) a) a)
-  to-some e n = told-when e ∙ ap (λ (d : ℕ). Bits d) (pick-false _ _ (ne-eqb a 0 n))
+  pub to-some : tellable def ≡ true → (a ≡ 0 → ⊥) → distanceOf def position a node ≡ Skips (skipsOf def (gap (remainder (addressInBits def position) a) a))
+  to-some e n = told-when e ∙ ap (λ (d : ℕ). Skips (skipsOf def d)) (pick-false _ _ (ne-eqb a 0 n))
 
   pub four-only : (why : Refusal) → distanceOf def position a node ≡ Refused why → tellable def ≡ false
   four-only why e = either (tellable def) (λ t. absurd (never why _ (sym e ∙ told-when t))) (λ t. t)
 
   -- A distance that is told is the one that aligns.
-  pub told-aligns : (d : ℕ) → 0 < a → distanceOf def position a node ≡ Bits d → Aligns (addressInBits def position) a d
-  told-aligns d h e =
+  pub told-aligns : (s : Skipped) → 0 < a → distanceOf def position a node ≡ Skips s → Aligns (addressInBits def position) a (s .bits)
+  told-aligns s h e =
       either (tellable def)
-      (λ t. subst (λ (x : ℕ). Aligns (addressInBits def position) a x) (bits-same _ d (sym (told-when t) ∙ e)) (distance-aligns
+      (λ t. subst (λ (x : Skipped). Aligns (addressInBits def position) a (x .bits)) (skips-same (sym (told-when t) ∙ e)) (distance-aligns
       (addressInBits def position) a h))
-      (λ t. absurd (never (Malformed node) d (sym (four-when t) ∙ e)))
+      (λ t. absurd (never (Malformed node) s (sym (four-when t) ∙ e)))

@@ -1,5 +1,5 @@
 -- The distance to an alignment, over the integers (document 01, "The walk").
-use Prim.Native.Nat.{ℕ, suc, _-_, _%_}
+use Prim.Native.Nat.{ℕ, suc, _-_, _/_, _%_}
 use mathlib.Core.Bool.{Bool, not, _&&_}
 use lib.Dec.{eqb, leb}
 use lib.IntN.{ℤ, pos, negsuc, _+ℤ_, _*ℤ_}
@@ -8,7 +8,8 @@ use Rattle.refusal.specs.Pick.{pick}
 use Rattle.refusal.specs.declared.Refusal.the-variants.{Malformed}
 use Rattle.bankdef.specs.declared.Bankdef.{Bankdef}
 use Rattle.iter.specs.declared.Distance.{Distance}
-use Rattle.iter.specs.declared.Distance.the-variants.{Bits, Refused}
+use Rattle.iter.specs.declared.Distance.the-variants.{Skips, Refused}
+use Rattle.iter.specs.declared.Skipped.{Skipped}
 
 -- how far an address is from 0
 abbrev pub sizeOf : ℤ → ℕ
@@ -39,6 +40,14 @@ remainder (negsuc n) a = (a - suc n % a) % a
 abbrev pub distanceTo : ℤ → ℕ → ℕ
 distanceTo z a = pick (eqb a 0) 0 (gap (remainder z a) a)
 
+-- "The distance to alignment should come with the count of whole address units it skips (distance over unit, rounded down)" (document 02,
+-- Ticket 2)
+abbrev pub skipsOf : Bankdef → ℕ → Skipped
+skipsOf def bits = record { bits = bits; units = bits / def .unit }
+
+abbrev pub noSkip : Skipped
+noSkip = record { bits = 0; units = 0 }
+
 -- The distance of a position in a bank. `node` is the place of a refusal: 0 in a call of its own.
 unfoldable pub distanceOf : Bankdef → ℕ → ℕ → ℕ → Distance
-distanceOf def position a node = pick (tellable def) (Bits (distanceTo (addressInBits def position) a)) (Refused (Malformed node))
+distanceOf def position a node = pick (tellable def) (Skips (skipsOf def (distanceTo (addressInBits def position) a))) (Refused (Malformed node))

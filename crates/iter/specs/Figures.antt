@@ -1,6 +1,6 @@
--- What a caller is told of a distance, an address and a move, in document 01's figures: a case for each sentence, by plain facts. The
--- promises of `bits_until_alignment`, `seen` and `advance` use them.
-use Prim.Native.Nat.{ℕ, _+_, _≤_, _<_}
+-- What a caller is told of a distance, an address and a move, in document 01's figures, and of what is skipped: a case for each sentence,
+-- by plain facts. The promises of `bits_until_alignment`, `get_address`, `seen` and `advance` use them.
+use Prim.Native.Nat.{ℕ, suc, _+_, _*_, _≤_, _<_}
 use mathlib.Core.Path.{_≡_}
 use mathlib.Core.Bool.{Bool, true, false}
 use mathlib.Core.Logic.{_⊎_, _↔_}
@@ -12,19 +12,21 @@ use Rattle.refusal.specs.declared.Place.the-variants.{One}
 use Rattle.refusal.specs.declared.Refusal.{Refusal}
 use Rattle.bankdef.specs.declared.Bankdef.{Bankdef}
 use Rattle.iter.specs.Aligned.{Aligns}
-use Rattle.iter.specs.Distance.{tellable, addressInBits, distanceOf}
+use Rattle.iter.specs.Distance.{tellable, addressInBits, noSkip, distanceOf}
 use Rattle.iter.specs.Address.{unitsFrom}
 use Rattle.iter.specs.declared.Address.{Address}
 use Rattle.iter.specs.declared.Address.the-variants.{At, Refused as NoAddress}
 use Rattle.iter.specs.declared.Distance.{Distance}
-use Rattle.iter.specs.declared.Distance.the-variants.{Bits, Refused as NoDistance}
+use Rattle.iter.specs.declared.Distance.the-variants.{Skips, Refused as NoDistance}
+use Rattle.iter.specs.declared.Skipped.{Skipped}
+use Rattle.iter.specs.declared.Motion.{Motion}
 use Rattle.iter.specs.declared.Moved.{Moved}
 use Rattle.iter.specs.declared.Moved.the-variants.{To, Refused}
 use Rattle.iter.specs.declared.Node.{Node}
 use Rattle.iter.specs.declared.Pos.{Pos}
 
-abbrev pub toldDistance : Distance → Told ℕ
-toldDistance (Bits n) = gives n
+abbrev pub toldDistance : Distance → Told Skipped
+toldDistance (Skips s) = gives s
 toldDistance (NoDistance why) = toldRefusal why
 
 abbrev pub toldAddress : Address → Told ℤ
@@ -35,14 +37,20 @@ abbrev pub toldMoved : Moved → Told Pos
 toldMoved (To p) = gives p
 toldMoved (Refused why) = toldRefusal why
 
+-- "the count of whole address units it skips (distance over unit, rounded down)": so many fit into the bits, and one more does not
+pub record WholeUnits (unit bits units : ℕ) : Type 0 where
+  pub fit : units * unit ≤ bits
+  pub no-more : bits < suc units * unit
+
 -- The distance.
-pub data Measures (def : Bankdef) (position a node : ℕ) : Told ℕ → Type 0 where
+pub data Measures (def : Bankdef) (position a node : ℕ) : Told Skipped → Type 0 where
   -- a unit or a start beyond its limit: no address can be told
   malformed : tellable def ≡ false → Measures def position a node (refuses 4 (One node))
   -- "The distance to alignment A is 0 for A = 0."
-  none : tellable def ≡ true → a ≡ 0 → Measures def position a node (gives 0)
-  -- otherwise, on either side of 0, the least number of bits to a multiple of A
-  next : tellable def ≡ true → 0 < a → (d : ℕ) → Aligns (addressInBits def position) a d → Measures def position a node (gives d)
+  none : tellable def ≡ true → a ≡ 0 → Measures def position a node (gives noSkip)
+  -- otherwise, on either side of 0, the least number of bits to a multiple of A, and the whole units in them
+  next : tellable def ≡ true → 0 < a → (s : Skipped) → Aligns (addressInBits def position) a (s .bits) → WholeUnits (def .unit) (s .bits) (s .units)
+      → Measures def position a node (gives s)
 
 -- The address: "the start plus the whole units in the position".
 pub data Stands (def : Bankdef) (position node : ℕ) : Told ℤ → Type 0 where
@@ -56,7 +64,7 @@ pub data Adds (at : Pos) (bits : ℕ) (known : Bool) (node : ℕ) : Told Pos →
 
 -- A position moved on to an alignment: the distance is added, if it can be told.
 pub data Aligning (def : Bankdef) (at : Pos) (a : ℕ) (known : Bool) (node : ℕ) : Told Pos → Type 0 where
-  by : (d : ℕ) {t : Told Pos} → distanceOf def (at .position) a node ≡ Bits d → Adds at d known node t → Aligning def at a known node t
+  by : (s : Skipped) {t : Told Pos} → distanceOf def (at .position) a node ≡ Skips s → Adds at (s .bits) known node t → Aligning def at a known node t
   untold : (why : Refusal) → distanceOf def (at .position) a node ≡ NoDistance why → Aligning def at a known node (toldRefusal why)
 
 -- "a symbol (label or constant) of depth 0"
@@ -96,3 +104,32 @@ pub data Advances (def : Bankdef) (at : Pos) (node : Node) : Told Pos → Type 0
   -- "9 sets the position", "9 makes it so exactly if state is 0"
   sets : SoundState node → node .kind ≡ 9 → (known : Bool) → (known ≡ true) ↔ (node .state ≡ 0)
       → Advances def at node (gives (record { position = node .number; known = known }))
+
+-- ---- what is skipped (document 02, Ticket 2)
+
+-- A move to an alignment skips what its distance says; one that is refused skips nothing, as does a distance that cannot be told.
+pub data Skipping (def : Bankdef) (at : Pos) (a node : ℕ) : Moved → Skipped → Type 0 where
+  by : {p : Pos} {s : Skipped} → distanceOf def (at .position) a node ≡ Skips s → Skipping def at a node (To p) s
+  refused : {why : Refusal} → Skipping def at a node (Refused why) noSkip
+  untold : {m : Moved} (why : Refusal) → distanceOf def (at .position) a node ≡ NoDistance why → Skipping def at a node m noSkip
+
+-- To what a node sees: label alignment of a symbol of depth 0, label or constant.
+pub data SightSkips (def : Bankdef) (at : Pos) (node : Node) : Moved → Skipped → Type 0 where
+  other : {m : Moved} → (OuterSymbol node → ⊥) → SightSkips def at node m noSkip
+  unaligned : {m : Moved} → def .align ≡ None → SightSkips def at node m noSkip
+  aligned : {m : Moved} {s : Skipped} → OuterSymbol node → (a : ℕ) → def .align ≡ Some a → Skipping def at a (node .index) m s
+      → SightSkips def at node m s
+
+-- In its own advance: `align`, and no other kind. "An `addr` that moves the position is not padding."
+pub data OwnSkips (def : Bankdef) (at : Pos) (node : Node) : Moved → Skipped → Type 0 where
+  other : {m : Moved} → (node .kind ≡ 8 → ⊥) → OwnSkips def at node m noSkip
+  aligns : {m : Moved} {s : Skipped} → node .kind ≡ 8 → Skipping def at (node .number) (node .index) m s → OwnSkips def at node m s
+
+-- The figures of `seen` and of `advance`: of the position, and of what is skipped.
+pub record SightTold (def : Bankdef) (at : Pos) (node : Node) (r : Motion) : Type 0 where
+  pub sees : Sees def at node (toldMoved (r .to))
+  pub skips : SightSkips def at node (r .to) (r .skipped)
+
+pub record AdvanceTold (def : Bankdef) (at : Pos) (node : Node) (r : Motion) : Type 0 where
+  pub moves : Advances def at node (toldMoved (r .to))
+  pub skips : OwnSkips def at node (r .to) (r .skipped)

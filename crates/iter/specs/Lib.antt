@@ -11,6 +11,7 @@ pub mod Signs
 pub mod Step
 pub mod StepCases
 pub mod StepFacts
+pub mod StepFigures
 pub mod Told
 pub mod ToldFacts
 pub mod WithinLimit

@@ -5,16 +5,19 @@ use lib.Dec.{eqb, leb, ltb}
 use lib.ListN.{getD, set, replicate}
 use Rattle.refusal.specs.Limits.{maxBanks, maxPosition}
 use Rattle.refusal.specs.Pick.{pick}
+use Rattle.refusal.specs.declared.Refusal.{Refusal}
 use Rattle.refusal.specs.declared.Refusal.the-variants.{Malformed, PositionPast}
 use Rattle.refusal.specs.declared.Opt.{Opt}
 use Rattle.refusal.specs.declared.Opt.the-variants.{None, Some}
 use Rattle.bankdef.specs.declared.Bankdef.{Bankdef}
-use Rattle.iter.specs.Distance.{distanceOf}
+use Rattle.iter.specs.Distance.{noSkip, distanceOf}
 use Rattle.iter.specs.declared.Distance.{Distance}
-use Rattle.iter.specs.declared.Distance.the-variants.{Bits, Refused as NoDistance}
+use Rattle.iter.specs.declared.Distance.the-variants.{Skips, Refused as NoDistance}
 use Rattle.iter.specs.declared.Pos.{Pos}
 use Rattle.iter.specs.declared.Node.{Node}
 use Rattle.iter.specs.declared.Walk.{Walk}
+use Rattle.iter.specs.declared.Skipped.{Skipped}
+use Rattle.iter.specs.declared.Motion.{Motion}
 use Rattle.iter.specs.declared.Stepped.{Stepped}
 use Rattle.iter.specs.declared.Moved.{Moved}
 use Rattle.iter.specs.declared.Moved.the-variants.{To, Refused}
@@ -23,9 +26,9 @@ use Rattle.iter.specs.declared.Moved.the-variants.{To, Refused}
 abbrev pub origin : Pos
 origin = record { position = 0; known = true }
 
--- "Each bank's position starts at 0, known .. The walk begins in bank 0."
+-- "Each bank's position starts at 0, known .. The walk begins in bank 0." No bank has lost a bit.
 unfoldable pub startOf : Walk
-startOf = record { at = replicate maxBanks origin; bank = 0 }
+startOf = record { at = replicate maxBanks origin; lost = replicate maxBanks 0; bank = 0 }
 
 -- "5: a position would pass 4,294,967,295"
 abbrev pub movedBy : Pos → ℕ → Bool → ℕ → Moved
@@ -35,7 +38,7 @@ movedBy at bits known node =
     (Refused (PositionPast node))
 
 abbrev pub movedByDistance : Pos → Distance → Bool → ℕ → Moved
-movedByDistance at (Bits bits) known node = movedBy at bits known node
+movedByDistance at (Skips s) known node = movedBy at (s .bits) known node
 movedByDistance at (NoDistance why) known node = Refused why
 
 -- "8 adds the distance to alignment"
@@ -77,21 +80,86 @@ movedOn def at node =
 unfoldable pub advancedOf : Bankdef → Pos → Node → Moved
 advancedOf def at node = pick (badState node) (Refused (Malformed (node .index))) (movedOn def at node)
 
+-- ---- what is skipped (document 02, Ticket 2)
+
+-- "Everything that uses the distance passes both on": what a distance skips; one that cannot be told skips nothing.
+abbrev pub skipsBy : Distance → Skipped
+skipsBy (Skips s) = s
+skipsBy (NoDistance why) = noSkip
+
+-- a move that is refused skips nothing
+abbrev pub whenMade : Moved → Skipped → Skipped
+whenMade (To p) s = s
+whenMade (Refused why) s = noSkip
+
+-- a move, and what it skips
+abbrev pub motionOf : Moved → Skipped → Motion
+motionOf m s = record { to = m; skipped = whenMade m s }
+
+abbrev pub still : Moved → Motion
+still m = record { to = m; skipped = noSkip }
+
+abbrev pub alignedMotion : Bankdef → Pos → ℕ → Bool → ℕ → Motion
+alignedMotion def at a known node = motionOf (alignedTo def at a known node) (skipsBy (distanceOf def (at .position) a node))
+
+-- "label alignment": in a bank that has it
+abbrev pub labelSkips : Bankdef → Opt → Pos → ℕ → Skipped
+labelSkips def None at node = noSkip
+labelSkips def (Some a) at node = skipsBy (distanceOf def (at .position) a node)
+
+-- what is skipped to the position that a node sees: a symbol of depth 0 is aligned, no other node is
+unfoldable pub seenSkips : Bankdef → Pos → Node → Skipped
+seenSkips def at node = whenMade (seenOf def at node) (pick (outermostSymbol node) (labelSkips def (def .align) at (node .index)) noSkip)
+
+abbrev pub seenMotion : Bankdef → Pos → Node → Motion
+seenMotion def at node = record { to = seenOf def at node; skipped = seenSkips def at node }
+
+-- what a node's own advance skips: an `align` its distance. "An `addr` that moves the position is not padding"; no other node aligns.
+unfoldable pub advanceSkips : Bankdef → Pos → Node → Skipped
+advanceSkips def at node =
+    whenMade (advancedOf def at node) (pick (eqb (node .kind) 8) (skipsBy (distanceOf def (at .position) (node .number) (node .index))) noSkip)
+
+abbrev pub advanceMotion : Bankdef → Pos → Node → Motion
+advanceMotion def at node = record { to = advancedOf def at node; skipped = advanceSkips def at node }
+
+-- "bits lost to `align` and to label alignment": an `align`'s own, and else what the node's sight skips
+abbrev pub counted : Node → Skipped → Skipped → Skipped
+counted node sight own = pick (eqb (node .kind) 8) own sight
+
+-- "each bank should carry the sum of bits lost": it stops at the largest number of 64 bits, which no walk from the start comes to
+-- (specs/Padding)
+abbrev pub maxSum : ℕ
+maxSum = 18446744073709551615
+
+abbrev pub lostAfter : ℕ → ℕ → ℕ
+lostAfter lost bits = pick (leb (lost + bits) maxSum) (lost + bits) maxSum
+
+-- ---- the step
+
 -- "1 bank switch": "The operand is a bank for 1"
 abbrev pub bankAfter : ℕ → Node → ℕ
 bankAfter bank node = pick (eqb (node .kind) 1) (node .operand) bank
 
--- "Each bank's position .. is kept through switches."
-abbrev pub kept : Walk → ℕ → Pos → Walk
-kept walk bank p = record { at = set (walk .at) bank p; bank = bank }
+-- "Each bank's position .. is kept through switches", and so is the sum of bits that it lost.
+abbrev pub kept : Walk → ℕ → Pos → ℕ → Walk
+kept walk bank p bits =
+    record { at = set (walk .at) bank p; lost = set (walk .lost) bank (lostAfter (getD (walk .lost) bank 0) bits); bank = bank }
 
-abbrev pub steppedTo : Walk → ℕ → Pos → Moved → Stepped
-steppedTo walk bank p (To q) = record { seen = To p; walk = kept walk bank q }
-steppedTo walk bank p (Refused why) = record { seen = Refused why; walk = walk }
+-- a step that is refused
+abbrev pub stopped : Walk → Refusal → Stepped
+stopped walk why = record { seen = Refused why; skipped = noSkip; walk = walk }
+
+abbrev pub steppedTo : Walk → ℕ → Pos → Skipped → Moved → Stepped
+steppedTo walk bank p s (To q) = record { seen = To p; skipped = s; walk = kept walk bank q (s .bits) }
+steppedTo walk bank p s (Refused why) = stopped walk why
+
+-- what a step counts in the bank that its node stands in, from the position there to the one that the node sees
+abbrev pub stepSkips : Bankdef → Pos → Pos → Node → Skipped
+stepSkips def at p node = counted node (seenSkips def at node) (advanceSkips def p node)
 
 abbrev pub steppedFrom : Bankdef → Walk → ℕ → Node → Moved → Stepped
-steppedFrom def walk bank node (To p) = steppedTo walk bank p (advancedOf def p node)
-steppedFrom def walk bank node (Refused why) = record { seen = Refused why; walk = walk }
+steppedFrom def walk bank node (To p) = steppedTo walk bank p (stepSkips def (getD (walk .at) bank origin) p node) (advancedOf def p node)
+steppedFrom def walk bank node (Refused why) = stopped walk why
 
 -- "4: .. a call's number is malformed: .. bank number, state"
 abbrev pub malformed : ℕ → Node → Bool
@@ -103,5 +171,5 @@ unfoldable pub stepOf : Bankdef → Walk → Node → Stepped
 stepOf def walk node =
     let bank = bankAfter (walk .bank) node in
     pick (malformed bank node)
-    (record { seen = Refused (Malformed (node .index)); walk = walk })
+    (stopped walk (Malformed (node .index)))
     (steppedFrom def walk bank node (seenOf def (getD (walk .at) bank origin) node))

@@ -6,7 +6,7 @@ use Rattle.refusal.specs.Pick.{pick}
 use Rattle.refusal.specs.declared.Refusal.{Refusal}
 use Rattle.refusal.specs.declared.Refusal.the-variants.{Malformed}
 use Rattle.bankdef.specs.declared.Bankdef.{Bankdef}
-use Rattle.iter.specs.Step.{origin, seenOf, advancedOf, bankAfter, kept, steppedTo, steppedFrom, malformed, stepOf}
+use Rattle.iter.specs.Step.{origin, seenOf, advancedOf, bankAfter, kept, stopped, stepSkips, steppedTo, steppedFrom, malformed, stepOf}
 use Rattle.iter.specs.declared.Pos.{Pos}
 use Rattle.iter.specs.declared.Node.{Node}
 use Rattle.iter.specs.declared.Walk.{Walk}
@@ -19,17 +19,21 @@ abbrev pub standing : Walk → Node → Pos
 standing walk node = getD (walk .at) (bankAfter (walk .bank) node) origin
 
 module _ (def : Bankdef) (walk : Walk) (node : Node) (P : Stepped → Type 0)
-    (refused : (why : Refusal) → P (record { seen = Refused why; walk = walk }))
+    (refused : (why : Refusal) → P (stopped walk why))
     (moved : (p q : Pos) → seenOf def (standing walk node) node ≡ To p → advancedOf def p node ≡ To q
-    → P (record { seen = To p; walk = kept walk (bankAfter (walk .bank) node) q }))
+    → P (record {
+      seen = To p;
+      skipped = stepSkips def (standing walk node) p node;
+      walk = kept walk (bankAfter (walk .bank) node) q (stepSkips def (standing walk node) p node .bits);
+    }))
   where
     after-advance : (p : Pos) → seenOf def (standing walk node) node ≡ To p → (m : Moved) → advancedOf def p node ≡ m
-        → P (steppedTo walk (bankAfter (walk .bank) node) p m)
+        → P (steppedTo walk (bankAfter (walk .bank) node) p (stepSkips def (standing walk node) p node) m)
     after-advance p s (To q) a = moved p q s a
     after-advance p s (Refused why) a = refused why
 
     after-sight : (t : Bool) (m : Moved) → seenOf def (standing walk node) node ≡ m
-        → P (pick t (record { seen = Refused (Malformed (node .index)); walk = walk })
+        → P (pick t (stopped walk (Malformed (node .index)))
         (steppedFrom def walk (bankAfter (walk .bank) node) node m))
     after-sight true m s = refused (Malformed (node .index))
     after-sight false (To p) s = after-advance p s (advancedOf def p node) refl

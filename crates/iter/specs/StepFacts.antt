@@ -22,7 +22,8 @@ use Rattle.iter.specs.Advance.{outside}
 use Rattle.iter.specs.Figures.{toldMoved}
 use Rattle.iter.specs.Distance.{distanceOf}
 use Rattle.iter.specs.declared.Distance.{Distance}
-use Rattle.iter.specs.declared.Distance.the-variants.{Bits}
+use Rattle.iter.specs.declared.Distance.the-variants.{Skips}
+use Rattle.iter.specs.declared.Skipped.{Skipped}
 use Rattle.iter.specs.StepCases.{standing, step-cases}
 use Rattle.iter.specs.declared.Pos.{Pos}
 use Rattle.iter.specs.declared.Node.{Node}
@@ -124,10 +125,11 @@ unfolding seenOf
 sees-unaligned def at node e = unaligned (outermostSymbol node) def (def .align) at (node .index) e
 
 -- A symbol of depth 0, label or constant, in a bank with label alignment sees the position moved on by the distance, as well known as before.
-pub sees-aligned : (def : Bankdef) (at : Pos) (node : Node) (a d : ℕ) → outermostSymbol node ≡ true → def .align ≡ Some a → distanceOf def (at .position) a
-    (node .index) ≡ Bits d → at .position + d ≤ maxPosition → seenOf def at node ≡ To (record { position = at .position + d; known = at .known })
+pub sees-aligned : (def : Bankdef) (at : Pos) (node : Node) (a : ℕ) (s : Skipped) → outermostSymbol node ≡ true → def .align ≡ Some a → distanceOf def (at .position) a
+    (node .index) ≡ Skips s → at .position + s .bits ≤ maxPosition
+    → seenOf def at node ≡ To (record { position = at .position + s .bits; known = at .known })
 unfolding seenOf
-sees-aligned def at node a d t e h k =
+sees-aligned def at node a s t e h k =
     pick-true _ _ t ∙ ap (λ (o : Opt). labelAligned def o at (node .index)) e
     ∙ ap (λ (x : Distance). movedByDistance at x (at .known) (node .index)) h
-    ∙ pick-true _ _ (le-leb (at .position + d) maxPosition k)
+    ∙ pick-true _ _ (le-leb (at .position + s .bits) maxPosition k)

@@ -1,12 +1,13 @@
 -- The definitions of distance, address, sight and advance say what specs/Figures has, case by case; and 5 is given exactly when a sum
 -- passes the limit.
-use Prim.Native.Nat.{ℕ, _+_, _≤_, _<_, _%_}
+use Prim.Native.Nat.{ℕ, suc, _+_, _*_, _/_, _≤_, _<_, _%_}
 use mathlib.Core.Path.{_≡_, refl, sym, ap, subst, _∙_}
-use mathlib.Core.Bool.{Bool, true, false, _&&_, _||_}
+use mathlib.Core.Bool.{Bool, true, false, not, _&&_, _||_}
 use mathlib.Core.Logic.{_⊎_, inl, inr, _↔_}
+use native.Mathlib.Nat.{zero-div, suc-mul, div-mul-le-self, lt-div-mul-add}
 use native.Mathlib.Omega.{arith}
 use lib.Dec.{eqb, ltb, leb}
-use borrow.Author.Tests.{ltb-true, ltb-false, leb-true, leb-false, eqb-true, eqb-false, eq-eqb, ne-eqb, lt-ltb, lt-leb, le-leb}
+use borrow.Author.Tests.{ltb-true, ltb-false, leb-true, leb-false, eqb-true, eqb-false, eq-eqb, ne-eqb, not-true, lt-ltb, lt-leb, le-leb}
 use Rattle.refusal.specs.Bools.{either, clash, both, neither}
 use Rattle.refusal.specs.Limits.{maxPosition}
 use Rattle.refusal.specs.Pick.{pick, pick-true, pick-false}
@@ -20,13 +21,16 @@ use Rattle.bankdef.specs.declared.Bankdef.{Bankdef}
 use Rattle.iter.specs.Address.{unitsFrom, addressOf}
 use Rattle.iter.specs.Advance.{bad-state, sound-state, early, item, aligning, setting, asserting, other}
 use Rattle.iter.specs.Aligned.{distance-aligns}
-use Rattle.iter.specs.Distance.{tellable, addressInBits, distanceTo, distanceOf}
+use Rattle.iter.specs.Distance.{tellable, addressInBits, distanceTo, skipsOf, noSkip, distanceOf}
 use Rattle.iter.specs.Figures as told
-use Rattle.iter.specs.Figures.{toldDistance, toldAddress, toldMoved, Measures, Stands, Adds, Aligning, OuterSymbol, Sees, Keeps, SoundState, Advances}
+use Rattle.iter.specs.Figures.{toldDistance, toldAddress, toldMoved, WholeUnits, Measures, Stands, Adds, Aligning, OuterSymbol, Sees, Keeps, SoundState, Advances, Skipping, SightSkips, OwnSkips, SightTold, AdvanceTold}
 use Rattle.iter.specs.Known.{staysKnown}
-use Rattle.iter.specs.Step.{movedBy, movedByDistance, alignedTo, outermostSymbol, labelAligned, seenOf, resolved, badState, movedOn, advancedOf}
+use Rattle.iter.specs.Step.{movedBy, movedByDistance, alignedTo, outermostSymbol, labelAligned, seenOf, resolved, badState, movedOn, advancedOf, skipsBy, whenMade, labelSkips, seenSkips, seenMotion, advanceSkips, advanceMotion}
 use Rattle.iter.specs.declared.Distance.{Distance}
-use Rattle.iter.specs.declared.Distance.the-variants.{Bits, Refused as NoDistance}
+use Rattle.iter.specs.declared.Distance.the-variants.{Skips, Refused as NoDistance}
+use Rattle.iter.specs.declared.Skipped.{Skipped}
+use Rattle.iter.specs.declared.Motion.{Motion}
+use Rattle.iter.specs.declared.Address.{Address}
 use Rattle.iter.specs.declared.Address.the-variants.{At, Refused as NoAddress}
 use Rattle.iter.specs.declared.Moved.{Moved}
 use Rattle.iter.specs.declared.Moved.the-variants.{To, Refused}
@@ -35,15 +39,28 @@ use Rattle.iter.specs.declared.Pos.{Pos}
 
 -- ---- the distance and the address
 
+-- a bank whose addresses can be told has a unit
+pub has-unit : (def : Bankdef) → tellable def ≡ true → 0 < def .unit
+has-unit def e = some (def .unit) (eqb-false (def .unit) 0 (not-true (eqb (def .unit) 0) (both (not (eqb (def .unit) 0)) _ e .0)))
+  where
+    some : (u : ℕ) → (u ≡ 0 → ⊥) → 0 < u
+    some u h = omega (arith, h)
+
+-- The quotient is the count of whole units.
+pub whole-units : (unit bits : ℕ) → 0 < unit → WholeUnits unit bits (bits / unit)
+whole-units unit bits h =
+    record { fit = div-mul-le-self bits unit; no-more = rw (suc-mul (bits / unit) unit) (lt-div-mul-add h) }
+
 module _ (def : Bankdef) (position a node : ℕ) where
   measured : (t : Bool) → tellable def ≡ t
-      → Measures def position a node (toldDistance (pick t (Bits (distanceTo (addressInBits def position) a)) (NoDistance (Malformed node))))
+      → Measures def position a node (toldDistance (pick t (Skips (skipsOf def (distanceTo (addressInBits def position) a))) (NoDistance (Malformed node))))
   measured false e = told.malformed e
   measured true e =
       either (eqb a 0)
-      (λ f. rw f (told.none e (eqb-true a 0 f)))
+      (λ f. rw (f, zero-div (def .unit)) (told.none e (eqb-true a 0 f)))
       (λ f. let h : 0 < a = omega (arith, eqb-false a 0 f) in
-      told.next e h (distanceTo (addressInBits def position) a) (distance-aligns (addressInBits def position) a h))
+      let d = distanceTo (addressInBits def position) a in
+      told.next e h (skipsOf def d) (distance-aligns (addressInBits def position) a h) (whole-units (def .unit) d (has-unit def e)))
 
   -- What is told of a distance.
   pub distance-told : Measures def position a node (toldDistance (distanceOf def position a node))
@@ -55,6 +72,14 @@ module _ (def : Bankdef) (position a node : ℕ) where
   distance-answers e = (e, subst (λ (r : Distance). Measures def position a node (toldDistance r)) (sym e) distance-told)
 
 module _ (def : Bankdef) (position node : ℕ) where
+  pub address-when : tellable def ≡ true → addressOf def position node ≡ At (unitsFrom def position)
+  unfolding addressOf
+  address-when e = pick-true _ _ e
+
+  pub address-four : tellable def ≡ false → addressOf def position node ≡ NoAddress (Malformed node)
+  unfolding addressOf
+  address-four e = pick-false _ _ e
+
   stood : (t : Bool) → tellable def ≡ t → Stands def position node (toldAddress (pick t (At (unitsFrom def position)) (NoAddress (Malformed node))))
   stood true e = told.at e
   stood false e = told.malformed e
@@ -63,6 +88,9 @@ module _ (def : Bankdef) (position node : ℕ) where
   pub address-told : Stands def position node (toldAddress (addressOf def position node))
   unfolding addressOf
   address-told = stood (tellable def) refl
+
+  pub address-answers : {r : Address} → r ≡ addressOf def position node → (r ≡ addressOf def position node) × Stands def position node (toldAddress r)
+  address-answers e = (e, subst (λ (r : Address). Stands def position node (toldAddress r)) (sym e) address-told)
 
 -- ---- sums
 
@@ -74,11 +102,27 @@ added at bits known node =
 
 aligning-by : (def : Bankdef) (at : Pos) (a : ℕ) (known : Bool) (node : ℕ) (d : Distance) → distanceOf def (at .position) a node ≡ d
     → Aligning def at a known node (toldMoved (movedByDistance at d known node))
-aligning-by def at a known node (Bits d) e = told.by d e (added at d known node)
+aligning-by def at a known node (Skips s) e = told.by s e (added at (s .bits) known node)
 aligning-by def at a known node (NoDistance why) e = told.untold why e
 
 aligning-told : (def : Bankdef) (at : Pos) (a : ℕ) (known : Bool) (node : ℕ) → Aligning def at a known node (toldMoved (alignedTo def at a known node))
 aligning-told def at a known node = aligning-by def at a known node (distanceOf def (at .position) a node) refl
+
+-- ---- what is skipped
+
+-- a move that skips nothing skips nothing, made or refused
+pub none-skipped : (m : Moved) → whenMade m noSkip ≡ noSkip
+none-skipped (To p) = refl
+none-skipped (Refused why) = refl
+
+module _ (def : Bankdef) (at : Pos) (a node : ℕ) where
+  skipping-by : (m : Moved) (d : Distance) → distanceOf def (at .position) a node ≡ d → Skipping def at a node m (whenMade m (skipsBy d))
+  skipping-by (To p) (Skips s) e = told.by e
+  skipping-by (To p) (NoDistance why) e = told.untold why e
+  skipping-by (Refused why) d e = told.refused
+
+  skipping-told : (m : Moved) → Skipping def at a node m (whenMade m (skipsBy (distanceOf def (at .position) a node)))
+  skipping-told m = skipping-by m (distanceOf def (at .position) a node) refl
 
 -- ---- what a node sees
 
@@ -112,8 +156,21 @@ module _ (def : Bankdef) (at : Pos) (node : Node) where
       (λ e. rw e (by-label (def .align) refl (outer-symbol node .0 e)))
       (λ e. rw e (told.other (λ s. clash (outer-symbol node .1 s) e)))
 
-  pub sight-answers : {r : Moved} → r ≡ seenOf def at node → (r ≡ seenOf def at node) × Sees def at node (toldMoved r)
-  sight-answers e = (e, subst (λ (r : Moved). Sees def at node (toldMoved r)) (sym e) sight-told)
+  by-alignment : (o : Opt) → def .align ≡ o → OuterSymbol node → (m : Moved)
+      → SightSkips def at node m (whenMade m (labelSkips def o at (node .index)))
+  by-alignment None e s m = rw (none-skipped m) (told.unaligned e)
+  by-alignment (Some a) e s m = told.aligned s a e (skipping-told def at a (node .index) m)
+
+  -- What is told of what is skipped to it.
+  pub sight-skips : SightSkips def at node (seenOf def at node) (seenSkips def at node)
+  unfolding seenSkips
+  sight-skips =
+      either (outermostSymbol node)
+      (λ e. rw e (by-alignment (def .align) refl (outer-symbol node .0 e) (seenOf def at node)))
+      (λ e. rw (e, none-skipped (seenOf def at node)) (told.other (λ s. clash (outer-symbol node .1 s) e)))
+
+  pub sight-answers : {r : Motion} → r ≡ seenMotion def at node → (r ≡ seenMotion def at node) × SightTold def at node r
+  sight-answers e = (e, subst (λ (r : Motion). SightTold def at node r) (sym e) (record { sees = sight-told; skips = sight-skips }))
 
 -- ---- known-ness
 
@@ -129,7 +186,7 @@ known-keeps was node = record {
 
 -- ---- the advance
 
-sound-of : (node : Node) → badState node ≡ false → SoundState node
+pub sound-of : (node : Node) → badState node ≡ false → SoundState node
 sound-of node e h =
     either (ltb 2 (node .state))
     (λ t. absurd (clash (rw (le-leb 3 (node .kind) h) t) e))
@@ -173,5 +230,13 @@ module _ (def : Bankdef) (at : Pos) (node : Node) where
       told-as (bad-state def at node e) (told.badly (leb-true 3 (node .kind) (t .0)) (ltb-true 2 (node .state) (t .1))))
       (λ e. by-kind (sound-of node e) (sound-state def at node e))
 
-  pub advance-answers : {r : Moved} → r ≡ advancedOf def at node → (r ≡ advancedOf def at node) × Advances def at node (toldMoved r)
-  advance-answers e = (e, subst (λ (r : Moved). Advances def at node (toldMoved r)) (sym e) advance-told)
+  -- What is told of what it skips.
+  pub own-skips : OwnSkips def at node (advancedOf def at node) (advanceSkips def at node)
+  unfolding advanceSkips
+  own-skips =
+      either (eqb (node .kind) 8)
+      (λ e. rw e (told.aligns (eqb-true (node .kind) 8 e) (skipping-told def at (node .number) (node .index) (advancedOf def at node))))
+      (λ e. rw (e, none-skipped (advancedOf def at node)) (told.other (eqb-false (node .kind) 8 e)))
+
+  pub advance-answers : {r : Motion} → r ≡ advanceMotion def at node → (r ≡ advanceMotion def at node) × AdvanceTold def at node r
+  advance-answers e = (e, subst (λ (r : Motion). AdvanceTold def at node r) (sym e) (record { moves = advance-told; skips = own-skips }))

@@ -15,7 +15,7 @@ use Rattle.iter.specs.Distance.{distanceOf}
 use Rattle.iter.specs.Step.{origin, startOf, movedBy, movedByDistance, alignedTo, outermostSymbol, labelAligned, seenOf, resolved, badState, movedOn, advancedOf, bankAfter, stepOf}
 use Rattle.iter.specs.StepCases.{standing, step-cases}
 use Rattle.iter.specs.declared.Distance.{Distance}
-use Rattle.iter.specs.declared.Distance.the-variants.{Bits, Refused as NoDistance}
+use Rattle.iter.specs.declared.Distance.the-variants.{Skips, Refused as NoDistance}
 use Rattle.iter.specs.declared.Pos.{Pos}
 use Rattle.iter.specs.declared.Node.{Node}
 use Rattle.iter.specs.declared.Walk.{Walk}
@@ -45,7 +45,7 @@ moved-within at bits known node =
     either Within (leb (at .position + bits) maxPosition) _ _ (leb-true (at .position + bits) maxPosition) (λ e. tt)
 
 by-distance : (at : Pos) (x : Distance) (known : Bool) (node : ℕ) → Within (movedByDistance at x known node)
-by-distance at (Bits bits) known node = moved-within at bits known node
+by-distance at (Skips s) known node = moved-within at (s .bits) known node
 by-distance at (NoDistance why) known node = tt
 
 aligned-within : (def : Bankdef) (at : Pos) (a : ℕ) (known : Bool) (node : ℕ) → Within (alignedTo def at a known node)

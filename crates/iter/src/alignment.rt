@@ -1,12 +1,13 @@
 // The distance to an alignment: the Rust's `bits_until_alignment`, over the address in bits.
 use crate::Distance;
+use crate::Skipped;
 use bankdef::Bankdef;
 use bankdef::magnitude;
 use refusal::Refusal;
 ghost use mathlib.Core.Path.{_≡_};
 ghost use mathlib.Core.Bool.{true};
 ghost use Prim.Native.Nat.{_<_};
-ghost use Rattle.iter.specs.Distance.{tellable, addressInBits, gap, distanceOf};
+ghost use Rattle.iter.specs.Distance.{tellable, addressInBits, gap, skipsOf, distanceOf};
 ghost use Rattle.iter.specs.Figures.{toldDistance, Measures};
 ghost use Rattle.iter.specs.Signs.{inBits, remainderOf};
 
@@ -66,7 +67,18 @@ fn gap_to(r: u32, alignment: u32) -> u32
     if r == 0 { 0 } else { alignment - r }
 }
 
-// The bits from a position to the next multiple of the alignment. `node` is the place of a refusal.
+// "the count of whole address units it skips (distance over unit, rounded down)"
+fn in_units(def: Bankdef, bits: u32) -> Skipped
+    requires { ⌜ tellable def ≡ true ⌝ }
+    ensures { λ r. ⌜ r ≡ skipsOf def bits ⌝ }
+{
+    Skipped {
+        bits,
+        units: bits / (def.unit as u32),
+    }
+}
+
+// The way from a position to the next multiple of the alignment. `node` is the place of a refusal.
 pub fn bits_until_alignment(def: Bankdef, position: u32, alignment: u32, node: u64) -> Distance
     ensures { λ r. ⌜ r ≡ distanceOf def position alignment node ⌝ }
     ensures told { λ r. ⌜ Measures def position alignment node (toldDistance r) ⌝ }
@@ -75,8 +87,8 @@ pub fn bits_until_alignment(def: Bankdef, position: u32, alignment: u32, node: u
         return Distance::Refused(Refusal::Malformed(node));
     }
     if alignment == 0 {
-        return Distance::Bits(0);
+        return Distance::Skips(Skipped { bits: 0, units: 0 });
     }
     let r = remainder_by(address_in_bits(def, position), alignment);
-    Distance::Bits(gap_to(r, alignment))
+    Distance::Skips(in_units(def, gap_to(r, alignment)))
 }

@@ -21,10 +21,11 @@ pub struct Pos {
     pub known: bool,
 }
 
-// The walk's state, handed in and back by value: "bank positions, an array of 16 in the walk's state", and the bank that the
-// walk stands in.
+// The walk's state, handed in and back by value: "bank positions, an array of 16 in the walk's state", the bits that each bank
+// has lost to alignment so far, and the bank that the walk stands in.
 pub struct Walk {
     pub at: [Pos; 16],
+    pub lost: [u64; 16],
     pub bank: u64,
 }
 
@@ -37,9 +38,15 @@ pub struct Node {
     pub state: u8,
 }
 
-// The bits until an alignment.
+// What a distance skips: its bits, and "the count of whole address units" in them.
+pub struct Skipped {
+    pub bits: u32,
+    pub units: u32,
+}
+
+// The distance to an alignment.
 pub enum Distance {
-    Bits(u32),
+    Skips(Skipped),
     Refused(Refusal),
 }
 
@@ -55,8 +62,16 @@ pub enum Moved {
     Refused(Refusal),
 }
 
-// A step of the walk: the position that the node sees, and the walk after it. Refused, the walk is the walk given.
+// A position that a node sees or moves to, and what is skipped on the way. Refused, nothing is.
+pub struct Motion {
+    pub to: Moved,
+    pub skipped: Skipped,
+}
+
+// A step of the walk: the position that the node sees, what its alignment skips, and the walk after it. Refused, nothing is
+// skipped and the walk is the walk given.
 pub struct Stepped {
     pub seen: Moved,
+    pub skipped: Skipped,
     pub walk: Walk,
 }

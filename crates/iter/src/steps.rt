@@ -1,8 +1,10 @@
 // The walk from node to node, by value.
 use crate::Distance;
+use crate::Motion;
 use crate::Moved;
 use crate::Node;
 use crate::Pos;
+use crate::Skipped;
 use crate::Stepped;
 use crate::Walk;
 use crate::alignment::bits_until_alignment;
@@ -11,10 +13,17 @@ use refusal::Opt;
 use refusal::Refusal;
 ghost use mathlib.Core.Path.{_≡_};
 ghost use mathlib.Core.Bool.{_||_};
+ghost use Prim.Native.Nat.{_<_};
 ghost use lib.Dec.{eqb};
-ghost use Rattle.iter.specs.Step.{movedBy, alignedTo, startOf, bankAfter, outermostSymbol, seenOf, badState, advancedOf, malformed, stepOf};
+ghost use Rattle.refusal.specs.Limits.{maxBanks};
+ghost use Rattle.iter.specs.Step.{movedBy, startOf, bankAfter, outermostSymbol, badState, malformed};
+ghost use Rattle.iter.specs.Step.{still, motionOf, alignedMotion, seenMotion, advanceMotion, counted, lostAfter, kept, stopped, stepOf};
 ghost use Rattle.iter.specs.Known.{staysKnown};
-ghost use Rattle.iter.specs.Figures.{toldMoved, Sees, Advances};
+ghost use Rattle.iter.specs.Figures.{SightTold, AdvanceTold};
+ghost use Rattle.iter.specs.StepFigures.{StepTold};
+
+// A sum of bits stops here: it is the largest number of 64 bits.
+const MAX_SUM: u64 = 18_446_744_073_709_551_615;
 
 // A sum of a position and bits, where it stays within the limit.
 fn moved_by(at: Pos, bits: u32, known: bool, node: u64) -> Moved
@@ -31,13 +40,36 @@ fn moved_by(at: Pos, bits: u32, known: bool, node: u64) -> Moved
     }
 }
 
-// A position moved on to an alignment.
-fn aligned_to(def: Bankdef, at: Pos, alignment: u32, known: bool, node: u64) -> Moved
-    ensures { λ r. ⌜ r ≡ alignedTo def at alignment known node ⌝ }
+// A move that skips nothing.
+fn unskipped(to: Moved) -> Motion
+    ensures { λ r. ⌜ r ≡ still to ⌝ }
+{
+    Motion {
+        to,
+        skipped: Skipped { bits: 0, units: 0 },
+    }
+}
+
+// A move by a distance. Refused, nothing is skipped.
+fn skipping(to: Moved, skipped: Skipped) -> Motion
+    ensures { λ r. ⌜ r ≡ motionOf to skipped ⌝ }
+{
+    match to {
+        Moved::To(p) => Motion {
+            to: Moved::To(p),
+            skipped,
+        },
+        Moved::Refused(why) => unskipped(Moved::Refused(why)),
+    }
+}
+
+// A position moved on to an alignment, and what it skips.
+fn aligned_to(def: Bankdef, at: Pos, alignment: u32, known: bool, node: u64) -> Motion
+    ensures { λ r. ⌜ r ≡ alignedMotion def at alignment known node ⌝ }
 {
     match bits_until_alignment(def, at.position, alignment, node) {
-        Distance::Bits(bits) => moved_by(at, bits, known, node),
-        Distance::Refused(why) => Moved::Refused(why),
+        Distance::Skips(s) => skipping(moved_by(at, s.bits, known, node), s),
+        Distance::Refused(why) => unskipped(Moved::Refused(why)),
     }
 }
 
@@ -51,6 +83,7 @@ pub fn start() -> Walk
     };
     Walk {
         at: [origin; 16],
+        lost: [0; 16],
         bank: 0,
     }
 }
@@ -80,18 +113,19 @@ fn is_outermost_symbol(node: Node) -> bool
     is_symbol(node.kind) && node.operand == 0
 }
 
-// The position that a node sees. In a bank with label alignment a symbol of depth 0, label or constant, is aligned first.
-pub fn seen(def: Bankdef, at: Pos, node: Node) -> Moved
-    ensures { λ r. ⌜ r ≡ seenOf def at node ⌝ }
-    ensures told { λ r. ⌜ Sees def at node (toldMoved r) ⌝ }
+// The position that a node sees, and what is skipped. In a bank with label alignment a symbol of depth 0, label or constant, is
+// aligned first.
+pub fn seen(def: Bankdef, at: Pos, node: Node) -> Motion
+    ensures { λ r. ⌜ r ≡ seenMotion def at node ⌝ }
+    ensures told { λ r. ⌜ SightTold def at node r ⌝ }
 {
     if !is_outermost_symbol(node) {
-        return Moved::To(at);
+        return unskipped(Moved::To(at));
     }
     let align = def.align;
     match align {
         Opt::Some(a) => aligned_to(def, at, a, at.known, node.index),
-        Opt::None => Moved::To(at),
+        Opt::None => unskipped(Moved::To(at)),
     }
 }
 
@@ -112,27 +146,27 @@ fn is_bad_state(node: Node) -> bool
     node.kind >= 3 && node.state > 2
 }
 
-// The position after a node's own advance.
-pub fn advance(def: Bankdef, at: Pos, node: Node) -> Moved
-    ensures { λ r. ⌜ r ≡ advancedOf def at node ⌝ }
-    ensures told { λ r. ⌜ Advances def at node (toldMoved r) ⌝ }
+// The position after a node's own advance, and what is skipped.
+pub fn advance(def: Bankdef, at: Pos, node: Node) -> Motion
+    ensures { λ r. ⌜ r ≡ advanceMotion def at node ⌝ }
+    ensures told { λ r. ⌜ AdvanceTold def at node r ⌝ }
 {
     if is_bad_state(node) {
-        return Moved::Refused(Refusal::Malformed(node.index));
+        return unskipped(Moved::Refused(Refusal::Malformed(node.index)));
     }
     let known = stays_known(at.known, node);
     let kind = node.kind;
     match kind {
-        0..=3 => Moved::To(at),
-        4..=7 => moved_by(at, node.number, known, node.index),
+        0..=3 => unskipped(Moved::To(at)),
+        4..=7 => unskipped(moved_by(at, node.number, known, node.index)),
         8 => aligned_to(def, at, node.number, known, node.index),
-        9 => Moved::To(Pos {
+        9 => unskipped(Moved::To(Pos {
             position: node.number,
             known: node.state == 0,
-        }),
-        10 => Moved::To(at),
+        })),
+        10 => unskipped(Moved::To(at)),
         // "Any other kind number is refused."
-        _ => Moved::Refused(Refusal::Malformed(node.index)),
+        _ => unskipped(Moved::Refused(Refusal::Malformed(node.index))),
     }
 }
 
@@ -143,35 +177,75 @@ fn is_malformed(bank: u64, node: Node) -> bool
     bank >= refusal::MAX_BANKS || is_bad_state(node)
 }
 
-// One node: what it sees, and the walk after it. `def` is the record of the bank that the node stands in.
+// What a step counts as lost: an `align`'s own distance, and else that of a symbol's alignment.
+fn counts(node: Node, sight: Skipped, own: Skipped) -> Skipped
+    ensures { λ r. ⌜ r ≡ counted node sight own ⌝ }
+{
+    if node.kind == 8 { own } else { sight }
+}
+
+// "the sum of bits lost"
+fn lost_after(lost: u64, bits: u32) -> u64
+    ensures { λ r. ⌜ r ≡ lostAfter lost bits ⌝ }
+{
+    let more = bits as u64;
+    if lost <= MAX_SUM - more {
+        lost + more
+    } else {
+        MAX_SUM
+    }
+}
+
+// The walk with a bank's new position, and the bits that it lost.
+fn moved_walk(walk: Walk, bank: u64, to: Pos, bits: u32) -> Walk
+    requires { ⌜ bank < maxBanks ⌝ }
+    ensures { λ r. ⌜ r ≡ kept walk bank to bits ⌝ }
+{
+    let mut at = walk.at;
+    at[bank as usize] = to;
+    let mut lost = walk.lost;
+    lost[bank as usize] = lost_after(lost[bank as usize], bits);
+    Walk { at, lost, bank }
+}
+
+// A step that is refused: nothing is skipped, and the walk is the walk given.
+fn refused_step(walk: Walk, why: Refusal) -> Stepped
+    ensures { λ r. ⌜ r ≡ stopped walk why ⌝ }
+{
+    Stepped {
+        seen: Moved::Refused(why),
+        skipped: Skipped { bits: 0, units: 0 },
+        walk,
+    }
+}
+
+// One node: what it sees, what its alignment skips, and the walk after it. `def` is the record of the bank that the node stands in.
 pub fn step(def: Bankdef, walk: Walk, node: Node) -> Stepped
     ensures { λ r. ⌜ r ≡ stepOf def walk node ⌝ }
+    ensures told { λ r. ⌜ StepTold def walk node r ⌝ }
 {
     let bank = bank_after(walk.bank, node);
     if is_malformed(bank, node) {
-        return Stepped {
-            seen: Moved::Refused(Refusal::Malformed(node.index)),
-            walk,
-        };
+        return refused_step(walk, Refusal::Malformed(node.index));
     }
-    let mut at = walk.at;
-    match seen(def, at[bank as usize], node) {
-        Moved::To(p) => match advance(def, p, node) {
-            Moved::To(q) => {
-                at[bank as usize] = q;
-                Stepped {
-                    seen: Moved::To(p),
-                    walk: Walk { at, bank },
+    let sight = seen(def, walk.at[bank as usize], node);
+    let found = sight.to;
+    match found {
+        Moved::To(p) => {
+            let own = advance(def, p, node);
+            let went = own.to;
+            match went {
+                Moved::To(q) => {
+                    let skipped = counts(node, sight.skipped, own.skipped);
+                    Stepped {
+                        seen: Moved::To(p),
+                        skipped,
+                        walk: moved_walk(walk, bank, q, skipped.bits),
+                    }
                 }
+                Moved::Refused(why) => refused_step(walk, why),
             }
-            Moved::Refused(why) => Stepped {
-                seen: Moved::Refused(why),
-                walk,
-            },
-        },
-        Moved::Refused(why) => Stepped {
-            seen: Moved::Refused(why),
-            walk,
-        },
+        }
+        Moved::Refused(why) => refused_step(walk, why),
     }
 }

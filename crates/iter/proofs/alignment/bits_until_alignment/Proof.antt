@@ -4,12 +4,13 @@ use Prim.Native.Nat.{ℕ}
 use mathlib.Core.Path.{_≡_, _∙_, sym, ap}
 use mathlib.Core.Bool.{true}
 use borrow.Author.Tests.{not-true, not-false}
-use Rattle.iter.specs.Distance.{tellable, addressInBits, gap, remainder}
+use Rattle.iter.specs.Distance.{tellable, addressInBits, gap, remainder, skipsOf}
 use Rattle.iter.specs.Aligned.{four-when, to-none, to-some}
 use Rattle.iter.specs.Signs.{remainderOf, remainder-of}
 use Rattle.iter.specs.ToldFacts.{distance-answers}
 use Rattle.iter.specs.declared.alignment.InBits.{InBits}
-use Rattle.iter.specs.declared.Distance.the-variants.{Bits}
+use Rattle.iter.specs.declared.Distance.the-variants.{Skips}
+use Rattle.iter.specs.declared.Skipped.{Skipped}
 use Rattle.iter.proofs.alignment.bits_until_alignment.Statement.{statement}
 use Rattle.iter.proofs.alignment.bits_until_alignment.Tie as tie
 
@@ -35,15 +36,21 @@ remainder-by-requires c κs = search needs
 gap-to-requires : tie.Need-gap-to-requires
 gap-to-requires c κs = c .remainder-by .ensures .1
 
+in-units-requires : tie.Need-in-units-requires
+in-units-requires c κs = tells (c .before .before .before .before)
+
 returns-3 : tie.Need-returns-3
 returns-3 c =
-    let at = c .before .before .before in
+    let g = c .before in
+    let at = g .before .before .before in
     let a = at .before .before .before .args in
-    let r : c .before .remainder-by .result ≡ remainder (addressInBits (a .def) (a .position)) (a .alignment) =
-    c .before .remainder-by .ensures .0 ∙ ap (λ (b : InBits). remainderOf b (a .alignment)) (c .before .before .address-in-bits .ensures)
+    let r : g .before .remainder-by .result ≡ remainder (addressInBits (a .def) (a .position)) (a .alignment) =
+    g .before .remainder-by .ensures .0 ∙ ap (λ (b : InBits). remainderOf b (a .alignment)) (g .before .before .address-in-bits .ensures)
     ∙ remainder-of (addressInBits (a .def) (a .position)) (a .alignment) in
     distance-answers _ _ _ _
-    (ap (λ (d : ℕ). Bits d) (c .gap-to .ensures ∙ ap (λ (x : ℕ). gap x (a .alignment)) r) ∙ sym (to-some _ _ _ _ (tells (at .before)) (at .if2 .left)))
+    (ap (λ (s : Skipped). Skips s) (c .in-units .ensures
+    ∙ ap (λ (d : ℕ). skipsOf (a .def) d) (g .gap-to .ensures ∙ ap (λ (x : ℕ). gap x (a .alignment)) r))
+    ∙ sym (to-some _ _ _ _ (tells (at .before)) (at .if2 .left)))
 
 pub bits-until-alignment-spec : {M : Type 1} → statement M
 bits-until-alignment-spec =
@@ -55,4 +62,5 @@ bits-until-alignment-spec =
     address-in-bits-requires
     remainder-by-requires
     gap-to-requires
+    in-units-requires
     returns-3)

@@ -9,9 +9,9 @@ use lib.IntN.{pos, _+ℤ_}
 use mir.Syntax.{w64}
 use mir.Val.{toZ, ofZ, SFits, hbits}
 use mir.Facts.{toZ-ofZ, toZ-pos}
-use Rattle.iter.specs.Address.{addressOf}
 use Rattle.iter.specs.Distance.{tellable}
-use Rattle.iter.proofs.Signed.{unit-positive, start-within, sum-fits}
+use Rattle.iter.specs.ToldFacts.{has-unit, address-when, address-four, address-answers}
+use Rattle.iter.proofs.Signed.{start-within, sum-fits}
 use Rattle.iter.proofs.places.get_address.Statement.{statement}
 use Rattle.iter.proofs.places.get_address.Tie as tie
 
@@ -46,7 +46,7 @@ cast-units : tie.Need-cast-units
 cast-units c = search needs
 
 div-units : tie.Need-div-units
-div-units c = unit-positive (c .before .before .before .before .args .def) (tells (c .before .before))
+div-units c = has-unit (c .before .before .before .before .args .def) (tells (c .before .before))
 
 cast-t9 : tie.Need-cast-t9
 cast-t9 c = record { sfits = omega (arith, few c) }
@@ -55,12 +55,10 @@ add-t10 : tie.Need-add-t10
 add-t10 c = rw (read c) (fits c)
 
 returns : tie.Need-returns
-unfolding addressOf
-returns c = rw (read c, toZ-ofZ (fits c), tells (c .before .before))
+returns c = rw (read c, toZ-ofZ (fits c)) (address-answers _ _ _ (sym (address-when _ _ _ (tells (c .before .before)))))
 
 returns-2 : tie.Need-returns-2
-unfolding addressOf
-returns-2 c = rw (sym (c .before .is-tellable .ensures) ∙ c .if1 .left)
+returns-2 c = address-answers _ _ _ (sym (address-four _ _ _ (sym (c .before .is-tellable .ensures) ∙ c .if1 .left)))
 
 pub get-address-spec : {M : Type 1} → statement M
 get-address-spec =
