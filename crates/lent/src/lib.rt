@@ -3,39 +3,55 @@ use bankdef::Bankdef;
 use iter::Moved;
 use iter::Node;
 use iter::Pos;
+use iter::Skipped;
 use iter::advance;
 use refusal::Verdict;
 ghost use mathlib.Core.Path.{_≡_};
-ghost use Rattle.iter.specs.Step.{advancedOf};
+ghost use Rattle.iter.specs.Step.{advanceMotion};
 ghost use Rattle.lent.specs.Lent.{lentOf, Advanced};
 
+// The answer: the verdict, and what the advance skips. Refused, nothing is skipped.
+pub struct Lent {
+    pub verdict: Verdict,
+    pub skipped: Skipped,
+}
+
 // What an advance leaves behind: the record, and the answer.
-struct Lent {
+struct Left {
     at: Pos,
-    verdict: Verdict,
+    answer: Lent,
 }
 
 // The advance by value, as the record to leave and the answer. Refused, the record is the one given.
-fn advanced(def: Bankdef, at: Pos, node: Node) -> Lent
-    ensures { λ r. ⌜ r ≡ lentOf at (advancedOf def at node) ⌝ }
+fn advanced(def: Bankdef, at: Pos, node: Node) -> Left
+    ensures { λ r. ⌜ r ≡ lentOf at (advanceMotion def at node) ⌝ }
 {
-    match advance(def, at, node) {
-        Moved::To(q) => Lent {
+    let motion = advance(def, at, node);
+    let skipped = motion.skipped;
+    let to = motion.to;
+    match to {
+        Moved::To(q) => Left {
             at: q,
-            verdict: Verdict::Accepted,
+            answer: Lent {
+                verdict: Verdict::Accepted,
+                skipped,
+            },
         },
-        Moved::Refused(why) => Lent {
+        Moved::Refused(why) => Left {
             at,
-            verdict: Verdict::Refused(why),
+            answer: Lent {
+                verdict: Verdict::Refused(why),
+                skipped,
+            },
         },
     }
 }
 
 // The thin advance over the lent record: it is updated in place, and a refused call leaves it as it was.
-pub fn advance_lent(def: Bankdef, at: &mut Pos, node: Node) -> Verdict
+pub fn advance_lent(def: Bankdef, at: &mut Pos, node: Node) -> Lent
     ensures { λ r. ⌜ Advanced def (now (at .entry)) node (now (at .exit)) r ⌝ }
 {
     let next = advanced(def, *at, node);
     *at = next.at;
-    next.verdict
+    next.answer
 }

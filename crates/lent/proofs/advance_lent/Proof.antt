@@ -30,7 +30,6 @@ use denote.Signature.{plain}
 use denote.Steps.{only, opens, closes, owned, peeks, heard, nothing}
 use denote.Struct.Steps.{spelt}
 use denote.Struct.Laws as S
-use denote.Enum.Laws as E
 use denote.Triple.Statement.{Contract, Triple}
 use denote.Triple.Call.{calls-at}
 use denote.Triple.Clauses.{ensured, lasts}
@@ -42,10 +41,7 @@ use denote.Exit.{yes}
 use Rattle.bankdef.specs.declared.Bankdef.{Bankdef}
 use Rattle.bankdef.proofs.Bankdef as B
 use Rattle.bankdef.proofs.Bankdef.Laws as B′
-use Rattle.refusal.specs.declared.Verdict.{Verdict}
-use Rattle.refusal.proofs.Verdict as Ver
-use Rattle.refusal.proofs.Verdict.Laws as Ver′
-use Rattle.iter.specs.Step.{advancedOf}
+use Rattle.iter.specs.Step.{advanceMotion}
 use Rattle.iter.specs.declared.Pos.{Pos}
 use Rattle.iter.proofs.Pos as P
 use Rattle.iter.proofs.Pos.Laws as P′
@@ -53,9 +49,12 @@ use Rattle.iter.specs.declared.Node.{Node}
 use Rattle.iter.proofs.Node as N
 use Rattle.iter.proofs.Node.Laws as N′
 use Rattle.lent.specs.Lent.{lentOf, lent-told}
+use Rattle.lent.specs.declared.Left.{Left}
+use Rattle.lent.proofs.Left as L
+use Rattle.lent.proofs.Left.Laws as L′
 use Rattle.lent.specs.declared.Lent.{Lent}
-use Rattle.lent.proofs.Lent as L
-use Rattle.lent.proofs.Lent.Laws as L′
+use Rattle.lent.proofs.Lent as An
+use Rattle.lent.proofs.Lent.Laws as An′
 use Rattle.lent.proofs.advanced as callee
 use Rattle.lent.proofs.advanced.Symbol as callee-def
 use Rattle.lent.proofs.advanced.Symbol.{name as #lent·advanced}
@@ -75,28 +74,28 @@ pos-vals = S.vals P.the-type P′.the-laws
 abbrev node-vals : Node → List Val
 node-vals = S.vals N.the-type N′.the-laws
 
-abbrev lent-vals : Lent → List Val
-lent-vals = S.vals L.the-type L′.the-laws
+abbrev left-vals : Left → List Val
+left-vals = S.vals L.the-type L′.the-laws
 
-abbrev verdict-vals : Verdict → List Val
-verdict-vals = E.vals Ver.the-type Ver′.the-laws
+abbrev answer-vals : Lent → List Val
+answer-vals = S.vals An.the-type An′.the-laws
 
 abbrev stayed : Stays (f.ended .signature .params) (f.ended .kept)
 stayed = (stay-none (λ _. B.the-row) yes, (stay-ref (0 ∷ []) tt (plain (λ _. P.the-row)), (stay-none (λ _. N.the-row) yes, tt)))
 
 -- what owning the callee's answer tells, at the answer that its contract names
-told : (r s : Lent) (vs : List Val) → r ≡ s → Is L.the-row r vs → vs ≡ lent-vals s
-told r s vs e is = S.tells L.the-type L′.the-laws r vs is ∙ ap lent-vals e
+told : (r s : Left) (vs : List Val) → r ≡ s → Is L.the-row r vs → vs ≡ left-vals s
+told r s vs e is = S.tells L.the-type L′.the-laws r vs is ∙ ap left-vals e
 
-is-at : (r s : Lent) (vs : List Val) → r ≡ s → Is L.the-row r vs → Is L.the-row s (lent-vals s)
-is-at r s vs e is = subst (λ (x : Lent). Is L.the-row x (lent-vals s)) e (subst (λ (us : List Val). Is L.the-row r us) (told r s vs e is) is)
+is-at : (r s : Left) (vs : List Val) → r ≡ s → Is L.the-row r vs → Is L.the-row s (left-vals s)
+is-at r s vs e is = subst (λ (x : Left). Is L.the-row x (left-vals s)) e (subst (λ (us : List Val). Is L.the-row r us) (told r s vs e is) is)
 
 -- and of its two fields
-record-is : (s : Lent) → Is L.the-row s (lent-vals s) → Is P.the-row (s .at) (pos-vals (s .at))
-record-is s is = S.owed L.the-type L′.the-laws s (lent-vals s) is .0
+record-is : (s : Left) → Is L.the-row s (left-vals s) → Is P.the-row (s .at) (pos-vals (s .at))
+record-is s is = S.owed L.the-type L′.the-laws s (left-vals s) is .0
 
-answer-is : (s : Lent) → Is L.the-row s (lent-vals s) → Is Ver.the-row (s .verdict) (verdict-vals (s .verdict))
-answer-is s is = S.owed L.the-type L′.the-laws s (lent-vals s) is .1 .0
+answer-is : (s : Left) → Is L.the-row s (left-vals s) → Is An.the-row (s .answer) (answer-vals (s .answer))
+answer-is s is = S.owed L.the-type L′.the-laws s (left-vals s) is .1 .0
 
 module _ {M : Type 1} (𝓤 : URA M) (H : Heap 𝓤) (A : Atoms 𝓤) (at-mem : Memory → SProp 𝓤) (run : Routine → Fun 𝓤) where
   -- the contract that the walk cites
@@ -104,16 +103,16 @@ module _ {M : Type 1} (𝓤 : URA M) (H : Heap 𝓤) (A : Atoms 𝓤) (at-mem : 
   Callee = tripleOf 𝓤 H A callee.signature (callee.spec 𝓤 H A at-mem run)
 
   -- of what the callee ensures, the clause alone: it has no `&mut`
-  answered : (d : Bankdef) (h : Pos) (n : Node) (r : Lent) → ent 𝓤 (ensured 𝓤 H A callee.ended (callee.clauses 𝓤 H A at-mem run) tt (d, (h, (n, tt))) tt r)
-      (fact 𝓤 (r ≡ lentOf h (advancedOf d h n)))
-  answered d h n r = exE 𝓤 _ (λ ws. snd∗ 𝓤 (sem 𝓤 H A (lasts callee.ended tt (d, (h, (n, tt))) ws)) (fact 𝓤 (r ≡ lentOf h (advancedOf d h n))))
+  answered : (d : Bankdef) (h : Pos) (n : Node) (r : Left) → ent 𝓤 (ensured 𝓤 H A callee.ended (callee.clauses 𝓤 H A at-mem run) tt (d, (h, (n, tt))) tt r)
+      (fact 𝓤 (r ≡ lentOf h (advanceMotion d h n)))
+  answered d h n r = exE 𝓤 _ (λ ws. snd∗ 𝓤 (sem 𝓤 H A (lasts callee.ended tt (d, (h, (n, tt))) ws)) (fact 𝓤 (r ≡ lentOf h (advanceMotion d h n))))
 
 module _ {M : Type 1} (𝓤 : URA M) (H : Heap 𝓤) (A : Atoms 𝓤) (W : Given 𝓤 H A) (at-mem : Memory → SProp 𝓤) (run : Routine → Fun 𝓤) (κ : Lft) (q : Share)
     (b o : ℕ) (γ : GName)
     (d : Bankdef) (h : Pos) (n : Node) (is-d : Is B.the-row d (bank-vals d)) (is-n : Is N.the-row n (node-vals n)) where
   -- what the advance leaves
-  abbrev s : Lent
-  s = lentOf h (advancedOf d h n)
+  abbrev s : Left
+  s = lentOf h (advanceMotion d h n)
 
   abbrev x : Bankdef × (RefT Pos × (Node × Unit {0}))
   x = (d, (record { ptr = (b, o); name = γ; now = h }, (n, tt)))
@@ -124,16 +123,16 @@ module _ {M : Type 1} (𝓤 : URA M) (H : Heap 𝓤) (A : Atoms 𝓤) (W : Given
   abbrev Post : Val → SProp 𝓤
   Post = walkOf 𝓤 H A f.ended stayed (f.clauses 𝓤 H A at-mem run) .post (((κ, tt), (q, tt), tt, x, at), tt)
 
-  exits : Is L.the-row s (lent-vals s) → ent 𝓤 (sep 𝓤 (A .obs γ (P.the-row .coded .code (s .at))) (sep 𝓤 (A .bor κ (Body (mem P.the-row) b o γ))
-      (A .lft κ q))) (Post (only (verdict-vals (s .verdict))))
+  exits : Is L.the-row s (left-vals s) → ent 𝓤 (sep 𝓤 (A .obs γ (P.the-row .coded .code (s .at))) (sep 𝓤 (A .bor κ (Body (mem P.the-row) b o γ))
+      (A .lft κ q))) (Post (only (answer-vals (s .answer))))
   exits is =
       qed W (‵ (fobs γ (P.the-row .coded .code (s .at))) ∷ ‵ (fbor κ (Body (mem P.the-row) b o γ)) ∷ ‵ (flft κ q) ∷ []) ∵
-      suffices ! _ (ends-at 𝓤 H A f.ended stayed (f.clauses 𝓤 H A at-mem run) W (((κ, tt), (q, tt), tt, x, at), tt) (only (verdict-vals (s .verdict)))
-      (s .verdict) (tt, (s .at, (tt, tt))) (tt, (tt, (tt, tt)))) $ says ! (record { place = refl; verdict = refl; told = lent-told d h n }) $
+      suffices ! _ (ends-at 𝓤 H A f.ended stayed (f.clauses 𝓤 H A at-mem run) W (((κ, tt), (q, tt), tt, x, at), tt) (only (answer-vals (s .answer)))
+      (s .answer) (tt, (s .at, (tt, tt))) (tt, (tt, (tt, tt)))) $ says ! (record { place = refl; verdict = refl; skipped = refl; told = lent-told d h n }) $
       nothing ! $ move ! (3 ∷ 0 ∷ []) $ join ! $ frame ! $ feqI ! (List Val) (vptr b o ∷ []) (vptr b o ∷ []) refl $ fjoin3 ! $
       nothing ! $ owned ! N.the-row (Is N.the-row) (S.makes N.the-type N′.the-plain 𝓤 H A) n _ is-n $ fjoin ! $ move ! (1 ∷ 0 ∷ []) $ fjoin ! $
       owned ! B.the-row (Is B.the-row) (S.makes B.the-type B′.the-plain 𝓤 H A) d _ is-d $ fjoin ! $
-      owned ! Ver.the-row (Is Ver.the-row) (E.makes Ver.the-type Ver′.the-plain 𝓤 H A) (s .verdict) _ (answer-is s is) $ move ! (1 ∷ 0 ∷ []) $ done !
+      owned ! An.the-row (Is An.the-row) (S.makes An.the-type An′.the-plain 𝓤 H A) (s .answer) _ (answer-is s is) $ move ! (1 ∷ 0 ∷ []) $ done !
 
   -- what the callee asks: its three arguments, which are plain data and so are owned for nothing
   abbrev to-callee : Callee 𝓤 H A at-mem run .Ghost
@@ -166,7 +165,7 @@ module _ {M : Type 1} (𝓤 : URA M) (H : Heap 𝓤) (A : Atoms 𝓤) (W : Given
         nothing ! $ use1 W (raw (Callee 𝓤 H A at-mem run .pre to-callee)) (asked is-h) $
         calls-at ! fm (Callee 𝓤 H A at-mem run) known to-callee (and-then ! (load ! (from ! (stop !)) (look ! 14 refl)) (and-then ! (load ! (from ! (stop !))
         (look ! 6 refl)) (and-then ! (load ! (from ! (stop !)) (look ! 10 refl)) (no-more !)))) (λ v.
-        use1 W (later (some (λ (r : Lent). (‵ ftrue ⊛ ‵ (L.the-row .own r (v ∷ []))) ⊛ raw (ensured 𝓤 H A callee.ended (callee.clauses 𝓤 H A at-mem run) tt
+        use1 W (later (some (λ (r : Left). (‵ ftrue ⊛ ‵ (L.the-row .own r (v ∷ []))) ⊛ raw (ensured 𝓤 H A callee.ended (callee.clauses 𝓤 H A at-mem run) tt
         (d, (h, (n, tt))) tt r)))) (id⊢ 𝓤 _) $ await ! tt $ pick ! (λ r.
         split ! $ move ! (1 ∷ []) $ use1 W (raw (fact 𝓤 (r ≡ s))) (answered 𝓤 H A at-mem run d h n r) $ heard ! (r ≡ s) (λ e. split ! $ drop ! $
         peeks ! L.the-row (Is L.the-row) (shows 𝓤 H A L.the-row) r (v ∷ []) (λ is.
@@ -176,7 +175,7 @@ module _ {M : Type 1} (𝓤 : URA M) (H : Heap 𝓤) (A : Atoms 𝓤) (W : Given
         assigns ! (of-opd ! (load ! (from ! (fld ! refl (stop !))) (look-in ! 7 (sub ! 0 refl (whole !))))) (from ! (hop ! (look ! 11 refl) (stop !)))
         (store-raw ! 0 refl (S.lawful P.the-type P′.the-laws 𝓤 H A W .typed (s .at) _ (record-is s (is-at r s (v ∷ []) e is)) .0)) $
         assigns ! (of-opd ! (load ! (from ! (fld ! refl (stop !))) (look-in ! 7 (sub ! 1 refl (whole !))))) (from ! (stop !)) (init ! 15 refl
-        (E.lawful Ver.the-type Ver′.the-laws 𝓤 H A W tt .typed (s .verdict) _ (answer-is s (is-at r s (v ∷ []) e is)) .0)) $
+        (S.lawful An.the-type An′.the-laws 𝓤 H A W .typed (s .answer) _ (answer-is s (is-at r s (v ∷ []) e is)) .0)) $
         -- the borrow is closed at the new record
         move ! (1 ∷ []) $ drop ! $ owned ! P.the-row (Is P.the-row) (S.makes P.the-type P′.the-plain 𝓤 H A) (s .at) _ (record-is s (is-at r s
         (v ∷ []) e is)) $ move ! (1 ∷ 0 ∷ []) $ closes ! tt P.the-row (s .at) (pos-vals (s .at)) b o $

@@ -1,23 +1,34 @@
 -- The advance by value as a record and an answer: by cases of where the node moves.
 use borrow.Author.Needs.{needs}
-use mathlib.Core.Path.{_∙_, sym}
+use mathlib.Core.Path.{_≡_, _∙_, ap}
+use Rattle.iter.specs.declared.Motion.{Motion}
+use Rattle.iter.specs.declared.Pos.{Pos}
+use Rattle.lent.specs.Lent.{lentOf}
+use Rattle.lent.specs.declared.Left.{Left}
 use Rattle.lent.proofs.advanced.Statement.{statement}
 use Rattle.lent.proofs.advanced.Tie as tie
+
+by-motion : (at : Pos) {m n : Motion} {r : Left} → m ≡ n → r ≡ lentOf at m → r ≡ lentOf at n
+by-motion at e f = f ∙ ap (λ (m : Motion). lentOf at m) e
 
 advance-requires : tie.Need-advance-requires
 advance-requires c κs = search needs
 
-enum-known-q : tie.Need-enum-known-q
-enum-known-q c = search needs
+enum-known-to : tie.Need-enum-known-to
+enum-known-to c = search needs
 
-enum-known-why : tie.Need-enum-known-why
-enum-known-why c = search needs
+enum-known-to-2 : tie.Need-enum-known-to-2
+enum-known-to-2 c = search needs
 
 returns : tie.Need-returns
-returns c = rw (sym (c .before .before .before .advance .ensures .0) ∙ c .before .q .given .1)
+returns c =
+    let a = c .before .before .before .before in
+    by-motion (a .before .args .at) (a .advance .ensures .0) (rw (c .before .to .given .1))
 
 returns-2 : tie.Need-returns-2
-returns-2 c = rw (sym (c .before .before .before .advance .ensures .0) ∙ c .before .why .given .1)
+returns-2 c =
+    let a = c .before .before .before .before in
+    by-motion (a .before .args .at) (a .advance .ensures .0) (rw (c .before .to2 .given .1))
 
 pub advanced-spec : {M : Type 1} → statement M
-advanced-spec = tie.close (tie.spec advance-requires enum-known-q enum-known-why returns returns-2)
+advanced-spec = tie.close (tie.spec advance-requires enum-known-to enum-known-to-2 returns returns-2)
