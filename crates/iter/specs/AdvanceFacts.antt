@@ -1,11 +1,11 @@
 -- What holds of every advance and of every position that is seen: how far it moves and whether it is known, kind by kind; and that 5 is
 -- given exactly when a sum passes the limit.
 use Prim.Native.Nat.{ℕ, _+_, _≤_, _<_}
-use mathlib.Core.Path.{_≡_, refl, sym, ap, subst, _∙_}
+use mathlib.Core.Path.{_≡_, sym, ap, subst, _∙_}
 use mathlib.Core.Bool.{Bool, true, false}
 use mathlib.Core.Logic.{_⊎_, inl, inr, _↔_}
 use native.Mathlib.Omega.{arith}
-use lib.Dec.{ltb, leb}
+use lib.Dec.{leb}
 use borrow.Author.Tests.{leb-true, lt-leb, le-ltb}
 use Rattle.refusal.specs.Bools.{either}
 use Rattle.refusal.specs.Limits.{maxPosition}
@@ -28,8 +28,7 @@ use Rattle.iter.specs.ToldFacts.{distance-told, outer-symbol, sight-told
 use Rattle.iter.specs.declared.Distance.{Distance}
 use Rattle.iter.specs.declared.Distance.the-variants.{Skips, Refused as NoDistance}
 use Rattle.iter.specs.declared.Skipped.{Skipped}
-use Rattle.iter.specs.declared.Moved.{Moved}
-use Rattle.iter.specs.declared.Moved.the-variants.{To, Refused}
+use Rattle.iter.specs.declared.Moved.the-variants.{To}
 use Rattle.iter.specs.declared.Node.{Node}
 use Rattle.iter.specs.declared.Pos.{Pos}
 

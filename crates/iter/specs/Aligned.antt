@@ -7,7 +7,7 @@ use native.Mathlib.Nat.{mod-lt, mod-le, mod-self, mod-eq-of-lt, div-add-mod', ad
 use native.Mathlib.Omega.{arith}
 use lib.Dec.{eqb, ltb}
 use lib.IntN.{ℤ, pos, negsuc, negℤ, subℕ, _+ℤ_, _*ℤ_}
-use borrow.Author.Tests.{ltb-true, ltb-false, lt-ltb, le-ltb, eqb-true, eqb-false, eq-eqb, ne-eqb}
+use borrow.Author.Tests.{ltb-true, ltb-false, lt-ltb, le-ltb, eqb-true, eqb-false, ne-eqb}
 use Rattle.refusal.specs.Bools.{either}
 use Rattle.refusal.specs.Pick.{pick, pick-true, pick-false}
 use Rattle.refusal.specs.declared.Refusal.{Refusal}
@@ -15,7 +15,6 @@ use Rattle.refusal.specs.declared.Refusal.the-variants.{Malformed}
 use Rattle.bankdef.specs.declared.Bankdef.{Bankdef}
 use Rattle.iter.specs.Distance.{tellable, addressInBits, gap, remainder, distanceTo, skipsOf, noSkip, distanceOf}
 use Rattle.iter.specs.Signs.{neg-plus}
-use Rattle.iter.specs.declared.Distance.{Distance}
 use Rattle.iter.specs.declared.Distance.the-variants.{Skips, Refused}
 use Rattle.iter.specs.declared.Skipped.{Skipped}
 
@@ -197,7 +196,7 @@ remainder-remains (negsuc n) a h =
 
 -- ---- the definition followed test by test
 
-never : (why : Refusal) (s : Skipped) → Refused why ≡ Skips s → ⊥
+pub never : (why : Refusal) (s : Skipped) → Refused why ≡ Skips s → ⊥
 never why s e = let z : _≡_ {A = ℕ} 0 1 = cc in omega arith
 
 pub skips-same : {s t : Skipped} → Skips s ≡ Skips t → s ≡ t

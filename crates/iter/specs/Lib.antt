@@ -7,6 +7,7 @@ pub mod Cases
 pub mod Distance
 pub mod Figures
 pub mod Known
+pub mod Padding
 pub mod Signs
 pub mod Step
 pub mod StepCases

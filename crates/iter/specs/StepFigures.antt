@@ -1,8 +1,8 @@
 -- What a caller is told of a step, in document 01's figures: what the node sees or why it is refused, what is skipped, and the walk then. The
 -- promise of `step` uses it.
 use Prim.Native.Nat.{ℕ, _≤_, _<_}
-use mathlib.Core.Path.{_≡_, refl, sym, ap, subst, _∙_}
-use mathlib.Core.Bool.{Bool, true, false}
+use mathlib.Core.Path.{_≡_, refl, sym, subst}
+use mathlib.Core.Bool.{true, false}
 use lib.Dec.{eqb, ltb, leb}
 use borrow.Author.Tests.{leb-true, leb-false, ltb-true, eqb-true, eqb-false}
 use Rattle.refusal.specs.Bools.{either, both, neither}
@@ -10,8 +10,6 @@ use Rattle.refusal.specs.Limits.{maxBanks}
 use Rattle.refusal.specs.Told.{Told, gives, refuses}
 use Rattle.refusal.specs.declared.Place.{Place}
 use Rattle.refusal.specs.declared.Place.the-variants.{One}
-use Rattle.refusal.specs.declared.Refusal.{Refusal}
-use Rattle.refusal.specs.declared.Refusal.the-variants.{Malformed}
 use Rattle.bankdef.specs.declared.Bankdef.{Bankdef}
 use Rattle.iter.specs.Advance as law
 use Rattle.iter.specs.Distance.{noSkip}

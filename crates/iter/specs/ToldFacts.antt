@@ -1,22 +1,19 @@
 -- The definitions of distance, address, sight and advance say what specs/Figures has, case by case; and 5 is given exactly when a sum
 -- passes the limit.
-use Prim.Native.Nat.{ℕ, suc, _+_, _*_, _/_, _≤_, _<_, _%_}
-use mathlib.Core.Path.{_≡_, refl, sym, ap, subst, _∙_}
-use mathlib.Core.Bool.{Bool, true, false, not, _&&_, _||_}
+use Prim.Native.Nat.{ℕ, _+_, _/_, _<_}
+use mathlib.Core.Path.{_≡_, refl, sym, subst, _∙_}
+use mathlib.Core.Bool.{Bool, true, false, not, _||_}
 use mathlib.Core.Logic.{_⊎_, inl, inr, _↔_}
 use native.Mathlib.Nat.{zero-div, suc-mul, div-mul-le-self, lt-div-mul-add}
 use native.Mathlib.Omega.{arith}
 use lib.Dec.{eqb, ltb, leb}
-use borrow.Author.Tests.{ltb-true, ltb-false, leb-true, leb-false, eqb-true, eqb-false, eq-eqb, ne-eqb, not-true, lt-ltb, lt-leb, le-leb}
-use Rattle.refusal.specs.Bools.{either, clash, both, neither}
+use borrow.Author.Tests.{ltb-true, ltb-false, leb-true, leb-false, eqb-true, eqb-false, eq-eqb, ne-eqb, not-true, le-leb}
+use Rattle.refusal.specs.Bools.{either, clash, both}
 use Rattle.refusal.specs.Limits.{maxPosition}
 use Rattle.refusal.specs.Pick.{pick, pick-true, pick-false}
-use Rattle.refusal.specs.Told.{Told, gives, refuses, toldNumber, toldRefusal}
 use Rattle.refusal.specs.declared.Opt.{Opt}
 use Rattle.refusal.specs.declared.Opt.the-variants.{None, Some}
-use Rattle.refusal.specs.declared.Place.the-variants.{One}
-use Rattle.refusal.specs.declared.Refusal.{Refusal}
-use Rattle.refusal.specs.declared.Refusal.the-variants.{Malformed, PositionPast}
+use Rattle.refusal.specs.declared.Refusal.the-variants.{Malformed}
 use Rattle.bankdef.specs.declared.Bankdef.{Bankdef}
 use Rattle.iter.specs.Address.{unitsFrom, addressOf}
 use Rattle.iter.specs.Advance.{bad-state, sound-state, early, item, aligning, setting, asserting, other}
@@ -28,7 +25,6 @@ use Rattle.iter.specs.Known.{staysKnown}
 use Rattle.iter.specs.Step.{movedBy, movedByDistance, alignedTo, outermostSymbol, labelAligned, seenOf, resolved, badState, movedOn, advancedOf, skipsBy, whenMade, labelSkips, seenSkips, seenMotion, advanceSkips, advanceMotion}
 use Rattle.iter.specs.declared.Distance.{Distance}
 use Rattle.iter.specs.declared.Distance.the-variants.{Skips, Refused as NoDistance}
-use Rattle.iter.specs.declared.Skipped.{Skipped}
 use Rattle.iter.specs.declared.Motion.{Motion}
 use Rattle.iter.specs.declared.Address.{Address}
 use Rattle.iter.specs.declared.Address.the-variants.{At, Refused as NoAddress}

@@ -160,10 +160,14 @@ pub fn advance(def: Bankdef, at: Pos, node: Node) -> Motion
         0..=3 => unskipped(Moved::To(at)),
         4..=7 => unskipped(moved_by(at, node.number, known, node.index)),
         8 => aligned_to(def, at, node.number, known, node.index),
-        9 => unskipped(Moved::To(Pos {
-            position: node.number,
-            known: node.state == 0,
-        })),
+        // "An `addr` that moves the position is not padding."
+        9 => skipping(
+            Moved::To(Pos {
+                position: node.number,
+                known: node.state == 0,
+            }),
+            Skipped { bits: 0, units: 0 },
+        ),
         10 => unskipped(Moved::To(at)),
         // "Any other kind number is refused."
         _ => unskipped(Moved::Refused(Refusal::Malformed(node.index))),

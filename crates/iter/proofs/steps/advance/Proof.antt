@@ -53,23 +53,23 @@ stays-known-requires c κs = search needs
 aligned-to-requires : tie.Need-aligned-to-requires
 aligned-to-requires c κs = search needs
 
+skipping-requires : tie.Need-skipping-requires
+skipping-requires c κs = search needs
+
 unskipped-requires-2 : tie.Need-unskipped-requires-2
 unskipped-requires-2 c κs = search needs
 
 unskipped-requires-3 : tie.Need-unskipped-requires-3
 unskipped-requires-3 c κs = search needs
 
-unskipped-requires-4 : tie.Need-unskipped-requires-4
-unskipped-requires-4 c κs = search needs
-
 moved-by-requires : tie.Need-moved-by-requires
 moved-by-requires c κs = search needs
 
+unskipped-requires-4 : tie.Need-unskipped-requires-4
+unskipped-requires-4 c κs = search needs
+
 unskipped-requires-5 : tie.Need-unskipped-requires-5
 unskipped-requires-5 c κs = search needs
-
-unskipped-requires-6 : tie.Need-unskipped-requires-6
-unskipped-requires-6 c κs = search needs
 
 returns-2 : tie.Need-returns-2
 returns-2 c =
@@ -80,24 +80,24 @@ returns-2 c =
 returns-3 : tie.Need-returns-3
 returns-3 c =
     let m = c .before .before in
-    plain (m .before .before) (setting _ _ _ (m .match .keys2)) (is-not _ 9 8 (m .match .keys2) (omega arith)) (c .unskipped2 .ensures)
+    plain (m .before .before) (setting _ _ _ (m .match .keys2)) (is-not _ 9 8 (m .match .keys2) (omega arith)) (c .skipping .ensures)
 
 returns-4 : tie.Need-returns-4
 returns-4 c =
     let m = c .before in
-    plain (m .before .before) (asserting _ _ _ (m .match .keys3)) (is-not _ 10 8 (m .match .keys3) (omega arith)) (c .unskipped3 .ensures)
+    plain (m .before .before) (asserting _ _ _ (m .match .keys3)) (is-not _ 10 8 (m .match .keys3) (omega arith)) (c .unskipped2 .ensures)
 
 returns-5 : tie.Need-returns-5
 returns-5 c =
     let t = c .before in
     let few : _ < 4 = t .if2 .taken in
-    plain (t .before .before .before) (early _ _ _ (t .if2 .taken)) (below _ 8 (omega arith)) (c .unskipped4 .ensures)
+    plain (t .before .before .before) (early _ _ _ (t .if2 .taken)) (below _ 8 (omega arith)) (c .unskipped3 .ensures)
 
 returns-6 : tie.Need-returns-6
 returns-6 c =
     let t = c .before .before in
     let less : _ < 8 = t .if3 .taken in
-    rw (c .unskipped5 .ensures, c .before .moved-by .ensures, t .before .before .before .stays-known .ensures)
+    rw (c .unskipped4 .ensures, c .before .moved-by .ensures, t .before .before .before .stays-known .ensures)
     (plain (t .before .before .before .before) (item _ _ _ (t .before .if2 .left) (omega arith)) (below _ 8 less) refl)
 
 returns-7 : tie.Need-returns-7
@@ -105,7 +105,7 @@ returns-7 c =
     let t = c .before in
     let rest = t .before .before .match .rest in
     let over : 10 < _ = past-ten _ (t .if3 .left) (rest .0 .0 .1) (rest .0 .1) (rest .1) in
-    plain (t .before .before .before .before) (other _ _ _ over) (above _ 8 (omega arith)) (c .unskipped6 .ensures)
+    plain (t .before .before .before .before) (other _ _ _ over) (above _ 8 (omega arith)) (c .unskipped5 .ensures)
 
 pub advance-spec : {M : Type 1} → statement M
 advance-spec =
@@ -116,12 +116,12 @@ advance-spec =
     returns
     stays-known-requires
     aligned-to-requires
+    skipping-requires
     unskipped-requires-2
     unskipped-requires-3
-    unskipped-requires-4
     moved-by-requires
+    unskipped-requires-4
     unskipped-requires-5
-    unskipped-requires-6
     returns-2
     returns-3
     returns-4
