@@ -242,6 +242,23 @@ module _ (def : Bankdef) (walk : Walk) (node : Node) where
       not-align (inl e) f = omega arith
       not-align (inr e) f = omega arith
 
+  -- So either adds its distance to the bank that it stands in, exactly.
+  pub align-adds-its-distance : (p : Pos) → length (walk .lost) ≡ maxBanks → node .kind ≡ 8 → stepOf def walk node .seen ≡ To p
+      → lostIn walk (bankAfter (walk .bank) node) + stepOf def walk node .skipped .bits < 2 ^ 64
+      → (s : Skipped) × (distanceOf def (p .position) (node .number) (node .index) ≡ Skips s)
+      × (lostIn (stepOf def walk node .walk) (bankAfter (walk .bank) node) ≡ lostIn walk (bankAfter (walk .bank) node) + s .bits)
+  align-adds-its-distance p sixteen k e h =
+      let d = align-skips-its-distance p k e in
+      (d .0, d .1, step-adds p sixteen e h ∙ ap (λ (x : Skipped). lostIn walk own + x .bits) (d .2))
+
+  pub symbol-adds-its-distance : (p : Pos) (a : ℕ) → length (walk .lost) ≡ maxBanks → OuterSymbol node → def .align ≡ Some a
+      → stepOf def walk node .seen ≡ To p → lostIn walk (bankAfter (walk .bank) node) + stepOf def walk node .skipped .bits < 2 ^ 64
+      → (s : Skipped) × (distanceOf def (standing walk node .position) a (node .index) ≡ Skips s)
+      × (lostIn (stepOf def walk node .walk) (bankAfter (walk .bank) node) ≡ lostIn walk (bankAfter (walk .bank) node) + s .bits)
+  symbol-adds-its-distance p a sixteen o f e h =
+      let d = symbol-skips-its-distance p a o f e in
+      (d .0, d .1, step-adds p sixteen e h ∙ ap (λ (x : Skipped). lostIn walk own + x .bits) (d .2))
+
   -- For every other node nothing is skipped,
   pub others-skip-nothing : (node .kind ≡ 8 → ⊥) → (OuterSymbol node → ⊥) ⊎ (def .align ≡ None) → stepOf def walk node .skipped ≡ noSkip
   others-skip-nothing n h =
@@ -310,6 +327,16 @@ zeros : (n j : ℕ) → _≡_ {A = ℕ} (getD (replicate n 0) j 0) 0
 zeros zero j = refl
 zeros (suc n) zero = refl
 zeros (suc n) (suc j) = zeros n j
+
+-- There are always sixteen sums.
+pub sixteen-sums : (defs : ℕ → Bankdef) (nodes : List Node) → length (walkedOver defs startOf nodes .lost) ≡ maxBanks
+unfolding startOf
+sixteen-sums defs nodes = as-many defs startOf nodes
+  where
+    as-many : (defs : ℕ → Bankdef) (walk : Walk) (nodes : List Node) → length (walkedOver defs walk nodes .lost) ≡ length (walk .lost)
+    as-many defs walk [] = refl
+    as-many defs walk (node ∷ nodes) =
+        as-many defs (stepOf (defs (bankAfter (walk .bank) node)) walk node .walk) nodes ∙ sums-kept (defs (bankAfter (walk .bank) node)) walk node
 
 -- No bank has lost a bit at the start,
 pub starts-lossless : (j : ℕ) → lostIn startOf j ≡ 0
