@@ -14,7 +14,8 @@ use Rattle.refusal.specs.Pick.{pick-true, pick-false}
 use Rattle.refusal.specs.declared.Refusal.{Refusal}
 use Rattle.refusal.specs.declared.Opt.the-variants.{None, Some}
 use Rattle.bankdef.specs.declared.Bankdef.{Bankdef}
-use Rattle.iter.specs.Step.{alignedTo, outermostSymbol, seenOf, badState, advancedOf, still, alignedMotion, seenSkips, seenMotion, advanceSkips, advanceMotion, maxSum, lostAfter, malformed}
+use Rattle.iter.specs.Step.{alignedTo, outermostSymbol, seenOf, badState, advancedOf, still, alignedMotion, seenSkips, seenMotion, advanceSkips}
+use Rattle.iter.specs.Step.{advanceMotion, maxSum, lostAfter, malformed}
 use Rattle.iter.specs.ToldFacts.{none-skipped}
 use Rattle.iter.specs.declared.Moved.{Moved}
 use Rattle.iter.specs.declared.Moved.the-variants.{To, Refused}

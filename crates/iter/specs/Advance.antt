@@ -11,7 +11,8 @@ use Rattle.refusal.specs.declared.Refusal.{Refusal}
 use Rattle.refusal.specs.declared.Refusal.the-variants.{Malformed}
 use Rattle.bankdef.specs.declared.Bankdef.{Bankdef}
 use Rattle.iter.specs.Known.{staysKnown}
-use Rattle.iter.specs.Step.{origin, movedBy, alignedTo, seenOf, resolved, badState, movedOn, advancedOf, bankAfter, kept, stopped, stepSkips, malformed, stepOf}
+use Rattle.iter.specs.Step.{origin, movedBy, alignedTo, seenOf, resolved, badState, movedOn, advancedOf, bankAfter, kept, stopped, stepSkips}
+use Rattle.iter.specs.Step.{malformed, stepOf}
 use Rattle.iter.specs.declared.Pos.{Pos}
 use Rattle.iter.specs.declared.Node.{Node}
 use Rattle.iter.specs.declared.Walk.{Walk}

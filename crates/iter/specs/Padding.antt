@@ -23,7 +23,8 @@ use Rattle.iter.specs.Distance.{tellable, noSkip, distanceOf}
 use Rattle.iter.specs.Figures as told
 use Rattle.iter.specs.Figures.{OuterSymbol, SightSkips}
 use Rattle.iter.specs.Known.{staysKnown}
-use Rattle.iter.specs.Step.{startOf, movedByDistance, outermostSymbol, labelAligned, seenOf, badState, advancedOf, skipsBy, whenMade, labelSkips, seenSkips, advanceSkips, maxSum, lostAfter, bankAfter, stepSkips, stepOf}
+use Rattle.iter.specs.Step.{startOf, movedByDistance, outermostSymbol, labelAligned, seenOf, badState, advancedOf, skipsBy, whenMade}
+use Rattle.iter.specs.Step.{labelSkips, seenSkips, advanceSkips, maxSum, lostAfter, bankAfter, stepSkips, stepOf}
 use Rattle.iter.specs.StepCases.{standing, step-cases}
 use Rattle.iter.specs.StepFacts.{made-sound, sees-before}
 use Rattle.iter.specs.ToldFacts.{none-skipped, outer-symbol, sight-skips}

@@ -125,8 +125,8 @@ unfolding seenOf
 sees-unaligned def at node e = unaligned (outermostSymbol node) def (def .align) at (node .index) e
 
 -- A symbol of depth 0, label or constant, in a bank with label alignment sees the position moved on by the distance, as well known as before.
-pub sees-aligned : (def : Bankdef) (at : Pos) (node : Node) (a : ℕ) (s : Skipped) → outermostSymbol node ≡ true → def .align ≡ Some a → distanceOf def (at .position) a
-    (node .index) ≡ Skips s → at .position + s .bits ≤ maxPosition
+pub sees-aligned : (def : Bankdef) (at : Pos) (node : Node) (a : ℕ) (s : Skipped) → outermostSymbol node ≡ true → def .align ≡ Some a
+    → distanceOf def (at .position) a (node .index) ≡ Skips s → at .position + s .bits ≤ maxPosition
     → seenOf def at node ≡ To (record { position = at .position + s .bits; known = at .known })
 unfolding seenOf
 sees-aligned def at node a s t e h k =

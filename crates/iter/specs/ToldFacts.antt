@@ -20,9 +20,11 @@ use Rattle.iter.specs.Advance.{bad-state, sound-state, early, item, alig
 use Rattle.iter.specs.Aligned.{distance-aligns}
 use Rattle.iter.specs.Distance.{tellable, addressInBits, distanceTo, skipsOf, noSkip, distanceOf}
 use Rattle.iter.specs.Figures as told
-use Rattle.iter.specs.Figures.{toldDistance, toldAddress, toldMoved, WholeUnits, Measures, Stands, Adds, Aligning, OuterSymbol, Sees, Keeps, SoundState, Advances, Skipping, SightSkips, OwnSkips, SightTold, AdvanceTold}
+use Rattle.iter.specs.Figures.{toldDistance, toldAddress, toldMoved, WholeUnits, Measures, Stands, Adds, Aligning, OuterSymbol, Sees, Keeps}
+use Rattle.iter.specs.Figures.{SoundState, Advances, Skipping, SightSkips, OwnSkips, SightTold, AdvanceTold}
 use Rattle.iter.specs.Known.{staysKnown}
-use Rattle.iter.specs.Step.{movedBy, movedByDistance, alignedTo, outermostSymbol, labelAligned, seenOf, resolved, badState, movedOn, advancedOf, skipsBy, whenMade, labelSkips, seenSkips, seenMotion, advanceSkips, advanceMotion}
+use Rattle.iter.specs.Step.{movedBy, movedByDistance, alignedTo, outermostSymbol, labelAligned, seenOf, resolved, badState, movedOn, advancedOf}
+use Rattle.iter.specs.Step.{skipsBy, whenMade, labelSkips, seenSkips, seenMotion, advanceSkips, advanceMotion}
 use Rattle.iter.specs.declared.Distance.{Distance}
 use Rattle.iter.specs.declared.Distance.the-variants.{Skips, Refused as NoDistance}
 use Rattle.iter.specs.declared.Motion.{Motion}

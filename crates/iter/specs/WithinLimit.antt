@@ -12,7 +12,8 @@ use Rattle.refusal.specs.declared.Opt.{Opt}
 use Rattle.refusal.specs.declared.Opt.the-variants.{None, Some}
 use Rattle.bankdef.specs.declared.Bankdef.{Bankdef}
 use Rattle.iter.specs.Distance.{distanceOf}
-use Rattle.iter.specs.Step.{origin, startOf, movedBy, movedByDistance, alignedTo, outermostSymbol, labelAligned, seenOf, resolved, badState, movedOn, advancedOf, bankAfter, stepOf}
+use Rattle.iter.specs.Step.{origin, startOf, movedBy, movedByDistance, alignedTo, outermostSymbol, labelAligned, seenOf, resolved, badState}
+use Rattle.iter.specs.Step.{movedOn, advancedOf, bankAfter, stepOf}
 use Rattle.iter.specs.StepCases.{standing, step-cases}
 use Rattle.iter.specs.declared.Distance.{Distance}
 use Rattle.iter.specs.declared.Distance.the-variants.{Skips, Refused as NoDistance}
