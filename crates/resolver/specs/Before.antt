@@ -2,6 +2,7 @@
 use mathlib.Core.Bool.{Bool}
 use Rattle.refusal.specs.Pick.{pick}
 use Rattle.bankdef.specs.declared.Bankdefs.{Bankdefs}
+use Rattle.iter.specs.Distance.{noSkip}
 use Rattle.iter.specs.Step.{origin, stepOf}
 use Rattle.iter.specs.declared.Node.{Node}
 use Rattle.iter.specs.declared.Walk.{Walk}
@@ -11,4 +12,4 @@ use Rattle.resolver.specs.Once.{bankOf}
 
 abbrev pub steppedBefore : Bankdefs → Walk → Node → Bool → Stepped
 steppedBefore banks walk n isFirst =
-    pick isFirst (record { seen = To origin; walk = walk }) (stepOf (bankOf banks walk n) walk n)
+    pick isFirst (record { seen = To origin; skipped = noSkip; walk = walk }) (stepOf (bankOf banks walk n) walk n)

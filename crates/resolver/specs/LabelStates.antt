@@ -25,7 +25,7 @@ use Rattle.resolver.specs.Ends.{Runs, after, atLimit}
 use Rattle.resolver.specs.Labels.{same-address, address-same}
 use Rattle.resolver.specs.Lists.{Lists, Row}
 use Rattle.resolver.specs.NodeOrder.{defAt, GoesPast, ran-to-end, seen-apart}
-use Rattle.resolver.specs.Once.{Program, node, bankOf, sameAddress, labelState, stateOf, walkTo}
+use Rattle.resolver.specs.Once.{Program, node, bankRecord, sameAddress, labelState, stateOf, walkTo}
 use Rattle.resolver.specs.PassStates.{seenIn, defIn, nodeIn, stateIn}
 use Rattle.resolver.specs.Passes.{program, rowOfPass, passAt, unresolved}
 use Rattle.resolver.specs.Walked.{stateSeen}
@@ -168,4 +168,4 @@ module _ (banks : Bankdefs) (l : Lists) (m n : ℕ) (isLast : Bool) (later : 2 �
       let p = program banks l in
       let was = bank-by-switches p (rowOfPass l (n - 1)) false i (λ j g. before-ran r j (omega arith)) in
       let is = bank-by-switches p (rowOfPass l n) isLast i all in
-      ap (λ (b : ℕ). bankOf banks (record { at = walkTo p (rowOfPass l n) i .at; bank = b }) (nodeIn banks l n i)) (was ∙ sym is)
+      ap (λ (b : ℕ). bankRecord banks (bankAfter b (nodeIn banks l n i))) (was ∙ sym is)

@@ -31,6 +31,7 @@ use Rattle.iter.specs.declared.Moved.{Moved}
 use Rattle.iter.specs.declared.Moved.the-variants.{To, Refused as Stopped}
 use Rattle.iter.specs.declared.Node.{Node}
 use Rattle.iter.specs.declared.Pos.{Pos}
+use Rattle.iter.specs.declared.Skipped.{Skipped}
 use Rattle.iter.specs.declared.Stepped.{Stepped}
 use Rattle.iter.specs.declared.Walk.{Walk}
 use Rattle.resolver.specs.Layout.{Checked}
@@ -45,10 +46,10 @@ use Rattle.resolver.specs.Sound.{accepted-node, accepted-lists}
 -- ---- a step
 
 module _ (def : Bankdef) (tells : tellable def ≡ true) where
-  measured-not : {position a node : ℕ} {t : Told ℕ} → Measures def position a node t → toldNumber t ≡ 4 → ⊥
+  measured-not : {position a node : ℕ} {t : Told Skipped} → Measures def position a node t → toldNumber t ≡ 4 → ⊥
   measured-not (told.malformed h) e = clash tells h
   measured-not (told.none h z) e = omega arith
-  measured-not (told.next h k d a) e = omega arith
+  measured-not (told.next h k s a w) e = omega arith
 
   distance-not : (position a node : ℕ) (why : Refusal) → distanceOf def position a node ≡ NoDistance why → numberOf why ≡ 4 → ⊥
   distance-not position a node why e n =

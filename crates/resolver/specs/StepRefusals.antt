@@ -5,6 +5,7 @@ use mathlib.Core.Bool.{Bool, true, false}
 use mathlib.Core.Logic.{_⊎_, inl, inr}
 use native.Mathlib.Omega.{arith}
 use lib.Dec.{leb}
+use lib.ListN.{getD}
 use Rattle.refusal.specs.Limits.{maxPosition}
 use Rattle.refusal.specs.Pick.{pick}
 use Rattle.refusal.specs.declared.Refusal.{Refusal}
@@ -12,14 +13,16 @@ use Rattle.refusal.specs.declared.Refusal.the-variants.{Malformed, PositionPast
 use Rattle.refusal.specs.declared.Opt.{Opt}
 use Rattle.refusal.specs.declared.Opt.the-variants.{None, Some}
 use Rattle.bankdef.specs.declared.Bankdef.{Bankdef}
-use Rattle.iter.specs.Distance.{tellable, addressInBits, distanceTo, distanceOf}
-use Rattle.iter.specs.Step.{movedBy, movedByDistance, alignedTo, outermostSymbol, labelAligned, seenOf, movedOn, advancedOf, steppedTo, steppedFrom, stepOf}
+use Rattle.iter.specs.Distance.{tellable, addressInBits, distanceTo, skipsOf, distanceOf}
+use Rattle.iter.specs.Step.{origin, movedBy, movedByDistance, alignedTo, outermostSymbol, labelAligned, seenOf, movedOn, advancedOf}
+use Rattle.iter.specs.Step.{stepSkips, steppedTo, steppedFrom, stepOf}
 use Rattle.iter.specs.declared.Distance.{Distance}
-use Rattle.iter.specs.declared.Distance.the-variants.{Bits, Refused as NoDistance}
+use Rattle.iter.specs.declared.Distance.the-variants.{Skips, Refused as NoDistance}
 use Rattle.iter.specs.declared.Moved.{Moved}
 use Rattle.iter.specs.declared.Moved.the-variants.{To, Refused as Stopped}
 use Rattle.iter.specs.declared.Node.{Node}
 use Rattle.iter.specs.declared.Pos.{Pos}
+use Rattle.iter.specs.declared.Skipped.{Skipped}
 use Rattle.iter.specs.declared.Stepped.{Stepped}
 use Rattle.iter.specs.declared.Walk.{Walk}
 
@@ -62,8 +65,8 @@ module _ (i : ℕ) where
   malformed-ok : MoveOk i (Stopped (Malformed i))
   malformed-ok = stopped-ok (Malformed i) (inl refl)
 
-  told-ok : (bits : ℕ) → DistanceOk i (Bits bits)
-  told-ok bits = record { refusable = λ why e. absurd (let z : _≡_ {A = ℕ} 0 1 = cc in let b : ⊥ = omega arith in b) }
+  told-ok : (s : Skipped) → DistanceOk i (Skips s)
+  told-ok s = record { refusable = λ why e. absurd (let z : _≡_ {A = ℕ} 0 1 = cc in let b : ⊥ = omega arith in b) }
 
   untold-ok : (why : Refusal) → Refusable i why → DistanceOk i (NoDistance why)
   untold-ok why h = record { refusable = λ other e. subst (Refusable i) (no-distance e) h }
@@ -71,8 +74,8 @@ module _ (i : ℕ) where
   distance-ok : (def : Bankdef) (position a : ℕ) → DistanceOk i (distanceOf def position a i)
   unfolding distanceOf
   distance-ok def position a =
-      choice-distance i (tellable def) (Bits (distanceTo (addressInBits def position) a)) (NoDistance (Malformed i))
-      (told-ok (distanceTo (addressInBits def position) a)) (untold-ok (Malformed i) (inl refl))
+      choice-distance i (tellable def) (Skips (skipsOf def (distanceTo (addressInBits def position) a))) (NoDistance (Malformed i))
+      (told-ok (skipsOf def (distanceTo (addressInBits def position) a))) (untold-ok (Malformed i) (inl refl))
 
   sum-ok : (at : Pos) (bits : ℕ) (known : Bool) → MoveOk i (movedBy at bits known i)
   sum-ok at bits known =
@@ -80,7 +83,7 @@ module _ (i : ℕ) where
       (stopped-ok (PositionPast i) (inr refl))
 
   by-distance : (at : Pos) (known : Bool) (d : Distance) → DistanceOk i d → MoveOk i (movedByDistance at d known i)
-  by-distance at known (Bits d) h = sum-ok at d known
+  by-distance at known (Skips s) h = sum-ok at (s .bits) known
   by-distance at known (NoDistance why) h = stopped-ok why (h .refusable why refl)
 
   aligned-ok : (def : Bankdef) (at : Pos) (a : ℕ) (known : Bool) → MoveOk i (alignedTo def at a known i)
@@ -101,12 +104,12 @@ module _ (def : Bankdef) (node : Node) where
   unfolding advancedOf movedOn
   advanced-ok at = search (choice-move, sum-ok, aligned-ok, to-ok, malformed-ok) depth 9
 
-  after-ok : (walk : Walk) (bank : ℕ) (p : Pos) (m : Moved) → MoveOk (node .index) m → MoveOk (node .index) (steppedTo walk bank p m .seen)
-  after-ok walk bank p (To q) h = to-ok (node .index) p
-  after-ok walk bank p (Stopped why) h = h
+  after-ok : (walk : Walk) (bank : ℕ) (p : Pos) (s : Skipped) (m : Moved) → MoveOk (node .index) m → MoveOk (node .index) (steppedTo walk bank p s m .seen)
+  after-ok walk bank p s (To q) h = to-ok (node .index) p
+  after-ok walk bank p s (Stopped why) h = h
 
   from-ok : (walk : Walk) (bank : ℕ) (m : Moved) → MoveOk (node .index) m → MoveOk (node .index) (steppedFrom def walk bank node m .seen)
-  from-ok walk bank (To p) h = after-ok walk bank p (advancedOf def p node) (advanced-ok p)
+  from-ok walk bank (To p) h = after-ok walk bank p (stepSkips def (getD (walk .at) bank origin) p node) (advancedOf def p node) (advanced-ok p)
   from-ok walk bank (Stopped why) h = h
 
   step-ok : (walk : Walk) → MoveOk (node .index) (stepOf def walk node .seen)

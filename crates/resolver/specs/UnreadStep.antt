@@ -11,7 +11,8 @@ use Rattle.refusal.specs.declared.Refusal.the-variants.{Malformed}
 use Rattle.bankdef.specs.Bools.{either}
 use Rattle.bankdef.specs.declared.Bankdef.{Bankdef}
 use Rattle.iter.specs.Advance.{early, asserting, other}
-use Rattle.iter.specs.Step.{origin, outermostSymbol, seenOf, badState, movedOn, advancedOf, bankAfter, steppedTo, steppedFrom, stepOf}
+use Rattle.iter.specs.Step.{origin, outermostSymbol, seenOf, badState, movedOn, advancedOf, seenSkips, advanceSkips}
+use Rattle.iter.specs.Step.{bankAfter, stepSkips, steppedFrom, stepOf}
 use Rattle.iter.specs.declared.Moved.{Moved}
 use Rattle.iter.specs.declared.Moved.the-variants.{To, Refused as Stopped}
 use Rattle.iter.specs.declared.Node.{Node}
@@ -77,8 +78,23 @@ module _ (n m : Node) (same : SameRead n m) where
   unfolding advancedOf
   advanced-same def at = rw (bad-same, moved-same def at, same .index)
 
+  seen-skips-same : (def : Bankdef) (at : Pos) → seenSkips def at n ≡ seenSkips def at m
+  unfolding seenSkips
+  seen-skips-same def at = rw (seen-same def at, symbol-same, same .index)
+
+  advance-skips-same : (def : Bankdef) (at : Pos) → advanceSkips def at n ≡ advanceSkips def at m
+  unfolding advanceSkips
+  advance-skips-same def at =
+      rw (advanced-same def at, same .kind, same .index)
+      (either (eqb (m .kind) 8)
+      (λ e. let k = eqb-true (m .kind) 8 e in rw (e, same .number (omega arith) (omega arith)))
+      (λ e. rw e))
+
+  skips-same : (def : Bankdef) (at p : Pos) → stepSkips def at p n ≡ stepSkips def at p m
+  skips-same def at p = rw (seen-skips-same def at, advance-skips-same def p, same .kind)
+
   from-same : (def : Bankdef) (walk : Walk) (bank : ℕ) (seen : Moved) → steppedFrom def walk bank n seen ≡ steppedFrom def walk bank m seen
-  from-same def walk bank (To p) = ap (steppedTo walk bank p) (advanced-same def p)
+  from-same def walk bank (To p) = rw (skips-same def (getD (walk .at) bank origin) p, advanced-same def p)
   from-same def walk bank (Stopped why) = refl
 
   -- They make one step.

@@ -6,6 +6,7 @@ use bankdef::Bankdefs;
 use iter::Moved;
 use iter::Node;
 use iter::Pos;
+use iter::Skipped;
 use iter::Stepped;
 use iter::Walk;
 use iter::bank_after;
@@ -156,7 +157,12 @@ fn step_before(banks: Bankdefs, walk: Walk, node: Node, is_first: bool) -> Stepp
             position: 0,
             known: true,
         });
-        return Stepped { seen, walk };
+        let skipped = Skipped { bits: 0, units: 0 };
+        return Stepped {
+            seen,
+            skipped,
+            walk,
+        };
     }
     step_at(banks, walk, node)
 }

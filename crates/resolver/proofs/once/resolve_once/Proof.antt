@@ -46,7 +46,7 @@ node-met c =
     (c .before .before .before .before .before .before .before .before .loop .inv .2)
     (c .before .before .before .before .before .before .node-at .ensures)
     (c .before .before .before .before .before .bank-after .ensures) (c .before .before .before .before .bank-record .ensures)
-    (c .before .before .before .step .ensures) (c .before .before .node-at2 .ensures) (c .before .step-before .ensures)
+    (c .before .before .before .step .ensures .0) (c .before .before .node-at2 .ensures) (c .before .step-before .ensures)
     (c .meet .ensures)
 
 start-requires : tie.Need-start-requires Inv-loop μ-loop

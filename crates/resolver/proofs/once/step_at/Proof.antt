@@ -16,7 +16,7 @@ step-requires c κs = search needs
 returns : tie.Need-returns
 returns c =
     let a = c .before .before .before .args in
-    step-in-bank (a .banks) (a .walk) (a .node) (c .before .before .bank-after .ensures) (c .before .bank-record .ensures) (c .step .ensures)
+    step-in-bank (a .banks) (a .walk) (a .node) (c .before .before .bank-after .ensures) (c .before .bank-record .ensures) (c .step .ensures .0)
 
 pub step-at-spec : {M : Type 1} → statement M
 step-at-spec = tie.close (tie.spec bank-after-requires bank-record-requires step-requires returns)
