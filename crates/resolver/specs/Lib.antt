@@ -19,6 +19,7 @@ pub mod ListsExactly
 pub mod NeverFour
 pub mod NodeOrder
 pub mod Once
+pub mod Padding
 pub mod PassStates
 pub mod Passes
 pub mod PositionPast
