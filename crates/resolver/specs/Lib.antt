@@ -12,6 +12,7 @@ pub mod LabelStates
 pub mod Labels
 pub mod LastPass
 pub mod Layout
+pub mod LayoutPadding
 pub mod Least
 pub mod Listed
 pub mod Lists
