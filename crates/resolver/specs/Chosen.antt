@@ -1,9 +1,8 @@
 -- What a layout has of its choices: the limit, and whether the fill is one of the two. No pass reads which of the two it is, and nothing here reads
 -- whether bank 0 may be used alone.
 use Prim.Native.Nat.{ℕ, _<_, _≤_}
-use mathlib.Core.Path.{_≡_, refl}
+use mathlib.Core.Path.{_≡_}
 use mathlib.Core.Bool.{true}
-use native.Mathlib.Omega.{arith}
 use borrow.Author.Tests.{le-leb, lt-leb}
 use Rattle.refusal.specs.declared.Refusal.the-variants.{Malformed}
 use Rattle.refusal.specs.declared.Verdict.the-variants.{Accepted}
@@ -12,7 +11,7 @@ use Rattle.bankdef.specs.declared.Bankdefs.{Bankdefs}
 use Rattle.resolver.specs.Layout.{layoutOf}
 use Rattle.resolver.specs.Lists.{Lists, nodeCountSound, rowCountSound, listsOf}
 use Rattle.resolver.specs.declared.Choices.{Choices}
-use Rattle.resolver.specs.declared.Settled.the-variants.{At, Refused}
+use Rattle.resolver.specs.declared.Settled.the-variants.{Refused}
 
 -- The list check is the same for both fills.
 pub same-check-for-fills : (banks : ℕ) (l : Lists) (f g : ℕ) → f ≤ 1 → g ≤ 1 → listsOf banks l f ≡ listsOf banks l g

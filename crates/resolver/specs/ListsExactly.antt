@@ -1,21 +1,25 @@
 -- "4: the list .. is malformed", exactly when, with its place: the counts, then the choice, then the lowest node at fault.
 use Prim.Native.Nat.{ℕ, _<_, _≤_}
-use mathlib.Core.Path.{_≡_, refl, ap, _∙_}
+use mathlib.Core.Path.{_≡_, refl, ap}
 use mathlib.Core.Bool.{Bool, true, false}
 use mathlib.Core.Logic.{_↔_}
-use native.Mathlib.Omega.{arith}
 use lib.ListN.{length}
 use borrow.Author.Tests.{leb-true, leb-false, le-leb, lt-leb}
 use Rattle.refusal.specs.Pick.{pick}
 use Rattle.refusal.specs.Refusals.{placeOf}
-use Rattle.refusal.specs.declared.Place.{Place}
+use Rattle.refusal.specs.Told.{refuses}
 use Rattle.refusal.specs.declared.Place.the-variants.{One}
 use Rattle.refusal.specs.declared.Refusal.{Refusal}
 use Rattle.refusal.specs.declared.Refusal.the-variants.{Malformed}
-use Rattle.refusal.specs.declared.Verdict.{Verdict}
 use Rattle.refusal.specs.declared.Verdict.the-variants.{Accepted, Refused}
+use Rattle.bankdef.specs.Check.{checkOf}
+use Rattle.bankdef.specs.declared.Bankdefs.{Bankdefs}
+use Rattle.resolver.specs.Layout.{layoutOf}
 use Rattle.resolver.specs.Lists.{Lists, nodeCountSound, rowCountSound, knownFill, nodesTo, listsOf}
+use Rattle.resolver.specs.RefusedExactly.{four-exactly}
 use Rattle.resolver.specs.Sound.{Lowest, lowest-node, lowest-refused}
+use Rattle.resolver.specs.Told.{toldSettled}
+use Rattle.resolver.specs.declared.Choices.{Choices}
 
 -- The lists, with the choice of the fill, are malformed at a place. "then 4: node count, row count, limit, then the lowest node"; "4 for an unknown
 -- choice, after the limit (field 3)".
@@ -73,3 +77,14 @@ module _ (banks : ℕ) (l : Lists) (fill : ℕ) where
   -- The lists are refused 4 at a place exactly when they are malformed there.
   pub malformed-exactly : (i : ℕ) → (listsOf banks l fill ≡ Refused (Malformed i)) ↔ MalformedAt banks l fill i
   malformed-exactly i = (to-place i, at-place i)
+
+-- A layout is refused 4 at a place exactly when its table is sound and its lists, or its choice, are malformed there.
+pub layout-malformed-exactly : (banks : Bankdefs) (l : Lists) (choices : Choices) → banks .len ≤ length (banks .defs) → (i : ℕ) →
+    (toldSettled (layoutOf banks l choices .settled) ≡ refuses 4 (One i)) ↔
+    ((checkOf banks ≡ Accepted) × MalformedAt (banks .len) l (choices .fill) i)
+layout-malformed-exactly banks l choices whole i =
+    let four = four-exactly banks l choices whole i in
+    let lists = malformed-exactly (banks .len) l (choices .fill) i in (
+      λ e. let h = four .0 e in (h .0, lists .0 (h .1)),
+      λ h. four .1 (h .0, lists .1 (h .1)),
+    )

@@ -8,7 +8,7 @@ use native.Mathlib.Omega.{arith}
 use lib.Dec.{eqb, leb}
 use lib.ListN.{getD, set, length, length-set, replicate}
 use lib.Seq.{getD-set-same, getD-set-other}
-use borrow.Author.Tests.{eqb-true, eqb-false, eq-eqb, leb-true, leb-false, le-leb, lt-leb}
+use borrow.Author.Tests.{eqb-true, eqb-false, leb-true, leb-false, le-leb, lt-leb}
 use Rattle.refusal.specs.Bools.{either, neither}
 use Rattle.refusal.specs.Limits.{maxBanks, maxNodes, maxPosition}
 use Rattle.refusal.specs.Pick.{pick}
@@ -25,13 +25,12 @@ use Rattle.iter.specs.Distance.{tellable, addressInBits, distanceTo, skipsOf, n
 use Rattle.iter.specs.Figures as told
 use Rattle.iter.specs.Figures.{toldMoved, Advances}
 use Rattle.iter.specs.Step.{origin, startOf, movedByDistance, outermostSymbol, labelAligned, seenOf, badState, advancedOf}
-use Rattle.iter.specs.Step.{skipsBy, whenMade, labelSkips, seenSkips, advanceSkips, lostAfter, maxSum, bankAfter, stepSkips, malformed, stepOf}
+use Rattle.iter.specs.Step.{skipsBy, labelSkips, seenSkips, advanceSkips, lostAfter, maxSum, bankAfter, stepSkips, stepOf}
 use Rattle.iter.specs.StepCases.{standing, step-cases}
 use Rattle.iter.specs.StepFacts.{count-kept, made-sound, sees-plain}
 use Rattle.iter.specs.ToldFacts.{advance-told}
 use Rattle.iter.specs.declared.Distance.{Distance}
 use Rattle.iter.specs.declared.Distance.the-variants.{Skips, Refused as NoDistance}
-use Rattle.iter.specs.declared.Moved.{Moved}
 use Rattle.iter.specs.declared.Moved.the-variants.{To, Refused as Stopped}
 use Rattle.iter.specs.declared.Node.{Node}
 use Rattle.iter.specs.declared.Pos.{Pos}
@@ -41,7 +40,7 @@ use Rattle.iter.specs.declared.Walk.{Walk}
 use Rattle.resolver.specs.KnownInPass.{bankAt}
 use Rattle.resolver.specs.Least.{or-past}
 use Rattle.resolver.specs.Lists.{Row}
-use Rattle.resolver.specs.NodeOrder.{seenAt, defAt, seen-apart}
+use Rattle.resolver.specs.NodeOrder.{seenAt, defAt}
 use Rattle.resolver.specs.Once.{Program, node, walkTo}
 
 -- ---- the definition
