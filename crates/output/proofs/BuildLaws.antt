@@ -24,10 +24,11 @@ use Rattle.output.specs.Blank.{blank-zeros}
 use Rattle.output.specs.ItemLaws.{end-within}
 use Rattle.output.specs.Placing.{Placed, holds, stops, placedAll}
 use Rattle.output.specs.Spans.{spansOf, over, addresses, words, sizes}
-use Rattle.output.specs.Output.{Lent, lent, Room, roomOf, roomFor, placedBuild, buildRow}
+use Rattle.output.specs.Output.{Lent, lent, Room, roomOf, roomFor, outputOf, refusedAfter, placedBuild, buildRow, leftBy}
 use Rattle.output.specs.Steps.{Planned, verdictPlaced, InValues, Fit, Fits, RowBuilt}
 use Rattle.output.specs.declared.placing.Plan.{Plan}
 use Rattle.output.specs.declared.Build.{Build}
+use Rattle.output.specs.declared.Output.{Output}
 use Rattle.output.specs.declared.Build.the-variants.{Done, Refused}
 
 -- ---- room
@@ -57,12 +58,18 @@ built-by : (room : Room) (k bits spans : ℕ) (q : Placed) → verdictPlaced q �
 built-by room k bits spans (holds l) e = refl
 built-by room k bits spans (stops why) e = absurd (let z : _≡_ {A = ℕ} 0 1 = cc in omega arith)
 
-module _ (p : Program) (row : Row) (closed : Bool) (fill k : ℕ) (values : List ℕ) (old : Lent) (plan : Plan) (planned : Planned p row closed fill plan) where
+module _ (p : Program) (row : Row) (closed : Bool) (fill k passes : ℕ) (values : List ℕ) (old : Lent) (plan : Plan) (planned : Planned p row closed fill plan) where
   -- a build that changes nothing
-  kept : (why : Refusal) → Refused why ≡ buildRow closed (visits p row) fill (roomOf old) k → RowBuilt p row closed fill k values old (Refused why) old
-  kept why e = record { answer = e; left = refl }
+  kept : (why : Refusal) → Refused why ≡ buildRow closed (visits p row) fill (roomOf old) k → (x : Output) → x ≡ refusedAfter passes why
+      → RowBuilt p row closed fill k passes values old x old
+  kept why e x is =
+      record {
+        answer = is ∙ ap (outputOf p row passes) e;
+        left = ap (λ (o : Output). leftBy (p .banks) (visits p row) values old (o .build)) (sym is);
+      }
 
-  pub row-stopped : (why : Refusal) → plan .verdict ≡ TurnedAway why → RowBuilt p row closed fill k values old (Refused why) old
+  pub row-stopped : (why : Refusal) → plan .verdict ≡ TurnedAway why → (x : Output) → x ≡ refusedAfter passes why
+      → RowBuilt p row closed fill k passes values old x old
   row-stopped why e =
       kept why
       (sym (ap (placedBuild (roomOf old) k (lengthOf fill (itemsOf (visits p row))) (length (spansOf (visits p row))))
@@ -76,7 +83,8 @@ module _ (p : Program) (row : Row) (closed : Bool) (fill k : ℕ) (values : List
         ∙ ap (λ (n : ℕ). roomFor (roomOf old) k n (length (spansOf (visits p row)))) (sym (planned .reach accepted))
         ∙ ap (λ (n : ℕ). roomFor (roomOf old) k (plan .length) n) (sym (planned .count accepted))
 
-    pub row-short-image : ltb (8 * length (old .image)) (plan .length) ≡ true → RowBuilt p row closed fill k values old (Refused (TooShort 0)) old
+    pub row-short-image : ltb (8 * length (old .image)) (plan .length) ≡ true → (x : Output) → x ≡ refusedAfter passes (TooShort 0)
+        → RowBuilt p row closed fill k passes values old x old
     row-short-image short = kept (TooShort 0) (sym (answers ∙ pick-true (Refused (TooShort 0)) _ short))
 
     module _ (long : ltb (8 * length (old .image)) (plan .length) ≡ false) where
@@ -84,7 +92,8 @@ module _ (p : Program) (row : Row) (closed : Bool) (fill k : ℕ) (values : List
           ≡ pick (ltb (roomOf old .spans) (plan .spans)) (Refused (TooShort 1)) (Done k (plan .length) (plan .spans))
       rest = answers ∙ pick-false (Refused (TooShort 0)) _ long
 
-      pub row-short-spans : roomOf old .spans < plan .spans → RowBuilt p row closed fill k values old (Refused (TooShort 1)) old
+      pub row-short-spans : roomOf old .spans < plan .spans → (x : Output) → x ≡ refusedAfter passes (TooShort 1)
+          → RowBuilt p row closed fill k passes values old x old
       row-short-spans short = kept (TooShort 1) (sym (rest ∙ pick-true (Refused (TooShort 1)) _ (lt-ltb _ _ short)))
 
       -- the image is long enough for every written item
@@ -106,9 +115,12 @@ module _ (p : Program) (row : Row) (closed : Bool) (fill k : ℕ) (values : List
             → addressed′ ≡ over (addresses (spansOf (visits p row))) (old .addresses)
             → offsets′ ≡ over (words (spansOf (visits p row))) (old .offsets)
             → sized′ ≡ over (sizes (spansOf (visits p row))) (old .sizes)
-            → RowBuilt p row closed fill k values old (Done k (plan .length) (plan .spans)) (lent image′ addressed′ offsets′ sized′)
+            → RowBuilt p row closed fill k passes values old (record { build = Done k (plan .length) (plan .spans); passes = passes; padding = plan .padding })
+            (lent image′ addressed′ offsets′ sized′)
         row-done image′ addressed′ offsets′ sized′ a b c d =
             record {
-              answer = sym (rest ∙ pick-false (Refused (TooShort 1)) _ (le-ltb _ _ enough));
+              answer =
+                  ap (λ (l : List ℕ). record { build = Done k (plan .length) (plan .spans); passes = passes; padding = l }) (planned .padding accepted)
+                  ∙ ap (outputOf p row passes) (sym (rest ∙ pick-false (Refused (TooShort 1)) _ (le-ltb _ _ enough)));
               left = rw (a, b, c, d, blank-zeros (banksOf (p .banks)) (plan .length) (length (old .image)));
             }

@@ -1,4 +1,5 @@
 pub mod BuildLaws
+pub mod Carried
 pub mod OfferLaws
 pub mod PlanLaws
 pub mod SettledLaws

@@ -6,7 +6,7 @@ use Prim.Native.Nat.{ℕ, suc, _+_, _≤_, _<_}
 use native.Mathlib.Numerals.{add-one}
 use native.Mathlib.Omega.{arith}
 use lib.ListN.{length, replicate, length-append, length-replicate}
-use Rattle.refusal.specs.Limits.{maxOffer}
+use Rattle.refusal.specs.Limits.{maxOffer, maxNodes}
 use Rattle.refusal.specs.Pick.{pick}
 use Rattle.refusal.specs.declared.Refusal.{Refusal}
 use Rattle.refusal.specs.declared.Verdict.{Verdict}
@@ -28,6 +28,7 @@ use Rattle.output.specs.Spans.{Span, isSpan, spanAt}
 use Rattle.output.specs.Placing.{offerOf, verdictOn, verdictSeen, holds, stops, placedIf, placedNext, placedFrom, placedAll}
 use Rattle.output.specs.PlacingLaws.{placed-append, stops-stay}
 use Rattle.output.specs.Steps.{Goes, Planned, maxEnd, verdictPlaced}
+use Rattle.output.proofs.Carried.{carried}
 use Rattle.output.proofs.Upto.{spansTo, lengthTo, placedTo, spans-next, length-next, placed-next, spans-none, items-none, placed-none}
 
 -- The first walk before node i: the walk of the row, a sound store that holds what is placed so far, the length and the spans so far.
@@ -103,13 +104,14 @@ module _ (p : Program) (row : Row) where
         ∙ ap (λ (x : Verdict). placedIf x (stateAfter (stateIn (store positions sizes count marks marked)) (offerOf v))) (sym answer)
 
     -- a refused node settles the verdict
-    pub settles : (why : Refusal) → i < length (p .kinds) → r ≡ Refused why → Planned p row closed fill (record { verdict = r; length = 0; spans = 0 })
+    pub settles : (why : Refusal) → i < length (p .kinds) → r ≡ Refused why → Planned p row closed fill (record { verdict = r; length = 0; spans = 0; padding = replicate 16 0 })
     settles why b e =
         record {
           verdict = e ∙ sym (ap verdictPlaced (stops-on closed (suc i) (length (p .kinds)) why b
               (placed-then ∙ ap (λ (x : Verdict). placedIf x (stateAfter (stateIn (store positions sizes count marks marked)) (offerOf v))) e)));
           reach = λ acc. absurd (never (sym e ∙ acc));
           count = λ acc. absurd (never (sym e ∙ acc));
+          padding = λ acc. absurd (never (sym e ∙ acc));
           low = omega arith;
         }
       where
@@ -147,12 +149,16 @@ module _ (p : Program) (row : Row) where
   -- all nodes are placed
   pub ends : (closed : Bool) (fill i : ℕ) (walk : Walk) (positions sizes : List ℕ) (count : ℕ) (marks : List ℕ) (marked reach spans : ℕ)
       → Going p row closed fill i walk positions sizes count marks marked reach spans
-      → length (p .kinds) ≤ i → Planned p row closed fill (record { verdict = Accepted; length = reach; spans = spans })
-  ends closed fill i walk positions sizes count marks marked reach spans g b =
+      → length (p .kinds) ≤ i → length (p .kinds) ≤ maxNodes
+      → Planned p row closed fill (record { verdict = Accepted; length = reach; spans = spans; padding = walk .lost })
+  ends closed fill i walk positions sizes count marks marked reach spans g b few =
       let all : i ≡ length (p .kinds) = omega (arith, g .within) in
       record {
         verdict = sym (ap verdictPlaced (subst (λ (k : ℕ). placedTo p row closed k ≡ holds (stateIn (store positions sizes count marks marked))) all (g .placed)));
         reach = λ _. g .reaches ∙ ap (lengthTo p row fill) all;
         count = λ _. g .counts ∙ ap (λ (k : ℕ). length (spansTo p row k)) all;
+        padding = λ _.
+            ap (λ (w : Walk). w .lost) (g .walks) ∙ ap (λ (k : ℕ). walkTo p row k .lost) all
+            ∙ carried p row closed _ few (subst (λ (k : ℕ). placedTo p row closed k ≡ holds (stateIn (store positions sizes count marks marked))) all (g .placed));
         low = g .low;
       }

@@ -40,7 +40,7 @@ use Rattle.output.specs.VisitLaws.{each-from, member-visit}
 use Rattle.output.specs.Items.{isWritten, standing, itemOf, itemsOf}
 use Rattle.output.specs.Placing.{Placed, holds, stops, placedAll}
 use Rattle.output.specs.PlacingLaws.{picked-some}
-use Rattle.output.specs.Output.{Input, input, closedOf, Lent, Room, roomOf, roomFor, placedBuild, settledBuild, buildOf, visitsOf, passesOf, settledOf}
+use Rattle.output.specs.Output.{Input, input, closedOf, Lent, Room, roomOf, roomFor, outputOf, refusedAfter, placedBuild, settledBuild, buildOf, visitsOf, passesOf, settledOf}
 use Rattle.output.specs.Output.{toldBuild, roomTold, placedTold, settledTold, leftBy, Builds}
 use Rattle.output.specs.Steps.{programOf, rowOf, InValues, RowBuilt}
 use Rattle.output.specs.declared.visits.Visit.{Visit}
@@ -95,22 +95,24 @@ settled-told b room (Unsettled why) = refl
 settled-told b room (At k) = placed-told room k _ _ (placedAll (closedOf b) (visitsOf b (passesOf b)))
 
 -- the contract, from the build by the passes that were run
-pub contract : (b : Input) (r : Resolution) → r ≡ layoutOf (b .banks) (b .lists) (b .choices) → (old new : Lent) (x : Build)
-    → x ≡ settledBuild b (roomOf old) (r .passes) (r .settled) → new ≡ leftBy (b .banks) (visitsOf b (r .passes)) (b .lists .values) old x
-    → Builds b old (record { build = x; passes = r .passes }) new
+pub contract : (b : Input) (r : Resolution) → r ≡ layoutOf (b .banks) (b .lists) (b .choices) → (old new : Lent) (x : Output)
+    → x ≡ outputOf (program (b .banks) (b .lists)) (rowOfPass (b .lists) (r .passes)) (r .passes) (settledBuild b (roomOf old) (r .passes) (r .settled))
+    → new ≡ leftBy (b .banks) (visitsOf b (r .passes)) (b .lists .values) old (x .build)
+    → Builds b old x new
 unfolding buildOf
 contract b r e old new x same left =
-    let answer : _≡_ {A = Output} (out x (r .passes)) (out (settledBuild b (roomOf old) (passesOf b) (settledOf b)) (passesOf b)) =
-    ap (λ (y : Build). out y (r .passes)) same
-    ∙ ap (λ (q : Resolution). out (settledBuild b (roomOf old) (q .passes) (q .settled)) (q .passes)) e in
+    let whole : x ≡ buildOf b (roomOf old) =
+    same
+    ∙ ap
+    (λ (q : Resolution). outputOf (program (b .banks) (b .lists)) (rowOfPass (b .lists) (q .passes)) (q .passes)
+    (settledBuild b (roomOf old) (q .passes) (q .settled))) e in
     record {
-      answer = answer;
-      figures = ap (λ (o : Output). toldBuild (o .build)) answer ∙ settled-told b (roomOf old) (settledOf b);
-      left = left;
+      answer = whole;
+      figures = ap (λ (o : Output). toldBuild (o .build)) whole ∙ settled-told b (roomOf old) (settledOf b);
+      left =
+          left
+          ∙ ap (λ (n : ℕ). leftBy (b .banks) (visitsOf b n) (b .lists .values) old (x .build)) (sym (ap (λ (o : Output). o .passes) same));
     }
-  where
-    out : Build → ℕ → Output
-    out y n = record { build = y; passes = n }
 
 module _ (banks : Bankdefs) (l : Lists) (m : Choices) (r : Resolution) (resolves : r ≡ layoutOf banks l m) where
   module _ (k : ℕ) (settles : r .settled ≡ At k) where
@@ -175,17 +177,21 @@ module _ (banks : Bankdefs) (l : Lists) (m : Choices) (r : Resolution) (resolves
           (in-values (min (r .passes) (l .rows) - 1) (omega (arith, settled-rows .some))))
 
       -- the public answer from the row's
-      pub finished : (old new : Lent) (x : Build)
+      pub finished : (old new : Lent) (x : Output)
           → RowBuilt (programOf banks (l .kinds) (l .operands) (take (length (l .kinds) - 0) (drop 0 (l .numbers))))
           (rowOf (take (start + length (l .kinds) - start) (drop start (l .numbers))) (take (start + length (l .kinds) - start) (drop start (l .states))))
-          (closedOf (input banks l m)) (fillBy (m .fill) (banksOf banks)) k (l .values) old x new
-          → Builds (input banks l m) old (record { build = x; passes = r .passes }) new
+          (closedOf (input banks l m)) (fillBy (m .fill) (banksOf banks)) k (r .passes) (l .values) old x new
+          → Builds (input banks l m) old x new
       finished old new x raw =
           let built = rw (part-program, part-row) at raw in
           contract (input banks l m) r resolves old new x
-          (built .answer ∙ sym (ap (settledBuild (input banks l m) (roomOf old) (r .passes)) settles)) (built .left)
+          (built .answer
+          ∙ sym (ap (λ (s : Settled). outputOf (program banks l) (rowOfPass l (r .passes)) (r .passes) (settledBuild (input banks l m) (roomOf old) (r .passes) s)) settles))
+          (built .left)
 
-  pub refused : (why : Refusal) → r .settled ≡ Unsettled why → (old : Lent) → Builds (input banks l m) old (record { build = Refused why; passes = r .passes }) old
-  refused why settles old =
-      contract (input banks l m) r resolves old old (Refused why)
-      (sym (ap (settledBuild (input banks l m) (roomOf old) (r .passes)) settles)) refl
+  pub refused : (why : Refusal) → r .settled ≡ Unsettled why → (old : Lent) → (x : Output) → x ≡ refusedAfter (r .passes) why → Builds (input banks l m) old x old
+  refused why settles old x is =
+      contract (input banks l m) r resolves old old x
+      (is
+      ∙ sym (ap (λ (s : Settled). outputOf (program banks l) (rowOfPass l (r .passes)) (r .passes) (settledBuild (input banks l m) (roomOf old) (r .passes) s)) settles))
+      (ap (λ (o : Output). leftBy banks (visitsOf (input banks l m) (r .passes)) (l .values) old (o .build)) (sym is))

@@ -24,7 +24,7 @@ use Rattle.output.specs.Blank.{blankOf}
 use Rattle.output.specs.Placing.{reservesOf, Placed, holds, stops, placedAll}
 use Rattle.output.specs.Spans.{Span, spansOf}
 use Rattle.output.specs.Output.{Input, closedOf, Lent, Room, roomOf, roomFor, placedBuild, buildRow, settledBuild, buildOf}
-use Rattle.output.specs.Output.{visitsOf, fillOf, passesOf, settledOf, filled, leftBy, Builds}
+use Rattle.output.specs.Output.{paddingsOf, paddingBy, visitsOf, fillOf, passesOf, settledOf, filled, leftBy, Builds}
 use Rattle.output.specs.declared.visits.Visit.{Visit}
 use Rattle.output.specs.declared.Build.{Build}
 use Rattle.output.specs.declared.Build.the-variants.{Done, Refused}
@@ -128,6 +128,12 @@ module _ (c : Call) where
   build-is =
       ap (λ (o : Output). o .build) (c .meets .answer)
       ∙ ap (λ (n : ℕ). settledBuild (c .given) (roomOf (c .old)) n (settledOf (c .given))) (sym passes-are)
+
+  pub padding-is : c .answer .padding ≡ paddingBy (paddingsOf (programIn c) (rowIn c)) (c .answer .build)
+  unfolding buildOf
+  padding-is =
+      subst (λ (o : Output). o .padding ≡ paddingBy (paddingsOf (programIn c) (rowOfPass (c .given .lists) (o .passes))) (o .build))
+      (sym (c .meets .answer)) refl
 
 settled-fine : (b : Input) (room : Room) (passes : ℕ) (s : Settled) (k bits spans : ℕ) → settledBuild b room passes s ≡ Done k bits spans
     → Fine (closedOf b) (visitsOf b passes) (fillOf b) room bits spans

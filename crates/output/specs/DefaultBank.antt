@@ -15,7 +15,7 @@ use Rattle.resolver.specs.declared.Resolution.{Resolution}
 use Rattle.resolver.specs.declared.Settled.{Settled}
 use Rattle.resolver.specs.declared.Settled.the-variants.{At, Refused as Unsettled}
 use Rattle.output.specs.Placing.{closesDefault}
-use Rattle.output.specs.Output.{Input, closedOf, Room, visitsOf, fillOf, buildRow, settledBuild, buildOf}
+use Rattle.output.specs.Output.{Input, closedOf, Room, outputOf, passesOf, settledOf, visitsOf, fillOf, buildRow, settledBuild, buildOf}
 use Rattle.output.specs.Calls.{Call, visitIn}
 use Rattle.output.specs.RefusedAtNode.{Reaches, RefusedThere, PlacedKind, Nine, refused-9-exactly}
 
@@ -73,5 +73,7 @@ module _ (b : Input) (alone : Bool) (others : 1 < b .banks .len) where
   unfolding buildOf
   same-with-other-banks room =
       let layouts = default-bank-unread (b .banks) (b .lists) (withDefault b alone .choices) (b .choices) refl refl in
-      ap (λ (r : Resolution). record { build = settledBuild (withDefault b alone) room (r .passes) (r .settled); passes = r .passes }) layouts
-      ∙ rw (same-row room _ _)
+      ap
+      (λ (r : Resolution). outputOf (program (b .banks) (b .lists)) (rowOfPass (b .lists) (r .passes)) (r .passes)
+      (settledBuild (withDefault b alone) room (r .passes) (r .settled))) layouts
+      ∙ rw (same-row room (passesOf b) (settledOf b))

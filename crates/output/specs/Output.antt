@@ -5,7 +5,8 @@ use mathlib.Core.Bool.{Bool}
 use mathlib.Core.List.{List}
 use lib.Dec.{ltb}
 use lib.IntN.{ℤ}
-use lib.ListN.{length}
+use lib.ListN.{length, replicate}
+use Rattle.refusal.specs.Limits.{maxBanks}
 use Rattle.refusal.specs.Pick.{pick}
 use Rattle.refusal.specs.Told.{Told, gives, refuses, toldRefusal}
 use Rattle.refusal.specs.declared.Place.the-variants.{One}
@@ -14,7 +15,10 @@ use Rattle.refusal.specs.declared.Refusal.the-variants.{TooShort}
 use Rattle.bankdef.specs.Check.{banksOf}
 use Rattle.bankdef.specs.Fill.{fillBy}
 use Rattle.bankdef.specs.declared.Bankdefs.{Bankdefs}
-use Rattle.resolver.specs.Lists.{Lists}
+use Rattle.resolver.specs.Lists.{Lists, Row}
+use Rattle.resolver.specs.Once.{Program}
+use Rattle.resolver.specs.Padding.{paddingOf}
+use Rattle.bitvec.specs.Lists.{listOf}
 use Rattle.resolver.specs.Passes.{program, rowOfPass}
 use Rattle.resolver.specs.Layout.{layoutOf}
 use Rattle.resolver.specs.declared.Choices.{Choices}
@@ -59,6 +63,24 @@ pub record Room : Type 0 where
 abbrev pub roomOf : Lent → Room
 roomOf l = record { image = length (l .image); spans = min (length (l .addresses)) (min (length (l .offsets)) (length (l .sizes))) }
 
+-- ---- padding
+
+-- "each bank should carry the sum of bits lost to `align` and to label alignment in the last pass" (document 02, Ticket 2): of banks 0 to 15
+abbrev pub paddingsOf : Program → Row → List ℕ
+paddingsOf p row = listOf maxBanks (paddingOf p row)
+
+-- An accepted build answers them, a refused one zeros.
+abbrev pub paddingBy : List ℕ → Build → List ℕ
+paddingBy sums (Done k bits spans) = sums
+paddingBy sums (Refused why) = replicate maxBanks 0
+
+-- the build of a row, as it is outputOf after so many passes
+abbrev pub outputOf : Program → Row → ℕ → Build → Output
+outputOf p row passes x = record { build = x; passes = passes; padding = paddingBy (paddingsOf p row) x }
+
+abbrev pub refusedAfter : ℕ → Refusal → Output
+refusedAfter passes why = record { build = Refused why; passes = passes; padding = replicate maxBanks 0 }
+
 -- ---- the answer
 
 -- "14 comes last: image, then spans."
@@ -99,9 +121,10 @@ passesOf b = layoutOf (b .banks) (b .lists) (b .choices) .passes
 abbrev pub settledOf : Input → Settled
 settledOf b = layoutOf (b .banks) (b .lists) (b .choices) .settled
 
--- The answer: "K, passes run, image length, number of spans", or one refusal, with the passes run.
+-- The answer: "K, passes run, image length, number of spans", or one refusal, with the passes run; and each bank's padding.
 unfoldable pub buildOf : Input → Room → Output
-buildOf b room = record { build = settledBuild b room (passesOf b) (settledOf b); passes = passesOf b }
+buildOf b room =
+    outputOf (program (b .banks) (b .lists)) (rowOfPass (b .lists) (passesOf b)) (passesOf b) (settledBuild b room (passesOf b) (settledOf b))
 
 -- ---- the answer in document 01's figures
 

@@ -106,7 +106,7 @@ pub picked-some : {X : Type 0} (b : Bool) (l : List X) {x : X} → List·Memᴰ 
 picked-some true l m = (refl, m)
 picked-some false l m = absurd (List·Memᴰ·not-nil m)
 
-seen-placing : (closed : Bool) (s : State) (v : Visit) (seen : Moved) → verdictSeen closed (v .bank) (v .def) s (v .node) (v .out) seen ≡ Accepted
+pub seen-placing : (closed : Bool) (s : State) (v : Visit) (seen : Moved) → verdictSeen closed (v .bank) (v .def) s (v .node) (v .out) seen ≡ Accepted
     → (at : Pos) × (seen ≡ To at) × (placing closed (v .bank) (v .def) s (v .node) at (v .out) ≡ Accepted)
 seen-placing closed s v (To at) e = (at, refl, e)
 seen-placing closed s v (Stopped why) e = absurd (refused-accepted e)

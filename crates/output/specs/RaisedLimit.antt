@@ -1,5 +1,5 @@
 -- Raising the pass limit is harmless (document 02, Ticket 14): a build that is accepted with K below its limit is the same for every limit above
--- K, in its answer and in all that is lent. And the passes run never exceed the larger of 1 and the limit, refused builds included.
+-- K, in its answer, padding too, and in all that is lent. And the passes run never exceed the larger of 1 and the limit, refused builds included.
 use Prim.Native.Nat.{ℕ, _*_, _<_, _≤_, max}
 use mathlib.Core.Path.{_≡_, refl, sym, _∙_, ap}
 use mathlib.Core.Bool.{Bool, true, false}
@@ -8,6 +8,7 @@ use lib.ListN.{length, take}
 use Rattle.refusal.specs.Pick.{pick}
 use Rattle.refusal.specs.declared.Refusal.the-variants.{TooShort}
 use Rattle.resolver.specs.Layout.{layoutOf, withLimit as limited}
+use Rattle.resolver.specs.Passes.{program, rowOfPass}
 use Rattle.resolver.specs.RaisedLimit.{same-for-limits-above, passes-within-limit}
 use Rattle.resolver.specs.declared.Resolution.{Resolution}
 use Rattle.resolver.specs.declared.Settled.{Settled}
@@ -16,7 +17,7 @@ use Rattle.blocks.specs.Spans.{spansOf as spansLent}
 use Rattle.blocks.specs.Walk.{blocksOf}
 use Rattle.output.specs.SpanFacts.{spansLeft}
 use Rattle.output.specs.Calls.{Accepted, refused-done, build-is}
-use Rattle.output.specs.Output.{Input, closedOf, Lent, Room, roomOf, visitsOf, fillOf, placedBuild, settledBuild, settledOf, buildOf, leftBy, Builds}
+use Rattle.output.specs.Output.{Input, closedOf, Lent, Room, roomOf, outputOf, visitsOf, fillOf, placedBuild, settledBuild, settledOf, buildOf, leftBy, Builds}
 use Rattle.output.specs.Items.{itemsOf, lengthOf}
 use Rattle.output.specs.Spans.{spansOf}
 use Rattle.output.specs.Placing.{Placed, holds, stops, placedAll}
@@ -34,11 +35,13 @@ same-of-passes b n room passes (At k) = refl
 same-of-passes b n room passes (Unsettled why) = refl
 
 module _ (b : Input) (k : ℕ) (accepted : settledOf b ≡ At k) (below : k < b .choices .limit) (n : ℕ) (more : k < n) where
-  -- one answer: the build or its refusal, K and the passes run
+  -- one answer: the build or its refusal, K, the passes run and each bank's padding
   pub same-build-above : (room : Room) → buildOf (withLimit b n) room ≡ buildOf b room
   unfolding buildOf
   same-build-above room =
-      ap (λ (r : Resolution). record { build = settledBuild (withLimit b n) room (r .passes) (r .settled); passes = r .passes })
+      ap
+      (λ (r : Resolution). outputOf (program (b .banks) (b .lists)) (rowOfPass (b .lists) (r .passes)) (r .passes)
+      (settledBuild (withLimit b n) room (r .passes) (r .settled)))
       (same-for-limits-above (b .banks) (b .lists) (b .choices) k accepted below n more)
       ∙ rw (same-of-passes b n room (layoutOf (b .banks) (b .lists) (b .choices) .passes) (settledOf b))
 
@@ -71,7 +74,7 @@ settled-k b room passes (At j) e =
     ap At (k-of-placed room j (lengthOf (fillOf b) (itemsOf vs)) (length (spansOf vs)) (placedAll (closedOf b) vs) e)
 
 -- An accepted build whose K is below its limit: a call with any limit above K, over the same banks, lists and other choices and with the same things
--- lent, has the same answer (K, passes run, length and number of spans) and leaves the same image and spans, to the last byte lent.
+-- lent, has the same answer (K, passes run, length, number of spans and each bank's padding) and leaves the same image and spans, to the last byte lent.
 pub raised-limit-keeps-build : (a : Accepted) (n : ℕ) → a .k < a .call .given .choices .limit → a .k < n
     → {s : Output} {other : Lent} → Builds (withLimit (a .call .given) n) (a .call .old) s other
     → (s ≡ a .call .answer) × (other ≡ a .call .new)

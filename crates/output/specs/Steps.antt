@@ -16,10 +16,10 @@ use Rattle.output.specs.Visits.{visits}
 use Rattle.output.specs.Items.{Item, endOf, itemsOf, lengthOf}
 use Rattle.output.specs.Placing.{Placed, holds, stops, placedAll}
 use Rattle.output.specs.Spans.{spansOf}
-use Rattle.output.specs.Output.{Lent, roomOf, buildRow, leftBy}
+use Rattle.output.specs.Output.{Lent, roomOf, paddingsOf, outputOf, buildRow, leftBy}
 use Rattle.output.specs.declared.visits.Visit.{Visit}
 use Rattle.output.specs.declared.placing.Plan.{Plan}
-use Rattle.output.specs.declared.Build.{Build}
+use Rattle.output.specs.declared.Output.{Output}
 
 abbrev pub programOf : Bankdefs → List ℕ → List ℕ → List ℕ → Program
 programOf banks kinds operands first = record { banks = banks; kinds = kinds; operands = operands; first = first }
@@ -40,11 +40,12 @@ abbrev pub verdictPlaced : Placed → Verdict
 verdictPlaced (holds stored) = Accepted
 verdictPlaced (stops why) = Refused why
 
--- What the first walk finds: the verdict on all nodes; accepted, the image's length and the number of spans.
+-- What the first walk finds: the verdict on all nodes; accepted, the image's length, the number of spans and each bank's padding.
 pub record Planned (p : Program) (row : Row) (closed : Bool) (fill : ℕ) (plan : Plan) : Type 0 where
   pub verdict : plan .verdict ≡ verdictPlaced (placedAll closed (visits p row))
   pub reach : plan .verdict ≡ Accepted → plan .length ≡ lengthOf fill (itemsOf (visits p row))
   pub count : plan .verdict ≡ Accepted → plan .spans ≡ length (spansOf (visits p row))
+  pub padding : plan .verdict ≡ Accepted → plan .padding ≡ paddingsOf p row
   pub low : plan .length ≤ maxEnd
 
 -- items that come from within `values` value bytes
@@ -62,6 +63,7 @@ pub record Fits (n addresses offsets sizes : ℕ) : Type 0 where
   pub third : n ≤ sizes
 
 -- The build of a row: its answer, and everything lent afterwards.
-pub record RowBuilt (p : Program) (row : Row) (closed : Bool) (fill k : ℕ) (values : List ℕ) (old : Lent) (r : Build) (new : Lent) : Type 0 where
-  pub answer : r ≡ buildRow closed (visits p row) fill (roomOf old) k
-  pub left : new ≡ leftBy (p .banks) (visits p row) values old r
+pub record RowBuilt (p : Program) (row : Row) (closed : Bool) (fill k passes : ℕ) (values : List ℕ) (old : Lent) (r : Output) (new : Lent)
+    : Type 0 where
+  pub answer : r ≡ outputOf p row passes (buildRow closed (visits p row) fill (roomOf old) k)
+  pub left : new ≡ leftBy (p .banks) (visits p row) values old (r .build)

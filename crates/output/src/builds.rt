@@ -22,7 +22,7 @@ ghost use Rattle.resolver.specs.Lists.{lists};
 ghost use Rattle.output.specs.Visits.{visits};
 ghost use Rattle.output.specs.Items.{itemsOf};
 ghost use Rattle.output.specs.Placing.{closesDefault};
-ghost use Rattle.output.specs.Output.{input, lent, Builds};
+ghost use Rattle.output.specs.Output.{input, lent, refusedAfter, Builds};
 ghost use Rattle.output.specs.Steps.{programOf, rowOf, maxEnd, InValues, RowBuilt};
 
 // Whether an image of so many bytes has fewer bits. Whole bytes are compared, so that no product can wrap.
@@ -39,6 +39,17 @@ fn shorter(a: u64, b: u64) -> u64
     if a < b { a } else { b }
 }
 
+// A refused build. It tells no bank's padding.
+fn refused(why: Refusal, passes: u64) -> Output
+    ensures { λ r. ⌜ r ≡ refusedAfter passes why ⌝ }
+{
+    Output {
+        build: Build::Refused(why),
+        passes,
+        padding: [0u64; 16],
+    }
+}
+
 // The build over the row of the last pass. "14 comes last: image, then spans."
 fn build_row(
     banks: Bankdefs,
@@ -49,12 +60,13 @@ fn build_row(
     states: &[u8],
     values: &[u8],
     k: u64,
+    passes: u64,
     choices: Choices,
     image: &mut [u8],
     addresses: &mut [i64],
     offsets: &mut [u64],
     sizes: &mut [u64],
-) -> Build
+) -> Output
     requires { ⌜ length (now kinds) ≤ maxNodes ⌝ }
     requires { ⌜
         InValues (length (now values))
@@ -62,7 +74,8 @@ fn build_row(
         ⌝ }
     ensures { λ r. ⌜
         RowBuilt (programOf banks (now (kinds .entry)) (now (operands .entry)) (now (first .entry)))
-        (rowOf (now (numbers .entry)) (now (states .entry))) (closesDefault (banks .len) (choices .«default_bank»)) (fillBy (choices .fill) (banksOf banks)) k (now (values .entry))
+        (rowOf (now (numbers .entry)) (now (states .entry))) (closesDefault (banks .len) (choices .«default_bank»))
+        (fillBy (choices .fill) (banksOf banks)) k passes (now (values .entry))
         (lent (now (image .entry)) (now (addresses .entry)) (now (offsets .entry)) (now (sizes .entry))) r
         (lent (now (image .exit)) (now (addresses .exit)) (now (offsets .exit)) (now (sizes .exit)))
         ⌝ }
@@ -72,17 +85,18 @@ fn build_row(
     let plan = plan_row(banks, kinds, operands, first, numbers, states, closed, fill);
     let verdict = plan.verdict;
     if let Verdict::Refused(why) = verdict {
-        return Build::Refused(why);
+        return refused(why, passes);
     }
     let length = plan.length;
     let spans = plan.spans;
+    let padding = plan.padding;
     if lacks_bytes(image.len() as u64, length) {
-        return Build::Refused(Refusal::TooShort(0));
+        return refused(Refusal::TooShort(0), passes);
     }
     let two = shorter(offsets.len() as u64, sizes.len() as u64);
     let places = shorter(addresses.len() as u64, two);
     if places < spans {
-        return Build::Refused(Refusal::TooShort(1));
+        return refused(Refusal::TooShort(1), passes);
     }
     write_image(
         banks,
@@ -105,7 +119,11 @@ fn build_row(
         offsets,
         sizes,
     );
-    Build::Done { k, length, spans }
+    Output {
+        build: Build::Done { k, length, spans },
+        passes,
+        padding,
+    }
 }
 
 // Where the row of a pass begins in the lists. "Pass n reads row n, or the last row if there are fewer." Rows are counted from 0.
@@ -158,15 +176,12 @@ pub fn build_output(
     let settled = resolution.settled;
     let passes = resolution.passes;
     match settled {
-        Settled::Refused(why) => Output {
-            build: Build::Refused(why),
-            passes,
-        },
+        Settled::Refused(why) => refused(why, passes),
         Settled::At(k) => {
             let n = kinds.len();
             let a = row_start(rows, passes, n);
             let e = a + n;
-            let build = build_row(
+            build_row(
                 banks,
                 kinds,
                 operands,
@@ -175,13 +190,13 @@ pub fn build_output(
                 &states[a..e],
                 values,
                 k,
+                passes,
                 choices,
                 image,
                 addresses,
                 offsets,
                 sizes,
-            );
-            Output { build, passes }
+            )
         }
     }
 }

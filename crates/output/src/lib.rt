@@ -13,7 +13,9 @@ pub enum Build {
     Refused(Refusal),
 }
 
+// And each bank's padding, banks 0 to 15: the bits that it lost to `align` and to label alignment in the last pass. Refused, zeros.
 pub struct Output {
     pub build: Build,
     pub passes: u64,
+    pub padding: [u64; 16],
 }

@@ -263,11 +263,12 @@ fn spans_after(node: Node, spans: u64) -> u64
     if is_span(node) { spans + 1 } else { spans }
 }
 
-// What the first walk finds: the verdict on all nodes, and, accepted, the image's length and the number of spans.
+// What the first walk finds: the verdict on all nodes, and, accepted, the image's length, the number of spans and each bank's padding.
 pub struct Plan {
     pub verdict: Verdict,
     pub length: u64,
     pub spans: u64,
+    pub padding: [u64; 16],
 }
 
 // The first walk over the row of the last pass. It decides everything and writes nothing that is lent.
@@ -321,6 +322,7 @@ pub fn plan_row(
                 verdict,
                 length: 0,
                 spans: 0,
+                padding: [0u64; 16],
             };
         }
         count = offered.count;
@@ -330,9 +332,11 @@ pub fn plan_row(
         walk = v.walk;
         i += 1;
     }
+    let padding = walk.lost;
     Plan {
         verdict: Verdict::Accepted,
         length: reach,
         spans,
+        padding,
     }
 }

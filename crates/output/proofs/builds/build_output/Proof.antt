@@ -16,6 +16,7 @@ use Rattle.output.proofs.builds.build_output.Reads as reads
 use Rattle.output.proofs.builds.build_output.Lts as lts
 use Rattle.output.proofs.builds.build_row.Reads as build-row-reads
 use Rattle.output.proofs.builds.row_start.Reads as row-start-reads
+use Rattle.output.proofs.builds.refused.Reads as refused-reads
 use Rattle.resolver.proofs.resolve.Reads as resolve-reads
 
 abbrev begin : tie.After-resolve → tie.Start
@@ -46,6 +47,9 @@ resolve-requires c κs = search needs
 -- src/builds.rt:120:26
 enum-known-settled : tie.Need-enum-known-settled
 enum-known-settled c = search needs
+
+refused-requires : tie.Need-refused-requires
+refused-requires c κs = search needs
 
 -- src/builds.rt:124:21
 enum-known-settled-2 : tie.Need-enum-known-settled-2
@@ -127,9 +131,10 @@ build-row-requires c κs =
 -- src/builds.rt:98:1
 returns : tie.Need-returns
 returns c =
-    let f = c .before .before .before in
-    let told = c .before .settled .given in
+    let f = c .before .before .before .before in
+    let told = c .before .before .settled .given in
     refused (begin f .args .banks) (given (begin f)) (begin f .args .choices) (f .resolve .result) (f .resolve .ensures .0) (told .0 .0) (told .1) (old (begin f))
+    (c .refused .result) (c .refused .ensures)
 
 -- src/builds.rt:98:1
 same-length : tie.Need-same-length
@@ -161,6 +166,7 @@ build-output-spec =
     (tie.spec
     resolve-requires
     enum-known-settled
+    refused-requires
     enum-known-settled-2
     row-start-requires
     add-e

@@ -95,12 +95,13 @@ loop-again c =
 -- src/placing.rt:252:1
 returns-2 : tie.Need-returns-2 Inv-loop μ-loop
 returns-2 c =
-    let loop = c .before in
-    let a = c .before .before .before .before .before .before .before .before .args in
+    let loop = c .before .before in
+    let a = loop .before .before .before .before .before .before .before .args in
     let p = programOf (a .banks) (a .kinds .now) (a .operands .now) (a .first .now) in
     let row = rowOf (a .numbers .now) (a .states .now) in
     let at = loop .loop in
-    ends p row (a .closed) (a .fill) (at .i) (at .walk) (at .positions) (at .sizes) (at .count) (at .marks) (at .mark-count) (at .reach) (at .spans) (at .inv) (c .loop-test .left)
+    ends p row (a .closed) (a .fill) (at .i) (at .walk) (at .positions) (at .sizes) (at .count) (at .marks) (at .mark-count) (at .reach) (at .spans) (at .inv) (c .before .loop-test .left)
+    (loop .before .before .before .before .before .before .before .pre .1)
 
 pub plan-row-spec : {M : Type 1} → statement M
 plan-row-spec =

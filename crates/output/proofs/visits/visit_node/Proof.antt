@@ -35,7 +35,7 @@ returns : tie.Need-returns
 returns c = (
   rw (
     c .out-of .ensures .0,
-    c .before .before .step .ensures,
+    c .before .before .step .ensures .0,
     c .before .before .before .bank-record .ensures,
     c .before .before .before .before .bank-after .ensures,
     c .before .before .before .before .before .node-at .ensures,

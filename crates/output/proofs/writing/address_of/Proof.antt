@@ -11,7 +11,7 @@ use Rattle.output.proofs.writing.address_of.Tie as tie
 
 -- the address of that position
 found : (c : tie.After-get-address) → c .get-address .result ≡ addressOf (c .before .before .args .def) (seenPos (c .before .before .args .seen) .position) (c .before .before .args .index)
-found c = rw (← c .before .position-of .ensures) (c .get-address .ensures)
+found c = rw (← c .before .position-of .ensures) (c .get-address .ensures .0)
 
 position-of-requires : tie.Need-position-of-requires
 position-of-requires c κs = search needs
