@@ -8,6 +8,7 @@ pub mod Items
 pub mod Kinds
 pub mod OffersMade
 pub mod Output
+pub mod Padding
 pub mod Placing
 pub mod PlacingLaws
 pub mod RaisedLimit
