@@ -9,7 +9,7 @@ use Rattle.refusal.specs.declared.Place.the-variants.{One, Two}
 use Rattle.refusal.specs.declared.Verdict.{Verdict}
 use Rattle.refusal.specs.declared.Verdict.the-variants.{Accepted, Refused}
 use Rattle.iter.specs.declared.Distance.{Distance}
-use Rattle.iter.specs.declared.Distance.the-variants.{Bits, Refused as NoDistance}
+use Rattle.iter.specs.declared.Distance.the-variants.{Skips, Refused as NoDistance}
 use Rattle.blocks.specs.declared.Block.{Block}
 use Rattle.resolver.specs.declared.Settled.{Settled}
 use Rattle.resolver.specs.declared.Settled.the-variants.{At, Refused as Unsettled}
@@ -26,7 +26,7 @@ ofVerdict Accepted = 0 ∷ []
 ofVerdict (Refused why) = ofRefusal why
 
 abbrev pub ofDistance : Distance → List ℕ
-ofDistance (Bits n) = n ∷ []
+ofDistance (Skips s) = s .bits ∷ []
 ofDistance (NoDistance why) = ofRefusal why
 
 abbrev pub ofBlocks : List Block → List ℕ

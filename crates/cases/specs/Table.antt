@@ -11,9 +11,9 @@ use Rattle.bankdef.specs.Search.{firstWhere}
 use Rattle.bankdef.specs.Fill.{fillFrom}
 use Rattle.bankdef.specs.Cases.{two, alone}
 use Rattle.bankdef.specs.declared.Bankdef.{Bankdef}
-use Rattle.iter.specs.Distance.{tellable, distanceOf}
+use Rattle.iter.specs.Distance.{tellable, noSkip, distanceOf}
 use Rattle.iter.specs.Cases.{unitTen, distance-cases}
-use Rattle.iter.specs.declared.Distance.the-variants.{Bits}
+use Rattle.iter.specs.declared.Distance.the-variants.{Skips}
 use Rattle.overlap_checker.specs.declared.Entry.{Entry}
 use Rattle.overlap_checker.specs.Interval.{interval, clashes, sharesBit, strictlyInside}
 use Rattle.overlap_checker.specs.Offers.{placeFor, clashesAny, named, lacksRoom}
@@ -94,7 +94,7 @@ table =
 -- The cases marked P hold.
 pub record Cases : Type 0 where
   -- "alignment 0 at any address: 0"
-  pub any : (def : Bankdef) (position node : ℕ) → tellable def ≡ true → distanceOf def position 0 node ≡ Bits 0
+  pub any : (def : Bankdef) (position node : ℕ) → tellable def ≡ true → distanceOf def position 0 node ≡ Skips noSkip
   -- every row of the table
   pub rows : map (λ (c : Case). c .got) table ≡ map (λ (c : Case). c .said) table
 
