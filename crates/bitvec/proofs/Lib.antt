@@ -1,3 +1,4 @@
 mod Pieces
 mod HexLaws
+mod OnesLaws
 pub mod Unique

@@ -7,6 +7,8 @@ use Rattle.refusal.specs.declared.Verdict.{Verdict}
 use Rattle.bitvec.specs.declared.Hex.{Hex}
 use Rattle.bitvec.proofs.clear.Kinds as clear-kinds
 use Rattle.bitvec.proofs.clear.Reads as clear-reads
+use Rattle.bitvec.proofs.set_ones.Kinds as set-ones-kinds
+use Rattle.bitvec.proofs.set_ones.Reads as set-ones-reads
 use Rattle.bitvec.proofs.write_bits.Kinds as write-bits-kinds
 use Rattle.bitvec.proofs.write_bits.Reads as write-bits-reads
 use Rattle.bitvec.proofs.part.Kinds as part-kinds
@@ -19,6 +21,10 @@ use Rattle.bitvec.proofs.write_hex.Reads as write-hex-reads
 -- the image afterwards
 pub clear-unique : OneView 1 clear-kinds.ps clear-kinds.r clear-reads.Learnt (List ℕ) (λ κs x e. e .0 .now)
 clear-unique κs a x y e f p q = determined (p .zeros) (q .zeros)
+
+-- the image afterwards
+pub set-ones-unique : OneView 1 set-ones-kinds.ps set-ones-kinds.r set-ones-reads.Learnt (List ℕ) (λ κs x e. e .0 .now)
+set-ones-unique κs a x y e f p q = determined (p .bytes) (q .bytes)
 
 -- the answer, and the image afterwards
 pub write-bits-unique : OneView 2 write-bits-kinds.ps write-bits-kinds.r write-bits-reads.Learnt (Verdict × List ℕ) (λ κs x e. (x, e .0 .now))

@@ -3,6 +3,7 @@ pub mod Within
 pub mod Numeral
 pub mod Bits
 pub mod Clear
+pub mod Ones
 pub mod Written
 pub mod Part
 pub mod HexDigits

@@ -3,10 +3,11 @@ use refusal::Refusal;
 use refusal::Verdict;
 ghost use mathlib.Core.Path.{_≡_};
 ghost use mathlib.Core.List.{_++_};
-ghost use Prim.Native.Nat.{_+_, _*_, _/_, _^_, _≤_, _<_};
+ghost use Prim.Native.Nat.{_+_, _*_, _/_, _^_, _≤_, _<_, min};
 ghost use lib.ListN.{length, drop};
 ghost use Rattle.bitvec.specs.Within.{endsWithin};
 ghost use Rattle.bitvec.specs.Clear.{Clears};
+ghost use Rattle.bitvec.specs.Ones.{withOnes, SetsOnes};
 ghost use Rattle.bitvec.specs.Part.{isPart, Parts, Judges};
 ghost use Rattle.bitvec.specs.Lists.{listOf};
 ghost use Rattle.bitvec.specs.Numeral.{numeral};
@@ -185,6 +186,76 @@ pub fn write_bits(image: &mut [u8], position: u64, values: &[u8], start: u64, si
         }
     }
     Verdict::Refused(Refusal::Malformed(0))
+}
+
+// The image's `n` bits from bit `at` of byte `j` on become ones.
+fn put_ones(image: &mut [u8], j: usize, at: u64, n: u64)
+    requires { ⌜ (at + n ≤ 8) × (8 * j + at + n ≤ 8 * length (now image)) ⌝ }
+    ensures { λ _. ⌜ now (image .exit) ≡ withOnes (now (image .entry)) (8 * j + at) (8 * j + at + n) ⌝ }
+{
+    if n == 0 {
+        return;
+    }
+    let chunk = power(n) - 1;
+    let old = wide(image[j]);
+    image[j] = splice(old, at, n, chunk) as u8;
+}
+
+// The image's whole bytes from byte `j` to before byte `k` become ones.
+fn fill_bytes(image: &mut [u8], j: usize, k: usize)
+    requires { ⌜ Bytes (now image) ⌝ }
+    requires { ⌜ (j ≤ k) × (k ≤ length (now image)) ⌝ }
+    ensures { λ _. ⌜ now (image .exit) ≡ withOnes (now (image .entry)) (8 * j) (8 * k) ⌝ }
+{
+    let mut i = j;
+    while i < k {
+        image[i] = 255;
+        i += 1;
+    }
+}
+
+// A range that starts at byte `j`: its whole bytes, then its last bits.
+fn ones_from_edge(image: &mut [u8], j: usize, end: u64)
+    requires { ⌜ (8 * j ≤ end) × (end ≤ 8 * length (now image)) ⌝ }
+    ensures { λ _. ⌜ now (image .exit) ≡ withOnes (now (image .entry)) (8 * j) end ⌝ }
+{
+    let k = (end / 8) as usize;
+    fill_bytes(image, j, k);
+    put_ones(image, k, 0, end % 8);
+}
+
+// A range within the image, from a bit that it has: its bits up to the next byte edge, then the rest.
+fn ones_within(image: &mut [u8], from: u64, end: u64)
+    requires { ⌜ (from ≤ end) × (end ≤ 8 * length (now image)) × (from < 8 * length (now image)) ⌝ }
+    ensures { λ _. ⌜ now (image .exit) ≡ withOnes (now (image .entry)) from end ⌝ }
+{
+    let j = (from / 8) as usize;
+    let head = 8 - from % 8;
+    let size = end - from;
+    if size <= head {
+        put_ones(image, j, from % 8, size);
+    } else {
+        put_ones(image, j, from % 8, head);
+        ones_from_edge(image, j + 1, end);
+    }
+}
+
+// The lower of bit `end` and the end of `len` bytes. Counted in bytes, since a product could wrap.
+fn last_bit(len: u64, end: u64) -> u64
+    ensures { λ r. ⌜ r ≡ min end (8 * len) ⌝ }
+{
+    if end / 8 < len { end } else { 8 * len }
+}
+
+// The image's bits from bit `from` to before bit `end` become ones, those that it has.
+pub fn set_ones(image: &mut [u8], from: u64, end: u64)
+    ensures { λ _. ⌜ SetsOnes (now (image .entry)) from end (now (image .exit)) ⌝ }
+{
+    let stop = last_bit(image.len() as u64, end);
+    if stop <= from {
+        return;
+    }
+    ones_within(image, from, stop);
 }
 
 // Whether a part is one that can be handed out: not empty, on byte edges, within the image.

@@ -1,0 +1,63 @@
+-- `bitvec::ones_within` makes two ranges, the first up to a byte edge, or one that lies in a byte.
+use Prim.Native.Nat.{_+_, _-_, _*_, _/_, _%_}
+use native.Mathlib.Omega.{arith}
+use Rattle.bitvec.proofs.OnesLaws.{same-range, two-ranges}
+use borrow.Author.Needs.{needs}
+use Rattle.bitvec.proofs.ones_within.Statement.{statement}
+use Rattle.bitvec.proofs.ones_within.Tie as tie
+
+sub-head : tie.Need-sub-head
+sub-head c = search needs
+
+sub-size : tie.Need-sub-size
+sub-size c = search needs
+
+put-ones-requires : tie.Need-put-ones-requires
+put-ones-requires c κs = search needs
+
+put-ones-requires-2 : tie.Need-put-ones-requires-2
+put-ones-requires-2 c κs = search needs
+
+add-ones-from-edge : tie.Need-add-ones-from-edge
+add-ones-from-edge c = search needs
+
+ones-from-edge-requires : tie.Need-ones-from-edge-requires
+ones-from-edge-requires c κs = search needs
+
+same-length : tie.Need-same-length
+same-length c = search needs
+
+returns : tie.Need-returns
+returns c =
+    let a = c .before .before .before .before .before .before .args in
+    same-range (a .image .now) _ (8 * (a .from / 8) + a .from % 8) (8 * (a .from / 8) + a .from % 8 + (a .end - a .from)) (a .from) (a .end)
+    (c .before .before .put-ones .ensures) (omega arith) (omega arith)
+
+same-length-2 : tie.Need-same-length-2
+same-length-2 c = search needs
+
+returns-2 : tie.Need-returns-2
+returns-2 c =
+    let a = c .before .before .before .before .before .before .before .before .before .before .args in
+    let head = c .before .before .before .before .before .before .put-ones2 in
+    let rest = c .before .before .ones-from-edge in
+    let j = a .from / 8 in
+    two-ranges (a .image .now) (head .last .0) (rest .last .0) (a .from) (8 * j + 8) (8 * (j + 1)) (a .end)
+    (same-range (a .image .now) (head .last .0) (8 * j + a .from % 8) (8 * j + a .from % 8 + (8 - a .from % 8)) (a .from) (8 * j + 8) (head .ensures)
+    (omega arith) (omega arith))
+    (rest .ensures) (omega arith) (omega arith) (omega arith)
+
+pub ones-within-spec : {M : Type 1} → statement M
+ones-within-spec =
+    tie.close
+    (tie.spec
+    sub-head
+    sub-size
+    put-ones-requires
+    put-ones-requires-2
+    add-ones-from-edge
+    ones-from-edge-requires
+    same-length
+    returns
+    same-length-2
+    returns-2)

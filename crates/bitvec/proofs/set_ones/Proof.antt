@@ -1,0 +1,36 @@
+-- `bitvec::set_ones` makes the range's ones up to the image's end, which is all of them.
+use mathlib.Core.Path.{_∙_, ap}
+use native.Mathlib.Omega.{arith}
+use Rattle.bitvec.specs.Ones.{withOnes, ones-none, ones-cut}
+use borrow.Author.Needs.{needs}
+use Rattle.bitvec.proofs.set_ones.Statement.{statement}
+use Rattle.bitvec.proofs.set_ones.Tie as tie
+
+last-bit-requires : tie.Need-last-bit-requires
+last-bit-requires c κs = search needs
+
+returns : tie.Need-returns
+returns c =
+    let a = c .before .before .before .args in
+    record {
+      bytes = ones-none (a .image .now) (a .from) (a .end) (λ i. c .before .before .slice-known .given i .fits)
+          (omega (arith, c .before .last-bit .ensures, c .if1 .taken));
+    }
+
+ones-within-requires : tie.Need-ones-within-requires
+ones-within-requires c κs = search needs
+
+same-length : tie.Need-same-length
+same-length c = search needs
+
+returns-2 : tie.Need-returns-2
+returns-2 c =
+    let a = c .before .before .before .before .before .before .before .args in
+    record {
+      bytes = c .before .before .ones-within .ensures
+          ∙ ap (withOnes (a .image .now) (a .from)) (c .before .before .before .before .before .last-bit .ensures)
+          ∙ ones-cut (a .image .now) (a .from) (a .end);
+    }
+
+pub set-ones-spec : {M : Type 1} → statement M
+set-ones-spec = tie.close (tie.spec last-bit-requires returns ones-within-requires same-length returns-2)
