@@ -1,5 +1,5 @@
 -- `bitvec::ones_within` makes two ranges, the first up to a byte edge, or one that lies in a byte.
-use Prim.Native.Nat.{_+_, _-_, _*_, _/_, _%_}
+use Prim.Native.Nat.{_+_, _*_, _/_}
 use native.Mathlib.Omega.{arith}
 use Rattle.bitvec.proofs.OnesLaws.{same-range, two-ranges}
 use borrow.Author.Needs.{needs}
@@ -30,8 +30,7 @@ same-length c = search needs
 returns : tie.Need-returns
 returns c =
     let a = c .before .before .before .before .before .before .args in
-    same-range (a .image .now) _ (8 * (a .from / 8) + a .from % 8) (8 * (a .from / 8) + a .from % 8 + (a .end - a .from)) (a .from) (a .end)
-    (c .before .before .put-ones .ensures) (omega arith) (omega arith)
+    same-range (a .image .now) _ _ _ (a .from) (a .end) (c .before .before .put-ones .ensures) (omega arith) (omega arith)
 
 same-length-2 : tie.Need-same-length-2
 same-length-2 c = search needs
@@ -43,9 +42,7 @@ returns-2 c =
     let rest = c .before .before .ones-from-edge in
     let j = a .from / 8 in
     two-ranges (a .image .now) (head .last .0) (rest .last .0) (a .from) (8 * j + 8) (8 * (j + 1)) (a .end)
-    (same-range (a .image .now) (head .last .0) (8 * j + a .from % 8) (8 * j + a .from % 8 + (8 - a .from % 8)) (a .from) (8 * j + 8) (head .ensures)
-    (omega arith) (omega arith))
-    (rest .ensures) (omega arith) (omega arith) (omega arith)
+    (same-range (a .image .now) _ _ _ (a .from) (8 * j + 8) (head .ensures) (omega arith) (omega arith)) (rest .ensures) (omega arith) (omega arith) (omega arith)
 
 pub ones-within-spec : {M : Type 1} → statement M
 ones-within-spec =

@@ -1,7 +1,10 @@
 -- `bitvec::set_ones` makes the range's ones up to the image's end, which is all of them.
-use mathlib.Core.Path.{_∙_, ap}
+use Prim.Native.Nat.{_*_, min}
+use mathlib.Core.Path.{refl, _∙_}
 use native.Mathlib.Omega.{arith}
-use Rattle.bitvec.specs.Ones.{withOnes, ones-none, ones-cut}
+use lib.ListN.{length}
+use Rattle.bitvec.specs.Ones.{ones-none, ones-cut}
+use Rattle.bitvec.proofs.OnesLaws.{same-range}
 use borrow.Author.Needs.{needs}
 use Rattle.bitvec.proofs.set_ones.Statement.{statement}
 use Rattle.bitvec.proofs.set_ones.Tie as tie
@@ -27,8 +30,8 @@ returns-2 : tie.Need-returns-2
 returns-2 c =
     let a = c .before .before .before .before .before .before .before .args in
     record {
-      bytes = c .before .before .ones-within .ensures
-          ∙ ap (withOnes (a .image .now) (a .from)) (c .before .before .before .before .before .last-bit .ensures)
+      bytes = same-range (a .image .now) _ _ _ (a .from) (min (a .end) (8 * length (a .image .now))) (c .before .before .ones-within .ensures) refl
+          (omega (arith, c .before .before .before .before .before .last-bit .ensures))
           ∙ ones-cut (a .image .now) (a .from) (a .end);
     }
 
