@@ -49,7 +49,7 @@ abbrev pub pair : Bankdef → Bankdef → Verdict
 pair a b = checkOf (record { defs = a ∷ b ∷ replicate 14 noBank; len = 2 })
 
 -- Ticket 6: "2 also for bank 0 with fill bit one, filled or not". In another bank a fill bit of one is sound, without fill, size and
--- offset too; in each a fill bit of two is none.
+-- offset too; a fill bit of two is refused in each.
 pub fill-bit-cases : (pair (bitBank true 1) (bitBank true 0) ≡ Refused (BankNumber 0)) × (pair (bitBank false 1) (bitBank true 0) ≡ Refused (BankNumber 0)) ×
     (pair (bitBank true 0) (bitBank false 1) ≡ Accepted) × (pair (bitBank true 0) (bitBank false 2) ≡ Refused (BankNumber 1)) ×
     (pair (bitBank false 2) (bitBank false 2) ≡ Refused (BankNumber 0))

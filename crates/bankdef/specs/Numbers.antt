@@ -30,7 +30,7 @@ isZero (Some bits) = eqb bits 0
 abbrev pub fillBit : Bankdef → ℕ
 fillBit b = b .«fill_bit»
 
--- "address unit: 1 to 65,535 bits"; the start; a fill bit that is none; "a filled bank has size 0", with or without an offset
+-- "address unit: 1 to 65,535 bits"; the start; a fill bit that is neither 0 nor 1; "a filled bank has size 0", with or without an offset
 abbrev pub bankFault : Bankdef → Bool
 bankFault b = eqb (b .unit) 0 || (not (startSound (b .start)) || (ltb 1 (fillBit b) || (b .fill && isZero (b .size))))
 

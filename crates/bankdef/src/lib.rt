@@ -58,7 +58,7 @@ fn is_zero(size: Opt) -> bool
     }
 }
 
-// Whether a number of the bank is beyond its limit, its fill bit is none, or the bank is filled and has size 0.
+// Whether a number of the bank is beyond its limit, its fill bit is neither 0 nor 1, or the bank is filled and has size 0.
 fn at_fault(b: Bankdef) -> bool
     ensures { λ r. ⌜ r ≡ bankFault b ⌝ }
 {
