@@ -9,7 +9,7 @@ use native.Mathlib.Omega.{arith}
 use borrow.Author.Tests.{ltb-false, le-ltb, lt-ltb}
 use lib.Dec.{ltb}
 use lib.IntN.{ℤ}
-use lib.ListN.{length, replicate}
+use lib.ListN.{length}
 use Rattle.refusal.specs.Pick.{pick, pick-true, pick-false}
 use Rattle.refusal.specs.declared.Refusal.{Refusal}
 use Rattle.refusal.specs.declared.Refusal.the-variants.{TooShort}
@@ -20,7 +20,7 @@ use Rattle.resolver.specs.Once.{Program}
 use Rattle.overlap_checker.specs.Ascending.{lt-or-le}
 use Rattle.output.specs.Visits.{visits}
 use Rattle.output.specs.Items.{itemsOf, lengthOf, imageOf}
-use Rattle.output.specs.Blank.{blank-zeros}
+use Rattle.output.specs.Blank.{blankOf}
 use Rattle.output.specs.ItemLaws.{end-within}
 use Rattle.output.specs.Placing.{Placed, holds, stops, placedAll}
 use Rattle.output.specs.Spans.{spansOf, over, addresses, words, sizes}
@@ -111,7 +111,7 @@ module _ (p : Program) (row : Row) (closed : Bool) (fill k passes : ℕ) (values
             record { first = omega (arith, n); second = omega (arith, n); third = omega (arith, n) }
 
         pub row-done : (image′ : List ℕ) (addressed′ : List ℤ) (offsets′ sized′ : List ℕ)
-            → image′ ≡ imageOf values (replicate (length (old .image)) 0) (itemsOf (visits p row))
+            → image′ ≡ imageOf values (blankOf (banksOf (p .banks)) (plan .length) (length (old .image))) (itemsOf (visits p row))
             → addressed′ ≡ over (addresses (spansOf (visits p row))) (old .addresses)
             → offsets′ ≡ over (words (spansOf (visits p row))) (old .offsets)
             → sized′ ≡ over (sizes (spansOf (visits p row))) (old .sizes)
@@ -122,5 +122,5 @@ module _ (p : Program) (row : Row) (closed : Bool) (fill k passes : ℕ) (values
               answer =
                   ap (λ (l : List ℕ). record { build = Done k (plan .length) (plan .spans); passes = passes; padding = l }) (planned .padding accepted)
                   ∙ ap (outputOf p row passes) (sym (rest ∙ pick-false (Refused (TooShort 1)) _ (le-ltb _ _ enough)));
-              left = rw (a, b, c, d, blank-zeros (banksOf (p .banks)) (plan .length) (length (old .image)));
+              left = rw (a, b, c, d);
             }

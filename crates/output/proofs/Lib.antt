@@ -1,5 +1,6 @@
 pub mod BuildLaws
 pub mod Carried
+pub mod Laying
 pub mod OfferLaws
 pub mod PlanLaws
 pub mod SettledLaws

@@ -10,7 +10,9 @@ use lib.ListN.{length}
 use Rattle.refusal.specs.Pick.{pick}
 use Rattle.refusal.specs.declared.Refusal.{Refusal}
 use Rattle.refusal.specs.declared.Refusal.the-variants.{TooShort}
-use Rattle.bankdef.specs.Check.{banksOf}
+use Rattle.refusal.specs.declared.Verdict.the-variants.{Accepted as Yes}
+use Rattle.bankdef.specs.Check.{banksOf, checkOf}
+use Rattle.resolver.specs.LastPass.{accepted-checked}
 use Rattle.resolver.specs.Lists.{Row}
 use Rattle.resolver.specs.Once.{Program}
 use Rattle.resolver.specs.Passes.{program, rowOfPass}
@@ -152,3 +154,33 @@ module _ (a : Accepted) where
 
   pub left-is : a .call .new ≡ filled blankIn (visitsIn (a .call)) (valuesIn (a .call)) (a .call .old)
   left-is = a .call .meets .left ∙ ap (leftBy (a .call .given .banks) (visitsIn (a .call)) (valuesIn (a .call)) (a .call .old)) (a .done)
+
+-- ---- the K that an accepted build answers is the layout's
+
+abbrev kOf : Build → ℕ
+kOf (Done k bits spans) = k
+kOf (Refused why) = 0
+
+k-of-room : (t u : Bool) (j bits′ spans′ : ℕ) {k bits spans : ℕ}
+    → pick t (Refused (TooShort 0)) (pick u (Refused (TooShort 1)) (Done j bits′ spans′)) ≡ Done k bits spans → j ≡ k
+k-of-room true u j bits′ spans′ e = absurd (refused-done e)
+k-of-room false true j bits′ spans′ e = absurd (refused-done e)
+k-of-room false false j bits′ spans′ e = ap kOf e
+
+k-of-placed : (room : Room) (j bits′ spans′ : ℕ) {k bits spans : ℕ} (p : Placed) → placedBuild room j bits′ spans′ p ≡ Done k bits spans → j ≡ k
+k-of-placed room j bits′ spans′ (stops why) e = absurd (refused-done e)
+k-of-placed room j bits′ spans′ (holds stored) e = k-of-room (ltb (8 * room .image) bits′) (ltb (room .spans) spans′) j bits′ spans′ e
+
+settled-k : (b : Input) (room : Room) (passes : ℕ) {k bits spans : ℕ} (s : Settled) → settledBuild b room passes s ≡ Done k bits spans → s ≡ At k
+settled-k b room passes (Unsettled why) e = absurd (refused-done e)
+settled-k b room passes (At j) e =
+    let vs = visitsOf b passes in
+    ap At (k-of-placed room j (lengthOf (fillOf b) (itemsOf vs)) (length (spansOf vs)) (placedAll (closedOf b) vs) e)
+
+pub settled-is : (a : Accepted) → settledOf (a .call .given) ≡ At (a .k)
+settled-is a =
+    settled-k (a .call .given) (roomOf (a .call .old)) (a .call .answer .passes) (settledOf (a .call .given)) (sym (build-is (a .call)) ∙ a .done)
+
+-- so its banks pass their check
+pub banks-sound : (a : Accepted) → checkOf (a .call .given .banks) ≡ Yes
+banks-sound a = accepted-checked (a .call .given .banks) (a .call .given .lists) (a .call .given .choices) (a .k) (settled-is a) .table

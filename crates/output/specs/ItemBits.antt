@@ -1,5 +1,5 @@
 -- What people want of an accepted build's image, in document 01's words: "In an accepted build each bit of a written item is that item's own
--- bit, most significant first, and every other bit of the lent image is zero." No two items share a bit, none has a bit of a reserve,
+-- bit, most significant first"; every other bit is the blank image's. No two items share a bit, none has a bit of a reserve,
 -- and "image length is the larger of the fill's and the furthest end of a written item".
 use mathlib.Core.Path.{_≡_, refl, sym, ap, subst, _∙_}
 use mathlib.Core.Bool.{Bool, true, false, _&&_, _||_}
@@ -28,7 +28,7 @@ use Rattle.output.specs.Visits.{positionOf}
 use Rattle.output.specs.VisitLaws.{visit-member, member-visit, each-member, each-from}
 use Rattle.output.specs.Items.{Item, endOf, InItem, isWritten, standing, itemOf, imageOf}
 use Rattle.output.specs.ItemLaws.{fill-within, end-within, length-is-one, bit-of-none, bit-of-item}
-use Rattle.output.specs.Blank.{blankOf, blank-length, blank-bit}
+use Rattle.output.specs.Blank.{blankOf, blank-length}
 use Rattle.output.specs.Placing.{isOffered, isReserve, lacksOutput, bitsAt, offerOf, reserveOf}
 use Rattle.output.specs.PlacingLaws.{picked-some, OfferedBit, holds-apart, apart-one, each-apart, same-visit, written-stands, each-accepted}
 use Rattle.output.specs.Output.{Lent, fillOf}
@@ -177,11 +177,7 @@ module _ (b : Accepted) where
       ∙ bit-of-item (valuesIn (b .call)) (blankIn b) (itemsIn (b .call)) items-share-no-bit m
       (rw (blank-length (banksOf (b .call .given .banks)) (b .bits) (length (b .call .old .image))) (le-trans (length-not-below-item x m) length-fits)) j h
 
-  -- Every bit of the lent image that belongs to no written item is the blank's,
+  -- Every bit of the lent image that belongs to no written item is the blank's (Gaps has which that is).
   pub rest-blank : (bit : ℕ) → ((x : Item) → List·Memᴰ x (itemsIn (b .call)) → InItem bit x → ⊥) → bitAt (b .call .new .image) bit ≡ bitAt (blankIn b) bit
   rest-blank bit none =
       ap (λ (l : List ℕ). bitAt l bit) image-is ∙ bit-of-none (valuesIn (b .call)) (blankIn b) (itemsIn (b .call)) bit none
-
-  -- and so zero.
-  pub rest-zero : (bit : ℕ) → ((x : Item) → List·Memᴰ x (itemsIn (b .call)) → InItem bit x → ⊥) → bitAt (b .call .new .image) bit ≡ 0
-  rest-zero bit none = rest-blank bit none ∙ blank-bit (banksOf (b .call .given .banks)) (b .bits) (length (b .call .old .image)) bit

@@ -7,7 +7,7 @@ use native.Mathlib.Decide.{decLt, decLe}
 use native.Mathlib.Nat.{le-trans, zero-div}
 use native.Mathlib.Omega.{arith}
 use lib.ListN.{length, getD, replicate, length-replicate, getD-replicate, List·getD-eq-default}
-use Rattle.bitvec.specs.Bits.{bitAt}
+use Rattle.bitvec.specs.Bits.{bitAt, Bytes}
 use Rattle.bitvec.specs.Written.{written, written-own, written-other, length-written}
 use Rattle.blocks.specs.Bits.{Some, NoSharedBit}
 use Rattle.output.specs.Items.{Item, endOf, InItem, lengthOf, imageOf}
@@ -83,14 +83,20 @@ module _ (values : List ℕ) where
       bit-of-item (written blank (y .at) values (y .from) (y .size)) k (apart .1) m
       (subst (λ (n : ℕ). endOf x ≤ 8 * n) (sym (length-written blank (y .at) values (y .from) (y .size))) fits) j h
 
--- zeros have no bit set
-pub zeros-bit : (bytes k : ℕ) → bitAt (replicate bytes 0) k ≡ 0
-unfolding bitAt
-zeros-bit bytes k = rw (zero-byte (k / 8)) (rw (zero-div (2 ^ (8 - 1 - k % 8))) refl)
-  where
-    zero-byte : (j : ℕ) → _≡_ {A = ℕ} (getD (replicate bytes 0) j 0) 0
-    zero-byte j =
-        elim (decLt j bytes) [
-          | yes h ↦ getD-replicate bytes j 0 0 h
-          | no h ↦ List·getD-eq-default (replicate bytes 0) 0 (rw (length-replicate {A = ℕ} bytes 0) (omega arith))
-        ]
+-- ---- zeros
+
+module _ (bytes : ℕ) where
+  zero-byte : (j : ℕ) → _≡_ {A = ℕ} (getD (replicate bytes 0) j 0) 0
+  zero-byte j =
+      elim (decLt j bytes) [
+        | yes h ↦ getD-replicate bytes j 0 0 h
+        | no h ↦ List·getD-eq-default (replicate bytes 0) 0 (rw (length-replicate {A = ℕ} bytes 0) (omega arith))
+      ]
+
+  pub zeros-bytes : Bytes (replicate bytes 0)
+  zeros-bytes j = rw (zero-byte j) (omega arith)
+
+  -- they have no bit set
+  pub zeros-bit : (k : ℕ) → bitAt (replicate bytes 0) k ≡ 0
+  unfolding bitAt
+  zeros-bit k = rw (zero-byte (k / 8)) (rw (zero-div (2 ^ (8 - 1 - k % 8))) refl)

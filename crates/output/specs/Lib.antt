@@ -2,6 +2,7 @@ pub mod Blank
 pub mod Calls
 pub mod DefaultBank
 pub mod Fills
+pub mod Gaps
 pub mod ItemBits
 pub mod ItemLaws
 pub mod Items

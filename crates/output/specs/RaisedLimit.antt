@@ -1,12 +1,8 @@
 -- Raising the pass limit is harmless (document 02, Ticket 14): a build that is accepted with K below its limit is the same for every limit above
 -- K, in its answer, padding too, and in all that is lent. And the passes run never exceed the larger of 1 and the limit, refused builds included.
-use Prim.Native.Nat.{ℕ, _*_, _<_, _≤_, max}
+use Prim.Native.Nat.{ℕ, _<_, _≤_, max}
 use mathlib.Core.Path.{_≡_, refl, sym, _∙_, ap}
-use mathlib.Core.Bool.{Bool, true, false}
-use lib.Dec.{ltb}
 use lib.ListN.{length, take}
-use Rattle.refusal.specs.Pick.{pick}
-use Rattle.refusal.specs.declared.Refusal.the-variants.{TooShort}
 use Rattle.resolver.specs.Layout.{layoutOf, withLimit as limited}
 use Rattle.resolver.specs.Passes.{program, rowOfPass}
 use Rattle.resolver.specs.RaisedLimit.{same-for-limits-above, passes-within-limit}
@@ -16,13 +12,8 @@ use Rattle.resolver.specs.declared.Settled.the-variants.{At, Refused as Unsettl
 use Rattle.blocks.specs.Spans.{spansOf as spansLent}
 use Rattle.blocks.specs.Walk.{blocksOf}
 use Rattle.output.specs.SpanFacts.{spansLeft}
-use Rattle.output.specs.Calls.{Accepted, refused-done, build-is}
-use Rattle.output.specs.Output.{Input, closedOf, Lent, Room, roomOf, outputOf, visitsOf, fillOf, placedBuild, settledBuild, settledOf, buildOf, leftBy, Builds}
-use Rattle.output.specs.Items.{itemsOf, lengthOf}
-use Rattle.output.specs.Spans.{spansOf}
-use Rattle.output.specs.Placing.{Placed, holds, stops, placedAll}
-use Rattle.output.specs.declared.Build.{Build}
-use Rattle.output.specs.declared.Build.the-variants.{Done, Refused}
+use Rattle.output.specs.Calls.{Accepted, settled-is}
+use Rattle.output.specs.Output.{Input, Lent, Room, roomOf, outputOf, visitsOf, settledBuild, settledOf, buildOf, leftBy, Builds}
 use Rattle.output.specs.declared.Output.{Output}
 
 -- the same banks, lists and other choices, with another limit
@@ -52,37 +43,13 @@ module _ (b : Input) (k : ℕ) (accepted : settledOf b ≡ At k) (below : k < b 
       let e : s ≡ r = q .answer ∙ same-build-above (roomOf old) ∙ sym (p .answer) in
       (e, q .left ∙ ap (λ (x : Output). leftBy (b .banks) (visitsOf b (x .passes)) (b .lists .values) old (x .build)) e ∙ sym (p .left))
 
--- the K that an accepted build answers is the layout's
-abbrev kOf : Build → ℕ
-kOf (Done k bits spans) = k
-kOf (Refused why) = 0
-
-k-of-room : (t u : Bool) (j bits′ spans′ : ℕ) {k bits spans : ℕ}
-    → pick t (Refused (TooShort 0)) (pick u (Refused (TooShort 1)) (Done j bits′ spans′)) ≡ Done k bits spans → j ≡ k
-k-of-room true u j bits′ spans′ e = absurd (refused-done e)
-k-of-room false true j bits′ spans′ e = absurd (refused-done e)
-k-of-room false false j bits′ spans′ e = ap kOf e
-
-k-of-placed : (room : Room) (j bits′ spans′ : ℕ) {k bits spans : ℕ} (p : Placed) → placedBuild room j bits′ spans′ p ≡ Done k bits spans → j ≡ k
-k-of-placed room j bits′ spans′ (stops why) e = absurd (refused-done e)
-k-of-placed room j bits′ spans′ (holds stored) e = k-of-room (ltb (8 * room .image) bits′) (ltb (room .spans) spans′) j bits′ spans′ e
-
-settled-k : (b : Input) (room : Room) (passes : ℕ) {k bits spans : ℕ} (s : Settled) → settledBuild b room passes s ≡ Done k bits spans → s ≡ At k
-settled-k b room passes (Unsettled why) e = absurd (refused-done e)
-settled-k b room passes (At j) e =
-    let vs = visitsOf b passes in
-    ap At (k-of-placed room j (lengthOf (fillOf b) (itemsOf vs)) (length (spansOf vs)) (placedAll (closedOf b) vs) e)
-
 -- An accepted build whose K is below its limit: a call with any limit above K, over the same banks, lists and other choices and with the same things
 -- lent, has the same answer (K, passes run, length, number of spans and each bank's padding) and leaves the same image and spans, to the last byte lent.
 pub raised-limit-keeps-build : (a : Accepted) (n : ℕ) → a .k < a .call .given .choices .limit → a .k < n
     → {s : Output} {other : Lent} → Builds (withLimit (a .call .given) n) (a .call .old) s other
     → (s ≡ a .call .answer) × (other ≡ a .call .new)
 raised-limit-keeps-build a n below more q =
-    let b = a .call .given in
-    let settled : settledOf b ≡ At (a .k) =
-    settled-k b (roomOf (a .call .old)) (a .call .answer .passes) (settledOf b) (sym (build-is (a .call)) ∙ a .done) in
-    same-outcome-above b (a .k) settled below n more (a .call .old) (a .call .meets) q
+    same-outcome-above (a .call .given) (a .k) (settled-is a) below n more (a .call .old) (a .call .meets) q
 
 -- So the blocks that its spans make are the same.
 pub raised-limit-keeps-blocks : (a : Accepted) (n : ℕ) → a .k < a .call .given .choices .limit → a .k < n

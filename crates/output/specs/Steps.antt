@@ -1,11 +1,13 @@
 -- What the build's inner functions promise one another. A reader of the public contract needs none of it.
 use mathlib.Core.Path.{_≡_}
-use mathlib.Core.Bool.{Bool}
+use mathlib.Core.Bool.{Bool, true}
 use mathlib.Core.List.{List, List·Memᴰ}
-use Prim.Native.Nat.{ℕ, _+_, _*_, _≤_}
+use Prim.Native.Nat.{ℕ, _+_, _*_, _≤_, _<_}
 use lib.ListN.{length}
 use Rattle.refusal.specs.declared.Verdict.{Verdict}
 use Rattle.refusal.specs.declared.Verdict.the-variants.{Accepted, Refused}
+use Rattle.bankdef.specs.FillBits.{onesAt}
+use Rattle.bankdef.specs.declared.Bankdef.{Bankdef}
 use Rattle.bankdef.specs.declared.Bankdefs.{Bankdefs}
 use Rattle.resolver.specs.Lists.{Row}
 use Rattle.resolver.specs.Once.{Program}
@@ -47,6 +49,11 @@ pub record Planned (p : Program) (row : Row) (closed : Bool) (fill : ℕ) (plan 
   pub count : plan .verdict ≡ Accepted → plan .spans ≡ length (spansOf (visits p row))
   pub padding : plan .verdict ≡ Accepted → plan .padding ≡ paddingsOf p row
   pub low : plan .length ≤ maxEnd
+
+-- The bits from `from` to before `end` are those of a bank's range, inside an image of so many bits, that take a one.
+pub record OnesOf (b : Bankdef) (bits from end : ℕ) : Type 0 where
+  pub inside : (k : ℕ) → from ≤ k → k < end → (k < bits) × (onesAt b k ≡ true)
+  pub outside : (k : ℕ) → k < bits → onesAt b k ≡ true → (from ≤ k) × (k < end)
 
 -- items that come from within `values` value bytes
 abbrev pub InValues : ℕ → List Item → Type 0

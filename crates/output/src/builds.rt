@@ -106,6 +106,7 @@ fn build_row(
         numbers,
         states,
         values,
+        length,
         image,
     );
     write_spans(

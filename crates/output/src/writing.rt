@@ -9,17 +9,20 @@ use iter::Address;
 use iter::Moved;
 use iter::Node;
 use refusal::Offset;
+use refusal::Opt;
 ghost use mathlib.Core.Path.{_≡_};
 ghost use mathlib.Core.Bool.{true};
 ghost use Prim.Native.Nat.{_+_, _≤_, _<_};
-ghost use lib.ListN.{length, set, replicate};
+ghost use lib.ListN.{length, set};
 ghost use Rattle.refusal.specs.Pick.{pick};
+ghost use Rattle.bankdef.specs.Check.{banksOf};
 ghost use Rattle.blocks.specs.Offsets.{wordOf};
 ghost use Rattle.iter.specs.Address.{addressOf};
 ghost use Rattle.output.specs.Visits.{seenPos, visits};
+ghost use Rattle.output.specs.Blank.{blankOf};
 ghost use Rattle.output.specs.Items.{itemAt, itemsOf, imageOf};
 ghost use Rattle.output.specs.Spans.{isSpan, sizeOf, addressTold, spansOf, over, addresses as addressesOf, words as wordsOf, sizes as sizesOf};
-ghost use Rattle.output.specs.Steps.{programOf, rowOf, Fit, Fits};
+ghost use Rattle.output.specs.Steps.{programOf, rowOf, OnesOf, Fit, Fits};
 
 // The position that a node sees, in bits.
 fn position_of(seen: Moved) -> u32
@@ -58,7 +61,61 @@ fn write_item(node: Node, out: Offset, values: &[u8], image: &mut [u8])
     }
 }
 
-// The image of a row: all clear, then each written item's bits.
+// Where a bank's fill bits are ones, up to the image's length: from one bit to before another.
+pub struct Ones {
+    pub from: u64,
+    pub end: u64,
+}
+
+fn no_ones() -> Ones
+    ensures { λ r. ⌜ r ≡ record { from = 0; end = 0 } ⌝ }
+{
+    Ones { from: 0, end: 0 }
+}
+
+// "In a bank .. with fill, size and offset, every bit of its range inside the image length": those of them that take a one.
+fn ones_of(def: Bankdef, bits: u64) -> Ones
+    ensures { λ r. ⌜ OnesOf def bits (r .from) (r .end) ⌝ }
+{
+    let fill = def.fill;
+    if !fill {
+        return no_ones();
+    }
+    let bit = def.fill_bit;
+    if bit != 1 {
+        return no_ones();
+    }
+    let size = def.size;
+    let Opt::Some(size) = size else {
+        return no_ones();
+    };
+    let offset = def.offset;
+    let Opt::Some(offset) = offset else {
+        return no_ones();
+    };
+    let from = offset as u64;
+    let end = from + (size as u64);
+    Ones {
+        from,
+        end: if end < bits { end } else { bits },
+    }
+}
+
+// The image before any item is written: all clear, then ones where a bank's fill bit is one. "In a bank other than bank 0".
+fn lay_blank(banks: Bankdefs, bits: u64, image: &mut [u8])
+    ensures { λ _. ⌜ now (image .exit) ≡ blankOf (banksOf banks) bits (length (now (image .entry))) ⌝ }
+{
+    bitvec::clear(image);
+    let mut i: u64 = 1;
+    while i < banks.len {
+        let def = resolver::bank_record(banks, i);
+        let ones = ones_of(def, bits);
+        bitvec::set_ones(image, ones.from, ones.end);
+        i += 1;
+    }
+}
+
+// The image of a row: the blank one, then each written item's bits.
 pub fn write_image(
     banks: Bankdefs,
     kinds: &[u8],
@@ -67,6 +124,7 @@ pub fn write_image(
     numbers: &[u32],
     states: &[u8],
     values: &[u8],
+    bits: u64,
     image: &mut [u8],
 )
     requires { ⌜
@@ -74,12 +132,12 @@ pub fn write_image(
         (itemsOf (visits (programOf banks (now kinds) (now operands) (now first)) (rowOf (now numbers) (now states))))
         ⌝ }
     ensures { λ _. ⌜
-        now (image .exit) ≡ imageOf (now (values .entry)) (replicate (length (now (image .entry))) 0)
+        now (image .exit) ≡ imageOf (now (values .entry)) (blankOf (banksOf banks) bits (length (now (image .entry))))
         (itemsOf (visits (programOf banks (now (kinds .entry)) (now (operands .entry)) (now (first .entry)))
         (rowOf (now (numbers .entry)) (now (states .entry)))))
         ⌝ }
 {
-    bitvec::clear(image);
+    lay_blank(banks, bits, image);
     let mut walk = iter::start();
     let mut i = 0;
     while i < kinds.len() {

@@ -1,8 +1,11 @@
 -- The image: the invariant is that the walk and the image stand before node i. The measure is what is left of the nodes.
 use Prim.Native.Nat.{ℕ, _-_, _≤_}
-use mathlib.Core.Path.{_≡_, sym, ap, _∙_}
+use mathlib.Core.Path.{_≡_, refl, sym, ap, _∙_}
 use native.Mathlib.Omega.{arith}
-use lib.ListN.{length, replicate, length-replicate}
+use mathlib.Core.List.{List}
+use lib.ListN.{length}
+use Rattle.bankdef.specs.Check.{banksOf}
+use Rattle.output.specs.Blank.{blankOf, blank-length}
 use borrow.Author.Needs.{needs}
 use Rattle.resolver.specs.Lists.{Row}
 use Rattle.resolver.specs.Once.{Program, walkTo}
@@ -12,13 +15,13 @@ use Rattle.output.proofs.writing.write_image.Statement.{statement}
 use Rattle.output.proofs.writing.write_image.Tie as tie
 
 abbrev Inv-loop : tie.InvT-loop
-Inv-loop banks kinds operands first numbers states values image₀ walk₀ i₀ image walk i =
+Inv-loop banks kinds operands first numbers states values bits image₀ walk₀ i₀ image walk i =
     (i ≤ length kinds)
     × (walk ≡ walkTo (record { banks = banks; kinds = kinds; operands = operands; first = first }) (record { numbers = numbers; states = states }) i)
-    × (image ≡ imageTo (record { banks = banks; kinds = kinds; operands = operands; first = first }) (record { numbers = numbers; states = states }) values (replicate (length image₀) 0) i)
+    × (image ≡ imageTo (record { banks = banks; kinds = kinds; operands = operands; first = first }) (record { numbers = numbers; states = states }) values image₀ i)
 
 abbrev μ-loop : tie.MeasureT-loop
-μ-loop banks kinds operands first numbers states values image₀ walk₀ i₀ image walk i = length kinds - i
+μ-loop banks kinds operands first numbers states values bits image₀ walk₀ i₀ image walk i = length kinds - i
 
 -- what the walk is given
 abbrev given : tie.Start Inv-loop μ-loop → Program
@@ -31,15 +34,12 @@ row s = record { numbers = s .args .numbers .now; states = s .args .states .now 
 abbrev entry : tie.At-loop Inv-loop μ-loop → tie.Start Inv-loop μ-loop
 entry at = at .before .before .before .before .before .before .before .before .before .before .before .before .before
 
--- clearing keeps the length
-lent : (c : tie.After-clear Inv-loop μ-loop) → length (c .clear .last .0) ≡ length (c .before .before .before .before .before .before .before .before .before .args .image .now)
-lent c = ap length (c .clear .ensures .zeros) ∙ length-replicate _ 0
+-- the blank image keeps the length
+lent : (c : tie.After-lay-blank Inv-loop μ-loop) → length (c .lay-blank .last .1 .1 .0) ≡ length (c .before .before .before .before .before .before .before .before .before .args .image .now)
+lent c = ap length (c .lay-blank .ensures) ∙ blank-length _ _ _
 
-cleared : (c : tie.After-clear Inv-loop μ-loop) → c .clear .last .0 ≡ replicate (length (c .clear .last .0)) 0
-cleared c = c .clear .ensures .zeros ∙ ap (λ (n : ℕ). replicate n 0) (sym (lent c))
-
-clear-requires : tie.Need-clear-requires Inv-loop μ-loop
-clear-requires c κs = search needs
+lay-blank-requires : tie.Need-lay-blank-requires Inv-loop μ-loop
+lay-blank-requires c κs = search needs
 
 start-requires : tie.Need-start-requires Inv-loop μ-loop
 start-requires c κs = search needs
@@ -49,7 +49,7 @@ loop-holds c =
     let s = c .before .before .before .before .before .before .before .before .before .before .before .before in (
       omega arith,
       walk-start (given s) (row s) (c .start .ensures),
-      image-start (given s) (row s) (s .args .values .now) (cleared (c .before .before .before)),
+      image-start (given s) (row s) (s .args .values .now) refl,
     )
 
 visit-node-requires : tie.Need-visit-node-requires Inv-loop μ-loop
@@ -59,8 +59,8 @@ write-item-requires : tie.Need-write-item-requires Inv-loop μ-loop
 write-item-requires c κs =
     let at = c .before .before .before .before in
     let s = entry at in
-    item-fits (given s) (row s) (at .loop .i) (at .loop .inv .1) (c .before .before .visit-node .ensures .0) (s .args .values .now) (replicate (length (at .before .before .before .before .clear .last .0)) 0) (at .loop .inv .2)
-    (length (s .args .kinds .now)) (rw (length-replicate {A = ℕ} (length (at .before .before .before .before .clear .last .0)) 0, lent (at .before .before .before .before)) (s .pre)) (c .before .before .before .loop-test .taken)
+    item-fits (given s) (row s) (at .loop .i) (at .loop .inv .1) (c .before .before .visit-node .ensures .0) (s .args .values .now) (at .before .before .before .before .lay-blank .last .1 .1 .0) (at .loop .inv .2)
+    (length (s .args .kinds .now)) (rw (lent (at .before .before .before .before)) (s .pre)) (c .before .before .before .loop-test .taken)
 
 add-i : tie.Need-add-i Inv-loop μ-loop
 add-i c = omega (arith, c .before .before .before .before .before .before .before .loop-test .taken, c .before .before .before .before .before .before .before .before .before .before .before .before .before .before .before .before .before .before .before .before .before .good)
@@ -75,20 +75,21 @@ loop-again c =
     let met = c .before .before .before .before .before .before .visit-node .ensures .0 in (
       omega (arith, c .before .before .before .before .before .before .before .loop-test .taken),
       walk-next (given s) (row s) (at .loop .i) (at .loop .inv .1) met,
-      image-next (given s) (row s) (at .loop .i) (at .loop .inv .1) met (s .args .values .now) (replicate (length (at .before .before .before .before .clear .last .0)) 0) (at .loop .inv .2) (c .before .before .before .write-item .ensures),
+      image-next (given s) (row s) (at .loop .i) (at .loop .inv .1) met (s .args .values .now) (at .before .before .before .before .lay-blank .last .1 .1 .0) (at .loop .inv .2) (c .before .before .before .write-item .ensures),
     )
 
 same-length : tie.Need-same-length Inv-loop μ-loop
 same-length c =
     let s = entry (c .before) in
-    ap length (c .before .loop .inv .2) ∙ image-keeps (given s) (row s) (s .args .values .now) _ (c .before .loop .i) ∙ length-replicate _ 0 ∙ lent (c .before .before .before .before .before)
+    ap length (c .before .loop .inv .2) ∙ image-keeps (given s) (row s) (s .args .values .now) _ (c .before .loop .i) ∙ lent (c .before .before .before .before .before)
 
 returns : tie.Need-returns Inv-loop μ-loop
 returns c =
     let s = entry (c .before) in
+    let blank = c .before .before .before .before .before in
     c .before .loop .inv .2
-    ∙ ap (λ (bytes : ℕ). imageTo (given s) (row s) (s .args .values .now) (replicate bytes 0) (c .before .loop .i)) (lent (c .before .before .before .before .before))
-    ∙ ap (imageTo (given s) (row s) (s .args .values .now) (replicate (length (s .args .image .now)) 0)) (omega arith)
+    ∙ ap (λ (image : List ℕ). imageTo (given s) (row s) (s .args .values .now) image (c .before .loop .i)) (blank .lay-blank .ensures)
+    ∙ ap (imageTo (given s) (row s) (s .args .values .now) (blankOf (banksOf (s .args .banks)) (s .args .bits) (length (s .args .image .now)))) (omega arith)
 
 pub write-image-spec : {M : Type 1} → statement M
 write-image-spec =
@@ -96,7 +97,7 @@ write-image-spec =
     (tie.spec
     Inv-loop
     μ-loop
-    clear-requires
+    lay-blank-requires
     start-requires
     loop-holds
     visit-node-requires
