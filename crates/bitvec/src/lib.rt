@@ -196,9 +196,9 @@ fn put_ones(image: &mut [u8], j: usize, at: u64, n: u64)
     if n == 0 {
         return;
     }
-    let chunk = power(n) - 1;
+    let ones = power(n) - 1;
     let old = wide(image[j]);
-    image[j] = splice(old, at, n, chunk) as u8;
+    image[j] = splice(old, at, n, ones) as u8;
 }
 
 // The image's whole bytes from byte `j` to before byte `k` become ones.

@@ -16,8 +16,8 @@ returns c =
 power-requires : tie.Need-power-requires
 power-requires c κs = search needs
 
-sub-chunk : tie.Need-sub-chunk
-sub-chunk c = search needs
+sub-ones : tie.Need-sub-ones
+sub-ones c = search needs
 
 slice-read-wide : tie.Need-slice-read-wide
 slice-read-wide c = search needs
@@ -53,7 +53,7 @@ put-ones-spec =
     (tie.spec
     returns
     power-requires
-    sub-chunk
+    sub-ones
     slice-read-wide
     wide-requires
     splice-requires
