@@ -166,7 +166,7 @@ module _ (b : Accepted) where
   pub length-fits : b .bits ≤ 8 * length (b .call .old .image)
   length-fits = fine b .wide
 
-  image-is : b .call .new .image ≡ imageOf (valuesIn (b .call)) (blankIn b) (itemsIn (b .call))
+  pub image-is : b .call .new .image ≡ imageOf (valuesIn (b .call)) (blankIn b) (itemsIn (b .call))
   image-is = ap (λ (l : Lent). l .image) (left-is b)
 
   -- Each bit of a written item is its own: the image's bit at its place plus j is value bit `from` plus j.

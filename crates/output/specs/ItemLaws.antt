@@ -8,7 +8,7 @@ use native.Mathlib.Nat.{le-trans, zero-div}
 use native.Mathlib.Omega.{arith}
 use lib.ListN.{length, getD, replicate, length-replicate, getD-replicate, List·getD-eq-default}
 use Rattle.bitvec.specs.Bits.{bitAt, Bytes}
-use Rattle.bitvec.specs.Written.{written, written-own, written-other, length-written}
+use Rattle.bitvec.specs.Written.{written, writtenBit, bitAt-written, written-own, written-other, length-written}
 use Rattle.blocks.specs.Bits.{Some, NoSharedBit}
 use Rattle.output.specs.Items.{Item, endOf, InItem, lengthOf, imageOf}
 
@@ -30,6 +30,12 @@ unfolding lengthOf
 end-within fill {x = x} (List·Memᴰ·head {x = y} {xs = l} e) =
     subst (λ (z : Item). endOf z ≤ lengthOf (max fill (endOf y)) l) (sym e) (omega (arith, fill-within (max fill (endOf y)) l))
 end-within fill (List·Memᴰ·tail {x = y} m) = end-within (max fill (endOf y)) m
+
+-- a longer fill gives no shorter length
+pub length-grows : {fill more : ℕ} (l : List Item) → fill ≤ more → lengthOf fill l ≤ lengthOf more l
+unfolding lengthOf
+length-grows [] h = h
+length-grows {fill} {more} (x ∷ l) h = length-grows l (omega arith)
 
 -- and not more: it is the fill's, or it is some item's end
 pub length-is-one : (fill : ℕ) (l : List Item) → (lengthOf fill l ≡ fill) ⊎ ((x : Item) × List·Memᴰ x l × (lengthOf fill l ≡ endOf x))
@@ -59,6 +65,23 @@ module _ (values : List ℕ) where
   image-length blank [] = refl
   image-length blank (x ∷ l) =
       image-length (written blank (x .at) values (x .from) (x .size)) l ∙ length-written blank (x .at) values (x .from) (x .size)
+
+  -- a bit is the same over two blanks that have it alike
+  same-written : (blank other : List ℕ) (x : Item) (k : ℕ) → bitAt blank k ≡ bitAt other k
+      → writtenBit blank (x .at) values (x .from) (x .size) k ≡ writtenBit other (x .at) values (x .from) (x .size) k
+  unfolding writtenBit
+  same-written blank other x k e = rw e
+
+  pub image-agrees : (blank other : List ℕ) (l : List Item) (k : ℕ) → k < 8 * length blank → k < 8 * length other → bitAt blank k ≡ bitAt other k
+      → bitAt (imageOf values blank l) k ≡ bitAt (imageOf values other l) k
+  unfolding imageOf
+  image-agrees blank other [] k h m e = e
+  image-agrees blank other (x ∷ l) k h m e =
+      image-agrees (written blank (x .at) values (x .from) (x .size)) (written other (x .at) values (x .from) (x .size)) l k
+      (rw (length-written blank (x .at) values (x .from) (x .size)) h) (rw (length-written other (x .at) values (x .from) (x .size)) m)
+      (bitAt-written blank (x .at) values (x .from) (x .size) k h
+      ∙ same-written blank other x k e
+      ∙ sym (bitAt-written other (x .at) values (x .from) (x .size) k m))
 
   -- a bit of no item is the blank's
   pub bit-of-none : (blank : List ℕ) (l : List Item) (bit : ℕ) → ((x : Item) → List·Memᴰ x l → InItem bit x → ⊥)

@@ -13,6 +13,7 @@ pub mod Padding
 pub mod Placing
 pub mod PlacingLaws
 pub mod RaisedLimit
+pub mod Reached
 pub mod RefusedAtNode
 pub mod ReorderLaws
 pub mod Reordered
