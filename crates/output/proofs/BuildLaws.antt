@@ -58,7 +58,8 @@ built-by : (room : Room) (k bits spans : ℕ) (q : Placed) → verdictPlaced q �
 built-by room k bits spans (holds l) e = refl
 built-by room k bits spans (stops why) e = absurd (let z : _≡_ {A = ℕ} 0 1 = cc in omega arith)
 
-module _ (p : Program) (row : Row) (closed : Bool) (fill k passes : ℕ) (values : List ℕ) (old : Lent) (plan : Plan) (planned : Planned p row closed fill plan) where
+module _ (p : Program) (row : Row) (closed : Bool) (fill k passes : ℕ) (values : List ℕ) (old : Lent) (plan : Plan)
+    (planned : Planned p row closed fill plan) where
   -- a build that changes nothing
   kept : (why : Refusal) → Refused why ≡ buildRow closed (visits p row) fill (roomOf old) k → (x : Output) → x ≡ refusedAfter passes why
       → RowBuilt p row closed fill k passes values old x old

@@ -153,12 +153,13 @@ module _ (p : Program) (row : Row) where
       → Planned p row closed fill (record { verdict = Accepted; length = reach; spans = spans; padding = walk .lost })
   ends closed fill i walk positions sizes count marks marked reach spans g b few =
       let all : i ≡ length (p .kinds) = omega (arith, g .within) in
+      let last = subst (λ (k : ℕ). placedTo p row closed k ≡ holds (stateIn (store positions sizes count marks marked))) all (g .placed) in
       record {
-        verdict = sym (ap verdictPlaced (subst (λ (k : ℕ). placedTo p row closed k ≡ holds (stateIn (store positions sizes count marks marked))) all (g .placed)));
+        verdict = sym (ap verdictPlaced last);
         reach = λ _. g .reaches ∙ ap (lengthTo p row fill) all;
         count = λ _. g .counts ∙ ap (λ (k : ℕ). length (spansTo p row k)) all;
         padding = λ _.
             ap (λ (w : Walk). w .lost) (g .walks) ∙ ap (λ (k : ℕ). walkTo p row k .lost) all
-            ∙ carried p row closed _ few (subst (λ (k : ℕ). placedTo p row closed k ≡ holds (stateIn (store positions sizes count marks marked))) all (g .placed));
+            ∙ carried p row closed _ few last;
         low = g .low;
       }

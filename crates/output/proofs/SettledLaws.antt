@@ -40,7 +40,8 @@ use Rattle.output.specs.VisitLaws.{each-from, member-visit}
 use Rattle.output.specs.Items.{isWritten, standing, itemOf, itemsOf}
 use Rattle.output.specs.Placing.{Placed, holds, stops, placedAll}
 use Rattle.output.specs.PlacingLaws.{picked-some}
-use Rattle.output.specs.Output.{Input, input, closedOf, Lent, Room, roomOf, roomFor, outputOf, refusedAfter, placedBuild, settledBuild, buildOf, visitsOf, passesOf, settledOf}
+use Rattle.output.specs.Output.{Input, input, closedOf, Lent, Room, roomOf, roomFor, outputOf, refusedAfter, placedBuild, settledBuild}
+use Rattle.output.specs.Output.{buildOf, visitsOf, passesOf, settledOf}
 use Rattle.output.specs.Output.{toldBuild, roomTold, placedTold, settledTold, leftBy, Builds}
 use Rattle.output.specs.Steps.{programOf, rowOf, InValues, RowBuilt}
 use Rattle.output.specs.declared.visits.Visit.{Visit}
@@ -115,6 +116,10 @@ contract b r e old new x same left =
     }
 
 module _ (banks : Bankdefs) (l : Lists) (m : Choices) (r : Resolution) (resolves : r ≡ layoutOf banks l m) where
+  -- the answer by what the passes settled
+  abbrev answersFor : Lent → Settled → Output
+  answersFor old s = outputOf (program banks l) (rowOfPass l (r .passes)) (r .passes) (settledBuild (input banks l m) (roomOf old) (r .passes) s)
+
   module _ (k : ℕ) (settles : r .settled ≡ At k) where
     checks : listsOf (banks .len) l (m .fill) ≡ Accepted
     unfolding layoutOf
@@ -185,13 +190,10 @@ module _ (banks : Bankdefs) (l : Lists) (m : Choices) (r : Resolution) (resolves
       finished old new x raw =
           let built = rw (part-program, part-row) at raw in
           contract (input banks l m) r resolves old new x
-          (built .answer
-          ∙ sym (ap (λ (s : Settled). outputOf (program banks l) (rowOfPass l (r .passes)) (r .passes) (settledBuild (input banks l m) (roomOf old) (r .passes) s)) settles))
-          (built .left)
+          (built .answer ∙ sym (ap (answersFor old) settles)) (built .left)
 
-  pub refused : (why : Refusal) → r .settled ≡ Unsettled why → (old : Lent) → (x : Output) → x ≡ refusedAfter (r .passes) why → Builds (input banks l m) old x old
+  pub refused : (why : Refusal) → r .settled ≡ Unsettled why → (old : Lent) (x : Output) → x ≡ refusedAfter (r .passes) why → Builds (input banks l m) old x old
   refused why settles old x is =
       contract (input banks l m) r resolves old old x
-      (is
-      ∙ sym (ap (λ (s : Settled). outputOf (program banks l) (rowOfPass l (r .passes)) (r .passes) (settledBuild (input banks l m) (roomOf old) (r .passes) s)) settles))
+      (is ∙ sym (ap (answersFor old) settles))
       (ap (λ (o : Output). leftBy banks (visitsOf (input banks l m) (r .passes)) (l .values) old (o .build)) (sym is))

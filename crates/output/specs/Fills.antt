@@ -134,7 +134,9 @@ module _ (a b : Accepted) (banks : a .call .given .banks ≡ b .call .given .ban
   fill-a = inherited-fills-as-before (a .call .given) inherited ∙ ap (λ (d : Bankdefs). fillLength (banksOf d)) banks
 
   length-a : a .bits ≡ lengthOf (fillLength (banksOf (b .call .given .banks))) (itemsIn (b .call))
-  length-a = fine a .reach ∙ ap (λ (n : ℕ). lengthOf n (itemsIn (a .call))) fill-a ∙ ap (lengthOf (fillLength (banksOf (b .call .given .banks)))) fills-same-items
+  length-a =
+      fine a .reach ∙ ap (λ (n : ℕ). lengthOf n (itemsIn (a .call))) fill-a
+      ∙ ap (lengthOf (fillLength (banksOf (b .call .given .banks)))) fills-same-items
 
   length-b : b .bits ≡ lengthOf (fullLength (banksOf (b .call .given .banks))) (itemsIn (b .call))
   length-b = fine b .reach ∙ ap (λ (n : ℕ). lengthOf n (itemsIn (b .call))) (full-fills-all (b .call .given) full)

@@ -32,7 +32,8 @@ use Rattle.output.specs.Blank.{blankOf, blank-length}
 use Rattle.output.specs.Placing.{isOffered, isReserve, lacksOutput, bitsAt, offerOf, reserveOf}
 use Rattle.output.specs.PlacingLaws.{picked-some, OfferedBit, holds-apart, apart-one, each-apart, same-visit, written-stands, each-accepted}
 use Rattle.output.specs.Output.{Lent, fillOf}
-use Rattle.output.specs.Calls.{Call, Accepted, nodesIn, visitIn, visitsIn, itemsIn, reservesIn, valuesIn, programIn, rowIn, closedIn, fine, blankIn, left-is}
+use Rattle.output.specs.Calls.{Call, Accepted, nodesIn, visitIn, visitsIn, itemsIn, reservesIn, valuesIn, programIn, rowIn, closedIn}
+use Rattle.output.specs.Calls.{fine, blankIn, left-is}
 
 -- ---- bits of items and of reserves are offered
 

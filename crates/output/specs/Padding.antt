@@ -94,7 +94,8 @@ module _ (room : Room) where
   neither-other = told (buildOf (reserveThenAlign 4 8 16) room) _ refl refl
 
 -- "in the last pass": rows with alignments 8, 8, 16, and 4, 8, 16, give 7, which is row 2's.
-pub padding-is-last-rows : (old : Lent) {r s : Output} {new other : Lent} → Builds (reserveThenAlign 8 8 16) old r new → Builds (reserveThenAlign 4 8 16) old s other
+pub padding-is-last-rows : (old : Lent) {r s : Output} {new other : Lent} → Builds (reserveThenAlign 8 8 16) old r new
+    → Builds (reserveThenAlign 4 8 16) old s other
     → (r .padding ≡ 7 ∷ replicate 15 0) × (s .padding ≡ 7 ∷ replicate 15 0)
 padding-is-last-rows old p q = (
   ap (λ (o : Output). o .padding) (p .answer) ∙ second-row (roomOf old),

@@ -49,7 +49,8 @@ use Rattle.output.specs.VisitLaws.{visits-next, visits-split}
 use Rattle.output.specs.Items.{isWritten, itemsOf, lengthOf}
 use Rattle.output.specs.Kinds.{written-exactly, offered-exactly, placed-exactly}
 use Rattle.output.specs.Spans.{sizeOf, spansOf}
-use Rattle.output.specs.Placing.{isPlaced, isOffered, closesDefault, usesDefault, endsPast, lacksOutput, offerOf, offersOf, checked, answered, tried, placing, verdictOn}
+use Rattle.output.specs.Placing.{isPlaced, isOffered, closesDefault, usesDefault, endsPast, lacksOutput, offerOf, offersOf}
+use Rattle.output.specs.Placing.{checked, answered, tried, placing, verdictOn}
 use Rattle.output.specs.Placing.{verdictSeen, Placed, holds, stops, placedIf, placedNext, placedFrom, placedAll}
 use Rattle.output.specs.PlacingLaws.{refused-accepted, placed-append, placed-last, stops-stay, checked-opens, picked-some, offer-is, placed-accepts}
 use Rattle.output.specs.Output.{Input, closedOf, Room, roomOf, roomFor, placedBuild, buildRow, settledBuild, settledOf, visitsOf, fillOf, toldBuild}

@@ -95,8 +95,8 @@ returns c =
     let f = c .before .before .before .before in
     let s = begin f in
     let why = c .before .before .verdict .given in
-    row-stopped (given s) (row s) (closed s) (fill s) (s .args .k) (s .args .passes) (s .args .values .now) (old s) (f .plan-row .result) (planned f) (why .0 .0) (why .1)
-    (c .refused .result) (c .refused .ensures)
+    row-stopped (given s) (row s) (closed s) (fill s) (s .args .k) (s .args .passes) (s .args .values .now) (old s) (f .plan-row .result) (planned f)
+    (why .0 .0) (why .1) (c .refused .result) (c .refused .ensures)
 
 enum-told : tie.Need-enum-told
 enum-told c = search needs

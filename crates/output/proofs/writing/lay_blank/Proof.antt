@@ -58,10 +58,10 @@ loop-again c =
     let at = c .before .before .before .before .before .before .before .before in
     let a = at .before .before .before .before .before .before .args in
     let found = c .before .before .before .before .before in
-    let ones = c .before .before .before .before in
-    let range = subst (λ (b : Bankdef). OnesOf b (a .bits) (ones .ones-of .result .from) (ones .ones-of .result .end)) (found .bank-record .ensures) (ones .ones-of .ensures) in (
+    let ones = c .before .before .before .before .ones-of in
+    let range = subst (λ (b : Bankdef). OnesOf b (a .bits) (ones .result .from) (ones .result .end)) (found .bank-record .ensures) (ones .ensures) in (
       omega arith,
-      laid-next (banksOf (a .banks)) (a .bits) _ (at .loop .i) (ones .ones-of .result .from) (ones .ones-of .result .end) (at .loop .inv .0) range (at .loop .inv .1)
+      laid-next (banksOf (a .banks)) (a .bits) _ (at .loop .i) (ones .result .from) (ones .result .end) (at .loop .inv .0) range (at .loop .inv .1)
           (c .before .before .set-ones .ensures .bytes),
     )
 
