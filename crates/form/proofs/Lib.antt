@@ -1,13 +1,2 @@
-pub mod Cells
-pub mod Columns
-pub mod Faults
-pub mod Filled
-pub mod Has
-pub mod Parts
-pub mod Rest
-pub mod RoundTrip
-pub mod Sections
 pub mod Tests
-pub mod Within
-pub mod Written
 pub mod Unique

@@ -8,6 +8,10 @@ use Rattle.refusal.specs.declared.Verdict.{Verdict}
 use Rattle.form.specs.Lists.{kindsOf, operandsOf, numbersOf, statesOf, listAfter}
 use Rattle.form.proofs.read_banks.Kinds as read-banks-kinds
 use Rattle.form.proofs.read_banks.Reads as read-banks-reads
+use Rattle.form.proofs.read_form1.Kinds as read-form1-kinds
+use Rattle.form.proofs.read_form1.Reads as read-form1-reads
+use Rattle.form.proofs.read_form2.Kinds as read-form2-kinds
+use Rattle.form.proofs.read_form2.Reads as read-form2-reads
 use Rattle.form.proofs.read_lists.Kinds as read-lists-kinds
 use Rattle.form.proofs.read_lists.Reads as read-lists-reads
 use Rattle.form.proofs.read_shape.Kinds as read-shape-kinds
@@ -16,7 +20,13 @@ use Rattle.form.proofs.read_values.Kinds as read-values-kinds
 use Rattle.form.proofs.read_values.Reads as read-values-reads
 
 pub read-shape-unique : OneOutcome 1 read-shape-kinds.ps read-shape-kinds.r read-shape-reads.Learnt
-read-shape-unique κs a x y e f p q = determined p q
+read-shape-unique κs a x y e f p q = determined (p .is) (q .is)
+
+pub read-form1-unique : OneOutcome 1 read-form1-kinds.ps read-form1-kinds.r read-form1-reads.Learnt
+read-form1-unique κs a x y e f p q = determined (p .is) (q .is)
+
+pub read-form2-unique : OneOutcome 1 read-form2-kinds.ps read-form2-kinds.r read-form2-reads.Learnt
+read-form2-unique κs a x y e f p q = determined (p .is) (q .is)
 
 pub read-banks-unique : OneOutcome 1 read-banks-kinds.ps read-banks-kinds.r read-banks-reads.Learnt
 read-banks-unique κs a x y e f p q = determined p q
@@ -34,9 +44,9 @@ pub read-lists-unique : OneView 5 read-lists-kinds.ps read-lists-kinds.r read-li
     (λ κs x e. (x, (e .1 .0 .now, (e .1 .1 .0 .now, (e .1 .1 .1 .0 .now, e .1 .1 .1 .1 .0 .now)))))
 read-lists-unique κs a x y e f p q =
     let file = a .0 .now in
-    let v = determined (p .verdict) (q .verdict) in
+    let v = determined (p .lists .verdict) (q .lists .verdict) in
     paired v
-    (paired (after (kindsOf file) (a .1 .0 .now) v (p .of-kinds) (q .of-kinds))
-    (paired (after (operandsOf file) (a .1 .1 .0 .now) v (p .of-operands) (q .of-operands))
-    (paired (after (numbersOf file) (a .1 .1 .1 .0 .now) v (p .of-numbers) (q .of-numbers))
-    (after (statesOf file) (a .1 .1 .1 .1 .0 .now) v (p .of-states) (q .of-states)))))
+    (paired (after (kindsOf file) (a .1 .0 .now) v (p .lists .of-kinds) (q .lists .of-kinds))
+    (paired (after (operandsOf file) (a .1 .1 .0 .now) v (p .lists .of-operands) (q .lists .of-operands))
+    (paired (after (numbersOf file) (a .1 .1 .1 .0 .now) v (p .lists .of-numbers) (q .lists .of-numbers))
+    (after (statesOf file) (a .1 .1 .1 .1 .0 .now) v (p .lists .of-states) (q .lists .of-states)))))

@@ -16,9 +16,13 @@ unfoldable pub fieldAt : List ℕ → ℕ → ℕ → ℕ → Bool
 fieldAt file tag len at =
     leb (at + 3 + len) (length file) && eqb (byte file at) tag && eqb (word16 file (at + 1)) len
 
--- "flags above 15" break a file: the flags are the last byte of a bank, whose tag is 1.
+-- "flags above 15" break a file: they are the last byte of a bank of tag 1. "Its banks use tag 17, with a payload one byte longer (fill bit,
+-- 0 or 1)": there the flags stand before the last byte. Of other fields any bytes may be the last two.
+abbrev pub endsWell : ℕ → ℕ → ℕ → Bool
+endsWell tag before last = pick (eqb tag 1) (leb last 15) (pick (eqb tag 17) (leb before 15 && leb last 1) true)
+
 unfoldable pub soundAt : List ℕ → ℕ → ℕ → ℕ → Bool
-soundAt file tag len at = fieldAt file tag len at && pick (eqb tag 1) (leb (byte file (at + 2 + len)) 15) true
+soundAt file tag len at = fieldAt file tag len at && endsWell tag (byte file (at + 1 + len)) (byte file (at + 2 + len))
 
 -- How many sound fields with this tag and this length stand one behind the other from `at` on. Each is at least three bytes long, so
 -- as many steps as the file has bytes are enough.
@@ -50,10 +54,14 @@ field-tag file tag len at h =
     (and-eq-true-iff (leb (at + 3 + len) (length file) && eqb (byte file at) tag) (eqb (word16 file (at + 1)) len) .0 h .0)
     .1)
 
-pub sound-ends : (file : List ℕ) (tag len at : ℕ) → soundAt file tag len at ≡ true → at + 3 + len ≤ length file
+-- A sound field is there.
+pub sound-field : (file : List ℕ) (tag len at : ℕ) → soundAt file tag len at ≡ true → fieldAt file tag len at ≡ true
 unfolding soundAt
-sound-ends file tag len at h =
-    field-ends file tag len at (and-eq-true-iff (fieldAt file tag len at) (pick (eqb tag 1) (leb (byte file (at + 2 + len)) 15) true) .0 h .0)
+sound-field file tag len at h =
+    and-eq-true-iff (fieldAt file tag len at) (endsWell tag (byte file (at + 1 + len)) (byte file (at + 2 + len))) .0 h .0
+
+pub sound-ends : (file : List ℕ) (tag len at : ℕ) → soundAt file tag len at ≡ true → at + 3 + len ≤ length file
+sound-ends file tag len at h = field-ends file tag len at (sound-field file tag len at h)
 
 -- One test or the other.
 pub by-test {ℓ} : {X : Type ℓ} (t : Bool) → (t ≡ true → X) → (t ≡ false → X) → X

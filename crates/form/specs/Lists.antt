@@ -13,27 +13,43 @@ use Rattle.form.specs.declared.Form.{Form}
 use Rattle.form.specs.declared.Form.the-variants.{Sound, Broken}
 use Rattle.form.specs.Columns.{column}
 use Rattle.form.specs.Words.{byte, word32}
-use Rattle.form.specs.Shape.{nodesStart, nodeCount, rowsStart, rowCount, formOf}
+use Rattle.form.specs.declared.Kind.{Kind}
+use Rattle.form.specs.Kind.{kindOf}
+use Rattle.form.specs.Shape.{nodesStartIn, nodeCountIn, rowsStartIn, rowCountIn, formOf}
 
 -- What `read` reads of each node in each row, row by row: five bytes a node, three of header before each row.
 unfoldable pub cells : (ℕ → ℕ) → ℕ → ℕ → ℕ → List ℕ
 cells read nodes at zero = []
 cells read nodes at (suc rows) = column read 5 at nodes ++ cells read nodes (at + (3 + 5 * nodes)) rows
 
-module _ (file : List ℕ) where
+module _ (k : Kind) (file : List ℕ) where
   -- each node's kind and operand, behind its header
-  abbrev pub kindsOf : List ℕ
-  kindsOf = column (byte file) 8 (nodesStart file + 3) (nodeCount file)
+  abbrev pub kindsIn : List ℕ
+  kindsIn = column (byte file) 8 (nodesStartIn k file + 3) (nodeCountIn k file)
 
-  abbrev pub operandsOf : List ℕ
-  operandsOf = column (word32 file) 8 (nodesStart file + 4) (nodeCount file)
+  abbrev pub operandsIn : List ℕ
+  operandsIn = column (word32 file) 8 (nodesStartIn k file + 4) (nodeCountIn k file)
 
   -- each row's numbers and states, node by node
+  abbrev pub numbersIn : List ℕ
+  numbersIn = cells (word32 file) (nodeCountIn k file) (rowsStartIn k file + 3) (rowCountIn k file)
+
+  abbrev pub statesIn : List ℕ
+  statesIn = cells (byte file) (nodeCountIn k file) (rowsStartIn k file + 7) (rowCountIn k file)
+
+-- the lists of a file by its own form
+module _ (file : List ℕ) where
+  abbrev pub kindsOf : List ℕ
+  kindsOf = kindsIn (kindOf file) file
+
+  abbrev pub operandsOf : List ℕ
+  operandsOf = operandsIn (kindOf file) file
+
   abbrev pub numbersOf : List ℕ
-  numbersOf = cells (word32 file) (nodeCount file) (rowsStart file + 3) (rowCount file)
+  numbersOf = numbersIn (kindOf file) file
 
   abbrev pub statesOf : List ℕ
-  statesOf = cells (byte file) (nodeCount file) (rowsStart file + 7) (rowCount file)
+  statesOf = statesIn (kindOf file) file
 
 -- The value bytes: a part of a sound file.
 abbrev pub valuesBy : List ℕ → Form → List ℕ

@@ -18,49 +18,68 @@ use Rattle.refusal.specs.declared.Verdict.{Verdict}
 use Rattle.refusal.specs.declared.Verdict.the-variants.{Accepted, Refused}
 use Rattle.form.specs.declared.Form.{Form}
 use Rattle.form.specs.declared.Form.the-variants.{Sound, Broken}
+use Rattle.form.specs.declared.Kind.{Kind}
 use Rattle.form.specs.declared.Shape.{Shape}
 use Rattle.form.specs.Fields.{fieldAt}
 use Rattle.form.specs.Lists.{listsVerdict, Lists}
-use Rattle.form.specs.Shape.{maxFile, valuesStart, valuesSize, limitStart, fieldsBefore, shapeIn, formOf}
+use Rattle.form.specs.Kind.{headed}
+use Rattle.form.specs.Shape.{valuesStartIn, valuesSizeIn, limitStartIn, fieldsBeforeIn, shapeIn, formIn, formOf}
 
 abbrev pub toldForm : Form → Told Shape
 toldForm (Sound s) = gives s
 toldForm (Broken why) = toldRefusal why
 
-pub data FormTold (file : List ℕ) : Told Shape → Type 0 where
-  -- "at most 65,000 bytes (longer: 4, place 0)"
-  long : maxFile < length file → FormTold file (refuses 4 (One 0))
+pub data FormTold (k : Kind) (file : List ℕ) : Told Shape → Type 0 where
+  -- "at most 65,000 bytes (longer: 4, place 0)", of form 2 65,536
+  long : k .longest < length file → FormTold k file (refuses 4 (One 0))
+  -- a form 2 file that does not begin as one: its first field is broken
+  no-head : length file ≤ k .longest → headed k file ≡ false → FormTold k file (refuses 4 (One 0))
   -- behind the last bank, node or row no values field: "a field missing, unknown, out of order .., a wrong length, flags above 15"
-  no-values : length file ≤ maxFile → fieldAt file 4 (valuesSize file) (valuesStart file) ≡ false → FormTold file (refuses 4 (One (fieldsBefore file)))
+  no-values : length file ≤ k .longest → headed k file ≡ true → fieldAt file 4 (valuesSizeIn k file) (valuesStartIn k file) ≡ false
+      → FormTold k file (refuses 4 (One (fieldsBeforeIn k file)))
   -- behind the values no limit
-  no-limit : length file ≤ maxFile → fieldAt file 4 (valuesSize file) (valuesStart file) ≡ true
-      → fieldAt file 5 1 (limitStart file) ≡ false → FormTold file (refuses 4 (One (fieldsBefore file + 1)))
+  no-limit : length file ≤ k .longest → headed k file ≡ true → fieldAt file 4 (valuesSizeIn k file) (valuesStartIn k file) ≡ true
+      → fieldAt file 5 1 (limitStartIn k file) ≡ false → FormTold k file (refuses 4 (One (fieldsBeforeIn k file + 1)))
   -- behind the limit anything: "extra"
-  extra : length file ≤ maxFile → fieldAt file 4 (valuesSize file) (valuesStart file) ≡ true → fieldAt file 5 1 (limitStart file) ≡ true
-      → limitStart file + 4 < length file → FormTold file (refuses 4 (One (fieldsBefore file + 2)))
-  sound : length file ≤ maxFile → fieldAt file 4 (valuesSize file) (valuesStart file) ≡ true → fieldAt file 5 1 (limitStart file) ≡ true
-      → length file ≤ limitStart file + 4 → FormTold file (gives (shapeIn file))
+  extra : length file ≤ k .longest → headed k file ≡ true → fieldAt file 4 (valuesSizeIn k file) (valuesStartIn k file) ≡ true
+      → fieldAt file 5 1 (limitStartIn k file) ≡ true → limitStartIn k file + 4 < length file
+      → FormTold k file (refuses 4 (One (fieldsBeforeIn k file + 2)))
+  sound : length file ≤ k .longest → headed k file ≡ true → fieldAt file 4 (valuesSizeIn k file) (valuesStartIn k file) ≡ true
+      → fieldAt file 5 1 (limitStartIn k file) ≡ true → length file ≤ limitStartIn k file + 4 → FormTold k file (gives (shapeIn k file))
 
-module _ (file : List ℕ) where
-  by-tests : (l v m x : Bool) → ltb maxFile (length file) ≡ l → fieldAt file 4 (valuesSize file) (valuesStart file) ≡ v
-      → fieldAt file 5 1 (limitStart file) ≡ m → ltb (limitStart file + 4) (length file) ≡ x
-      → FormTold file (toldForm
+module _ (k : Kind) (file : List ℕ) where
+  by-tests : (l h v m x : Bool) → ltb (k .longest) (length file) ≡ l → headed k file ≡ h
+      → fieldAt file 4 (valuesSizeIn k file) (valuesStartIn k file) ≡ v → fieldAt file 5 1 (limitStartIn k file) ≡ m
+      → ltb (limitStartIn k file + 4) (length file) ≡ x
+      → FormTold k file (toldForm
       (pick l (Broken (Malformed 0))
-      (pick (not v) (Broken (Malformed (fieldsBefore file)))
-      (pick (not m) (Broken (Malformed (fieldsBefore file + 1)))
-      (pick x (Broken (Malformed (fieldsBefore file + 2))) (Sound (shapeIn file)))))))
-  by-tests true v m x a b c d = long (ltb-true maxFile (length file) a)
-  by-tests false false m x a b c d = no-values (ltb-false maxFile (length file) a) b
-  by-tests false true false x a b c d = no-limit (ltb-false maxFile (length file) a) b c
-  by-tests false true true true a b c d = extra (ltb-false maxFile (length file) a) b c (ltb-true (limitStart file + 4) (length file) d)
-  by-tests false true true false a b c d = sound (ltb-false maxFile (length file) a) b c (ltb-false (limitStart file + 4) (length file) d)
+      (pick (not h) (Broken (Malformed 0))
+      (pick (not v) (Broken (Malformed (fieldsBeforeIn k file)))
+      (pick (not m) (Broken (Malformed (fieldsBeforeIn k file + 1)))
+      (pick x (Broken (Malformed (fieldsBeforeIn k file + 2))) (Sound (shapeIn k file))))))))
+  by-tests true h v m x a t b c d = long (ltb-true (k .longest) (length file) a)
+  by-tests false false v m x a t b c d = no-head (ltb-false (k .longest) (length file) a) t
+  by-tests false true false m x a t b c d = no-values (ltb-false (k .longest) (length file) a) t b
+  by-tests false true true false x a t b c d = no-limit (ltb-false (k .longest) (length file) a) t b c
+  by-tests false true true true true a t b c d =
+      extra (ltb-false (k .longest) (length file) a) t b c (ltb-true (limitStartIn k file + 4) (length file) d)
+  by-tests false true true true false a t b c d =
+      sound (ltb-false (k .longest) (length file) a) t b c (ltb-false (limitStartIn k file + 4) (length file) d)
 
   -- What is told of every file.
-  pub form-told : FormTold file (toldForm (formOf file))
-  unfolding formOf
+  pub form-told : FormTold k file (toldForm (formIn k file))
+  unfolding formIn
   form-told =
-      by-tests (ltb maxFile (length file)) (fieldAt file 4 (valuesSize file) (valuesStart file)) (fieldAt file 5 1 (limitStart file))
-      (ltb (limitStart file + 4) (length file)) refl refl refl refl
+      by-tests (ltb (k .longest) (length file)) (headed k file) (fieldAt file 4 (valuesSizeIn k file) (valuesStartIn k file))
+      (fieldAt file 5 1 (limitStartIn k file)) (ltb (limitStartIn k file + 4) (length file)) refl refl refl refl refl
+
+  -- What reading a form promises: the definition's answer, and what that tells.
+  pub record FormIs (answer : Form) : Type 0 where
+    pub is : answer ≡ formIn k file
+    pub told : FormTold k file (toldForm answer)
+
+  pub form-is : {answer : Form} → answer ≡ formIn k file → FormIs answer
+  form-is e = record { is = e; told = subst (λ (r : Form). FormTold k file (toldForm r)) (sym e) form-told }
 
 -- What is told of the lists: a broken file as above; lists too short for the nodes are field 0 of 4, for the rows field 1.
 pub data ListsTold (form : Form) (kinds operands numbers states : ℕ) : Told Nothing → Type 0 where
@@ -92,10 +111,17 @@ module _ (kinds operands numbers states : ℕ) where
   lists-by (Sound s) =
       by-room s (leb (s .nodes) kinds) (leb (s .nodes) operands) (leb (s .rows * s .nodes) numbers) (leb (s .rows * s .nodes) states) refl refl refl refl
 
--- What the contract of reading the lists tells, of every answer that meets it.
-pub lists-told : {file kinds operands numbers states kinds′ operands′ numbers′ states′ : List ℕ} {answer : Verdict}
+-- What reading the lists promises: its answer, each of the four lists, and what the answer tells.
+pub record ListsAre (file kinds operands numbers states : List ℕ) (answer : Verdict) (kinds′ operands′ numbers′ states′ : List ℕ) : Type 0 where
+  pub lists : Lists file kinds operands numbers states answer kinds′ operands′ numbers′ states′
+  pub told : ListsTold (formOf file) (length kinds) (length operands) (length numbers) (length states) (toldVerdict answer)
+
+pub lists-are : {file kinds operands numbers states kinds′ operands′ numbers′ states′ : List ℕ} {answer : Verdict}
     → Lists file kinds operands numbers states answer kinds′ operands′ numbers′ states′
-    → ListsTold (formOf file) (length kinds) (length operands) (length numbers) (length states) (toldVerdict answer)
-lists-told {file} {kinds} {operands} {numbers} {states} p =
-    subst (λ (v : Verdict). ListsTold (formOf file) (length kinds) (length operands) (length numbers) (length states) (toldVerdict v))
-    (sym (p .verdict)) (lists-by (length kinds) (length operands) (length numbers) (length states) (formOf file))
+    → ListsAre file kinds operands numbers states answer kinds′ operands′ numbers′ states′
+lists-are {file} {kinds} {operands} {numbers} {states} p =
+    record {
+      lists = p;
+      told = subst (λ (v : Verdict). ListsTold (formOf file) (length kinds) (length operands) (length numbers) (length states) (toldVerdict v))
+          (sym (p .verdict)) (lists-by (length kinds) (length operands) (length numbers) (length states) (formOf file));
+    }

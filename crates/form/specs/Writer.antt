@@ -1,18 +1,24 @@
--- A writer of form 1: the file of a layout, from document 01's words, and what it means to read a layout back out of a file.
+-- A writer of either form: the file of a layout, from document 01's words, and what it means to read a layout back out of a file.
 use mathlib.Core.Bool.{Bool, true, false}
 use mathlib.Core.List.{List, [], _∷_, _++_, map}
 use mathlib.Core.Path.{_≡_}
-use Prim.Native.Nat.{ℕ, _+_, _*_, _/_, _%_, _≤_}
+use Prim.Native.Nat.{ℕ, _+_, _*_, _-_, _≤_}
+use lib.Dec.{ltb}
 use lib.ListN.{length}
 use mir.Syntax.{w64}
 use mir.Val.{ofZ, SFits}
+use Rattle.refusal.specs.Pick.{pick}
 use Rattle.refusal.specs.declared.Opt.{Opt}
 use Rattle.refusal.specs.declared.Opt.the-variants.{None, Some}
+use Rattle.bankdef.specs.Numbers.{fillBit}
 use Rattle.bankdef.specs.declared.Bankdef.{Bankdef}
 use Rattle.form.specs.declared.Form.the-variants.{Sound}
+use Rattle.form.specs.declared.Kind.{Kind}
+use Rattle.form.specs.declared.Shape.{Shape}
 use Rattle.form.specs.Banks.{banksIn}
-use Rattle.form.specs.Shape.{maxFile, formOf}
-use Rattle.form.specs.Lists.{kindsOf, operandsOf, numbersOf, statesOf, valuesBy}
+use Rattle.form.specs.Contents.{bytes16, bytes32, bytes64, flat, Contents, written, Each}
+use Rattle.form.specs.Shape.{formIn}
+use Rattle.form.specs.Lists.{kindsIn, operandsIn, numbersIn, statesIn, valuesBy}
 
 -- ---- what a layout is
 
@@ -34,25 +40,6 @@ pub record Layout : Type 0 where
 
 -- ---- its file
 
--- "big-endian throughout"
-unfoldable pub bytes16 : ℕ → List ℕ
-bytes16 n = n / 256 ∷ n % 256 ∷ []
-
-unfoldable pub bytes32 : ℕ → List ℕ
-bytes32 n = bytes16 (n / 65536) ++ bytes16 (n % 65536)
-
-unfoldable pub bytes64 : ℕ → List ℕ
-bytes64 n = bytes32 (n / 4294967296) ++ bytes32 (n % 4294967296)
-
--- "Fields have a one-byte tag and a two-byte length"
-unfoldable pub field : ℕ → List ℕ → List ℕ
-field tag payload = tag ∷ (bytes16 (length payload) ++ payload)
-
--- Things one behind the other.
-unfoldable pub flat : {X : Type 0} {A : Type 0} → (X → List A) → List X → List A
-flat write [] = []
-flat write (x ∷ xs) = write x ++ flat write xs
-
 -- A number that may be absent is written as 0 with its flag clear.
 abbrev pub numberIn : Opt → ℕ
 numberIn None = 0
@@ -71,71 +58,74 @@ filled false = 0
 unfoldable pub flagsOf : Bankdef → ℕ
 flagsOf b = present (b .size) + 2 * present (b .offset) + 4 * present (b .align) + 8 * filled (b .fill)
 
--- "1 bank (unit 2 bytes, signed start 8, size 4, offset 4, label alignment 4, flags 1)". `ofZ w64` is two's complement.
-unfoldable pub bankBytes : Bankdef → List ℕ
-bankBytes b =
-    bytes16 (b .unit) ++ (bytes64 (ofZ w64 (b .start))
-    ++ (bytes32 (numberIn (b .size)) ++ (bytes32 (numberIn (b .offset)) ++ (bytes32 (numberIn (b .align)) ++ (flagsOf b ∷ [])))))
+-- "a payload one byte longer (fill bit, 0 or 1)", in the form whose banks are longer
+abbrev pub fillBytes : Kind → Bankdef → List ℕ
+fillBytes k b = pick (ltb 23 (k .bank)) (fillBit b ∷ []) []
 
-abbrev pub bankField : Bankdef → List ℕ
-bankField b = field 1 (bankBytes b)
+-- "1 bank (unit 2 bytes, signed start 8, size 4, offset 4, label alignment 4, flags 1)". `ofZ w64` is two's complement.
+unfoldable pub bankBytes : Kind → Bankdef → List ℕ
+bankBytes k b =
+    bytes16 (b .unit) ++ (bytes64 (ofZ w64 (b .start))
+    ++ (bytes32 (numberIn (b .size)) ++ (bytes32 (numberIn (b .offset)) ++ (bytes32 (numberIn (b .align)) ++ (flagsOf b ∷ fillBytes k b)))))
 
 -- "2 node (kind 1, operand 4)"
-abbrev pub nodeField : Node → List ℕ
-nodeField n = field 2 (n .kind ∷ bytes32 (n .operand))
+abbrev pub nodeBytes : Node → List ℕ
+nodeBytes n = n .kind ∷ bytes32 (n .operand)
 
 -- "3 row (number 4 and state 1 for each node)"
 abbrev pub cellBytes : Cell → List ℕ
 cellBytes c = bytes32 (c .number) ++ (c .state ∷ [])
 
-abbrev pub rowField : List Cell → List ℕ
-rowField row = field 3 (flat cellBytes row)
+abbrev pub contents : Kind → Layout → Contents
+contents k l =
+    record {
+      banks = map (bankBytes k) (l .banks);
+      nodes = map nodeBytes (l .nodes);
+      rows = map (flat cellBytes) (l .rows);
+      values = l .values;
+      limit = l .limit;
+    }
 
--- "4 values, one field; 5 pass limit, 1 byte"
-abbrev pub lastFields : Layout → List ℕ
-lastFields l = field 4 (l .values) ++ field 5 (l .limit ∷ [])
-
-unfoldable pub encode : Layout → List ℕ
-encode l = flat bankField (l .banks) ++ (flat nodeField (l .nodes) ++ (flat rowField (l .rows) ++ lastFields l))
+unfoldable pub encode : Kind → Layout → List ℕ
+encode k l = written k (contents k l)
 
 -- ---- which layouts have a file
 
--- Every thing of a list is so.
-abbrev pub Each : {X : Type 0} → (X → Type 0) → List X → Type 0
-Each P [] = Unit {0}
-Each P (x ∷ xs) = P x × Each P xs
-
--- A start has room in eight bytes, a row has a cell for each node, and the file is no longer than a file may be. A number too large for
--- its bytes would make a byte above 255, which no file holds; what follows holds of it all the same, so nothing more is asked.
-abbrev pub StartFits : Bankdef → Type 0
-StartFits b = SFits w64 (b .start)
+-- A start has room in eight bytes, a fill bit is one that the form has (0 in form 1; 0 or 1 in form 2, whose banks are a byte longer), a row has
+-- a cell for each node, and the file is no longer than a file of the form may be. A number too large for its bytes would make a byte above 255,
+-- which no file holds; what follows holds of it all the same, so nothing more is asked.
+abbrev pub Writes : Kind → Bankdef → Type 0
+Writes k b = SFits w64 (b .start) × (fillBit b ≤ k .bank - 23)
 
 abbrev pub Full : ℕ → List Cell → Type 0
 Full nodes row = length row ≡ nodes
 
-pub record Writable (l : Layout) : Type 0 where
-  pub starts : Each StartFits (l .banks)
+pub record Writable (k : Kind) (l : Layout) : Type 0 where
+  pub banks : Each (Writes k) (l .banks)
   pub full : Each (Full (length (l .nodes))) (l .rows)
-  pub short : length (encode l) ≤ maxFile
+  pub short : length (encode k l) ≤ k .longest
 
 -- ---- reading back
 
+-- What a file of the form with these contents says, but for its lists.
+abbrev pub shapeFor : Kind → Contents → Shape
+shapeFor k c =
+    record {
+      form = k .form;
+      banks = length (c .banks);
+      nodes = length (c .nodes);
+      rows = length (c .rows);
+      values = k .heads * 4 + length (c .banks) * (3 + k .bank) + length (c .nodes) * 8 + length (c .rows) * (3 + 5 * length (c .nodes)) + 3;
+      size = length (c .values);
+      limit = c .limit;
+    }
+
 -- A file says what a layout holds: it is sound with these counts and this limit, and its banks, lists and values are the layout's.
-pub record Says (file : List ℕ) (l : Layout) : Type 0 where
-  pub form :
-      formOf file
-      ≡ Sound
-      (record {
-        banks = length (l .banks);
-        nodes = length (l .nodes);
-        rows = length (l .rows);
-        values = length (l .banks) * 26 + length (l .nodes) * 8 + length (l .rows) * (3 + 5 * length (l .nodes)) + 3;
-        size = length (l .values);
-        limit = l .limit;
-      })
-  pub of-banks : banksIn file (length (l .banks)) ≡ l .banks
-  pub of-kinds : kindsOf file ≡ map (λ (n : Node). n .kind) (l .nodes)
-  pub of-operands : operandsOf file ≡ map (λ (n : Node). n .operand) (l .nodes)
-  pub of-numbers : numbersOf file ≡ flat (map (λ (c : Cell). c .number)) (l .rows)
-  pub of-states : statesOf file ≡ flat (map (λ (c : Cell). c .state)) (l .rows)
-  pub of-values : valuesBy file (formOf file) ≡ l .values
+pub record Says (k : Kind) (file : List ℕ) (l : Layout) : Type 0 where
+  pub form : formIn k file ≡ Sound (shapeFor k (contents k l))
+  pub of-banks : banksIn k file (length (l .banks)) ≡ l .banks
+  pub of-kinds : kindsIn k file ≡ map (λ (n : Node). n .kind) (l .nodes)
+  pub of-operands : operandsIn k file ≡ map (λ (n : Node). n .operand) (l .nodes)
+  pub of-numbers : numbersIn k file ≡ flat (map (λ (c : Cell). c .number)) (l .rows)
+  pub of-states : statesIn k file ≡ flat (map (λ (c : Cell). c .state)) (l .rows)
+  pub of-values : valuesBy file (formIn k file) ≡ l .values

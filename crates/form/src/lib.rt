@@ -1,4 +1,4 @@
-// Form 1, read: where things stand in a lent file, and which file is broken.
+// A layout file of either form, read: where things stand in a lent file, and which file is broken.
 use bankdef::Bankdef;
 use bankdef::Bankdefs;
 use refusal::MAX_BANKS;
@@ -13,19 +13,29 @@ ghost use lib.ListN.{length, drop, replicate};
 ghost use lib.Seq.{paste};
 ghost use mir.Syntax.{w64};
 ghost use mir.Val.{toZ};
-ghost use Rattle.form.specs.Banks.{isSet, optOf, bankAt, banksIn, noBank, TableIs};
+ghost use Rattle.form.specs.Banks.{isSet, optOf, fillBitAt, bankAt, banksIn, noBank, TableIs};
 ghost use Rattle.form.specs.Columns.{column};
 ghost use Rattle.form.specs.Lists.{ValuesAre, cells, Lists};
 ghost use Rattle.form.specs.Words.{byte, word16, word32, word64};
-ghost use Rattle.form.specs.Fields.{fieldAt, soundAt, run};
-ghost use Rattle.form.specs.Shape.{Counted, formOf, ShapeIs};
+ghost use Rattle.form.specs.Fields.{fieldAt, endsWell, soundAt, run};
+ghost use Rattle.form.specs.Kind.{form1, form2, begins2, kindOf, headed, Known};
+ghost use Rattle.form.specs.Shape.{Counted, formIn, formOf, nodesStart};
+ghost use Rattle.form.specs.Told.{FormIs, ListsAre};
 
-// The longest file.
-pub const MAX_FILE: usize = 65_000;
+// What differs between the forms: a form's number, how many fields stand ahead of the banks, a bank's tag and how long its
+// payload is, and the longest file.
+pub struct Kind {
+    pub form: u8,
+    pub heads: u64,
+    pub tag: u8,
+    pub bank: usize,
+    pub longest: usize,
+}
 
-// Where things stand in a sound file: how many banks, nodes and rows there are, where the value bytes start and how many they
-// are, and the pass limit.
+// Where things stand in a sound file: its form, how many banks, nodes and rows there are, where the value bytes start and how
+// many they are, and the pass limit.
 pub struct Shape {
+    pub form: u8,
     pub banks: u64,
     pub nodes: u64,
     pub rows: u64,
@@ -100,17 +110,30 @@ fn is_field(file: &[u8], tag: u8, len: usize, at: usize) -> bool
     read16(file, at + 1) as usize == len
 }
 
-// Whether that field is sound: a bank's flags are at most 15.
+// Whether the last two bytes of a payload may be these: a bank's flags are at most 15, its fill bit at most 1.
+fn ends_well(tag: u8, before: u8, last: u8) -> bool
+    ensures { λ r. ⌜ r ≡ endsWell tag before last ⌝ }
+{
+    if tag == 1 {
+        return last <= 15;
+    }
+    if tag != 17 {
+        return true;
+    }
+    if 15 < before {
+        return false;
+    }
+    last <= 1
+}
+
+// Whether that field is sound.
 fn is_sound(file: &[u8], tag: u8, len: usize, at: usize) -> bool
     ensures { λ r. ⌜ r ≡ soundAt (now (file .entry)) tag len at ⌝ }
 {
     if !is_field(file, tag, len, at) {
         return false;
     }
-    if tag != 1 {
-        return true;
-    }
-    file[at + 2 + len] <= 15
+    ends_well(tag, file[at + 1 + len], file[at + 2 + len])
 }
 
 // The sound fields with this tag and this length that stand one behind the other from `at` on.
@@ -127,12 +150,64 @@ fn count_run(file: &[u8], tag: u8, len: usize, at: usize) -> Run
     Run { count, end }
 }
 
-// What follows the rows: the values, the limit and the end.
-fn read_rest(file: &[u8], banks: u64, nodes: u64, rows: u64, at: usize) -> Form
-    requires { ⌜ Counted (now file) banks nodes rows at ⌝ }
-    ensures { λ r. ⌜ r ≡ formOf (now (file .entry)) ⌝ }
+fn form1() -> Kind
+    ensures { λ r. ⌜ r ≡ form1 ⌝ }
 {
-    let field = banks + nodes + rows;
+    Kind {
+        form: 1,
+        heads: 0,
+        tag: 1,
+        bank: 23,
+        longest: 65_000,
+    }
+}
+
+fn form2() -> Kind
+    ensures { λ r. ⌜ r ≡ form2 ⌝ }
+{
+    Kind {
+        form: 2,
+        heads: 1,
+        tag: 17,
+        bank: 24,
+        longest: 65_536,
+    }
+}
+
+// Whether a file begins with a field of tag 16 holding one byte, 2.
+fn begins2(file: &[u8]) -> bool
+    ensures { λ r. ⌜ r ≡ begins2 (now (file .entry)) ⌝ }
+{
+    if !is_field(file, 16, 1, 0) {
+        return false;
+    }
+    file[3] == 2
+}
+
+// The form of a file by its first field.
+fn kind_of(file: &[u8]) -> Kind
+    ensures { λ r. ⌜ r ≡ kindOf (now (file .entry)) ⌝ }
+{
+    if begins2(file) { form2() } else { form1() }
+}
+
+// Whether a file begins as the form asks.
+fn is_headed(file: &[u8], kind: Kind) -> bool
+    ensures { λ r. ⌜ r ≡ headed kind (now (file .entry)) ⌝ }
+{
+    if kind.heads == 0 {
+        return true;
+    }
+    begins2(file)
+}
+
+// What follows the rows: the values, the limit and the end.
+fn read_rest(file: &[u8], kind: Kind, banks: u64, nodes: u64, rows: u64, at: usize) -> Form
+    requires { ⌜ Known kind ⌝ }
+    requires { ⌜ Counted kind (now file) banks nodes rows at ⌝ }
+    ensures { λ r. ⌜ r ≡ formIn kind (now (file .entry)) ⌝ }
+{
+    let field = kind.heads + banks + nodes + rows;
     if at + 3 > file.len() {
         return Form::Broken(Refusal::Malformed(field));
     }
@@ -148,6 +223,7 @@ fn read_rest(file: &[u8], banks: u64, nodes: u64, rows: u64, at: usize) -> Form
         return Form::Broken(Refusal::Malformed(field + 2));
     }
     Form::Sound(Shape {
+        form: kind.form,
         banks,
         nodes,
         rows,
@@ -157,17 +233,41 @@ fn read_rest(file: &[u8], banks: u64, nodes: u64, rows: u64, at: usize) -> Form
     })
 }
 
-// Where things stand in a file of form 1, or at which field it is broken.
-pub fn read_shape(file: &[u8]) -> Form
-    ensures { λ r. ⌜ ShapeIs (now (file .entry)) r ⌝ }
+// Where things stand in a file of this form, or at which field it is broken.
+fn read_as(file: &[u8], kind: Kind) -> Form
+    requires { ⌜ Known kind ⌝ }
+    ensures { λ r. ⌜ r ≡ formIn kind (now (file .entry)) ⌝ }
 {
-    if MAX_FILE < file.len() {
+    if kind.longest < file.len() {
         return Form::Broken(Refusal::Malformed(0));
     }
-    let banks = count_run(file, 1, 23, 0);
+    if !is_headed(file, kind) {
+        return Form::Broken(Refusal::Malformed(0));
+    }
+    let banks = count_run(file, kind.tag, kind.bank, kind.heads as usize * 4);
     let nodes = count_run(file, 2, 5, banks.end);
     let rows = count_run(file, 3, 5 * nodes.count as usize, nodes.end);
-    read_rest(file, banks.count, nodes.count, rows.count, rows.end)
+    read_rest(file, kind, banks.count, nodes.count, rows.count, rows.end)
+}
+
+// Where things stand in a file of either form, or at which field it is broken.
+pub fn read_shape(file: &[u8]) -> Form
+    ensures { λ r. ⌜ FormIs (kindOf (now (file .entry))) (now (file .entry)) r ⌝ }
+{
+    read_as(file, kind_of(file))
+}
+
+// The same of a file that is to be of form 1, or of form 2: one of the other form is broken at field 0.
+pub fn read_form1(file: &[u8]) -> Form
+    ensures { λ r. ⌜ FormIs form1 (now (file .entry)) r ⌝ }
+{
+    read_as(file, form1())
+}
+
+pub fn read_form2(file: &[u8]) -> Form
+    ensures { λ r. ⌜ FormIs form2 (now (file .entry)) r ⌝ }
+{
+    read_as(file, form2())
 }
 
 // Eight bytes as two's complement.
@@ -201,10 +301,22 @@ fn option(flags: u8, flag: u8, n: u32) -> Opt
     }
 }
 
+// The fill bit of the bank whose field starts at `at`, where the form has one.
+fn fill_bit(file: &[u8], kind: Kind, at: usize) -> u8
+    requires { ⌜ at + 3 + kind .bank ≤ length (now file) ⌝ }
+    ensures { λ r. ⌜ r ≡ fillBitAt kind (now (file .entry)) at ⌝ }
+{
+    if kind.bank <= 23 {
+        return 0;
+    }
+    file[at + 26]
+}
+
 // The bank whose field starts at `at`.
-fn read_bank(file: &[u8], at: usize) -> Bankdef
-    requires { ⌜ at + 26 ≤ length (now file) ⌝ }
-    ensures { λ r. ⌜ r ≡ bankAt (now (file .entry)) at ⌝ }
+fn read_bank(file: &[u8], kind: Kind, at: usize) -> Bankdef
+    requires { ⌜ 23 ≤ kind .bank ⌝ }
+    requires { ⌜ at + 3 + kind .bank ≤ length (now file) ⌝ }
+    ensures { λ r. ⌜ r ≡ bankAt kind (now (file .entry)) at ⌝ }
 {
     let flags = file[at + 25];
     Bankdef {
@@ -214,14 +326,16 @@ fn read_bank(file: &[u8], at: usize) -> Bankdef
         offset: option(flags, 2, read32(file, at + 17)),
         align: option(flags, 4, read32(file, at + 21)),
         fill: is_set(flags, 8),
+        fill_bit: fill_bit(file, kind, at),
     }
 }
 
 // The first `count` banks, in a table of 16.
-fn read_table(file: &[u8], count: usize) -> [Bankdef; 16]
+fn read_table(file: &[u8], kind: Kind, count: usize) -> [Bankdef; 16]
+    requires { ⌜ Known kind ⌝ }
     requires { ⌜ count ≤ 16 ⌝ }
-    requires { ⌜ count * 26 ≤ length (now file) ⌝ }
-    ensures { λ r. ⌜ r ≡ banksIn (now (file .entry)) count ++ replicate (16 - count) noBank ⌝ }
+    requires { ⌜ kind .heads * 4 + count * (3 + kind .bank) ≤ length (now file) ⌝ }
+    ensures { λ r. ⌜ r ≡ banksIn kind (now (file .entry)) count ++ replicate (16 - count) noBank ⌝ }
 {
     let mut defs = [Bankdef {
         unit: 0,
@@ -230,10 +344,13 @@ fn read_table(file: &[u8], count: usize) -> [Bankdef; 16]
         offset: Opt::None,
         align: Opt::None,
         fill: false,
+        fill_bit: 0,
     }; 16];
+    let first = kind.heads as usize * 4;
+    let step = 3 + kind.bank;
     let mut i = 0;
     while i < count {
-        let bank = read_bank(file, i * 26);
+        let bank = read_bank(file, kind, first + i * step);
         defs[i] = bank;
         i += 1;
     }
@@ -244,13 +361,14 @@ fn read_table(file: &[u8], count: usize) -> [Bankdef; 16]
 pub fn read_banks(file: &[u8]) -> Bankdefs
     ensures { λ r. ⌜ TableIs (now (file .entry)) r ⌝ }
 {
-    let run = count_run(file, 1, 23, 0);
+    let kind = kind_of(file);
+    let run = count_run(file, kind.tag, kind.bank, kind.heads as usize * 4);
     let mut count = run.count;
     if MAX_BANKS < count {
         count = MAX_BANKS;
     }
     Bankdefs {
-        defs: read_table(file, count as usize),
+        defs: read_table(file, kind, count as usize),
         len: run.count,
     }
 }
@@ -317,6 +435,15 @@ fn read_rows(
     }
 }
 
+// Where the nodes of a sound file start.
+fn nodes_start(file: &[u8], shape: Shape) -> usize
+    requires { ⌜ formOf (now file) ≡ Form.Sound shape ⌝ }
+    ensures { λ r. ⌜ r ≡ nodesStart (now (file .entry)) ⌝ }
+{
+    let kind = kind_of(file);
+    kind.heads as usize * 4 + shape.banks as usize * (3 + kind.bank)
+}
+
 // Reads the lists of a sound file, or refuses where one that is lent is too short for them.
 fn fill_lists(
     file: &[u8],
@@ -345,7 +472,7 @@ fn fill_lists(
     if states.len() < cells {
         return Verdict::Refused(Refusal::Malformed(1));
     }
-    let start = shape.banks as usize * 26;
+    let start = nodes_start(file, shape);
     read_columns(file, start + 4, start + 3, 8, nodes, 0, operands, kinds);
     read_rows(file, start + nodes * 8, nodes, rows, numbers, states);
     Verdict::Accepted
@@ -359,7 +486,7 @@ pub fn read_lists(
     numbers: &mut [u32],
     states: &mut [u8],
 ) -> Verdict
-    ensures { λ r. ⌜ Lists (now (file .entry)) (now (kinds .entry)) (now (operands .entry)) (now (numbers .entry)) (now (states .entry)) r
+    ensures { λ r. ⌜ ListsAre (now (file .entry)) (now (kinds .entry)) (now (operands .entry)) (now (numbers .entry)) (now (states .entry)) r
         (now (kinds .exit)) (now (operands .exit)) (now (numbers .exit)) (now (states .exit)) ⌝ }
 {
     match read_shape(file) {

@@ -1,17 +1,16 @@
--- `form::is_sound` meets its contract: the field first, then a bank's flags.
+-- `form::is_sound` meets its contract: the field is there, and its last two bytes are tested.
 use Prim.Native.Nat.{_+_, _≤_}
 use mathlib.Core.Bool.{true, false}
 use mathlib.Core.Path.{_≡_, refl, sym, _∙_}
 use borrow.Author.Needs.{needs}
-use borrow.Author.Tests.{eq-eqb, ne-eqb, not-true, not-false}
+use borrow.Author.Tests.{not-true, not-false}
 use native.Mathlib.Omega.{arith}
 use lib.ListN.{length}
 use Rattle.form.specs.Fields.{fieldAt, soundAt, field-ends}
 use Rattle.form.proofs.is_sound.Statement.{statement}
 use Rattle.form.proofs.is_sound.Tie as tie
 
-there : (c : tie.Else1) → fieldAt (c .before .before .before .args .file .now) (c .before .before .before .args .tag) (c .before .before .before .args .len)
-    (c .before .before .before .args .at) ≡ true
+there : (c : tie.Else1) → fieldAt (c .before .before .before .args .file .now) (c .before .before .before .args .tag) (c .before .before .before .args .len) (c .before .before .before .args .at) ≡ true
 there c = sym (c .before .is-field .ensures) ∙ not-false _ (c .if1 .left)
 
 room : (c : tie.Else1) → c .before .before .before .args .at + 3 + c .before .before .before .args .len ≤ length (c .before .before .before .args .file .now)
@@ -27,22 +26,30 @@ returns c =
     let no-field : fieldAt (a .file .now) (a .tag) (a .len) (a .at) ≡ false = sym (c .before .is-field .ensures) ∙ not-true _ (c .if1 .taken) in
     rw no-field refl
 
+add-ends-well : tie.Need-add-ends-well
+add-ends-well c = omega (arith, room c)
+
+add-ends-well-2 : tie.Need-add-ends-well-2
+add-ends-well-2 c = omega (arith, room c)
+
+shared-slice-read-ends-well : tie.Need-shared-slice-read-ends-well
+shared-slice-read-ends-well c = omega (arith, room (c .before))
+
+add-ends-well-3 : tie.Need-add-ends-well-3
+add-ends-well-3 c = omega (arith, room (c .before))
+
+add-ends-well-4 : tie.Need-add-ends-well-4
+add-ends-well-4 c = omega (arith, room (c .before))
+
+shared-slice-read-ends-well-2 : tie.Need-shared-slice-read-ends-well-2
+shared-slice-read-ends-well-2 c = omega (arith, room (c .before .before))
+
+ends-well-requires : tie.Need-ends-well-requires
+ends-well-requires c κs = search needs
+
 returns-2 : tie.Need-returns-2
 unfolding soundAt
-returns-2 c = rw (there (c .before), ne-eqb (c .before .before .before .before .args .tag) 1 (c .if2 .taken)) refl
-
-add-result : tie.Need-add-result
-add-result c = omega (arith, room (c .before))
-
-add-result-2 : tie.Need-add-result-2
-add-result-2 c = omega (arith, room (c .before))
-
-shared-slice-read-result : tie.Need-shared-slice-read-result
-shared-slice-read-result c = omega (arith, room (c .before .before))
-
-returns-3 : tie.Need-returns-3
-unfolding soundAt
-returns-3 c = rw (there (c .before .before), eq-eqb (c .before .before .before .before .before .args .tag) 1 (c .before .if2 .left)) refl
+returns-2 c = rw (there (c .before .before .before)) (c .ends-well .ensures)
 
 pub is-sound-spec : {M : Type 1} → statement M
 is-sound-spec =
@@ -50,8 +57,11 @@ is-sound-spec =
     (tie.spec
     is-field-requires
     returns
-    returns-2
-    add-result
-    add-result-2
-    shared-slice-read-result
-    returns-3)
+    add-ends-well
+    add-ends-well-2
+    shared-slice-read-ends-well
+    add-ends-well-3
+    add-ends-well-4
+    shared-slice-read-ends-well-2
+    ends-well-requires
+    returns-2)

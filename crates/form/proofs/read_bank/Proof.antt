@@ -61,27 +61,25 @@ option-requires-3 c κs = search needs
 is-set-requires : tie.Need-is-set-requires
 is-set-requires c κs = search needs
 
+fill-bit-requires : tie.Need-fill-bit-requires
+fill-bit-requires c κs = search needs
+
 returns : tie.Need-returns
 unfolding bankAt
 returns c =
-    let flags = byte (c .before .before .before .before .before .before .before .before .before .before .before .before .args .file .now)
-    (c .before .before .before .before .before .before .before .before .before .before .before .before .args .at + 25) in
-    let start = toZ-ofZ w64 (c .before .before .before .before .before .before .before .signed .result)
-    (record { sfits = c .before .before .before .before .before .before .before .signed .ok })
-    ∙ c .before .before .before .before .before .before .before .signed .ensures ∙ ap (toZ w64)
-    (c .before .before .before .before .before .before .before .before .read64 .ensures) in
-    let size = c .before .before .before .before .before .option .ensures ∙ ap (optOf flags 1)
-    (c .before .before .before .before .before .before .read32 .ensures) in
-    let offset = c .before .before .before .option2 .ensures ∙ ap (optOf flags 2) (c .before .before .before .before .read322 .ensures) in
-    let align = c .before .option3 .ensures ∙ ap (optOf flags 4) (c .before .before .read323 .ensures) in
+    let flags = byte (c .before .before .before .before .before .before .before .before .before .before .before .before .before .args .file .now) (c .before .before .before .before .before .before .before .before .before .before .before .before .before .args .at + 25) in
+    let start = toZ-ofZ w64 (c .before .before .before .before .before .before .before .before .signed .result) (record { sfits = c .before .before .before .before .before .before .before .before .signed .ok }) ∙ c .before .before .before .before .before .before .before .before .signed .ensures ∙ ap (toZ w64) (c .before .before .before .before .before .before .before .before .before .read64 .ensures) in
+    let size = c .before .before .before .before .before .before .option .ensures ∙ ap (optOf flags 1) (c .before .before .before .before .before .before .before .read32 .ensures) in
+    let offset = c .before .before .before .before .option2 .ensures ∙ ap (optOf flags 2) (c .before .before .before .before .before .read322 .ensures) in
+    let align = c .before .before .option3 .ensures ∙ ap (optOf flags 4) (c .before .before .before .read323 .ensures) in
     λ i. record {
-      unit = c .before .before .before .before .before .before .before .before .before .read16 .ensures i;
+      unit = c .before .before .before .before .before .before .before .before .before .before .read16 .ensures i;
       start = start i;
       size = size i;
-      offset
-          = offset i;
+      offset = offset i;
       align = align i;
-      fill = c .is-set .ensures i;
+      fill = c .before .is-set .ensures i;
+      «fill_bit» = c .fill-bit .ensures i;
     }
 
 pub read-bank-spec : {M : Type 1} → statement M
@@ -105,4 +103,5 @@ read-bank-spec =
     read32-requires-3
     option-requires-3
     is-set-requires
+    fill-bit-requires
     returns)

@@ -8,7 +8,7 @@ use lib.ListN.{length, length-set}
 use lib.Seq.{paste, paste-zero}
 use Rattle.form.specs.Columns.{column}
 use Rattle.form.specs.Words.{byte, word32}
-use Rattle.form.proofs.Columns.{column-turn}
+use Rattle.form.specs.Columns.{column-turn}
 use Rattle.form.proofs.read_columns.Statement.{statement}
 use Rattle.form.proofs.read_columns.Tie as tie
 

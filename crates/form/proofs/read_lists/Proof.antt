@@ -1,6 +1,7 @@
 -- `form::read_lists` meets its contract: a broken file changes nothing, a sound one is read.
 use mathlib.Core.Path.{refl, sym, _∙_}
 use borrow.Author.Needs.{needs}
+use Rattle.form.specs.Told.{lists-are}
 use Rattle.form.proofs.read_lists.Statement.{statement}
 use Rattle.form.proofs.read_lists.Tie as tie
 
@@ -11,7 +12,7 @@ enum-known-shape : tie.Need-enum-known-shape
 enum-known-shape c = search needs
 
 fill-lists-requires : tie.Need-fill-lists-requires
-fill-lists-requires c κs = sym (c .before .before .before .before .before .before .before .read-shape .ensures)
+fill-lists-requires c κs = sym (c .before .before .before .before .before .before .before .read-shape .ensures .is)
     ∙ c .before .before .before .before .before .shape .given .1
 
 enum-known-r : tie.Need-enum-known-r
@@ -30,17 +31,18 @@ same-length-4 : tie.Need-same-length-4
 same-length-4 c = search needs
 
 returns : tie.Need-returns
-returns c = search needs
+returns c = lists-are (c .before .before .before .before .before .before .before .before .fill-lists .ensures)
 
 returns-2 : tie.Need-returns-2
 returns-2 c =
-    record {
-      verdict = rw (sym (c .before .before .before .read-shape .ensures) ∙ c .before .r .given .1) refl;
+    lists-are
+    (record {
+      verdict = rw (sym (c .before .before .before .read-shape .ensures .is) ∙ c .before .r .given .1) refl;
       of-kinds = refl;
       of-operands = refl;
       of-numbers = refl;
       of-states = refl;
-    }
+    })
 
 pub read-lists-spec : {M : Type 1} → statement M
 read-lists-spec =

@@ -7,7 +7,7 @@ use native.Mathlib.Omega.{arith}
 use lib.ListN.{length, drop}
 use Rattle.form.specs.Lists.{cells}
 use Rattle.form.specs.Words.{byte, word32}
-use Rattle.form.proofs.Cells.{cells-turn}
+use Rattle.form.specs.Cells.{cells-turn}
 use Rattle.form.proofs.read_rows.Statement.{statement}
 use Rattle.form.proofs.read_rows.Tie as tie
 

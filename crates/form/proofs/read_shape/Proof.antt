@@ -1,45 +1,23 @@
--- `form::read_shape` meets its contract: the runs of banks, nodes and rows, and what follows them.
-use mathlib.Core.Path.{sym}
+-- `form::read_shape` meets its contract: a file is read as its own form.
+use mathlib.Core.Path.{sym, ap, subst, _∙_}
 use borrow.Author.Needs.{needs}
-use native.Mathlib.Omega.{arith}
-use Rattle.form.proofs.Rest.{form-long, counted}
+use Rattle.form.specs.declared.Kind.{Kind}
+use Rattle.form.specs.Kind.{Known, kindOf, kind-known}
+use Rattle.form.specs.Shape.{formIn}
+use Rattle.form.specs.Told.{form-is}
 use Rattle.form.proofs.read_shape.Statement.{statement}
 use Rattle.form.proofs.read_shape.Tie as tie
 
+kind-of-requires : tie.Need-kind-of-requires
+kind-of-requires c κs = search needs
+
+read-as-requires : tie.Need-read-as-requires
+read-as-requires c κs = subst Known (sym (c .kind-of .ensures)) (kind-known (c .before .before .args .file .now))
+
 returns : tie.Need-returns
-returns c = sym (form-long (c .before .before .args .file .now) (omega arith))
-
-count-run-requires : tie.Need-count-run-requires
-count-run-requires c κs = search needs
-
-count-run-requires-2 : tie.Need-count-run-requires-2
-count-run-requires-2 c κs = search needs
-
-mul-count-run : tie.Need-mul-count-run
-mul-count-run c = search needs
-
-count-run-requires-3 : tie.Need-count-run-requires-3
-count-run-requires-3 c κs = search needs
-
-read-rest-requires : tie.Need-read-rest-requires
-read-rest-requires c κs =
-    counted (c .before .before .before .before .before .args .file .now) (omega arith)
-    (c .before .before .count-run .result .count) (c .before .count-run2 .result .count) (c .count-run3 .result .count)
-    (c .before .before .count-run .result .end) (c .before .count-run2 .result .end) (c .count-run3 .result .end)
-    (c .before .before .count-run .ensures .0) (c .before .before .count-run .ensures .1) (c .before .count-run2 .ensures .0)
-    (c .before .count-run2 .ensures .1) (c .count-run3 .ensures .0) (c .count-run3 .ensures .1)
-
-returns-2 : tie.Need-returns-2
-returns-2 c = search needs
+returns c =
+    let file = c .before .before .before .args .file .now in
+    form-is (kindOf file) file (c .read-as .ensures ∙ ap (λ (k : Kind). formIn k file) (c .before .kind-of .ensures))
 
 pub read-shape-spec : {M : Type 1} → statement M
-read-shape-spec =
-    tie.close
-    (tie.spec
-    returns
-    count-run-requires
-    count-run-requires-2
-    mul-count-run
-    count-run-requires-3
-    read-rest-requires
-    returns-2)
+read-shape-spec = tie.close (tie.spec kind-of-requires read-as-requires returns)

@@ -2,39 +2,53 @@
 use Prim.Native.Nat.{ℕ, suc, _+_, _-_, _*_, _≤_, _<_}
 use mathlib.Core.Path.{_≡_, refl, sym, ap, _∙_}
 use mathlib.Core.List.{List, _∷_, _++_}
+use native.Mathlib.Nat.{mul-le-mul-right}
 use native.Mathlib.Omega.{arith}
-use native.Mathlib.Nat.{zero-add}
 use lib.ListN.{set, replicate}
+use Rattle.form.specs.declared.Kind.{Kind}
 use Rattle.form.specs.Banks.{bankAt, banksIn, noBank}
-use Rattle.form.specs.Columns.{column}
-use Rattle.form.proofs.Columns.{column-set}
+use Rattle.form.specs.Columns.{column, column-set}
+use Rattle.form.specs.Kind.{known-heads, known-bank}
 use Rattle.form.proofs.read_table.Statement.{statement}
 use Rattle.form.proofs.read_table.Tie as tie
 
 -- a turn puts the next bank in the place of the first that is none
-turn : (file : List ℕ) (i : ℕ) → i < 16
-    → set (banksIn file i ++ replicate (16 - i) noBank) i (bankAt file (i * 26)) ≡ banksIn file (i + 1) ++ replicate (16 - (i + 1)) noBank
-turn file i h =
+turn : (k : Kind) (file : List ℕ) (i : ℕ) → i < 16
+    → set (banksIn k file i ++ replicate (16 - i) noBank) i (bankAt k file (k .heads * 4 + i * (3 + k .bank)))
+    ≡ banksIn k file (i + 1) ++ replicate (16 - (i + 1)) noBank
+turn k file i h =
     let e : 16 - i ≡ suc (16 - (i + 1)) = omega arith in
-    ap (λ (k : ℕ). set (banksIn file i ++ replicate k noBank) i (bankAt file (i * 26))) e
-    ∙ ap (λ (k : ℕ). set (banksIn file i ++ (noBank ∷ replicate (16 - (i + 1)) noBank)) i (bankAt file k)) (sym (zero-add (i * 26)))
-    ∙ column-set (bankAt file) 26 0 i noBank (replicate (16 - (i + 1)) noBank)
+    ap (λ (n : ℕ). set (banksIn k file i ++ replicate n noBank) i (bankAt k file (k .heads * 4 + i * (3 + k .bank)))) e
+    ∙ column-set (bankAt k file) (3 + k .bank) (k .heads * 4) i noBank (replicate (16 - (i + 1)) noBank)
 
 abbrev Inv-loop : tie.InvT-loop
-Inv-loop file count defs₀ i₀ defs i = (i ≤ count) × (defs ≡ banksIn file i ++ replicate (16 - i) noBank)
+Inv-loop file kind count defs₀ first step i₀ defs i = (i ≤ count) × (defs ≡ banksIn kind file i ++ replicate (16 - i) noBank)
 
 abbrev μ-loop : tie.MeasureT-loop
-μ-loop file count defs₀ i₀ defs i = count - i
+μ-loop file kind count defs₀ first step i₀ defs i = count - i
+
+-- the next bank ends where the last of them ends, or before
+behind : (c : tie.In-loop Inv-loop μ-loop) → (c .before .loop .i + 1) * (3 + c .before .before .before .before .args .kind .bank) ≤ c .before .before .before .before .args .count * (3 + c .before .before .before .before .args .kind .bank)
+behind c = mul-le-mul-right (3 + c .before .before .before .before .args .kind .bank) (omega arith)
+
+mul-first : tie.Need-mul-first Inv-loop μ-loop
+mul-first c = omega (arith, known-heads (c .before .pre .0))
+
+add-step : tie.Need-add-step Inv-loop μ-loop
+add-step c = omega (arith, known-bank (c .before .before .pre .0) .1)
 
 loop-holds : tie.Need-loop-holds Inv-loop μ-loop
 unfolding column
 loop-holds c = (omega arith, refl)
 
 mul-read-bank : tie.Need-mul-read-bank Inv-loop μ-loop
-mul-read-bank c = omega arith
+mul-read-bank c = omega (arith, behind c)
+
+add-read-bank : tie.Need-add-read-bank Inv-loop μ-loop
+add-read-bank c = omega (arith, behind c)
 
 read-bank-requires : tie.Need-read-bank-requires Inv-loop μ-loop
-read-bank-requires c κs = omega arith
+read-bank-requires c κs = (known-bank (c .before .before .before .before .pre .0) .0, omega (arith, behind c))
 
 mul-defs : tie.Need-mul-defs Inv-loop μ-loop
 mul-defs c = omega arith
@@ -51,11 +65,12 @@ loop-less c = omega arith
 loop-again : tie.Need-loop-again Inv-loop μ-loop
 loop-again c =
     let i = c .before .before .loop .i in
-    (omega arith, rw (c .before .before .loop .inv .1, c .read-bank .ensures) (turn (c .before .before .before .before .args .file .now) i (omega arith)))
+    let a = c .before .before .before .before .before .args in
+    (omega arith, rw (c .before .before .loop .inv .1, c .read-bank .ensures) (turn (a .kind) (a .file .now) i (omega arith)))
 
 returns : tie.Need-returns Inv-loop μ-loop
 returns c =
-    let e : c .before .loop .i ≡ c .before .before .before .args .count = omega arith in
+    let e : c .before .loop .i ≡ c .before .before .before .before .args .count = omega arith in
     c .before .loop .inv .1 ∙ rw e refl
 
 pub read-table-spec : {M : Type 1} → statement M
@@ -64,8 +79,11 @@ read-table-spec =
     (tie.spec
     Inv-loop
     μ-loop
+    mul-first
+    add-step
     loop-holds
     mul-read-bank
+    add-read-bank
     read-bank-requires
     mul-defs
     array-set-from-defs

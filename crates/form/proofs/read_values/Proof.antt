@@ -5,21 +5,22 @@ use mathlib.Core.List.{List}
 use borrow.Author.Needs.{needs}
 use native.Mathlib.Omega.{arith}
 use lib.ListN.{length, take, drop}
+use Rattle.form.specs.declared.Kind.{Kind}
 use Rattle.form.specs.declared.Shape.{Shape}
 use Rattle.form.specs.Lists.{valuesBy}
-use Rattle.form.specs.Shape.{shapeIn, limitStart}
-use Rattle.form.proofs.Rest.{SoundFile, sound-file}
+use Rattle.form.specs.Shape.{shapeIn, limitStartIn}
+use Rattle.form.specs.Rest.{SoundFile, sound-file}
 use Rattle.form.proofs.read_values.Statement.{statement}
 use Rattle.form.proofs.read_values.Tie as tie
 
 -- the value bytes end before the limit
-inside : (file : List ℕ) (s : Shape) → SoundFile file s → s .values + s .size + 4 ≡ length file
-unfolding shapeIn limitStart
-inside file s k = ap (λ (t : Shape). t .values + t .size + 4) (k .shape) ∙ k .whole
+inside : (k : Kind) (file : List ℕ) (s : Shape) → SoundFile k file s → s .values + s .size + 4 ≡ length file
+unfolding shapeIn limitStartIn
+inside k file s f = ap (λ (t : Shape). t .values + t .size + 4) (f .shape) ∙ f .whole
 
 within : (c : tie.After-struct-known) → c .before .before .shape .given .0 .0 .values + c .before .before .shape .given .0 .0 .size + 4 ≡ length
     (c .before .before .before .before .before .before .args .file .now)
-within c = inside _ _ (sound-file _ _ (sym (c .before .before .before .before .read-shape .ensures) ∙ c .before .before .shape .given .1))
+within c = inside _ _ _ (sound-file _ _ _ (sym (c .before .before .before .before .read-shape .ensures .is) ∙ c .before .before .shape .given .1))
 
 read-shape-requires : tie.Need-read-shape-requires
 read-shape-requires c κs = search needs
@@ -41,7 +42,7 @@ part-result-end c = search needs
 
 returns : tie.Need-returns
 returns c = ap (valuesBy (c .before .before .before .before .before .args .file .now)) (sym (c .before .enum-told .given .1)
-    ∙ c .before .before .before .read-shape .ensures)
+    ∙ c .before .before .before .read-shape .ensures .is)
 
 add-end : tie.Need-add-end
 add-end c = omega (arith, within c)
@@ -61,7 +62,7 @@ returns-2 c =
     let s = c .before .before .before .shape .given .0 .0 in
     let e : s .values + s .size - s .values ≡ s .size = omega arith in
     ap (λ (n : ℕ). take n (drop (s .values) file)) e ∙ ap (valuesBy file) (sym (c .before .before .before .shape .given .1)
-    ∙ c .before .before .before .before .before .read-shape .ensures)
+    ∙ c .before .before .before .before .before .read-shape .ensures .is)
 
 pub read-values-spec : {M : Type 1} → statement M
 read-values-spec =

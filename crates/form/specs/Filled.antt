@@ -2,7 +2,7 @@
 use mathlib.Core.Path.{_≡_, refl, sym, ap, ap₂, _∙_}
 use mathlib.Core.List.{List, _++_}
 use Prim.Native.Nat.{ℕ, _+_, _*_, _≤_, _<_}
-use native.Mathlib.Nat.{zero-add}
+use native.Mathlib.Nat.{zero-add, mul-le-mul-left}
 use native.Mathlib.Omega.{arith}
 use lib.ListN.{length, drop}
 use lib.Seq.{paste, take-all}
@@ -13,29 +13,44 @@ use Rattle.form.specs.declared.Shape.{Shape}
 use Rattle.form.specs.declared.Form.the-variants.{Sound}
 use Rattle.form.specs.Columns.{column}
 use Rattle.form.specs.Words.{byte, word32}
-use Rattle.form.specs.Shape.{nodesStart, nodeCount, rowsStart, rowCount, valuesStart, shapeIn, formOf}
+use Rattle.form.specs.Kind.{kindOf, kind-known, kind-headed, known-bank, known-longest}
+use Rattle.form.specs.Shape.{bankCountIn, nodesStartIn, rowsStartIn, valuesStartIn, nodesStart, nodeCount, rowsStart, rowCount, shapeIn, formOf}
 use Rattle.form.specs.Lists.{cells, Lists}
-use Rattle.form.proofs.Columns.{column-length}
-use Rattle.form.proofs.Cells.{cells-length}
-use Rattle.form.proofs.Rest.{sound-file}
-use Rattle.form.proofs.Within.{values-within}
+use Rattle.form.specs.Columns.{column-length}
+use Rattle.form.specs.Cells.{cells-length}
+use Rattle.form.specs.Rest.{sound-file}
+use Rattle.form.specs.Within.{values-within}
 
--- Where the lists of a sound file stand, by its shape.
+-- Where the lists of a sound file stand, by its shape. A bank takes 26 bytes at least.
 pub record Places (file : List ℕ) (s : Shape) : Type 0 where
-  pub start : s .banks * 26 ≡ nodesStart file
+  pub start : kindOf file .heads * 4 + s .banks * (3 + kindOf file .bank) ≡ nodesStart file
   pub nodes : s .nodes ≡ nodeCount file
   pub rows : s .rows ≡ rowCount file
-  pub behind : s .banks * 26 + s .nodes * 8 ≡ rowsStart file
+  pub behind : kindOf file .heads * 4 + s .banks * (3 + kindOf file .bank) + s .nodes * 8 ≡ rowsStart file
+  pub ends : kindOf file .heads * 4 + s .banks * (3 + kindOf file .bank) + s .nodes * 8 + s .rows * (3 + 5 * s .nodes) ≤ length file
   pub room : s .banks * 26 + s .nodes * 8 + s .rows * (3 + 5 * s .nodes) ≤ length file
-  pub short : length file ≤ 65000
+  pub short : length file ≤ 65536
 
-at-shape : (file : List ℕ) → length file ≤ 65000 → Places file (shapeIn file)
-unfolding shapeIn nodesStart rowsStart valuesStart
-at-shape file h = record { start = refl; nodes = refl; rows = refl; behind = refl; room = values-within file; short = h }
+at-shape : (file : List ℕ) → length file ≤ kindOf file .longest → Places file (shapeIn (kindOf file) file)
+unfolding shapeIn nodesStartIn rowsStartIn valuesStartIn
+at-shape file h =
+    let k = kindOf file in
+    let known = kind-known file in
+    let all = values-within known file (kind-headed file) in
+    let more : bankCountIn k file * 26 ≤ bankCountIn k file * (3 + k .bank) = mul-le-mul-left (bankCountIn k file) (omega (arith, known-bank known .0)) in
+    record {
+      start = refl;
+      nodes = refl;
+      rows = refl;
+      behind = refl;
+      ends = all;
+      room = omega (arith, all, more);
+      short = omega (arith, h, known-longest known);
+    }
 
 pub places : (file : List ℕ) (s : Shape) → formOf file ≡ Sound s → Places file s
 places file s e =
-    let k = sound-file file s e in
+    let k = sound-file (kindOf file) file s e in
     rw (k .shape) (at-shape file (k .short))
 
 -- what is written from the front on stands before the old contents
@@ -87,27 +102,28 @@ module _ (file kinds operands numbers states : List ℕ) (s : Shape) (e : formOf
               of-states = refl;
             }
 
-        pub lists-read : s .rows * s .nodes ≤ length states → (kinds′ operands′ numbers′ states′ : List ℕ)
-            → kinds′ ≡ paste kinds 0 (column (byte file) 8 (s .banks * 26 + 3) (s .nodes)) (s .nodes)
-            → operands′ ≡ paste operands 0 (column (word32 file) 8 (s .banks * 26 + 4) (s .nodes)) (s .nodes)
-            → numbers′ ≡ cells (word32 file) (s .nodes) (s .banks * 26 + s .nodes * 8 + 3) (s .rows) ++ drop (s .rows * s .nodes) numbers
-            → states′ ≡ cells (byte file) (s .nodes) (s .banks * 26 + s .nodes * 8 + 7) (s .rows) ++ drop (s .rows * s .nodes) states
+        pub lists-read : s .rows * s .nodes ≤ length states → (start : ℕ) → start ≡ nodesStart file → (kinds′ operands′ numbers′ states′ : List ℕ)
+            → kinds′ ≡ paste kinds 0 (column (byte file) 8 (start + 3) (s .nodes)) (s .nodes)
+            → operands′ ≡ paste operands 0 (column (word32 file) 8 (start + 4) (s .nodes)) (s .nodes)
+            → numbers′ ≡ cells (word32 file) (s .nodes) (start + s .nodes * 8 + 3) (s .rows) ++ drop (s .rows * s .nodes) numbers
+            → states′ ≡ cells (byte file) (s .nodes) (start + s .nodes * 8 + 7) (s .rows) ++ drop (s .rows * s .nodes) states
             → Lists file kinds operands numbers states Accepted kinds′ operands′ numbers′ states′
-        lists-read hs kinds′ operands′ numbers′ states′ pk po pn ps =
+        lists-read hs start at-start kinds′ operands′ numbers′ states′ pk po pn ps =
             let p = places file s e in
+            let at-rows : start + s .nodes * 8 ≡ rowsStart file = ap (λ (a : ℕ). a + s .nodes * 8) (at-start ∙ sym (p .start)) ∙ p .behind in
             let front : (read : ℕ → ℕ) (off : ℕ) (l : List ℕ)
-            → paste l 0 (column read 8 (s .banks * 26 + off) (s .nodes)) (s .nodes)
+            → paste l 0 (column read 8 (start + off) (s .nodes)) (s .nodes)
             ≡ column read 8 (nodesStart file + off) (nodeCount file) ++ drop (length (column read 8 (nodesStart file + off) (nodeCount file))) l =
             λ read off l.
-            ap₂ (λ (a n : ℕ). paste l 0 (column read 8 (a + off) n) n) (p .start) (p .nodes)
+            ap₂ (λ (a n : ℕ). paste l 0 (column read 8 (a + off) n) n) at-start (p .nodes)
             ∙ paste-front l (column read 8 (nodesStart file + off) (nodeCount file)) (nodeCount file) (column-length read 8 (nodesStart file + off)
             (nodeCount file)) in
             let rest : (read : ℕ → ℕ) (off : ℕ) (l : List ℕ)
-            → cells read (s .nodes) (s .banks * 26 + s .nodes * 8 + off) (s .rows) ++ drop (s .rows * s .nodes) l
+            → cells read (s .nodes) (start + s .nodes * 8 + off) (s .rows) ++ drop (s .rows * s .nodes) l
             ≡ cells read (nodeCount file) (rowsStart file + off) (rowCount file) ++ drop (length (cells read (nodeCount file) (rowsStart file + off)
             (rowCount file))) l =
             λ read off l.
-            ap (λ (a : ℕ). cells read (s .nodes) (a + off) (s .rows) ++ drop (s .rows * s .nodes) l) (p .behind)
+            ap (λ (a : ℕ). cells read (s .nodes) (a + off) (s .rows) ++ drop (s .rows * s .nodes) l) at-rows
             ∙ ap₂ (λ (n r : ℕ). cells read n (rowsStart file + off) r ++ drop (r * n) l) (p .nodes) (p .rows)
             ∙ ap (λ (k : ℕ). cells read (nodeCount file) (rowsStart file + off) (rowCount file) ++ drop k l) (sym (cells-length read (nodeCount file)
             (rowsStart file + off) (rowCount file))) in

@@ -2,31 +2,31 @@
 use mathlib.Core.Bool.{true, false}
 use mathlib.Core.List.{List, [], _∷_, _++_, map}
 use mathlib.Core.Path.{_≡_, refl, sym, ap, ap₂, _∙_}
-use Prim.Native.Nat.{ℕ, suc, _+_, _*_, _<_}
+use Prim.Native.Nat.{ℕ, suc, _+_, _*_}
 use native.Mathlib.Omega.{arith}
 use lib.ListN.{length, length-append}
 use Rattle.form.specs.Columns.{column}
 use Rattle.form.specs.Fields.{fieldAt, soundAt, run, field-tag, run-stop, run-more, by-test}
-use Rattle.form.specs.Writer.{flat, Each}
-use Rattle.form.proofs.Has.{Has, has-left, has-right, has-byte}
+use Rattle.form.specs.Contents.{flat, Each}
+use Rattle.form.specs.Has.{Has, has-left, has-right, has-byte}
 
 -- Where another tag stands, no field of this tag does.
-pub no-field : (file : List ℕ) (tag len at t : ℕ) (l : List ℕ) → Has file at (t ∷ l) → tag < t → soundAt file tag len at ≡ false
+pub no-field : (file : List ℕ) (tag len at t : ℕ) (l : List ℕ) → Has file at (t ∷ l) → (tag ≡ t → ⊥) → soundAt file tag len at ≡ false
 unfolding soundAt
-no-field file tag len at t l h less =
+no-field file tag len at t l h other =
     by-test (fieldAt file tag len at)
-    (λ e. absurd (omega (arith, field-tag file tag len at e, has-byte t l h)))
+    (λ e. absurd (other (sym (field-tag file tag len at e) ∙ has-byte t l h)))
     (λ e. rw e refl)
 
--- What follows begins with a larger tag.
-pub record Above (tag : ℕ) (l : List ℕ) : Type 0 where
+-- What follows begins with another tag.
+pub record Other (tag : ℕ) (l : List ℕ) : Type 0 where
   pub first : ℕ
   pub tail : List ℕ
   pub is : l ≡ first ∷ tail
-  pub more : tag < first
+  pub apart : tag ≡ first → ⊥
 
-pub no-run : (file : List ℕ) (tag len at : ℕ) (l : List ℕ) → Above tag l → Has file at l → run file tag len at ≡ 0
-no-run file tag len at l k h = run-stop file tag len at (no-field file tag len at (k .first) (k .tail) (rw (k .is) at h) (k .more))
+pub no-run : (file : List ℕ) (tag len at : ℕ) (l : List ℕ) → Other tag l → Has file at l → run file tag len at ≡ 0
+no-run file tag len at l k h = run-stop file tag len at (no-field file tag len at (k .first) (k .tail) (rw (k .is) at h) (k .apart))
 
 module _ {X : Type 0} (file : List ℕ) (write : X → List ℕ) (P : X → Type 0) (step : ℕ) (long : (x : X) → P x → length (write x) ≡ step) where
   pub flat-length : (xs : List X) → Each P xs → length (flat write xs) ≡ length xs * step

@@ -10,7 +10,7 @@ use lib.Seq.{drop-drop, drop-append-seam, getD-drop}
 use borrow.Author.Tests.{le-leb, eq-eqb}
 use Rattle.form.specs.Words.{byte, word16, word32, word64}
 use Rattle.form.specs.Fields.{fieldAt}
-use Rattle.form.specs.Writer.{bytes16, bytes32, bytes64, field}
+use Rattle.form.specs.Contents.{bytes16, bytes32, bytes64, field}
 
 -- `part` stands in the file from `at` on.
 pub record Has (file : List ℕ) (at : ℕ) (part : List ℕ) : Type 0 where

@@ -8,7 +8,7 @@ use lib.ListN.{length, take, drop, length-append}
 use lib.Seq.{paste, take-at, take-all, drop-drop, drop-append-add}
 use Rattle.form.specs.Columns.{column}
 use Rattle.form.specs.Lists.{cells}
-use Rattle.form.proofs.Columns.{column-length}
+use Rattle.form.specs.Columns.{column-length}
 
 module _ (read : ℕ → ℕ) (nodes : ℕ) where
   pub cells-length : (at rows : ℕ) → length (cells read nodes at rows) ≡ rows * nodes

@@ -1,0 +1,44 @@
+-- `form::nodes_start` meets its contract: the head and the banks before them.
+use Prim.Native.Nat.{_+_, _*_, _≤_}
+use mathlib.Core.Path.{_≡_, sym, ap, subst, _∙_}
+use borrow.Author.Needs.{needs}
+use native.Mathlib.Omega.{arith}
+use Rattle.form.specs.declared.Kind.{Kind}
+use Rattle.form.specs.Kind.{Known, kind-known, known-bank}
+use Rattle.form.specs.Filled.{places}
+use Rattle.form.proofs.nodes_start.Statement.{statement}
+use Rattle.form.proofs.nodes_start.Tie as tie
+
+fits : (c : tie.After-kind-of) → c .kind-of .result .heads * 4 + c .before .before .args .shape .banks * (3 + c .kind-of .result .bank) ≤ 65536
+fits c =
+    let a = c .before .before .args in
+    let p = places (a .file .now) (a .shape) (c .before .before .pre) in
+    subst (λ (k : Kind). k .heads * 4 + a .shape .banks * (3 + k .bank) ≤ 65536) (sym (c .kind-of .ensures)) (omega (arith, p .ends, p .short))
+
+bank : (c : tie.After-kind-of) → c .kind-of .result .bank ≤ 24
+bank c = known-bank (subst Known (sym (c .kind-of .ensures)) (kind-known (c .before .before .args .file .now))) .1
+
+kind-of-requires : tie.Need-kind-of-requires
+kind-of-requires c κs = search needs
+
+mul-result : tie.Need-mul-result
+mul-result c = omega (arith, fits c)
+
+add-result : tie.Need-add-result
+add-result c = omega (arith, bank (c .before))
+
+mul-result-2 : tie.Need-mul-result-2
+mul-result-2 c = omega (arith, fits (c .before))
+
+add-result-2 : tie.Need-add-result-2
+add-result-2 c = omega (arith, fits (c .before))
+
+returns : tie.Need-returns
+returns c =
+    let a = c .before .before .before .args in
+    ap (λ (k : Kind). k .heads * 4 + a .shape .banks * (3 + k .bank)) (c .before .kind-of .ensures)
+    ∙ places (a .file .now) (a .shape) (c .before .before .before .pre) .start
+
+pub nodes-start-spec : {M : Type 1} → statement M
+nodes-start-spec =
+    tie.close (tie.spec kind-of-requires mul-result add-result mul-result-2 add-result-2 returns)
