@@ -54,6 +54,13 @@ field-tag file tag len at h =
     (and-eq-true-iff (leb (at + 3 + len) (length file) && eqb (byte file at) tag) (eqb (word16 file (at + 1)) len) .0 h .0)
     .1)
 
+-- And its length.
+pub field-len : (file : List ℕ) (tag len at : ℕ) → fieldAt file tag len at ≡ true → word16 file (at + 1) ≡ len
+unfolding fieldAt
+field-len file tag len at h =
+    eqb-true (word16 file (at + 1)) len
+    (and-eq-true-iff (leb (at + 3 + len) (length file) && eqb (byte file at) tag) (eqb (word16 file (at + 1)) len) .0 h .1)
+
 -- A sound field is there.
 pub sound-field : (file : List ℕ) (tag len at : ℕ) → soundAt file tag len at ≡ true → fieldAt file tag len at ≡ true
 unfolding soundAt

@@ -77,7 +77,8 @@ module _ (file kinds operands numbers states : List ℕ) (s : Shape) (e : formOf
       pub lists-numbers : length numbers < s .rows * s .nodes → Lists file kinds operands numbers states (Refused (Malformed 1)) kinds operands numbers states
       lists-numbers h =
           record {
-            verdict = rw (e, le-leb (s .nodes) (length kinds) hk, le-leb (s .nodes) (length operands) ho, lt-leb (s .rows * s .nodes) (length numbers) h) refl;
+            verdict = rw (e, le-leb (s .nodes) (length kinds) hk, le-leb (s .nodes) (length operands) ho, lt-leb (s .rows * s .nodes) (length numbers) h)
+                refl;
             of-kinds = refl;
             of-operands = refl;
             of-numbers = refl;

@@ -15,6 +15,7 @@ pub mod RoundTrip
 pub mod Sections
 pub mod Shape
 pub mod Told
+pub mod Whole
 pub mod Within
 pub mod Words
 pub mod Writer

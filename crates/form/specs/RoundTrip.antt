@@ -110,7 +110,7 @@ module _ {k : Kind} (known : Known k) (c : Contents) (fits : Fits k c) where
         flat-length file (field 3) (Long (5 * n)) (3 + 5 * n) (field-long 3 (5 * n)) (c .rows) (fits .of-rows),
       )
 
-  limit-is : byte file (limitStartIn k file + 3) ≡ c .limit
+  pub limit-is : byte file (limitStartIn k file + 3) ≡ c .limit
   limit-is = ap (λ (a : ℕ). byte file (a + 3)) limit-at ∙ has-byte (c .limit) [] (field-payload 5 (c .limit ∷ []) limit-field)
 
   pub halts : Stops k file (c .nodes) (c .rows) (valuesAt k c)
@@ -177,7 +177,7 @@ map-length f [] = refl
 map-length f (x ∷ xs) = ap suc (map-length f xs)
 
 -- what is written of each thing is what is written of its payload
-flat-map : {X Y A : Type 0} (write : Y → List A) (f : X → Y) (xs : List X) → flat write (map f xs) ≡ flat (λ (x : X). write (f x)) xs
+pub flat-map : {X Y A : Type 0} (write : Y → List A) (f : X → Y) (xs : List X) → flat write (map f xs) ≡ flat (λ (x : X). write (f x)) xs
 unfolding flat
 flat-map write f [] = refl
 flat-map write f (x ∷ xs) = ap (λ (l : List _). write (f x) ++ l) (flat-map write f xs)
@@ -194,7 +194,8 @@ module _ {k : Kind} (known : Known k) (l : Layout) (ok : Writable k l) where
       record {
         of-banks = each-map (Writes k) (BankFits k) (bankBytes k) (λ b w. bank-fits b known w) (l .banks) (ok .banks);
         of-nodes = each-map Any (Long 5) nodeBytes (λ n e. node-length n) (l .nodes) (each-any (l .nodes));
-        of-rows = each-map (Full (length (l .nodes))) (Long (5 * length (c .nodes))) (flat cellBytes) (λ row full. row-length [] (length (c .nodes)) row (full ∙ sym nodes-many)) (l .rows) (ok .full);
+        of-rows = each-map (Full (length (l .nodes))) (Long (5 * length (c .nodes))) (flat cellBytes) (λ row full. row-length [] (length (c .nodes)) row
+            (full ∙ sym nodes-many)) (l .rows) (ok .full);
       }
 
   abbrev whole : List ℕ
@@ -228,7 +229,8 @@ module _ {k : Kind} (known : Known k) (l : Layout) (ok : Writable k l) where
       → column read 8 (nodesStartIn k whole + off) (nodeCountIn k whole) ≡ map what (l .nodes)
   nodes-back read off what reads =
       let h = has-left (flat (field 2) (c .nodes)) _ (from-nodes known whole c after has-begun) in
-      ap₂ (λ (a n : ℕ). column read 8 (a + off) n) (nodes-start known whole c after has-begun ends) (nodes-are known whole c after has-begun ends ∙ nodes-many)
+      ap₂ (λ (a n : ℕ). column read 8 (a + off) n) (nodes-start known whole c after has-begun ends) (nodes-are known whole c after has-begun ends ∙
+      nodes-many)
       ∙ column-of whole (λ (n : Node). field 2 (nodeBytes n)) Any 8 (λ n e. field-long 2 5 (nodeBytes n) (node-length n)) read off what reads (l .nodes)
       (each-any (l .nodes)) (nodesAt k c) (subst (Has whole (nodesAt k c)) (flat-map (field 2) nodeBytes (l .nodes)) h)
 

@@ -153,7 +153,8 @@ module _ {k : Kind} (known : Known k) (file : List ℕ) (c : Contents) (rest : L
     unfolding rowCountIn
     rows-are =
         let n = length (c .nodes) in
-        let whole = run-of file (field 3) (Long (5 * n)) (3 + 5 * n) (field-long 3 (5 * n)) 3 (5 * n) refl (row-sound file n) (c .rows) (begins .fits .of-rows)
+        let whole = run-of file (field 3) (Long (5 * n)) (3 + 5 * n) (field-long 3 (5 * n)) 3 (5 * n) refl (row-sound file n) (c .rows) (begins .fits
+        .of-rows)
         (rowsAt k c) (has-left (flat (field 3) (c .rows)) _ from-rows) in
         let none = run-stop file 3 (5 * n) (valuesAt k c) (stops .no-row) in
         ap₂ (λ (m a : ℕ). run file 3 (5 * m) a) nodes-are rows-start ∙ omega (arith, whole, none)

@@ -10,7 +10,8 @@ use Rattle.form.specs.Fields.{fieldAt, soundAt, field-ends}
 use Rattle.form.proofs.is_sound.Statement.{statement}
 use Rattle.form.proofs.is_sound.Tie as tie
 
-there : (c : tie.Else1) → fieldAt (c .before .before .before .args .file .now) (c .before .before .before .args .tag) (c .before .before .before .args .len) (c .before .before .before .args .at) ≡ true
+there : (c : tie.Else1) → fieldAt (c .before .before .before .args .file .now) (c .before .before .before .args .tag) (c .before .before .before .args
+    .len) (c .before .before .before .args .at) ≡ true
 there c = sym (c .before .is-field .ensures) ∙ not-false _ (c .if1 .left)
 
 room : (c : tie.Else1) → c .before .before .before .args .at + 3 + c .before .before .before .args .len ≤ length (c .before .before .before .args .file .now)

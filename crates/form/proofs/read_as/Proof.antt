@@ -39,7 +39,8 @@ count-run-requires-3 c κs = search needs
 read-rest-requires : tie.Need-read-rest-requires
 read-rest-requires c κs =
     let a = c .before .before .before .before .before .before .before .before .args in
-    let head : headed (a .kind) (a .file .now) ≡ true = sym (c .before .before .before .before .is-headed .ensures) ∙ not-false _ (c .before .before .before .if2 .left) in (
+    let head : headed (a .kind) (a .file .now) ≡ true = sym (c .before .before .before .before .is-headed .ensures) ∙ not-false _ (c .before .before
+    .before .if2 .left) in (
       c .before .before .before .before .before .before .before .before .pre,
       counted (a .kind) (a .file .now) (omega arith) head
           (c .before .before .count-run .result .count) (c .before .count-run2 .result .count) (c .count-run3 .result .count)

@@ -67,9 +67,15 @@ fill-bit-requires c κs = search needs
 returns : tie.Need-returns
 unfolding bankAt
 returns c =
-    let flags = byte (c .before .before .before .before .before .before .before .before .before .before .before .before .before .args .file .now) (c .before .before .before .before .before .before .before .before .before .before .before .before .before .args .at + 25) in
-    let start = toZ-ofZ w64 (c .before .before .before .before .before .before .before .before .signed .result) (record { sfits = c .before .before .before .before .before .before .before .before .signed .ok }) ∙ c .before .before .before .before .before .before .before .before .signed .ensures ∙ ap (toZ w64) (c .before .before .before .before .before .before .before .before .before .read64 .ensures) in
-    let size = c .before .before .before .before .before .before .option .ensures ∙ ap (optOf flags 1) (c .before .before .before .before .before .before .before .read32 .ensures) in
+    let flags = byte (c .before .before .before .before .before .before .before .before .before .before .before .before .before .args .file .now) (c
+    .before .before .before .before .before .before .before .before .before .before .before .before .before .args .at + 25) in
+    let start = toZ-ofZ w64 (c .before .before .before .before .before .before .before .before .signed .result) (record {
+      sfits = c .before .before .before
+          .before .before .before .before .before .signed .ok;
+    }) ∙ c .before .before .before .before .before .before .before .before .signed .ensures ∙ ap (toZ
+    w64) (c .before .before .before .before .before .before .before .before .before .read64 .ensures) in
+    let size = c .before .before .before .before .before .before .option .ensures ∙ ap (optOf flags 1) (c .before .before .before .before .before .before
+    .before .read32 .ensures) in
     let offset = c .before .before .before .before .option2 .ensures ∙ ap (optOf flags 2) (c .before .before .before .before .before .read322 .ensures) in
     let align = c .before .before .option3 .ensures ∙ ap (optOf flags 4) (c .before .before .before .read323 .ensures) in
     λ i. record {

@@ -23,7 +23,8 @@ within file k e =
     subst (λ (j : Kind). j .heads * 4 + bankCountIn j file * (3 + j .bank) ≤ length file) (sym e)
     (nodes-within (kind-known file) file (kind-headed file))
 
-all : (c : tie.Joined1) → c .before .count-run .result .count ≡ bankCountIn (c .before .before .kind-of .result) (c .before .before .before .before .args .file .now)
+all : (c : tie.Joined1) → c .before .count-run .result .count ≡ bankCountIn (c .before .before .kind-of .result) (c .before .before .before .before .args
+    .file .now)
 unfolding bankCountIn
 all c = c .before .count-run .ensures .0
 

@@ -16,18 +16,27 @@ use Rattle.form.proofs.read_rest.Statement.{statement}
 use Rattle.form.proofs.read_rest.Tie as tie
 
 -- the values field is there
-values : (c : tie.Else2) → fieldAt (c .before .before .before .before .before .before .args .file .now) 4 (valuesSizeIn (c .before .before .before .before .before .before .args .kind) (c .before .before .before .before .before .before .args .file .now))
-    (valuesStartIn (c .before .before .before .before .before .before .args .kind) (c .before .before .before .before .before .before .args .file .now)) ≡ true
-values c = sym (values-is _ _ _ _ (c .before .before .before .before .before .before .pre .1 .behind) (c .before .before .read16 .ensures)) ∙ sym (c .before .is-field .ensures) ∙ not-false _ (c .if2 .left)
+values : (c : tie.Else2) → fieldAt (c .before .before .before .before .before .before .args .file .now) 4 (valuesSizeIn (c .before .before .before .before
+    .before .before .args .kind) (c .before .before .before .before .before .before .args .file .now))
+    (valuesStartIn (c .before .before .before .before .before .before .args .kind) (c .before .before .before .before .before .before .args .file .now)) ≡
+    true
+values c = sym (values-is _ _ _ _ (c .before .before .before .before .before .before .pre .1 .behind) (c .before .before .read16 .ensures)) ∙ sym (c
+    .before .is-field .ensures) ∙ not-false _ (c .if2 .left)
 
 -- and the limit
-limit : (c : tie.Else3) → c .before .before .before .before .before .before .before .before .args .at + 3 + c .before .before .before .before .read16 .result ≡ limitStartIn (c .before .before .before .before .before .before .before .before .args .kind) (c .before .before .before .before .before .before .before .before .args .file .now)
-limit c = limit-is _ _ _ _ (c .before .before .before .before .before .before .before .before .pre .1 .behind) (c .before .before .before .before .read16 .ensures)
+limit : (c : tie.Else3) → c .before .before .before .before .before .before .before .before .args .at + 3 + c .before .before .before .before .read16
+    .result ≡ limitStartIn (c .before .before .before .before .before .before .before .before .args .kind) (c .before .before .before .before .before
+    .before .before .before .args .file .now)
+limit c = limit-is _ _ _ _ (c .before .before .before .before .before .before .before .before .pre .1 .behind) (c .before .before .before .before .read16
+    .ensures)
 
-limited : (c : tie.Else3) → fieldAt (c .before .before .before .before .before .before .before .before .args .file .now) 5 1 (limitStartIn (c .before .before .before .before .before .before .before .before .args .kind) (c .before .before .before .before .before .before .before .before .args .file .now)) ≡ true
+limited : (c : tie.Else3) → fieldAt (c .before .before .before .before .before .before .before .before .args .file .now) 5 1 (limitStartIn (c .before
+    .before .before .before .before .before .before .before .args .kind) (c .before .before .before .before .before .before .before .before .args .file
+    .now)) ≡ true
 limited c = ap (fieldAt _ 5 1) (sym (limit c)) ∙ sym (c .before .is-field2 .ensures) ∙ not-false _ (c .if3 .left)
 
-room : (c : tie.Else3) → limitStartIn (c .before .before .before .before .before .before .before .before .args .kind) (c .before .before .before .before .before .before .before .before .args .file .now) + 3 + 1 ≤ length (c .before .before .before .before .before .before .before .before .args .file .now)
+room : (c : tie.Else3) → limitStartIn (c .before .before .before .before .before .before .before .before .args .kind) (c .before .before .before .before
+    .before .before .before .before .args .file .now) + 3 + 1 ≤ length (c .before .before .before .before .before .before .before .before .args .file .now)
 room c = field-ends _ 5 1 _ (limited c)
 
 add-field : tie.Need-add-field
@@ -83,7 +92,11 @@ is-field-requires-2 : tie.Need-is-field-requires-2
 is-field-requires-2 c κs = search needs
 
 add-t19 : tie.Need-add-t19
-add-t19 c = omega (arith, before-fits (c .before .before .before .before .before .before .before .before .pre .1) (c .before .before .before .before .before .before .before .before .pre .0))
+add-t19 c = omega (
+  arith,
+  before-fits (c .before .before .before .before .before .before .before .before .pre .1) (c .before .before .before .before
+      .before .before .before .before .pre .0),
+)
 
 returns-3 : tie.Need-returns-3
 returns-3 c =
@@ -91,14 +104,19 @@ returns-3 c =
     let kind = c .before .before .before .before .before .before .before .before .args .kind in
     let k = c .before .before .before .before .before .before .before .before .pre .1 in
     let none : fieldAt file 5 1 (limitStartIn kind file) ≡ false =
-    ap (fieldAt file 5 1) (sym (limit-is _ _ _ _ (k .behind) (c .before .before .before .before .read16 .ensures))) ∙ sym (c .before .is-field2 .ensures) ∙ not-true _ (c .if3 .taken) in
+    ap (fieldAt file 5 1) (sym (limit-is _ _ _ _ (k .behind) (c .before .before .before .before .read16 .ensures))) ∙ sym (c .before .is-field2 .ensures) ∙
+    not-true _ (c .if3 .taken) in
     ap (λ (n : ℕ). Broken (Malformed (n + 1))) (before-is k) ∙ sym (form-limit kind file (k .short) (k .head) (values (c .before .before)) none)
 
 add-if4 : tie.Need-add-if4
 add-if4 c = search needs
 
 add-t21 : tie.Need-add-t21
-add-t21 c = omega (arith, before-fits (c .before .before .before .before .before .before .before .before .before .pre .1) (c .before .before .before .before .before .before .before .before .before .pre .0))
+add-t21 c = omega (
+  arith,
+  before-fits (c .before .before .before .before .before .before .before .before .before .pre .1) (c .before .before .before
+      .before .before .before .before .before .before .pre .0),
+)
 
 returns-4 : tie.Need-returns-4
 returns-4 c =

@@ -28,7 +28,8 @@ abbrev μ-loop : tie.MeasureT-loop
 μ-loop file kind count defs₀ first step i₀ defs i = count - i
 
 -- the next bank ends where the last of them ends, or before
-behind : (c : tie.In-loop Inv-loop μ-loop) → (c .before .loop .i + 1) * (3 + c .before .before .before .before .args .kind .bank) ≤ c .before .before .before .before .args .count * (3 + c .before .before .before .before .args .kind .bank)
+behind : (c : tie.In-loop Inv-loop μ-loop) → (c .before .loop .i + 1) * (3 + c .before .before .before .before .args .kind .bank) ≤ c .before .before
+    .before .before .args .count * (3 + c .before .before .before .before .args .kind .bank)
 behind c = mul-le-mul-right (3 + c .before .before .before .before .args .kind .bank) (omega arith)
 
 mul-first : tie.Need-mul-first Inv-loop μ-loop
