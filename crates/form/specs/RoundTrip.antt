@@ -168,7 +168,7 @@ written-kind is2 c = rw (begins-written c) refl
 
 -- ---- the file of a layout
 
-each-map : {X Y : Type 0} (P : X → Type 0) (Q : Y → Type 0) (f : X → Y) → ((x : X) → P x → Q (f x)) → (xs : List X) → Each P xs → Each Q (map f xs)
+pub each-map : {X Y : Type 0} (P : X → Type 0) (Q : Y → Type 0) (f : X → Y) → ((x : X) → P x → Q (f x)) → (xs : List X) → Each P xs → Each Q (map f xs)
 each-map P Q f g [] e = tt
 each-map P Q f g (x ∷ xs) e = (g x (e .0), each-map P Q f g xs (e .1))
 

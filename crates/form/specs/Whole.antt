@@ -142,7 +142,7 @@ module _ (file : List ℕ) (bytes : Bytes file) where
       let room = field-ends file tag len at (sound-field file tag len at e) in
       length-take-le len (drop (at + 3) file) (omega (arith, length-drop (at + 3) file, room))
 
-  part-byte : (len at i : ℕ) → i < len → getD (part file len at) i 0 ≡ byte file (at + i)
+  pub part-byte : (len at i : ℕ) → i < len → getD (part file len at) i 0 ≡ byte file (at + i)
   part-byte len at i less = getD-take len (drop at file) i 0 less ∙ getD-drop at file i 0
 
   bank-part : {k : Kind} → Known k → (at : ℕ) → soundAt file (k .tag) (k .bank) at ≡ true → BankFits k (part file (k .bank) (at + 3))
@@ -218,29 +218,45 @@ module _ (file : List ℕ) (bytes : Bytes file) where
               (each-run (Long (5 * n)) 3 (5 * n) (part-long 3 (5 * n)) (rowCountIn k file) (rowsStartIn k file) (many-rows k));
         }
 
-    -- and the file is the writer's of it, byte by byte.
+    -- and the file is the writer's of it, byte by byte: from the values on, from the nodes on, and from its head on.
+    pub from-values-is : drop (valuesStartIn k file) file ≡ field 4 (contentsIn k file .values) ++ field 5 (contentsIn k file .limit ∷ [])
+    from-values-is =
+        let limit = limitStartIn k file in
+        let room = field-ends file 5 1 limit (facts .limit) in
+        let last = field-is 5 1 limit (facts .limit)
+        ∙ ap₂ (λ (p e : List ℕ). field 5 p ++ e) (part-one (limit + 3) (omega (arith, room)))
+        (drop-of-length-le file {i = limit + (3 + 1)} (omega (arith, facts .whole))) ∙ append-nil (field 5 (byte file (limit + 3) ∷ [])) in
+        field-is 4 (valuesSizeIn k file) (valuesStartIn k file) (facts .values) ∙ on file (field 4 (contentsIn k file .values)) (values-then k)
+        ∙ ap (λ (l : List ℕ). field 4 (contentsIn k file .values) ++ l) last
+
+    pub from-nodes-is : drop (nodesStartIn k file) file
+        ≡ flat (field 2) (contentsIn k file .nodes)
+        ++ (flat (field 3) (contentsIn k file .rows) ++ (field 4 (contentsIn k file .values) ++ field 5 (contentsIn k file .limit ∷ [])))
+    from-nodes-is =
+        let c = contentsIn k file in
+        let n = nodeCountIn k file in
+        run-is 2 5 n (nodesStartIn k file) (many-nodes k) ∙ on file (flat (field 2) (c .nodes)) (nodes-then k)
+        ∙ ap (λ (l : List ℕ). flat (field 2) (c .nodes) ++ l)
+        (run-is 3 (5 * n) (rowCountIn k file) (rowsStartIn k file) (many-rows k) ∙ on file (flat (field 3) (c .rows)) (rows-then k)
+        ∙ ap (λ (l : List ℕ). flat (field 3) (c .rows) ++ l) from-values-is)
+
     pub file-is-written : written k (contentsIn k file) ≡ file
     unfolding written
     file-is-written =
         let c = contentsIn k file in
-        let n = nodeCountIn k file in
-        let limit = limitStartIn k file in
-        let room = field-ends file 5 1 limit (facts .limit) in
-        let banks = run-is (k .tag) (k .bank) (bankCountIn k file) (k .heads * 4) (many-banks k) ∙ on file (flat (field (k .tag)) (c .banks)) (banks-then
-        k) in
-        let nodes = run-is 2 5 n (nodesStartIn k file) (many-nodes k) ∙ on file (flat (field 2) (c .nodes)) (nodes-then k) in
-        let rows = run-is 3 (5 * n) (rowCountIn k file) (rowsStartIn k file) (many-rows k) ∙ on file (flat (field 3) (c .rows)) (rows-then k) in
-        let values = field-is 4 (valuesSizeIn k file) (valuesStartIn k file) (facts .values) ∙ on file (field 4 (c .values)) (values-then k) in
-        let last = field-is 5 1 limit (facts .limit)
-        ∙ ap₂ (λ (p e : List ℕ). field 5 p ++ e) (part-one (limit + 3) (omega (arith, room)))
-        (drop-of-length-le file {i = limit + (3 + 1)} (omega (arith, facts .whole))) ∙ append-nil (field 5 (byte file (limit + 3) ∷ [])) in
+        let banks = run-is (k .tag) (k .bank) (bankCountIn k file) (k .heads * 4) (many-banks k)
+        ∙ on file (flat (field (k .tag)) (c .banks)) (banks-then k) in
         sym
         (head-is known (facts .head)
-        ∙ ap (λ (l : List ℕ). headBytes k ++ l) (banks
-        ∙ ap (λ (l : List ℕ). flat (field (k .tag)) (c .banks) ++ l) (nodes
-        ∙ ap (λ (l : List ℕ). flat (field 2) (c .nodes) ++ l) (rows
-        ∙ ap (λ (l : List ℕ). flat (field 3) (c .rows) ++ l) (values
-        ∙ ap (λ (l : List ℕ). field 4 (c .values) ++ l) last)))))
+        ∙ ap (λ (l : List ℕ). headBytes k ++ l) (banks ∙ ap (λ (l : List ℕ). flat (field (k .tag)) (c .banks) ++ l) from-nodes-is))
+
+    -- Its shape is that of its contents.
+    pub shape-of : s ≡ shapeFor k (contentsIn k file)
+    shape-of =
+        let c = contentsIn k file in
+        let e : formIn k file ≡ Sound (shapeFor k c) =
+        ap (formIn k) (sym file-is-written) ∙ written-sound known c contents-fit (rw file-is-written (facts .short)) in
+        cc
 
 -- ---- what is written is read back
 
