@@ -19,14 +19,14 @@ use Rattle.form.specs.Words.{byte, word32}
 use Rattle.form.specs.Shape.{formOf, nodeCount, nodesStart, rowsStart, rowCount}
 use Rattle.form.specs.Banks.{tableOf}
 use Rattle.form.specs.Lists.{kindsOf, operandsOf, numbersOf, statesOf, valuesBy, listAfter, Lists}
-use Rattle.form.proofs.Filled.{Places, places}
-use Rattle.form.proofs.Columns.{column-length}
-use Rattle.form.proofs.Cells.{cells-length}
+use Rattle.form.specs.Filled.{Places, places}
+use Rattle.form.specs.Columns.{column-length}
+use Rattle.form.specs.Cells.{cells-length}
 use Rattle.resolver.specs.Lists.{lists}
-use Rattle.output.specs.Output.{input, Lent, Builds, roomOf}
-use Rattle.output.specs.declared.Build.the-variants.{Refused}
+use Rattle.resolver.specs.declared.Choices.{Choices}
+use Rattle.output.specs.Output.{input, Lent, Builds, roomOf, refusedAfter}
 use Rattle.output.specs.declared.Output.{Output}
-use Rattle.filed.specs.Filed.{FileBuilt, HeldIn, listsIn, outputBy}
+use Rattle.filed.specs.Filed.{choicesOf, FileBuilt, HeldIn, listsIn, outputBy}
 
 -- what was read stands in the front, and as much room is there
 module _ (new old after : List ℕ) (n : ℕ) (long : length new ≡ n) (is : after ≡ new ++ drop (length new) old) where
@@ -37,17 +37,17 @@ module _ (new old after : List ℕ) (n : ℕ) (long : length new ≡ n) (is : af
   room = omega (arith, ap length is, length-append new (drop (length new) old))
 
 module _ (file : List ℕ) (s : Shape) (sound : formOf file ≡ Sound s) (kinds operands numbers states : List ℕ) where
-  -- a node takes 8 of at most 65,000 bytes, and 5 more in each row
-  accepted : 8192 ≤ length kinds → 8192 ≤ length operands → 13056 ≤ length numbers → 13056 ≤ length states
+  -- a node takes 8 of at most 65,536 bytes, and 5 more in each row
+  accepted : 8192 ≤ length kinds → 8192 ≤ length operands → 13107 ≤ length numbers → 13107 ≤ length states
       → {v : Verdict} {kinds′ operands′ numbers′ states′ : List ℕ} → Lists file kinds operands numbers states v kinds′ operands′ numbers′ states′ → v ≡ Accepted
   accepted hk ho hn hs l =
       let p = places file s sound in
       let few : s .nodes ≤ 8192 = omega (arith, p .room, p .short) in
-      let cells : s .rows * s .nodes ≤ 13056 = omega (arith, p .room, p .short) in
+      let cells : s .rows * s .nodes ≤ 13107 = omega (arith, p .room, p .short) in
       l .verdict
       ∙ rw (sound, le-leb (s .nodes) (length kinds) (omega arith), le-leb (s .nodes) (length operands) (omega arith), le-leb (s .rows * s .nodes) (length numbers) (omega arith), le-leb (s .rows * s .nodes) (length states) (omega arith)) refl
 
-  pub held : 8192 ≤ length kinds → 8192 ≤ length operands → 13056 ≤ length numbers → 13056 ≤ length states
+  pub held : 8192 ≤ length kinds → 8192 ≤ length operands → 13107 ≤ length numbers → 13107 ≤ length states
       → {v : Verdict} {kinds′ operands′ numbers′ states′ : List ℕ} → Lists file kinds operands numbers states v kinds′ operands′ numbers′ states′
       → HeldIn file s kinds′ operands′ numbers′ states′
   held hk ho hn hs {v} {kinds′} {operands′} {numbers′} {states′} l =
@@ -76,20 +76,20 @@ module _ (file : List ℕ) (s : Shape) (sound : formOf file ≡ Sound s) (kinds 
         of-states = front (statesOf file) states states′ (s .rows * s .nodes) s-long s-is;
       }
 
-module _ (file : List ℕ) (old : Lent) where
+module _ (file : List ℕ) (fill : ℕ) (old : Lent) where
   -- a broken file
-  pub broken : (why : Refusal) → formOf file ≡ Broken why → FileBuilt file old (record { build = Refused why; passes = 0 }) old
-  broken why e = record { answer = sym (ap (outputBy file (roomOf old)) e); left = refl }
+  pub broken : (why : Refusal) → formOf file ≡ Broken why → FileBuilt file fill old (refusedAfter 0 why) old
+  broken why e = record { answer = sym (ap (outputBy file fill (roomOf old)) e); left = refl }
 
   -- a sound one
   module _ (s : Shape) (sound : formOf file ≡ Sound s) {r : Output} {new : Lent} where
-    as-read : Builds (input (tableOf file) (listsIn file) (s .limit)) old r new → FileBuilt file old r new
-    as-read b = record { answer = b .answer ∙ sym (ap (outputBy file (roomOf old)) sound); left = b .left }
+    as-read : Builds (input (tableOf file) (listsIn file) (choicesOf s fill)) old r new → FileBuilt file fill old r new
+    as-read b = record { answer = b .answer ∙ sym (ap (outputBy file fill (roomOf old)) sound); left = b .left }
 
-    pub laid-out : (banks : Bankdefs) (kinds operands numbers states values : List ℕ) → HeldIn file s kinds operands numbers states
-        → banks ≡ tableOf file → values ≡ valuesBy file (formOf file)
-        → Builds (input banks (lists (take (s .nodes) kinds) (take (s .nodes) operands) (take (s .rows * s .nodes) numbers) (take (s .rows * s .nodes) states) (s .rows) values) (s .limit)) old r new
-        → FileBuilt file old r new
-    laid-out banks kinds operands numbers states values h eb ev b =
-        as-read (subst (λ (x : ℕ). Builds (input (tableOf file) (lists (kindsOf file) (operandsOf file) (numbersOf file) (statesOf file) x (valuesBy file (formOf file))) (s .limit)) old r new) (places file s sound .rows)
-        (rw (eb, ev, h .of-kinds, h .of-operands, h .of-numbers, h .of-states) at b))
+    pub laid-out : (banks : Bankdefs) (kinds operands numbers states values : List ℕ) (choices : Choices) → HeldIn file s kinds operands numbers states
+        → choices ≡ choicesOf s fill → banks ≡ tableOf file → values ≡ valuesBy file (formOf file)
+        → Builds (input banks (lists (take (s .nodes) kinds) (take (s .nodes) operands) (take (s .rows * s .nodes) numbers) (take (s .rows * s .nodes) states) (s .rows) values) choices) old r new
+        → FileBuilt file fill old r new
+    laid-out banks kinds operands numbers states values choices h ec eb ev b =
+        as-read (subst (λ (x : ℕ). Builds (input (tableOf file) (lists (kindsOf file) (operandsOf file) (numbersOf file) (statesOf file) x (valuesBy file (formOf file))) (choicesOf s fill)) old r new) (places file s sound .rows)
+        (rw (ec, eb, ev, h .of-kinds, h .of-operands, h .of-numbers, h .of-states) at b))

@@ -2,6 +2,7 @@
 use mathlib.Core.Path.{_≡_}
 use mathlib.Core.List.{List}
 use Prim.Native.Nat.{ℕ, _*_, _≤_}
+use lib.Dec.{eqb}
 use lib.ListN.{length, take}
 use Rattle.form.specs.declared.Shape.{Shape}
 use Rattle.form.specs.declared.Form.{Form}
@@ -10,12 +11,11 @@ use Rattle.form.specs.Shape.{formOf, rowCount}
 use Rattle.form.specs.Banks.{tableOf}
 use Rattle.form.specs.Lists.{kindsOf, operandsOf, numbersOf, statesOf, valuesBy}
 use Rattle.resolver.specs.Lists.{Lists, lists}
+use Rattle.resolver.specs.declared.Choices.{Choices}
 use Rattle.resolver.specs.Passes.{program, rowOfPass}
 use Rattle.output.specs.Visits.{visits}
-use Rattle.output.specs.Output.{input, Lent, Room, roomOf, buildOf, leftBy}
+use Rattle.output.specs.Output.{input, Lent, Room, roomOf, buildOf, refusedAfter, leftBy}
 use Rattle.output.specs.declared.visits.Visit.{Visit}
-use Rattle.output.specs.declared.Build.{Build}
-use Rattle.output.specs.declared.Build.the-variants.{Refused}
 use Rattle.output.specs.declared.Output.{Output}
 
 -- the lists and the value bytes of a file
@@ -23,27 +23,32 @@ abbrev pub listsIn : List ℕ → Lists
 listsIn file =
     lists (kindsOf file) (operandsOf file) (numbersOf file) (statesOf file) (rowCount file) (valuesBy file (formOf file))
 
--- "A broken file .. is 4 with the first such field's index", and no pass runs; a sound one is built.
-abbrev pub outputBy : List ℕ → Room → Form → Output
-outputBy file room (Broken why) = record { build = Refused why; passes = 0 }
-outputBy file room (Sound s) = buildOf (input (tableOf file) (listsIn file) (s .limit)) room
+-- What a file chooses, with the fill's choice ("No form carries the choice"): its limit, and whether bank 0 may be used: "From form 2 on, labels, written
+-- items and reserves in bank 0 are refused even when it is alone. Form 1 files that use it are still read and compared as before."
+abbrev pub choicesOf : Shape → ℕ → Choices
+choicesOf s fill = record { limit = s .limit; fill = fill; «default_bank» = eqb (s .form) 1 }
 
-abbrev pub fileOutput : List ℕ → Room → Output
-fileOutput file room = outputBy file room (formOf file)
+-- "A broken file .. is 4 with the first such field's index", and no pass runs; a sound one is built.
+abbrev pub outputBy : List ℕ → ℕ → Room → Form → Output
+outputBy file fill room (Broken why) = refusedAfter 0 why
+outputBy file fill room (Sound s) = buildOf (input (tableOf file) (listsIn file) (choicesOf s fill)) room
+
+abbrev pub fileOutput : List ℕ → ℕ → Room → Output
+fileOutput file fill room = outputBy file fill room (formOf file)
 
 -- a file's nodes, visited in the row of the last of so many passes
 abbrev pub fileVisits : List ℕ → ℕ → List Visit
 fileVisits file passes = visits (program (tableOf file) (listsIn file)) (rowOfPass (listsIn file) passes)
 
 -- The build of a file: its answer, and everything lent afterwards.
-pub record FileBuilt (file : List ℕ) (old : Lent) (r : Output) (new : Lent) : Type 0 where
-  pub answer : r ≡ fileOutput file (roomOf old)
-  pub left : new ≡ leftBy (fileVisits file (r .passes)) (listsIn file .values) old (r .build)
+pub record FileBuilt (file : List ℕ) (fill : ℕ) (old : Lent) (r : Output) (new : Lent) : Type 0 where
+  pub answer : r ≡ fileOutput file fill (roomOf old)
+  pub left : new ≡ leftBy (tableOf file) (fileVisits file (r .passes)) (listsIn file .values) old (r .build)
 
 -- The lists of a sound file stand in the front of four lists.
 pub record HeldIn (file : List ℕ) (s : Shape) (kinds operands numbers states : List ℕ) : Type 0 where
   pub sound : formOf file ≡ Sound s
-  pub few : s .rows * s .nodes ≤ 65000
+  pub few : s .rows * s .nodes ≤ 65536
   pub kinds-fit : s .nodes ≤ length kinds
   pub operands-fit : s .nodes ≤ length operands
   pub numbers-fit : s .rows * s .nodes ≤ length numbers

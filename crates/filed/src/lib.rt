@@ -3,23 +3,37 @@ use form::Form;
 use form::Shape;
 use output::Build;
 use output::Output;
+use resolver::Choices;
 ghost use mathlib.Core.Path.{_≡_};
 ghost use Prim.Native.Nat.{_*_, _≤_};
 ghost use lib.ListN.{length, take};
 ghost use Rattle.form.specs.Shape.{formOf};
 ghost use Rattle.form.specs.Lists.{kindsOf, operandsOf, numbersOf, statesOf};
 ghost use Rattle.output.specs.Output.{lent};
-ghost use Rattle.filed.specs.Filed.{FileBuilt, HeldIn};
+ghost use Rattle.filed.specs.Filed.{choicesOf, FileBuilt, HeldIn};
 
-// Room for the lists of any sound file. A node takes 8 of its 65,000 bytes, and 5 more in each row.
+// Room for the lists of any sound file. A node takes 8 of its 65,536 bytes, and 5 more in each row.
 const ROOM: usize = 8_192;
 
-const CELLS: usize = 13_056;
+const CELLS: usize = 13_107;
+
+// What a file chooses, with the fill's choice, which no form carries: its pass limit, and whether bank 0 may be used. "From form 2 on, labels, written items and
+// reserves in bank 0 are refused even when it is alone."
+fn chosen(shape: Shape, fill: u8) -> Choices
+    ensures { λ r. ⌜ r ≡ choicesOf shape fill ⌝ }
+{
+    Choices {
+        limit: shape.limit,
+        fill,
+        default_bank: shape.form == 1,
+    }
+}
 
 // The build of a sound file, whose lists stand in the front of those lent.
 fn build_read(
     file: &[u8],
     shape: Shape,
+    fill: u8,
     kinds: &[u8],
     operands: &[u32],
     numbers: &[u32],
@@ -31,11 +45,12 @@ fn build_read(
 ) -> Output
     requires { ⌜ HeldIn (now file) shape (now kinds) (now operands) (now numbers) (now states) ⌝ }
     ensures { λ r. ⌜
-        FileBuilt (now (file .entry))
+        FileBuilt (now (file .entry)) fill
         (lent (now (image .entry)) (now (addresses .entry)) (now (offsets .entry)) (now (sizes .entry))) r
         (lent (now (image .exit)) (now (addresses .exit)) (now (offsets .exit)) (now (sizes .exit)))
         ⌝ }
 {
+    let choices = chosen(shape, fill);
     let nodes = shape.nodes as usize;
     let cells = shape.rows as usize * nodes;
     output::build_output(
@@ -46,7 +61,7 @@ fn build_read(
         &states[..cells],
         shape.rows,
         form::read_values(file),
-        shape.limit,
+        choices,
         image,
         addresses,
         offsets,
@@ -57,13 +72,14 @@ fn build_read(
 // The build of a file: its lists are read into arrays that are large enough for any file. A refused call changes nothing that is lent.
 pub fn build_file(
     file: &[u8],
+    fill: u8,
     image: &mut [u8],
     addresses: &mut [i64],
     offsets: &mut [u64],
     sizes: &mut [u64],
 ) -> Output
     ensures { λ r. ⌜
-        FileBuilt (now (file .entry))
+        FileBuilt (now (file .entry)) fill
         (lent (now (image .entry)) (now (addresses .entry)) (now (offsets .entry)) (now (sizes .entry))) r
         (lent (now (image .exit)) (now (addresses .exit)) (now (offsets .exit)) (now (sizes .exit)))
         ⌝ }
@@ -72,6 +88,7 @@ pub fn build_file(
         Form::Broken(why) => Output {
             build: Build::Refused(why),
             passes: 0,
+            padding: [0; 16],
         },
         Form::Sound(shape) => {
             let mut kinds = [0u8; ROOM];
@@ -82,6 +99,7 @@ pub fn build_file(
             build_read(
                 file,
                 shape,
+                fill,
                 &kinds,
                 &operands,
                 &numbers,

@@ -46,12 +46,12 @@ slice-aggregate-build-read-4 c = search needs
 build-read-requires : tie.Need-build-read-requires
 build-read-requires c κs =
     let s = c .before .before .before .before .before .before .before .before .before .before .before .before .before .before .before .before .before .before .shape .given in
-    held (c .before .before .before .before .before .before .before .before .before .before .before .before .before .before .before .before .before .before .before .before .before .before .before .before .before .args .file .now) (s .0 .0) (sym (c .before .before .before .before .before .before .before .before .before .before .before .before .before .before .before .before .before .before .before .before .read-shape .ensures) ∙ s .1) _ _ _ _ (omega arith) (omega arith) (omega arith) (omega arith) (c .before .before .before .before .before .before .before .before .before .before .before .before .read-lists .ensures)
+    held (c .before .before .before .before .before .before .before .before .before .before .before .before .before .before .before .before .before .before .before .before .before .before .before .before .before .args .file .now) (s .0 .0) (sym (c .before .before .before .before .before .before .before .before .before .before .before .before .before .before .before .before .before .before .before .before .read-shape .ensures .is) ∙ s .1) _ _ _ _ (omega arith) (omega arith) (omega arith) (omega arith) (c .before .before .before .before .before .before .before .before .before .before .before .before .read-lists .ensures .lists)
 
 returns : tie.Need-returns
 returns c =
     let a = c .before .before .before .before .before .before .before .before .args in
-    broken (a .file .now) (lent (a .image .now) (a .addresses .now) (a .offsets .now) (a .sizes .now)) _ (sym (c .before .before .before .read-shape .ensures) ∙ c .before .why .given .1)
+    broken (a .file .now) (a .fill) (lent (a .image .now) (a .addresses .now) (a .offsets .now) (a .sizes .now)) _ (sym (c .before .before .before .read-shape .ensures .is) ∙ c .before .why .given .1)
 
 same-length : tie.Need-same-length
 same-length c = search needs

@@ -7,6 +7,9 @@ use borrow.Author.Needs.{needs}
 use Rattle.filed.proofs.build_read.Statement.{statement}
 use Rattle.filed.proofs.build_read.Tie as tie
 
+chosen-requires : tie.Need-chosen-requires
+chosen-requires c κs = search needs
+
 mul-cells : tie.Need-mul-cells
 mul-cells c = search needs
 
@@ -14,16 +17,16 @@ read-banks-requires : tie.Need-read-banks-requires
 read-banks-requires c κs = search needs
 
 slice-aggregate-build-output : tie.Need-slice-aggregate-build-output
-slice-aggregate-build-output c = sym (length-take-le _ _ (c .before .before .before .before .before .before .before .before .before .before .pre .kinds-fit))
+slice-aggregate-build-output c = sym (length-take-le _ _ (c .before .before .before .before .before .before .before .before .before .before .before .pre .kinds-fit))
 
 slice-aggregate-build-output-2 : tie.Need-slice-aggregate-build-output-2
-slice-aggregate-build-output-2 c = sym (length-take-le _ _ (c .before .before .before .before .before .before .before .before .before .before .before .pre .operands-fit))
+slice-aggregate-build-output-2 c = sym (length-take-le _ _ (c .before .before .before .before .before .before .before .before .before .before .before .before .pre .operands-fit))
 
 slice-aggregate-build-output-3 : tie.Need-slice-aggregate-build-output-3
-slice-aggregate-build-output-3 c = sym (length-take-le _ _ (c .before .before .before .before .before .before .before .before .before .before .before .before .pre .numbers-fit))
+slice-aggregate-build-output-3 c = sym (length-take-le _ _ (c .before .before .before .before .before .before .before .before .before .before .before .before .before .pre .numbers-fit))
 
 slice-aggregate-build-output-4 : tie.Need-slice-aggregate-build-output-4
-slice-aggregate-build-output-4 c = sym (length-take-le _ _ (c .before .before .before .before .before .before .before .before .before .before .before .before .before .pre .states-fit))
+slice-aggregate-build-output-4 c = sym (length-take-le _ _ (c .before .before .before .before .before .before .before .before .before .before .before .before .before .before .pre .states-fit))
 
 read-values-requires : tie.Need-read-values-requires
 read-values-requires c κs = search needs
@@ -45,15 +48,16 @@ same-length-4 c = search needs
 
 returns : tie.Need-returns
 returns c =
-    let s = c .before .before .before .before .before .before .before .before .before .before .before .before .before .before .before .before .before .before .before .before .before .before .before .before .before .before in
+    let s = c .before .before .before .before .before .before .before .before .before .before .before .before .before .before .before .before .before .before .before .before .before .before .before .before .before .before .before in
     let a = s .args in
-    laid-out (a .file .now) (lent (a .image .now) (a .addresses .now) (a .offsets .now) (a .sizes .now)) (a .shape) (s .pre .sound) _ (a .kinds .now) (a .operands .now) (a .numbers .now) (a .states .now) _ (s .pre)
+    laid-out (a .file .now) (a .fill) (lent (a .image .now) (a .addresses .now) (a .offsets .now) (a .sizes .now)) (a .shape) (s .pre .sound) _ (a .kinds .now) (a .operands .now) (a .numbers .now) (a .states .now) _ _ (s .pre) (c .before .before .before .before .before .before .before .before .before .before .before .before .before .before .before .before .before .before .chosen .ensures)
     (c .before .before .before .before .before .before .before .before .before .before .before .before .before .before .before .before .before .read-banks .ensures) (c .before .before .before .before .before .before .before .before .before .before .before .before .read-values .ensures) (c .before .before .before .before .before .before .before .build-output .ensures)
 
 pub build-read-spec : {M : Type 1} → statement M
 build-read-spec =
     tie.close
     (tie.spec
+    chosen-requires
     mul-cells
     read-banks-requires
     slice-aggregate-build-output
