@@ -5,7 +5,7 @@ use mathlib.Core.List.{List, [], _∷_, _++_}
 use Prim.Native.Nat.{ℕ, zero, suc, _+_, _-_, _*_, _≤_, _<_, min, zero-le}
 use native.Mathlib.Omega.{arith}
 use lib.Dec.{ltb}
-use lib.ListN.{length, getD, take, drop, replicate, length-map}
+use lib.ListN.{length, getD, take, drop, length-map}
 use lib.Seq.{take-at, getD-drop}
 use borrow.Author.Tests.{ltb-false}
 use Rattle.refusal.specs.Limits.{maxPosition}
@@ -17,10 +17,12 @@ use Rattle.resolver.specs.Passes.{program, rowOfPass}
 use Rattle.resolver.specs.declared.Settled.{Settled}
 use Rattle.resolver.specs.declared.Settled.the-variants.{At, Refused as Unsettled}
 use Rattle.blocks.specs.Spans.{acceptable}
+use Rattle.bankdef.specs.Check.{banksOf}
+use Rattle.output.specs.Blank.{blankOf}
 use Rattle.output.specs.Items.{itemsOf, lengthOf, imageOf}
 use Rattle.output.specs.Placing.{Placed, holds, stops, placedAll}
 use Rattle.output.specs.Spans.{Span, spansOf, words, sizes}
-use Rattle.output.specs.Output.{Input, input, Lent, Room, roomOf, roomFor, placedBuild, settledBuild, buildOf, visitsOf, fillOf, passesOf, settledOf}
+use Rattle.output.specs.Output.{Input, input, Lent, Room, roomOf, roomFor, placedBuild, settledBuild, buildOf, visitsOf, closedOf, fillOf, passesOf, settledOf}
 use Rattle.output.specs.Output.{filled, leftBy}
 use Rattle.output.specs.declared.Build.{Build}
 use Rattle.output.specs.declared.Build.the-variants.{Done, Refused}
@@ -33,7 +35,7 @@ use Rattle.form.specs.Shape.{formOf, nodeCount, rowsStart, rowCount}
 use Rattle.form.specs.Words.{word32}
 use Rattle.form.specs.declared.Form.{Form}
 use Rattle.form.specs.declared.Form.the-variants.{Sound, Broken}
-use Rattle.filed.specs.Filed.{listsIn, outputBy, FileBuilt}
+use Rattle.filed.specs.Filed.{listsIn, choicesOf, outputBy, FileBuilt}
 use Rattle.text.specs.Lines.{refusalText}
 use Rattle.report.specs.Report.{imageRoom, spanRoom, lentRoom, doneText, answerText, builtText, reportText}
 use Rattle.report.specs.Steps.{Fitting, answered, OffsetsFit}
@@ -86,18 +88,18 @@ module _ (room : Room) (k bits n : ℕ) where
   fits-settled b passes (Unsettled why) e = absurd (not-done why k bits n e)
   fits-settled b passes (At k₁) e =
       let vs = visitsOf b passes in
-      fits-placed k₁ (lengthOf (fillOf b) (itemsOf vs)) (length (spansOf vs)) (placedAll (b .banks .len) vs) e
+      fits-placed k₁ (lengthOf (fillOf b) (itemsOf vs)) (length (spansOf vs)) (placedAll (closedOf b) vs) e
 
 -- what is printed of a layout
 abbrev layoutText : Input → Output → List ℕ
-layoutText b answer = answerText (visitsOf b (answer .passes)) (b .lists .values) (answer .build)
+layoutText b answer = answerText (b .banks) (visitsOf b (answer .passes)) (b .lists .values) (answer .build)
 
 abbrev laidText : Input → List ℕ
 laidText b = layoutText b (buildOf b lentRoom)
 
 module _ (b : Input) (old : Lent) (hi : length (old .image) ≡ imageRoom) (ha : length (old .addresses) ≡ spanRoom) (ho : length (old .offsets) ≡ spanRoom)
     (hs : length (old .sizes) ≡ spanRoom) (r : Output) (new : Lent) (answer : r ≡ buildOf b (roomOf old))
-    (left : new ≡ leftBy (visitsOf b (r .passes)) (b .lists .values) old (r .build)) where
+    (left : new ≡ leftBy (b .banks) (visitsOf b (r .passes)) (b .lists .values) old (r .build)) where
   room-is : roomOf old ≡ lentRoom
   room-is = rw (hi, ha, ho, hs) refl
 
@@ -105,7 +107,7 @@ module _ (b : Input) (old : Lent) (hi : length (old .image) ≡ imageRoom) (ha :
   answer-is = answer ∙ ap (buildOf b) room-is
 
   refused-build : (why : Refusal) → r .build ≡ Refused why → refusalText why ≡ laidText b
-  refused-build why e = ap (answerText (visitsOf b (r .passes)) (b .lists .values)) (sym e) ∙ ap (layoutText b) answer-is
+  refused-build why e = ap (answerText (b .banks) (visitsOf b (r .passes)) (b .lists .values)) (sym e) ∙ ap (layoutText b) answer-is
 
   module _ (k bits n : ℕ) (e : r .build ≡ Done k bits n) where
     abbrev spans : List Span
@@ -120,8 +122,8 @@ module _ (b : Input) (old : Lent) (hi : length (old .image) ≡ imageRoom) (ha :
     within : Fits lentRoom k bits n (length spans)
     within = inside r answer-is e
 
-    left-is : new ≡ filled (visitsOf b (r .passes)) (b .lists .values) old
-    left-is = left ∙ ap (leftBy (visitsOf b (r .passes)) (b .lists .values) old) e
+    left-is : new ≡ filled (blankOf (banksOf (b .banks)) bits (length (old .image))) (visitsOf b (r .passes)) (b .lists .values) old
+    left-is = left ∙ ap (leftBy (b .banks) (visitsOf b (r .passes)) (b .lists .values) old) e
 
     offsets-part : take n (new .offsets) ≡ words spans
     offsets-part =
@@ -133,15 +135,15 @@ module _ (b : Input) (old : Lent) (hi : length (old .image) ≡ imageRoom) (ha :
         ap (λ (x : Lent). take n (x .sizes)) left-is
         ∙ take-at (sizes spans) _ n (length-map spans _ ∙ sym (within .2))
 
-    image-is : new .image ≡ imageOf (b .lists .values) (replicate imageRoom 0) (itemsOf (visitsOf b (r .passes)))
+    image-is : new .image ≡ imageOf (b .lists .values) (blankOf (banksOf (b .banks)) bits imageRoom) (itemsOf (visitsOf b (r .passes)))
     image-is =
         ap (λ (x : Lent). x .image) left-is
-        ∙ ap (λ (m : ℕ). imageOf (b .lists .values) (replicate m 0) (itemsOf (visitsOf b (r .passes)))) hi
+        ∙ ap (λ (m : ℕ). imageOf (b .lists .values) (blankOf (banksOf (b .banks)) bits m) (itemsOf (visitsOf b (r .passes)))) hi
 
     done-build : doneText k bits (take n (new .offsets)) (take n (new .sizes)) (new .image) ≡ laidText b
     done-build =
         ap₂ (λ (a c : List ℕ). doneText k bits a c (new .image)) offsets-part sizes-part ∙ ap (doneText k bits (words spans) (sizes spans)) image-is
-        ∙ ap (answerText (visitsOf b (r .passes)) (b .lists .values)) (sym e) ∙ ap (layoutText b) answer-is
+        ∙ ap (answerText (b .banks) (visitsOf b (r .passes)) (b .lists .values)) (sym e) ∙ ap (layoutText b) answer-is
 
   -- whatever the build answers
   build-text : (q : Build) → r .build ≡ q → answered q (new .image) (new .offsets) (new .sizes) ≡ laidText b
@@ -189,21 +191,21 @@ module _ (read : ℕ → ℕ) (small : (at : ℕ) → read at ≤ maxPosition) w
       small-append (column read 5 at nodes) (cells read nodes (at + (3 + 5 * nodes)) rows) (small-column 5 at nodes)
       (small-cells nodes (at + (3 + 5 * nodes)) rows) i
 
-module _ (file : List ℕ) (bytes : (i : ℕ) → getD file i 0 < 256) (old : Lent) (hi : length (old .image) ≡ imageRoom)
+module _ (file : List ℕ) (fill : ℕ) (bytes : (i : ℕ) → getD file i 0 < 256) (old : Lent) (hi : length (old .image) ≡ imageRoom)
     (ha : length (old .addresses) ≡ spanRoom) (ho : length (old .offsets) ≡ spanRoom) (hs : length (old .sizes) ≡ spanRoom) (r : Output) (new : Lent)
-    (built : FileBuilt file old r new) where
-  told : (f : Form) → formOf file ≡ f → r ≡ outputBy file (roomOf old) f
-  told f e = built .answer ∙ ap (outputBy file (roomOf old)) e
+    (built : FileBuilt file fill old r new) where
+  told : (f : Form) → formOf file ≡ f → r ≡ outputBy file fill (roomOf old) f
+  told f e = built .answer ∙ ap (outputBy file fill (roomOf old)) e
 
   room : roomOf old ≡ lentRoom
   room = rw (hi, ha, ho, hs) refl
 
-  text-by : (f : Form) → formOf file ≡ f → answered (r .build) (new .image) (new .offsets) (new .sizes) ≡ builtText file (outputBy file lentRoom f)
+  text-by : (f : Form) → formOf file ≡ f → answered (r .build) (new .image) (new .offsets) (new .sizes) ≡ builtText file (outputBy file fill lentRoom f)
   text-by (Broken why) e = ap (λ (o : Output). answered (o .build) (new .image) (new .offsets) (new .sizes)) (told (Broken why) e)
   text-by (Sound s) e =
-      build-text (input (tableOf file) (listsIn file) (s .limit)) old hi ha ho hs r new (told (Sound s) e) (built .left) (r .build) refl
+      build-text (input (tableOf file) (listsIn file) (choicesOf s fill)) old hi ha ho hs r new (told (Sound s) e) (built .left) (r .build) refl
 
-  pub file-text : answered (r .build) (new .image) (new .offsets) (new .sizes) ≡ reportText file
+  pub file-text : answered (r .build) (new .image) (new .offsets) (new .sizes) ≡ reportText file fill
   unfolding reportText
   file-text = text-by (formOf file) refl
 
@@ -211,7 +213,7 @@ module _ (file : List ℕ) (bytes : (i : ℕ) → getD file i 0 < 256) (old : Le
       → Fitting (r .build) (new .image) (new .offsets) (new .sizes)
   fits-by (Broken why) e gi go gs = rw (told (Broken why) e) tt
   fits-by (Sound s) e gi go gs =
-      build-fits (input (tableOf file) (listsIn file) (s .limit)) old hi ha ho hs r new (told (Sound s) e) (built .left) (table-fits file bytes)
+      build-fits (input (tableOf file) (listsIn file) (choicesOf s fill)) old hi ha ho hs r new (told (Sound s) e) (built .left) (table-fits file bytes)
       (small-cells (word32 file) (word-fits file bytes) (nodeCount file) (rowsStart file + 3) (rowCount file)) (r .build) refl gi go gs
 
   pub file-fits : length (new .image) ≡ imageRoom → length (new .offsets) ≡ spanRoom → length (new .sizes) ≡ spanRoom

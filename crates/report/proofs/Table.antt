@@ -1,7 +1,7 @@
 -- The table that a file of bytes says has offsets of 32 bits.
 use mathlib.Core.Bool.{Bool, true, false}
 use mathlib.Core.List.{List, _++_}
-use Prim.Native.Nat.{ℕ, zero, suc, _+_, _-_, _<_, _≤_, min}
+use Prim.Native.Nat.{ℕ, zero, suc, _+_, _*_, _-_, _<_, _≤_, min}
 use native.Mathlib.Omega.{arith}
 use lib.ListN.{getD, replicate}
 use Rattle.refusal.specs.Limits.{maxBanks, maxPosition}
@@ -11,6 +11,8 @@ use Rattle.bankdef.specs.Check.{noBank}
 use Rattle.form.specs.Words.{byte, word16, word32}
 use Rattle.form.specs.Columns.{column}
 use Rattle.form.specs.Banks.{isSet, bankAt, tableOf}
+use Rattle.form.specs.Kind.{kindOf}
+use Rattle.form.specs.declared.Kind.{Kind}
 use Rattle.form.specs.Shape.{bankCount}
 use Rattle.report.specs.Steps.{OffsetFits, OffsetsFit}
 
@@ -28,11 +30,12 @@ module _ (file : List ℕ) (bytes : (i : ℕ) → getD file i 0 < 256) where
   unfolding word32 word16
   word-fits at = omega (arith, bytes at, bytes (at + 1), bytes (at + 2), bytes (at + 2 + 1))
 
-  in-table : (m k at j : ℕ) → OffsetFits (getD (column (bankAt file) 26 at m ++ replicate k noBank) j noBank .offset)
+  in-table : (kind : Kind) (m k at j : ℕ) → OffsetFits (getD (column (bankAt kind file) (3 + kind .bank) at m ++ replicate k noBank) j noBank .offset)
   unfolding column bankAt
-  in-table zero k at j = past-table k j
-  in-table (suc m) k at zero = optional (isSet (byte file (at + 25)) 2) (word32 file (at + 17)) (word-fits (at + 17))
-  in-table (suc m) k at (suc j) = in-table m k (at + 26) j
+  in-table kind zero k at j = past-table k j
+  in-table kind (suc m) k at zero = optional (isSet (byte file (at + 25)) 2) (word32 file (at + 17)) (word-fits (at + 17))
+  in-table kind (suc m) k at (suc j) = in-table kind m k (at + (3 + kind .bank)) j
 
   pub table-fits : OffsetsFit (tableOf file)
-  table-fits k = in-table (min (bankCount file) maxBanks) (maxBanks - min (bankCount file) maxBanks) 0 k
+  table-fits k =
+      in-table (kindOf file) (min (bankCount file) maxBanks) (maxBanks - min (bankCount file) maxBanks) (kindOf file .heads * 4) k

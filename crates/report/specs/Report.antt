@@ -1,12 +1,15 @@
--- What the program prints for a file's bytes (document 01: "The program `layout` reads form 1 .., at most 65,000 bytes (longer: 4, place
--- 0), and lends 16,384 image bytes, 4,096 spans and 4,096 blocks").
+-- What the program prints for a file's bytes (document 01: "The program `layout` reads form 1 .. and lends 16,384 image bytes, 4,096 spans and
+-- 4,096 blocks"; document 02: "The program reads either").
 use mathlib.Core.List.{List}
 use Prim.Native.Nat.{ℕ}
-use lib.ListN.{length, replicate}
+use lib.ListN.{length}
+use Rattle.bankdef.specs.Check.{banksOf}
+use Rattle.bankdef.specs.declared.Bankdefs.{Bankdefs}
 use Rattle.bitvec.specs.HexDigits.{hexOf}
 use Rattle.blocks.specs.Spans.{spansOf}
 use Rattle.blocks.specs.Walk.{blocksOf}
 use Rattle.blocks.specs.Outcome.{origins, sizes}
+use Rattle.output.specs.Blank.{blankOf}
 use Rattle.output.specs.Items.{itemsOf, imageOf}
 use Rattle.output.specs.Spans.{spansOf as spansIn, words, sizes as spanSizes}
 use Rattle.output.specs.Output.{Room}
@@ -14,6 +17,7 @@ use Rattle.output.specs.declared.visits.Visit.{Visit}
 use Rattle.output.specs.declared.Build.{Build}
 use Rattle.output.specs.declared.Build.the-variants.{Done, Refused}
 use Rattle.output.specs.declared.Output.{Output}
+use Rattle.form.specs.Banks.{tableOf}
 use Rattle.filed.specs.Filed.{listsIn, fileOutput, fileVisits}
 use Rattle.text.specs.Lines.{refusalText, layoutText}
 
@@ -35,14 +39,14 @@ doneText k bits offsets sized image =
     (sizes (blocksOf (spansOf offsets sized))) (hexOf image bits)
 
 -- the text of a build over the visits of its last pass. "A refusal prints `refused`, number and place, one space between."
-abbrev pub answerText : List Visit → List ℕ → Build → List ℕ
-answerText vs values (Refused why) = refusalText why
-answerText vs values (Done k bits spans) =
-    doneText k bits (words (spansIn vs)) (spanSizes (spansIn vs)) (imageOf values (replicate imageRoom 0) (itemsOf vs))
+abbrev pub answerText : Bankdefs → List Visit → List ℕ → Build → List ℕ
+answerText banks vs values (Refused why) = refusalText why
+answerText banks vs values (Done k bits spans) =
+    doneText k bits (words (spansIn vs)) (spanSizes (spansIn vs)) (imageOf values (blankOf (banksOf banks) bits imageRoom) (itemsOf vs))
 
--- The program's whole output for a file: of its build, in the room that the program lends.
+-- The program's whole output for a file and a fill: of its build, in the room that the program lends.
 abbrev pub builtText : List ℕ → Output → List ℕ
-builtText file answer = answerText (fileVisits file (answer .passes)) (listsIn file .values) (answer .build)
+builtText file answer = answerText (tableOf file) (fileVisits file (answer .passes)) (listsIn file .values) (answer .build)
 
-unfoldable pub reportText : List ℕ → List ℕ
-reportText file = builtText file (fileOutput file lentRoom)
+unfoldable pub reportText : List ℕ → ℕ → List ℕ
+reportText file fill = builtText file (fileOutput file fill lentRoom)

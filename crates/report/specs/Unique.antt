@@ -7,6 +7,6 @@ use Rattle.text.specs.Puts.{Puts}
 use Rattle.text.specs.Unique.{puts-unique}
 use Rattle.report.specs.Report.{reportText}
 
-pub report-unique : (file old : List ℕ) {r s : Written} {a b : List ℕ} → Puts (reportText file) old 0 r a
-    → Puts (reportText file) old 0 s b → (r ≡ s) × (a ≡ b)
-report-unique file old p q = puts-unique p q
+pub report-unique : (file : List ℕ) (fill : ℕ) (old : List ℕ) {r s : Written} {a b : List ℕ} → Puts (reportText file fill) old 0 r a
+    → Puts (reportText file fill) old 0 s b → (r ≡ s) × (a ≡ b)
+report-unique file fill old p q = puts-unique p q

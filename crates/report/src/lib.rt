@@ -136,6 +136,7 @@ fn put_answer(build: Build, image: &[u8], offsets: &[u64], sizes: &[u64], out: &
 // Builds the file's layout in what is lent, and puts its text.
 fn put_build(
     file: &[u8],
+    fill: u8,
     image: &mut [u8],
     addresses: &mut [i64],
     offsets: &mut [u64],
@@ -146,16 +147,16 @@ fn put_build(
     requires { ⌜ length (now addresses) ≡ spanRoom ⌝ }
     requires { ⌜ length (now offsets) ≡ spanRoom ⌝ }
     requires { ⌜ length (now sizes) ≡ spanRoom ⌝ }
-    ensures { λ r. ⌜ Puts (reportText (now (file .entry))) (now (out .entry)) 0 r (now (out .exit)) ⌝ }
+    ensures { λ r. ⌜ Puts (reportText (now (file .entry)) fill) (now (out .entry)) 0 r (now (out .exit)) ⌝ }
 {
-    let answer = filed::build_file(file, image, addresses, offsets, sizes);
+    let answer = filed::build_file(file, fill, image, addresses, offsets, sizes);
     let build = answer.build;
     put_answer(build, image, offsets, sizes, out)
 }
 
-// What the program prints for a file's bytes, put at the front of `out`. Lends room for the image and the spans.
-pub fn report(file: &[u8], out: &mut [u8]) -> Written
-    ensures { λ r. ⌜ Puts (reportText (now (file .entry))) (now (out .entry)) 0 r (now (out .exit)) ⌝ }
+// What the program prints for a file's bytes and a fill's choice, put at the front of `out`. Lends room for the image and the spans.
+pub fn report(file: &[u8], fill: u8, out: &mut [u8]) -> Written
+    ensures { λ r. ⌜ Puts (reportText (now (file .entry)) fill) (now (out .entry)) 0 r (now (out .exit)) ⌝ }
 {
     let mut image = [0u8; 16384];
     let mut addresses = [0i64; 4096];
@@ -163,6 +164,7 @@ pub fn report(file: &[u8], out: &mut [u8]) -> Written
     let mut sizes = [0u64; 4096];
     put_build(
         file,
+        fill,
         &mut image,
         &mut addresses,
         &mut offsets,
