@@ -6,6 +6,6 @@ use Rattle.output.specs.Output.{Lent, roomOf}
 use Rattle.output.specs.declared.Output.{Output}
 use Rattle.filed.specs.Filed.{FileBuilt, fileOutput}
 
-module _ (file : List ℕ) (old : Lent) where
-  pub as-told : {r : Output} {new : Lent} → FileBuilt file old r new → FileBuilt file old (fileOutput file (roomOf old)) new
-  as-told {r} {new} b = subst (λ (o : Output). FileBuilt file old o new) (b .answer) b
+module _ (file : List ℕ) (fill : ℕ) (old : Lent) where
+  pub as-told : {r : Output} {new : Lent} → FileBuilt file fill old r new → FileBuilt file fill old (fileOutput file fill (roomOf old)) new
+  as-told {r} {new} b = subst (λ (o : Output). FileBuilt file fill old o new) (b .answer) b

@@ -10,6 +10,7 @@ use borrow.Author.Tests.{eqb-true}
 use Rattle.bankdef.specs.declared.Bankdefs.{Bankdefs}
 use Rattle.form.specs.Fields.{by-test}
 use Rattle.resolver.specs.Lists.{Lists}
+use Rattle.resolver.specs.declared.Choices.{Choices}
 use Rattle.output.specs.Output.{input, Lent, Builds}
 use Rattle.output.specs.declared.Output.{Output}
 use Rattle.denkumari.specs.Told.{layoutTold}
@@ -29,6 +30,7 @@ pub record Few (g : Given) : Type 0 where
   pub offsets : countOf g ≤ length (g .offsets)
   pub aligns : countOf g ≤ length (g .aligns)
   pub flags : countOf g ≤ length (g .flags)
+  pub bits : countOf g ≤ length (g .bits)
 
 pub few : (g : Given) → Few g
 unfolding countOf
@@ -43,20 +45,23 @@ few g =
     let d = agree-le (length (g .aligns)) n with-offsets (omega (arith, a, b, c)) in
     let with-aligns = agree (length (g .aligns)) n with-offsets in
     let e = agree-le (length (g .flags)) n with-aligns (omega (arith, a, b, c, d)) in
+    let with-flags = agree (length (g .flags)) n with-aligns in
+    let f = agree-le (length (g .bits)) n with-flags (omega (arith, a, b, c, d, e)) in
     record {
-      units = omega (arith, a, b, c, d, e);
-      starts = omega (arith, a, b, c, d, e);
-      sizes = omega (arith, b, c, d, e);
-      offsets = omega (arith, c, d, e);
-      aligns = omega (arith, d, e);
-      flags = omega (arith, e);
+      units = omega (arith, a, b, c, d, e, f);
+      starts = omega (arith, a, b, c, d, e, f);
+      sizes = omega (arith, b, c, d, e, f);
+      offsets = omega (arith, c, d, e, f);
+      aligns = omega (arith, d, e, f);
+      flags = omega (arith, e, f);
+      bits = omega (arith, f);
     }
 
-pub tables-told : {banks table : Bankdefs} {l : Lists} {limit : ℕ} {old new : Lent} {r : Output} {t : DkLayout} → banks ≡ table → t ≡ layoutTold r
-    → Builds (input banks l limit) old r new → TablesTold (input table l limit) old t new
-tables-told {table = table} {l} {limit} {old} {new} {r} {t} same told built =
-    let b = subst (λ (k : Bankdefs). Builds (input k l limit) old r new) same built in
+pub tables-told : {banks table : Bankdefs} {l : Lists} {chosen choices : Choices} {old new : Lent} {r : Output} {t : DkLayout} → banks ≡ table
+    → chosen ≡ choices → t ≡ layoutTold r → Builds (input banks l chosen) old r new → TablesTold (input table l choices) old t new
+tables-told {table = table} {l} {choices = choices} {old} {new} {r} {t} same chose told built =
+    let b : Builds (input table l choices) old r new = rw (same, chose) at built in
     record {
       answer = told ∙ ap layoutTold (b .answer);
-      built = subst (λ (o : Output). Builds (input table l limit) old o new) (b .answer) b;
+      built = subst (λ (o : Output). Builds (input table l choices) old o new) (b .answer) b;
     }

@@ -23,17 +23,17 @@ use Rattle.denkumari.proofs.parts.dk_part.Reads as part-reads
 
 -- what is lent to a build, at exit
 abbrev formLent : (κs : Lfts 5) → AtExit (endedOf 5 form-kinds.ps form-kinds.r) κs → Lent
-formLent κs e = lent (e .1 .0 .now) (e .1 .1 .0 .now) (e .1 .1 .1 .0 .now) (e .1 .1 .1 .1 .0 .now)
+formLent κs e = lent (e .1 .1 .0 .now) (e .1 .1 .1 .0 .now) (e .1 .1 .1 .1 .0 .now) (e .1 .1 .1 .1 .1 .0 .now)
 
 pub dk-form-unique : OneView 5 form-kinds.ps form-kinds.r form-reads.Learnt (DkLayout × Lent) (λ κs x e. (x, formLent κs e))
 dk-form-unique κs a x y e f p q = let same = one-form p q in paired (same .0) (same .1)
 
-abbrev tablesLent : (κs : Lfts 15) → AtExit (endedOf 15 build-kinds.ps build-kinds.r) κs → Lent
+abbrev tablesLent : (κs : Lfts 16) → AtExit (endedOf 16 build-kinds.ps build-kinds.r) κs → Lent
 tablesLent κs e =
-    let slices = e .1 .1 .1 .1 .1 .1 .1 .1 .1 .1 .1 .1 .1 in
+    let slices = e .1 .1 .1 .1 .1 .1 .1 .1 .1 .1 .1 .1 .1 .1 .1 .1 in
     lent (slices .0 .now) (slices .1 .0 .now) (slices .1 .1 .0 .now) (slices .1 .1 .1 .0 .now)
 
-pub dk-build-unique : OneView 15 build-kinds.ps build-kinds.r build-reads.Learnt (DkLayout × Lent) (λ κs x e. (x, tablesLent κs e))
+pub dk-build-unique : OneView 16 build-kinds.ps build-kinds.r build-reads.Learnt (DkLayout × Lent) (λ κs x e. (x, tablesLent κs e))
 dk-build-unique κs a x y e f p q = let same = one-build p q in paired (same .0) (same .1)
 
 pub dk-blocks-unique : OneView 4 blocks-kinds.ps blocks-kinds.r blocks-reads.Learnt (DkCount × (List ℕ × List ℕ))

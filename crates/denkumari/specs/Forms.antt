@@ -8,6 +8,6 @@ use Rattle.denkumari.specs.Told.{layoutTold}
 use Rattle.denkumari.specs.declared.DkLayout.{DkLayout}
 
 -- What `dk_form` promises: that build, told in numbers.
-pub record FormTold (file : List ℕ) (old : Lent) (r : DkLayout) (new : Lent) : Type 0 where
-  pub answer : r ≡ layoutTold (fileOutput file (roomOf old))
-  pub built : FileBuilt file old (fileOutput file (roomOf old)) new
+pub record FormTold (file : List ℕ) (fill : ℕ) (old : Lent) (r : DkLayout) (new : Lent) : Type 0 where
+  pub answer : r ≡ layoutTold (fileOutput file fill (roomOf old))
+  pub built : FileBuilt file fill old (fileOutput file fill (roomOf old)) new

@@ -1,5 +1,8 @@
 -- Answers as plain numbers, for a caller in another language: "Each refusal returns its number and a place".
+use mathlib.Core.List.{List}
 use Prim.Native.Nat.{ℕ}
+use lib.ListN.{replicate}
+use Rattle.refusal.specs.Limits.{maxBanks}
 use Rattle.refusal.specs.Refusals.{numberOf, placeOf}
 use Rattle.refusal.specs.declared.Refusal.{Refusal}
 use Rattle.refusal.specs.declared.Place.{Place}
@@ -20,14 +23,24 @@ secondOf (One a) = 0
 secondOf (Two a b) = b
 
 -- "The answer holds K and the number of passes run"; "Refusals 5 to 14 of a layout carry the passes run too". No refusal has number 0.
-abbrev pub buildTold : Build → ℕ → DkLayout
-buildTold (Done k length spans) passes =
-    record { refusal = 0; place = 0; second = 0; passes = passes; k = k; length = length; spans = spans }
-buildTold (Refused why) passes =
-    record { refusal = numberOf why; place = firstOf (placeOf why); second = secondOf (placeOf why); passes = passes; k = 0; length = 0; spans = 0 }
+-- "each bank should carry the sum of bits lost to `align` and to label alignment in the last pass" (document 02, Ticket 2); a refused layout carries zeros.
+abbrev pub buildTold : Build → ℕ → List ℕ → DkLayout
+buildTold (Done k length spans) passes padding =
+    record { refusal = 0; place = 0; second = 0; passes = passes; k = k; length = length; spans = spans; padding = padding }
+buildTold (Refused why) passes padding =
+    record {
+      refusal = numberOf why;
+      place = firstOf (placeOf why);
+      second = secondOf (placeOf why);
+      passes = passes;
+      k = 0;
+      length = 0;
+      spans = 0;
+      padding = replicate maxBanks 0;
+    }
 
 abbrev pub layoutTold : Output → DkLayout
-layoutTold o = buildTold (o .build) (o .passes)
+layoutTold o = buildTold (o .build) (o .passes) (o .padding)
 
 -- a count, or a refusal whose place is one number
 abbrev pub counted : ℕ → DkCount

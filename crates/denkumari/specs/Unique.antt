@@ -13,7 +13,7 @@ use Rattle.denkumari.specs.declared.DkLayout.{DkLayout}
 use Rattle.denkumari.specs.declared.DkPart.{DkPart}
 
 module _ {old x y : Lent} {r s : DkLayout} where
-  pub one-form : {file : List ℕ} → FormTold file old r x → FormTold file old s y → (r ≡ s) × (x ≡ y)
+  pub one-form : {file : List ℕ} {fill : ℕ} → FormTold file fill old r x → FormTold file fill old s y → (r ≡ s) × (x ≡ y)
   one-form c d = (determined (c .answer) (d .answer), determined (c .built .left) (d .built .left))
 
   pub one-build : {b : Input} → TablesTold b old r x → TablesTold b old s y → (r ≡ s) × (x ≡ y)

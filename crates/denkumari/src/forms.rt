@@ -5,20 +5,21 @@ ghost use mathlib.Core.Path.{_≡_};
 ghost use Rattle.output.specs.Output.{lent};
 ghost use Rattle.denkumari.specs.Forms.{FormTold};
 
-// Lays a file of form 1 out: the image, and the spans in three lists. A refused call changes nothing that is lent.
+// Lays a file of either form out, with the fill's choice: the image, and the spans in three lists. A refused call changes nothing that is lent.
 #[no_mangle]
 pub extern "C" fn dk_form(
     file: &[u8],
+    fill: u8,
     image: &mut [u8],
     addresses: &mut [i64],
     offsets: &mut [u64],
     sizes: &mut [u64],
 ) -> DkLayout
     ensures { λ r. ⌜
-        FormTold (now (file .entry))
+        FormTold (now (file .entry)) fill
         (lent (now (image .entry)) (now (addresses .entry)) (now (offsets .entry)) (now (sizes .entry))) r
         (lent (now (image .exit)) (now (addresses .exit)) (now (offsets .exit)) (now (sizes .exit)))
         ⌝ }
 {
-    tell_layout(filed::build_file(file, image, addresses, offsets, sizes))
+    tell_layout(filed::build_file(file, fill, image, addresses, offsets, sizes))
 }

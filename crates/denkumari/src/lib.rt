@@ -8,7 +8,8 @@ mod tables;
 mod told;
 
 // The answer of a layout. `refusal` is 0 where the layout was built, else document 01's number; then `place` and `second` are its
-// place, 0 where it has none. `passes` is how many passes ran. `k`, `length` and `spans` are 0 where it was refused.
+// place, 0 where it has none. `passes` is how many passes ran. `k`, `length` and `spans` are 0 where it was refused. `padding` has the bits
+// of each bank that were lost to alignment in the last pass, zeros where it was refused.
 #[repr(C)]
 pub struct DkLayout {
     pub refusal: u64,
@@ -18,6 +19,7 @@ pub struct DkLayout {
     pub k: u64,
     pub length: u64,
     pub spans: u64,
+    pub padding: [u64; 16],
 }
 
 // The answer of a call that writes a list: how many things it wrote, or its refusal.

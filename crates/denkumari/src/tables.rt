@@ -4,6 +4,7 @@ use crate::told::tell_layout;
 use bankdef::Bankdef;
 use bankdef::Bankdefs;
 use refusal::Opt;
+use resolver::Choices;
 ghost use mathlib.Core.Path.{_≡_};
 ghost use mathlib.Core.List.{_++_};
 ghost use Prim.Native.Nat.{_-_, _≤_, _<_, min};
@@ -11,7 +12,7 @@ ghost use lib.ListN.{length, replicate};
 ghost use Rattle.resolver.specs.Lists.{lists};
 ghost use Rattle.output.specs.Output.{input, lent};
 ghost use Rattle.form.specs.Banks.{isSet, optOf, noBank};
-ghost use Rattle.denkumari.specs.Tables.{unitOf, bankOf, given, banksIn, agree, tableOf, TablesTold};
+ghost use Rattle.denkumari.specs.Tables.{unitOf, bankOf, given, banksIn, agree, tableOf, choicesBy, TablesTold};
 
 fn is_set(flags: u8, flag: u8) -> bool
     requires { ⌜ 0 < flag ⌝ }
@@ -39,8 +40,16 @@ fn unit_of(unit: u16, flags: u8) -> u16
     if flags <= 15 { unit } else { 0 }
 }
 
-fn make_bank(unit: u16, start: i64, size: u32, offset: u32, align: u32, flags: u8) -> Bankdef
-    ensures { λ r. ⌜ r ≡ bankOf unit start size offset align flags ⌝ }
+fn make_bank(
+    unit: u16,
+    start: i64,
+    size: u32,
+    offset: u32,
+    align: u32,
+    flags: u8,
+    bit: u8,
+) -> Bankdef
+    ensures { λ r. ⌜ r ≡ bankOf unit start size offset align flags bit ⌝ }
 {
     Bankdef {
         unit: unit_of(unit, flags),
@@ -49,6 +58,7 @@ fn make_bank(unit: u16, start: i64, size: u32, offset: u32, align: u32, flags: u
         offset: option(flags, 2, offset),
         align: option(flags, 4, align),
         fill: is_set(flags, 8),
+        fill_bit: bit,
     }
 }
 
@@ -60,16 +70,18 @@ fn make_table(
     offsets: &[u32],
     aligns: &[u32],
     flags: &[u8],
+    bits: &[u8],
     count: usize,
 ) -> [Bankdef; 16]
     requires { ⌜ count ≤ 16 ⌝ }
     requires { ⌜
         (count ≤ length (now units)) × (count ≤ length (now starts)) × (count ≤ length (now sizes))
         × (count ≤ length (now offsets)) × (count ≤ length (now aligns)) × (count ≤ length (now flags))
+        × (count ≤ length (now bits))
         ⌝ }
     ensures { λ r. ⌜
         r ≡ banksIn (given (now (units .entry)) (now (starts .entry)) (now (sizes .entry)) (now (offsets .entry)) (now (aligns .entry))
-        (now (flags .entry))) count ++ replicate (16 - count) noBank
+        (now (flags .entry)) (now (bits .entry))) count ++ replicate (16 - count) noBank
         ⌝ }
 {
     let mut defs = [Bankdef {
@@ -79,6 +91,7 @@ fn make_table(
         offset: Opt::None,
         align: Opt::None,
         fill: false,
+        fill_bit: 0,
     }; 16];
     let mut i = 0;
     while i < count {
@@ -89,6 +102,7 @@ fn make_table(
             offsets[i],
             aligns[i],
             flags[i],
+            bits[i],
         );
         defs[i] = bank;
         i += 1;
@@ -117,10 +131,11 @@ fn make_banks(
     offsets: &[u32],
     aligns: &[u32],
     flags: &[u8],
+    bits: &[u8],
 ) -> Bankdefs
     ensures { λ r. ⌜
         r ≡ tableOf (given (now (units .entry)) (now (starts .entry)) (now (sizes .entry)) (now (offsets .entry)) (now (aligns .entry))
-        (now (flags .entry)))
+        (now (flags .entry)) (now (bits .entry)))
         ⌝ }
 {
     let n = units.len();
@@ -128,11 +143,23 @@ fn make_banks(
     let with_sizes = agreed(sizes.len(), n, with_starts);
     let with_offsets = agreed(offsets.len(), n, with_sizes);
     let with_aligns = agreed(aligns.len(), n, with_offsets);
-    let count = agreed(flags.len(), n, with_aligns);
+    let with_flags = agreed(flags.len(), n, with_aligns);
+    let count = agreed(bits.len(), n, with_flags);
     let held = at_most_16(count);
     Bankdefs {
-        defs: make_table(units, starts, sizes, offsets, aligns, flags, held),
+        defs: make_table(units, starts, sizes, offsets, aligns, flags, bits, held),
         len: count as u64,
+    }
+}
+
+// What a caller chooses. Bank 0 may be used alone where it is not closed.
+fn choose(limit: u8, fill: u8, closed: u8) -> Choices
+    ensures { λ r. ⌜ r ≡ choicesBy limit fill closed ⌝ }
+{
+    Choices {
+        limit,
+        fill,
+        default_bank: closed == 0,
     }
 }
 
@@ -145,6 +172,7 @@ pub extern "C" fn dk_build(
     bank_offsets: &[u32],
     aligns: &[u32],
     flags: &[u8],
+    fill_bits: &[u8],
     kinds: &[u8],
     operands: &[u32],
     numbers: &[u32],
@@ -152,6 +180,8 @@ pub extern "C" fn dk_build(
     rows: u64,
     values: &[u8],
     limit: u8,
+    fill: u8,
+    closed: u8,
     image: &mut [u8],
     addresses: &mut [i64],
     offsets: &mut [u64],
@@ -161,14 +191,23 @@ pub extern "C" fn dk_build(
         TablesTold
         (input
         (tableOf (given (now (units .entry)) (now (starts .entry)) (now («bank_sizes» .entry)) (now («bank_offsets» .entry))
-        (now (aligns .entry)) (now (flags .entry))))
+        (now (aligns .entry)) (now (flags .entry)) (now («fill_bits» .entry))))
         (lists (now (kinds .entry)) (now (operands .entry)) (now (numbers .entry)) (now (states .entry)) rows (now (values .entry)))
-        limit)
+        (choicesBy limit fill closed))
         (lent (now (image .entry)) (now (addresses .entry)) (now (offsets .entry)) (now (sizes .entry))) r
         (lent (now (image .exit)) (now (addresses .exit)) (now (offsets .exit)) (now (sizes .exit)))
         ⌝ }
 {
-    let banks = make_banks(units, starts, bank_sizes, bank_offsets, aligns, flags);
+    let banks = make_banks(
+        units,
+        starts,
+        bank_sizes,
+        bank_offsets,
+        aligns,
+        flags,
+        fill_bits,
+    );
+    let choices = choose(limit, fill, closed);
     tell_layout(output::build_output(
         banks,
         kinds,
@@ -177,7 +216,7 @@ pub extern "C" fn dk_build(
         states,
         rows,
         values,
-        limit,
+        choices,
         image,
         addresses,
         offsets,

@@ -31,6 +31,7 @@ pub fn tell_layout(output: Output) -> DkLayout
     ensures { λ r. ⌜ r ≡ layoutTold output ⌝ }
 {
     let passes = output.passes;
+    let padding = output.padding;
     let build = output.build;
     match build {
         Build::Done { k, length, spans } => DkLayout {
@@ -41,6 +42,7 @@ pub fn tell_layout(output: Output) -> DkLayout
             k,
             length,
             spans,
+            padding,
         },
         Build::Refused(why) => {
             let place = refusal::place_of(why);
@@ -52,6 +54,7 @@ pub fn tell_layout(output: Output) -> DkLayout
                 k: 0,
                 length: 0,
                 spans: 0,
+                padding: [0; 16],
             }
         }
     }

@@ -29,7 +29,7 @@ returns : tie.Need-returns
 returns c =
     let a = c .before .before .before .before .before .before .before .before .before .before .before .before .before .before .before .before .before .args in
     let b = c .before .before .before .before .before .before .before .before .build-file in
-    record { answer = c .tell-layout .ensures ∙ ap layoutTold (b .ensures .answer); built = as-told (a .file .now) (lent (a .image .now) (a .addresses .now) (a .offsets .now) (a .sizes .now)) (b .ensures) }
+    record { answer = c .tell-layout .ensures ∙ ap layoutTold (b .ensures .answer); built = as-told (a .file .now) (a .fill) (lent (a .image .now) (a .addresses .now) (a .offsets .now) (a .sizes .now)) (b .ensures) }
 
 pub dk-form-spec : {M : Type 1} → statement M
 dk-form-spec =

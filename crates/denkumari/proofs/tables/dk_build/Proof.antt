@@ -7,6 +7,9 @@ use Rattle.denkumari.proofs.tables.dk_build.Tie as tie
 make-banks-requires : tie.Need-make-banks-requires
 make-banks-requires c κs = search needs
 
+choose-requires : tie.Need-choose-requires
+choose-requires c κs = search needs
+
 build-output-requires : tie.Need-build-output-requires
 build-output-requires c κs = search needs
 
@@ -26,13 +29,14 @@ same-length-4 : tie.Need-same-length-4
 same-length-4 c = search needs
 
 returns : tie.Need-returns
-returns c = tables-told (c .before .before .before .before .before .before .before .before .before .before .before .before .before .make-banks .ensures) (c .tell-layout .ensures) (c .before .before .before .before .before .before .before .before .build-output .ensures)
+returns c = tables-told (c .before .before .before .before .before .before .before .before .before .before .before .before .before .before .make-banks .ensures) (c .before .before .before .before .before .before .before .before .before .before .before .before .before .choose .ensures) (c .tell-layout .ensures) (c .before .before .before .before .before .before .before .before .build-output .ensures)
 
 pub dk-build-spec : {M : Type 1} → statement M
 dk-build-spec =
     tie.close
     (tie.spec
     make-banks-requires
+    choose-requires
     build-output-requires
     tell-layout-requires
     same-length

@@ -24,7 +24,7 @@ is-set-requires c κs = search needs
 returns : tie.Need-returns
 returns c =
     let begun : toZ w64 (ofZ w64 (c .before .before .before .before .before .args .start)) ≡ c .before .before .before .before .before .args .start = search needs in
-    λ i. record { unit = c .before .before .before .before .unit-of .ensures i; start = begun i; size = c .before .before .before .option .ensures i; offset = c .before .before .option2 .ensures i; align = c .before .option3 .ensures i; fill = c .is-set .ensures i }
+    λ i. record { unit = c .before .before .before .before .unit-of .ensures i; start = begun i; size = c .before .before .before .option .ensures i; offset = c .before .before .option2 .ensures i; align = c .before .option3 .ensures i; fill = c .is-set .ensures i; «fill_bit» = c .before .before .before .before .before .args .bit }
 
 pub make-bank-spec : {M : Type 1} → statement M
 make-bank-spec =

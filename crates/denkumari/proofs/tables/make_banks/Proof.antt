@@ -12,17 +12,18 @@ use Rattle.denkumari.proofs.tables.make_banks.Statement.{statement}
 use Rattle.denkumari.proofs.tables.make_banks.Tie as tie
 
 abbrev lent : tie.After-at-most-16 → Given
-lent c = let a = c .before .before .before .before .before .before .before .before .before .before .before .args in given (a .units .now) (a .starts .now) (a .sizes .now) (a .offsets .now) (a .aligns .now) (a .flags .now)
+lent c = let a = c .before .before .before .before .before .before .before .before .before .before .before .before .before .args in given (a .units .now) (a .starts .now) (a .sizes .now) (a .offsets .now) (a .aligns .now) (a .flags .now) (a .bits .now)
 
-agreed-on : (c : tie.After-at-most-16) → c .before .agreed5 .result ≡ countOf (lent c)
+agreed-on : (c : tie.After-at-most-16) → c .before .agreed6 .result ≡ countOf (lent c)
 unfolding countOf
 agreed-on c =
     let n = length (lent c .units) in
-    c .before .agreed5 .ensures
-    ∙ ap (agree (length (lent c .flags)) n) (c .before .before .agreed4 .ensures
-    ∙ ap (agree (length (lent c .aligns)) n) (c .before .before .before .agreed3 .ensures
-    ∙ ap (agree (length (lent c .offsets)) n) (c .before .before .before .before .agreed2 .ensures
-    ∙ ap (agree (length (lent c .sizes)) n) (c .before .before .before .before .before .agreed .ensures))))
+    c .before .agreed6 .ensures
+    ∙ ap (agree (length (lent c .bits)) n) (c .before .before .agreed5 .ensures
+    ∙ ap (agree (length (lent c .flags)) n) (c .before .before .before .agreed4 .ensures
+    ∙ ap (agree (length (lent c .aligns)) n) (c .before .before .before .before .agreed3 .ensures
+    ∙ ap (agree (length (lent c .offsets)) n) (c .before .before .before .before .before .agreed2 .ensures
+    ∙ ap (agree (length (lent c .sizes)) n) (c .before .before .before .before .before .before .agreed .ensures)))))
 
 held : (c : tie.After-at-most-16) → c .at-most-16 .result ≡ min (countOf (lent c)) 16
 held c = c .at-most-16 .ensures ∙ ap (λ (k : ℕ). min k 16) (agreed-on c)
@@ -42,6 +43,9 @@ agreed-requires-4 c κs = search needs
 agreed-requires-5 : tie.Need-agreed-requires-5
 agreed-requires-5 c κs = search needs
 
+agreed-requires-6 : tie.Need-agreed-requires-6
+agreed-requires-6 c κs = search needs
+
 at-most-16-requires : tie.Need-at-most-16-requires
 at-most-16-requires c κs = search needs
 
@@ -49,7 +53,7 @@ make-table-requires : tie.Need-make-table-requires
 make-table-requires c κs =
     let f = few (lent c) in
     let h = held c in
-    (omega (arith, h), (omega (arith, h, f .units), omega (arith, h, f .starts), omega (arith, h, f .sizes), omega (arith, h, f .offsets), omega (arith, h, f .aligns), omega (arith, h, f .flags)))
+    (omega (arith, h), (omega (arith, h, f .units), omega (arith, h, f .starts), omega (arith, h, f .sizes), omega (arith, h, f .offsets), omega (arith, h, f .aligns), omega (arith, h, f .flags), omega (arith, h, f .bits)))
 
 returns : tie.Need-returns
 returns c =
@@ -65,6 +69,7 @@ make-banks-spec =
     agreed-requires-3
     agreed-requires-4
     agreed-requires-5
+    agreed-requires-6
     at-most-16-requires
     make-table-requires
     returns)

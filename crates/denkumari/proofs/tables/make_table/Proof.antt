@@ -11,7 +11,7 @@ use lib.ListN.{set, getD, replicate}
 use Rattle.bankdef.specs.declared.Bankdef.{Bankdef}
 use Rattle.form.specs.Banks.{noBank}
 use Rattle.form.specs.Columns.{column}
-use Rattle.form.proofs.Columns.{column-set}
+use Rattle.form.specs.Columns.{column-set}
 use Rattle.denkumari.specs.Tables.{Given, given, bankOf, bankIn, banksIn}
 use Rattle.denkumari.proofs.tables.make_table.Statement.{statement}
 use Rattle.denkumari.proofs.tables.make_table.Tie as tie
@@ -26,10 +26,10 @@ turn g i h =
     ∙ column-set (bankIn g) 1 0 i noBank (replicate (16 - (i + 1)) noBank)
 
 abbrev Inv-loop : tie.InvT-loop
-Inv-loop units starts sizes offsets aligns flags count defs₀ i₀ defs i = (i ≤ count) × (defs ≡ banksIn (given units starts sizes offsets aligns flags) i ++ replicate (16 - i) noBank)
+Inv-loop units starts sizes offsets aligns flags bits count defs₀ i₀ defs i = (i ≤ count) × (defs ≡ banksIn (given units starts sizes offsets aligns flags bits) i ++ replicate (16 - i) noBank)
 
 abbrev μ-loop : tie.MeasureT-loop
-μ-loop units starts sizes offsets aligns flags count defs₀ i₀ defs i = count - i
+μ-loop units starts sizes offsets aligns flags bits count defs₀ i₀ defs i = count - i
 
 loop-holds : tie.Need-loop-holds Inv-loop μ-loop
 unfolding column
@@ -68,6 +68,9 @@ shared-slice-read-make-bank-4 c = omega arith
 shared-slice-read-make-bank-5 : tie.Need-shared-slice-read-make-bank-5 Inv-loop μ-loop
 shared-slice-read-make-bank-5 c = omega arith
 
+shared-slice-read-make-bank-6 : tie.Need-shared-slice-read-make-bank-6 Inv-loop μ-loop
+shared-slice-read-make-bank-6 c = omega arith
+
 make-bank-requires : tie.Need-make-bank-requires Inv-loop μ-loop
 make-bank-requires c κs = search needs
 
@@ -86,17 +89,17 @@ loop-less c = omega arith
 loop-again : tie.Need-loop-again Inv-loop μ-loop
 unfolding bankIn
 loop-again c =
-    let a = c .before .before .before .before .before .before .before .before .before .before .before .before .before .before .args in
-    let i = c .before .before .before .before .before .before .before .before .loop .i in
-    let g = given (a .units .now) (a .starts .now) (a .sizes .now) (a .offsets .now) (a .aligns .now) (a .flags .now) in
+    let a = c .before .before .before .before .before .before .before .before .before .before .before .before .before .before .before .before .args in
+    let i = c .before .before .before .before .before .before .before .before .before .loop .i in
+    let g = given (a .units .now) (a .starts .now) (a .sizes .now) (a .offsets .now) (a .aligns .now) (a .flags .now) (a .bits .now) in
     let read : toZ w64 (ofZ w64 (getD (a .starts .now) i (pos 0))) ≡ getD (a .starts .now) i (pos 0) = search needs in
     let made : c .make-bank .result ≡ bankIn g i =
-    c .make-bank .ensures ∙ ap (λ (z : ℤ). bankOf (getD (a .units .now) i 0) z (getD (a .sizes .now) i 0) (getD (a .offsets .now) i 0) (getD (a .aligns .now) i 0) (getD (a .flags .now) i 0)) read in
-    (omega arith, ap₂ (λ (l : List Bankdef) (b : Bankdef). set l i b) (c .before .before .before .before .before .before .before .before .loop .inv .1) made ∙ turn g i (omega arith))
+    c .make-bank .ensures ∙ ap (λ (z : ℤ). bankOf (getD (a .units .now) i 0) z (getD (a .sizes .now) i 0) (getD (a .offsets .now) i 0) (getD (a .aligns .now) i 0) (getD (a .flags .now) i 0) (getD (a .bits .now) i 0)) read in
+    (omega arith, ap₂ (λ (l : List Bankdef) (b : Bankdef). set l i b) (c .before .before .before .before .before .before .before .before .before .loop .inv .1) made ∙ turn g i (omega arith))
 
 returns : tie.Need-returns Inv-loop μ-loop
 returns c =
-    let e : c .before .loop .i ≡ c .before .before .before .before .before .before .before .args .count = omega arith in
+    let e : c .before .loop .i ≡ c .before .before .before .before .before .before .before .before .args .count = omega arith in
     c .before .loop .inv .1 ∙ rw e refl
 
 pub make-table-spec : {M : Type 1} → statement M
@@ -117,6 +120,7 @@ make-table-spec =
     mul-make-bank-5
     shared-slice-read-make-bank-4
     shared-slice-read-make-bank-5
+    shared-slice-read-make-bank-6
     make-bank-requires
     mul-defs
     array-set-from-defs
