@@ -1,22 +1,54 @@
-// The program: reads a file of form 1 from standard input and writes what the report has of it.
+// The program: reads a file of either form from standard input and writes what the report has of it.
+//
+//     layout [FILL]    FILL is the fill's choice, 0 where it is not given
+//
+// It writes nothing where an argument is no decimal number, or where there are more.
+use refusal::Opt;
 use text::Written;
 
-// Room for a file's 65,000 bytes and for more of a longer one, which is refused.
-const FILE: usize = 65_536;
+// Room for the longest file and a byte more, so that none is cut to a sound one.
+const FILE: usize = 65_537;
 
 // Room for the longest report.
 const TEXT: usize = 163_840;
 
-fn write(file: &[u8], text: &mut [u8]) {
-    let Written::To(end) = report::report(file, text) else {
+fn write(file: &[u8], fill: u8, text: &mut [u8]) {
+    let Written::To(end) = report::report(file, fill, text) else {
         return;
     };
     io::write_all(1, &text[..end]);
 }
 
-fn main() {
+// The number that argument i spells.
+fn number_at(i: usize) -> Opt {
+    let mut word = [0u8; 16];
+    let n = os::arg(i, &mut word);
+    args::number(&word[..n])
+}
+
+// A choice that no byte holds is as unknown as 255.
+fn choice(n: u32) -> u8 {
+    if n < 255 { n as u8 } else { 255 }
+}
+
+fn run(fill: u8) {
     let mut file = [0u8; FILE];
     let n = io::read_full(0, &mut file);
     let mut text = [0u8; TEXT];
-    write(&file[..n], &mut text);
+    write(&file[..n], fill, &mut text);
+}
+
+fn main() {
+    let count = os::arg_count();
+    if count > 2 {
+        return;
+    }
+    if count < 2 {
+        run(0);
+        return;
+    }
+    let Opt::Some(fill) = number_at(1) else {
+        return;
+    };
+    run(choice(fill));
 }
