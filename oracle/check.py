@@ -29,6 +29,10 @@ def faults():
             yield f"examples/{name}.form is not what examples.py writes"
         if "".join(f"    {line}\n" for line in examples.shown(model.printed(file).splitlines())) not in readme:
             yield f"examples/README.md does not have what {name}.form prints"
+    for name, options, choices in examples.WITH_OPTIONS:
+        file = encode(examples.EXAMPLES[name][1])
+        if "".join(f"    {line}\n" for line in examples.shown(model.printed(file, choices).splitlines())) not in readme:
+            yield f"examples/README.md does not have what {name}.form prints with {options}"
 
 
 def main():

@@ -1,5 +1,5 @@
 #!/usr/bin/env python3
-"""Writes examples/: form 1 files that look like real ones. examples.py [FOLDER]
+"""Writes examples/: layout files that look like real ones, of form 1 where nothing else is said. examples.py [FOLDER]
 
 `--table` prints what each prints, as examples/README.md has it."""
 
@@ -75,6 +75,39 @@ def past_the_end():
     return one_row([Bank(), Bank(8, 0, 40, 0)], [(SWITCH, 1), (LABEL, 0), (DATA, 0, 24), (DATA, 0, 17)], bytes.fromhex("123456"))
 
 
+def lock():
+    """A filled byte, and behind it a bank of one bit, filled too."""
+    return one_row([Bank(), Bank(8, 0, 8, 0, None, True), Bank(1, 8, 1, 8, None, True)], [(SWITCH, 1), (DATA, 0, 8)], b"\xa5")
+
+
+def erased():
+    """Flash that reads ones when erased: gaps and reserved bits of the two filled banks are ones, those of the third stay zero."""
+    banks = [Bank(), Bank(8, 0x0000, 64, 0, None, True, 1), Bank(8, 0x0100, 48, 64, None, True, 1), Bank(8, 0x0200, 32, 112)]
+    entries = [(SWITCH, 1), (LABEL, 0), (DATA, 0, 16), (RESERVE, 0, 16), (DATA, 16, 12),
+               (SWITCH, 2), (LABEL, 0), (DATA, 32, 8), (SWITCH, 3), (RESERVE, 0, 8), (DATA, 40, 8)]
+    layout = one_row(banks, entries, bytes.fromhex("0e40a5500077"))
+    layout.form = 2
+    return layout
+
+
+PAGE = 64
+
+
+def paged(align=16, offset=128, size=128, unit=16, addr=32):
+    """Two banks of whole pages of 64 bits, and memory without output. Each of the numbers can break a rule of the profile."""
+    banks = [Bank(8), Bank(8, 0x0000, 128, 0, None, True), Bank(unit, 0x0100, size, offset, 32, True), Bank(8, 0x4000, 100)]
+    entries = [(SWITCH, 1), (LABEL, 0), (DATA, 0, 24), (ALIGN, 0, align), (LABEL, 0), (DATA, 24, 8),
+               (SWITCH, 3), (LABEL, 0), (RESERVE, 0, 20), (SWITCH, 2), (LABEL, 0), (DATA, 32, 16), (ADDR, 0, addr), (DATA, 48, 16)]
+    return one_row(banks, entries, bytes.fromhex("1234567890abcdef"))
+
+
+def alone():
+    """A layout of form 2 that uses bank 0, its only bank."""
+    layout = one_row([Bank(8, 0, 64, 0)], [(LABEL, 0), (DATA, 0, 16)], b"\x12\x34")
+    layout.form = 2
+    return layout
+
+
 EXAMPLES = {
     "worked": ("document 01's worked example", worked_example()),
     "clamp-mark-after": ("the March failure: a clamp force table, then a mark of zero bits on its first word, then a second table that lands inside the first", clamp(MARK_AFTER)),
@@ -89,6 +122,30 @@ EXAMPLES = {
     "sequencer": ("an image of the real size, 40,960 bits in 10-bit words: code, curves as long literals with marks between them, two filled banks, labels that move from pass to pass", sequencer()),
 }
 
+EXAMPLES |= {
+    "lock": ("a lock bank of one bit behind a filled byte: the inherited fill leaves it out, full fill has it", lock()),
+    "erased": ("form 2: flash that is erased to ones, with gaps and a reserve", erased()),
+    "alone": ("form 2 with bank 0 alone, which form 2 does not let be used", alone()),
+    "paged": ("whole pages of 64 bits, for the paged device", paged()),
+    "paged-alignment": ("the same with an alignment of 24, which has two bits set", paged(align=24)),
+    "paged-offset": ("the same with a bank that starts in the middle of a page", paged(offset=160)),
+    "paged-size": ("the same with a bank of one page and a half", paged(size=96)),
+    "paged-unit": ("the same with an address unit of 32", paged(unit=32)),
+    "paged-addr": ("the same with an `addr` between two addresses of its bank", paged(addr=40)),
+}
+
+# What else is printed of an example, with the program's options: of the model, and as they are written.
+WITH_OPTIONS = (
+    ("lock", "--fill full", model.Choices(fill=model.FULL)),
+    ("paged", "--page 64", model.Choices(page=PAGE)),
+    ("paged", "--page 24", model.Choices(page=24)),
+    ("paged-alignment", "--page 64", model.Choices(page=PAGE)),
+    ("paged-offset", "--page 64", model.Choices(page=PAGE)),
+    ("paged-size", "--page 64", model.Choices(page=PAGE)),
+    ("paged-unit", "--page 64", model.Choices(page=PAGE)),
+    ("paged-addr", "--page 64", model.Choices(page=PAGE)),
+)
+
 
 def shown(lines):
     """The lines as the page has them: of many the first and the last, of a long one its beginning."""
@@ -101,6 +158,10 @@ def main():
         for name, (words, layout) in EXAMPLES.items():
             print(f"`{name}.form`: {words}.\n")
             print("".join(f"    {line}\n" for line in shown(model.printed(encode(layout)).splitlines())))
+            for other, options, choices in WITH_OPTIONS:
+                if other == name:
+                    print(f"With `{options}`:\n")
+                    print("".join(f"    {line}\n" for line in shown(model.printed(encode(layout), choices).splitlines())))
         return
     folder = Path(sys.argv[1] if len(sys.argv) > 1 else Path(__file__).resolve().parent.parent / "examples")
     folder.mkdir(exist_ok=True)

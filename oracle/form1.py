@@ -1,4 +1,4 @@
-"""Form 1 of document 01: layouts as values, and to and from bytes.
+"""Form 1 of document 01, and form 2 of document 02: layouts as values, and to and from bytes.
 
 A layout here is what people write down, and `encode` writes any of them, wrong ones too: out-of-range numbers are the
 reader's business. `decode` is for showing sound files to people; oracle/model.py has the reader that tells faults apart."""
@@ -21,6 +21,7 @@ class Bank:
     offset: int | None = None
     align: int | None = None
     fill: bool = False
+    fill_bit: int = 0
 
     def flags(self):
         return (HAS_SIZE * (self.size is not None) | HAS_OFFSET * (self.offset is not None)
@@ -34,6 +35,7 @@ class Layout:
     rows: list = field(default_factory=list)    # a list of (number, state), one for each node
     values: bytes = b""
     limit: int = 10
+    form: int = 1
 
 
 def one(tag, payload):
@@ -55,8 +57,10 @@ def row_payload(row):
 
 
 def fields(layout, unread=0):
-    """The layout's fields, each as tag and payload."""
-    return ([(1, bank_payload(bank, unread)) for bank in layout.banks]
+    """The layout's fields, each as tag and payload. Form 2 has a field ahead, and a fill bit in each bank."""
+    second = layout.form == 2
+    bit = lambda bank: bytes([bank.fill_bit]) if second else b""
+    return ([(16, b"\x02")] * second + [(17 if second else 1, bank_payload(bank, unread) + bit(bank)) for bank in layout.banks]
             + [(2, node_payload(kind, operand)) for kind, operand in layout.nodes]
             + [(3, row_payload(row)) for row in layout.rows]
             + [(4, bytes(layout.values)), (5, bytes([layout.limit]))])
@@ -74,11 +78,13 @@ def decode(data):
         tag, length = struct.unpack_from(">BH", data, at)
         payload = data[at + 3:at + 3 + length]
         at += 3 + length
-        if tag == 1:
-            unit, start, size, offset, align, flags = struct.unpack(">HqIIIB", payload)
+        if tag == 16:
+            layout.form = 2
+        elif tag in (1, 17):
+            unit, start, size, offset, align, flags = struct.unpack(">HqIIIB", payload[:23])
             given = lambda value, flag: value if flags & flag else None
             layout.banks.append(Bank(unit, start, given(size, HAS_SIZE), given(offset, HAS_OFFSET),
-                                     given(align, HAS_ALIGN), bool(flags & FILL)))
+                                     given(align, HAS_ALIGN), bool(flags & FILL), payload[23] if tag == 17 else 0))
         elif tag == 2:
             layout.nodes.append(struct.unpack(">BI", payload))
         elif tag == 3:
@@ -97,7 +103,7 @@ def show(layout):
         said = [f"unit {bank.unit}", f"start {bank.start}"]
         said += [f"{name} {value}" for name, value in (("size", bank.size), ("offset", bank.offset), ("label alignment", bank.align))
                  if value is not None]
-        said += ["fill"] * bank.fill
+        said += ["fill"] * bank.fill + ["fill bit 1"] * (bank.fill_bit == 1)
         lines.append(f"bank {i}: " + ", ".join(said))
     for i, (kind, operand) in enumerate(layout.nodes):
         name = KIND_NAMES[kind] if kind < len(KIND_NAMES) else f"kind {kind}"

@@ -11,6 +11,7 @@ from collections import Counter
 from itertools import product
 
 import compare
+import convert
 import differences
 import examples
 import generate
@@ -26,6 +27,7 @@ WANTED = {
     "ok": 130, "refused 3": 25, "refused 7": 30, "refused 8": 30, "refused 9": 20, "refused 10": 30, "refused 11": 20,
     "refused 12": 50, "no say: 1": 6, "no say: 2": 12, "no say: 4": 45, "no say: 5": 14, "no say: alignment below zero": 24, "no say: 14": 6,
     "no say: empty placement, departing": 20, "no say: empty placement, the same anyway": 14}
+SECOND = 8      # of form 2 so many of each answer
 
 
 def documents_cases():
@@ -94,11 +96,53 @@ def at_the_limits():
     yield encode(laid([Bank(offset=0)], [(DATA, 0, 8 * 16_384), (RESERVE, 0, 1), (INSTRUCTION, 0, 1)], full))
 
 
+def broken_second():
+    """Each way to break a file of form 2, and what a reader of the other form makes of it."""
+    whole = [one(tag, payload) for tag, payload in fields(examples.EXAMPLES["erased"][1])]
+    data, bank = b"".join(whole), whole[2]
+    yield from (data[:n] for n in (1, 3, 4, 5, 31, len(data) - 1))
+    yield data + b"\0"
+    yield data + whole[0]
+    yield b"".join([one(16, b"\x01"), *whole[1:]])
+    yield b"".join([one(16, b"\x02\x02"), *whole[1:]])
+    yield b"".join([one(16, b""), *whole[1:]])
+    yield b"".join([*whole[:2], whole[0], *whole[2:]])
+    yield b"".join(whole[1:])
+    yield b"".join([*whole[:2], bank[:-1] + b"\x02", *whole[3:]])
+    yield b"".join([*whole[:2], bank[:-2] + b"\x10" + bank[-1:], *whole[3:]])
+    yield b"".join([*whole[:2], one(1, bank[3:-1]), *whole[3:]])
+    yield b"".join([*whole[:2], one(17, bank[3:-1]), *whole[3:]])
+    yield b"".join([whole[0], whole[1][:-1] + b"\x01", *whole[2:]])
+    yield b"".join([whole[0], *[one(1, bank[3:-1]) for bank in whole[1:5]], *whole[5:]])
+
+
+def long_second():
+    """Files of form 2 of the longest length and one byte beyond, sound but for that."""
+    made = lambda more: Layout([Bank(), Bank(offset=0)], [(SWITCH, 1), (DATA, 0)], [[(0, 0), (8, 0)]], b"\x5a" + bytes(more), 10, 2)
+    room = 65_536 - len(encode(made(0)))
+    yield from (encode(made(room + more)) for more in (0, 1))
+
+
+def second_form(seed):
+    """Files of form 2: the examples converted, the longest, broken ones, and drawn ones until there are some of each answer."""
+    yield from long_second()
+    for _, layout in examples.EXAMPLES.values():
+        if layout.form == 1:
+            yield convert.to_form_2(encode(layout))
+    yield from broken_second()
+    taken = Counter()
+    for file in generate.cases_of_form_2(seed, 4_000):
+        row = compare.head(model.line(file))
+        if len(file) <= LONGEST and taken[row] < SECOND:
+            taken[row] += 1
+            yield file
+
+
 def named():
     """The cases that are always in the list."""
     yield from at_the_limits()
     yield from (encode(layout) for layout in documents_cases())
-    yield from (encode(layout) for _, layout in examples.EXAMPLES.values())
+    yield from (encode(layout) for _, layout in examples.EXAMPLES.values() if layout.form == 1)
     yield from (encode(layout) for _, _, layout in differences.DEPARTURES)
     yield from (encode(layout) for layout in known_ness())
     yield from (encode(layout) for layout in full_stores())
@@ -145,6 +189,11 @@ def main():
         text = printed(whole)
         assert text == model.printed(file)
         lines.append("\t".join((file.hex(), text.replace("\n", "\\n"), "rust" if has_say else "doc", whole)))
+    # form 2 has no Rust to be judged by
+    second = [encode(layout) for _, layout in examples.EXAMPLES.values() if layout.form == 2] + list(second_form(asked.seed))
+    for file in dict.fromkeys(second):
+        taken["form 2: " + compare.head(model.line(file))] += 1
+        lines.append("\t".join((file.hex(), model.printed(file).replace("\n", "\\n"), "doc", model.line(file))))
 
     LIST.parent.mkdir(exist_ok=True)
     LIST.write_text("".join(line + "\n" for line in lines))
