@@ -1,4 +1,2 @@
-pub mod Bytes
-pub mod ReadBack
 pub mod Refusals
 pub mod Writing

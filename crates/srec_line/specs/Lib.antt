@@ -1,3 +1,2 @@
 pub mod ReadBack
-pub mod Spelled
 pub mod Srec

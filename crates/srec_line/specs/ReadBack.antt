@@ -1,26 +1,22 @@
 -- A line that was written says what was put into it, at either width: one law over the width.
 use mathlib.Core.Path.{_≡_, refl, sym, ap, _∙_}
-use mathlib.Core.Bool.{Bool, true, false, _&&_, _||_}
+use mathlib.Core.Bool.{true}
 use mathlib.Core.List.{List, [], _∷_, _++_, append-assoc}
-use mathlib.Core.Logic.{_⊎_, inl, inr, ⊎-elim}
+use mathlib.Core.Logic.{_⊎_, inl, inr}
 use Prim.Native.Nat.{ℕ, zero, suc, _+_, _-_, _*_, _/_, _%_, _^_, _<_, _≤_}
-use native.Mathlib.Decide.{decLt}
-use native.Mathlib.Numerals.{add-one}
 use native.Mathlib.Omega.{arith}
-use lib.Dec.{ltb, leb, eqb}
-use lib.ListN.{length, getD, drop, take, length-append, length-take, length-drop}
+use lib.ListN.{length, drop, take, length-append}
 use native.Mathlib.Nat.{div-one, pow-suc, div-div-eq-div-mul, div-add-mod', div-eq-of-lt}
-use lib.Seq.{getD-append-add, ext-getD, getD-take, getD-drop, take-append-seam, take-at, drop-at, take-all}
-use borrow.Author.Tests.{lt-ltb, le-ltb, le-leb, lt-leb, eq-eqb, ne-eqb}
-use Rattle.refusal.specs.Pick.{pick, pick-true}
-use Rattle.bitvec.specs.Lists.{listOf, length-listOf, getD-listOf}
-use Rattle.records.specs.Digits.{letterOf, bytesText, allDigits, pairAt, bytesAt}
+use lib.Seq.{take-at, drop-at, take-all}
+use borrow.Author.Tests.{lt-ltb, le-leb, eq-eqb}
+use Rattle.bitvec.specs.Bits.{Bytes}
+use Rattle.records.specs.Digits.{bytesText, bytesAt}
 use Rattle.records.specs.DigitLaws.{length-bytesText}
-use Rattle.srec_line.specs.Spelled.{Bytes, digits-written, pair-behind, bytes-behind, bytes-append, bytes-cons}
-use Rattle.records.specs.Items.{Item, gives, passes, ends, bad, Format}
-use Rattle.records.specs.Pieces.{Piece}
+use Rattle.records.specs.Spelled.{bytes-none, digits-written, pair-behind, bytes-behind, bytes-append, bytes-cons}
+use Rattle.records.specs.Uppers.{Upper, figure, ess, Uppers, bytes-upper}
+use Rattle.records.specs.Items.{gives, ends}
 use Rattle.records.specs.Sums.{sumOf, sum-append}
-use Rattle.srec_line.specs.Srec.{addressBytes, bodyOf, checksumOf, lineText, dataDigit, endDigit, srecText, srecEnd, isS, numberFrom, countOf, addressOf, dataOf, isSound, agrees, fits, dataLine, endLine, headerLine, typed, srecItem}
+use Rattle.srec_line.specs.Srec.{addressBytes, bodyOf, checksumOf, lineText, dataDigit, endDigit, numberFrom, countOf, isSound, agrees, dataLine, endLine, typed, srecItem}
 
 -- ---- addresses
 
@@ -31,9 +27,9 @@ length-address (suc w) a = ap suc (length-address w a)
 
 pub address-bytes : (w a : ℕ) → Bytes (addressBytes w a)
 unfolding addressBytes
-address-bytes zero a k p = absurd (omega arith)
-address-bytes (suc w) a zero p = omega arith
-address-bytes (suc w) a (suc k) p = address-bytes w a k (omega arith)
+address-bytes zero a k = omega arith
+address-bytes (suc w) a zero = omega arith
+address-bytes (suc w) a (suc k) = address-bytes w a k
 
 address-from : (w a : ℕ) → numberFrom (a / 256 ^ w) (addressBytes w a) ≡ a
 unfolding addressBytes numberFrom
@@ -71,7 +67,7 @@ module _ (t w a : ℕ) (bytes : List ℕ) (good : Bytes bytes) (few : w + length
   whole-bytes =
       bytes-append (bodyOf w a bytes) (checksumOf (bodyOf w a bytes) ∷ [])
       (bytes-cons (w + length bytes + 1) (addressBytes w a ++ bytes) few (bytes-append (addressBytes w a) bytes (address-bytes w a) good))
-      (bytes-cons (checksumOf (bodyOf w a bytes)) [] (omega arith) (λ k p. absurd (omega arith)))
+      (bytes-cons (checksumOf (bodyOf w a bytes)) [] (omega arith) bytes-none)
 
   length-whole : length whole ≡ w + length bytes + 2
   length-whole =
@@ -181,41 +177,28 @@ pub end-back : {w : ℕ} (v : Width w) {state : ℕ} → (state ≡ 0) ⊎ (stat
 unfolding srecItem lineText
 end-back {w} v {state} s =
     let few : w + 0 + 1 < 256 = omega (arith, width-few v) in
-    let good : Bytes [] = λ k p. absurd (omega arith) in
-    rw (line-sound (endDigit w) w 0 [] good few)
-    (typed-end v state (lineOf (endDigit w) w 0 []) ∙ end-own (endDigit w) w 0 [] good few state (agrees-own v s) refl)
+    rw (line-sound (endDigit w) w 0 [] bytes-none few)
+    (typed-end v state (lineOf (endDigit w) w 0 []) ∙ end-own (endDigit w) w 0 [] bytes-none few state (agrees-own v s) refl)
 
 -- ---- its characters
 
--- "upper case": decimal digits and capital letters. No LF and no CR is among them.
-abbrev pub Upper : ℕ → Type 0
-Upper c = ((48 ≤ c) × (c ≤ 57)) ⊎ ((65 ≤ c) × (c ≤ 90))
+digit-data : {w : ℕ} → Width w → Upper (dataDigit w)
+digit-data two = figure {c = 49} (omega arith) (omega arith)
+digit-data four = figure {c = 51} (omega arith) (omega arith)
 
-abbrev pub Uppers : List ℕ → Type 0
-Uppers l = (k : ℕ) → k < length l → Upper (getD l k 0)
+digit-end : {w : ℕ} → Width w → Upper (endDigit w)
+digit-end two = figure {c = 57} (omega arith) (omega arith)
+digit-end four = figure {c = 55} (omega arith) (omega arith)
 
-uppers-cons : (c : ℕ) (l : List ℕ) → Upper c → Uppers l → Uppers (c ∷ l)
-uppers-cons c l h p zero q = h
-uppers-cons c l h p (suc k) q = p k (omega arith)
-
-letter-upper : (n : ℕ) → n < 16 → Upper (letterOf n)
-letter-upper n h =
-    elim (decLt n 10) [
-      | yes p ↦ rw (lt-ltb n 10 p) (inl (omega arith, omega arith))
-      | no p ↦ rw (le-ltb n 10 (omega arith)) (inr (omega arith, omega arith))
-    ]
-
-text-upper : (l : List ℕ) → Bytes l → Uppers (bytesText l)
-unfolding bytesText
-text-upper [] h = λ k p. absurd (omega arith)
-text-upper (b ∷ l) h =
-    let s : b < 256 = h 0 (omega arith) in
-    uppers-cons (letterOf (b / 16)) (letterOf (b % 16) ∷ bytesText l) (letter-upper (b / 16) (omega arith))
-    (uppers-cons (letterOf (b % 16)) (bytesText l) (letter-upper (b % 16) (omega arith)) (text-upper l (λ k p. h (suc k) (omega arith))))
-
--- Every character of a line that is written.
-pub line-upper : (t w a : ℕ) (bytes : List ℕ) → Upper t → Bytes bytes → w + length bytes + 1 < 256 → Uppers (lineText t w a bytes)
+-- "upper case": every character of a line that is written.
+pub data-upper : {w : ℕ} → Width w → (a : ℕ) (bytes : List ℕ) → Bytes bytes → length bytes ≤ 250 → Uppers (lineText (dataDigit w) w a bytes)
 unfolding lineText
-line-upper t w a bytes h good few =
-    uppers-cons 83 (t ∷ bytesText (wholeOf w a bytes)) (inr (omega arith, omega arith))
-    (uppers-cons t (bytesText (wholeOf w a bytes)) h (text-upper (wholeOf w a bytes) (whole-bytes t w a bytes good few)))
+data-upper {w} v a bytes good some =
+    let few : w + length bytes + 1 < 256 = omega (arith, width-few v) in
+    (ess, (digit-data v, bytes-upper (wholeOf w a bytes) (whole-bytes (dataDigit w) w a bytes good few)))
+
+pub end-upper : {w : ℕ} → Width w → Uppers (lineText (endDigit w) w 0 [])
+unfolding lineText
+end-upper {w} v =
+    let few : w + 0 + 1 < 256 = omega (arith, width-few v) in
+    (ess, (digit-end v, bytes-upper (wholeOf w 0 []) (whole-bytes (endDigit w) w 0 [] bytes-none few)))
