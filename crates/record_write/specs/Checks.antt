@@ -4,9 +4,11 @@ use mathlib.Core.Bool.{Bool, true, _&&_}
 use mathlib.Core.List.{List, [], _∷_}
 use Prim.Native.Nat.{ℕ, _+_, _/_}
 use lib.Dec.{leb}
+use lib.ListN.{drop, getD}
 use Rattle.blocks.specs.declared.Block.{Block}
 use Rattle.blocks.specs.Walk.{endOf}
 use Rattle.bitvec.specs.Part.{isPart}
+use Rattle.record_write.specs.Cut.{blocksIn}
 
 -- "a part of an image is empty, outside it, or not on byte edges": no block is.
 unfoldable pub allParts : ℕ → List Block → Bool
@@ -20,6 +22,10 @@ startsBehind end (b ∷ l) = leb end (b .origin)
 
 abbrev pub placed : ℕ → Block → List Block → Bool
 placed load b l = startsBehind (endOf b) l && leb (load + b .origin / 8 + b .size / 8) 4294967296
+
+-- Block i of those that are lent as offsets and sizes ends before the one behind it starts, if there is one.
+abbrev pub endsFree : List ℕ → List ℕ → ℕ → Bool
+endsFree offsets sizes i = startsBehind (getD offsets i 0 + getD sizes i 0) (blocksIn (drop (i + 1) offsets) (drop (i + 1) sizes))
 
 -- So do all blocks.
 unfoldable pub allPlaced : ℕ → List Block → Bool

@@ -1,6 +1,7 @@
 pub mod Bytes
 pub mod Checks
 pub mod Cut
+pub mod Exactly
 pub mod Going
 pub mod Outcome
 pub mod Rising

@@ -9,6 +9,7 @@ use Rattle.refusal.specs.Pick.{pick, determined}
 use Rattle.refusal.specs.Told.{Told, gives, toldRefusal}
 use Rattle.refusal.specs.declared.Refusal.{Refusal}
 use Rattle.refusal.specs.declared.Refusal.the-variants.{Malformed, TooShort, BadPart}
+use Rattle.records.specs.Puts.{Puts}
 use Rattle.record_write.specs.declared.Written.{Written}
 use Rattle.record_write.specs.declared.Written.the-variants.{Length, Refused}
 use Rattle.record_write.specs.Cut.{blocksIn}
@@ -33,6 +34,10 @@ sound i =
 
 abbrev pub text : Input → List ℕ
 text i = textOf (i .format) (i .load) (i .image) (blocksIn (i .offsets) (i .sizes))
+
+-- What a step promises that writes all of it, as far as there is room, and tells its length.
+abbrev pub PutsText : Input → List ℕ → ℕ → List ℕ → Type 0
+PutsText i old count new = Puts (text i) old count new
 
 -- 16, then 4, then 14, whose place is 3 for text.
 abbrev pub answerOf : Input → List ℕ → Written

@@ -5,14 +5,13 @@ ghost use mathlib.Core.Path.{_≡_};
 ghost use mathlib.Core.Bool.{true, _&&_};
 ghost use Prim.Native.Nat.{_+_, _-_, _*_, _/_, _≤_, _<_, min};
 ghost use lib.Dec.{leb, eqb};
-ghost use lib.ListN.{length, take, drop, getD};
+ghost use lib.ListN.{length, take, drop};
 ghost use Rattle.records.specs.Pieces.{piece};
 ghost use Rattle.records.specs.Puts.{Puts};
 ghost use Rattle.record_write.specs.Cut.{pieceLength, blocksIn};
-ghost use Rattle.record_write.specs.Text.{known, textBy, endBy, textOf};
-ghost use Rattle.record_write.specs.Checks.{allParts, startsBehind, placed, allPlaced};
-ghost use Rattle.record_write.specs.Outcome.{input, sound, Writes};
-ghost use Rattle.blocks.specs.Walk.{block};
+ghost use Rattle.record_write.specs.Text.{known, textBy, endBy};
+ghost use Rattle.record_write.specs.Checks.{allParts, endsFree, allPlaced};
+ghost use Rattle.record_write.specs.Outcome.{input, sound, PutsText, Writes};
 ghost use Rattle.bitvec.specs.Part.{isPart};
 ghost use Rattle.record_write.specs.Going.{BlockWritten, Ready};
 
@@ -140,7 +139,7 @@ fn ends_before(offset: u64, size: u64, next: u64) -> bool
 // Whether block i ends before the one behind it starts, if there is one.
 fn ends_free(offsets: &[u64], sizes: &[u64], i: usize) -> bool
     requires { ⌜ (i < length (now offsets)) × (length (now offsets) ≡ length (now sizes)) ⌝ }
-    ensures { λ r. ⌜ r ≡ startsBehind (getD (now (offsets .entry)) i 0 + getD (now (sizes .entry)) i 0) (blocksIn (drop (i + 1) (now (offsets .entry))) (drop (i + 1) (now (sizes .entry)))) ⌝ }
+    ensures { λ r. ⌜ r ≡ endsFree (now (offsets .entry)) (now (sizes .entry)) i ⌝ }
 {
     let next = i + 1;
     if offsets.len() <= next {
@@ -210,7 +209,7 @@ fn write_blocks(
     text: &mut [u8],
 ) -> usize
     requires { ⌜ Ready (now image) (now offsets) (now sizes) load ⌝ }
-    ensures { λ r. ⌜ Puts (textOf format load (now (image .entry)) (blocksIn (now (offsets .entry)) (now (sizes .entry)))) (now (text .entry)) r (now (text .exit)) ⌝ }
+    ensures { λ r. ⌜ PutsText (input format (now (image .entry)) (now (offsets .entry)) (now (sizes .entry)) load) (now (text .entry)) r (now (text .exit)) ⌝ }
 {
     let base = load as u64;
     let mut place = Place { at: 0, state: 0 };
