@@ -15,7 +15,7 @@ use Rattle.records.specs.Spelled.{bytes-none, bytes-cons, bytes-append, digits-
 use Rattle.records.specs.Uppers.{Uppers, colon, bytes-upper}
 use Rattle.records.specs.Items.{gives, passes, ends}
 use Rattle.records.specs.Sums.{sumOf, sum-append}
-use Rattle.ihex_line.specs.Format.{countOf, fieldOf, typeOf, goodLine, byType, hexItem, recordBytes, checkOf, recordText}
+use Rattle.ihex_line.specs.Format.{wordAt, countOf, fieldOf, typeOf, goodLine, byType, hexItem, recordBytes, checkOf, recordText}
 
 zero-sum : (s : ℕ) → (s + (256 - s % 256) % 256) % 256 ≡ 0
 zero-sum s = omega arith
@@ -63,7 +63,7 @@ module _ (type field : ℕ) (bytes : List ℕ) (ht : type < 256) (hf : field < 6
       ap₂ (λ (u v : ℕ). 256 * u + v) (pair-behind (58 ∷ []) whole whole-bytes 1 (omega (arith, long-whole))) (pair-behind (58 ∷ []) whole whole-bytes 2 (omega (arith, long-whole)))
       ∙ omega arith
 
-  type-back : typeOf line ≡ type
+  pub type-back : typeOf line ≡ type
   type-back = pair-behind (58 ∷ []) whole whole-bytes 3 (omega (arith, long-whole))
 
   bytes-back : bytesAt line 9 (countOf line) ≡ bytes
@@ -116,6 +116,13 @@ end-record-says upper =
 pub upper-bytes : (upper : ℕ) → upper < 65536 → Bytes (upper / 256 ∷ upper % 256 ∷ [])
 upper-bytes u h = bytes-cons (u / 256) (u % 256 ∷ []) (omega arith) (bytes-cons (u % 256) [] (omega arith) bytes-none)
 
+pub upper-record-word : (upper : ℕ) → upper < 65536 → wordAt (lineOf 4 0 (upper / 256 ∷ upper % 256 ∷ [])) 9 ≡ upper
+upper-record-word upper h =
+    let two = upper / 256 ∷ upper % 256 ∷ [] in
+    let all = whole-bytes 4 0 two (omega arith) (omega arith) (upper-bytes upper h) (omega arith) in
+    ap₂ (λ (u v : ℕ). 256 * u + v) (pair-behind (58 ∷ []) (wholeOf 4 0 two) all 4 (omega arith)) (pair-behind (58 ∷ []) (wholeOf 4 0 two) all 5 (omega arith))
+    ∙ omega arith
+
 pub upper-record-says : (inForce upper : ℕ) → upper < 65536 → hexItem inForce (lineOf 4 0 (upper / 256 ∷ upper % 256 ∷ [])) ≡ passes upper
 unfolding hexItem byType
 upper-record-says inForce upper h =
@@ -125,7 +132,6 @@ upper-record-says inForce upper h =
     let good = written-record-good 4 0 two (omega arith) (omega arith) small (omega arith) in
     let t = type-back 4 0 two (omega arith) (omega arith) small (omega arith) in
     let n = count-back 4 0 two (omega arith) (omega arith) small (omega arith) in
-    let all = whole-bytes 4 0 two (omega arith) (omega arith) small (omega arith) in
     rw (
       good,
       ne-eqb (typeOf line) 0 (λ e. omega (arith, t)),
@@ -134,5 +140,4 @@ upper-record-says inForce upper h =
       eq-eqb (typeOf line) 4 t,
       eq-eqb (countOf line) 2 n,
     )
-    (ap passes (ap₂ (λ (u v : ℕ). 256 * u + v) (pair-behind (58 ∷ []) (wholeOf 4 0 two) all 4 (omega arith)) (pair-behind (58 ∷ []) (wholeOf 4 0 two) all 5 (omega arith)) ∙ omega
-    arith))
+    (ap passes (upper-record-word upper h))

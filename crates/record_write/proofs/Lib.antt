@@ -1,4 +1,5 @@
 pub mod AllBlocks
 pub mod BlockList
 pub mod BlockTurns
+pub mod Unique
 pub mod Whole

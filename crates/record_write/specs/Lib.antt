@@ -6,4 +6,5 @@ pub mod Going
 pub mod Outcome
 pub mod Rising
 pub mod Said
+pub mod Shape
 pub mod Text

@@ -5,7 +5,7 @@ use mathlib.Core.List.{List, [], _∷_, _++_, append-assoc}
 use mathlib.Core.Logic.{_⊎_, inl, inr}
 use Prim.Native.Nat.{ℕ, zero, suc, _+_, _-_, _*_, _/_, _%_, _^_, _<_, _≤_}
 use native.Mathlib.Omega.{arith}
-use lib.ListN.{length, drop, take, length-append}
+use lib.ListN.{length, drop, take, getD, length-append}
 use native.Mathlib.Nat.{div-one, pow-suc, div-div-eq-div-mul, div-add-mod', div-eq-of-lt}
 use lib.Seq.{take-at, drop-at, take-all}
 use borrow.Author.Tests.{lt-ltb, le-leb, eq-eqb}
@@ -16,7 +16,7 @@ use Rattle.records.specs.Spelled.{bytes-none, digits-written, pair-behind, byte
 use Rattle.records.specs.Uppers.{Upper, figure, ess, Uppers, bytes-upper}
 use Rattle.records.specs.Items.{gives, ends}
 use Rattle.records.specs.Sums.{sumOf, sum-append}
-use Rattle.srec_line.specs.Srec.{addressBytes, bodyOf, checksumOf, lineText, dataDigit, endDigit, numberFrom, countOf, isSound, agrees, dataLine, endLine, typed, srecItem}
+use Rattle.srec_line.specs.Srec.{addressBytes, bodyOf, checksumOf, lineText, dataDigit, endDigit, numberFrom, countOf, addressOf, isSound, agrees, dataLine, endLine, typed, srecItem}
 
 -- ---- addresses
 
@@ -179,6 +179,31 @@ end-back {w} v {state} s =
     let few : w + 0 + 1 < 256 = omega (arith, width-few v) in
     rw (line-sound (endDigit w) w 0 [] bytes-none few)
     (typed-end v state (lineOf (endDigit w) w 0 []) ∙ end-own (endDigit w) w 0 [] bytes-none few state (agrees-own v s) refl)
+
+-- Both are sound by the reader's own rule.
+pub data-sound : {w : ℕ} → Width w → (a : ℕ) (bytes : List ℕ) → Bytes bytes → length bytes ≤ 250 → isSound (lineText (dataDigit w) w a bytes) ≡ true
+unfolding lineText
+data-sound {w} v a bytes good some = line-sound (dataDigit w) w a bytes good (omega (arith, width-few v))
+
+pub end-sound : {w : ℕ} → Width w → isSound (lineText (endDigit w) w 0 []) ≡ true
+unfolding lineText
+end-sound {w} v = line-sound (endDigit w) w 0 [] bytes-none (omega (arith, width-few v))
+
+width-some : {w : ℕ} → Width w → 0 < 256 ^ w
+width-some two = omega arith
+width-some four = omega arith
+
+-- "end address 0"
+pub end-address : {w : ℕ} → Width w → addressOf w (lineText (endDigit w) w 0 []) ≡ 0
+unfolding lineText
+end-address {w} v =
+    let few : w + 0 + 1 < 256 = omega (arith, width-few v) in
+    ap (numberFrom 0) (line-address (endDigit w) w 0 [] bytes-none few) ∙ address-back w 0 (width-some v)
+
+-- A line's type is its second character.
+pub type-digit : (t w a : ℕ) (bytes : List ℕ) → getD (lineText t w a bytes) 1 0 ≡ t
+unfolding lineText
+type-digit t w a bytes = refl
 
 -- ---- its characters
 
