@@ -1,19 +1,20 @@
--- What follows from the promise of `write_ihex`: one outcome; which refusal when; a refusal changes nothing; an accepted call leaves the file at the front and
--- the rest as it was.
-use mathlib.Core.Path.{_≡_, refl, sym, ap, _∙_}
-use mathlib.Core.Bool.{Bool, true, false, _&&_}
+-- What follows from the promise of `write_ihex`: one outcome; each answer exactly when, in order; a refusal changes nothing; an accepted call leaves the file at the
+-- front and the rest as it was.
+use mathlib.Core.Path.{_≡_, sym, _∙_}
+use mathlib.Core.Bool.{Bool}
 use mathlib.Core.List.{List, _++_}
-use Prim.Native.Nat.{ℕ, _+_, _-_, _≤_, _<_}
-use native.Mathlib.Omega.{arith}
-use borrow.Author.Tests.{le-leb, lt-leb, leb-true}
+use mathlib.Core.Logic.{_↔_}
+use Prim.Native.Nat.{ℕ, _≤_, _<_}
+use borrow.Author.Tests.{le-leb, lt-leb, leb-true, leb-false}
 use lib.Dec.{leb}
-use lib.ListN.{length, drop, getD, List·getD-append}
-use lib.Seq.{getD-append-add, getD-drop}
-use Rattle.refusal.specs.Pick.{pick, determined}
-use Rattle.refusal.specs.Told.{Told, gives, refuses}
+use lib.ListN.{length, drop}
+use Rattle.refusal.specs.Bools.{either, clash}
+use Rattle.refusal.specs.Pick.{determined}
+use Rattle.refusal.specs.Told.{gives, refuses}
+use Rattle.refusal.specs.declared.Place.{Place}
 use Rattle.refusal.specs.declared.Place.the-variants.{One}
 use Rattle.record_write.specs.declared.Written.{Written}
-use Rattle.record_write.specs.declared.Written.the-variants.{Length, Refused}
+use Rattle.record_write.specs.Exactly.{AllParts, WellPlaced, parts-exactly, placed-exactly, is-16, is-4, is-14, is-given, unwritten}
 use Rattle.record_write.specs.Outcome.{toldWritten}
 use Rattle.ihex.specs.Writing.{hexOf, partsOk, placesOk, WritesHex}
 
@@ -24,25 +25,69 @@ module _ {image offsets sizes : List ℕ} {load : ℕ} {old : List ℕ} where
   one-writing p q = (determined (p .writes .answer) (q .writes .answer), determined (p .writes .lent) (q .writes .lent))
 
 module _ (image offsets sizes : List ℕ) (load : ℕ) (old : List ℕ) (r : Written) (new : List ℕ) (w : WritesHex image offsets sizes load old r new) where
-  -- 16 exactly when a block is no part of the image, whatever else is wrong; nothing changes.
-  pub told-16-when : partsOk image offsets sizes ≡ false → (toldWritten r ≡ refuses 16 (One 0)) × (new ≡ old)
-  told-16-when p = (w .told ∙ rw p, w .writes .lent ∙ rw p)
+  abbrev file : List ℕ
+  file = hexOf image offsets sizes load
 
-  -- 4 when all are parts and the blocks don't ascend, share a bit or have no address.
-  pub told-4-when : partsOk image offsets sizes ≡ true → placesOk offsets sizes load ≡ false → (toldWritten r ≡ refuses 4 (One 0)) × (new ≡ old)
-  told-4-when p s = (w .told ∙ rw (p, s), w .writes .lent ∙ rw (p, s))
+  abbrev parts : Bool
+  parts = partsOk image offsets sizes
 
-  module _ (p : partsOk image offsets sizes ≡ true) (s : placesOk offsets sizes load ≡ true) where
-    -- 14, place 3, when only room is missing.
-    pub told-14-when : length old < length (hexOf image offsets sizes load) → (toldWritten r ≡ refuses 14 (One 3)) × (new ≡ old)
-    told-14-when h =
-        let f = lt-leb (length (hexOf image offsets sizes load)) (length old) h in
-        (w .told ∙ rw (p, s, f), w .writes .lent ∙ rw (p, s, f))
+  abbrev places : Bool
+  places = placesOk offsets sizes load
 
-    -- Otherwise the file's length, the file at the front, and behind it what was there.
-    pub told-length-when : length (hexOf image offsets sizes load) ≤ length old
-        → (toldWritten r ≡ gives (length (hexOf image offsets sizes load))) ×
-        (new ≡ hexOf image offsets sizes load ++ drop (length (hexOf image offsets sizes load)) old)
-    told-length-when h =
-        let f = le-leb (length (hexOf image offsets sizes load)) (length old) h in
-        (w .told ∙ rw (p, s, f), w .writes .lent ∙ rw (p, s, f))
+  abbrev room : Bool
+  room = leb (length file) (length old)
+
+  -- "Refusals: 16 for a block by document 01's rule": exactly when not every block is a part of the image, whatever else is wrong.
+  pub refused-16-exactly : (toldWritten r ≡ refuses 16 (One 0)) ↔ (AllParts (length image) offsets sizes → ⊥)
+  refused-16-exactly = (
+    λ e p. clash (parts-exactly (length image) offsets sizes .1 p) (is-16 parts places room (length file) (sym (w .told) ∙ e)),
+    λ n. either parts (λ t. absurd (n (parts-exactly (length image) offsets sizes .0 t))) (λ f. w .told ∙ rw f),
+  )
+
+  -- "4 for blocks not ascending or sharing a bit, an address past 2^32 - 1": exactly when all are parts, and that is so.
+  pub refused-4-exactly : (toldWritten r ≡ refuses 4 (One 0)) ↔ (AllParts (length image) offsets sizes × (WellPlaced load offsets sizes → ⊥))
+  refused-4-exactly = (
+    λ e.
+        let q = is-4 parts places room (length file) (sym (w .told) ∙ e) in
+        (parts-exactly (length image) offsets sizes .0 (q .0), λ p. clash (placed-exactly load offsets sizes .1 p) (q .1)),
+    λ h.
+        let p = parts-exactly (length image) offsets sizes .1 (h .0) in
+        either places (λ t. absurd (h .1 (placed-exactly load offsets sizes .0 t))) (λ f. w .told ∙ rw (p, f)),
+  )
+
+  -- "then 14", place 3: exactly when only room is missing.
+  pub refused-14-exactly : (toldWritten r ≡ refuses 14 (One 3))
+      ↔ (AllParts (length image) offsets sizes × WellPlaced load offsets sizes × (length old < length file))
+  refused-14-exactly = (
+    λ e.
+        let q = is-14 parts places room (length file) (sym (w .told) ∙ e) in
+        (parts-exactly (length image) offsets sizes .0 (q .0), placed-exactly load offsets sizes .0 (q .1), leb-false (length file) (length old) (q .2)),
+    λ h.
+        let p = parts-exactly (length image) offsets sizes .1 (h .0) in
+        let s = placed-exactly load offsets sizes .1 (h .1) in
+        w .told ∙ rw (p, s, lt-leb (length file) (length old) (h .2)),
+  )
+
+  -- Otherwise the file's length.
+  pub written-exactly : (toldWritten r ≡ gives (length file))
+      ↔ (AllParts (length image) offsets sizes × WellPlaced load offsets sizes × (length file ≤ length old))
+  written-exactly = (
+    λ e.
+        let q = is-given parts places room (length file) (length file) (sym (w .told) ∙ e) in
+        (parts-exactly (length image) offsets sizes .0 (q .0), placed-exactly load offsets sizes .0 (q .1), leb-true (length file) (length old) (q .2)),
+    λ h.
+        let p = parts-exactly (length image) offsets sizes .1 (h .0) in
+        let s = placed-exactly load offsets sizes .1 (h .1) in
+        w .told ∙ rw (p, s, le-leb (length file) (length old) (h .2)),
+  )
+
+  -- "Each refusal .. changes nothing lent."
+  pub refused-keeps : (k : ℕ) (p : Place) → toldWritten r ≡ refuses k p → new ≡ old
+  refused-keeps k p e =
+      w .writes .lent ∙ unwritten parts places room (length file) k p (file ++ drop (length file) old) old (sym (w .told) ∙ e)
+
+  -- An accepted call leaves the file at the front, and behind it what was there.
+  pub written-leaves : (n : ℕ) → toldWritten r ≡ gives n → (n ≡ length file) × (new ≡ file ++ drop (length file) old)
+  written-leaves n e =
+      let q = is-given parts places room n (length file) (sym (w .told) ∙ e) in
+      (q .3, w .writes .lent ∙ rw (q .0, q .1, q .2))

@@ -1,17 +1,17 @@
 -- Writing Intel HEX: the file of a format, for the format 0, and what a caller is told in document 01's figures.
 use mathlib.Core.Path.{_≡_}
 use mathlib.Core.Bool.{Bool, _&&_}
-use mathlib.Core.List.{List, _++_}
+use mathlib.Core.List.{List}
 use Prim.Native.Nat.{ℕ}
 use lib.Dec.{leb, eqb}
-use lib.ListN.{length, drop}
+use lib.ListN.{length}
 use Rattle.refusal.specs.Pick.{pick}
 use Rattle.refusal.specs.Told.{Told, gives, refuses}
 use Rattle.refusal.specs.declared.Place.the-variants.{One}
 use Rattle.record_write.specs.declared.Written.{Written}
 use Rattle.record_write.specs.Checks.{allParts, allPlaced}
 use Rattle.record_write.specs.Cut.{blocksIn}
-use Rattle.record_write.specs.Outcome.{Input, input, toldWritten, text, Writes}
+use Rattle.record_write.specs.Outcome.{input, toldWritten, text, Writes}
 
 -- The text of an image's blocks from a load address on.
 abbrev pub hexOf : List ℕ → List ℕ → List ℕ → ℕ → List ℕ
