@@ -1,2 +1,4 @@
+pub mod Exactly
+pub mod File
 pub mod Refusals
 pub mod Writing
