@@ -1,17 +1,22 @@
 -- "The first byte of a block goes to a load address from the caller plus offset / 8": byte j of a block stands in a piece at the address j behind that, by the
 -- definition of a file's bytes and addresses that knows no writer (`GivesAt`).
-use mathlib.Core.Path.{_≡_, refl, ap, _∙_}
+use mathlib.Core.Path.{_≡_, refl, sym, ap, _∙_}
+use mathlib.Core.Bool.{true}
 use mathlib.Core.List.{List, [], _∷_, List·Memᴰ, List·Memᴰ·head, List·Memᴰ·tail, List·Memᴰ·cases-cons, List·Memᴰ·not-nil, Memᴰ·append-left, Memᴰ·append-right}
-use mathlib.Core.Logic.{⊎-elim}
+use mathlib.Core.Logic.{⊎-elim, _↔_}
 use Prim.Native.Nat.{ℕ, zero, suc, _+_, _-_, _/_, _≤_, _<_, min}
 use native.Mathlib.Decide.{decLt}
 use native.Mathlib.Nat.{not-suc-le-zero, le-refl}
 use native.Mathlib.Omega.{arith}
 use lib.ListN.{length, take, drop, getD, length-take, length-drop}
 use lib.Seq.{getD-take, getD-drop}
+use Rattle.refusal.specs.Bools.{both}
+use Rattle.bitvec.specs.Part.{isPart, isPart-true}
 use Rattle.blocks.specs.declared.Block.{Block}
 use Rattle.records.specs.Pieces.{Piece, piece, GivesAt}
+use Rattle.record_write.specs.Checks.{allParts}
 use Rattle.record_write.specs.Cut.{pieceLength, cutIn, cut, bytesIn, piecesOf}
+use Rattle.record_write.specs.Shape.{PieceOf, pieces-long}
 
 moved : {l : List Piece} {a c b d : ℕ} → a ≡ c → b ≡ d → GivesAt l a b → GivesAt l c d
 moved e f g =
@@ -74,3 +79,61 @@ image-byte-stands load image blocks b m fits j h =
     length-take (b .size / 8) (drop (b .origin / 8) image) ∙ ap (min (b .size / 8)) (length-drop (b .origin / 8) image) ∙ omega arith in
     moved refl (getD-take (b .size / 8) (drop (b .origin / 8) image) j 0 h ∙ getD-drop (b .origin / 8) image j 0)
     (block-gives load image blocks b m j (omega (arith, long)))
+
+-- "the same bytes at the same addresses": the byte of a block that is written to an address.
+pub record BlockByte (load : ℕ) (image : List ℕ) (blocks : List Block) (a b : ℕ) : Type 0 where
+  pub of : Block
+  pub among : List·Memᴰ of blocks
+  pub index : ℕ
+  pub inside : index < of .size / 8
+  pub place : load + of .origin / 8 + index ≡ a
+  pub byte : getD image (of .origin / 8 + index) 0 ≡ b
+
+-- a byte of a piece is one of the bytes that the piece was cut from
+piece-byte : (start : ℕ) (bytes : List ℕ) (p : Piece) (q : PieceOf start bytes p) (j : ℕ) → j < length (p .bytes)
+    → (q .index + j < length bytes) × (getD (p .bytes) j 0 ≡ getD bytes (q .index + j) 0)
+piece-byte start bytes p q j h =
+    let n = length (p .bytes) in
+    let long : n ≤ length bytes - q .index = omega (arith, q .long) in (
+      omega arith,
+      ap (λ (l : List ℕ). getD l j 0) (q .own) ∙ getD-take n (drop (q .index) bytes) j 0 h ∙ getD-drop (q .index) bytes j 0,
+    )
+
+given-is-block-byte : (load : ℕ) (image : List ℕ) (blocks : List Block) (a b : ℕ) → GivesAt (piecesOf load image blocks) a b → BlockByte load image blocks a b
+given-is-block-byte load image blocks a b g =
+    let from = pieces-long load image blocks (g .from) (g .among) in
+    let d = from .of in
+    let q = from .piece in
+    let (inside, same) = piece-byte (load + d .origin / 8) (bytesIn image d) (g .from) q (g .index) (g .inside) in
+    let short : q .index + g .index < d .size / 8 = omega (arith, length-take (d .size / 8) (drop (d .origin / 8) image)) in
+    record {
+      of = d;
+      among = from .among;
+      index = q .index + g .index;
+      inside = short;
+      place = omega (arith, q .place, g .place);
+      byte = sym (getD-take (d .size / 8) (drop (d .origin / 8) image) (q .index + g .index) 0 short ∙ getD-drop (d .origin / 8) image (q .index + g .index) 0)
+          ∙ sym same ∙ g .byte;
+    }
+
+part-of-all : (len : ℕ) (blocks : List Block) → allParts len blocks ≡ true → (b : Block) → List·Memᴰ b blocks → isPart len (b .origin) (b .size) ≡ true
+unfolding allParts
+part-of-all len [] e b m = absurd (List·Memᴰ·not-nil m)
+part-of-all len (d ∷ l) e b m =
+    let (here, rest) = both (isPart len (d .origin) (d .size)) (allParts len l) e in
+    ⊎-elim (λ s. rw s here) (λ k. part-of-all len l rest b k) (List·Memᴰ·cases-cons m)
+
+-- The pieces give a byte at an address exactly when it is the byte of a block that goes there: nothing is left out, and nothing else is written.
+pub pieces-give-exactly : (load : ℕ) (image : List ℕ) (blocks : List Block) → allParts (length image) blocks ≡ true → (a b : ℕ)
+    → GivesAt (piecesOf load image blocks) a b ↔ BlockByte load image blocks a b
+pieces-give-exactly load image blocks parts a b = (
+  given-is-block-byte load image blocks a b,
+  λ y.
+      let d = y .of in
+      let p = isPart-true (length image) (d .origin) (d .size) (part-of-all (length image) blocks parts d (y .among)) in
+      let starts = p .starts in
+      let ends = p .ends in
+      let inside = p .inside in
+      let fits : d .origin / 8 + d .size / 8 ≤ length image = omega arith in
+      moved (y .place) (y .byte) (image-byte-stands load image blocks d (y .among) fits (y .index) (y .inside)),
+)
