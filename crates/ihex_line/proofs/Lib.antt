@@ -1,2 +1,3 @@
 pub mod LineLaws
 pub mod RecordLaws
+pub mod Unique
