@@ -14,11 +14,14 @@ use Rattle.refusal.specs.Pick.{pick}
 use Rattle.refusal.specs.Told.{Told, gives, refuses}
 use Rattle.refusal.specs.declared.Place.{Place}
 use Rattle.refusal.specs.declared.Place.the-variants.{One}
+use Rattle.refusal.specs.declared.Refusal.the-variants.{Malformed, TooShort, BadPart}
 use Rattle.bitvec.specs.Part.{isPart, IsPart, isPart-true, isPart-when}
 use Rattle.blocks.specs.declared.Block.{Block}
 use Rattle.blocks.specs.Walk.{block, endOf}
 use Rattle.record_write.specs.Checks.{allParts, startsBehind, placed, allPlaced}
 use Rattle.record_write.specs.Cut.{blocksIn}
+use Rattle.record_write.specs.Outcome.{toldWritten}
+use Rattle.record_write.specs.declared.Written.the-variants.{Length, Refused}
 
 -- ---- the tests, block by block
 
@@ -130,6 +133,14 @@ module _ (load : ℕ) where
 
 abbrev pub answers : Bool → Bool → Bool → ℕ → Told ℕ
 answers a b c n = pick a (pick b (pick c (gives n) (refuses 14 (One 3))) (refuses 4 (One 0))) (refuses 16 (One 0))
+
+-- What a call answers, in these figures.
+pub told-answers : (a b c : Bool) (n : ℕ)
+    → toldWritten (pick a (pick b (pick c (Length n) (Refused (TooShort 3))) (Refused (Malformed 0))) (Refused BadPart)) ≡ answers a b c n
+told-answers true true true n = refl
+told-answers true true false n = refl
+told-answers true false c n = refl
+told-answers false b c n = refl
 
 pub is-16 : (a b c : Bool) (n : ℕ) → answers a b c n ≡ refuses 16 (One 0) → a ≡ false
 is-16 true true true n e = let z : _≡_ {A = ℕ} 0 1 = cc in absurd (omega arith)

@@ -1,28 +1,25 @@
 -- The promise of `write_srec` from that of the writing of records; and the blocks one by one.
-use mathlib.Core.Path.{_≡_, refl, sym, ap, subst, _∙_}
+use mathlib.Core.Path.{_≡_, refl, ap, subst, _∙_}
 use mathlib.Core.Bool.{Bool, true, false, _&&_, _||_}
 use mathlib.Core.List.{List, [], _∷_}
-use Prim.Native.Nat.{ℕ, zero, suc, _+_, _/_, _<_, _≤_, min}
+use Prim.Native.Nat.{ℕ, _+_, _/_, _<_, _≤_, min}
 use native.Mathlib.Numerals.{add-one}
 use native.Mathlib.Omega.{arith}
 use native.Mathlib.Decide.{decLt}
 use lib.Dec.{leb, eqb}
 use lib.ListN.{length, drop, getD, drop-of-length-le}
 use lib.Seq.{drop-cons}
-use borrow.Author.Tests.{eq-eqb, ne-eqb}
-use Rattle.refusal.specs.Pick.{pick, pick-true, pick-false}
-use Rattle.refusal.specs.Told.{gives, refuses}
-use Rattle.refusal.specs.declared.Place.the-variants.{One}
-use Rattle.refusal.specs.declared.Refusal.the-variants.{Malformed, TooShort, BadPart}
+use borrow.Author.Tests.{ne-eqb}
+use Rattle.refusal.specs.Pick.{pick}
 use Rattle.blocks.specs.declared.Block.{Block}
 use Rattle.blocks.specs.Walk.{block}
 use Rattle.record_write.specs.declared.Written.{Written}
-use Rattle.record_write.specs.declared.Written.the-variants.{Length, Refused}
 use Rattle.record_write.specs.Checks.{allPlaced}
 use Rattle.record_write.specs.Cut.{blocksIn}
 use Rattle.record_write.specs.Text.{known}
+use Rattle.record_write.specs.Exactly.{told-answers}
 use Rattle.record_write.specs.Outcome.{input, toldWritten, Writes}
-use Rattle.srec.specs.Writing.{allShort, widthOk, formatFor, srecOf, partsOk, placesOk, fitsIn, WritesSrec}
+use Rattle.srec.specs.Writing.{allShort, widthOk, formatFor, srecOf, partsOk, fitsIn, WritesSrec}
 
 -- ---- blocks one by one
 
@@ -91,13 +88,6 @@ and-false : (b : Bool) → (b && false) ≡ false
 and-false true = refl
 and-false false = refl
 
-told : (a b c : Bool) (n : ℕ) → toldWritten (pick a (pick b (pick c (Length n) (Refused (TooShort 3))) (Refused (Malformed 0))) (Refused BadPart))
-    ≡ pick a (pick b (pick c (gives n) (refuses 14 (One 3))) (refuses 4 (One 0))) (refuses 16 (One 0))
-told true true true n = refl
-told true true false n = refl
-told true false c n = refl
-told false b c n = refl
-
 module _ (image offsets sizes : List ℕ) (load width : ℕ) (old : List ℕ) where
   abbrev blocks : List Block
   blocks = blocksIn offsets sizes
@@ -115,13 +105,13 @@ module _ (image offsets sizes : List ℕ) (load width : ℕ) (old : List ℕ) wh
       let placed : Bool = eqb (length offsets) (length sizes) && allPlaced load blocks in
       record {
         answer = w .answer ∙ rw (k, e);
-        told = ap toldWritten (w .answer) ∙ rw (k, e) (told (partsOk image offsets sizes) placed room long);
+        told = ap toldWritten (w .answer) ∙ rw (k, e) (told-answers (partsOk image offsets sizes) placed room long);
         lent = w .lent ∙ rw (k, e);
       }
   by-width false e w =
       record {
         answer = w .answer ∙ rw e;
-        told = ap toldWritten (w .answer) ∙ rw e (told (partsOk image offsets sizes) false room long);
+        told = ap toldWritten (w .answer) ∙ rw e (told-answers (partsOk image offsets sizes) false room long);
         lent = w .lent ∙ rw (e, and-false (partsOk image offsets sizes));
       }
 
