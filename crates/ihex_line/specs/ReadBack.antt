@@ -6,10 +6,10 @@ use mathlib.Core.List.{List, [], _∷_, _++_}
 use Prim.Native.Nat.{ℕ, _+_, _-_, _*_, _/_, _%_, _<_}
 use native.Mathlib.Omega.{arith}
 use borrow.Author.Tests.{eq-eqb, ne-eqb}
-use lib.ListN.{length, length-append}
+use lib.ListN.{length, getD, length-append}
 use lib.Seq.{take-append-seam, take-all}
 use Rattle.bitvec.specs.Bits.{Bytes}
-use Rattle.records.specs.Digits.{bytesText, bytesAt}
+use Rattle.records.specs.Digits.{bytesText, pairAt, bytesAt}
 use Rattle.records.specs.DigitLaws.{length-bytesText, bytesText-append}
 use Rattle.records.specs.Spelled.{bytes-none, bytes-cons, bytes-append, digits-written, pair-behind, bytes-behind}
 use Rattle.records.specs.Uppers.{Uppers, colon, bytes-upper}
@@ -55,16 +55,18 @@ module _ (type field : ℕ) (bytes : List ℕ) (ht : type < 256) (hf : field < 6
   long-whole : length whole ≡ 5 + length bytes
   long-whole = omega (arith, length-append bytes check)
 
+  -- byte k of the record, read back
+  byte-back : (k : ℕ) → k < 5 + length bytes → pairAt line (1 + 2 * k) ≡ getD whole k 0
+  byte-back k h = pair-behind (58 ∷ []) whole whole-bytes k (omega (arith, long-whole))
+
   count-back : countOf line ≡ length bytes
-  count-back = pair-behind (58 ∷ []) whole whole-bytes 0 (omega (arith, long-whole))
+  count-back = byte-back 0 (omega arith)
 
   field-back : fieldOf line ≡ field
-  field-back =
-      ap₂ (λ (u v : ℕ). 256 * u + v) (pair-behind (58 ∷ []) whole whole-bytes 1 (omega (arith, long-whole))) (pair-behind (58 ∷ []) whole whole-bytes 2 (omega (arith, long-whole)))
-      ∙ omega arith
+  field-back = ap₂ (λ (u v : ℕ). 256 * u + v) (byte-back 1 (omega arith)) (byte-back 2 (omega arith)) ∙ omega arith
 
   pub type-back : typeOf line ≡ type
-  type-back = pair-behind (58 ∷ []) whole whole-bytes 3 (omega (arith, long-whole))
+  type-back = byte-back 3 (omega arith)
 
   bytes-back : bytesAt line 9 (countOf line) ≡ bytes
   bytes-back =
@@ -75,7 +77,8 @@ module _ (type field : ℕ) (bytes : List ℕ) (ht : type < 256) (hf : field < 6
   sum-back =
       ap (λ (k : ℕ). sumOf (bytesAt line 1 (5 + k)) % 256) count-back
       ∙ ap (λ (l : List ℕ). sumOf l % 256)
-      (bytes-behind (58 ∷ []) whole whole-bytes 0 (5 + length bytes) (omega (arith, long-whole)) ∙ take-all (5 + length bytes) whole (omega (arith, long-whole)))
+      (bytes-behind (58 ∷ []) whole whole-bytes 0 (5 + length bytes) (omega (arith, long-whole))
+      ∙ take-all (5 + length bytes) whole (omega (arith, long-whole)))
       ∙ ap (λ (k : ℕ). k % 256) (omega (arith, sum-append bytes check)) ∙ zero-sum (sumOf (recordBytes type field bytes))
 
   -- "every record written is good by the reader's own rule"
@@ -119,9 +122,8 @@ upper-bytes u h = bytes-cons (u / 256) (u % 256 ∷ []) (omega arith) (bytes-con
 pub upper-record-word : (upper : ℕ) → upper < 65536 → wordAt (lineOf 4 0 (upper / 256 ∷ upper % 256 ∷ [])) 9 ≡ upper
 upper-record-word upper h =
     let two = upper / 256 ∷ upper % 256 ∷ [] in
-    let all = whole-bytes 4 0 two (omega arith) (omega arith) (upper-bytes upper h) (omega arith) in
-    ap₂ (λ (u v : ℕ). 256 * u + v) (pair-behind (58 ∷ []) (wholeOf 4 0 two) all 4 (omega arith)) (pair-behind (58 ∷ []) (wholeOf 4 0 two) all 5 (omega arith))
-    ∙ omega arith
+    let back = byte-back 4 0 two (omega arith) (omega arith) (upper-bytes upper h) (omega arith) in
+    ap₂ (λ (u v : ℕ). 256 * u + v) (back 4 (omega arith)) (back 5 (omega arith)) ∙ omega arith
 
 pub upper-record-says : (inForce upper : ℕ) → upper < 65536 → hexItem inForce (lineOf 4 0 (upper / 256 ∷ upper % 256 ∷ [])) ≡ passes upper
 unfolding hexItem byType

@@ -67,7 +67,8 @@ module _ (load : ℕ) where
       let (next, low) = both (startsBehind (endOf b) l) (leb (load + b .origin / 8 + b .size / 8) 4294967296) here in
       (next, low, rest)
 
-  placed-low : (os ss : List ℕ) → length os ≡ length ss → allPlaced load (blocksIn os ss) ≡ true → (k : ℕ) → k < length os → behindLast load os ss k ≤ 4294967296
+  placed-low : (os ss : List ℕ) → length os ≡ length ss → allPlaced load (blocksIn os ss) ≡ true → (k : ℕ) → k < length os
+      → behindLast load os ss k ≤ 4294967296
   unfolding blocksIn
   placed-low [] ss n e k h = absurd (not-suc-le-zero h)
   placed-low (o ∷ os) [] n e k h = absurd (suc-ne-zero (length os) n)

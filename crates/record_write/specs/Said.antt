@@ -126,7 +126,8 @@ module _ (load : ℕ) (image : List ℕ) (blocks : List Block) (good : Bytes ima
   -- The lines that a reader cuts the text into are those that were written.
   pub hex-lines-cut : linesOf (textOf 0 load image blocks) ≡ hexLines 0 (piecesOf load image blocks)
   hex-lines-cut =
-      ap linesOf (hex-text-lines 0 pieces) ∙ lines-of-ended (hexLines 0 pieces) (hex-lines-upper load 0 pieces (pieces-rise load image blocks good parts places))
+      let rises = pieces-rise load image blocks good parts places in
+      ap linesOf (hex-text-lines 0 pieces) ∙ lines-of-ended (hexLines 0 pieces) (hex-lines-upper load 0 pieces rises)
 
   -- They say the pieces in their order, and then that the file ends; type 04 records pass.
   pub hex-tells : Tells hexItem 0 (linesOf (textOf 0 load image blocks)) (piecesOf load image blocks)

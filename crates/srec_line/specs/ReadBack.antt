@@ -16,7 +16,8 @@ use Rattle.records.specs.Spelled.{bytes-none, digits-written, pair-behind, byte
 use Rattle.records.specs.Uppers.{Upper, figure, ess, Uppers, bytes-upper}
 use Rattle.records.specs.Items.{gives, ends}
 use Rattle.records.specs.Sums.{sumOf, sum-append}
-use Rattle.srec_line.specs.Srec.{addressBytes, bodyOf, checksumOf, lineText, dataDigit, endDigit, numberFrom, countOf, addressOf, isSound, agrees, dataLine, endLine, typed, srecItem}
+use Rattle.srec_line.specs.Srec.{addressBytes, bodyOf, checksumOf, lineText, dataDigit, endDigit}
+use Rattle.srec_line.specs.Srec.{numberFrom, countOf, addressOf, isSound, agrees, dataLine, endLine, typed, srecItem}
 
 -- ---- addresses
 

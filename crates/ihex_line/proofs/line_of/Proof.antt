@@ -3,7 +3,8 @@ use mathlib.Core.Path.{sym, ap, _∙_}
 use Prim.Native.Nat.{ℕ, _+_, _*_}
 use native.Mathlib.Omega.{arith}
 use borrow.Author.Tests.{not-true, not-false}
-use Rattle.ihex_line.proofs.LineLaws.{bad-line, data-line, field-bad, end-line, end-bad, upper-line, upper-bad, other-bad, good-long, says-bad, says-end, says-pass, says-data}
+use Rattle.ihex_line.proofs.LineLaws.{bad-line, data-line, field-bad, end-line, end-bad, upper-line, upper-bad, other-bad}
+use Rattle.ihex_line.proofs.LineLaws.{good-long, says-bad, says-end, says-pass, says-data}
 use borrow.Author.Needs.{needs}
 use Rattle.ihex_line.proofs.line_of.Statement.{statement}
 use Rattle.ihex_line.proofs.line_of.Tie as tie
