@@ -137,3 +137,37 @@ pieces-give-exactly load image blocks parts a b = (
       let fits : d .origin / 8 + d .size / 8 ≤ length image = omega arith in
       moved (y .place) (y .byte) (image-byte-stands load image blocks d (y .among) fits (y .index) (y .inside)),
 )
+
+-- The same by addresses: a block has a byte at an address,
+pub record Covers (load : ℕ) (blocks : List Block) (a : ℕ) : Type 0 where
+  pub of : Block
+  pub among : List·Memᴰ of blocks
+  pub above : load + of .origin / 8 ≤ a
+  pub below : a < load + of .origin / 8 + of .size / 8
+
+-- and it is the image's, counted from the load address.
+pub pieces-give-image : (load : ℕ) (image : List ℕ) (blocks : List Block) → allParts (length image) blocks ≡ true → (a b : ℕ)
+    → GivesAt (piecesOf load image blocks) a b ↔ (Covers load blocks a × (getD image (a - load) 0 ≡ b))
+pieces-give-image load image blocks parts a b = (
+  λ g.
+      let y = pieces-give-exactly load image blocks parts a b .0 g in
+      let place = y .place in
+      let inside = y .inside in
+      let index : a - load ≡ y .of .origin / 8 + y .index = omega arith in
+      (record { of = y .of; among = y .among; above = omega arith; below = omega arith }, ap (λ (i : ℕ). getD image i 0) index ∙ y .byte),
+  λ h.
+      let c = h .0 in
+      let above = c .above in
+      let below = c .below in
+      let i = a - (load + c .of .origin / 8) in
+      let index : c .of .origin / 8 + i ≡ a - load = omega arith in
+      pieces-give-exactly load image blocks parts a b .1
+      (record {
+        of = c .of;
+        among = c .among;
+        index = i;
+        inside = omega arith;
+        place = omega arith;
+        byte = ap (λ (k : ℕ). getD image k 0) index ∙ h .1;
+      }),
+)
