@@ -19,6 +19,7 @@ use Rattle.record_read.specs.Reading.{formatBy, Read, sound, faulty, lat
 use Rattle.record_read.specs.Trail.{Trail, trail, lineAt, itemAt, nextOf}
 use Rattle.ihex_line.specs.Format.{hexItem}
 use Rattle.srec_line.specs.Srec.{srecItem, firstOf}
+use Rattle.record_read.specs.TrailLaws.{high-append}
 use Rattle.record_read.specs.Steps.{firstBy, leavesOf, admits, highest, highAfter, admitBy, closingOf, Scanned, ScanIs}
 use Rattle.record_read.specs.declared.Admit.the-variants.{No, High}
 use Rattle.record_read.specs.declared.Scan.the-variants.{Whole, Broken}
@@ -95,15 +96,6 @@ module _ (format : ℕ) {l : List ℕ} {s : ℕ} {r : Line} where
 
 -- ---- a line that was read
 
-says-state′ : (s f : ℕ) (i : Item) → (asLine s f i) .state ≡ stateAfter s i
-says-state′ s f (gives a l t) = refl
-says-state′ s f (passes t) = refl
-says-state′ s f ends = refl
-says-state′ s f bad = refl
-
-pub says-state : {l : List ℕ} {s f : ℕ} {r : Line} {i : Item} → Says l s f r i → r .state ≡ stateAfter s i
-says-state {l} {s} {f} {r} {i} p = ap (λ (x : Line). x .state) (p .answer) ∙ says-state′ s f i
-
 and-true : (b : Bool) → b && true ≡ b
 and-true true = refl
 and-true false = refl
@@ -135,11 +127,6 @@ pub new-above : (l : List Piece) (first end : ℕ) → highest l ≤ first → i
 unfolding isNew highest
 new-above [] first end h = refl
 new-above (p ∷ l) first end h = rw (le-leb (endOf p) first (omega arith)) (new-above l first end (omega arith))
-
-high-append : (a b : List Piece) → highest (a ++ b) ≡ max (highest a) (highest b)
-unfolding highest
-high-append [] b = omega arith
-high-append (p ∷ a) b = ap (max (endOf p)) (high-append a b) ∙ omega arith
 
 high-new′ : (s f high : ℕ) (i : Item) → highAfter (asLine s f i) high ≡ max high (highest (newPieces i))
 unfolding highest

@@ -19,37 +19,14 @@ use Rattle.record_read.specs.Outcome.{faultOf}
 use Rattle.record_read.specs.declared.Fault.the-variants.{Good, At}
 use Rattle.record_read.specs.Reading.{formatBy, Read, sound, faulty, later, newPieces, stateAfter, isNew, isNone, goOn, readFrom, readText}
 use Rattle.record_read.specs.Trail.{Trail, trail, lineAt, itemAt, nextOf}
-use Rattle.record_read.specs.Steps.{firstBy, Stepped, leavesOf, admits, highest, highAfter, admitOf, closingOf, Scanned, ScanIs}
+use Rattle.record_read.specs.TrailLaws.{said, moved, next-at, next-state, next-given}
+use Rattle.record_read.specs.Steps.{firstBy, Stepped, leavesOf, admits, highest, rises, highAfter, admitOf, closingOf, Scanned, ScanIs}
 use Rattle.record_read.specs.declared.Step.{Step}
 use Rattle.record_read.specs.declared.Admit.{Admit}
 use Rattle.record_read.specs.declared.Admit.the-variants.{No, High}
 use Rattle.record_read.specs.declared.Scan.{Scan}
 use Rattle.record_read.specs.declared.Scan.the-variants.{Whole, Broken}
-use Rattle.record_read.proofs.Laws.{lines-at, lines-past, says-state, leaves-new, new-append, high-new, on′, off′, end′, laters, laters-faulty, laters-sound}
-
--- one line more of the trail
-module _ (format : ℕ) (text : List ℕ) (k : ℕ) (r : Step) where
-  abbrev here : Trail
-  here = trail format text k
-
-  abbrev said : Item
-  said = itemAt format text (here .at) (here .state)
-
-  moved : (at state : ℕ) → at ≡ here .at → state ≡ here .state → Stepped format text at state r → Stepped format text (here .at) (here .state) r
-  moved at state p q s = subst (λ (y : ℕ). Stepped format text (here .at) y r) q (subst (λ (x : ℕ). Stepped format text x state r) p s)
-
-  module _ (s : Stepped format text (here .at) (here .state) r) where
-    next-at : r .next ≡ trail format text (k + 1) .at
-    unfolding trail
-    next-at = s .next ∙ ap (λ (n : ℕ). trail format text n .at) (sym (add-one k))
-
-    next-state : r .line .state ≡ trail format text (k + 1) .state
-    unfolding trail
-    next-state = says-state (s .says) ∙ ap (λ (n : ℕ). trail format text n .state) (sym (add-one k))
-
-  next-given : here .given ++ newPieces said ≡ trail format text (k + 1) .given
-  unfolding trail
-  next-given = ap (λ (n : ℕ). trail format text n .given) (sym (add-one k))
+use Rattle.record_read.proofs.Laws.{lines-at, lines-past, leaves-new, new-append, high-new, on′, off′, end′, laters, laters-faulty, laters-sound}
 
 -- ---- whether bytes are new
 
@@ -92,12 +69,14 @@ abbrev reading : ℕ → ℕ → List ℕ → ℕ → Read
 reading format load text n =
     laters n (readFrom (formatBy format) load (linesOf (drop (trail format text n .at) text)) (trail format text n .state) (trail format text n .given))
 
-pub record Scanning (format load : ℕ) (text : List ℕ) (at state high n : ℕ) : Type 0 where
+pub record Scanning (format load : ℕ) (text : List ℕ) (at state high : ℕ) (ascend : Bool) (n : ℕ) : Type 0 where
   pub few : n ≤ at
   pub inside : at ≤ length text
   pub place : at ≡ trail format text n .at
   pub force : state ≡ trail format text n .state
   pub top : high ≡ highest (trail format text n .given)
+  pub order : ascend ≡ rises format text n
+  pub left : n + length (linesOf (drop at text)) ≡ length (linesOf text)
   pub reads : readText format load text ≡ reading format load text n
 
 read-step : (f : Format) (load : ℕ) (text : List ℕ) (at state : ℕ) (given : List Piece) → at < length text
@@ -115,11 +94,11 @@ no-of true x e = let z : _≡_ {A = ℕ} 0 1 = cc in absurd (omega arith)
 no-of false x e = refl
 
 module _ (format load : ℕ) (text : List ℕ) where
-  pub scanning-starts : Scanning format load text 0 0 0 0
-  unfolding trail laters highest
-  scanning-starts = record { few = omega arith; inside = omega arith; place = refl; force = refl; top = refl; reads = refl }
+  pub scanning-starts : Scanning format load text 0 0 0 true 0
+  unfolding trail laters highest rises
+  scanning-starts = record { few = omega arith; inside = omega arith; place = refl; force = refl; top = refl; order = refl; left = omega arith; reads = refl }
 
-  module _ {at state high n : ℕ} (w : Scanning format load text at state high n) where
+  module _ {at state high : ℕ} {ascend : Bool} {n : ℕ} (w : Scanning format load text at state high ascend n) where
     abbrev now : Trail
     now = trail format text n
 
@@ -142,9 +121,18 @@ module _ (format load : ℕ) (text : List ℕ) where
       abbrev first : ℕ
       first = firstBy format (lineAt text (now .at))
 
-      pub scanning-on : (top : ℕ) → admitOf load (now .given) (r .line) high ≡ High top → Scanning format load text (r .next) (r .line .state) top (n + 1)
+      -- whether records ascend, this line's too
+      still : {found up : Bool} → found ≡ leavesOf (r .line) 0 high → up ≡ (ascend && found) → up ≡ rises format text (n + 1)
+      unfolding rises
+      still {found} {up} f u =
+          u ∙ ap (λ (x : Bool). x && found) (w .order)
+          ∙ ap (λ (x : Bool). rises format text n && x) (f ∙ leaves-new 0 high (stepped .says) ∙ ap (isNew (newPieces item) 0) (w .top))
+          ∙ ap (rises format text) (sym (add-one n))
+
+      pub scanning-on : (top : ℕ) → admitOf load (now .given) (r .line) high ≡ High top → {found up : Bool} → found ≡ leavesOf (r .line) 0 high
+          → up ≡ (ascend && found) → Scanning format load text (r .next) (r .line .state) top up (n + 1)
       unfolding laters trail
-      scanning-on top e =
+      scanning-on top e f u =
           let both = high-of (admits load (now .given) (r .line)) (highAfter (r .line) high) top e in
           let allowed : admits load (now .given) (asLine (now .state) first item) ≡ true = ap (admits load (now .given)) (sym (stepped .says .answer))
           ∙ both .0 in
@@ -157,6 +145,9 @@ module _ (format load : ℕ) (text : List ℕ) where
             place = next-at format text n r stepped;
             force = next-state format text n r stepped;
             top = sym (both .1) ∙ high-new (now .given) high (stepped .says) (w .top) ∙ ap highest (next-given format text n r);
+            order = still f u;
+            left =
+                omega (arith, w .left, ap length (lines-at text at h), ap (λ (x : ℕ). length (linesOf (drop x text))) (s .next));
             reads = ahead ∙ ap (reading format load text) (sym (add-one n));
           }
 
@@ -175,17 +166,17 @@ module _ (format load : ℕ) (text : List ℕ) where
           (end′ load (now .state) first (now .given) (isNone behind) (readFrom (formatBy format) load behind) item
           (ap (λ (x : Line). x .kind) (sym (stepped .says .answer)) ∙ k))
 
-      pub scanning-closes : r .line .kind ≡ 3 → ScanIs format load text (closingOf n high (r .next) (length text))
+      pub scanning-closes : r .line .kind ≡ 3 → ScanIs format load text (closingOf n high ascend (r .next) (length text))
       scanning-closes k =
           elim (decLt (r .next) (length text)) [
             | yes p ↦
-                subst (ScanIs format load text) (sym (pick-true (Broken (n + 1)) (Whole n high) (lt-ltb (r .next) (length text) p)))
+                subst (ScanIs format load text) (sym (pick-true (Broken (n + 1)) (Whole n high ascend) (lt-ltb (r .next) (length text) p)))
                 (closed k
                 ∙ ap (λ (ls : List (List ℕ)). laters n (pick (isNone ls) (sound (now .given)) (faulty 1)))
                 (lines-at text (nextOf text (now .at)) (subst (λ (x : ℕ). x < length text) (stepped .next) p))
                 ∙ laters-faulty n 1)
             | no p ↦
-                subst (ScanIs format load text) (sym (pick-false (Broken (n + 1)) (Whole n high) (le-ltb (r .next) (length text) (omega arith))))
+                subst (ScanIs format load text) (sym (pick-false (Broken (n + 1)) (Whole n high ascend) (le-ltb (r .next) (length text) (omega arith))))
                 (record {
                   reads =
                       closed k
@@ -193,6 +184,10 @@ module _ (format load : ℕ) (text : List ℕ) where
                       (lines-past text (nextOf text (now .at)) (subst (λ (x : ℕ). length text ≤ x) (stepped .next) (omega arith)))
                       ∙ laters-sound n (now .given);
                   top = w .top;
+                  order = w .order;
+                  all =
+                      omega
+                      (arith, w .left, ap length (lines-at text at h), ap length (lines-past text (nextOf text at) (omega (arith, p, s .next))));
                 })
           ]
 
@@ -207,8 +202,8 @@ module _ (format load : ℕ) (text : List ℕ) where
 -- ---- what is answered
 
 module _ (format load : ℕ) (text : List ℕ) (r : Scan) (p : ScanIs format load text r) where
-  pub fault-none : (lines high : ℕ) → r ≡ Whole lines high → Good ≡ faultOf (readText format load text)
-  fault-none lines high e = let w : Scanned format load text lines high = subst (ScanIs format load text) e p in sym (ap faultOf (w .reads))
+  pub fault-none : (lines high : ℕ) (ascend : Bool) → r ≡ Whole lines high ascend → Good ≡ faultOf (readText format load text)
+  fault-none lines high ascend e = let w : Scanned format load text lines high ascend = subst (ScanIs format load text) e p in sym (ap faultOf (w .reads))
 
   pub fault-some : (line : ℕ) → r ≡ Broken line → At line ≡ faultOf (readText format load text)
   fault-some line e = let w : readText format load text ≡ faulty line = subst (ScanIs format load text) e p in sym (ap faultOf w)

@@ -3,3 +3,4 @@ pub mod Reading
 pub mod Sound
 pub mod Steps
 pub mod Trail
+pub mod TrailLaws

@@ -1,16 +1,17 @@
--- What the private steps of reading owe each other.
+-- What the steps of reading owe each other.
 use mathlib.Core.Path.{_≡_}
 use mathlib.Core.Bool.{Bool, true, false, _&&_, _||_}
 use mathlib.Core.List.{List, [], _∷_}
-use Prim.Native.Nat.{ℕ, _+_, _<_, _≤_, max}
+use Prim.Native.Nat.{ℕ, zero, suc, _+_, _-_, _<_, _≤_, max}
 use lib.Dec.{ltb, leb, eqb}
-use lib.ListN.{length}
+use lib.ListN.{length, take, drop}
 use Rattle.refusal.specs.Pick.{pick}
 use Rattle.records.specs.Items.{Says}
+use Rattle.records.specs.Lines.{linesOf}
 use Rattle.records.specs.Pieces.{Piece, endOf}
 use Rattle.records.specs.declared.Line.{Line}
 use Rattle.srec_line.specs.Srec.{firstOf}
-use Rattle.record_read.specs.Reading.{Read, sound, faulty, isNew, readText}
+use Rattle.record_read.specs.Reading.{Read, sound, faulty, newPieces, isNew, readText}
 use Rattle.record_read.specs.Trail.{Trail, trail, lineAt, itemAt, nextOf}
 use Rattle.record_read.specs.declared.Step.{Step}
 use Rattle.record_read.specs.declared.Admit.{Admit}
@@ -25,6 +26,10 @@ firstBy format line = pick (eqb format 0) 9 (firstOf line)
 -- One line.
 pub record Stepped (format : ℕ) (text : List ℕ) (at state : ℕ) (r : Step) : Type 0 where
   pub says : Says (lineAt text at) state (firstBy format (lineAt text at)) (r .line) (itemAt format text at state)
+  pub stop : r .stop ≡ at + length (lineAt text at)
+  pub start : at ≤ r .stop
+  pub within : r .stop ≤ length text
+  pub part : take (r .stop - at) (drop at text) ≡ lineAt text at
   pub next : r .next ≡ nextOf text at
   pub inside : r .next ≤ length text
   pub onward : at < length text → at < r .next
@@ -64,15 +69,24 @@ admitBy load given kind address count high = pick (admitsBy load given kind addr
 abbrev pub admitOf : ℕ → List Piece → Line → ℕ → Admit
 admitOf load given r high = admitBy load given (r .kind) (r .address) (r .count) high
 
+-- Records ascend: every byte of a line lies at or above the highest end of those given before it.
+unfoldable pub rises : ℕ → List ℕ → ℕ → Bool
+rises format text zero = true
+rises format text (suc n) =
+    let t = trail format text n in
+    rises format text n && isNew (newPieces (itemAt format text (t .at) (t .state))) 0 (highest (t .given))
+
 -- The end record, with `next` the place behind it.
-abbrev pub closingOf : ℕ → ℕ → ℕ → ℕ → Scan
-closingOf n high next len = pick (ltb next len) (Broken (n + 1)) (Whole n high)
+abbrev pub closingOf : ℕ → ℕ → Bool → ℕ → ℕ → Scan
+closingOf n high ascend next len = pick (ltb next len) (Broken (n + 1)) (Whole n high ascend)
 
 -- All lines up to the end record.
-pub record Scanned (format load : ℕ) (text : List ℕ) (lines high : ℕ) : Type 0 where
+pub record Scanned (format load : ℕ) (text : List ℕ) (lines high : ℕ) (ascend : Bool) : Type 0 where
   pub reads : readText format load text ≡ sound (trail format text lines .given)
   pub top : high ≡ highest (trail format text lines .given)
+  pub order : ascend ≡ rises format text lines
+  pub all : suc lines ≡ length (linesOf text)
 
 abbrev pub ScanIs : ℕ → ℕ → List ℕ → Scan → Type 0
-ScanIs format load text (Whole lines high) = Scanned format load text lines high
+ScanIs format load text (Whole lines high ascend) = Scanned format load text lines high ascend
 ScanIs format load text (Broken line) = readText format load text ≡ faulty line

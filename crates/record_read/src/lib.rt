@@ -7,12 +7,13 @@ ghost use lib.ListN.{length};
 ghost use Rattle.records.specs.Items.{Says};
 ghost use Rattle.record_read.specs.Reading.{formatBy, isNew, readText};
 ghost use Rattle.record_read.specs.Trail.{trail};
-ghost use Rattle.record_read.specs.Steps.{firstBy, Stepped, leavesBy, highest, admitBy, closingOf, ScanIs};
+ghost use Rattle.record_read.specs.Steps.{firstBy, Stepped, leavesBy, highest, rises, admitBy, closingOf, ScanIs};
 ghost use Rattle.record_read.specs.Outcome.{faultOf};
 
-// A line that was read, and where the next one begins.
+// A line that was read, where its characters end, and where the next one begins.
 pub struct Step {
     pub line: Line,
+    pub stop: usize,
     pub next: usize,
 }
 
@@ -22,9 +23,9 @@ pub enum Admit {
     High(u64),
 }
 
-// How many lines stand before the end record of a sound file, with the highest end of its bytes; or the line at fault.
+// How many lines stand before the end record of a sound file, the highest end of its bytes, and whether its records ascend; or the line at fault.
 pub enum Scan {
-    Whole(usize, u64),
+    Whole(usize, u64, bool),
     Broken(usize),
 }
 
@@ -45,7 +46,7 @@ fn line_in(format: u8, line: &[u8], state: u16) -> Line
 }
 
 // The line that begins at a place.
-fn take_line(format: u8, text: &[u8], at: usize, state: u16) -> Step
+pub fn take_line(format: u8, text: &[u8], at: usize, state: u16) -> Step
     requires { ⌜ at ≤ length (now text) ⌝ }
     ensures { λ r. ⌜ Stepped format (now (text .entry)) at state r ⌝ }
 {
@@ -54,6 +55,7 @@ fn take_line(format: u8, text: &[u8], at: usize, state: u16) -> Step
     let line = line_in(format, &text[at..stop], state);
     Step {
         line,
+        stop,
         next: cut.next,
     }
 }
@@ -158,29 +160,30 @@ fn may_stand(
 }
 
 // The end record: nothing stands behind it.
-fn closing(n: usize, high: u64, next: usize, len: usize) -> Scan
+fn closing(n: usize, high: u64, ascend: bool, next: usize, len: usize) -> Scan
     requires { ⌜ n < len ⌝ }
-    ensures { λ r. ⌜ r ≡ closingOf n high next len ⌝ }
+    ensures { λ r. ⌜ r ≡ closingOf n high ascend next len ⌝ }
 {
     if next < len {
         return Scan::Broken(n + 1);
     }
-    Scan::Whole(n, high)
+    Scan::Whole(n, high, ascend)
 }
 
 // Reads the lines up to the end record, or to the first at fault.
-fn scan_lines(format: u8, text: &[u8], load: u32) -> Scan
+pub fn scan_lines(format: u8, text: &[u8], load: u32) -> Scan
     ensures { λ r. ⌜ ScanIs format load (now (text .entry)) r ⌝ }
 {
     let mut at = 0usize;
     let mut state = 0u16;
     let mut high = 0u64;
+    let mut ascend = true;
     let mut n = 0usize;
     while at < text.len() {
         let s = take_line(format, text, at, state);
         let line = s.line;
         if line.kind == records::END {
-            return closing(n, high, s.next, text.len());
+            return closing(n, high, ascend, s.next, text.len());
         }
         let Admit::High(h) = may_stand(
             format,
@@ -194,6 +197,8 @@ fn scan_lines(format: u8, text: &[u8], load: u32) -> Scan
         ) else {
             return Scan::Broken(n);
         };
+        // all of its bytes lie at or above the highest end
+        ascend = both(ascend, leaves(line.kind, line.address, line.count, 0, high));
         high = h;
         at = s.next;
         state = line.state;
@@ -207,7 +212,7 @@ pub fn line_at_fault(format: u8, text: &[u8], load: u32) -> Fault
     ensures { λ r. ⌜ r ≡ faultOf (readText format load (now (text .entry))) ⌝ }
 {
     match scan_lines(format, text, load) {
-        Scan::Whole(_, _) => Fault::Good,
+        Scan::Whole(_, _, _) => Fault::Good,
         Scan::Broken(line) => Fault::At(line as u64),
     }
 }

@@ -9,10 +9,10 @@ use Rattle.record_read.proofs.scan_lines.Statement.{statement}
 use Rattle.record_read.proofs.scan_lines.Tie as tie
 
 abbrev Inv-loop : tie.InvT-loop
-Inv-loop format text load at₀ state₀ high₀ n₀ at state high n = Scanning format load text at state high n
+Inv-loop format text load at₀ state₀ high₀ ascend₀ n₀ at state high ascend n = Scanning format load text at state high ascend n
 
 abbrev μ-loop : tie.MeasureT-loop
-μ-loop format text load at₀ state₀ high₀ n₀ at state high n = length text - at
+μ-loop format text load at₀ state₀ high₀ ascend₀ n₀ at state high ascend n = length text - at
 
 loop-holds : tie.Need-loop-holds Inv-loop μ-loop
 loop-holds c = let a = c .before .args in scanning-starts (a .format) (a .load) (a .text .now)
@@ -51,22 +51,29 @@ returns-2 c =
     scanning-off (a .format) (a .load) (a .text .now) (l .loop .inv) (t .before .loop-test .taken) (t .take-line .ensures)
     (sym (m .may-stand .ensures) ∙ c .enum-told .given .1) (m .before .if1 .left)
 
+leaves-requires : tie.Need-leaves-requires Inv-loop μ-loop
+leaves-requires c κs = search needs
+
+both-requires : tie.Need-both-requires Inv-loop μ-loop
+both-requires c κs = search needs
+
 add-n : tie.Need-add-n Inv-loop μ-loop
 add-n c = search needs
 
 loop-less : tie.Need-loop-less Inv-loop μ-loop
 loop-less c =
-    let t = c .before .before .before .before .before .before .before in
+    let t = c .before .before .before .before .before .before .before .before .before in
     omega (arith, t .take-line .ensures .onward (t .before .loop-test .taken), t .take-line .ensures .inside)
 
 loop-again : tie.Need-loop-again Inv-loop μ-loop
 loop-again c =
-    let m = c .before .before .before in
+    let h = c .before .before .before in
+    let m = h .before .before in
     let t = m .before .before .before .before in
     let l = t .before .before in
     let a = l .before .before .args in
-    scanning-on (a .format) (a .load) (a .text .now) (l .loop .inv) (t .before .loop-test .taken) (t .take-line .ensures) (c .before .h .given .0 .0)
-    (sym (m .may-stand .ensures) ∙ c .before .h .given .1)
+    scanning-on (a .format) (a .load) (a .text .now) (l .loop .inv) (t .before .loop-test .taken) (t .take-line .ensures) (h .h .given .0 .0)
+    (sym (m .may-stand .ensures) ∙ h .h .given .1) (c .before .leaves .ensures) (c .both .ensures)
 
 returns-3 : tie.Need-returns-3 Inv-loop μ-loop
 returns-3 c =
@@ -88,6 +95,8 @@ scan-lines-spec =
     enum-known-h
     enum-told
     returns-2
+    leaves-requires
+    both-requires
     add-n
     loop-less
     loop-again

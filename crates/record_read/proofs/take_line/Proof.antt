@@ -7,6 +7,7 @@ use Rattle.record_read.specs.Reading.{formatBy}
 use Rattle.record_read.specs.Steps.{firstBy}
 use Rattle.record_read.proofs.Laws.{stop-inside, next-inside, next-onward, line-part}
 use borrow.Author.Needs.{needs}
+use native.Mathlib.Omega.{arith}
 use Rattle.record_read.proofs.take_line.Statement.{statement}
 use Rattle.record_read.proofs.take_line.Tie as tie
 
@@ -37,6 +38,10 @@ returns c =
       says =
           subst (λ (l : List ℕ). Says l (a .state) (firstBy (a .format) l) (c .line-in .result) (formatBy (a .format) (a .state) l))
           (line-part t (a .at) (c .before .before .line-from .result .stop) (cut .stop)) (c .line-in .ensures);
+      start = omega (arith, cut .stop);
+      stop = cut .stop;
+      within = rw (cut .stop) (stop-inside t (a .at) (s .pre));
+      part = line-part t (a .at) (c .before .before .line-from .result .stop) (cut .stop);
       next = cut .next;
       inside = rw (cut .next) (next-inside t (a .at) (s .pre));
       onward = λ h. rw (cut .next) (next-onward t (a .at) h);
