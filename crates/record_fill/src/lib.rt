@@ -1,0 +1,361 @@
+// A file of records, read into lent bytes and blocks. Document 02, Tickets 1 and 12: "It fills lent bytes and blocks, counted from that address."
+use blocks::Blocks;
+use record_read::Scan;
+use refusal::Refusal;
+ghost use mathlib.Core.Path.{_≡_};
+ghost use mathlib.Core.Bool.{true};
+ghost use mathlib.Core.List.{[], _∷_, map};
+ghost use Prim.Native.Nat.{_+_, _-_, _*_, _≤_, _<_, max};
+ghost use lib.Dec.{ltb};
+ghost use lib.ListN.{length, set};
+ghost use Rattle.refusal.specs.Pick.{pick};
+ghost use Rattle.blocks.specs.Put.{Put};
+ghost use Rattle.records.specs.Digits.{bytesAt};
+ghost use Rattle.records.specs.Pieces.{piece};
+ghost use Rattle.record_read.specs.Reading.{readText, sound};
+ghost use Rattle.record_read.specs.Trail.{trail};
+ghost use Rattle.record_read.specs.Steps.{highest, rises};
+ghost use Rattle.record_fill.specs.Given.{filled};
+ghost use Rattle.record_fill.specs.Runs.{isGiven, reach, inBits, runsGiven, blocksGiven};
+ghost use Rattle.record_fill.specs.Outcome.{lent, Reads};
+ghost use Rattle.record_fill.specs.Steps.{extentOf, keptRun, closedBy, joinedBy, Small, Lowest, Betters};
+
+// Bytes from `first` on and before `end`, counted from the load address; none where `end` is not above `first`.
+pub struct Run {
+    pub first: u64,
+    pub end: u64,
+}
+
+// The bytes' and the blocks' numbers among the lent outputs.
+const BYTES: u64 = 0;
+
+const BLOCKS: u64 = 2;
+
+// An address, counted from the load address; 0 for one below it.
+fn above(address: u64, load: u32) -> u64
+    ensures { λ r. ⌜ (r ≡ address - load) × (r ≤ address) ⌝ }
+{
+    let base = load as u64;
+    if address < base {
+        return 0;
+    }
+    address - base
+}
+
+// The bytes of a line. (Only lines with bytes have a count.)
+fn extent(address: u32, count: u8, load: u32) -> Run
+    ensures { λ r. ⌜ (r ≡ extentOf address count load) × Small r ⌝ }
+{
+    let first = address as u64;
+    let end = first + count as u64;
+    Run {
+        first: above(first, load),
+        end: above(end, load),
+    }
+}
+
+// Stores a number at a place, if there is one.
+fn put(column: &mut [u64], at: u64, value: u64)
+    ensures { λ _. ⌜ now (column .exit) ≡ set (now (column .entry)) at value ⌝ }
+{
+    if at < column.len() as u64 {
+        column[at as usize] = value;
+    }
+}
+
+// Writes a run behind the blocks that are written, unless it is empty, and counts it.
+fn push(run: Run, count: u64, offsets: &mut [u64], sizes: &mut [u64]) -> u64
+    requires { ⌜ (count ≤ run .first) × Small run ⌝ }
+    ensures { λ r. ⌜ Put (map inBits (keptRun run)) count (now (offsets .entry)) (now (sizes .entry)) r (now (offsets .exit)) (now (sizes .exit)) ⌝ }
+{
+    if run.end <= run.first {
+        return count;
+    }
+    put(offsets, count, 8 * run.first);
+    put(sizes, count, 8 * (run.end - run.first));
+    count + 1
+}
+
+// Writes a run if the next one does not touch it.
+fn close(run: Run, next: Run, count: u64, offsets: &mut [u64], sizes: &mut [u64]) -> u64
+    requires { ⌜ (count ≤ run .first) × Small run ⌝ }
+    ensures { λ r. ⌜ Put (map inBits (closedBy run next)) count (now (offsets .entry)) (now (sizes .entry)) r (now (offsets .exit)) (now (sizes .exit)) ⌝ }
+{
+    if next.end <= next.first {
+        return count;
+    }
+    if next.first == run.end {
+        return count;
+    }
+    push(run, count, offsets, sizes)
+}
+
+// The run that goes on behind the next one.
+fn join(run: Run, next: Run) -> Run
+    ensures { λ r. ⌜ r ≡ joinedBy run next ⌝ }
+{
+    if next.end <= next.first {
+        return run;
+    }
+    if next.first == run.end {
+        return Run {
+            first: run.first,
+            end: next.end,
+        };
+    }
+    next
+}
+
+// The blocks of a file whose records ascend, written as far as the lent slices go, in one pass. Counts all of them.
+fn walk_up(
+    format: u8,
+    text: &[u8],
+    n: usize,
+    load: u32,
+    offsets: &mut [u64],
+    sizes: &mut [u64],
+) -> u64
+    requires { ⌜ rises format (now text) n ≡ true ⌝ }
+    ensures { λ r. ⌜ Put (blocksGiven load (trail format (now (text .entry)) n .given)) 0
+        (now (offsets .entry)) (now (sizes .entry)) r (now (offsets .exit)) (now (sizes .exit)) ⌝ }
+{
+    let mut at = 0usize;
+    let mut state = 0u16;
+    let mut run = Run { first: 0, end: 0 };
+    let mut count = 0u64;
+    let mut k = 0usize;
+    while k < n {
+        let s = record_read::take_line(format, text, at, state);
+        let line = s.line;
+        let next = extent(line.address, line.count, load);
+        count = close(run, next, count, offsets, sizes);
+        run = join(run, next);
+        at = s.next;
+        state = line.state;
+        k += 1;
+    }
+    push(run, count, offsets, sizes)
+}
+
+fn larger(a: u64, b: u64) -> u64
+    ensures { λ r. ⌜ r ≡ max a b ⌝ }
+{
+    if a < b { b } else { a }
+}
+
+// The lower of two stretches from a byte on, or both where the second touches the first's end.
+fn better(best: Run, next: Run, from: u64) -> Run
+    ensures { λ r. ⌜ Betters from best next r ⌝ }
+{
+    let first = larger(next.first, from);
+    let end = next.end;
+    if end <= first {
+        return best;
+    }
+    if best.end <= best.first {
+        return Run { first, end };
+    }
+    if first < best.first {
+        return Run { first, end };
+    }
+    if first == best.end {
+        return Run {
+            first: best.first,
+            end,
+        };
+    }
+    best
+}
+
+// The lowest stretch of bytes from a byte on, whatever the order of the records; none where nothing is given there.
+fn lowest(format: u8, text: &[u8], n: usize, load: u32, from: u64) -> Run
+    ensures { λ r. ⌜ Lowest (isGiven load (trail format (now (text .entry)) n .given)) from r × Small r ⌝ }
+{
+    let mut at = 0usize;
+    let mut state = 0u16;
+    let mut best = Run { first: 0, end: 0 };
+    let mut k = 0usize;
+    while k < n {
+        let s = record_read::take_line(format, text, at, state);
+        let line = s.line;
+        best = better(best, extent(line.address, line.count, load), from);
+        at = s.next;
+        state = line.state;
+        k += 1;
+    }
+    best
+}
+
+// Where to look on behind a stretch: at its end, or at the end of all where there was none.
+fn behind(next: Run, end: u64) -> u64
+    ensures { λ r. ⌜ r ≡ pick (ltb (next .first) (next .end)) (next .end) end ⌝ }
+{
+    if next.first < next.end {
+        return next.end;
+    }
+    end
+}
+
+// The blocks of a file whose records stand in any order: the lowest stretch is looked for again and again.
+fn walk_any(
+    format: u8,
+    text: &[u8],
+    n: usize,
+    load: u32,
+    end: u64,
+    offsets: &mut [u64],
+    sizes: &mut [u64],
+) -> u64
+    requires { ⌜ end ≡ reach load (trail format (now text) n .given) ⌝ }
+    ensures { λ r. ⌜ Put (blocksGiven load (trail format (now (text .entry)) n .given)) 0
+        (now (offsets .entry)) (now (sizes .entry)) r (now (offsets .exit)) (now (sizes .exit)) ⌝ }
+{
+    let mut from = 0u64;
+    let mut run = Run { first: 0, end: 0 };
+    let mut count = 0u64;
+    while from < end {
+        let next = lowest(format, text, n, load, from);
+        count = close(run, next, count, offsets, sizes);
+        run = join(run, next);
+        from = behind(next, end);
+    }
+    push(run, count, offsets, sizes)
+}
+
+fn walk(
+    format: u8,
+    text: &[u8],
+    n: usize,
+    load: u32,
+    end: u64,
+    ascend: bool,
+    offsets: &mut [u64],
+    sizes: &mut [u64],
+) -> u64
+    requires { ⌜ (end ≡ reach load (trail format (now text) n .given)) × (ascend ≡ rises format (now text) n) ⌝ }
+    ensures { λ r. ⌜ Put (blocksGiven load (trail format (now (text .entry)) n .given)) 0
+        (now (offsets .entry)) (now (sizes .entry)) r (now (offsets .exit)) (now (sizes .exit)) ⌝ }
+{
+    if ascend {
+        return walk_up(format, text, n, load, offsets, sizes);
+    }
+    walk_any(format, text, n, load, end, offsets, sizes)
+}
+
+// Stores the byte of an address, if there is room for it.
+fn put_byte(bytes: &mut [u8], address: u64, load: u32, value: u8)
+    ensures { λ _. ⌜ now (bytes .exit) ≡ filled load (piece address (value ∷ []) ∷ []) (now (bytes .entry)) ⌝ }
+{
+    let base = load as u64;
+    if address < base {
+        return;
+    }
+    let at = address - base;
+    if at < bytes.len() as u64 {
+        bytes[at as usize] = value;
+    }
+}
+
+// Stores the bytes of a line.
+fn fill_line(line: &[u8], first: u16, count: u8, address: u32, load: u32, bytes: &mut [u8])
+    ensures { λ _. ⌜ now (bytes .exit) ≡ filled load (piece address (bytesAt (now (line .entry)) first count) ∷ []) (now (bytes .entry)) ⌝ }
+{
+    let start = first as u32;
+    let base = address as u64;
+    let n = count as u32;
+    let mut j = 0u32;
+    while j < n {
+        put_byte(
+            bytes,
+            base + j as u64,
+            load,
+            records::pair(line, start + 2 * j),
+        );
+        j += 1;
+    }
+}
+
+// Stores the bytes of the first n lines.
+fn fill(format: u8, text: &[u8], n: usize, load: u32, bytes: &mut [u8])
+    ensures { λ _. ⌜ now (bytes .exit) ≡ filled load (trail format (now (text .entry)) n .given) (now (bytes .entry)) ⌝ }
+{
+    let mut at = 0usize;
+    let mut state = 0u16;
+    let mut k = 0usize;
+    while k < n {
+        let s = record_read::take_line(format, text, at, state);
+        let line = s.line;
+        let stop = s.stop;
+        fill_line(
+            &text[at..stop],
+            line.first,
+            line.count,
+            line.address,
+            load,
+            bytes,
+        );
+        at = s.next;
+        state = line.state;
+        k += 1;
+    }
+}
+
+// A sound file's bytes and blocks, if there is room for both: a walk that is lent no room counts the blocks first.
+fn take(
+    format: u8,
+    text: &[u8],
+    n: usize,
+    load: u32,
+    end: u64,
+    ascend: bool,
+    bytes: &mut [u8],
+    offsets: &mut [u64],
+    sizes: &mut [u64],
+) -> Blocks
+    requires { ⌜ (end ≡ reach load (trail format (now text) n .given)) × (ascend ≡ rises format (now text) n) ⌝ }
+    ensures { λ r. ⌜ Reads load (sound (trail format (now (text .entry)) n .given)) (lent (now (bytes .entry)) (now (offsets .entry)) (now (sizes .entry))) r
+        (lent (now (bytes .exit)) (now (offsets .exit)) (now (sizes .exit))) ⌝ }
+{
+    if (bytes.len() as u64) < end {
+        return Blocks::Refused(Refusal::TooShort(BYTES));
+    }
+    let count = walk(
+        format,
+        text,
+        n,
+        load,
+        end,
+        ascend,
+        &mut offsets[..0],
+        &mut sizes[..0],
+    );
+    if (offsets.len() as u64) < count {
+        return Blocks::Refused(Refusal::TooShort(BLOCKS));
+    }
+    if (sizes.len() as u64) < count {
+        return Blocks::Refused(Refusal::TooShort(BLOCKS));
+    }
+    walk(format, text, n, load, end, ascend, offsets, sizes);
+    fill(format, text, n, load, bytes);
+    Blocks::Found(count)
+}
+
+// Reads a file of records, format 0 Intel HEX, every other number S-records, from a load address on: its bytes and its blocks, in bits, counted from that
+// address; how many blocks there are, or 4, then 14 with place 0 for the bytes and 2 for the blocks, and everything lent as it was.
+pub fn read(
+    format: u8,
+    text: &[u8],
+    load: u32,
+    bytes: &mut [u8],
+    offsets: &mut [u64],
+    sizes: &mut [u64],
+) -> Blocks
+    ensures { λ r. ⌜ Reads load (readText format load (now (text .entry))) (lent (now (bytes .entry)) (now (offsets .entry)) (now (sizes .entry))) r
+        (lent (now (bytes .exit)) (now (offsets .exit)) (now (sizes .exit))) ⌝ }
+{
+    let Scan::Whole(n, high, ascend) = record_read::scan_lines(format, text, load) else {
+        return Blocks::Refused(Refusal::Malformed(0));
+    };
+    let end = above(high, load);
+    take(format, text, n, load, end, ascend, bytes, offsets, sizes)
+}
