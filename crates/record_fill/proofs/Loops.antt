@@ -21,7 +21,7 @@ use Rattle.record_read.specs.TrailLaws.{said, moved, next-at, next-state, next-
 use Rattle.record_read.specs.Steps.{Stepped, highest, rises}
 use Rattle.record_read.specs.declared.Step.{Step}
 use Rattle.record_fill.specs.Given.{given}
-use Rattle.record_fill.specs.GivenLaws.{given-above, given-below}
+use Rattle.record_fill.specs.BlockFacts.{none-above, all-below}
 use Rattle.record_fill.specs.Runs.{isGiven, reach, inBits, runsGiven, blocksGiven}
 use Rattle.record_fill.specs.RunLaws.{Clear, Holds}
 use Rattle.record_fill.specs.Steps.{run, inRun, extentOf, keptRun, closedBy, joinedBy, Small, Lowest, Betters}
@@ -116,15 +116,6 @@ module _ (format : ℕ) (text : List ℕ) (n load from : ℕ) where
     pub looking-ends : n ≤ k → Lowest (isGiven load (trail format text n .given)) from best × Small best
     looking-ends h =
         (subst (λ (j : ℕ). Lowest (isGiven load (trail format text j .given)) from best) (le-antisymm (w .few) h) (w .low), w .small)
-
--- ---- what is given, up to the highest end
-
-module _ (load : ℕ) (l : List Piece) where
-  pub none-above : (x : ℕ) → reach load l ≤ x → isGiven load l x ≡ false
-  none-above x h = given-above l (load + x) (omega arith)
-
-  pub all-below : (x : ℕ) → isGiven load l x ≡ true → x < reach load l
-  all-below x e = let h = given-below l (load + x) e in omega arith
 
 -- ---- records that ascend
 

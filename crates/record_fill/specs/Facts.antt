@@ -66,17 +66,17 @@ unwritten true false n k p x y e = refl
 unwritten false c n k p x y e = refl
 
 module _ (load : ℕ) (old : Lent) where
-  abbrev Few : List Piece → Type 0
+  abbrev pub Few : List Piece → Type 0
   Few pieces = length (old .bytes) < reach load pieces
 
-  abbrev Enough : List Piece → Type 0
+  abbrev pub Enough : List Piece → Type 0
   Enough pieces = reach load pieces ≤ length (old .bytes)
 
   -- "places for blocks": those of the shorter list
-  abbrev FewPlaces : List Piece → Type 0
+  abbrev pub FewPlaces : List Piece → Type 0
   FewPlaces pieces = (length (old .offsets) < length (blocksGiven load pieces)) ⊎ (length (old .sizes) < length (blocksGiven load pieces))
 
-  abbrev EnoughPlaces : List Piece → Type 0
+  abbrev pub EnoughPlaces : List Piece → Type 0
   EnoughPlaces pieces = (length (blocksGiven load pieces) ≤ length (old .offsets)) × (length (blocksGiven load pieces) ≤ length (old .sizes))
 
   told-4 : (read : Read) → toldOf load old read ≡ refuses 4 (One 0) → Bad read

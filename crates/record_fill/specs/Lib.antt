@@ -1,3 +1,5 @@
+pub mod BlockFacts
+pub mod ByteFacts
 pub mod Facts
 pub mod Given
 pub mod GivenLaws

@@ -1,0 +1,136 @@
+-- The lent bytes and blocks after a file is read: "exactly the bytes that the file gives change".
+use mathlib.Core.Path.{_≡_, refl, sym, ap, subst, _∙_}
+use mathlib.Core.Bool.{Bool, true, false, _&&_, _||_}
+use mathlib.Core.List.{List, [], _∷_, _++_, map, List·Memᴰ, List·Memᴰ·append-cases, List·Memᴰ·eq-of-singleton, List·Memᴰ·head}
+use mathlib.Core.Logic.{⊎-elim}
+use Prim.Native.Nat.{ℕ, zero, suc, _+_, _-_, _≤_, _<_}
+use native.Mathlib.Omega.{arith}
+use borrow.Author.Tests.{leb-true, leb-false}
+use lib.Dec.{leb}
+use lib.ListN.{length, getD, drop, length-append, length-drop, length-map, List·getD-append, List·getD-map}
+use lib.Seq.{getD-append-add, getD-drop}
+use Rattle.refusal.specs.Bools.{either, clash, both, neither}
+use Rattle.refusal.specs.Told.{gives}
+use Rattle.blocks.specs.declared.Block.{Block}
+use Rattle.blocks.specs.declared.Blocks.{Blocks}
+use Rattle.blocks.specs.Outcome.{origins, sizes, over, toldBy}
+use Rattle.blocks.specs.Walk.{block}
+use Rattle.records.specs.Pieces.{Piece, piece, endOf, GivesAt}
+use Rattle.record_read.specs.Reading.{Read, sound, faulty, isNew, fine, readText}
+use Rattle.record_read.specs.Sound.{Fine, none, more, sound-pieces-fine}
+use Rattle.record_fill.specs.Given.{holds, given, byteAt, filled}
+use Rattle.record_fill.specs.GivenLaws.{byte-append, byte-in, byte-before, byte-behind, filled-at, filled-long}
+use Rattle.record_fill.specs.Facts.{given-gives, gives-given, byte-kept, found-good, found-after, Good, Enough, EnoughPlaces}
+use Rattle.record_fill.specs.Runs.{reach, blocksGiven}
+use Rattle.record_fill.specs.Outcome.{Lent, lent, Reads}
+
+-- What is new is not among what is given.
+new-outside : (l : List Piece) (first end a : ℕ) → isNew l first end ≡ true → first ≤ a → a < end → given l a ≡ false
+unfolding isNew given
+new-outside [] first end a e h k = refl
+new-outside (p ∷ l) first end a e h k =
+    let t = both (leb (endOf p) first || leb end (p .address)) (isNew l first end) e in
+    either (holds p a)
+    (λ held.
+    let u = both (leb (p .address) a) (lib.Dec.ltb a (endOf p)) held in
+    let low = leb-true (p .address) a (u .0) in
+    let high = borrow.Author.Tests.ltb-true a (endOf p) (u .1) in
+    absurd (either (leb (endOf p) first)
+    (λ q. let z = leb-true (endOf p) first q in omega arith)
+    (λ q. let z = leb-true end (p .address) (rw q at (t .0)) in omega arith)))
+    (λ free. rw free (new-outside l first end a (t .1) h k))
+
+-- Of pieces of which none gives a byte twice, each gives its own.
+module _ (load : ℕ) where
+  pub own-byte : {l : List Piece} → Fine load l → (a b old : ℕ) → GivesAt l a b → byteAt l a old ≡ b
+  own-byte none a b old g = absurd (mathlib.Core.List.List·Memᴰ·not-nil (g .among))
+  own-byte (more l p f e) a b old g =
+      let t = both (leb load (p .address) && leb (endOf p) 4294967296) (isNew l (p .address) (endOf p)) e in
+      byte-append l (p ∷ []) a old
+      ∙ ⊎-elim
+      (λ m.
+      let mine : GivesAt l a b = record { from = g .from; among = m; index = g .index; inside = g .inside; place = g .place; byte = g .byte } in
+      let there = gives-given l a b mine in
+      ap (byteAt (p ∷ []) a) (own-byte f a b old mine)
+      ∙ either (leb (p .address) a)
+      (λ q. either (leb (endOf p) a)
+      (λ s. byte-behind (p .address) (p .bytes) a b (leb-true (endOf p) a s))
+      (λ s. absurd (clash there (new-outside l (p .address) (endOf p) a (t .1) (leb-true (p .address) a q) (leb-false (endOf p) a s)))))
+      (λ q. byte-before (p .address) (p .bytes) a b (leb-false (p .address) a q)))
+      (λ m.
+      let same : g .from ≡ p = List·Memᴰ·eq-of-singleton m in
+      let inside : g .index < length (p .bytes) = rw same at (g .inside) in
+      let place : p .address + g .index ≡ a = rw same at (g .place) in
+      let index : a - p .address ≡ g .index = omega arith in
+      byte-in (p .address) (p .bytes) a (byteAt l a old) (omega arith) (omega arith) ∙ ap (λ (i : ℕ). getD (p .bytes) i 0) index
+      ∙ ap (λ (q : Piece). getD (q .bytes) (g .index) 0) (sym same) ∙ g .byte)
+      (List·Memᴰ·append-cases l (g .among))
+
+-- ---- what stands at the front, and what behind it
+
+module _ (new old : List ℕ) where
+  over-front : (i : ℕ) → i < length new → getD (over new old) i 0 ≡ getD new i 0
+  over-front i h = List·getD-append new (drop (length new) old) 0 i h
+
+  over-rest : (i : ℕ) → length new ≤ i → getD (over new old) i 0 ≡ getD old i 0
+  over-rest i h =
+      let e : i ≡ length new + (i - length new) = omega arith in
+      ap (λ (k : ℕ). getD (over new old) k 0) e
+      ∙ getD-append-add new (drop (length new) old) (i - length new) 0
+      ∙ getD-drop (length new) old (i - length new) 0
+      ∙ sym (ap (λ (k : ℕ). getD old k 0) e)
+
+module _ (format load : ℕ) (text : List ℕ) (old : Lent) (r : Blocks) (new : Lent) (c : Reads load (readText format load text) old r new)
+    (n : ℕ) (found : toldBy r ≡ gives n) where
+  -- the pieces of the file
+  abbrev pub filed : List Piece
+  filed = found-good load old (readText format load text) r new c n found .0
+
+  is-sound : readText format load text ≡ sound filed
+  is-sound = found-good load old (readText format load text) r new c n found .1
+
+  after : new ≡ lent (filled load filed (old .bytes)) (over (origins (blocksGiven load filed)) (old .offsets)) (over (sizes (blocksGiven load filed)) (old .sizes))
+  after =
+      let g = found-good load old (readText format load text) r new c n found in
+      found-after load old (readText format load text) r new c filed is-sound (g .2 .0) (g .2 .1)
+
+  bytes-are : new .bytes ≡ filled load filed (old .bytes)
+  bytes-are = ap (λ (x : Lent). x .bytes) after
+
+  -- Byte j is the file's byte at the load address plus j, if the file gives it,
+  pub read-byte : (j b : ℕ) → j < length (old .bytes) → GivesAt filed (load + j) b → getD (new .bytes) j 0 ≡ b
+  read-byte j b h g =
+      ap (λ (l : List ℕ). getD l j 0) bytes-are ∙ filled-at load filed (old .bytes) j h
+      ∙ own-byte load (sound-pieces-fine format load text filed is-sound) (load + j) b (getD (old .bytes) j 0) g
+
+  -- and what it was if it doesn't: "every other lent byte, gaps too, keeps its contents".
+  pub read-keeps : (j : ℕ) → j < length (old .bytes) → ((b : ℕ) → GivesAt filed (load + j) b → ⊥) → getD (new .bytes) j 0 ≡ getD (old .bytes) j 0
+  read-keeps j h unless =
+      ap (λ (l : List ℕ). getD l j 0) bytes-are ∙ filled-at load filed (old .bytes) j h
+      ∙ byte-kept filed (load + j) (getD (old .bytes) j 0)
+      (either (given filed (load + j)) (λ e. let g = given-gives filed (load + j) e in absurd (unless (g .0) (g .1))) (λ e. e))
+
+  -- Each byte that the file gives is among those lent.
+  pub read-length : length (new .bytes) ≡ length (old .bytes)
+  read-length = ap length bytes-are ∙ filled-long load filed (old .bytes)
+
+  -- The blocks stand at the front, in their order,
+  pub read-blocks : (i : ℕ) → i < n
+      → (getD (new .offsets) i 0 ≡ (getD (blocksGiven load filed) i (block 0 0)) .origin) × (getD (new .sizes) i 0 ≡ (getD (blocksGiven load filed) i (block 0 0)) .size)
+  read-blocks i h =
+      let count = found-good load old (readText format load text) r new c n found .2 .2 in
+      let made = blocksGiven load filed in (
+        ap (λ (x : Lent). getD (x .offsets) i 0) after ∙ over-front (origins made) (old .offsets) i (rw length-map (omega (arith, count)))
+            ∙ List·getD-map (λ b. b .origin) made i (block 0 0),
+        ap (λ (x : Lent). getD (x .sizes) i 0) after ∙ over-front (sizes made) (old .sizes) i (rw length-map (omega (arith, count)))
+            ∙ List·getD-map (λ b. b .size) made i (block 0 0),
+      )
+
+  -- "and so do blocks past those written".
+  pub past-blocks-kept : (i : ℕ) → n ≤ i → (getD (new .offsets) i 0 ≡ getD (old .offsets) i 0) × (getD (new .sizes) i 0 ≡ getD (old .sizes) i 0)
+  past-blocks-kept i h =
+      let count = found-good load old (readText format load text) r new c n found .2 .2 in
+      let made = blocksGiven load filed in (
+        ap (λ (x : Lent). getD (x .offsets) i 0) after ∙ over-rest (origins made) (old .offsets) i (rw length-map (omega (arith, count))),
+        ap (λ (x : Lent). getD (x .sizes) i 0) after ∙ over-rest (sizes made) (old .sizes) i (rw length-map (omega (arith, count))),
+      )
