@@ -47,12 +47,12 @@ given-below l a e = elim (decLt a (highest l)) [ yes p ↦ p | no p ↦ absurd (
 module _ (load : ℕ) where
   pub filled-long : (l : List Piece) (old : List ℕ) → length (filled load l old) ≡ length old
   unfolding filled
-  filled-long l old = length-listOf (length old) (λ j. byteAt l (load + j) (getD old j 0))
+  filled-long l old = length-listOf (length old) _
 
   -- byte j of the lent bytes afterwards
   pub filled-at : (l : List Piece) (old : List ℕ) (j : ℕ) → j < length old → getD (filled load l old) j 0 ≡ byteAt l (load + j) (getD old j 0)
   unfolding filled
-  filled-at l old j h = getD-listOf (length old) (λ i. byteAt l (load + i) (getD old i 0)) j h
+  filled-at l old j h = getD-listOf (length old) _ j h
 
   -- two lists of the lent length that have the same bytes
   pub filled-is : (l : List Piece) (old new : List ℕ) → length new ≡ length old

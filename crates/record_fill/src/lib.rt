@@ -84,7 +84,7 @@ fn close(run: Run, next: Run, count: u64, offsets: &mut [u64], sizes: &mut [u64]
     if next.end <= next.first {
         return count;
     }
-    if next.first == run.end {
+    if run.end == next.first {
         return count;
     }
     push(run, count, offsets, sizes)

@@ -123,11 +123,6 @@ new-append (p ∷ a) b first end =
     ap (λ (x : Bool). (leb (endOf p) first || leb end (p .address)) && x) (new-append a b first end)
     ∙ sym (and-assoc (leb (endOf p) first || leb end (p .address)) (isNew a first end) (isNew b first end))
 
-pub new-above : (l : List Piece) (first end : ℕ) → highest l ≤ first → isNew l first end ≡ true
-unfolding isNew highest
-new-above [] first end h = refl
-new-above (p ∷ l) first end h = rw (le-leb (endOf p) first (omega arith)) (new-above l first end (omega arith))
-
 high-new′ : (s f high : ℕ) (i : Item) → highAfter (asLine s f i) high ≡ max high (highest (newPieces i))
 unfolding highest
 high-new′ s f high (gives a [] t) = omega arith

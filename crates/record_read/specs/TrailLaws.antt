@@ -1,13 +1,15 @@
 -- A trail, one line more; and the highest end of pieces.
 use mathlib.Core.Path.{_≡_, refl, sym, ap, subst, _∙_}
+use mathlib.Core.Bool.{true}
 use mathlib.Core.List.{List, [], _∷_, _++_}
-use Prim.Native.Nat.{ℕ, _+_, max}
+use Prim.Native.Nat.{ℕ, _+_, _≤_, max}
 use native.Mathlib.Numerals.{add-one}
 use native.Mathlib.Omega.{arith}
+use borrow.Author.Tests.{le-leb}
 use Rattle.records.specs.Items.{Item, gives, passes, ends, bad, asLine, Says}
 use Rattle.records.specs.Pieces.{Piece, endOf}
 use Rattle.records.specs.declared.Line.{Line}
-use Rattle.record_read.specs.Reading.{newPieces, stateAfter}
+use Rattle.record_read.specs.Reading.{newPieces, stateAfter, isNew}
 use Rattle.record_read.specs.Trail.{Trail, trail, itemAt}
 use Rattle.record_read.specs.Steps.{Stepped, highest}
 use Rattle.record_read.specs.declared.Step.{Step}
@@ -48,3 +50,9 @@ pub high-append : (a b : List Piece) → highest (a ++ b) ≡ max (highest a) (h
 unfolding highest
 high-append [] b = omega arith
 high-append (p ∷ a) b = ap (max (endOf p)) (high-append a b) ∙ omega arith
+
+-- Nothing at the highest end or above is given.
+pub new-above : (l : List Piece) (first end : ℕ) → highest l ≤ first → isNew l first end ≡ true
+unfolding isNew highest
+new-above [] first end h = refl
+new-above (p ∷ l) first end h = rw (le-leb (endOf p) first (omega arith)) (new-above l first end (omega arith))

@@ -14,7 +14,7 @@ returns-2 : tie.Need-returns-2
 returns-2 c =
     let i = c .before .before .before in
     let a = i .before .before .before .before .args in
-    close-none (a .run) (a .next) (closed-touching (a .run) (a .next) (i .if1 .left) (c .if2 .taken) .0) (a .count) (a .offsets .now) (a .sizes .now)
+    close-none (a .run) (a .next) (closed-touching (a .run) (a .next) (i .if1 .left) (sym (c .if2 .taken)) .0) (a .count) (a .offsets .now) (a .sizes .now)
 
 push-requires : tie.Need-push-requires
 push-requires c κs = search needs
@@ -31,7 +31,7 @@ returns-3 c =
     let j = p .before .before .before in
     let i = j .before .before .before in
     let a = i .before .before .before .before .args in
-    close-kept (a .run) (a .next) (closed-apart (a .run) (a .next) (i .if1 .left) (j .if2 .left) .0) (p .push .ensures)
+    close-kept (a .run) (a .next) (closed-apart (a .run) (a .next) (i .if1 .left) (λ e. j .if2 .left (sym e)) .0) (p .push .ensures)
 
 pub close-spec : {M : Type 1} → statement M
 close-spec = tie.close (tie.spec returns returns-2 push-requires same-length same-length-2 returns-3)

@@ -2,7 +2,7 @@
 use mathlib.Core.Path.{sym}
 use native.Mathlib.Omega.{arith}
 use Rattle.record_read.specs.Trail.{trail}
-use Rattle.record_read.proofs.Laws.{new-above}
+use Rattle.record_read.specs.TrailLaws.{new-above}
 use borrow.Author.Needs.{needs}
 use Rattle.record_read.proofs.is_fresh.Statement.{statement}
 use Rattle.record_read.proofs.is_fresh.Tie as tie
