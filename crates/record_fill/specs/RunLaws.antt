@@ -188,3 +188,18 @@ runs-agree test other lo hi (b ∷ l) same r = (
   },
   runs-agree test other (endOf b) hi l (λ x a u. same x (omega (arith, r .0 .from)) u) (r .1),
 )
+
+-- A higher bound, where the test fails from the first one on.
+pub runs-longer : (test : ℕ → Bool) (lo hi top : ℕ) (l : List Block) → AreRuns test lo hi l → hi ≤ top → Clear test hi top → AreRuns test lo top l
+runs-longer test lo hi top [] r h c = λ x a u. elim (decLt x hi) [ yes p ↦ r x a p | no p ↦ c x (omega arith) u ]
+runs-longer test lo hi top (b ∷ l) r h c = (
+  record {
+    from = r .0 .from;
+    some = r .0 .some;
+    ends = omega (arith, r .0 .ends);
+    before = r .0 .before;
+    inside = r .0 .inside;
+    after = r .0 .after;
+  },
+  runs-longer test (endOf b) hi top l (r .1) h c,
+)
