@@ -27,7 +27,8 @@ use Rattle.record_fill.specs.RunLaws.{Clear, Holds}
 use Rattle.record_fill.specs.Steps.{run, inRun, extentOf, keptRun, closedBy, joinedBy, Small, Lowest, Betters}
 use Rattle.record_fill.specs.declared.Run.{Run}
 use Rattle.record_fill.proofs.LineLaws.{line-high, line-none, line-above, given-more}
-use Rattle.record_fill.proofs.Walks.{closed-idle, closed-touching, closed-apart, Listed, listed-starts, listed-on, listed-idle, listed-past, listed-all, listed-agree}
+use Rattle.record_fill.proofs.Walks.{closed-idle, closed-touching, closed-apart, Listed, listed-starts, listed-on, listed-idle, listed-past, listed-all}
+use Rattle.record_fill.proofs.Walks.{listed-agree}
 
 -- ---- runs by their bytes
 
@@ -215,7 +216,8 @@ module _ (format : ℕ) (text : List ℕ) (n load : ℕ) (os₀ ss₀ : List ℕ
               top =
                   joined
                   ∙ sym (ap (λ (x : ℕ). x - load) high-after
-                  ∙ top-on (highest pieces) (r .line .address) (r .line .count) (highest (newPieces (said format text k r))) load up (line-high (stepped .says) c));
+                  ∙ top-on (highest pieces) (r .line .address) (r .line .count) (highest (newPieces (said format text k r))) load up
+                  (line-high (stepped .says) c));
             }
 
         low-line : next .end ≤ next .first → highest (newPieces (said format text k r)) ≤ load
@@ -230,7 +232,8 @@ module _ (format : ℕ) (text : List ℕ) (n load : ℕ) (os₀ ss₀ : List ℕ
             let same : joinedBy q next ≡ q = closed-idle q next idle .1 in
             let listed : Listed (isGiven load after) os₀ ss₀ (joinedBy q next) (q .end) count′ os′ ss′ =
             listed-idle (isGiven load after) os₀ ss₀
-            (listed-agree (isGiven load pieces) (isGiven load after) (λ x u. sym (given-after x ∙ or-out (isGiven load pieces x) (empty-run next x idle))) (w .listed)) next p small idle in
+            (listed-agree (isGiven load pieces) (isGiven load after) (λ x u. sym (given-after x ∙ or-out (isGiven load pieces x) (empty-run next x idle)))
+            (w .listed)) next p small idle in
             record {
               few = omega arith;
               place = next-at format text k r stepped;

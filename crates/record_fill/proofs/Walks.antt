@@ -235,7 +235,8 @@ module _ (test : ℕ → Bool) (os₀ ss₀ : List ℕ) where
     more : (next : Run) {count′ : ℕ} {os′ ss′ : List ℕ} → Put (map inBits (closedBy r next)) count os ss count′ os′ ss′
         → Put (map inBits (w .done ++ closedBy r next)) 0 os₀ ss₀ count′ os′ ss′
     more next {count′} {os′} {ss′} p =
-        subst (λ (l : List Block). Put l 0 os₀ ss₀ count′ os′ ss′) (sym (map-append inBits (w .done) (closedBy r next))) (put-then (map inBits (w .done)) (map inBits (closedBy r next)) (w .put) p)
+        subst (λ (l : List Block). Put l 0 os₀ ss₀ count′ os′ ss′) (sym (map-append inBits (w .done) (closedBy r next)))
+        (put-then (map inBits (w .done)) (map inBits (closedBy r next)) (w .put) p)
 
     small-join : (next : Run) → Small next → Small (joinedBy r next)
     small-join next s = go (ltb (next .first) (next .end)) (eqb (next .first) (r .end))
@@ -267,7 +268,8 @@ module _ (test : ℕ → Bool) (os₀ ss₀ : List ℕ) where
         → Put (map inBits (keptRun r)) count os ss count′ os′ ss′ → Put (map inBits (runs test 0 n)) 0 os₀ ss₀ count′ os′ ss′
     listed-all n c below {count′} {os′} {ss′} p =
         subst (λ (l : List Block). Put l 0 os₀ ss₀ count′ os′ ss′)
-        (sym (map-append inBits (w .done) (keptRun r)) ∙ ap (map inBits) (sym (walked-all test (w .walked) n c below))) (put-then (map inBits (w .done)) (map inBits (keptRun r)) (w .put) p)
+        (sym (map-append inBits (w .done) (keptRun r)) ∙ ap (map inBits) (sym (walked-all test (w .walked) n c below)))
+        (put-then (map inBits (w .done)) (map inBits (keptRun r)) (w .put) p)
 
 pub listed-agree : (test other : ℕ → Bool) {os₀ ss₀ : List ℕ} {r : Run} {from count : ℕ} {os ss : List ℕ} → ((x : ℕ) → x < from → test x ≡ other x)
     → Listed test os₀ ss₀ r from count os ss → Listed other os₀ ss₀ r from count os ss

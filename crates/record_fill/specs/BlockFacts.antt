@@ -3,7 +3,7 @@ use mathlib.Core.Path.{_≡_, refl, sym, ap, subst, _∙_}
 use mathlib.Core.Bool.{Bool, true, false}
 use mathlib.Core.List.{List, [], _∷_, map, List·Memᴰ, List·Memᴰ·head, List·Memᴰ·tail, List·Memᴰ·cases-cons, List·Memᴰ·not-nil}
 use mathlib.Core.Logic.{_⊎_, inl, inr, ⊎-elim, _↔_}
-use Prim.Native.Nat.{ℕ, zero, suc, _+_, _-_, _*_, _/_, _≤_, _<_}
+use Prim.Native.Nat.{ℕ, zero, suc, _+_, _-_, _*_, _/_, _≤_, _<_, max}
 use native.Mathlib.Decide.{decLt}
 use native.Mathlib.Nat.{zero-add}
 use native.Mathlib.Omega.{arith}
@@ -17,7 +17,7 @@ use Rattle.records.specs.Pieces.{Piece}
 use Rattle.record_fill.specs.Given.{given}
 use Rattle.record_fill.specs.GivenLaws.{given-above, given-below}
 use Rattle.record_fill.specs.Runs.{isGiven, reach, runs, runsGiven, inBits, blocksGiven}
-use Rattle.record_fill.specs.RunLaws.{AreRuns, runs-are, one-list}
+use Rattle.record_fill.specs.RunLaws.{AreRuns, runs-are, one-list, runs-agree, runs-longer}
 
 module _ (load : ℕ) (l : List Piece) where
   pub none-above : (x : ℕ) → reach load l ≤ x → isGiven load l x ≡ false
@@ -50,7 +50,8 @@ module _ (test : ℕ → Bool) where
       (λ m. in-bits (endOf b) hi l (r .1) bit (s .0, m, s .2))
       (List·Memᴰ·cases-cons (s .1))
 
-  to-bits : (lo hi : ℕ) (l : List Block) → AreRuns test lo hi l → (bit : ℕ) → lo ≤ bit / 8 → bit / 8 < hi → test (bit / 8) ≡ true → Some (InBlock bit) (map inBits l)
+  to-bits : (lo hi : ℕ) (l : List Block) → AreRuns test lo hi l → (bit : ℕ) → lo ≤ bit / 8 → bit / 8 < hi → test (bit / 8) ≡ true
+      → Some (InBlock bit) (map inBits l)
   to-bits lo hi [] r bit h k t = absurd (clash t (r (bit / 8) h k))
   to-bits lo hi (b ∷ l) r bit h k t =
       elim (decLt (bit / 8) (b .origin)) [
@@ -109,3 +110,13 @@ module _ (load : ℕ) (l : List Piece) where
   -- Whatever list of runs has exactly the bytes that are given is theirs.
   pub runs-given : (runs : List Block) → AreRuns (isGiven load l) 0 (suc (reach load l)) runs → runsGiven load l ≡ runs
   runs-given runs r = one-list (isGiven load l) 0 (suc (reach load l)) (runsGiven load l) runs (given-runs load l) r
+
+-- "whatever the order of the records": files that give bytes at the same addresses have the same blocks.
+pub same-blocks : (load : ℕ) (l m : List Piece) → ((a : ℕ) → given l a ≡ given m a) → blocksGiven load l ≡ blocksGiven load m
+same-blocks load l m same =
+    let top = suc (max (reach load l) (reach load m)) in
+    ap (map inBits)
+    (one-list (isGiven load m) 0 top (runsGiven load l) (runsGiven load m)
+    (runs-agree (isGiven load l) (isGiven load m) 0 top (runsGiven load l) (λ x a u. same (load + x))
+    (runs-longer (isGiven load l) 0 (suc (reach load l)) top (runsGiven load l) (given-runs load l) (omega arith) (λ x a u. none-above load l x (omega arith))))
+    (runs-longer (isGiven load m) 0 (suc (reach load m)) top (runsGiven load m) (given-runs load m) (omega arith) (λ x a u. none-above load m x (omega arith))))

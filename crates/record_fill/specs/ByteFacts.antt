@@ -2,7 +2,7 @@
 use mathlib.Core.Path.{_≡_, refl, sym, ap, subst, _∙_}
 use mathlib.Core.Bool.{Bool, true, false, _&&_, _||_}
 use mathlib.Core.List.{List, [], _∷_, _++_, map, List·Memᴰ, List·Memᴰ·append-cases, List·Memᴰ·eq-of-singleton, List·Memᴰ·head}
-use mathlib.Core.Logic.{⊎-elim}
+use mathlib.Core.Logic.{⊎-elim, _↔_}
 use Prim.Native.Nat.{ℕ, zero, suc, _+_, _-_, _≤_, _<_}
 use native.Mathlib.Omega.{arith}
 use borrow.Author.Tests.{leb-true, leb-false}
@@ -19,10 +19,10 @@ use Rattle.records.specs.Pieces.{Piece, piece, endOf, GivesAt}
 use Rattle.record_read.specs.Reading.{Read, sound, faulty, isNew, fine, readText}
 use Rattle.record_read.specs.Sound.{Fine, none, more, sound-pieces-fine}
 use Rattle.record_fill.specs.Given.{holds, given, byteAt, filled}
-use Rattle.record_fill.specs.GivenLaws.{byte-append, byte-in, byte-before, byte-behind, filled-at, filled-long}
+use Rattle.record_fill.specs.GivenLaws.{byte-append, byte-in, byte-before, byte-behind, filled-at, filled-is, filled-long}
 use Rattle.record_fill.specs.Facts.{given-gives, gives-given, byte-kept, found-good, found-after, Good, Enough, EnoughPlaces}
 use Rattle.record_fill.specs.Runs.{reach, blocksGiven}
-use Rattle.record_fill.specs.Outcome.{Lent, lent, Reads}
+use Rattle.record_fill.specs.Outcome.{Lent, taken, Reads}
 
 -- What is new is not among what is given.
 new-outside : (l : List Piece) (first end a : ℕ) → isNew l first end ≡ true → first ≤ a → a < end → given l a ≡ false
@@ -66,6 +66,27 @@ module _ (load : ℕ) where
       ∙ ap (λ (q : Piece). getD (q .bytes) (g .index) 0) (sym same) ∙ g .byte)
       (List·Memᴰ·append-cases l (g .among))
 
+-- "whatever the order of the records": good files that give the same bytes at the same addresses fill alike.
+pub same-bytes : (load : ℕ) {l m : List Piece} → Fine load l → Fine load m → ((a b : ℕ) → GivesAt l a b ↔ GivesAt m a b) → (old : List ℕ)
+    → filled load l old ≡ filled load m old
+same-bytes load {l} {m} f g same old =
+    filled-is load m old (filled load l old) (filled-long load l old)
+    (λ j h.
+    filled-at load l old j h
+    ∙ either (given l (load + j))
+    (λ e.
+    let b = given-gives l (load + j) e in
+    own-byte load f (load + j) (b .0) (getD old j 0) (b .1)
+    ∙ sym (own-byte load g (load + j) (b .0) (getD old j 0) (same (load + j) (b .0) .0 (b .1))))
+    (λ e.
+    byte-kept l (load + j) (getD old j 0) e
+    ∙ sym (byte-kept m (load + j) (getD old j 0)
+    (either (given m (load + j))
+    (λ k.
+    let b = given-gives m (load + j) k in
+    absurd (clash (gives-given l (load + j) (b .0) (same (load + j) (b .0) .1 (b .1))) e))
+    (λ k. k)))))
+
 -- ---- what stands at the front, and what behind it
 
 module _ (new old : List ℕ) where
@@ -89,7 +110,7 @@ module _ (format load : ℕ) (text : List ℕ) (old : Lent) (r : Blocks) (new : 
   is-sound : readText format load text ≡ sound filed
   is-sound = found-good load old (readText format load text) r new c n found .1
 
-  after : new ≡ lent (filled load filed (old .bytes)) (over (origins (blocksGiven load filed)) (old .offsets)) (over (sizes (blocksGiven load filed)) (old .sizes))
+  after : new ≡ taken load filed old
   after =
       let g = found-good load old (readText format load text) r new c n found in
       found-after load old (readText format load text) r new c filed is-sound (g .2 .0) (g .2 .1)
@@ -116,7 +137,8 @@ module _ (format load : ℕ) (text : List ℕ) (old : Lent) (r : Blocks) (new : 
 
   -- The blocks stand at the front, in their order,
   pub read-blocks : (i : ℕ) → i < n
-      → (getD (new .offsets) i 0 ≡ (getD (blocksGiven load filed) i (block 0 0)) .origin) × (getD (new .sizes) i 0 ≡ (getD (blocksGiven load filed) i (block 0 0)) .size)
+      → (getD (new .offsets) i 0 ≡ (getD (blocksGiven load filed) i (block 0 0)) .origin)
+      × (getD (new .sizes) i 0 ≡ (getD (blocksGiven load filed) i (block 0 0)) .size)
   read-blocks i h =
       let count = found-good load old (readText format load text) r new c n found .2 .2 in
       let made = blocksGiven load filed in (

@@ -18,14 +18,14 @@ use Rattle.refusal.specs.declared.Place.the-variants.{One}
 use Rattle.blocks.specs.declared.Block.{Block}
 use Rattle.blocks.specs.declared.Blocks.{Blocks}
 use Rattle.blocks.specs.Exactly.{room-exactly, no-room-exactly}
-use Rattle.blocks.specs.Outcome.{origins, sizes, over, roomFor, toldBy}
+use Rattle.blocks.specs.Outcome.{toldBy}
 use Rattle.records.specs.Pieces.{Piece, piece, endOf, GivesAt}
-use Rattle.record_read.specs.Reading.{Read, sound, faulty, isNew, fine, readText}
-use Rattle.record_read.specs.Sound.{Fine, none, more, sound-pieces-fine}
-use Rattle.record_fill.specs.Given.{holds, given, byteAt, filled}
-use Rattle.record_fill.specs.GivenLaws.{byte-append, filled-at, filled-long}
+use Rattle.record_read.specs.Outcome.{faultOf}
+use Rattle.record_read.specs.Reading.{Read, sound, faulty}
+use Rattle.record_read.specs.declared.Fault.the-variants.{At}
+use Rattle.record_fill.specs.Given.{holds, given, byteAt}
 use Rattle.record_fill.specs.Runs.{reach, blocksGiven}
-use Rattle.record_fill.specs.Outcome.{Lent, lent, bytesFit, blocksFit, allFit, toldOf, lentAfter, Reads}
+use Rattle.record_fill.specs.Outcome.{Lent, bytesFit, blocksFit, toldOf, taken, lentAfter, Reads}
 
 -- ---- which answer when
 
@@ -65,6 +65,10 @@ unwritten true true n k p x y e = let z : _≡_ {A = ℕ} 0 1 = cc in absurd (om
 unwritten true false n k p x y e = refl
 unwritten false c n k p x y e = refl
 
+at-line : (read : Read) (line : ℕ) → faultOf read ≡ At line → Bad read
+at-line (sound l) line e = let z : _≡_ {A = ℕ} 0 1 = cc in absurd (omega arith)
+at-line (faulty n) line e = (n, refl)
+
 module _ (load : ℕ) (old : Lent) where
   abbrev pub Few : List Piece → Type 0
   Few pieces = length (old .bytes) < reach load pieces
@@ -102,14 +106,20 @@ module _ (load : ℕ) (old : Lent) where
 
   kept-when : (read : Read) (k : ℕ) (p : Place) → toldOf load old read ≡ refuses k p → lentAfter load old read ≡ old
   kept-when (sound l) k p e =
-      unwritten (bytesFit load l old) (blocksFit load l old) (length (blocksGiven load l)) k p
-      (lent (filled load l (old .bytes)) (over (origins (blocksGiven load l)) (old .offsets)) (over (sizes (blocksGiven load l)) (old .sizes))) old e
+      unwritten (bytesFit load l old) (blocksFit load l old) (length (blocksGiven load l)) k p (taken load l old) old e
   kept-when (faulty line) k p e = refl
 
   module _ (read : Read) (r : Blocks) (new : Lent) (c : Reads load read old r new) where
     -- "4 for .. a bad file": exactly then, whatever room is lent.
     pub refused-4-exactly : (toldBy r ≡ refuses 4 (One 0)) ↔ Bad read
     refused-4-exactly = (λ e. told-4 read (sym (c .figures) ∙ e), λ b. c .figures ∙ ap (toldOf load old) (b .1))
+
+    -- The same by the line at fault, which `line_at_fault` answers.
+    pub refused-4-at-a-line : (toldBy r ≡ refuses 4 (One 0)) ↔ ((line : ℕ) × (faultOf read ≡ At line))
+    refused-4-at-a-line = (
+      λ e. let b = refused-4-exactly .0 e in (b .0, ap faultOf (b .1)),
+      λ l. refused-4-exactly .1 (at-line read (l .0) (l .1)),
+    )
 
     -- "then 14", place 0: exactly when a good file's bytes reach past those lent.
     pub refused-bytes-exactly : (toldBy r ≡ refuses 14 (One 0)) ↔ Good read Few
@@ -146,8 +156,7 @@ module _ (load : ℕ) (old : Lent) where
       found-when b p = let t = room b p in c .figures ∙ ap (toldOf load old) good ∙ rw (t .0, t .1)
 
       -- and what is lent afterwards
-      pub found-after : Enough pieces → EnoughPlaces pieces
-          → new ≡ lent (filled load pieces (old .bytes)) (over (origins (blocksGiven load pieces)) (old .offsets)) (over (sizes (blocksGiven load pieces)) (old .sizes))
+      pub found-after : Enough pieces → EnoughPlaces pieces → new ≡ taken load pieces old
       found-after b p = let t = room b p in c .after ∙ ap (lentAfter load old) good ∙ rw (t .0, t .1)
 
 -- ---- the lent bytes

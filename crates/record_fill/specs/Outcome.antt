@@ -51,11 +51,13 @@ toldOf load l (faulty line) = refuses 4 (One 0)
 abbrev pub allFit : ℕ → List Piece → Lent → Bool
 allFit load pieces l = bytesFit load pieces l && blocksFit load pieces l
 
+abbrev pub taken : ℕ → List Piece → Lent → Lent
+taken load pieces l =
+    let blocks = blocksGiven load pieces in
+    lent (filled load pieces (l .bytes)) (over (origins blocks) (l .offsets)) (over (sizes blocks) (l .sizes))
+
 abbrev pub lentAfter : ℕ → Lent → Read → Lent
-lentAfter load l (sound pieces) =
-    pick (allFit load pieces l)
-    (lent (filled load pieces (l .bytes)) (over (origins (blocksGiven load pieces)) (l .offsets)) (over (sizes (blocksGiven load pieces)) (l .sizes)))
-    l
+lentAfter load l (sound pieces) = pick (allFit load pieces l) (taken load pieces l) l
 lentAfter load l (faulty line) = l
 
 pub record Reads (load : ℕ) (read : Read) (old : Lent) (r : Blocks) (new : Lent) : Type 0 where

@@ -2,7 +2,7 @@
 -- S-records and written as Intel HEX gives the same bytes at the same addresses."
 use mathlib.Core.Path.{_≡_, refl, sym, ap, ap₂, subst, _∙_}
 use mathlib.Core.Bool.{Bool, true, false, _&&_}
-use mathlib.Core.List.{List, [], _∷_, _++_, map, List·Memᴰ, List·Memᴰ·head, List·Memᴰ·tail, List·Memᴰ·cases-cons, List·Memᴰ·not-nil, List·Memᴰ·append-cases, List·Memᴰ·eq-of-singleton}
+use mathlib.Core.List.{List, [], _∷_, map, List·Memᴰ, List·Memᴰ·not-nil, List·Memᴰ·append-cases, List·Memᴰ·eq-of-singleton}
 use mathlib.Core.Logic.{⊎-elim, _↔_}
 use Prim.Native.Nat.{ℕ, zero, suc, _+_, _-_, _*_, _/_, _%_, _≤_, _<_}
 use native.Mathlib.Omega.{arith}
@@ -30,7 +30,7 @@ use Rattle.record_fill.specs.ByteFacts.{own-byte}
 use Rattle.record_fill.specs.BlockFacts.{given-runs, blocks-cover-exactly}
 use Rattle.record_fill.specs.Runs.{isGiven, reach, runsGiven, inBits, blocksGiven}
 use Rattle.record_fill.specs.RunLaws.{AreRuns}
-use Rattle.record_fill.specs.Outcome.{Lent, lent, Reads}
+use Rattle.record_fill.specs.Outcome.{Lent, taken, Reads}
 use Rattle.record_write.specs.Bytes.{BlockByte, pieces-give-exactly}
 use Rattle.record_write.specs.Checks.{allParts, startsBehind, placed, allPlaced}
 use Rattle.record_write.specs.Cut.{blocksIn, piecesOf}
@@ -170,7 +170,7 @@ module _ (format load : ℕ) (text : List ℕ) (old : Lent) (r : Blocks) (new : 
   good-file : readText format load text ≡ sound given′
   good-file = found-good load old (readText format load text) r new c n found .1
 
-  after : new ≡ lent (filled load given′ (old .bytes)) (over (origins (blocksGiven load given′)) (old .offsets)) (over (sizes (blocksGiven load given′)) (old .sizes))
+  after : new ≡ taken load given′ old
   after =
       let g = found-good load old (readText format load text) r new c n found in
       found-after load old (readText format load text) r new c given′ good-file (g .2 .0) (g .2 .1)
@@ -203,7 +203,8 @@ module _ (format load : ℕ) (text : List ℕ) (old : Lent) (r : Blocks) (new : 
   room = found-good load old (readText format load text) r new c n found .2 .0
 
   -- What was read is never refused with 16 or 4 when it is written as Intel HEX.
-  pub recoded-accepted : AllParts (length (new .bytes)) (take n (new .offsets)) (take n (new .sizes)) × WellPlaced load (take n (new .offsets)) (take n (new .sizes))
+  pub recoded-accepted : AllParts (length (new .bytes)) (take n (new .offsets)) (take n (new .sizes))
+      × WellPlaced load (take n (new .offsets)) (take n (new .sizes))
   recoded-accepted = (
     parts-exactly (length (new .bytes)) (take n (new .offsets)) (take n (new .sizes)) .0
         (subst (λ (b : List Block). allParts (length (new .bytes)) b ≡ true) (sym same-list)

@@ -44,7 +44,8 @@ module _ (image offsets sizes : List ℕ) (load : ℕ) (good : Bytes image) wher
       → Reads load (readText format load text) old r new → length image ≤ length (old .bytes) → length offsets ≤ length (old .offsets)
       → length offsets ≤ length (old .sizes) → Back image (blocksIn offsets sizes) old r new
   back parts places format text reads old r new c room first second =
-      comes-back load image (blocksIn offsets sizes) good (parts-exactly (length image) offsets sizes .1 parts) (placed-all load offsets sizes places) format text
+      comes-back load image (blocksIn offsets sizes) good (parts-exactly (length image) offsets sizes .1 parts) (placed-all load offsets sizes places)
+      format text
       reads old r new c room (omega (arith, few offsets sizes)) (omega (arith, few offsets sizes))
 
   -- ---- Intel HEX

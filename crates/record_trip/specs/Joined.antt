@@ -41,6 +41,25 @@ unfolding joined
 joined-few [] = omega arith
 joined-few (b ∷ l) = omega (arith, before-few b (joined l), joined-few l)
 
+-- ---- blocks of which none touches the next stay as they are
+
+abbrev pub ApartFrom : Block → List Block → Type 0
+ApartFrom b [] = Unit {0}
+ApartFrom b (c ∷ l) = endOf b ≡ c .origin → ⊥
+
+abbrev pub NoneTouches : List Block → Type 0
+NoneTouches [] = Unit {0}
+NoneTouches (b ∷ l) = ApartFrom b l × NoneTouches l
+
+before-apart : (b : Block) (l : List Block) → ApartFrom b l → before b l ≡ b ∷ l
+before-apart b [] h = refl
+before-apart b (c ∷ l) h = rw (ne-eqb (endOf b) (c .origin) h)
+
+pub joined-apart : (l : List Block) → NoneTouches l → joined l ≡ l
+unfolding joined
+joined-apart [] h = refl
+joined-apart (b ∷ l) h = ap (before b) (joined-apart l (h .1)) ∙ before-apart b l (h .0)
+
 -- ---- in bits, as in bytes
 
 scaled : (b : Block) (l : List Block) → map inBits (before b l) ≡ before (inBits b) (map inBits l)

@@ -27,12 +27,13 @@ use Rattle.record_fill.specs.ByteFacts.{own-byte}
 use Rattle.record_fill.specs.BlockFacts.{none-above, given-runs}
 use Rattle.record_fill.specs.Runs.{isGiven, reach, runsGiven, inBits, blocksGiven}
 use Rattle.record_fill.specs.RunLaws.{AreRuns, one-list, runs-agree, runs-longer}
-use Rattle.record_fill.specs.Outcome.{Lent, lent, Reads}
+use Rattle.record_fill.specs.Outcome.{Lent, taken, Reads}
 use Rattle.record_write.specs.Checks.{allParts, startsBehind, allPlaced}
 use Rattle.record_write.specs.Cut.{piecesOf}
 use Rattle.record_write.specs.Bytes.{BlockByte, pieces-give-exactly}
 use Rattle.record_write.specs.Rising.{pieces-rise}
-use Rattle.record_trip.specs.Joined.{joined, joined-few, joined-scaled, covered, joined-runs, inBytes, InSome, covered-some, some-covered, edges, parts-in-order}
+use Rattle.record_trip.specs.Joined.{joined, joined-few, joined-scaled, covered, joined-runs, inBytes, InSome, covered-some, some-covered}
+use Rattle.record_trip.specs.Joined.{edges, parts-in-order}
 
 -- What comes back of an image's blocks, in everything that was lent: the number of blocks, with touching ones joined; each byte of a block where it was in the
 -- image; every other byte as it was; and the blocks, with those past them as they were.
@@ -150,7 +151,7 @@ module _ (load : ℕ) (image : List ℕ) (blocks : List Block) (good : Bytes ima
     few : length (blocksGiven load pieces) ≤ length blocks
     few = omega (arith, ap length blocks-back, joined-few blocks)
 
-    after : new ≡ lent (filled load pieces (old .bytes)) (over (origins (blocksGiven load pieces)) (old .offsets)) (over (sizes (blocksGiven load pieces)) (old .sizes))
+    after : new ≡ taken load pieces old
     after =
         found-after load old (readText format load text) r new c pieces reads (omega (arith, reach-inside)) (omega (arith, few), omega (arith, few))
 

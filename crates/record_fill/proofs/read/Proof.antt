@@ -31,7 +31,8 @@ take-requires c κs =
     let n = b .before .before in
     let m = n .before .before in
     let a = m .before .before .before .before .before .args in
-    scanned-ready (scan-whole (a .format) (a .load) (a .text .now) (m .scan-lines .result) (m .scan-lines .ensures) _ _ _ (n .n .given .1)) (b .above .ensures .0)
+    scanned-ready (scan-whole (a .format) (a .load) (a .text .now) (m .scan-lines .result) (m .scan-lines .ensures) _ _ _ (n .n .given .1))
+    (b .above .ensures .0)
 
 same-length : tie.Need-same-length
 same-length c = search needs
