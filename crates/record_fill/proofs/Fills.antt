@@ -103,7 +103,7 @@ module _ (format : ℕ) (text : List ℕ) (n load : ℕ) (old : List ℕ) where
           few = omega arith;
           place = next-at format text k r t;
           force = next-state format text k r t;
-          inside = s .inside;
+          inside = s .inside (w .inside);
           stored =
               e ∙ ap (λ (m : List ℕ). filled load (piece (r .line .address) (bytesAt m (r .line .first) (r .line .count)) ∷ []) bytes)
               (l ∙ ap (lineAt text) (w .place))

@@ -104,7 +104,7 @@ module _ (format : ℕ) (text : List ℕ) (n load from : ℕ) where
           few = omega arith;
           place = next-at format text k r t;
           force = next-state format text k r t;
-          inside = s .inside;
+          inside = s .inside (w .inside);
           low =
               lowest-agree (λ x. isGiven load pieces x || inRun next x) (isGiven load (trail format text (k + 1) .given)) from best′
               (λ x.
@@ -211,7 +211,7 @@ module _ (format : ℕ) (text : List ℕ) (n load : ℕ) (os₀ ss₀ : List ℕ
               few = omega arith;
               place = next-at format text k r stepped;
               force = next-state format text k r stepped;
-              inside = s .inside;
+              inside = s .inside (w .inside);
               listed = subst (λ (e : ℕ). Listed (isGiven load after) os₀ ss₀ (joinedBy q next) e count′ os′ ss′) (sym joined) listed;
               top =
                   joined
@@ -238,7 +238,7 @@ module _ (format : ℕ) (text : List ℕ) (n load : ℕ) (os₀ ss₀ : List ℕ
               few = omega arith;
               place = next-at format text k r stepped;
               force = next-state format text k r stepped;
-              inside = s .inside;
+              inside = s .inside (w .inside);
               listed =
                   subst (λ (e : ℕ). Listed (isGiven load after) os₀ ss₀ (joinedBy q next) e count′ os′ ss′) (ap (λ (z : Run). z .end) (sym same)) listed;
               top =

@@ -1,8 +1,8 @@
 -- Laws of lines, trails and reading, on plain values.
-use mathlib.Core.Path.{_≡_, refl, sym, ap, subst, _∙_}
+use mathlib.Core.Path.{_≡_, refl, sym, ap, ap₂, subst, _∙_}
 use mathlib.Core.Bool.{Bool, true, false, _&&_, _||_}
 use mathlib.Core.List.{List, [], _∷_, _++_, append-nil}
-use Prim.Native.Nat.{ℕ, zero, suc, _+_, _-_, _*_, _<_, _≤_, max}
+use Prim.Native.Nat.{ℕ, zero, suc, _+_, _-_, _*_, _<_, _≤_, max, min}
 use native.Mathlib.Numerals.{add-one}
 use native.Mathlib.Omega.{arith}
 use native.Mathlib.Decide.{decLt}
@@ -68,6 +68,25 @@ module _ (text : List ℕ) (at : ℕ) where
   line-part stop e =
       let left : stop - at ≡ length (lineAt text at) = omega arith in
       ap (λ (n : ℕ). take n (drop at text)) left ∙ first-is-front (drop at text)
+
+  none-left : length text < at → lineAt text at ≡ []
+  unfolding firstLine
+  none-left h = ap firstLine (drop-of-length-le text {i = at} (omega arith))
+
+  -- The part that is cut out, behind the text too.
+  pub line-cut : (stop end start : ℕ) → stop ≡ at + length (lineAt text at) → end ≡ min stop (length text) → start ≡ min at end
+      → take (end - start) (drop start text) ≡ lineAt text at
+  line-cut stop end start e f g =
+      elim (decLt (length text) at) [
+        | yes p ↦
+            let none : end - start ≡ 0 = omega (arith, ap length (none-left p)) in
+            ap (λ (n : ℕ). take n (drop start text)) none ∙ sym (none-left p)
+        | no p ↦
+            let within = stop-inside (omega arith) in
+            let same-end : end ≡ stop = omega arith in
+            let same-start : start ≡ at = omega arith in
+            ap₂ (λ (m n : ℕ). take (m - n) (drop n text)) same-end same-start ∙ line-part stop e
+      ]
 
 lines-some : (t : List ℕ) → 0 < length t → linesOf t ≡ firstLine t ∷ linesOf (drop (taken t) t)
 lines-some [] h = absurd (omega arith)

@@ -56,7 +56,7 @@ module _ (format : ℕ) (text : List ℕ) (n first end : ℕ) where
               ∙ ap (λ (x : Bool). x && isNew (newPieces (said format text k r)) first end) (w .kept)
               ∙ sym (new-append (trail format text k .given) (newPieces (said format text k r)) first end)
               ∙ ap (λ (l : List Piece). isNew l first end) (next-given format text k r);
-          inside = s .inside;
+          inside = s .inside (w .inside);
         }
 
     pub looking-ends : n ≤ k → ok ≡ isNew (trail format text n .given) first end
@@ -141,7 +141,7 @@ module _ (format load : ℕ) (text : List ℕ) where
           turn h ∙ ap (laters n) (on′ load (now .state) first (now .given) (isNone behind) (readFrom (formatBy format) load behind) item allowed) in
           record {
             few = omega (arith, s .onward h, w .few);
-            inside = s .inside;
+            inside = s .inside (w .inside);
             place = next-at format text n r stepped;
             force = next-state format text n r stepped;
             top = sym (both .1) ∙ high-new (now .given) high (stepped .says) (w .top) ∙ ap highest (next-given format text n r);

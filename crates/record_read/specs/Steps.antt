@@ -28,10 +28,10 @@ pub record Stepped (format : ℕ) (text : List ℕ) (at state : ℕ) (r : Step) 
   pub says : Says (lineAt text at) state (firstBy format (lineAt text at)) (r .line) (itemAt format text at state)
   pub stop : r .stop ≡ at + length (lineAt text at)
   pub start : at ≤ r .stop
-  pub within : r .stop ≤ length text
+  pub within : at ≤ length text → r .stop ≤ length text
   pub part : take (r .stop - at) (drop at text) ≡ lineAt text at
   pub next : r .next ≡ nextOf text at
-  pub inside : r .next ≤ length text
+  pub inside : at ≤ length text → r .next ≤ length text
   pub onward : at < length text → at < r .next
 
 -- A line that was read, by its kind, address and count, gives no byte from `first` on and below `end`.

@@ -2,7 +2,7 @@
 use records::Line;
 ghost use mathlib.Core.Path.{_≡_};
 ghost use mathlib.Core.Bool.{_&&_};
-ghost use Prim.Native.Nat.{_+_, _*_, _≤_, _<_, max};
+ghost use Prim.Native.Nat.{_+_, _*_, _≤_, _<_, max, min};
 ghost use lib.ListN.{length};
 ghost use Rattle.records.specs.Items.{Says};
 ghost use Rattle.record_read.specs.Reading.{formatBy, isNew, readText};
@@ -45,14 +45,21 @@ fn line_in(format: u8, line: &[u8], state: u16) -> Line
     srec_line::line_of(line, state)
 }
 
-// The line that begins at a place.
+fn least(a: usize, b: usize) -> usize
+    ensures { λ r. ⌜ r ≡ min a b ⌝ }
+{
+    if a < b { a } else { b }
+}
+
+// The line that begins at a place; behind the text it is empty.
 pub fn take_line(format: u8, text: &[u8], at: usize, state: u16) -> Step
-    requires { ⌜ at ≤ length (now text) ⌝ }
     ensures { λ r. ⌜ Stepped format (now (text .entry)) at state r ⌝ }
 {
     let cut = records::line_from(text, at);
     let stop = cut.stop;
-    let line = line_in(format, &text[at..stop], state);
+    let end = least(stop, text.len());
+    let start = least(at, end);
+    let line = line_in(format, &text[start..end], state);
     Step {
         line,
         stop,

@@ -15,7 +15,7 @@ loop-holds : tie.Need-loop-holds Inv-loop μ-loop
 loop-holds c = let a = c .before .before .args in filling-starts (a .format) (a .text .now) (a .n) (a .load) (a .bytes .now)
 
 take-line-requires : tie.Need-take-line-requires Inv-loop μ-loop
-take-line-requires c κs = c .before .loop .inv .inside
+take-line-requires c κs = search needs
 
 sub-fill-line : tie.Need-sub-fill-line Inv-loop μ-loop
 sub-fill-line c = c .before .take-line .ensures .start
@@ -24,7 +24,7 @@ part-fill-line-start : tie.Need-part-fill-line-start Inv-loop μ-loop
 part-fill-line-start c = c .before .take-line .ensures .start
 
 part-fill-line-end : tie.Need-part-fill-line-end Inv-loop μ-loop
-part-fill-line-end c = c .before .take-line .ensures .within
+part-fill-line-end c = c .before .take-line .ensures .within (c .before .before .before .loop .inv .inside)
 
 fill-line-requires : tie.Need-fill-line-requires Inv-loop μ-loop
 fill-line-requires c κs = search needs

@@ -25,7 +25,7 @@ loop-holds c =
     rising-starts (a .format) (a .text .now) (a .n) (a .load) (a .offsets .now) (a .sizes .now)
 
 take-line-requires : tie.Need-take-line-requires Inv-loop μ-loop
-take-line-requires c κs = c .before .loop .inv .inside
+take-line-requires c κs = search needs
 
 extent-requires : tie.Need-extent-requires Inv-loop μ-loop
 extent-requires c κs = search needs

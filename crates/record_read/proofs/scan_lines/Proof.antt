@@ -18,7 +18,7 @@ loop-holds : tie.Need-loop-holds Inv-loop μ-loop
 loop-holds c = let a = c .before .args in scanning-starts (a .format) (a .load) (a .text .now)
 
 take-line-requires : tie.Need-take-line-requires Inv-loop μ-loop
-take-line-requires c κs = c .before .loop .inv .inside
+take-line-requires c κs = search needs
 
 closing-requires : tie.Need-closing-requires Inv-loop μ-loop
 closing-requires c κs =
@@ -63,7 +63,7 @@ add-n c = search needs
 loop-less : tie.Need-loop-less Inv-loop μ-loop
 loop-less c =
     let t = c .before .before .before .before .before .before .before .before .before in
-    omega (arith, t .take-line .ensures .onward (t .before .loop-test .taken), t .take-line .ensures .inside)
+    omega (arith, t .take-line .ensures .onward (t .before .loop-test .taken), t .take-line .ensures .inside (t .before .before .loop .inv .inside))
 
 loop-again : tie.Need-loop-again Inv-loop μ-loop
 loop-again c =
