@@ -1,8 +1,8 @@
 -- Bytes that are stored one behind the other.
-use mathlib.Core.Path.{_≡_, refl, sym, ap, ap₂, subst, _∙_}
-use mathlib.Core.List.{List, [], _∷_, _++_}
+use mathlib.Core.Path.{_≡_, refl, sym, ap, ap₂, _∙_}
+use mathlib.Core.List.{List, [], _∷_}
 use mathlib.Core.Logic.{_⊎_, inl, inr}
-use Prim.Native.Nat.{ℕ, zero, suc, _+_, _-_, _*_, _≤_, _<_}
+use Prim.Native.Nat.{ℕ, _+_, _-_, _*_, _≤_, _<_}
 use native.Mathlib.Nat.{le-antisymm}
 use native.Mathlib.Decide.{decLt, ℕ-discrete}
 use native.Mathlib.Omega.{arith}
@@ -13,11 +13,11 @@ use Rattle.records.specs.Digits.{pairAt, bytesAt}
 use Rattle.records.specs.Pieces.{Piece, piece}
 use Rattle.records.specs.Sums.{list-one-more}
 use Rattle.record_read.specs.Reading.{newPieces}
-use Rattle.record_read.specs.Trail.{trail, lineAt, itemAt}
+use Rattle.record_read.specs.Trail.{trail, lineAt}
 use Rattle.record_read.specs.TrailLaws.{said, moved, next-at, next-state, next-given}
 use Rattle.record_read.specs.Steps.{Stepped}
 use Rattle.record_read.specs.declared.Step.{Step}
-use Rattle.record_fill.specs.Given.{byteAt, filled}
+use Rattle.record_fill.specs.Given.{filled}
 use Rattle.record_fill.specs.GivenLaws.{filled-long, filled-is, filled-none, filled-append, filled-split, byte-in, byte-before, byte-behind}
 use Rattle.record_fill.proofs.LineLaws.{line-fills}
 

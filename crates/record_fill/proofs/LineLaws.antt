@@ -2,7 +2,7 @@
 use mathlib.Core.Path.{_≡_, refl, sym, ap, ap₂, subst, _∙_}
 use mathlib.Core.Bool.{Bool, true, false, _&&_, _||_}
 use mathlib.Core.List.{List, [], _∷_, _++_}
-use Prim.Native.Nat.{ℕ, zero, suc, _+_, _-_, _≤_, _<_, max}
+use Prim.Native.Nat.{ℕ, suc, _+_, _-_, _≤_, _<_}
 use native.Mathlib.Decide.{decLt, decLe}
 use native.Mathlib.Omega.{arith}
 use borrow.Author.Tests.{le-leb, lt-leb, lt-ltb, le-ltb, leb-true}
@@ -12,15 +12,14 @@ use Rattle.refusal.specs.Bools.{either}
 use Rattle.bitvec.specs.Lists.{listOf}
 use Rattle.records.specs.Digits.{bytesAt}
 use Rattle.records.specs.Items.{Item, gives, passes, ends, bad, asLine, itemOf, Says}
-use Rattle.records.specs.Pieces.{Piece, piece, endOf}
+use Rattle.records.specs.Pieces.{Piece, piece}
 use Rattle.records.specs.declared.Line.{Line}
 use Rattle.record_read.specs.Reading.{newPieces, isNew}
 use Rattle.record_read.specs.Steps.{highest}
-use Rattle.record_fill.specs.Given.{holds, given, byteAt, filled}
+use Rattle.record_fill.specs.Given.{given, filled}
 use Rattle.record_fill.specs.GivenLaws.{given-append, filled-is, filled-none, byte-behind, byte-before}
 use Rattle.record_fill.specs.Runs.{isGiven}
-use Rattle.record_fill.specs.Steps.{run, inRun, extentOf}
-use Rattle.record_fill.specs.declared.Run.{Run}
+use Rattle.record_fill.specs.Steps.{inRun, extentOf}
 
 or-false : (b : Bool) → (b || false) ≡ b
 or-false true = refl

@@ -1,7 +1,7 @@
 -- The loops over a file's lines: what is known before each turn, and a law for each way on.
-use mathlib.Core.Path.{_≡_, refl, sym, ap, ap₂, subst, _∙_}
-use mathlib.Core.Bool.{Bool, true, false, _&&_, _||_}
-use mathlib.Core.List.{List, [], _∷_, _++_, map}
+use mathlib.Core.Path.{_≡_, refl, sym, ap, subst, _∙_}
+use mathlib.Core.Bool.{Bool, true, false, _||_}
+use mathlib.Core.List.{List, [], map}
 use Prim.Native.Nat.{ℕ, zero, suc, _+_, _-_, _≤_, _<_, max}
 use native.Mathlib.Nat.{le-antisymm}
 use native.Mathlib.Decide.{decLt, ℕ-discrete}
@@ -9,21 +9,18 @@ use native.Mathlib.Omega.{arith}
 use borrow.Author.Tests.{le-leb, lt-leb, lt-ltb, le-ltb}
 use lib.Dec.{leb, ltb}
 use lib.ListN.{length}
-use Rattle.refusal.specs.Bools.{either, clash, both}
+use Rattle.refusal.specs.Bools.{either, both}
 use Rattle.refusal.specs.Pick.{pick}
-use Rattle.blocks.specs.declared.Block.{Block}
 use Rattle.blocks.specs.Put.{Put}
-use Rattle.records.specs.Items.{Item}
 use Rattle.records.specs.Pieces.{Piece}
 use Rattle.record_read.specs.Reading.{newPieces, isNew}
-use Rattle.record_read.specs.Trail.{Trail, trail, itemAt}
+use Rattle.record_read.specs.Trail.{trail, itemAt}
 use Rattle.record_read.specs.TrailLaws.{said, moved, next-at, next-state, next-given, high-append}
 use Rattle.record_read.specs.Steps.{Stepped, highest, rises}
 use Rattle.record_read.specs.declared.Step.{Step}
 use Rattle.record_fill.specs.Given.{given}
 use Rattle.record_fill.specs.BlockFacts.{none-above, all-below}
 use Rattle.record_fill.specs.Runs.{isGiven, reach, inBits, runsGiven, blocksGiven}
-use Rattle.record_fill.specs.RunLaws.{Clear, Holds}
 use Rattle.record_fill.specs.Steps.{run, inRun, extentOf, keptRun, closedBy, joinedBy, Small, Lowest, Betters}
 use Rattle.record_fill.specs.declared.Run.{Run}
 use Rattle.record_fill.proofs.LineLaws.{line-high, line-none, line-above, given-more}

@@ -1,10 +1,10 @@
 -- A step of looking for the lowest stretch: a law for each way that it goes.
-use mathlib.Core.Path.{_≡_, refl, sym, ap, subst, _∙_}
+use mathlib.Core.Path.{_≡_, refl}
 use mathlib.Core.Bool.{Bool, true, false, _||_}
-use Prim.Native.Nat.{ℕ, _+_, _≤_, _<_, max}
+use Prim.Native.Nat.{ℕ, _≤_, _<_, max}
 use native.Mathlib.Decide.{decLt}
 use native.Mathlib.Omega.{arith}
-use Rattle.record_fill.specs.Steps.{run, inRun, Small, Lowest, Betters}
+use Rattle.record_fill.specs.Steps.{run, inRun, Betters}
 use Rattle.record_fill.specs.declared.Run.{Run}
 use Rattle.record_fill.proofs.Loops.{in-run, before-run, behind-run}
 

@@ -1,16 +1,16 @@
 -- Runs that are found one behind the other: those that are closed, and one that goes on.
 use mathlib.Core.Path.{_≡_, refl, sym, ap, ap₂, subst, _∙_}
-use mathlib.Core.Bool.{Bool, true, false, _&&_, _||_}
+use mathlib.Core.Bool.{Bool, true, false}
 use mathlib.Core.List.{List, [], _∷_, _++_, map, map-append, append-nil}
-use Prim.Native.Nat.{ℕ, zero, suc, _+_, _-_, _*_, _≤_, _<_, max}
-use native.Mathlib.Decide.{decLt, decLe, ℕ-discrete}
+use Prim.Native.Nat.{ℕ, suc, _+_, _-_, _*_, _≤_, _<_}
+use native.Mathlib.Decide.{decLt, ℕ-discrete}
 use native.Mathlib.Omega.{arith}
 use native.Mathlib.Nat.{add-zero}
-use borrow.Author.Tests.{le-leb, lt-leb, lt-ltb, le-ltb, leb-true, eq-eqb, ne-eqb, eqb-true, eqb-false}
-use lib.Dec.{leb, ltb, eqb}
+use borrow.Author.Tests.{lt-ltb, le-ltb, eq-eqb, ne-eqb}
+use lib.Dec.{ltb, eqb}
 use lib.ListN.{length, set, length-append, length-map}
 use lib.Seq.{sets, length-sets}
-use Rattle.refusal.specs.Bools.{either, clash}
+use Rattle.refusal.specs.Bools.{either}
 use Rattle.refusal.specs.Pick.{pick}
 use Rattle.blocks.specs.declared.Block.{Block}
 use Rattle.blocks.specs.Walk.{block}
@@ -19,7 +19,7 @@ use Rattle.blocks.specs.Put.{Put}
 use Rattle.records.specs.Puts.{sets-behind}
 use Rattle.record_fill.specs.Runs.{runs, inBits}
 use Rattle.record_fill.specs.RunLaws.{Clear, Holds, AreRuns, runs-are, one-list, runs-more, runs-agree}
-use Rattle.record_fill.specs.Steps.{run, inRun, keptRun, closedBy, joinedBy, Small, Lowest, Betters}
+use Rattle.record_fill.specs.Steps.{run, keptRun, closedBy, joinedBy, Small}
 use Rattle.record_fill.specs.declared.Run.{Run}
 
 -- ---- runs

@@ -1,16 +1,16 @@
 -- The blocks that a file gives: "ascending, touching ones joined, whatever the order of the records".
-use mathlib.Core.Path.{_≡_, refl, sym, ap, subst, _∙_}
+use mathlib.Core.Path.{_≡_, refl, ap, subst}
 use mathlib.Core.Bool.{Bool, true, false}
 use mathlib.Core.List.{List, [], _∷_, map, List·Memᴰ, List·Memᴰ·head, List·Memᴰ·tail, List·Memᴰ·cases-cons, List·Memᴰ·not-nil}
-use mathlib.Core.Logic.{_⊎_, inl, inr, ⊎-elim, _↔_}
-use Prim.Native.Nat.{ℕ, zero, suc, _+_, _-_, _*_, _/_, _≤_, _<_, max}
+use mathlib.Core.Logic.{_⊎_, ⊎-elim, _↔_}
+use Prim.Native.Nat.{ℕ, suc, _+_, _-_, _*_, _/_, _≤_, _<_, max}
 use native.Mathlib.Decide.{decLt}
 use native.Mathlib.Nat.{zero-add}
 use native.Mathlib.Omega.{arith}
-use Rattle.refusal.specs.Bools.{either, clash}
+use Rattle.refusal.specs.Bools.{clash}
 use Rattle.sort.specs.Order.{NoneBelow, none-below-less}
 use Rattle.blocks.specs.declared.Block.{Block}
-use Rattle.blocks.specs.Walk.{block, endOf}
+use Rattle.blocks.specs.Walk.{endOf}
 use Rattle.blocks.specs.Bits.{InBlock, Some}
 use Rattle.blocks.specs.Rising.{originOf}
 use Rattle.records.specs.Pieces.{Piece}

@@ -1,27 +1,26 @@
 -- The lent bytes and blocks after a file is read: "exactly the bytes that the file gives change".
-use mathlib.Core.Path.{_≡_, refl, sym, ap, subst, _∙_}
-use mathlib.Core.Bool.{Bool, true, false, _&&_, _||_}
-use mathlib.Core.List.{List, [], _∷_, _++_, map, List·Memᴰ, List·Memᴰ·append-cases, List·Memᴰ·eq-of-singleton, List·Memᴰ·head}
+use mathlib.Core.Path.{_≡_, refl, sym, ap, _∙_}
+use mathlib.Core.Bool.{true, false, _&&_, _||_}
+use mathlib.Core.List.{List, [], _∷_, List·Memᴰ·append-cases, List·Memᴰ·eq-of-singleton}
 use mathlib.Core.Logic.{⊎-elim, _↔_}
-use Prim.Native.Nat.{ℕ, zero, suc, _+_, _-_, _≤_, _<_}
+use Prim.Native.Nat.{ℕ, _+_, _-_, _≤_, _<_}
 use native.Mathlib.Omega.{arith}
 use borrow.Author.Tests.{leb-true, leb-false}
 use lib.Dec.{leb}
-use lib.ListN.{length, getD, drop, length-append, length-drop, length-map, List·getD-append, List·getD-map}
+use lib.ListN.{length, getD, drop, length-map, List·getD-append, List·getD-map}
 use lib.Seq.{getD-append-add, getD-drop}
-use Rattle.refusal.specs.Bools.{either, clash, both, neither}
+use Rattle.refusal.specs.Bools.{either, clash, both}
 use Rattle.refusal.specs.Told.{gives}
-use Rattle.blocks.specs.declared.Block.{Block}
 use Rattle.blocks.specs.declared.Blocks.{Blocks}
 use Rattle.blocks.specs.Outcome.{origins, sizes, over, toldBy}
 use Rattle.blocks.specs.Walk.{block}
-use Rattle.records.specs.Pieces.{Piece, piece, endOf, GivesAt}
-use Rattle.record_read.specs.Reading.{Read, sound, faulty, isNew, fine, readText}
+use Rattle.records.specs.Pieces.{Piece, endOf, GivesAt}
+use Rattle.record_read.specs.Reading.{sound, isNew, readText}
 use Rattle.record_read.specs.Sound.{Fine, none, more, sound-pieces-fine}
 use Rattle.record_fill.specs.Given.{holds, given, byteAt, filled}
 use Rattle.record_fill.specs.GivenLaws.{byte-append, byte-in, byte-before, byte-behind, filled-at, filled-is, filled-long}
-use Rattle.record_fill.specs.Facts.{given-gives, gives-given, byte-kept, found-good, found-after, Good, Enough, EnoughPlaces}
-use Rattle.record_fill.specs.Runs.{reach, blocksGiven}
+use Rattle.record_fill.specs.Facts.{given-gives, gives-given, byte-kept, found-good, found-after}
+use Rattle.record_fill.specs.Runs.{blocksGiven}
 use Rattle.record_fill.specs.Outcome.{Lent, taken, Reads}
 
 -- What is new is not among what is given.

@@ -1,25 +1,22 @@
 -- What a call that reads tells, and what it leaves: of every outcome that meets its contract.
-use mathlib.Core.Path.{_≡_, refl, sym, ap, subst, _∙_}
-use mathlib.Core.Bool.{Bool, true, false, _&&_, _||_}
-use mathlib.Core.List.{List, [], _∷_, _++_, map, List·Memᴰ, List·Memᴰ·head, List·Memᴰ·tail, List·Memᴰ·cases-cons, List·Memᴰ·not-nil}
-use mathlib.Core.Logic.{_⊎_, inl, inr, ⊎-elim, _↔_}
-use Prim.Native.Nat.{ℕ, zero, suc, _+_, _-_, _≤_, _<_}
-use native.Mathlib.Decide.{decLt}
+use mathlib.Core.Path.{_≡_, refl, sym, ap, _∙_}
+use mathlib.Core.Bool.{Bool, true, false, _&&_}
+use mathlib.Core.List.{List, [], _∷_, List·Memᴰ·head, List·Memᴰ·tail, List·Memᴰ·cases-cons, List·Memᴰ·not-nil}
+use mathlib.Core.Logic.{_⊎_, ⊎-elim, _↔_}
+use Prim.Native.Nat.{ℕ, _+_, _-_, _≤_, _<_}
 use native.Mathlib.Omega.{arith}
 use borrow.Author.Tests.{le-leb, lt-leb, lt-ltb, leb-true, leb-false, ltb-true}
 use lib.Dec.{leb, ltb}
-use lib.ListN.{length, getD, drop, length-append, length-drop, length-map, List·getD-append}
-use lib.Seq.{getD-append-add, getD-drop}
+use lib.ListN.{length, getD}
 use Rattle.refusal.specs.Bools.{either, clash, both}
 use Rattle.refusal.specs.Pick.{pick}
 use Rattle.refusal.specs.Told.{Told, gives, refuses}
 use Rattle.refusal.specs.declared.Place.{Place}
 use Rattle.refusal.specs.declared.Place.the-variants.{One}
-use Rattle.blocks.specs.declared.Block.{Block}
 use Rattle.blocks.specs.declared.Blocks.{Blocks}
 use Rattle.blocks.specs.Exactly.{room-exactly, no-room-exactly}
 use Rattle.blocks.specs.Outcome.{toldBy}
-use Rattle.records.specs.Pieces.{Piece, piece, endOf, GivesAt}
+use Rattle.records.specs.Pieces.{Piece, endOf, GivesAt}
 use Rattle.record_read.specs.Outcome.{faultOf}
 use Rattle.record_read.specs.Reading.{Read, sound, faulty}
 use Rattle.record_read.specs.declared.Fault.the-variants.{At}

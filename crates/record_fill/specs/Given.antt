@@ -1,6 +1,6 @@
 -- What a file gives, address by address, and the lent bytes afterwards. Document 02, Ticket 1: "It fills lent bytes and blocks, counted from that address."
 -- "Exactly the bytes that the file gives change. Every other lent byte, gaps too, keeps its contents."
-use mathlib.Core.Bool.{Bool, true, false, _&&_, _||_}
+use mathlib.Core.Bool.{Bool, false, _&&_, _||_}
 use mathlib.Core.List.{List, [], _∷_}
 use Prim.Native.Nat.{ℕ, _+_, _-_}
 use lib.Dec.{leb, ltb}

@@ -1,17 +1,17 @@
 -- Laws of what pieces give.
-use mathlib.Core.Path.{_≡_, refl, sym, ap, ap₂, subst, _∙_}
+use mathlib.Core.Path.{_≡_, refl, sym, ap, _∙_}
 use mathlib.Core.Bool.{Bool, true, false, _&&_, _||_}
 use mathlib.Core.List.{List, [], _∷_, _++_}
-use Prim.Native.Nat.{ℕ, zero, suc, _+_, _-_, _≤_, _<_, max}
-use native.Mathlib.Decide.{decLt, decLe}
+use Prim.Native.Nat.{ℕ, _+_, _-_, _≤_, _<_}
+use native.Mathlib.Decide.{decLt}
 use native.Mathlib.Omega.{arith}
-use borrow.Author.Tests.{le-leb, lt-leb, lt-ltb, le-ltb, leb-true, ltb-true}
+use borrow.Author.Tests.{le-leb, lt-leb, lt-ltb, le-ltb}
 use lib.Dec.{leb, ltb}
 use lib.ListN.{length, getD, length-append, List·getD-append}
 use lib.Seq.{ext-getD, getD-append-add}
-use Rattle.refusal.specs.Bools.{either, clash, both}
+use Rattle.refusal.specs.Bools.{either, clash}
 use Rattle.refusal.specs.Pick.{pick}
-use Rattle.bitvec.specs.Lists.{listOf, length-listOf, getD-listOf}
+use Rattle.bitvec.specs.Lists.{length-listOf, getD-listOf}
 use Rattle.records.specs.Pieces.{Piece, piece, endOf}
 use Rattle.record_read.specs.Steps.{highest}
 use Rattle.record_fill.specs.Given.{holds, given, byteAt, filled}

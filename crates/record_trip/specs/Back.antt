@@ -3,12 +3,11 @@
 use mathlib.Core.Path.{_≡_, refl, sym, ap, _∙_}
 use mathlib.Core.Bool.{Bool, true}
 use mathlib.Core.List.{List, [], _∷_, _++_, append-assoc, append-nil}
-use Prim.Native.Nat.{ℕ, suc, _+_, _≤_, _<_, max}
+use Prim.Native.Nat.{ℕ, suc, _+_, _≤_, _<_}
 use native.Mathlib.Omega.{arith}
 use borrow.Author.Tests.{le-leb, ne-eqb}
-use lib.Dec.{leb, eqb}
 use lib.ListN.{length}
-use Rattle.records.specs.Items.{Item, gives, Format}
+use Rattle.records.specs.Items.{gives, Format}
 use Rattle.records.specs.Lines.{linesOf}
 use Rattle.records.specs.Pieces.{Piece, piece, endOf}
 use Rattle.records.specs.Telling.{Tells, closes, skips, tells, Rises}

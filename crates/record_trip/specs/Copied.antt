@@ -1,26 +1,26 @@
 -- What was read from a file is accepted for writing, and a file of it gives the same bytes at the same addresses. Document 02, Ticket 12: "A file read from
 -- S-records and written as Intel HEX gives the same bytes at the same addresses."
 use mathlib.Core.Path.{_≡_, refl, sym, ap, ap₂, subst, _∙_}
-use mathlib.Core.Bool.{Bool, true, false, _&&_}
+use mathlib.Core.Bool.{Bool, true, _&&_}
 use mathlib.Core.List.{List, [], _∷_, map, List·Memᴰ, List·Memᴰ·not-nil, List·Memᴰ·append-cases, List·Memᴰ·eq-of-singleton}
 use mathlib.Core.Logic.{⊎-elim, _↔_}
-use Prim.Native.Nat.{ℕ, zero, suc, _+_, _-_, _*_, _/_, _%_, _≤_, _<_}
+use Prim.Native.Nat.{ℕ, suc, _+_, _-_, _*_, _/_, _≤_, _<_}
 use native.Mathlib.Omega.{arith}
 use borrow.Author.Tests.{le-leb, leb-true, eq-eqb}
-use lib.Dec.{leb, eqb}
+use lib.Dec.{leb}
 use lib.ListN.{length, getD, take, drop, length-map}
 use lib.Seq.{take-at}
 use Rattle.refusal.specs.Bools.{both}
 use Rattle.refusal.specs.Told.{gives}
 use Rattle.bitvec.specs.Bits.{Bytes}
-use Rattle.bitvec.specs.Part.{isPart, IsPart, isPart-true, isPart-when}
+use Rattle.bitvec.specs.Part.{IsPart, isPart-when}
 use Rattle.blocks.specs.declared.Block.{Block}
 use Rattle.blocks.specs.declared.Blocks.{Blocks}
-use Rattle.blocks.specs.Bits.{InBlock, Some}
-use Rattle.blocks.specs.Outcome.{origins, sizes, over, toldBy}
+use Rattle.blocks.specs.Bits.{InBlock}
+use Rattle.blocks.specs.Outcome.{origins, sizes, toldBy}
 use Rattle.blocks.specs.Walk.{block}
 use Rattle.records.specs.Pieces.{Piece, endOf, GivesAt}
-use Rattle.record_read.specs.Reading.{Read, sound, isNew, readText}
+use Rattle.record_read.specs.Reading.{sound, isNew, readText}
 use Rattle.record_read.specs.Sound.{Fine, none, more, sound-pieces-fine}
 use Rattle.record_read.specs.Steps.{highest}
 use Rattle.record_fill.specs.Given.{given, filled}
@@ -32,7 +32,7 @@ use Rattle.record_fill.specs.Runs.{isGiven, reach, runsGiven, inBits, blocksGiv
 use Rattle.record_fill.specs.RunLaws.{AreRuns}
 use Rattle.record_fill.specs.Outcome.{Lent, taken, Reads}
 use Rattle.record_write.specs.Bytes.{BlockByte, pieces-give-exactly}
-use Rattle.record_write.specs.Checks.{allParts, startsBehind, placed, allPlaced}
+use Rattle.record_write.specs.Checks.{allParts, startsBehind, allPlaced}
 use Rattle.record_write.specs.Cut.{blocksIn, piecesOf}
 use Rattle.record_write.specs.Exactly.{AllParts, WellPlaced, parts-exactly, placed-exactly}
 use Rattle.record_write.specs.Outcome.{toldWritten}

@@ -1,8 +1,8 @@
 -- The files that `write_ihex` and `write_srec` leave, read again at the same load address: for every image, list of blocks and load address that they accept.
-use mathlib.Core.Path.{_≡_, sym, ap, subst, _∙_}
+use mathlib.Core.Path.{_≡_, ap, subst, _∙_}
 use mathlib.Core.Bool.{true}
 use mathlib.Core.List.{List, [], _∷_}
-use Prim.Native.Nat.{ℕ, suc, _≤_}
+use Prim.Native.Nat.{ℕ, _≤_}
 use native.Mathlib.Omega.{arith}
 use lib.Dec.{eqb}
 use lib.ListN.{length, take}
@@ -12,7 +12,7 @@ use Rattle.bitvec.specs.Bits.{Bytes}
 use Rattle.blocks.specs.declared.Blocks.{Blocks}
 use Rattle.record_read.specs.Reading.{sound, readText}
 use Rattle.record_fill.specs.Outcome.{Lent, Reads}
-use Rattle.record_write.specs.Checks.{allParts, allPlaced}
+use Rattle.record_write.specs.Checks.{allPlaced}
 use Rattle.record_write.specs.Cut.{blocksIn, piecesOf}
 use Rattle.record_write.specs.Exactly.{AllParts, WellPlaced, parts-exactly, placed-exactly}
 use Rattle.record_write.specs.Outcome.{toldWritten}

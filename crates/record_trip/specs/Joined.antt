@@ -1,9 +1,9 @@
 -- "touching blocks joined": a block that ends where the next one begins is one with it.
-use mathlib.Core.Path.{_≡_, refl, sym, ap, ap₂, subst, _∙_}
+use mathlib.Core.Path.{_≡_, refl, ap, ap₂, subst, _∙_}
 use mathlib.Core.Bool.{Bool, true, false, _&&_, _||_}
 use mathlib.Core.List.{List, [], _∷_, map, List·Memᴰ, List·Memᴰ·head, List·Memᴰ·tail, List·Memᴰ·cases-cons, List·Memᴰ·not-nil}
 use mathlib.Core.Logic.{⊎-elim}
-use Prim.Native.Nat.{ℕ, zero, suc, _+_, _-_, _*_, _/_, _%_, _≤_, _<_}
+use Prim.Native.Nat.{ℕ, suc, _+_, _-_, _*_, _/_, _≤_, _<_}
 use native.Mathlib.Decide.{decLt, ℕ-discrete}
 use native.Mathlib.Omega.{arith}
 use borrow.Author.Tests.{le-leb, lt-leb, lt-ltb, le-ltb, leb-true, ltb-true, eq-eqb, ne-eqb, eqb-true, eqb-false}
@@ -16,7 +16,7 @@ use Rattle.blocks.specs.declared.Block.{Block}
 use Rattle.blocks.specs.Walk.{block, endOf}
 use Rattle.record_write.specs.Checks.{allParts, startsBehind, placed, allPlaced}
 use Rattle.record_fill.specs.Runs.{inBits}
-use Rattle.record_fill.specs.RunLaws.{Clear, Holds, IsFirst, AreRuns, runs-agree}
+use Rattle.record_fill.specs.RunLaws.{Clear, Holds, AreRuns, runs-agree}
 
 abbrev pub before : Block → List Block → List Block
 before b [] = b ∷ []

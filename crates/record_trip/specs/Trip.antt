@@ -1,13 +1,12 @@
 -- "Reading back our own file gives the same bytes at the same addresses, touching blocks joined."
-use mathlib.Core.Path.{_≡_, refl, sym, ap, subst, _∙_}
-use mathlib.Core.Bool.{Bool, true, false}
+use mathlib.Core.Path.{_≡_, refl, sym, ap, _∙_}
+use mathlib.Core.Bool.{true}
 use mathlib.Core.List.{List, [], _∷_, map, List·Memᴰ, List·Memᴰ·head, List·Memᴰ·tail, List·Memᴰ·cases-cons, List·Memᴰ·not-nil}
 use mathlib.Core.Logic.{⊎-elim}
-use Prim.Native.Nat.{ℕ, zero, suc, _+_, _-_, _*_, _/_, _≤_, _<_, max}
-use native.Mathlib.Decide.{decLt}
+use Prim.Native.Nat.{ℕ, suc, _+_, _-_, _*_, _/_, _≤_, _<_}
 use native.Mathlib.Omega.{arith}
 use borrow.Author.Tests.{le-leb}
-use lib.ListN.{length, getD, take}
+use lib.ListN.{length, getD}
 use Rattle.refusal.specs.Bools.{either, clash, both}
 use Rattle.refusal.specs.Told.{gives}
 use Rattle.bitvec.specs.Bits.{Bytes}
@@ -17,7 +16,7 @@ use Rattle.blocks.specs.declared.Blocks.{Blocks}
 use Rattle.blocks.specs.Outcome.{origins, sizes, over, toldBy}
 use Rattle.records.specs.Pieces.{Piece, endOf, GivesAt}
 use Rattle.records.specs.Telling.{Rises}
-use Rattle.record_read.specs.Reading.{Read, sound, readText}
+use Rattle.record_read.specs.Reading.{sound, readText}
 use Rattle.record_read.specs.Sound.{sound-pieces-fine}
 use Rattle.record_read.specs.Steps.{highest}
 use Rattle.record_fill.specs.Given.{given, filled}

@@ -1,6 +1,5 @@
 -- `record_fill::behind`: the definition's test.
 use borrow.Author.Tests.{lt-ltb, le-ltb}
-use borrow.Author.Needs.{needs}
 use Rattle.record_fill.proofs.behind.Statement.{statement}
 use Rattle.record_fill.proofs.behind.Tie as tie
 

@@ -1,5 +1,5 @@
 -- `record_fill::fill_line`: after j turns the first j bytes are stored.
-use mathlib.Core.Path.{_≡_, ap, sym, subst, _∙_}
+use mathlib.Core.Path.{_≡_, ap, _∙_}
 use Prim.Native.Nat.{ℕ, _-_, _≤_}
 use native.Mathlib.Nat.{le-antisymm}
 use lib.ListN.{length}

@@ -1,6 +1,5 @@
 -- `record_fill::join`: the definition's tests.
 use mathlib.Core.Path.{sym}
-use borrow.Author.Needs.{needs}
 use Rattle.record_fill.proofs.Walks.{closed-idle, closed-touching, closed-apart}
 use Rattle.record_fill.proofs.join.Statement.{statement}
 use Rattle.record_fill.proofs.join.Tie as tie

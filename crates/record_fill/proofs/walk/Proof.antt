@@ -1,7 +1,6 @@
 -- `record_fill::walk`: one pass where records ascend.
 use mathlib.Core.Path.{sym, _∙_}
 use Rattle.record_fill.proofs.Walks.{put-long}
-use borrow.Author.Needs.{needs}
 use Rattle.record_fill.proofs.walk.Statement.{statement}
 use Rattle.record_fill.proofs.walk.Tie as tie
 
