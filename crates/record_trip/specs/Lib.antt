@@ -1,3 +1,4 @@
+pub mod AsBlocks
 pub mod Back
 pub mod Copied
 pub mod Files
