@@ -1,4 +1,5 @@
--- Touching blocks joined are the blocks that document 01's own rule makes of them: "A span starting exactly at the running end joins; another closes the block."
+-- Touching blocks joined are the blocks that document 01's own rule makes of them: "A span starting exactly at the running end joins; another closes the
+-- block."
 use mathlib.Core.Path.{_≡_, refl, sym, ap, ap₂, _∙_}
 use mathlib.Core.Bool.{Bool, true, false}
 use mathlib.Core.List.{List, [], _∷_, map}

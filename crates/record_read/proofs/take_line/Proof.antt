@@ -40,7 +40,8 @@ returns c =
     let a = f .before .before .args in
     let cut = f .line-from .ensures in
     let t = a .text .now in
-    let own = line-cut t (a .at) (f .line-from .result .stop) (one .least .result) (two .least2 .result) (cut .stop) (one .least .ensures) (two .least2 .ensures) in
+    let own = line-cut t (a .at) (f .line-from .result .stop) (one .least .result) (two .least2 .result) (cut .stop)
+    (one .least .ensures) (two .least2 .ensures) in
     record {
       says =
           subst (λ (l : List ℕ). Says l (a .state) (firstBy (a .format) l) (c .line-in .result) (formatBy (a .format) (a .state) l)) own (c .line-in .ensures);
