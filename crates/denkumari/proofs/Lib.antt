@@ -1,5 +1,6 @@
 pub mod FormLaws
 pub mod OverlayUnique
+pub mod RecordUnique
 pub mod StoreLaws
 pub mod StoreUnique
 pub mod TableLaws

@@ -3,6 +3,7 @@
 mod forms;
 mod overlays;
 mod parts;
+mod record_files;
 mod stores;
 mod tables;
 mod told;

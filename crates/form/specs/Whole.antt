@@ -132,9 +132,14 @@ module _ (file : List ℕ) (bytes : Bytes file) where
   each-run P tag len good (suc n) at h =
       by-test (soundAt file tag len at)
       (λ e.
-      let next : at + (3 + len) + 3 ≡ at + 3 + (3 + len) = omega arith in
-      (good at e, subst (λ (a : ℕ). Each P (column (part file len) (3 + len) a n)) next (each-run P tag len good n (at + (3 + len)) (omega (arith, h,
-      run-more file tag len at e)))))
+      let next : at + (3 + len) + 3 ≡ at + 3 + (3 + len) = omega arith in (
+        good at e,
+        subst (λ (a : ℕ). Each P (column (part file len) (3 + len) a n)) next (each-run P tag len good n (at + (3 + len)) (omega (
+          arith,
+          h,
+          run-more file tag len at e,
+        ))),
+      ))
       (λ e. absurd (omega (arith, h, run-stop file tag len at e)))
 
   part-long : (tag len at : ℕ) → soundAt file tag len at ≡ true → length (part file len (at + 3)) ≡ len

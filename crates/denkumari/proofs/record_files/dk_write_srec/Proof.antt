@@ -1,0 +1,22 @@
+-- `dk_write_srec` meets its contract: the answer, told in numbers.
+use mathlib.Core.Path.{ap, _∙_}
+use Rattle.denkumari.specs.RecordFiles.{writtenCount}
+use borrow.Author.Needs.{needs}
+use Rattle.denkumari.proofs.record_files.dk_write_srec.Statement.{statement}
+use Rattle.denkumari.proofs.record_files.dk_write_srec.Tie as tie
+
+write-srec-requires : tie.Need-write-srec-requires
+write-srec-requires c κs = search needs
+
+tell-written-requires : tie.Need-tell-written-requires
+tell-written-requires c κs = search needs
+
+same-length : tie.Need-same-length
+same-length c = search needs
+
+returns : tie.Need-returns
+returns c = let w = c .before .before .before .write-srec .ensures in record { told = c .tell-written .ensures ∙ ap writtenCount (w .answer); text = w .lent }
+
+pub dk-write-srec-spec : {M : Type 1} → statement M
+dk-write-srec-spec =
+    tie.close (tie.spec write-srec-requires tell-written-requires same-length returns)

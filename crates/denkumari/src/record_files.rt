@@ -1,0 +1,121 @@
+// Files of Intel HEX and of S-records: the blocks of an image written, and a file read into bytes and blocks.
+use crate::DkCount;
+use crate::told::tell_refusal;
+use blocks::Blocks;
+use record_read::Fault;
+use record_write::Written;
+ghost use mathlib.Core.Path.{_≡_};
+ghost use Rattle.record_write.specs.Outcome.{input, answerOf, textAfter};
+ghost use Rattle.srec.specs.Writing.{answerSrec, lentSrec};
+ghost use Rattle.record_read.specs.Reading.{readText};
+ghost use Rattle.record_fill.specs.Outcome.{lent};
+ghost use Rattle.denkumari.specs.Parts.{blocksCount};
+ghost use Rattle.denkumari.specs.RecordFiles.{writtenCount, lineTold, WriteTold, ReadTold, FaultTold};
+
+// Where a file is at fault: `fault` is 1 and `line` the first line at which no good file can go on, from 0; or both are 0.
+#[repr(C)]
+pub struct DkFault {
+    pub fault: u64,
+    pub line: u64,
+}
+
+fn tell_written(written: Written) -> DkCount
+    ensures { λ r. ⌜ r ≡ writtenCount written ⌝ }
+{
+    match written {
+        Written::Length(count) => DkCount {
+            refusal: 0,
+            place: 0,
+            count,
+        },
+        Written::Refused(why) => tell_refusal(why),
+    }
+}
+
+fn tell_blocks(found: Blocks) -> DkCount
+    ensures { λ r. ⌜ r ≡ blocksCount found ⌝ }
+{
+    match found {
+        Blocks::Found(count) => DkCount {
+            refusal: 0,
+            place: 0,
+            count,
+        },
+        Blocks::Refused(why) => tell_refusal(why),
+    }
+}
+
+fn tell_fault(fault: Fault) -> DkFault
+    ensures { λ r. ⌜ r ≡ lineTold fault ⌝ }
+{
+    match fault {
+        Fault::Good => DkFault { fault: 0, line: 0 },
+        Fault::At(line) => DkFault { fault: 1, line },
+    }
+}
+
+// The blocks of an image as Intel HEX from a load address on.
+#[no_mangle]
+pub extern "C" fn dk_write_hex(
+    image: &[u8],
+    offsets: &[u64],
+    sizes: &[u64],
+    load: u32,
+    text: &mut [u8],
+) -> DkCount
+    ensures { λ r. ⌜
+        WriteTold
+        (answerOf (input 0 (now (image .entry)) (now (offsets .entry)) (now (sizes .entry)) load) (now (text .entry)))
+        (textAfter (input 0 (now (image .entry)) (now (offsets .entry)) (now (sizes .entry)) load) (now (text .entry)))
+        r (now (text .exit))
+        ⌝ }
+{
+    tell_written(ihex::write_ihex(image, offsets, sizes, load, text))
+}
+
+// The blocks of an image as S-records from a load address on, with addresses of `width` bytes: 2 or 4.
+#[no_mangle]
+pub extern "C" fn dk_write_srec(
+    image: &[u8],
+    offsets: &[u64],
+    sizes: &[u64],
+    load: u32,
+    width: u8,
+    text: &mut [u8],
+) -> DkCount
+    ensures { λ r. ⌜
+        WriteTold
+        (answerSrec (now (image .entry)) (now (offsets .entry)) (now (sizes .entry)) load width (now (text .entry)))
+        (lentSrec (now (image .entry)) (now (offsets .entry)) (now (sizes .entry)) load width (now (text .entry)))
+        r (now (text .exit))
+        ⌝ }
+{
+    tell_written(srec::write_srec(image, offsets, sizes, load, width, text))
+}
+
+// A file's bytes and blocks, from a load address on. Format 0 is Intel HEX, every other number S-records.
+#[no_mangle]
+pub extern "C" fn dk_read_records(
+    format: u8,
+    text: &[u8],
+    load: u32,
+    bytes: &mut [u8],
+    offsets: &mut [u64],
+    sizes: &mut [u64],
+) -> DkCount
+    ensures { λ r. ⌜
+        ReadTold load (readText format load (now (text .entry)))
+        (lent (now (bytes .entry)) (now (offsets .entry)) (now (sizes .entry))) r
+        (lent (now (bytes .exit)) (now (offsets .exit)) (now (sizes .exit)))
+        ⌝ }
+{
+    tell_blocks(record_fill::read(format, text, load, bytes, offsets, sizes))
+}
+
+// The line at which a file that is read so is at fault.
+#[no_mangle]
+pub extern "C" fn dk_record_fault(format: u8, text: &[u8], load: u32) -> DkFault
+    ensures { λ r. ⌜ FaultTold (readText format load (now (text .entry))) r ⌝ }
+{
+    tell_fault(record_read::line_at_fault(format, text, load))
+}
