@@ -1,5 +1,5 @@
 -- One turn of the loop: a law for each way that it goes.
-use mathlib.Core.Path.{_≡_, refl}
+use mathlib.Core.Path.{_≡_, refl, sym}
 use mathlib.Core.Bool.{true, false, _&&_}
 use mathlib.Core.List.{List, [], _∷_}
 use Prim.Native.Nat.{ℕ, _+_, _*_, _-_, _<_, _≤_}
@@ -8,7 +8,8 @@ use native.Mathlib.Omega.{arith}
 use borrow.Author.Tests.{le-leb, lt-leb}
 use lib.Dec.{leb}
 use lib.ListN.{length, drop, getD, drop-of-length-le}
-use lib.Seq.{drop-cons}
+use lib.Seq.{drop-cons, length-take-le}
+use Rattle.io.specs.Counts.{Counts}
 use Rattle.refusal.specs.Limits.{maxPosition}
 use Rattle.refusal.specs.Pick.{pick}
 use Rattle.refusal.specs.declared.Opt.the-variants.{None, Some}
@@ -38,3 +39,7 @@ module _ (l : List ℕ) (i value : ℕ) where
   pub digits-end : length l ≤ i → value ≤ maxPosition → numberFrom value (drop i l) ≡ Some value
   unfolding numberFrom
   digits-end h e = rw (drop-of-length-le l h, le-leb value maxPosition e)
+
+-- The front of a list.
+pub counts-front : (l : List ℕ) (n : ℕ) → n ≤ length l → Counts n l
+counts-front l n h = (h, sym (length-take-le _ _ h))

@@ -1,8 +1,13 @@
--- Uniqueness: the function's own contract has one outcome. `Learnt` is what the check reads off its `ensures`.
+-- Uniqueness: each function's own contract has one outcome. `Learnt` is what the check reads off its `ensures`.
 use Rattle.refusal.specs.Outcome.{OneOutcome}
 use Rattle.refusal.specs.Pick.{determined}
 use Rattle.args.proofs.number.Kinds as number-kinds
 use Rattle.args.proofs.number.Reads as number-reads
+use Rattle.args.proofs.within.Kinds as within-kinds
+use Rattle.args.proofs.within.Reads as within-reads
 
 pub number-unique : OneOutcome 1 number-kinds.ps number-kinds.r number-reads.Learnt
 number-unique κs a x y e f p q = determined p q
+
+pub within-unique : OneOutcome 1 within-kinds.ps within-kinds.r within-reads.Learnt
+within-unique κs a x y e f p q = determined (p .0) (q .0)

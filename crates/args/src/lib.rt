@@ -1,6 +1,10 @@
-// A number on a program's command line.
+// What the programs share: numbers on the command line, and what they print.
 use refusal::Opt;
+use refusal::Refusal;
 ghost use mathlib.Core.Path.{_≡_};
+ghost use Prim.Native.Nat.{min};
+ghost use lib.ListN.{length};
+ghost use Rattle.io.specs.Counts.{Counts};
 ghost use Rattle.args.specs.Number.{numberIn};
 
 // The number that a text spells in decimal digits, up to 4,294,967,295; none for any other text, the empty one too.
@@ -28,4 +32,55 @@ pub fn number(text: &[u8]) -> Opt
         i += 1;
     }
     Opt::Some(value as u32)
+}
+
+// The number that argument i spells; none where it is missing.
+pub fn number_at(i: usize) -> Opt {
+    let mut word = [0u8; 16];
+    let n = os::arg(i, &mut word);
+    number(&word[..n])
+}
+
+// How many of a list's elements a count stands for: never more than there are, so that the front of the list can be taken.
+pub fn within(count: u64, list: &[u64]) -> usize
+    ensures { λ r. ⌜ r ≡ min count (length (now (list .entry))) ⌝ }
+    ensures { λ r. ⌜ Counts r (now (list .entry)) ⌝ }
+{
+    if count < list.len() as u64 {
+        return count as usize;
+    }
+    list.len()
+}
+
+// The same of bytes.
+fn bytes_within(count: u64, text: &[u8]) -> usize
+    ensures { λ r. ⌜ Counts r (now (text .entry)) ⌝ }
+{
+    if count < text.len() as u64 {
+        return count as usize;
+    }
+    text.len()
+}
+
+// Writes the first bytes of a text to standard output.
+pub fn print(text: &[u8], count: u64) {
+    let n = bytes_within(count, text);
+    io::write_all(1, &text[..n]);
+}
+
+// Writes a refusal's line to standard output.
+pub fn refuse(why: Refusal) {
+    let mut line = [0u8; 128];
+    let text: &mut [u8] = &mut line;
+    if let text::Written::To(end) = text::put_refusal(text, 0, why) {
+        print(text, end as u64);
+    }
+}
+
+// Writes a line to standard output: a word, a space and a number.
+pub fn tell(word: &[u8], number: u64) {
+    io::write_all(1, word);
+    io::write_all(1, b" ");
+    io::print_decimal(1, number);
+    io::write_all(1, b"\n");
 }
