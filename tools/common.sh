@@ -1,0 +1,148 @@
+# What the tools over the programs share; they read it, nobody runs it. A tool sets `takes`, the options that it has, and `most`, how many files.
+home=$(cd "$(dirname "$0")/.." && pwd) || exit 2
+tool=tools/${0##*/}
+load='' width='' to='' fill='' page='' address='' count=''
+file='' other='' files=0 line='' kinds='type 00, 01 or 04'
+
+# Nothing was done: status 2.
+say() {
+    echo "$tool: $1" >&2
+    exit 2
+}
+
+# The lines at the head of the tool.
+usage() {
+    sed -n '2,/^[^#]/s/^# \{0,1\}//p' "$0"
+    exit 0
+}
+
+# A number, decimal or in hex after 0x, as decimal.
+number() {
+    digits=$2 base=''
+    case $2 in
+    0[xX]*) digits=${2#0?} base=0x ;;
+    esac
+    case $base$digits in
+    0x | '' | 0x*[!0-9a-fA-F]*) say "$1 wants a number, decimal or in hex after 0x, and not '$2'" ;;
+    0x*) ;;
+    *[!0-9]*) say "$1 wants a number, decimal or in hex after 0x, and not '$2'" ;;
+    esac
+    digits=$(printf '%s' "$digits" | sed 's/^0*//')
+    [ "${#digits}" -le 10 ] && value=$(($base${digits:-0})) && [ "$value" -le 4294967295 ] || say "$1 goes up to 4294967295, and $2 is more"
+}
+
+# One of some words.
+word() {
+    value=''
+    for one in $3; do
+        [ "$one" != "$2" ] || value=$2
+    done
+    [ -n "$value" ] || say "$1 wants one of: $3; and not '$2'"
+}
+
+# Reads the command line, options and files in any order.
+options() {
+    while [ "$#" -gt 0 ]; do
+        name=$1
+        case $name in
+        --help) usage ;;
+        -?*)
+            case " $takes " in
+            *" $name "*) ;;
+            *) say "there is no option $name (--help says what there is)" ;;
+            esac
+            [ "$#" -ge 2 ] || say "$name wants a value"
+            ;;
+        *)
+            files=$((files + 1))
+            [ "$files" -le "$most" ] || say "more files than $most"
+            if [ "$files" -eq 1 ]; then file=$name; else other=$name; fi
+            shift
+            continue
+            ;;
+        esac
+        case $name in
+        --load) number "$name" "$2" && load=$value ;;
+        --page) number "$name" "$2" && page=$value ;;
+        --width) word "$name" "$2" '2 4' && width=$value ;;
+        --to) word "$name" "$2" "$targets" && to=$value ;;
+        --fill) word "$name" "$2" 'inherited full' && fill=$value ;;
+        --range)
+            [ "$#" -ge 3 ] || say "--range wants an address and a count"
+            number "$name" "$2" && address=$value
+            number "$name" "$3" && count=$value
+            shift
+            ;;
+        esac
+        shift 2
+    done
+}
+
+# A file that can be read; room for what programs write.
+readable() {
+    [ -n "$1" ] || say "a file is missing (--help says how to call it)"
+    [ ! -d "$1" ] || say "$1 is a folder"
+    [ -r "$1" ] || say "$1 cannot be read"
+}
+room=$(mktemp -d) || exit 2
+trap 'rm -rf "$room"' EXIT
+
+# The file, or standard input for -, of which no more is read than shows that it is too long.
+take() {
+    from=$1
+    if [ "$from" = - ]; then
+        head -c "$2" >"$room/source" 2>/dev/null || say "standard input cannot be read"
+        from=$room/source
+    else
+        readable "$from"
+    fi
+}
+
+# Runs a program on the source. A refusal goes to `words`, which says it: status 1.
+ask() {
+    "$home/tools/run" "$@" <"$from" >"$room/said" || say "the program failed"
+    [ -s "$room/said" ] || say "the program gave no answer"
+    case $(head -c 8 "$room/said" | tr -d '\000') in
+    'refused ')
+        # the line of a file that is at fault, counted from 1, where the program names one
+        line=$(sed -n 's/^line //p' "$room/said")
+        set -- $(sed -n 1p "$room/said")
+        text=$(words "$2" "$3")
+        echo "$tool: refused with $2: ${line:+line $((line + 1)): }$text" >&2
+        exit 1
+        ;;
+    esac
+}
+
+# And hands its answer on: status 0.
+answer() {
+    ask "$@"
+    cat "$room/said" || say "the answer could not be written"
+    exit 0
+}
+
+# A refusal of a file of records that is read, and of records that are written.
+records_words() {
+    case $1 in
+    4)
+        if [ -n "$line" ]; then
+            echo "no good file goes on so: no record of $kinds, a wrong checksum, a byte given twice, below the load address or past 4294967295, or no end record"
+        elif [ "$(wc -c <"$from")" -gt "$2" ]; then
+            echo "the file is longer than $2 bytes"
+        else
+            echo "an address does not fit the records: it is past 4294967295, or past 65535 where the width is 2"
+        fi
+        ;;
+    14) echo "the file gives a byte too far from the load address, or too many blocks (--help has the limits)" ;;
+    16) echo "a block does not begin and end on whole bytes, or lies outside the image" ;;
+    esac
+}
+
+# A refusal of a layout, or of its blocks as records.
+layout_words() {
+    if [ "$(sed -n 2p "$room/said")" = records ]; then
+        records_words "$1" 65536
+    else
+        "$home/tools/words" "$from" "$(sed -n 1p "$room/said")"
+    fi
+}
