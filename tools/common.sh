@@ -134,7 +134,7 @@ records_words() {
         fi
         ;;
     14) echo "the file gives a byte too far from the load address, or too many blocks (--help has the limits)" ;;
-    16) echo "a block does not begin and end on whole bytes, or lies outside the image" ;;
+    16) echo "a block does not begin and end on a whole byte, and records hold whole bytes (tools/layout prints the blocks, in bits)" ;;
     esac
 }
 

@@ -24,6 +24,10 @@ abbrev pub numberIn : List ℕ → Opt
 numberIn [] = None
 numberIn (c ∷ text) = numberFrom 0 (c ∷ text)
 
+-- What some text spells.
+abbrev pub Spelled : Opt → Type 0
+Spelled r = (text : List ℕ) × (r ≡ numberIn text)
+
 either-none : (b : Bool) (o : Opt) → o ≡ None → pick b o None ≡ None
 either-none true o e = e
 either-none false o e = refl

@@ -5,7 +5,8 @@ ghost use mathlib.Core.Path.{_≡_};
 ghost use Prim.Native.Nat.{min};
 ghost use lib.ListN.{length};
 ghost use Rattle.io.specs.Counts.{Counts};
-ghost use Rattle.args.specs.Number.{numberIn};
+ghost use Rattle.refusal.specs.Refusals.{numberOf};
+ghost use Rattle.args.specs.Number.{numberIn, Spelled};
 
 // The number that a text spells in decimal digits, up to 4,294,967,295; none for any other text, the empty one too.
 pub fn number(text: &[u8]) -> Opt
@@ -34,8 +35,10 @@ pub fn number(text: &[u8]) -> Opt
     Opt::Some(value as u32)
 }
 
-// The number that argument i spells; none where it is missing.
-pub fn number_at(i: usize) -> Opt {
+// The number that argument i spells; none where it is missing. No contract can say which text the argument is.
+pub fn number_at(i: usize) -> Opt
+    ensures { λ r. ⌜ Spelled r ⌝ }
+{
     let mut word = [0u8; 16];
     let n = os::arg(i, &mut word);
     number(&word[..n])
@@ -54,6 +57,7 @@ pub fn within(count: u64, list: &[u64]) -> usize
 
 // The same of bytes.
 fn bytes_within(count: u64, text: &[u8]) -> usize
+    ensures { λ r. ⌜ r ≡ min count (length (now (text .entry))) ⌝ }
     ensures { λ r. ⌜ Counts r (now (text .entry)) ⌝ }
 {
     if count < text.len() as u64 {
@@ -62,25 +66,23 @@ fn bytes_within(count: u64, text: &[u8]) -> usize
     text.len()
 }
 
-// Writes the first bytes of a text to standard output.
-pub fn print(text: &[u8], count: u64) {
+// Hands the first bytes of a text to standard output, and answers how many.
+pub fn print(text: &[u8], count: u64) -> usize
+    ensures { λ r. ⌜ r ≡ min count (length (now (text .entry))) ⌝ }
+{
     let n = bytes_within(count, text);
     io::write_all(1, &text[..n]);
+    n
 }
 
-// Writes a refusal's line to standard output.
-pub fn refuse(why: Refusal) {
+// Hands a refusal's line to standard output, and answers its number.
+pub fn refuse(why: Refusal) -> u64
+    ensures { λ r. ⌜ r ≡ numberOf why ⌝ }
+{
     let mut line = [0u8; 128];
     let text: &mut [u8] = &mut line;
     if let text::Written::To(end) = text::put_refusal(text, 0, why) {
         print(text, end as u64);
     }
-}
-
-// Writes a line to standard output: a word, a space and a number.
-pub fn tell(word: &[u8], number: u64) {
-    io::write_all(1, word);
-    io::write_all(1, b" ");
-    io::print_decimal(1, number);
-    io::write_all(1, b"\n");
+    refusal::number(why)
 }

@@ -63,7 +63,9 @@ fn rewrite(
 fn refuse(format: u8, load: u32, source: &[u8], why: Refusal) {
     args::refuse(why);
     if let Fault::At(line) = record_read::line_at_fault(other(format), source, load) {
-        args::tell(b"line", line);
+        io::write_all(1, b"line ");
+        io::print_decimal(1, line);
+        io::write_all(1, b"\n");
     }
 }
 
@@ -79,7 +81,9 @@ fn write(
     let text: &mut [u8] = out;
     match rewrite(format, load, source, bytes, offsets, sizes, text) {
         Written::Refused(why) => refuse(format, load, source, why),
-        Written::Length(length) => args::print(text, length),
+        Written::Length(length) => {
+            args::print(text, length);
+        }
     }
 }
 

@@ -6,10 +6,10 @@ use Rattle.args.proofs.bytes_within.Statement.{statement}
 use Rattle.args.proofs.bytes_within.Tie as tie
 
 returns : tie.Need-returns
-returns c = counts-front (c .before .args .text .now) (c .before .args .count) (omega arith)
+returns c = (omega arith, counts-front (c .before .args .text .now) (c .before .args .count) (omega arith))
 
 returns-2 : tie.Need-returns-2
-returns-2 c = counts-front (c .before .args .text .now) (length (c .before .args .text .now)) (omega arith)
+returns-2 c = (omega arith, counts-front (c .before .args .text .now) (length (c .before .args .text .now)) (omega arith))
 
 pub bytes-within-spec : {M : Type 1} → statement M
 bytes-within-spec = tie.close (tie.spec returns returns-2)
