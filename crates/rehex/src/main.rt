@@ -10,15 +10,15 @@ use refusal::Opt;
 use refusal::Refusal;
 
 // The longest file that is read, and a byte more, so that nothing is cut to a sound file.
-const SOURCE: usize = 3_145_729;
+const SOURCE: usize = 3_276_801;
 
 // How many bytes from the load address on a file may give, in how many blocks.
 const BYTES: usize = 1_048_576;
 
 const BLOCKS: usize = 4_096;
 
-// Room for those bytes as records of 16 in the longest kind, and for a short record more in each block.
-const TEXT: usize = 3_276_800;
+// Room for those bytes as records of 16 in the longest kind, and for a short record more in each block and 64 KiB line.
+const TEXT: usize = 3_145_728;
 
 // The bytes and blocks as records.
 fn put(
