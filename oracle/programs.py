@@ -1,0 +1,172 @@
+#!/usr/bin/env python3
+"""The programs over the library beside the models: what station, rehex, bencher and converter print for good, damaged and refused files.
+
+    programs.py [--cases N] [--seed N] [--run "COMMAND"] [NAME ..]
+
+NAME is one of the programs (all that are built unless said), which stand in target/bin; COMMAND stands before each where the machine cannot start them by itself (an emulator). The models
+are model.py, records.py and convert.py; what the bench is to print is worked out here, byte by byte.
+"""
+import argparse
+import random
+import shlex
+import subprocess
+import sys
+import tempfile
+from pathlib import Path
+
+import convert
+import damage
+import generate
+import model
+import records
+
+ROOT = Path(__file__).resolve().parent.parent
+REACH, BENCH_REACH, BLOCKS, IMAGE = 1_048_576, 524_288, 4_096, 16_384
+
+
+def written(kind, width, image, blocks, load):
+    text = records.write_hex(image, blocks, load) if kind == "hex" else records.write_srec(image, blocks, load, width)
+    return text if isinstance(text, bytes) else text.encode()
+
+
+def some_layout(rng):
+    """A layout file of either form."""
+    if rng.random() < 0.3:
+        return rng.choice(EXAMPLES)
+    _, data = generate.drawn(rng.randrange(1000), rng.randrange(10_000))
+    return generate.in_form_2(rng, data) if rng.random() < 0.3 else data
+
+
+def station_case(rng):
+    """A layout file, its image as records."""
+    data = some_layout(rng)
+    form, load = rng.choice((0, 2, 4)), rng.choice((0, 0x1000, 0xFFF0, 0xFFFF_FFF0))
+    said = model.printed(data).splitlines()
+    if said[-1].startswith("refused"):
+        return [str(form), str(load)], data, (said[-1] + "\n").encode()
+    blocks = [tuple(map(int, line.split()[1:])) for line in said if line.startswith("block")]
+    digits = said[-1][6:]
+    image = bytes.fromhex(digits + "0" * (len(digits) % 2)).ljust(IMAGE, b"\0")
+    try:
+        told = written("srec" if form else "hex", form, image, blocks, load)
+    except records.Refused as refused:
+        told = f"{refused}\nrecords\n".encode()
+    return [str(form), str(load)], data, told
+
+
+def damaged(rng, text):
+    text = bytearray(text)
+    for _ in range(rng.choice((0, 0, 1, 2))):
+        at, way = rng.randrange(len(text) + 1), rng.randrange(3)
+        if way == 0:
+            text[at:at + 1] = bytes([rng.randrange(256)])
+        elif way == 1:
+            del text[at:at + 1]
+        else:
+            text.insert(at, rng.choice(b"0123456789ABCDEFabcdef:S\r\n"))
+    return bytes(text)
+
+
+def rehex_case(rng):
+    """A file of records, good or damaged, as records of the other kind."""
+    kind, load, text = damage.random_good(rng)[:3]
+    text, load = damaged(rng, text), rng.choice((load, load, load + 1, 0))
+    width = 0 if kind == "srec" else rng.choice((2, 4, 4, 3))
+    try:
+        count, image, starts, sizes = records.read(kind, text, load, bytes(REACH), [0] * BLOCKS, [0] * BLOCKS)
+        told = written("srec" if width else "hex", width, image, list(zip(starts[:count], sizes[:count])), load)
+    except records.Refused as refused:
+        line = records.fault(kind, text, load)
+        told = (f"{refused}\n" + ("" if line is None else f"line {line}\n")).encode()
+    return [str(width), str(load)], text, told
+
+
+def some_bytes(rng, load, span):
+    """Bytes by address, and a file that gives them."""
+    image, blocks, at = bytes(rng.choice((0, 1, 255)) for _ in range(span)), [], 0
+    while True:
+        at += rng.choice((0, 0, 1, 3, 7))
+        size = rng.choice((1, 2, 5, 9, 20))
+        if at + size > span:
+            break
+        blocks.append((8 * at, 8 * size))
+        at += size + rng.choice((0, 1, 1))
+    given = {load + k: image[k] for start, size in blocks for k in range(start // 8, (start + size) // 8)}
+    return given, written("hex", 0, image, blocks, load)
+
+
+def bench_told(released, overlay, asked):
+    """What is printed of two sound files."""
+    if asked:
+        load, first, count = asked
+        if first < load or count == 0 or first - load + count > BENCH_REACH:
+            return "refused 16 0\n"
+        covered = {a in overlay for a in range(first, first + count)}
+        if len(covered) == 2:
+            return "refused 17 0\n"
+        name, given = ("overlay", overlay) if covered == {True} else ("released", released)
+        return f"{name} {bytes(given.get(a, 255) for a in range(first, first + count)).hex()}\n"
+    runs = records.runs(a for a in overlay if overlay[a] != released.get(a, 255))
+    shown = lambda given, first, count: bytes(given.get(a, 255) for a in range(first, first + count)).hex()
+    return "".join(f"run {a} {n} {shown(released, a, n)} {shown(overlay, a, n)}\n" for a, n in runs) + f"runs {len(runs)}\n"
+
+
+def bencher_case(rng, room):
+    """Two files, and every run or a range of bytes."""
+    load, span = rng.choice((0, 5, 0x10000 - 20, 0x8000_0000)), rng.choice((10, 40, 80))
+    (released, first_text), (overlay, second_text) = some_bytes(rng, load, span), some_bytes(rng, load, span)
+    paths = room / "released.hex", room / "overlay.hex"
+    lowest = rng.choice((load, load, load, max(0, load - 3), load + 1))
+    asked = None
+    if rng.random() < 0.5:
+        asked = lowest, max(0, load + rng.randrange(-3, span)), rng.choice((0, 1, 1, 2, 4, 10, BENCH_REACH))
+    told = bench_told(released, overlay, asked)
+    for path, text, name in reversed(tuple(zip(paths, (first_text, second_text), ("released", "overlay")))):
+        path.write_bytes(text)
+        line = records.fault("hex", text, lowest)
+        if line is not None:
+            told = f"refused 4 0\n{name}\nline {line}\n"
+    return [*map(str, paths), str(lowest), *map(str, asked[1:] if asked else ())], b"", told.encode()
+
+
+def converter_case(rng):
+    """A layout file, in the other form and back."""
+    data = some_layout(rng)
+    form = rng.choice((1, 2))
+    turn = convert.to_form_1 if form == 1 else convert.to_form_2
+    try:
+        if form == 1 and rng.random() < 0.7:
+            data = convert.to_form_2(data)
+        told = turn(data)
+    except model.Refused as refused:
+        told = " ".join(map(str, ("refused", refused.number, *(refused.place or (0,))))).encode() + b"\n"
+    return [str(form)], data, told
+
+
+def main():
+    parser = argparse.ArgumentParser(description=__doc__, formatter_class=argparse.RawDescriptionHelpFormatter)
+    parser.add_argument("names", nargs="*", metavar="NAME")
+    parser.add_argument("--cases", type=int, default=1000)
+    parser.add_argument("--seed", type=int, default=1)
+    parser.add_argument("--run", type=shlex.split, default=[])
+    asked = parser.parse_args()
+    makers = {"station": station_case, "rehex": rehex_case, "bencher": bencher_case, "converter": converter_case}
+    wrong = 0
+    with tempfile.TemporaryDirectory() as folder:
+        for name in asked.names or [n for n in makers if (ROOT / "target/bin" / n).exists()]:
+            rng, refused = random.Random(asked.seed), 0
+            for _ in range(asked.cases):
+                arguments, given, told = makers[name](rng, Path(folder)) if name == "bencher" else makers[name](rng)
+                done = subprocess.run([*asked.run, str(ROOT / "target/bin" / name), *arguments], input=given, capture_output=True, check=False)
+                refused += told.startswith(b"refused")
+                if done.stdout != told:
+                    wrong += 1
+                    print(f"{name} {' '.join(arguments)} < {given.hex()}: {done.stdout!r} for {told!r}"[:2000])
+            print(f"{name}: {asked.cases} cases, {refused} of them refused")
+    print("no difference" if not wrong else f"{wrong} differ")
+    sys.exit(wrong != 0)
+
+
+EXAMPLES = [path.read_bytes() for path in sorted((ROOT / "examples").glob("*.form"))]
+if __name__ == "__main__":
+    main()
