@@ -108,7 +108,7 @@ ask() {
         line=$(sed -n 's/^line //p' "$room/said")
         set -- $(sed -n 1p "$room/said")
         text=$(words "$2" "$3")
-        echo "$tool: refused with $2: ${line:+line $((line + 1)): }$text" >&2
+        echo "$tool: refused with $2: $text" >&2
         exit 1
         ;;
     esac
@@ -126,7 +126,7 @@ records_words() {
     case $1 in
     4)
         if [ -n "$line" ]; then
-            echo "no good file goes on so: no record of $kinds, a wrong checksum, a byte given twice, below the load address or past 4294967295, or no end record"
+            echo "line $((line + 1)): no good file goes on so: no record of $kinds, a wrong checksum, a byte given twice, below the load address or past 4294967295, or no end record"
         elif [ "$(wc -c <"$from")" -gt "$2" ]; then
             echo "the file is longer than $2 bytes"
         else
