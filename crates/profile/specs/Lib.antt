@@ -1,0 +1,12 @@
+pub mod Exactly
+pub mod Keeping
+pub mod Kept
+pub mod OneBit
+pub mod PageFacts
+pub mod Pages
+pub mod Profile
+pub mod RuleLaws
+pub mod Rules
+pub mod Standing
+pub mod Steps
+pub mod Told
