@@ -1,0 +1,4 @@
+pub mod InProfile
+pub mod Pages
+pub mod Ragged
+pub mod Same
