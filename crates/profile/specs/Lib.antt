@@ -1,3 +1,4 @@
+pub mod Cases
 pub mod Exactly
 pub mod Keeping
 pub mod Kept
