@@ -1,12 +1,10 @@
 -- The profile's answer, return by return; and what the checks before the rules have shown.
 use Prim.Native.Nat.{ℕ, _<_, _≤_}
-use mathlib.Core.Path.{_≡_, refl, sym, ap, _∙_}
-use mathlib.Core.Bool.{true, false}
+use mathlib.Core.Path.{_≡_, refl, sym, _∙_}
 use mathlib.Core.List.{List}
 use native.Mathlib.Omega.{arith}
 use lib.ListN.{getD, length}
-use borrow.Author.Tests.{eqb-true}
-use Rattle.refusal.specs.Bools.{clash, either}
+use Rattle.refusal.specs.Bools.{clash}
 use Rattle.refusal.specs.Limits.{maxBanks}
 use Rattle.refusal.specs.declared.Refusal.{Refusal}
 use Rattle.refusal.specs.declared.Verdict.{Verdict}
@@ -17,14 +15,14 @@ use Rattle.bankdef.specs.declared.Bankdefs.{Bankdefs}
 use Rattle.resolver.specs.FaultExactly.{otherBank, fault-exactly}
 use Rattle.resolver.specs.Lists.{Lists, lists, listsOf, firstOf}
 use Rattle.resolver.specs.Sound.{accepted-lists, accepted-node}
-use Rattle.profile.specs.Kept.{InProfile, Judged, keeps, breaks, judged}
+use Rattle.profile.specs.Kept.{Judged, keeps, breaks, judged}
 use Rattle.profile.specs.OneBit.{ExactlyOne, one-bit-exactly, zero-has-none}
 use Rattle.profile.specs.Pages.{nonePaged, pagesOf}
-use Rattle.profile.specs.Profile.{verdictOf, pagedBy, profileOf}
+use Rattle.profile.specs.Profile.{verdictOf, profileOf}
 use Rattle.profile.specs.RuleLaws.{both-kept}
 use Rattle.profile.specs.Rules.{rulesOf}
 use Rattle.profile.specs.Steps.{Sized, nodesOf}
-use Rattle.profile.specs.Told.{toldPaged, ProfileTold, profile-told, Answers}
+use Rattle.profile.specs.Told.{profile-told, Answers}
 use Rattle.profile.specs.declared.Paged.{Paged}
 
 -- what the table's and the lists' checks have shown

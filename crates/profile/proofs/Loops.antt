@@ -1,5 +1,5 @@
 -- What a turn of a loop over banks, nodes or rows shows, and how the code reads a node's number.
-use Prim.Native.Nat.{ℕ, zero, suc, _+_, _-_, _*_, _<_, _≤_}
+use Prim.Native.Nat.{ℕ, zero, suc, _+_, _*_, _<_, _≤_}
 use mathlib.Core.Path.{_≡_, refl, sym, ap, _∙_, fun-ext}
 use mathlib.Core.Bool.{Bool, true, false, not, _||_}
 use mathlib.Core.List.{List, [], _∷_, _++_, map}
@@ -12,9 +12,8 @@ use lib.ListN.{getD, length, take, drop, set, replicate}
 use lib.Seq.{getD-take, getD-drop}
 use borrow.Author.Tests.{eqb-true, ne-eqb, not-true, not-false}
 use Rattle.refusal.specs.Bools.{either}
-use Rattle.refusal.specs.Pick.{pick, pick-true, pick-false}
+use Rattle.refusal.specs.Pick.{pick, pick-false}
 use Rattle.bankdef.specs.declared.Bankdefs.{Bankdefs}
-use Rattle.resolver.specs.Lists.{Lists}
 use Rattle.profile.specs.RuleLaws.{KeptTo}
 use Rattle.profile.specs.Rules.{all, numberIn, aligned, nodeAligned, multiple, addrKept}
 use Rattle.profile.specs.Standing.{bankBefore, bankOfNode}

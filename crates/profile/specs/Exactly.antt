@@ -1,6 +1,6 @@
 -- The profile's answer, exactly when: yes, and 19 with its rule and its bank or node.
 use Prim.Native.Nat.{ℕ, _<_, _%_}
-use mathlib.Core.Path.{_≡_, refl, sym, ap, subst, _∙_}
+use mathlib.Core.Path.{_≡_, refl, sym, ap, subst}
 use mathlib.Core.Bool.{Bool, true, false}
 use mathlib.Core.List.{List}
 use mathlib.Core.Logic.{_⊎_, inl, inr, _↔_}
@@ -8,14 +8,12 @@ use lib.ListN.{getD, length}
 use native.Mathlib.Omega.{arith}
 use Rattle.refusal.specs.Pick.{pick}
 use Rattle.refusal.specs.Refusals.{numberOf}
-use Rattle.refusal.specs.Told.{Told, gives, refuses, toldRefusal}
+use Rattle.refusal.specs.Told.{Told, gives, refuses}
 use Rattle.refusal.specs.declared.Place.{Place}
 use Rattle.refusal.specs.declared.Place.the-variants.{Two}
-use Rattle.refusal.specs.declared.Refusal.{Refusal}
-use Rattle.refusal.specs.declared.Refusal.the-variants.{Malformed, OffProfile}
+use Rattle.refusal.specs.declared.Refusal.the-variants.{Malformed}
 use Rattle.refusal.specs.declared.Verdict.{Verdict}
 use Rattle.refusal.specs.declared.Verdict.the-variants.{Accepted, Refused}
-use Rattle.bankdef.specs.Check.{checkOf}
 use Rattle.bankdef.specs.Refused as table
 use Rattle.bankdef.specs.Refused.{Decided, decided}
 use Rattle.bankdef.specs.declared.Bankdefs.{Bankdefs}
@@ -43,11 +41,12 @@ never e = let z : _≡_ {A = ℕ} 0 1 = cc in omega arith
 
 -- ---- the refusals that come before are other numbers
 
-abbrev numberIs : Verdict → ℕ
+-- a verdict's number, 0 for none
+abbrev pub numberIs : Verdict → ℕ
 numberIs Accepted = 0
 numberIs (Refused why) = numberOf why
 
-table-low : {banks : Bankdefs} {v : Verdict} → Decided banks v → numberIs v < 4
+pub table-low : {banks : Bankdefs} {v : Verdict} → Decided banks v → numberIs v < 4
 table-low (table.count c) = omega arith
 table-low (table.number c f) = omega arith
 table-low (table.pair c f g) = omega arith
@@ -61,7 +60,7 @@ nodes-low : (banks : ℕ) (l : Lists) (n : ℕ) (v : Verdict) → nodesTo banks 
 nodes-low banks l n Accepted e = omega arith
 nodes-low banks l n (Refused why) e = rw (lowest-node banks l n why e .2) (omega arith)
 
-lists-low : (banks : ℕ) (l : Lists) (fill : ℕ) → numberIs (listsOf banks l fill) < 5
+pub lists-low : (banks : ℕ) (l : Lists) (fill : ℕ) → numberIs (listsOf banks l fill) < 5
 unfolding listsOf
 lists-low banks l fill =
     let n = length (l .kinds) in

@@ -1,10 +1,10 @@
 -- The six rules by plain facts, and that the tests tell just those.
 use Prim.Native.Nat.{ℕ, _%_, _<_}
-use mathlib.Core.Path.{_≡_, refl, sym, _∙_, ap}
+use mathlib.Core.Path.{_≡_, refl}
 use mathlib.Core.Bool.{Bool, true, false, not, _||_}
 use mathlib.Core.Logic.{_⊎_, inl, inr, _↔_}
 use lib.Dec.{eqb}
-use lib.ListN.{getD, length}
+use lib.ListN.{getD}
 use native.Mathlib.Omega.{arith}
 use borrow.Author.Tests.{eqb-true, eqb-false, eq-eqb}
 use Rattle.refusal.specs.Bools.{either}
@@ -13,7 +13,7 @@ use Rattle.refusal.specs.declared.Opt.the-variants.{None, Some}
 use Rattle.bankdef.specs.declared.Bankdefs.{Bankdefs}
 use Rattle.resolver.specs.Lists.{Lists}
 use Rattle.resolver.specs.Once.{bankRecord}
-use Rattle.profile.specs.OneBit.{oneBit, ExactlyOne, one-bit-exactly}
+use Rattle.profile.specs.OneBit.{ExactlyOne, one-bit-exactly}
 use Rattle.profile.specs.RuleLaws.{Every, kept-all, all-kept}
 use Rattle.profile.specs.Rules.{aligned, bankAligned, nodeAligned, multiple, onPage, wholePages, unitKept, addrKept, numberIn, alignsKept, addrsKept}
 use Rattle.profile.specs.Standing.{bankOfNode}

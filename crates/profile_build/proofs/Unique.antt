@@ -1,5 +1,4 @@
 -- Uniqueness of the build in the profile, over its contract's own clause: the answer, and what stands in the four lent slices afterwards.
-use mathlib.Core.Path.{_≡_}
 use borrow.Fn.Kinds.{endedOf}
 use contract.Lifetimes.{Lfts}
 use denote.Triple.Clauses.{AtExit}

@@ -15,16 +15,13 @@ use Rattle.refusal.specs.Pick.{pick, pick-true, pick-false}
 use Rattle.refusal.specs.declared.Opt.{Opt}
 use Rattle.refusal.specs.declared.Opt.the-variants.{None, Some}
 use Rattle.refusal.specs.declared.Refusal.the-variants.{DefaultBank, PastBank, NoOutput}
-use Rattle.refusal.specs.declared.Verdict.{Verdict}
 use Rattle.refusal.specs.declared.Verdict.the-variants.{Accepted as Fine, Refused}
 use Rattle.bankdef.specs.Check.{noBank, banksOf}
 use Rattle.bankdef.specs.Fill.{fullLength}
 use Rattle.bankdef.specs.FillFacts.{Fills}
 use Rattle.bankdef.specs.FullFill.{full-reaches, full-ends, FullEnd}
 use Rattle.bankdef.specs.declared.Bankdefs.{Bankdefs}
-use Rattle.iter.specs.declared.Pos.{Pos}
 use Rattle.iter.specs.declared.Moved.{Moved}
-use Rattle.resolver.specs.Lists.{Lists}
 use Rattle.resolver.specs.Once.{bankRecord}
 use Rattle.overlap_checker.specs.State.{State}
 use Rattle.output.specs.Calls.{Accepted, nodesIn, visitIn, visitsIn, itemsIn, programIn, rowIn, closedIn, fine}

@@ -21,7 +21,7 @@ use Rattle.output.specs.Output.{Input, Lent, Room, roomOf, outputOf, settledBui
 use Rattle.output.specs.declared.Build.the-variants.{Done, Refused as NotBuilt}
 use Rattle.output.specs.declared.Output.{Output}
 use Rattle.profile.specs.Exactly.{said}
-use Rattle.profile.specs.Kept.{InProfile, Breaks, Judged, keeps, breaks, judged, kept-said, broken-said}
+use Rattle.profile.specs.Kept.{InProfile, Breaks, Judged, keeps, breaks, judged, broken-said}
 use Rattle.profile.specs.Profile.{verdictOf}
 use Rattle.profile.specs.Rules.{rulesOf}
 use Rattle.profile_build.specs.InProfile as told

@@ -1,9 +1,9 @@
 -- The banks so far have their pages, and the rest none.
 use Prim.Native.Nat.{ℕ, suc, _+_, _-_, _≤_, _<_}
-use mathlib.Core.Path.{_≡_, refl, sym, ap, _∙_}
+use mathlib.Core.Path.{_≡_, refl}
 use mathlib.Core.List.{List, _++_, map}
 use native.Mathlib.Omega.{arith}
-use lib.ListN.{getD, length, take, set, replicate, length-map}
+use lib.ListN.{length, take, replicate, length-map}
 use borrow.Author.Needs.{needs}
 use Rattle.bankdef.specs.Check.{noBank}
 use Rattle.bankdef.specs.declared.Bankdefs.{Bankdefs}

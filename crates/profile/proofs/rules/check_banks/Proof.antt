@@ -1,12 +1,11 @@
 -- The banks so far keep the rule; the first that does not is named.
-use Prim.Native.Nat.{ℕ, _-_, _≤_, _<_}
+use Prim.Native.Nat.{ℕ, _-_, _≤_}
 use mathlib.Core.Path.{_≡_, sym, ap, _∙_}
 use mathlib.Core.Bool.{Bool}
 use native.Mathlib.Omega.{arith}
 use borrow.Author.Needs.{needs}
 use Rattle.resolver.specs.Listed.{listed-bank}
 use Rattle.resolver.specs.Once.{bankRecord}
-use Rattle.bankdef.specs.declared.Bankdef.{Bankdef}
 use Rattle.profile.specs.RuleLaws.{KeptTo, ruled-kept, ruled-broken}
 use Rattle.profile.specs.Steps.{bankKeeps}
 use Rattle.profile.proofs.Loops.{none-yet, one-more, is-broken}
