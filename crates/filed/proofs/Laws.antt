@@ -24,8 +24,10 @@ use Rattle.form.specs.Columns.{column-length}
 use Rattle.form.specs.Cells.{cells-length}
 use Rattle.resolver.specs.Lists.{lists}
 use Rattle.resolver.specs.declared.Choices.{Choices}
-use Rattle.output.specs.Output.{input, Lent, Builds, roomOf, refusedAfter}
+use Rattle.refusal.specs.declared.Opt.{Opt}
+use Rattle.output.specs.Output.{input, Lent, roomOf, refusedAfter}
 use Rattle.output.specs.declared.Output.{Output}
+use Rattle.filed.specs.Paged.{BuiltIn}
 use Rattle.filed.specs.Filed.{choicesOf, FileBuilt, HeldIn, listsIn, outputBy}
 
 -- what was read stands in the front, and as much room is there
@@ -76,20 +78,20 @@ module _ (file : List ℕ) (s : Shape) (sound : formOf file ≡ Sound s) (kinds 
         of-states = front (statesOf file) states states′ (s .rows * s .nodes) s-long s-is;
       }
 
-module _ (file : List ℕ) (fill : ℕ) (old : Lent) where
+module _ (file : List ℕ) (fill : ℕ) (page : Opt) (old : Lent) where
   -- a broken file
-  pub broken : (why : Refusal) → formOf file ≡ Broken why → FileBuilt file fill old (refusedAfter 0 why) old
-  broken why e = record { answer = sym (ap (outputBy file fill (roomOf old)) e); left = refl }
+  pub broken : (why : Refusal) → formOf file ≡ Broken why → FileBuilt file fill page old (refusedAfter 0 why) old
+  broken why e = record { answer = sym (ap (outputBy file fill page (roomOf old)) e); left = refl }
 
   -- a sound one
   module _ (s : Shape) (sound : formOf file ≡ Sound s) {r : Output} {new : Lent} where
-    as-read : Builds (input (tableOf file) (listsIn file) (choicesOf s fill)) old r new → FileBuilt file fill old r new
-    as-read b = record { answer = b .answer ∙ sym (ap (outputBy file fill (roomOf old)) sound); left = b .left }
+    as-read : BuiltIn page (input (tableOf file) (listsIn file) (choicesOf s fill)) old r new → FileBuilt file fill page old r new
+    as-read b = record { answer = b .answer ∙ sym (ap (outputBy file fill page (roomOf old)) sound); left = b .left }
 
     pub laid-out : (banks : Bankdefs) (kinds operands numbers states values : List ℕ) (choices : Choices) → HeldIn file s kinds operands numbers states
         → choices ≡ choicesOf s fill → banks ≡ tableOf file → values ≡ valuesBy file (formOf file)
-        → Builds (input banks (lists (take (s .nodes) kinds) (take (s .nodes) operands) (take (s .rows * s .nodes) numbers) (take (s .rows * s .nodes) states) (s .rows) values) choices) old r new
-        → FileBuilt file fill old r new
+        → BuiltIn page (input banks (lists (take (s .nodes) kinds) (take (s .nodes) operands) (take (s .rows * s .nodes) numbers) (take (s .rows * s .nodes) states) (s .rows) values) choices) old r new
+        → FileBuilt file fill page old r new
     laid-out banks kinds operands numbers states values choices h ec eb ev b =
-        as-read (subst (λ (x : ℕ). Builds (input (tableOf file) (lists (kindsOf file) (operandsOf file) (numbersOf file) (statesOf file) x (valuesBy file (formOf file))) (choicesOf s fill)) old r new) (places file s sound .rows)
+        as-read (subst (λ (x : ℕ). BuiltIn page (input (tableOf file) (lists (kindsOf file) (operandsOf file) (numbersOf file) (statesOf file) x (valuesBy file (formOf file))) (choicesOf s fill)) old r new) (places file s sound .rows)
         (rw (ec, eb, ev, h .of-kinds, h .of-operands, h .of-numbers, h .of-states) at b))

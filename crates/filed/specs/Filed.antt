@@ -7,6 +7,7 @@ use lib.ListN.{length, take}
 use Rattle.form.specs.declared.Shape.{Shape}
 use Rattle.form.specs.declared.Form.{Form}
 use Rattle.form.specs.declared.Form.the-variants.{Sound, Broken}
+use Rattle.refusal.specs.declared.Opt.{Opt}
 use Rattle.form.specs.Shape.{formOf, rowCount}
 use Rattle.form.specs.Banks.{tableOf}
 use Rattle.form.specs.Lists.{kindsOf, operandsOf, numbersOf, statesOf, valuesBy}
@@ -14,9 +15,10 @@ use Rattle.resolver.specs.Lists.{Lists, lists}
 use Rattle.resolver.specs.declared.Choices.{Choices}
 use Rattle.resolver.specs.Passes.{program, rowOfPass}
 use Rattle.output.specs.Visits.{visits}
-use Rattle.output.specs.Output.{input, Lent, Room, roomOf, buildOf, refusedAfter, leftBy}
+use Rattle.output.specs.Output.{input, Lent, Room, roomOf, refusedAfter, leftBy}
 use Rattle.output.specs.declared.visits.Visit.{Visit}
 use Rattle.output.specs.declared.Output.{Output}
+use Rattle.filed.specs.Paged.{outputIn}
 
 -- the lists and the value bytes of a file
 abbrev pub listsIn : List ℕ → Lists
@@ -29,20 +31,20 @@ abbrev pub choicesOf : Shape → ℕ → Choices
 choicesOf s fill = record { limit = s .limit; fill = fill; «default_bank» = eqb (s .form) 1 }
 
 -- "A broken file .. is 4 with the first such field's index", and no pass runs; a sound one is built.
-abbrev pub outputBy : List ℕ → ℕ → Room → Form → Output
-outputBy file fill room (Broken why) = refusedAfter 0 why
-outputBy file fill room (Sound s) = buildOf (input (tableOf file) (listsIn file) (choicesOf s fill)) room
+abbrev pub outputBy : List ℕ → ℕ → Opt → Room → Form → Output
+outputBy file fill page room (Broken why) = refusedAfter 0 why
+outputBy file fill page room (Sound s) = outputIn page (input (tableOf file) (listsIn file) (choicesOf s fill)) room
 
-abbrev pub fileOutput : List ℕ → ℕ → Room → Output
-fileOutput file fill room = outputBy file fill room (formOf file)
+abbrev pub fileOutput : List ℕ → ℕ → Opt → Room → Output
+fileOutput file fill page room = outputBy file fill page room (formOf file)
 
 -- a file's nodes, visited in the row of the last of so many passes
 abbrev pub fileVisits : List ℕ → ℕ → List Visit
 fileVisits file passes = visits (program (tableOf file) (listsIn file)) (rowOfPass (listsIn file) passes)
 
 -- The build of a file: its answer, and everything lent afterwards.
-pub record FileBuilt (file : List ℕ) (fill : ℕ) (old : Lent) (r : Output) (new : Lent) : Type 0 where
-  pub answer : r ≡ fileOutput file fill (roomOf old)
+pub record FileBuilt (file : List ℕ) (fill : ℕ) (page : Opt) (old : Lent) (r : Output) (new : Lent) : Type 0 where
+  pub answer : r ≡ fileOutput file fill page (roomOf old)
   pub left : new ≡ leftBy (tableOf file) (fileVisits file (r .passes)) (listsIn file .values) old (r .build)
 
 -- The lists of a sound file stand in the front of four lists.

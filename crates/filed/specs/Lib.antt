@@ -1,2 +1,3 @@
 pub mod Filed
+pub mod Paged
 pub mod Unique

@@ -1,15 +1,19 @@
 // A layout file, laid out: what it says goes to the build. The way from a file to its build stands here once.
+use bankdef::Bankdefs;
 use form::Form;
 use form::Shape;
 use output::Build;
 use output::Output;
+use refusal::Opt;
 use resolver::Choices;
 ghost use mathlib.Core.Path.{_≡_};
 ghost use Prim.Native.Nat.{_*_, _≤_};
 ghost use lib.ListN.{length, take};
 ghost use Rattle.form.specs.Shape.{formOf};
 ghost use Rattle.form.specs.Lists.{kindsOf, operandsOf, numbersOf, statesOf};
-ghost use Rattle.output.specs.Output.{lent};
+ghost use Rattle.resolver.specs.Lists.{lists};
+ghost use Rattle.output.specs.Output.{input, lent};
+ghost use Rattle.filed.specs.Paged.{BuiltIn};
 ghost use Rattle.filed.specs.Filed.{choicesOf, FileBuilt, HeldIn};
 
 // Room for the lists of any sound file. A node takes 8 of its 65,536 bytes, and 5 more in each row.
@@ -29,11 +33,70 @@ fn chosen(shape: Shape, fill: u8) -> Choices
     }
 }
 
+// The build, in the profile of a device with pages of so many bits where a page size is given. A refused call changes nothing that is lent.
+pub fn build_with(
+    page: Opt,
+    banks: Bankdefs,
+    kinds: &[u8],
+    operands: &[u32],
+    numbers: &[u32],
+    states: &[u8],
+    rows: u64,
+    values: &[u8],
+    choices: Choices,
+    image: &mut [u8],
+    addresses: &mut [i64],
+    offsets: &mut [u64],
+    sizes: &mut [u64],
+) -> Output
+    ensures { λ r. ⌜
+        BuiltIn page
+        (input banks
+        (lists (now (kinds .entry)) (now (operands .entry)) (now (numbers .entry)) (now (states .entry)) rows (now (values .entry)))
+        choices)
+        (lent (now (image .entry)) (now (addresses .entry)) (now (offsets .entry)) (now (sizes .entry))) r
+        (lent (now (image .exit)) (now (addresses .exit)) (now (offsets .exit)) (now (sizes .exit)))
+        ⌝ }
+{
+    match page {
+        Opt::None => output::build_output(
+            banks,
+            kinds,
+            operands,
+            numbers,
+            states,
+            rows,
+            values,
+            choices,
+            image,
+            addresses,
+            offsets,
+            sizes,
+        ),
+        Opt::Some(bits) => profile_build::build_in_profile(
+            bits,
+            banks,
+            kinds,
+            operands,
+            numbers,
+            states,
+            rows,
+            values,
+            choices,
+            image,
+            addresses,
+            offsets,
+            sizes,
+        ),
+    }
+}
+
 // The build of a sound file, whose lists stand in the front of those lent.
 fn build_read(
     file: &[u8],
     shape: Shape,
     fill: u8,
+    page: Opt,
     kinds: &[u8],
     operands: &[u32],
     numbers: &[u32],
@@ -45,7 +108,7 @@ fn build_read(
 ) -> Output
     requires { ⌜ HeldIn (now file) shape (now kinds) (now operands) (now numbers) (now states) ⌝ }
     ensures { λ r. ⌜
-        FileBuilt (now (file .entry)) fill
+        FileBuilt (now (file .entry)) fill page
         (lent (now (image .entry)) (now (addresses .entry)) (now (offsets .entry)) (now (sizes .entry))) r
         (lent (now (image .exit)) (now (addresses .exit)) (now (offsets .exit)) (now (sizes .exit)))
         ⌝ }
@@ -53,7 +116,8 @@ fn build_read(
     let choices = chosen(shape, fill);
     let nodes = shape.nodes as usize;
     let cells = shape.rows as usize * nodes;
-    output::build_output(
+    build_with(
+        page,
         form::read_banks(file),
         &kinds[..nodes],
         &operands[..nodes],
@@ -73,13 +137,14 @@ fn build_read(
 pub fn build_file(
     file: &[u8],
     fill: u8,
+    page: Opt,
     image: &mut [u8],
     addresses: &mut [i64],
     offsets: &mut [u64],
     sizes: &mut [u64],
 ) -> Output
     ensures { λ r. ⌜
-        FileBuilt (now (file .entry)) fill
+        FileBuilt (now (file .entry)) fill page
         (lent (now (image .entry)) (now (addresses .entry)) (now (offsets .entry)) (now (sizes .entry))) r
         (lent (now (image .exit)) (now (addresses .exit)) (now (offsets .exit)) (now (sizes .exit)))
         ⌝ }
@@ -100,6 +165,7 @@ pub fn build_file(
                 file,
                 shape,
                 fill,
+                page,
                 &kinds,
                 &operands,
                 &numbers,

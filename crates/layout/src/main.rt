@@ -1,6 +1,6 @@
 // The program: reads a file of either form from standard input and writes what the report has of it.
 //
-//     layout [FILL]    FILL is the fill's choice, 0 where it is not given
+//     layout [FILL [PAGE]]    FILL is the fill's choice, 0 where it is not given; PAGE the page size in bits of a device with pages
 //
 // It writes nothing where an argument is no decimal number, or where there are more.
 use refusal::Opt;
@@ -12,8 +12,8 @@ const FILE: usize = 65_537;
 // Room for the longest report.
 const TEXT: usize = 163_840;
 
-fn write(file: &[u8], fill: u8, text: &mut [u8]) {
-    let Written::To(end) = report::report(file, fill, text) else {
+fn write(file: &[u8], fill: u8, page: Opt, text: &mut [u8]) {
+    let Written::To(end) = report::report(file, fill, page, text) else {
         return;
     };
     io::write_all(1, &text[..end]);
@@ -31,24 +31,31 @@ fn choice(n: u32) -> u8 {
     if n < 255 { n as u8 } else { 255 }
 }
 
-fn run(fill: u8) {
+fn run(fill: u8, page: Opt) {
     let mut file = [0u8; FILE];
     let n = io::read_full(0, &mut file);
     let mut text = [0u8; TEXT];
-    write(&file[..n], fill, &mut text);
+    write(&file[..n], fill, page, &mut text);
 }
 
 fn main() {
     let count = os::arg_count();
-    if count > 2 {
+    if count > 3 {
         return;
     }
     if count < 2 {
-        run(0);
+        run(0, Opt::None);
         return;
     }
     let Opt::Some(fill) = number_at(1) else {
         return;
     };
-    run(choice(fill));
+    if count < 3 {
+        run(choice(fill), Opt::None);
+        return;
+    }
+    let page = number_at(2);
+    if let Opt::Some(_) = page {
+        run(choice(fill), page);
+    }
 }

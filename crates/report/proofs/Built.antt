@@ -12,6 +12,10 @@ use Rattle.refusal.specs.Limits.{maxPosition}
 use Rattle.refusal.specs.Pick.{pick, pick-true, pick-false}
 use Rattle.refusal.specs.declared.Refusal.{Refusal}
 use Rattle.refusal.specs.declared.Refusal.the-variants.{TooShort}
+use Rattle.refusal.specs.declared.Opt.{Opt}
+use Rattle.refusal.specs.declared.Opt.the-variants.{None, Some}
+use Rattle.refusal.specs.declared.Verdict.{Verdict}
+use Rattle.refusal.specs.declared.Verdict.the-variants.{Accepted, Refused as TurnedAway}
 use Rattle.resolver.specs.Lists.{rowAt}
 use Rattle.resolver.specs.Passes.{program, rowOfPass}
 use Rattle.resolver.specs.declared.Settled.{Settled}
@@ -35,6 +39,9 @@ use Rattle.form.specs.Shape.{formOf, nodeCount, rowsStart, rowCount}
 use Rattle.form.specs.Words.{word32}
 use Rattle.form.specs.declared.Form.{Form}
 use Rattle.form.specs.declared.Form.the-variants.{Sound, Broken}
+use Rattle.form.specs.declared.Shape.{Shape}
+use Rattle.profile_build.specs.InProfile.{saidOf}
+use Rattle.filed.specs.Paged.{afterSaid, outputIn}
 use Rattle.filed.specs.Filed.{listsIn, choicesOf, outputBy, FileBuilt}
 use Rattle.text.specs.Lines.{refusalText}
 use Rattle.report.specs.Report.{imageRoom, spanRoom, lentRoom, doneText, answerText, builtText, reportText}
@@ -191,30 +198,59 @@ module _ (read : ℕ → ℕ) (small : (at : ℕ) → read at ≤ maxPosition) w
       small-append (column read 5 at nodes) (cells read nodes (at + (3 + 5 * nodes)) rows) (small-column 5 at nodes)
       (small-cells nodes (at + (3 + 5 * nodes)) rows) i
 
-module _ (file : List ℕ) (fill : ℕ) (bytes : (i : ℕ) → getD file i 0 < 256) (old : Lent) (hi : length (old .image) ≡ imageRoom)
+module _ (file : List ℕ) (fill : ℕ) (page : Opt) (bytes : (i : ℕ) → getD file i 0 < 256) (old : Lent) (hi : length (old .image) ≡ imageRoom)
     (ha : length (old .addresses) ≡ spanRoom) (ho : length (old .offsets) ≡ spanRoom) (hs : length (old .sizes) ≡ spanRoom) (r : Output) (new : Lent)
-    (built : FileBuilt file fill old r new) where
-  told : (f : Form) → formOf file ≡ f → r ≡ outputBy file fill (roomOf old) f
-  told f e = built .answer ∙ ap (outputBy file fill (roomOf old)) e
+    (built : FileBuilt file fill page old r new) where
+  told : (f : Form) → formOf file ≡ f → r ≡ outputBy file fill page (roomOf old) f
+  told f e = built .answer ∙ ap (outputBy file fill page (roomOf old)) e
 
-  room : roomOf old ≡ lentRoom
-  room = rw (hi, ha, ho, hs) refl
+  -- an answer, with what the build left
+  abbrev textOf : Output → List ℕ
+  textOf o = answered (o .build) (new .image) (new .offsets) (new .sizes)
 
-  text-by : (f : Form) → formOf file ≡ f → answered (r .build) (new .image) (new .offsets) (new .sizes) ≡ builtText file (outputBy file fill lentRoom f)
-  text-by (Broken why) e = ap (λ (o : Output). answered (o .build) (new .image) (new .offsets) (new .sizes)) (told (Broken why) e)
-  text-by (Sound s) e =
-      build-text (input (tableOf file) (listsIn file) (choicesOf s fill)) old hi ha ho hs r new (told (Sound s) e) (built .left) (r .build) refl
+  abbrev FitsNow : Output → Type 0
+  FitsNow o = Fitting (o .build) (new .image) (new .offsets) (new .sizes)
 
-  pub file-text : answered (r .build) (new .image) (new .offsets) (new .sizes) ≡ reportText file fill
+  module _ (s : Shape) where
+    abbrev given : Input
+    given = input (tableOf file) (listsIn file) (choicesOf s fill)
+
+    text-built : r ≡ buildOf given (roomOf old) → textOf r ≡ builtText file (buildOf given lentRoom)
+    text-built e = build-text given old hi ha ho hs r new e (built .left) (r .build) refl
+
+    text-said : (v : Verdict) → r ≡ afterSaid v (buildOf given (roomOf old)) → textOf r ≡ builtText file (afterSaid v (buildOf given lentRoom))
+    text-said Accepted e = text-built e
+    text-said (TurnedAway why) e = ap textOf e
+
+    text-in : (p : Opt) → r ≡ outputIn p given (roomOf old) → textOf r ≡ builtText file (outputIn p given lentRoom)
+    text-in None e = text-built e
+    text-in (Some bits) e = text-said (saidOf bits given) e
+
+    module _ (gi : length (new .image) ≡ imageRoom) (go : length (new .offsets) ≡ spanRoom) (gs : length (new .sizes) ≡ spanRoom) where
+      fits-built : r ≡ buildOf given (roomOf old) → FitsNow r
+      fits-built e =
+          build-fits given old hi ha ho hs r new e (built .left) (table-fits file bytes)
+          (small-cells (word32 file) (word-fits file bytes) (nodeCount file) (rowsStart file + 3) (rowCount file)) (r .build) refl gi go gs
+
+      fits-said : (v : Verdict) → r ≡ afterSaid v (buildOf given (roomOf old)) → FitsNow r
+      fits-said Accepted e = fits-built e
+      fits-said (TurnedAway why) e = rw e tt
+
+      fits-in : (p : Opt) → r ≡ outputIn p given (roomOf old) → FitsNow r
+      fits-in None e = fits-built e
+      fits-in (Some bits) e = fits-said (saidOf bits given) e
+
+  text-by : (f : Form) → formOf file ≡ f → textOf r ≡ builtText file (outputBy file fill page lentRoom f)
+  text-by (Broken why) e = ap textOf (told (Broken why) e)
+  text-by (Sound s) e = text-in s page (told (Sound s) e)
+
+  pub file-text : answered (r .build) (new .image) (new .offsets) (new .sizes) ≡ reportText file fill page
   unfolding reportText
   file-text = text-by (formOf file) refl
 
-  fits-by : (f : Form) → formOf file ≡ f → length (new .image) ≡ imageRoom → length (new .offsets) ≡ spanRoom → length (new .sizes) ≡ spanRoom
-      → Fitting (r .build) (new .image) (new .offsets) (new .sizes)
+  fits-by : (f : Form) → formOf file ≡ f → length (new .image) ≡ imageRoom → length (new .offsets) ≡ spanRoom → length (new .sizes) ≡ spanRoom → FitsNow r
   fits-by (Broken why) e gi go gs = rw (told (Broken why) e) tt
-  fits-by (Sound s) e gi go gs =
-      build-fits (input (tableOf file) (listsIn file) (choicesOf s fill)) old hi ha ho hs r new (told (Sound s) e) (built .left) (table-fits file bytes)
-      (small-cells (word32 file) (word-fits file bytes) (nodeCount file) (rowsStart file + 3) (rowCount file)) (r .build) refl gi go gs
+  fits-by (Sound s) e gi go gs = fits-in s gi go gs page (told (Sound s) e)
 
   pub file-fits : length (new .image) ≡ imageRoom → length (new .offsets) ≡ spanRoom → length (new .sizes) ≡ spanRoom
       → Fitting (r .build) (new .image) (new .offsets) (new .sizes)

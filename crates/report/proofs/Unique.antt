@@ -8,5 +8,5 @@ use Rattle.report.specs.Unique.{report-unique}
 use Rattle.report.proofs.report.Kinds as report-kinds
 use Rattle.report.proofs.report.Reads as report-reads
 
-pub report-one : OneView 2 report-kinds.ps report-kinds.r report-reads.Learnt (Written × List ℕ) (λ κs x e. (x, e .1 .1 .0 .now))
-report-one κs a x y e f p q = let same = report-unique _ _ _ p q in paired (same .0) (same .1)
+pub report-one : OneView 2 report-kinds.ps report-kinds.r report-reads.Learnt (Written × List ℕ) (λ κs x e. (x, e .1 .1 .1 .0 .now))
+report-one κs a x y e f p q = let same = report-unique _ _ _ _ p q in paired (same .0) (same .1)

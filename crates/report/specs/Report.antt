@@ -3,6 +3,7 @@
 use mathlib.Core.List.{List}
 use Prim.Native.Nat.{ℕ}
 use lib.ListN.{length}
+use Rattle.refusal.specs.declared.Opt.{Opt}
 use Rattle.bankdef.specs.Check.{banksOf}
 use Rattle.bankdef.specs.declared.Bankdefs.{Bankdefs}
 use Rattle.bitvec.specs.HexDigits.{hexOf}
@@ -44,9 +45,9 @@ answerText banks vs values (Refused why) = refusalText why
 answerText banks vs values (Done k bits spans) =
     doneText k bits (words (spansIn vs)) (spanSizes (spansIn vs)) (imageOf values (blankOf (banksOf banks) bits imageRoom) (itemsOf vs))
 
--- The program's whole output for a file and a fill: of its build, in the room that the program lends.
+-- The program's whole output for a file, a fill and a page size, if there is one: of its build, in the room that the program lends.
 abbrev pub builtText : List ℕ → Output → List ℕ
 builtText file answer = answerText (tableOf file) (fileVisits file (answer .passes)) (listsIn file .values) (answer .build)
 
-unfoldable pub reportText : List ℕ → ℕ → List ℕ
-reportText file fill = builtText file (fileOutput file fill lentRoom)
+unfoldable pub reportText : List ℕ → ℕ → Opt → List ℕ
+reportText file fill page = builtText file (fileOutput file fill page lentRoom)

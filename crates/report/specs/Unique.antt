@@ -2,11 +2,12 @@
 use mathlib.Core.Path.{_≡_}
 use mathlib.Core.List.{List}
 use Prim.Native.Nat.{ℕ}
+use Rattle.refusal.specs.declared.Opt.{Opt}
 use Rattle.text.specs.declared.Written.{Written}
 use Rattle.text.specs.Puts.{Puts}
 use Rattle.text.specs.Unique.{puts-unique}
 use Rattle.report.specs.Report.{reportText}
 
-pub report-unique : (file : List ℕ) (fill : ℕ) (old : List ℕ) {r s : Written} {a b : List ℕ} → Puts (reportText file fill) old 0 r a
-    → Puts (reportText file fill) old 0 s b → (r ≡ s) × (a ≡ b)
-report-unique file fill old p q = puts-unique p q
+pub report-unique : (file : List ℕ) (fill : ℕ) (page : Opt) (old : List ℕ) {r s : Written} {a b : List ℕ} → Puts (reportText file fill page) old 0 r a
+    → Puts (reportText file fill page) old 0 s b → (r ≡ s) × (a ≡ b)
+report-unique file fill page old p q = puts-unique p q

@@ -1,6 +1,7 @@
 // What the program prints for a file: its layout built, its blocks and its hex digits, and the text of them.
 use blocks::Blocks;
 use output::Build;
+use refusal::Opt;
 use text::Written;
 ghost use mathlib.Core.Path.{_≡_};
 ghost use mathlib.Core.Bool.{true};
@@ -137,6 +138,7 @@ fn put_answer(build: Build, image: &[u8], offsets: &[u64], sizes: &[u64], out: &
 fn put_build(
     file: &[u8],
     fill: u8,
+    page: Opt,
     image: &mut [u8],
     addresses: &mut [i64],
     offsets: &mut [u64],
@@ -147,16 +149,17 @@ fn put_build(
     requires { ⌜ length (now addresses) ≡ spanRoom ⌝ }
     requires { ⌜ length (now offsets) ≡ spanRoom ⌝ }
     requires { ⌜ length (now sizes) ≡ spanRoom ⌝ }
-    ensures { λ r. ⌜ Puts (reportText (now (file .entry)) fill) (now (out .entry)) 0 r (now (out .exit)) ⌝ }
+    ensures { λ r. ⌜ Puts (reportText (now (file .entry)) fill page) (now (out .entry)) 0 r (now (out .exit)) ⌝ }
 {
-    let answer = filed::build_file(file, fill, image, addresses, offsets, sizes);
+    let answer = filed::build_file(file, fill, page, image, addresses, offsets, sizes);
     let build = answer.build;
     put_answer(build, image, offsets, sizes, out)
 }
 
-// What the program prints for a file's bytes and a fill's choice, put at the front of `out`. Lends room for the image and the spans.
-pub fn report(file: &[u8], fill: u8, out: &mut [u8]) -> Written
-    ensures { λ r. ⌜ Puts (reportText (now (file .entry)) fill) (now (out .entry)) 0 r (now (out .exit)) ⌝ }
+// What the program prints for a file's bytes, a fill's choice and a page size, if there is one, put at the front of `out`. Lends room for the image and
+// the spans.
+pub fn report(file: &[u8], fill: u8, page: Opt, out: &mut [u8]) -> Written
+    ensures { λ r. ⌜ Puts (reportText (now (file .entry)) fill page) (now (out .entry)) 0 r (now (out .exit)) ⌝ }
 {
     let mut image = [0u8; 16384];
     let mut addresses = [0i64; 4096];
@@ -165,6 +168,7 @@ pub fn report(file: &[u8], fill: u8, out: &mut [u8]) -> Written
     put_build(
         file,
         fill,
+        page,
         &mut image,
         &mut addresses,
         &mut offsets,

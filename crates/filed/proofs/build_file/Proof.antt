@@ -51,7 +51,7 @@ build-read-requires c κs =
 returns : tie.Need-returns
 returns c =
     let a = c .before .before .before .before .before .before .before .before .args in
-    broken (a .file .now) (a .fill) (lent (a .image .now) (a .addresses .now) (a .offsets .now) (a .sizes .now)) _ (sym (c .before .before .before .read-shape .ensures .is) ∙ c .before .why .given .1)
+    broken (a .file .now) (a .fill) (a .page) (lent (a .image .now) (a .addresses .now) (a .offsets .now) (a .sizes .now)) _ (sym (c .before .before .before .read-shape .ensures .is) ∙ c .before .why .given .1)
 
 same-length : tie.Need-same-length
 same-length c = search needs

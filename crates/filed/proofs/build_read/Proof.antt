@@ -16,23 +16,23 @@ mul-cells c = search needs
 read-banks-requires : tie.Need-read-banks-requires
 read-banks-requires c κs = search needs
 
-slice-aggregate-build-output : tie.Need-slice-aggregate-build-output
-slice-aggregate-build-output c = sym (length-take-le _ _ (c .before .before .before .before .before .before .before .before .before .before .before .pre .kinds-fit))
+slice-aggregate-build-with : tie.Need-slice-aggregate-build-with
+slice-aggregate-build-with c = sym (length-take-le _ _ (c .before .before .before .before .before .before .before .before .before .before .before .pre .kinds-fit))
 
-slice-aggregate-build-output-2 : tie.Need-slice-aggregate-build-output-2
-slice-aggregate-build-output-2 c = sym (length-take-le _ _ (c .before .before .before .before .before .before .before .before .before .before .before .before .pre .operands-fit))
+slice-aggregate-build-with-2 : tie.Need-slice-aggregate-build-with-2
+slice-aggregate-build-with-2 c = sym (length-take-le _ _ (c .before .before .before .before .before .before .before .before .before .before .before .before .pre .operands-fit))
 
-slice-aggregate-build-output-3 : tie.Need-slice-aggregate-build-output-3
-slice-aggregate-build-output-3 c = sym (length-take-le _ _ (c .before .before .before .before .before .before .before .before .before .before .before .before .before .pre .numbers-fit))
+slice-aggregate-build-with-3 : tie.Need-slice-aggregate-build-with-3
+slice-aggregate-build-with-3 c = sym (length-take-le _ _ (c .before .before .before .before .before .before .before .before .before .before .before .before .before .pre .numbers-fit))
 
-slice-aggregate-build-output-4 : tie.Need-slice-aggregate-build-output-4
-slice-aggregate-build-output-4 c = sym (length-take-le _ _ (c .before .before .before .before .before .before .before .before .before .before .before .before .before .before .pre .states-fit))
+slice-aggregate-build-with-4 : tie.Need-slice-aggregate-build-with-4
+slice-aggregate-build-with-4 c = sym (length-take-le _ _ (c .before .before .before .before .before .before .before .before .before .before .before .before .before .before .pre .states-fit))
 
 read-values-requires : tie.Need-read-values-requires
 read-values-requires c κs = search needs
 
-build-output-requires : tie.Need-build-output-requires
-build-output-requires c κs = search needs
+build-with-requires : tie.Need-build-with-requires
+build-with-requires c κs = search needs
 
 same-length : tie.Need-same-length
 same-length c = search needs
@@ -50,8 +50,8 @@ returns : tie.Need-returns
 returns c =
     let s = c .before .before .before .before .before .before .before .before .before .before .before .before .before .before .before .before .before .before .before .before .before .before .before .before .before .before .before in
     let a = s .args in
-    laid-out (a .file .now) (a .fill) (lent (a .image .now) (a .addresses .now) (a .offsets .now) (a .sizes .now)) (a .shape) (s .pre .sound) _ (a .kinds .now) (a .operands .now) (a .numbers .now) (a .states .now) _ _ (s .pre) (c .before .before .before .before .before .before .before .before .before .before .before .before .before .before .before .before .before .before .chosen .ensures)
-    (c .before .before .before .before .before .before .before .before .before .before .before .before .before .before .before .before .before .read-banks .ensures) (c .before .before .before .before .before .before .before .before .before .before .before .before .read-values .ensures) (c .before .before .before .before .before .before .before .build-output .ensures)
+    laid-out (a .file .now) (a .fill) (a .page) (lent (a .image .now) (a .addresses .now) (a .offsets .now) (a .sizes .now)) (a .shape) (s .pre .sound) _ (a .kinds .now) (a .operands .now) (a .numbers .now) (a .states .now) _ _ (s .pre) (c .before .before .before .before .before .before .before .before .before .before .before .before .before .before .before .before .before .before .chosen .ensures)
+    (c .before .before .before .before .before .before .before .before .before .before .before .before .before .before .before .before .before .read-banks .ensures) (c .before .before .before .before .before .before .before .before .before .before .before .before .read-values .ensures) (c .before .before .before .before .before .before .before .build-with .ensures)
 
 pub build-read-spec : {M : Type 1} → statement M
 build-read-spec =
@@ -60,12 +60,12 @@ build-read-spec =
     chosen-requires
     mul-cells
     read-banks-requires
-    slice-aggregate-build-output
-    slice-aggregate-build-output-2
-    slice-aggregate-build-output-3
-    slice-aggregate-build-output-4
+    slice-aggregate-build-with
+    slice-aggregate-build-with-2
+    slice-aggregate-build-with-3
+    slice-aggregate-build-with-4
     read-values-requires
-    build-output-requires
+    build-with-requires
     same-length
     same-length-2
     same-length-3

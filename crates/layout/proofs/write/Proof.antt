@@ -11,10 +11,10 @@ use Rattle.layout.proofs.write.Statement.{statement}
 use Rattle.layout.proofs.write.Tie as tie
 
 -- where the report ends
-inside : (e : tie.After-end) → e .end .given .0 .0 ≤ length (e .before .before .before .before .report .last .1 .1 .0)
+inside : (e : tie.After-end) → e .end .given .0 .0 ≤ length (e .before .before .before .before .report .last .1 .1 .1 .0)
 inside e =
     let a = e .before .before .before .before .before .before .before .before .args in
-    let whole = fits-of (length (a .text .now)) 0 (length (reportText (a .file .now) (a .fill))) (e .before .before .before .before .report .ensures .place) (e .end .given .1) in
+    let whole = fits-of (length (a .text .now)) 0 (length (reportText (a .file .now) (a .fill) (a .page))) (e .before .before .before .before .report .ensures .place) (e .end .given .1) in
     omega (arith, whole .1, e .before .before .before .text .given)
 
 report-requires : tie.Need-report-requires

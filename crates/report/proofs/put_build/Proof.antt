@@ -16,7 +16,7 @@ old s = lent (s .args .image .now) (s .args .addresses .now) (s .args .offsets .
 abbrev new : tie.After-build-file → Lent
 new d =
     let after = d .build-file .last in
-    lent (after .1 .1 .0) (after .1 .1 .1 .0) (after .1 .1 .1 .1 .0) (after .1 .1 .1 .1 .1 .0)
+    lent (after .1 .1 .1 .0) (after .1 .1 .1 .1 .0) (after .1 .1 .1 .1 .1 .0) (after .1 .1 .1 .1 .1 .1 .0)
 
 build-file-requires : tie.Need-build-file-requires
 build-file-requires c κs = search needs
@@ -25,7 +25,7 @@ put-answer-requires : tie.Need-put-answer-requires
 put-answer-requires c κs =
     let d = c .before .before .before .before .before .before .before .before .before .before .before in
     let p = begin d .pre in
-    file-fits (begin d .args .file .now) (begin d .args .fill) (λ i. d .before .before .before .before .before .before .before .before .before .shared-slice-known .given i .fits) (old (begin d)) (p .0) (p .1 .0) (p .1 .1 .0) (p .1 .1 .1)
+    file-fits (begin d .args .file .now) (begin d .args .fill) (begin d .args .page) (λ i. d .before .before .before .before .before .before .before .before .before .shared-slice-known .given i .fits) (old (begin d)) (p .0) (p .1 .0) (p .1 .1 .0) (p .1 .1 .1)
     (d .build-file .result) (new d) (d .build-file .ensures) (c .before .before .before .before .before .before .before .before .before .before .image .given ∙ p .0) (c .before .before .before .before .before .before .before .offsets .given ∙ p .1 .1 .0) (c .before .before .before .before .before .sizes .given ∙ p .1 .1 .1)
 
 same-length : tie.Need-same-length
@@ -47,7 +47,7 @@ returns : tie.Need-returns
 returns c =
     let d = c .before .before .before .before .before .before .before .before .before .before .before .before .before .before in
     let p = begin d .pre in
-    rw (← file-text (begin d .args .file .now) (begin d .args .fill) (λ i. d .before .before .before .before .before .before .before .before .before .shared-slice-known .given i .fits) (old (begin d)) (p .0) (p .1 .0) (p .1 .1 .0) (p .1 .1 .1)
+    rw (← file-text (begin d .args .file .now) (begin d .args .fill) (begin d .args .page) (λ i. d .before .before .before .before .before .before .before .before .before .shared-slice-known .given i .fits) (old (begin d)) (p .0) (p .1 .0) (p .1 .1 .0) (p .1 .1 .1)
     (d .build-file .result) (new d) (d .build-file .ensures))
     (c .before .before .put-answer .ensures)
 
