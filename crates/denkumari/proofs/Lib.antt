@@ -1,5 +1,7 @@
 pub mod FormLaws
 pub mod OverlayUnique
+pub mod ProfileLaws
+pub mod ProfileUnique
 pub mod RecordUnique
 pub mod StoreLaws
 pub mod StoreUnique

@@ -2,12 +2,13 @@
 use mathlib.Core.Path.{_≡_}
 use mathlib.Core.List.{List}
 use Prim.Native.Nat.{ℕ}
+use Rattle.refusal.specs.declared.Opt.{Opt}
 use Rattle.output.specs.Output.{Lent, roomOf}
 use Rattle.filed.specs.Filed.{fileOutput, FileBuilt}
 use Rattle.denkumari.specs.Told.{layoutTold}
 use Rattle.denkumari.specs.declared.DkLayout.{DkLayout}
 
--- What `dk_form` promises: that build, told in numbers.
-pub record FormTold (file : List ℕ) (fill : ℕ) (old : Lent) (r : DkLayout) (new : Lent) : Type 0 where
-  pub answer : r ≡ layoutTold (fileOutput file fill (roomOf old))
-  pub built : FileBuilt file fill old (fileOutput file fill (roomOf old)) new
+-- What `dk_form` and `dk_form_paged` promise: that build, told in numbers.
+pub record FormTold (file : List ℕ) (fill : ℕ) (page : Opt) (old : Lent) (r : DkLayout) (new : Lent) : Type 0 where
+  pub answer : r ≡ layoutTold (fileOutput file fill page (roomOf old))
+  pub built : FileBuilt file fill page old (fileOutput file fill page (roomOf old)) new

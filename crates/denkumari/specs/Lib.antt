@@ -1,6 +1,7 @@
 pub mod Forms
 pub mod Overlays
 pub mod Parts
+pub mod Profiles
 pub mod RecordFiles
 pub mod Stores
 pub mod Tables

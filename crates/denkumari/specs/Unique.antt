@@ -4,6 +4,7 @@ use mathlib.Core.Path.{_≡_}
 use mathlib.Core.List.{List}
 use Prim.Native.Nat.{ℕ}
 use Rattle.refusal.specs.Pick.{determined}
+use Rattle.refusal.specs.declared.Opt.{Opt}
 use Rattle.output.specs.Output.{Input, Lent}
 use Rattle.denkumari.specs.Forms.{FormTold}
 use Rattle.denkumari.specs.Parts.{BlocksTold, HexTold, PartTold}
@@ -13,7 +14,7 @@ use Rattle.denkumari.specs.declared.DkLayout.{DkLayout}
 use Rattle.denkumari.specs.declared.DkPart.{DkPart}
 
 module _ {old x y : Lent} {r s : DkLayout} where
-  pub one-form : {file : List ℕ} {fill : ℕ} → FormTold file fill old r x → FormTold file fill old s y → (r ≡ s) × (x ≡ y)
+  pub one-form : {file : List ℕ} {fill : ℕ} {page : Opt} → FormTold file fill page old r x → FormTold file fill page old s y → (r ≡ s) × (x ≡ y)
   one-form c d = (determined (c .answer) (d .answer), determined (c .built .left) (d .built .left))
 
   pub one-build : {b : Input} → TablesTold b old r x → TablesTold b old s y → (r ≡ s) × (x ≡ y)

@@ -3,6 +3,7 @@
 mod forms;
 mod overlays;
 mod parts;
+mod profiles;
 mod record_files;
 mod stores;
 mod tables;

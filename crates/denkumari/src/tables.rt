@@ -124,7 +124,7 @@ fn at_most_16(n: usize) -> usize
 }
 
 // The table of banks; lists of different lengths make one without banks.
-fn make_banks(
+pub fn make_banks(
     units: &[u16],
     starts: &[i64],
     sizes: &[u32],
@@ -153,7 +153,7 @@ fn make_banks(
 }
 
 // What a caller chooses. Bank 0 may be used alone where it is not closed.
-fn choose(limit: u8, fill: u8, closed: u8) -> Choices
+pub fn choose(limit: u8, fill: u8, closed: u8) -> Choices
     ensures { λ r. ⌜ r ≡ choicesBy limit fill closed ⌝ }
 {
     Choices {

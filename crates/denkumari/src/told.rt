@@ -8,7 +8,7 @@ use refusal::Refusal;
 ghost use mathlib.Core.Path.{_≡_};
 ghost use Rattle.denkumari.specs.Told.{firstOf, secondOf, layoutTold, refusedCount};
 
-fn first_of(p: Place) -> u64
+pub fn first_of(p: Place) -> u64
     ensures { λ r. ⌜ r ≡ firstOf p ⌝ }
 {
     match p {
@@ -17,7 +17,7 @@ fn first_of(p: Place) -> u64
     }
 }
 
-fn second_of(p: Place) -> u64
+pub fn second_of(p: Place) -> u64
     ensures { λ r. ⌜ r ≡ secondOf p ⌝ }
 {
     match p {

@@ -2,6 +2,7 @@
 use mathlib.Core.Path.{ap, _∙_}
 use Rattle.denkumari.proofs.FormLaws.{as-told}
 use Rattle.denkumari.specs.Told.{layoutTold}
+use Rattle.refusal.specs.declared.Opt.the-variants.{None}
 use Rattle.output.specs.Output.{lent}
 use borrow.Author.Needs.{needs}
 use Rattle.denkumari.proofs.forms.dk_form.Statement.{statement}
@@ -29,7 +30,7 @@ returns : tie.Need-returns
 returns c =
     let a = c .before .before .before .before .before .before .before .before .before .before .before .before .before .before .before .before .before .args in
     let b = c .before .before .before .before .before .before .before .before .build-file in
-    record { answer = c .tell-layout .ensures ∙ ap layoutTold (b .ensures .answer); built = as-told (a .file .now) (a .fill) (lent (a .image .now) (a .addresses .now) (a .offsets .now) (a .sizes .now)) (b .ensures) }
+    record { answer = c .tell-layout .ensures ∙ ap layoutTold (b .ensures .answer); built = as-told (a .file .now) (a .fill) None (lent (a .image .now) (a .addresses .now) (a .offsets .now) (a .sizes .now)) (b .ensures) }
 
 pub dk-form-spec : {M : Type 1} → statement M
 dk-form-spec =

@@ -1,0 +1,32 @@
+-- What the profile says of a table, and a build in it, are told as they are.
+use mathlib.Core.Path.{_≡_, ap, subst, _∙_}
+use Prim.Native.Nat.{ℕ}
+use Rattle.refusal.specs.declared.Opt.the-variants.{Some}
+use Rattle.bankdef.specs.declared.Bankdefs.{Bankdefs}
+use Rattle.resolver.specs.Lists.{Lists}
+use Rattle.resolver.specs.declared.Choices.{Choices}
+use Rattle.profile.specs.Profile.{profileOf}
+use Rattle.profile.specs.Told.{Answers}
+use Rattle.profile.specs.declared.Paged.{Paged}
+use Rattle.output.specs.Output.{input, Lent, roomOf}
+use Rattle.output.specs.declared.Output.{Output}
+use Rattle.filed.specs.Paged.{outputIn, BuiltIn}
+use Rattle.denkumari.specs.Told.{layoutTold}
+use Rattle.denkumari.specs.Profiles.{profileTold, ProfileSaid, PagedTold}
+use Rattle.denkumari.specs.declared.DkLayout.{DkLayout}
+use Rattle.denkumari.specs.declared.profiles.DkProfile.{DkProfile}
+
+pub profile-said : {banks table : Bankdefs} {l : Lists} {chosen choices : Choices} {page : ℕ} {p : Paged} {t : DkProfile} → banks ≡ table
+    → chosen ≡ choices → t ≡ profileTold p → Answers banks l (chosen .fill) page p → ProfileSaid table l (choices .fill) page t
+profile-said {l = l} {page = page} same chose told says =
+    record { answer = told ∙ ap profileTold (rw (same, chose) at (says .answer)) }
+
+pub paged-told : {page : ℕ} {banks table : Bankdefs} {l : Lists} {chosen choices : Choices} {old new : Lent} {r : Output} {t : DkLayout}
+    → banks ≡ table → chosen ≡ choices → t ≡ layoutTold r → BuiltIn (Some page) (input banks l chosen) old r new
+    → PagedTold page (input table l choices) old t new
+paged-told {page} {table = table} {l} {choices = choices} {old} {new} {r} {t} same chose told built =
+    let b : BuiltIn (Some page) (input table l choices) old r new = rw (same, chose) at built in
+    record {
+      answer = told ∙ ap layoutTold (b .answer);
+      built = subst (λ (o : Output). BuiltIn (Some page) (input table l choices) old o new) (b .answer) b;
+    }

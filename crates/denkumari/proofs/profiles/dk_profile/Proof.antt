@@ -1,0 +1,30 @@
+-- `dk_profile` meets its contract: what the profile says, told in numbers.
+use Rattle.denkumari.proofs.ProfileLaws.{profile-said}
+use borrow.Author.Needs.{needs}
+use Rattle.denkumari.proofs.profiles.dk_profile.Statement.{statement}
+use Rattle.denkumari.proofs.profiles.dk_profile.Tie as tie
+
+make-banks-requires : tie.Need-make-banks-requires
+make-banks-requires c κs = search needs
+
+choose-requires : tie.Need-choose-requires
+choose-requires c κs = search needs
+
+check-profile-requires : tie.Need-check-profile-requires
+check-profile-requires c κs = search needs
+
+tell-paged-requires : tie.Need-tell-paged-requires
+tell-paged-requires c κs = search needs
+
+returns : tie.Need-returns
+returns c = profile-said (c .before .before .before .make-banks .ensures) (c .before .before .choose .ensures) (c .tell-paged .ensures) (c .before .check-profile .ensures)
+
+pub dk-profile-spec : {M : Type 1} → statement M
+dk-profile-spec =
+    tie.close
+    (tie.spec
+    make-banks-requires
+    choose-requires
+    check-profile-requires
+    tell-paged-requires
+    returns)

@@ -1,0 +1,42 @@
+-- The profile of a device with pages, and a build in it, as a caller in another language is told of them.
+use mathlib.Core.Path.{_≡_}
+use mathlib.Core.List.{List}
+use Prim.Native.Nat.{ℕ}
+use lib.ListN.{replicate}
+use Rattle.refusal.specs.Limits.{maxBanks}
+use Rattle.refusal.specs.Pick.{determined}
+use Rattle.refusal.specs.Refusals.{numberOf, placeOf}
+use Rattle.refusal.specs.declared.Opt.the-variants.{Some}
+use Rattle.refusal.specs.declared.Verdict.{Verdict}
+use Rattle.refusal.specs.declared.Verdict.the-variants.{Accepted, Refused}
+use Rattle.bankdef.specs.declared.Bankdefs.{Bankdefs}
+use Rattle.resolver.specs.Lists.{Lists}
+use Rattle.profile.specs.Profile.{profileOf}
+use Rattle.profile.specs.declared.Paged.{Paged}
+use Rattle.output.specs.Output.{Input, Lent, roomOf}
+use Rattle.filed.specs.Paged.{outputIn, BuiltIn}
+use Rattle.denkumari.specs.Told.{firstOf, secondOf, layoutTold}
+use Rattle.denkumari.specs.declared.DkLayout.{DkLayout}
+use Rattle.denkumari.specs.declared.profiles.DkProfile.{DkProfile}
+
+-- "It says yes .., then with each bank's pages"; "place: rule and bank or node" (document 02, Ticket 9). Refused, all pages are 0.
+abbrev pub profileBy : Verdict → List ℕ → DkProfile
+profileBy Accepted pages = record { refusal = 0; place = 0; second = 0; pages = pages }
+profileBy (Refused why) pages =
+    record { refusal = numberOf why; place = firstOf (placeOf why); second = secondOf (placeOf why); pages = replicate maxBanks 0 }
+
+abbrev pub profileTold : Paged → DkProfile
+profileTold p = profileBy (p .verdict) (p .pages)
+
+-- What `dk_profile` promises.
+pub record ProfileSaid (banks : Bankdefs) (l : Lists) (fill page : ℕ) (r : DkProfile) : Type 0 where
+  pub answer : r ≡ profileTold (profileOf banks l fill page)
+
+-- What `dk_build_paged` promises: the build in the profile, told in numbers, and everything lent afterwards.
+pub record PagedTold (page : ℕ) (b : Input) (old : Lent) (r : DkLayout) (new : Lent) : Type 0 where
+  pub answer : r ≡ layoutTold (outputIn (Some page) b (roomOf old))
+  pub built : BuiltIn (Some page) b old (outputIn (Some page) b (roomOf old)) new
+
+-- It has one outcome.
+pub one-paged : {page : ℕ} {b : Input} {old x y : Lent} {r s : DkLayout} → PagedTold page b old r x → PagedTold page b old s y → (r ≡ s) × (x ≡ y)
+one-paged c d = (determined (c .answer) (d .answer), determined (c .built .left) (d .built .left))
