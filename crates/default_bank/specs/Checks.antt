@@ -5,10 +5,10 @@ use mathlib.Core.Path.{_≡_, refl, sym, ap, _∙_}
 use mathlib.Core.Bool.{Bool, true, false, not, _&&_, _||_}
 use mathlib.Core.List.{List, [], _∷_}
 use native.Mathlib.Omega.{arith}
-use borrow.Author.Tests.{eqb-true, eq-eqb, le-leb}
+use borrow.Author.Tests.{eqb-true, eq-eqb, leb-true, le-leb}
 use lib.Dec.{eqb, leb, ltb}
 use lib.ListN.{getD, length}
-use Rattle.refusal.specs.Bools.{either}
+use Rattle.refusal.specs.Bools.{either, both}
 use Rattle.refusal.specs.Limits.{maxBanks, maxNodes, maxRows}
 use Rattle.refusal.specs.Pick.{pick}
 use Rattle.refusal.specs.declared.Refusal.{Refusal}
@@ -138,6 +138,12 @@ module _ (l : Lists) (c : Counted l) (switches : (i : ℕ) → getD (l .kinds) i
         law e f Accepted false g h = rw (e, f, g, h)
         law e f (Refused why) s g h = rw (e, g)
 
+  pub some-row : rowCountSound l ≡ true → 1 ≤ l .rows
+  some-row e =
+      leb-true 1 (l .rows)
+      (both (leb 1 (l .rows))
+      (leb (l .rows) maxRows && (eqb (length (l .numbers)) (l .rows * length (l .kinds)) && eqb (length (l .states)) (l .rows * length (l .kinds)))) e .0)
+
   row-count-alike : rowCountSound m ≡ rowCountSound l
   row-count-alike =
       rw (
@@ -158,18 +164,23 @@ module _ (l : Lists) (c : Counted l) (switches : (i : ℕ) → getD (l .kinds) i
           eq-eqb (suc (length (turned (l .kinds) (l .operands)))) (suc (length (l .kinds))) (ap suc (turned-length (l .kinds) (l .operands) (c .operands))),
         )
 
-    -- Counts at fault: the same field.
-    pub fields-stay : (fill : ℕ) → (rowCountSound l && knownFill fill) ≡ false → listsOf 2 m fill ≡ listsOf 1 l fill
-    unfolding listsOf
-    fields-stay fill e = rw (count-here, count-there, row-count-alike) (go (rowCountSound l) (knownFill fill) e (nodesTo 2 m (length (m .kinds))) (nodesTo 1 l (length (l .kinds))))
-      where
-        go : (s t : Bool) → (s && t) ≡ false → (u v : Verdict)
-            → pick s (pick t u (Refused (Malformed 3))) (Refused (Malformed 1)) ≡ pick s (pick t v (Refused (Malformed 3))) (Refused (Malformed 1))
-        go true true f u v = absurd (mathlib.Core.Bool.true≢false f)
-        go true false f u v = refl
-        go false t f u v = refl
+    -- Counts at fault: 4 with the same field, 1 for the rows and 3 for the fill.
+    module _ (fill : ℕ) (e : (rowCountSound l && knownFill fill) ≡ false) where
+      field : (s t : Bool) → (s && t) ≡ false → (u : Verdict)
+          → pick s (pick t u (Refused (Malformed 3))) (Refused (Malformed 1)) ≡ Refused (Malformed (pick s 3 1))
+      field true true f u = absurd (mathlib.Core.Bool.true≢false f)
+      field true false f u = refl
+      field false t f u = refl
+
+      pub field-here : listsOf 1 l fill ≡ Refused (Malformed (pick (rowCountSound l) 3 1))
+      unfolding listsOf
+      field-here = rw count-here (field (rowCountSound l) (knownFill fill) e (nodesTo 1 l (length (l .kinds))))
+
+      pub field-there : listsOf 2 m fill ≡ Refused (Malformed (pick (rowCountSound l) 3 1))
+      unfolding listsOf
+      field-there = rw (count-there, row-count-alike) (field (rowCountSound l) (knownFill fill) e (nodesTo 2 m (length (m .kinds))))
 
     -- Sound counts: the same node, one higher.
-    pub lists-shift : (fill : ℕ) → rowCountSound l ≡ true → knownFill fill ≡ true → 1 ≤ l .rows → listsOf 2 m fill ≡ shiftedVerdict (listsOf 1 l fill)
+    pub lists-shift : (fill : ℕ) → rowCountSound l ≡ true → knownFill fill ≡ true → listsOf 2 m fill ≡ shiftedVerdict (listsOf 1 l fill)
     unfolding listsOf
-    lists-shift fill e f some = rw (count-here, count-there, row-count-alike, e, f) (nodes-shift some (length (l .kinds)))
+    lists-shift fill e f = rw (count-here, count-there, row-count-alike, e, f) (nodes-shift (some-row e) (length (l .kinds)))

@@ -5,3 +5,5 @@ pub mod Walks
 pub mod Passes
 pub mod Checks
 pub mod Visits
+pub mod Padding
+pub mod Same

@@ -76,7 +76,7 @@ made-alike (To p) e = e
 made-alike (Stopped why) e = refl
 
 module _ (n : Node) where
-  symbol-alike : outermostSymbol (up n) ≡ outermostSymbol n
+  pub symbol-alike : outermostSymbol (up n) ≡ outermostSymbol n
   symbol-alike = go (n .kind) (n .operand)
     where
       go : (k o : ℕ) → ((eqb k 2 || eqb k 3) && eqb (pick (eqb k 1) 1 o) 0) ≡ ((eqb k 2 || eqb k 3) && eqb o 0)
