@@ -7,3 +7,4 @@ pub mod Checks
 pub mod Visits
 pub mod Padding
 pub mod Same
+pub mod Places

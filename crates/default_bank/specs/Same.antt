@@ -57,24 +57,24 @@ pub two-banks : (d : Bankdef) → TwoBanks d (twoBanks d)
 two-banks d = record { count = refl; banks = refl }
 
 -- the build of a layout's passes
-abbrev builtBy : Input → Room → Resolution → Output
+abbrev pub builtBy : Input → Room → Resolution → Output
 builtBy b room r =
     outputOf (program (b .banks) (b .lists)) (rowOfPass (b .lists) (r .passes)) (r .passes) (settledBuild b room (r .passes) (r .settled))
 
-build-is : (b : Input) (room : Room) → buildOf b room ≡ builtBy b room (layoutOf (b .banks) (b .lists) (b .choices))
+pub build-is : (b : Input) (room : Room) → buildOf b room ≡ builtBy b room (layoutOf (b .banks) (b .lists) (b .choices))
 unfolding buildOf
 build-is b room = refl
 
 -- refused before any pass
-abbrev turnedAway : Refusal → Resolution
+abbrev pub turnedAway : Refusal → Resolution
 turnedAway why = record { settled = Unsettled why; passes = 0 }
 
-refused-first : (banks : Bankdefs) (l : Lists) (choices : Choices) (why : Refusal) → checkOf banks ≡ Turned why → layoutOf banks l choices ≡ turnedAway why
+pub refused-first : (banks : Bankdefs) (l : Lists) (choices : Choices) (why : Refusal) → checkOf banks ≡ Turned why → layoutOf banks l choices ≡ turnedAway why
 unfolding layoutOf
 refused-first banks l choices why e =
     ap (λ (v : Verdict). unless v (unless (listsOf (banks .len) l (choices .fill)) (resolutionOf banks l (choices .limit)))) e
 
-after-table : (banks : Bankdefs) (l : Lists) (choices : Choices) (v : Verdict) → checkOf banks ≡ Accepted → listsOf (banks .len) l (choices .fill) ≡ v
+pub after-table : (banks : Bankdefs) (l : Lists) (choices : Choices) (v : Verdict) → checkOf banks ≡ Accepted → listsOf (banks .len) l (choices .fill) ≡ v
     → layoutOf banks l choices ≡ unless v (resolutionOf banks l (choices .limit))
 unfolding layoutOf
 after-table banks l choices v e f =
@@ -96,7 +96,7 @@ module _ (b : Input) (table : Bankdefs) (one : OneBank b) (two : TwoBanks (onlyB
   abbrev w : Input
   w = widened b table
 
-  counted : Counted l
+  pub counted : Counted l
   counted = record { operands = one .operands; numbers = one .numbers; states = one .states }
 
   kept : bankRecord table 1 ≡ bankRecord (b .banks) 0
@@ -114,7 +114,7 @@ module _ (b : Input) (table : Bankdefs) (one : OneBank b) (two : TwoBanks (onlyB
 
   -- ---- before the passes
 
-  check-here : checkOf (b .banks) ≡ pick (bankFault (onlyBank b)) (Turned (BankNumber 0)) Accepted
+  pub check-here : checkOf (b .banks) ≡ pick (bankFault (onlyBank b)) (Turned (BankNumber 0)) Accepted
   check-here = law (one .count) single ∙ one-bank-check (onlyBank b) (one .bit)
     where
       law : {n : ℕ} {k : List Bankdef} → n ≡ 1 → k ≡ onlyBank b ∷ [] → pick (countSound n) (checkBanks k) (Turned BankCount) ≡ checkBanks (onlyBank b ∷ [])
@@ -134,7 +134,7 @@ module _ (b : Input) (table : Bankdefs) (one : OneBank b) (two : TwoBanks (onlyB
       ∙ fill-alike (onlyBank b) (b .choices .fill)
       ∙ ap (fillBy (b .choices .fill)) (sym single)
 
-  open-here : closedOf b ≡ false
+  pub open-here : closedOf b ≡ false
   open-here = law (one .count) (one .alone)
     where
       law : {n : ℕ} {t : Bool} → n ≡ 1 → t ≡ true → closesDefault n t ≡ false
