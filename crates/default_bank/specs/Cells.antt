@@ -1,8 +1,7 @@
 -- The lists with the switch ahead: each row has its zero and then what it had, and each node what it had, one place later.
-use Prim.Native.Nat.{ℕ, zero, suc, _+_, _-_, _*_, _<_, _≤_, min}
+use Prim.Native.Nat.{ℕ, zero, suc, _+_, _-_, _*_, _<_, _≤_}
 use mathlib.Core.Path.{_≡_, refl, sym, ap, _∙_}
-use mathlib.Core.Bool.{Bool, true, false}
-use mathlib.Core.List.{List, [], _∷_, _++_}
+use mathlib.Core.List.{List, [], _∷_}
 use native.Mathlib.Nat.{not-suc-le-zero}
 use native.Mathlib.Omega.{arith}
 use lib.Dec.{eqb}
@@ -46,7 +45,8 @@ pub row-ahead : (n rows : ℕ) (cells : List ℕ) → length cells ≡ rows * n 
 row-ahead n zero cells e r h = absurd (not-suc-le-zero h)
 row-ahead n (suc m) cells e zero h =
     ap (λ (k : ℕ). take (suc n) (drop k (zerosAhead n (suc m) cells))) (none (suc n))
-    ∙ ap (λ (l : List ℕ). 0 ∷ l) (take-append-le n (take n cells) (zerosAhead n m (drop n cells)) (whole (front n m cells e)) ∙ take-take n n cells (omega arith))
+    ∙ ap (λ (l : List ℕ). 0 ∷ l)
+    (take-append-le n (take n cells) (zerosAhead n m (drop n cells)) (whole (front n m cells e)) ∙ take-take n n cells (omega arith))
     ∙ ap (λ (k : ℕ). 0 ∷ take n (drop k cells)) (sym (none n))
   where
     none : (k : ℕ) → 0 * k ≡ 0

@@ -3,29 +3,27 @@
 use Prim.Native.Nat.{ℕ, zero, suc, _+_, _*_, _≤_, _<_}
 use mathlib.Core.Path.{_≡_, refl, sym, ap, _∙_}
 use mathlib.Core.Bool.{Bool, true, false, not, _&&_, _||_}
-use mathlib.Core.List.{List, [], _∷_}
+use mathlib.Core.List.{[], _∷_}
 use native.Mathlib.Omega.{arith}
 use borrow.Author.Tests.{eqb-true, eq-eqb, leb-true, le-leb}
 use lib.Dec.{eqb, leb, ltb}
 use lib.ListN.{getD, length}
 use Rattle.refusal.specs.Bools.{either, both}
-use Rattle.refusal.specs.Limits.{maxBanks, maxNodes, maxRows}
+use Rattle.refusal.specs.Limits.{maxNodes, maxRows}
 use Rattle.refusal.specs.Pick.{pick}
-use Rattle.refusal.specs.declared.Refusal.{Refusal}
 use Rattle.refusal.specs.declared.Refusal.the-variants.{BankNumber, Malformed}
 use Rattle.refusal.specs.declared.Verdict.{Verdict}
 use Rattle.refusal.specs.declared.Verdict.the-variants.{Accepted, Refused}
-use Rattle.bankdef.specs.Check.{noBank, banksOf, firstFault, checkBanks, checkOf, firstPair}
+use Rattle.bankdef.specs.Check.{checkBanks, firstPair}
 use Rattle.bankdef.specs.Numbers.{startSound, isZero, fillBit, bankFault, zeroFault}
 use Rattle.bankdef.specs.Search.{firstWhere}
 use Rattle.bankdef.specs.declared.Bankdef.{Bankdef}
-use Rattle.bankdef.specs.declared.Bankdefs.{Bankdefs}
 use Rattle.iter.specs.declared.Node.{Node}
-use Rattle.resolver.specs.Lists.{Lists, Row, nodeAt, nodeOf, rowAt, rowFault, headFault, isItem, pastEnd, anyRowFault, nodeFault, firstOf, nodesTo}
+use Rattle.resolver.specs.Lists.{Lists, Row, nodeAt, nodeOf, rowAt, rowFault, headFault, isItem, anyRowFault, nodeFault, firstOf, nodesTo}
 use Rattle.resolver.specs.Lists.{nodeCountSound, rowCountSound, knownFill, listsOf}
 use Rattle.default_bank.specs.Widened.{bare, turned, shifted, misplaced, withSwitch}
 use Rattle.default_bank.specs.Steps.{up}
-use Rattle.default_bank.specs.Cells.{length-ahead, turned-length, zeroed, Counted, row-zeroed, node-up}
+use Rattle.default_bank.specs.Cells.{length-ahead, turned-length, Counted, row-zeroed, node-up}
 
 -- ---- the table
 
@@ -88,7 +86,8 @@ module _ (l : Lists) (c : Counted l) (switches : (i : ℕ) → getD (l .kinds) i
   abbrev m : Lists
   m = withSwitch l
 
-  node-of : (r i : ℕ) → r < l .rows → nodeOf (m .kinds) (m .operands) (m .numbers) (m .states) r (suc i) ≡ up (nodeOf (l .kinds) (l .operands) (l .numbers) (l .states) r i)
+  node-of : (r i : ℕ) → r < l .rows → nodeOf (m .kinds) (m .operands) (m .numbers) (m .states) r (suc i)
+      ≡ up (nodeOf (l .kinds) (l .operands) (l .numbers) (l .states) r i)
   node-of r i h =
       same (row-zeroed l c 0 (some r h)) (row-zeroed l c r h) ∙ node-up l c (rowAt l 0 .numbers) (rowAt l r) i
     where
@@ -104,7 +103,8 @@ module _ (l : Lists) (c : Counted l) (switches : (i : ℕ) → getD (l .kinds) i
   any-alike i zero h = refl
   any-alike i (suc r) h =
       either-same (any-alike i r (omega arith))
-      (ap (rowFault (length (l .values))) (node-of r i h) ∙ row-fault-alike (length (l .values)) (nodeOf (l .kinds) (l .operands) (l .numbers) (l .states) r i))
+      (ap (rowFault (length (l .values))) (node-of r i h)
+      ∙ row-fault-alike (length (l .values)) (nodeOf (l .kinds) (l .operands) (l .numbers) (l .states) r i))
     where
       either-same : {a b x y : Bool} → a ≡ x → b ≡ y → (a || b) ≡ (x || y)
       either-same e f = rw (e, f)

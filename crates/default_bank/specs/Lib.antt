@@ -8,3 +8,4 @@ pub mod Visits
 pub mod Padding
 pub mod Same
 pub mod Places
+pub mod Cases

@@ -2,8 +2,7 @@
 use Prim.Native.Nat.{ℕ, zero, suc, _+_}
 use mathlib.Core.Path.{_≡_, refl, sym, ap, _∙_, fun-ext}
 use mathlib.Core.Bool.{Bool, true, false}
-use mathlib.Core.List.{List, [], _∷_}
-use native.Mathlib.Omega.{arith}
+use mathlib.Core.List.{_∷_}
 use lib.Dec.{eqb}
 use lib.ListN.{getD, length, replicate}
 use Rattle.refusal.specs.Limits.{maxBanks}
@@ -11,16 +10,15 @@ use Rattle.refusal.specs.Pick.{pick}
 use Rattle.bankdef.specs.declared.Bankdef.{Bankdef}
 use Rattle.bankdef.specs.declared.Bankdefs.{Bankdefs}
 use Rattle.bitvec.specs.Lists.{listOf}
-use Rattle.iter.specs.Step.{origin, startOf, bankAfter, outermostSymbol}
+use Rattle.iter.specs.Step.{origin, startOf}
 use Rattle.iter.specs.StepCases.{standing}
 use Rattle.iter.specs.declared.Node.{Node}
-use Rattle.iter.specs.declared.Pos.{Pos}
 use Rattle.iter.specs.declared.Walk.{Walk}
 use Rattle.resolver.specs.KnownInPass.{bankAt}
 use Rattle.resolver.specs.Lists.{Row}
 use Rattle.resolver.specs.NodeOrder.{defAt}
 use Rattle.resolver.specs.Once.{Program, node, walkTo}
-use Rattle.resolver.specs.Padding.{distanceIn, labelLoses, lostBy, standsAt, lostAt, sumIn, paddingTo, paddingOf}
+use Rattle.resolver.specs.Padding.{distanceIn, labelLoses, lostBy, standsAt, lostAt, sumIn, paddingTo}
 use Rattle.output.specs.Output.{paddingsOf}
 use Rattle.default_bank.specs.Steps.{up, symbol-alike, inFirst, inSecond}
 use Rattle.default_bank.specs.Cells.{zeroed}
@@ -82,7 +80,8 @@ module _ (p : Program) (table : Bankdefs) (leads : Leads p table) (row : Row) wh
       next-there bank i
       ∙ law (sums bank i) (like p table leads row i .second) (loses-alike i)
       ∙ add (eqb 1 bank) (paddingTo p row 0 i) (lostAt p row i)
-      ∙ ap (λ (n : ℕ). pick (eqb 1 bank) n 0) (sym (next i ∙ ap (λ (k : ℕ). paddingTo p row 0 i + pick (eqb k 0) (lostAt p row i) 0) (like p table leads row i .first)))
+      ∙ ap (λ (n : ℕ). pick (eqb 1 bank) n 0)
+      (sym (next i ∙ ap (λ (k : ℕ). paddingTo p row 0 i + pick (eqb k 0) (lostAt p row i) 0) (like p table leads row i .first)))
     where
       law : {a b c d x : ℕ} → a ≡ b → c ≡ 1 → d ≡ x → a + pick (eqb c bank) d 0 ≡ b + pick (eqb 1 bank) x 0
       law e f g = rw (e, f, g)

@@ -1,8 +1,8 @@
 -- Ticket 13: "The converted file gives the same image and blocks; node numbers in places rise by one." Of a layout with one bank and the same layout with
 -- a bank 1: the build's answer, and everything lent afterwards, to the last byte. Blocks are made from the lent spans, which are the same.
-use Prim.Native.Nat.{ℕ, zero, suc, _*_, _≤_, _<_, max}
+use Prim.Native.Nat.{ℕ, _*_, _≤_, _<_, max}
 use mathlib.Core.Path.{_≡_, refl, sym, ap, _∙_}
-use mathlib.Core.Bool.{Bool, true, false, _&&_}
+use mathlib.Core.Bool.{Bool, true, false}
 use mathlib.Core.List.{List, [], _∷_}
 use native.Mathlib.Omega.{arith}
 use lib.Dec.{eqb, ltb}
@@ -20,7 +20,7 @@ use Rattle.bankdef.specs.Numbers.{fillBit, bankFault}
 use Rattle.bankdef.specs.declared.Bankdef.{Bankdef}
 use Rattle.bankdef.specs.declared.Bankdefs.{Bankdefs}
 use Rattle.resolver.specs.LastPass.{accepted-checked}
-use Rattle.resolver.specs.Layout.{unless, layoutOf, Checked}
+use Rattle.resolver.specs.Layout.{unless, layoutOf}
 use Rattle.resolver.specs.Lists.{Lists, Row, rowCountSound, knownFill, listsOf}
 use Rattle.resolver.specs.Once.{Program, bankRecord}
 use Rattle.resolver.specs.Passes.{program, rowOfPass, resolutionOf}
@@ -31,7 +31,7 @@ use Rattle.resolver.specs.declared.Settled.{Settled}
 use Rattle.resolver.specs.declared.Settled.the-variants.{At, Refused as Unsettled}
 use Rattle.output.specs.Blank.{blankOf, blank-zeros}
 use Rattle.output.specs.Items.{Item, lengthOf, imageOf, itemsOf}
-use Rattle.output.specs.Output.{Input, Room, roomOf, Lent, paddingsOf, paddingBy, outputOf, roomFor, placedBuild, buildRow, visitsOf, closedOf, fillOf, settledBuild}
+use Rattle.output.specs.Output.{Input, Room, roomOf, Lent, paddingsOf, outputOf, roomFor, placedBuild, buildRow, visitsOf, closedOf, fillOf, settledBuild}
 use Rattle.output.specs.Output.{passesOf, settledOf, buildOf, filled, leftBy, Builds}
 use Rattle.output.specs.Placing.{Placed, holds, stops, closesDefault, placedAll}
 use Rattle.output.specs.Spans.{Span, spansOf, over, addresses, words, sizes}
@@ -39,8 +39,8 @@ use Rattle.output.specs.Visits.{visits}
 use Rattle.output.specs.declared.Build.{Build}
 use Rattle.output.specs.declared.Build.the-variants.{Done, Refused}
 use Rattle.output.specs.declared.Output.{Output}
-use Rattle.output.specs.declared.visits.Visit.{Visit}
-use Rattle.default_bank.specs.Widened.{onlyBank, bare, twoBanks, withSwitch, closing, widened, withBank1, OneBank, shifted, misplaced, countsSound, raised, raisedBuild, raisedOutput}
+use Rattle.default_bank.specs.Widened.{onlyBank, bare, twoBanks, withSwitch, closing, widened, withBank1}
+use Rattle.default_bank.specs.Widened.{OneBank, shifted, misplaced, countsSound, raised, raisedBuild, raisedOutput}
 use Rattle.default_bank.specs.Cells.{zeroed, Counted}
 use Rattle.default_bank.specs.Checks.{one-bank-check, two-bank-check, shiftedVerdict, some-row, field-here, field-there, lists-shift}
 use Rattle.default_bank.specs.Walks.{leading, Leads}
@@ -210,7 +210,8 @@ module _ (b : Input) (table : Bankdefs) (one : OneBank b) (two : TwoBanks (onlyB
       lists-here : (v : Verdict) → listsOf 1 l (b .choices .fill) ≡ v → layoutHere ≡ unless v (resolutionOf (b .banks) l (b .choices .limit))
       lists-here v e = after-table (b .banks) l (b .choices) v table-here (ap (λ (n : ℕ). listsOf n l (b .choices .fill)) (one .count) ∙ e)
 
-      lists-there : (v : Verdict) → listsOf 2 (withSwitch l) (b .choices .fill) ≡ v → layoutThere ≡ unless v (resolutionOf table (withSwitch l) (b .choices .limit))
+      lists-there : (v : Verdict) → listsOf 2 (withSwitch l) (b .choices .fill) ≡ v
+          → layoutThere ≡ unless v (resolutionOf table (withSwitch l) (b .choices .limit))
       lists-there v e =
           after-table table (withSwitch l) (closing (b .choices)) v table-there (ap (λ (n : ℕ). listsOf n (withSwitch l) (b .choices .fill)) (two .count) ∙ e)
 
@@ -307,7 +308,8 @@ module _ (b : Input) (table : Bankdefs) (one : OneBank b) (two : TwoBanks (onlyB
   -- ---- what is lent
 
   zeros-here : (bits bytes : ℕ) → blankOf (banksOf (b .banks)) bits bytes ≡ replicate bytes 0
-  zeros-here bits bytes = ap (λ (k : List Bankdef). blankOf k bits bytes) single ∙ blank-zeros (onlyBank b ∷ []) bits bytes (λ k low high. absurd (none k low high))
+  zeros-here bits bytes = ap (λ (k : List Bankdef). blankOf k bits bytes) single
+      ∙ blank-zeros (onlyBank b ∷ []) bits bytes (λ k low high. absurd (none k low high))
     where
       none : (k : ℕ) → 0 < k → k < 1 → ⊥
       none k low high = omega arith
@@ -333,9 +335,16 @@ module _ (b : Input) (table : Bankdefs) (one : OneBank b) (two : TwoBanks (onlyB
       let some = rows k bits spans refl in
       law (zeros-there bits (length (old .image)) ∙ sym (zeros-here bits (length (old .image)))) (same-items some n) (same-spans some n)
     where
-      law : {x y : List ℕ} {i j : List Item} {s t : List Span} → x ≡ y → i ≡ j → s ≡ t
-          → _≡_ {A = Lent} (record { image = imageOf values x i; addresses = over (addresses s) (old .addresses); offsets = over (words s) (old .offsets); sizes = over (sizes s) (old .sizes) })
-          (record { image = imageOf values y j; addresses = over (addresses t) (old .addresses); offsets = over (words t) (old .offsets); sizes = over (sizes t) (old .sizes) })
+      left : List ℕ → List Item → List Span → Lent
+      left blank items spans =
+          record {
+            image = imageOf values blank items;
+            addresses = over (addresses spans) (old .addresses);
+            offsets = over (words spans) (old .offsets);
+            sizes = over (sizes spans) (old .sizes);
+          }
+
+      law : {x y : List ℕ} {i j : List Item} {s t : List Span} → x ≡ y → i ≡ j → s ≡ t → left x i s ≡ left y j t
       law e f g = rw (e, f, g)
 
   -- Two calls of the build, by its contract, with the same lent: the answers are one but for the places, and everything lent is the same afterwards.

@@ -1,11 +1,11 @@
 -- One step of the two walks: in bank 0 of the layout with one bank, and in bank 1 of the layout with a bank 1, where a node's number is one higher.
 use Prim.Native.Nat.{ℕ, suc, _+_}
-use mathlib.Core.Path.{_≡_, refl, sym, ap, _∙_}
+use mathlib.Core.Path.{_≡_, refl, ap, _∙_}
 use mathlib.Core.Bool.{Bool, true, false, _&&_, _||_}
-use mathlib.Core.List.{[], _∷_}
+use mathlib.Core.List.{_∷_}
 use borrow.Author.Tests.{eqb-true}
 use lib.Dec.{eqb, leb}
-use lib.ListN.{getD, replicate}
+use lib.ListN.{replicate}
 use Rattle.refusal.specs.Bools.{either}
 use Rattle.refusal.specs.Limits.{maxPosition}
 use Rattle.refusal.specs.Pick.{pick}

@@ -2,17 +2,16 @@
 -- same, and what is placed goes alike.
 use Prim.Native.Nat.{ℕ, zero, suc, _+_}
 use mathlib.Core.Path.{_≡_, refl, sym, ap, _∙_}
-use mathlib.Core.Bool.{Bool, true, false, _&&_, _||_}
+use mathlib.Core.Bool.{Bool, true, false, _&&_}
 use mathlib.Core.List.{List, [], _∷_, _++_}
 use borrow.Author.Tests.{eqb-true}
-use lib.Dec.{eqb, leb, ltb}
+use lib.Dec.{eqb}
 use lib.IntN.{ℤ}
-use lib.ListN.{getD, length}
+use lib.ListN.{length}
 use Rattle.refusal.specs.Bools.{either}
 use Rattle.refusal.specs.Pick.{pick}
 use Rattle.refusal.specs.declared.Offset.{Offset}
 use Rattle.refusal.specs.declared.Offset.the-variants.{None as Nowhere, At as Out}
-use Rattle.refusal.specs.declared.Refusal.{Refusal}
 use Rattle.refusal.specs.declared.Refusal.the-variants.{PastBank, NoOutput, Overlap, StoreFull}
 use Rattle.refusal.specs.declared.Verdict.{Verdict}
 use Rattle.refusal.specs.declared.Verdict.the-variants.{Accepted, Refused}
@@ -32,16 +31,17 @@ use Rattle.overlap_checker.specs.declared.Entry.{Entry}
 use Rattle.overlap_checker.specs.Offers.{lacksRoom}
 use Rattle.overlap_checker.specs.State.{State, emptyState, meets, tries, namedIn, answer}
 use Rattle.overlap_checker.specs.Folds.{stateAfter}
-use Rattle.output.specs.Items.{Item, isWritten, standing, itemAt, itemOf, itemsOf}
-use Rattle.output.specs.Placing.{endsPast, lacksOutput, isPlaced, isOffered, bitsAt, offerAt, offerOf, checked, answered, tried, placing, verdictSeen, verdictOn}
+use Rattle.output.specs.Items.{isWritten, standing, itemAt, itemOf, itemsOf}
+use Rattle.output.specs.Placing.{endsPast, lacksOutput, isPlaced, isOffered, bitsAt, offerAt}
+use Rattle.output.specs.Placing.{offerOf, checked, answered, tried, placing, verdictSeen, verdictOn}
 use Rattle.output.specs.Placing.{Placed, holds, stops, placedIf, placedNext, placedFrom, placedAll}
 use Rattle.output.specs.PlacingLaws.{placed-last}
-use Rattle.output.specs.Spans.{Span, isSpan, sizeOf, addressTold, spanAt, spanOf, spansOf}
+use Rattle.output.specs.Spans.{Span, isSpan, sizeOf, addressTold, spanOf, spansOf}
 use Rattle.output.specs.VisitLaws.{visits-none, visits-next, each-next}
 use Rattle.output.specs.Visits.{seenPos, positionOf, visitAt, visitsTo, visits, each}
 use Rattle.output.specs.declared.visits.Visit.{Visit}
 use Rattle.default_bank.specs.Widened.{shifted}
-use Rattle.default_bank.specs.Steps.{up, shiftedMoved, inFirst, inSecond}
+use Rattle.default_bank.specs.Steps.{up, shiftedMoved}
 use Rattle.default_bank.specs.Cells.{zeroed}
 use Rattle.default_bank.specs.Checks.{shiftedVerdict}
 use Rattle.default_bank.specs.Walks.{leading, Leads, bank-here, bank-there, record-here, record-there, standing as stand, seen-alike}
@@ -84,13 +84,15 @@ module _ {v u : Visit} (like : Like v u) where
   pub item-alike : itemOf u ≡ itemOf v
   item-alike = law (like .node) (like .out) (standing-alike (v .node) (v .out) (isWritten (v .node)) (not-written (v .node)))
     where
-      law : {n : Node} {o : Offset} → n ≡ up (v .node) → o ≡ v .out → itemAt (up (v .node)) (v .out) ≡ itemAt (v .node) (v .out) → itemAt n o ≡ itemAt (v .node) (v .out)
+      law : {n : Node} {o : Offset} → n ≡ up (v .node) → o ≡ v .out → itemAt (up (v .node)) (v .out) ≡ itemAt (v .node) (v .out)
+          → itemAt n o ≡ itemAt (v .node) (v .out)
       law e f x = rw (e, f) x
 
   pub offer-alike : offerOf u ≡ offerOf v
   offer-alike = law (like .node) (like .out) (ap (λ (l : List Entry). pick (isOffered (v .node)) l []) (bits-alike (v .node) (v .out)))
     where
-      law : {n : Node} {o : Offset} → n ≡ up (v .node) → o ≡ v .out → offerAt (up (v .node)) (v .out) ≡ offerAt (v .node) (v .out) → offerAt n o ≡ offerAt (v .node) (v .out)
+      law : {n : Node} {o : Offset} → n ≡ up (v .node) → o ≡ v .out → offerAt (up (v .node)) (v .out) ≡ offerAt (v .node) (v .out)
+          → offerAt n o ≡ offerAt (v .node) (v .out)
       law e f x = rw (e, f) x
 
   address-alike : addressTold (addressOf (u .def) (positionOf u) (u .node .index)) ≡ addressTold (addressOf (v .def) (positionOf v) (v .node .index))
@@ -143,7 +145,8 @@ checked-shifts def n at out = go (endsPast (def .size) (at .position + sizeOf n)
     go false true = refl
     go false false = refl
 
-placing-shifts : (def : Bankdef) (s : State) (n : Node) (at : Pos) (out : Offset) → placing true 1 def s (up n) at out ≡ shiftedVerdict (placing false 0 def s n at out)
+placing-shifts : (def : Bankdef) (s : State) (n : Node) (at : Pos) (out : Offset)
+    → placing true 1 def s (up n) at out ≡ shiftedVerdict (placing false 0 def s n at out)
 placing-shifts def s n at out =
     ap (λ (v : Verdict). pick (isPlaced n) v Accepted)
     (law (checked-shifts def n at out)
@@ -165,7 +168,8 @@ verdict-shifts {v} {u} like s =
   where
     law : {b c : ℕ} {d : Bankdef} {n : Node} {o : Offset} {m : Moved} → b ≡ 0 → c ≡ 1 → d ≡ v .def → n ≡ up (v .node) → o ≡ v .out
         → m ≡ shiftedMoved (v .seen)
-        → verdictSeen true 1 (v .def) s (up (v .node)) (v .out) (shiftedMoved (v .seen)) ≡ shiftedVerdict (verdictSeen false 0 (v .def) s (v .node) (v .out) (v .seen))
+        → verdictSeen true 1 (v .def) s (up (v .node)) (v .out) (shiftedMoved (v .seen))
+        ≡ shiftedVerdict (verdictSeen false 0 (v .def) s (v .node) (v .out) (v .seen))
         → verdictSeen true c d s n o m ≡ shiftedVerdict (verdictSeen false b (v .def) s (v .node) (v .out) (v .seen))
     law e f g h i j x = rw (e, f, g, h, i, j) x
 
@@ -222,7 +226,8 @@ module _ (p : Program) (table : Bankdefs) (leads : Leads p table) (row : Row) wh
       where
         law : {a b : List X} → a ≡ [] → b ≡ [] → a ++ b ≡ []
         law e g = rw (e, g)
-    each-to (suc i) = each-next there (zeroed row) f (suc i) ∙ law (each-to i) (same (visitAt p row i) (visitAt there (zeroed row) (suc i)) (like i)) ∙ sym (each-next p row f i)
+    each-to (suc i) = each-next there (zeroed row) f (suc i) ∙ law (each-to i) (same (visitAt p row i) (visitAt there (zeroed row) (suc i)) (like i))
+        ∙ sym (each-next p row f i)
       where
         law : {a b c d : List X} → a ≡ c → b ≡ d → a ++ b ≡ c ++ d
         law e g = rw (e, g)
@@ -250,7 +255,9 @@ module _ (p : Program) (table : Bankdefs) (leads : Leads p table) (row : Row) wh
   none-placed = refl
 
   placed-to : (i : ℕ) → placedAll true (visitsTo there (zeroed row) (suc i)) ≡ shiftedPlaced (placedAll false (visitsTo p row i))
-  placed-to zero = ap (placedAll true) (visits-next there (zeroed row) 0 ∙ ap (λ (l : List Visit). l ++ visitAt there (zeroed row) 0 ∷ []) (visits-none there (zeroed row)))
+  placed-to zero =
+      ap (placedAll true)
+      (visits-next there (zeroed row) 0 ∙ ap (λ (l : List Visit). l ++ visitAt there (zeroed row) 0 ∷ []) (visits-none there (zeroed row)))
       ∙ switch-placed ∙ sym (ap (λ (l : List Visit). shiftedPlaced (placedAll false l)) (visits-none p row) ∙ none-placed)
   placed-to (suc i) =
       ap (placedAll true) (visits-next there (zeroed row) (suc i))

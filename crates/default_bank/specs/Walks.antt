@@ -2,7 +2,7 @@
 use Prim.Native.Nat.{ℕ, zero, suc, max}
 use mathlib.Core.Path.{_≡_, refl, sym, ap, _∙_}
 use mathlib.Core.Bool.{Bool, true, false}
-use mathlib.Core.List.{List, [], _∷_}
+use mathlib.Core.List.{_∷_}
 use lib.ListN.{getD, length}
 use Rattle.refusal.specs.Pick.{pick}
 use Rattle.refusal.specs.declared.Refusal.{Refusal}
@@ -14,15 +14,15 @@ use Rattle.iter.specs.declared.Moved.{Moved}
 use Rattle.iter.specs.declared.Moved.the-variants.{To, Refused as Stopped}
 use Rattle.iter.specs.declared.Node.{Node}
 use Rattle.iter.specs.declared.Pos.{Pos}
-use Rattle.iter.specs.declared.Stepped.{Stepped}
 use Rattle.iter.specs.declared.Walk.{Walk}
-use Rattle.resolver.specs.Lists.{Lists, Row}
-use Rattle.resolver.specs.Once.{Program, Going, on, off, node, bankRecord, bankOf, stepAt, walkTo, labelState, offBoundary, stateOf, met, goesOn, meets, passTo, closed, passOf}
+use Rattle.resolver.specs.Lists.{Row}
+use Rattle.resolver.specs.Once.{Program, Going, on, off, node, bankRecord, bankOf, stepAt, walkTo}
+use Rattle.resolver.specs.Once.{labelState, offBoundary, stateOf, met, goesOn, meets, passTo, closed, passOf}
 use Rattle.resolver.specs.declared.Pass.{Pass}
 use Rattle.resolver.specs.declared.Pass.the-variants.{State, Refused}
 use Rattle.default_bank.specs.Widened.{turned, shifted}
 use Rattle.default_bank.specs.Steps.{up, shiftedMoved, inFirst, inSecond, Alike, stays-first, stays-second, steps-alike}
-use Rattle.default_bank.specs.Cells.{zeroed, Counted, node-up}
+use Rattle.default_bank.specs.Cells.{zeroed}
 
 -- the program with the switch ahead, over a table
 abbrev pub leading : Bankdefs → Program → Program
@@ -166,7 +166,8 @@ module _ (p : Program) (table : Bankdefs) (leads : Leads p table) where
         (record-here row i at lost) (record-there row i at lost) (leads .nodes row i) (a .first) (a .second) (seen-alike before i) (a .seen)
         (met-alike (node p row i) (stepAt p before (walkTo p before i) i .seen) (stepAt p row (inFirst at lost) i .seen) merged (a .at) (a .lost))
       where
-        law : (n : Node) (f x : Moved) {d e : Bankdef} {m : Node} {w v : Walk} {y g : Moved} {q : Pos} {k : ℕ} → d ≡ here → e ≡ here → m ≡ up n → w ≡ inFirst q k
+        law : (n : Node) (f x : Moved) {d e : Bankdef} {m : Node} {w v : Walk} {y g : Moved} {q : Pos} {k : ℕ} → d ≡ here → e ≡ here → m ≡ up n
+            → w ≡ inFirst q k
             → v ≡ inSecond q k → g ≡ shiftedMoved f → y ≡ shiftedMoved x
             → Going-alike (goesOn (inFirst q k) (met here n f isFirst isLast merged x))
             (goesOn (inSecond q k) (met here (up n) (shiftedMoved f) isFirst isLast merged (shiftedMoved x)))

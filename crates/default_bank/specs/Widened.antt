@@ -9,7 +9,9 @@ use Rattle.refusal.specs.Limits.{maxBanks, maxNodes}
 use Rattle.refusal.specs.Pick.{pick}
 use Rattle.refusal.specs.declared.Opt.the-variants.{None}
 use Rattle.refusal.specs.declared.Refusal.{Refusal}
-use Rattle.refusal.specs.declared.Refusal.the-variants.{BankCount, BankNumber, BanksOverlap, Malformed, PositionPast, LabelOffBoundary, Unresolved, DefaultBank, PastBank, NoOutput, Overlap, StoreFull, TooShort, BadStore, BadPart, PartlyCovered, FillBitDropped, OffProfile}
+use Rattle.refusal.specs.declared.Refusal.the-variants.{BankCount, BankNumber, BanksOverlap, Malformed}
+use Rattle.refusal.specs.declared.Refusal.the-variants.{PositionPast, LabelOffBoundary, Unresolved, DefaultBank, PastBank}
+use Rattle.refusal.specs.declared.Refusal.the-variants.{NoOutput, Overlap, StoreFull, TooShort, BadStore, BadPart, PartlyCovered, FillBitDropped, OffProfile}
 use Rattle.bankdef.specs.Check.{noBank}
 use Rattle.bankdef.specs.Numbers.{startSound, fillBit, bankFault}
 use Rattle.bankdef.specs.declared.Bankdef.{Bankdef}
