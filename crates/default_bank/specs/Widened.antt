@@ -72,7 +72,7 @@ widened b table = record { banks = table; lists = withSwitch (b .lists); choices
 abbrev pub withBank1 : Input → Input
 withBank1 b = widened b (twoBanks (onlyBank b))
 
--- Of what layouts this is said: one bank, whose fill bit is zero, as in form 1; bank 0 may be used alone; no switch to another bank; room for one
+-- Of which layouts this is said: one bank, whose fill bit is zero, as in form 1; bank 0 may be used alone; no switch to another bank; room for one
 -- more node; and lists as long as their counts say, as a file's are.
 pub record OneBank (b : Input) : Type 0 where
   pub count : b .banks .len ≡ 1
