@@ -321,7 +321,7 @@ one-list (f ∷ fs) (g ∷ gs) e =
     let first : f ≡ g = λ i. record { tag = tag i; payload = payload i } in
     ap₂ _∷_ first (one-list fs gs rest)
 
-flat-append : {X A : Type 0} (write : X → List A) (xs ys : List X) → flat write (xs ++ ys) ≡ flat write xs ++ flat write ys
+pub flat-append : {X A : Type 0} (write : X → List A) (xs ys : List X) → flat write (xs ++ ys) ≡ flat write xs ++ flat write ys
 unfolding flat
 flat-append write [] ys = refl
 flat-append write (x ∷ xs) ys =

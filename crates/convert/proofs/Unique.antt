@@ -1,0 +1,29 @@
+-- Uniqueness: the contract of each public function has one outcome, over its own clause: the answer, and all that is lent afterwards.
+use Prim.Native.Nat.{ℕ}
+use mathlib.Core.List.{List}
+use mathlib.Core.Path.{_≡_, sym, ap, _∙_}
+use Rattle.refusal.specs.Outcome.{OneView}
+use Rattle.refusal.specs.Pick.{determined, paired}
+use Rattle.form.specs.Kind.{form1, form2}
+use Rattle.form.specs.Contents.{written}
+use Rattle.form.specs.Whole.{contentsIn}
+use Rattle.convert.specs.declared.Conversion.{Conversion}
+use Rattle.convert.specs.Convert.{outAfter, toForm1, toForm2}
+use Rattle.convert.proofs.to_form1.Kinds as to-form1-kinds
+use Rattle.convert.proofs.to_form1.Reads as to-form1-reads
+use Rattle.convert.proofs.to_form2.Kinds as to-form2-kinds
+use Rattle.convert.proofs.to_form2.Reads as to-form2-reads
+
+after : (new old : List ℕ) {v w : Conversion} {a b : List ℕ} → v ≡ w → a ≡ outAfter v new old → b ≡ outAfter w new old → a ≡ b
+after new old e p q = p ∙ ap (λ (u : Conversion). outAfter u new old) e ∙ sym q
+
+-- the answer, and the buffer afterwards
+pub to-form2-unique : OneView 2 to-form2-kinds.ps to-form2-kinds.r to-form2-reads.Learnt (Conversion × List ℕ) (λ κs x e. (x, e .1 .0 .now))
+to-form2-unique κs a x y e f p q =
+    let v = determined (p .is) (q .is) in
+    paired v (after (written form2 (toForm2 (contentsIn form1 (a .0 .now)))) (a .1 .0 .now) v (p .out) (q .out))
+
+pub to-form1-unique : OneView 2 to-form1-kinds.ps to-form1-kinds.r to-form1-reads.Learnt (Conversion × List ℕ) (λ κs x e. (x, e .1 .0 .now))
+to-form1-unique κs a x y e f p q =
+    let v = determined (p .is) (q .is) in
+    paired v (after (written form1 (toForm1 (contentsIn form2 (a .0 .now)))) (a .1 .0 .now) v (p .out) (q .out))

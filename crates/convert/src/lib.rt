@@ -1,0 +1,562 @@
+// The converter between the forms of a layout file: from lent bytes into a lent buffer, either way.
+use form::Form;
+use form::Shape;
+use refusal::MAX_NODES;
+use refusal::MAX_ROWS;
+use refusal::Refusal;
+ghost use mathlib.Core.Bool.{true};
+ghost use mathlib.Core.Path.{_≡_};
+ghost use mathlib.Core.List.{[], _∷_, _++_};
+ghost use Prim.Native.Nat.{_+_, _*_, _<_, _≤_, max};
+ghost use lib.ListN.{length, drop, replicate};
+ghost use Rattle.bankdef.specs.Search.{firstWhere};
+ghost use Rattle.form.specs.Kind.{form1, form2};
+ghost use Rattle.form.specs.Columns.{column};
+ghost use Rattle.form.specs.Contents.{bytes16, field, flat, written};
+ghost use Rattle.form.specs.Whole.{part, contentsIn};
+ghost use Rattle.convert.specs.Convert.{switchTo, strays, turned, zeros, stray, lengthened, widened, toForm2, answerOf, ToForm2, shortened, narrowed, toForm1, allZero, allOf, same, bare, startsZero, shaped, bitClear, dropsBit, ToForm1};
+ghost use Rattle.convert.specs.Fitting.{Read};
+ghost use Rattle.convert.specs.Writes.{Writes};
+
+// How long the converted file is, or why there is none.
+pub enum Conversion {
+    Converted(u64),
+    Refused(Refusal),
+}
+
+// Writes bytes that are known to fit, and answers the place behind them.
+fn write_bytes(out: &mut [u8], at: usize, word: &[u8]) -> usize
+    requires { ⌜ at + length (now word) ≤ length (now out) ⌝ }
+    ensures { λ r. ⌜ Writes (now (word .entry)) (now (out .entry)) at r (now (out .exit)) ⌝ }
+{
+    let mut i = 0;
+    while i < word.len() {
+        out[at + i] = word[i];
+        i += 1;
+    }
+    at + i
+}
+
+// The same of zeros.
+fn write_zeros(out: &mut [u8], at: usize, count: usize) -> usize
+    requires { ⌜ at + count ≤ length (now out) ⌝ }
+    ensures { λ r. ⌜ Writes (zeros count) (now (out .entry)) at r (now (out .exit)) ⌝ }
+{
+    let mut i = 0;
+    while i < count {
+        out[at + i] = 0;
+        i += 1;
+    }
+    at + i
+}
+
+// A field's tag and length.
+fn write_header(out: &mut [u8], at: usize, tag: u8, len: usize) -> usize
+    requires { ⌜ len < 65536 ⌝ }
+    requires { ⌜ at + 3 ≤ length (now out) ⌝ }
+    ensures { λ r. ⌜ Writes (tag ∷ bytes16 len) (now (out .entry)) at r (now (out .exit)) ⌝ }
+{
+    out[at] = tag;
+    out[at + 1] = (len / 256) as u8;
+    out[at + 2] = (len % 256) as u8;
+    at + 3
+}
+
+// A field whose payload is these bytes, with zeros before and behind them.
+fn write_field(
+    out: &mut [u8],
+    at: usize,
+    tag: u8,
+    before: usize,
+    word: &[u8],
+    behind: usize,
+) -> usize
+    requires { ⌜ before + length (now word) + behind < 65536 ⌝ }
+    requires { ⌜ at + (3 + (before + length (now word) + behind)) ≤ length (now out) ⌝ }
+    ensures { λ r. ⌜ Writes (field tag (zeros before ++ (now (word .entry) ++ zeros behind))) (now (out .entry)) at r (now (out .exit)) ⌝ }
+{
+    let first = write_header(out, at, tag, before + word.len() + behind);
+    let second = write_zeros(out, first, before);
+    let third = write_bytes(out, second, word);
+    write_zeros(out, third, behind)
+}
+
+// Such a field for each of `count` things of `keep` bytes that stand `step` bytes apart in the file.
+fn write_fields(
+    file: &[u8],
+    from: usize,
+    step: usize,
+    keep: usize,
+    count: usize,
+    tag: u8,
+    before: usize,
+    behind: usize,
+    out: &mut [u8],
+    at: usize,
+) -> usize
+    requires { ⌜ from + count * step + keep ≤ length (now file) + step ⌝ }
+    requires { ⌜ before + keep + behind < 65536 ⌝ }
+    requires { ⌜ at + count * (3 + (before + keep + behind)) ≤ length (now out) ⌝ }
+    ensures { λ r. ⌜ Writes (flat (field tag) (column (λ a. zeros before ++ (part (now (file .entry)) keep a ++ zeros behind)) step from count))
+        (now (out .entry)) at r (now (out .exit)) ⌝ }
+    ensures { λ r. ⌜ r ≡ at + count * (3 + (before + keep + behind)) ⌝ }
+{
+    let mut end = at;
+    let mut i = 0;
+    while i < count {
+        let p = from + i * step;
+        end = write_field(out, end, tag, before, &file[p..p + keep], behind);
+        i += 1;
+    }
+    end
+}
+
+// The node that switches to a bank.
+fn write_switch(out: &mut [u8], at: usize, bank: u8) -> usize
+    requires { ⌜ at + 8 ≤ length (now out) ⌝ }
+    ensures { λ r. ⌜ Writes (field 2 (switchTo bank)) (now (out .entry)) at r (now (out .exit)) ⌝ }
+{
+    let end = write_header(out, at, 2, 5);
+    out[end] = 1;
+    out[end + 1] = 0;
+    out[end + 2] = 0;
+    out[end + 3] = 0;
+    out[end + 4] = bank;
+    end + 5
+}
+
+// The node whose payload stands at `from`; a switch becomes one to this bank.
+fn write_node(file: &[u8], from: usize, bank: u8, out: &mut [u8], at: usize) -> usize
+    requires { ⌜ from + 5 ≤ length (now file) ⌝ }
+    requires { ⌜ at + 8 ≤ length (now out) ⌝ }
+    ensures { λ r. ⌜ Writes (field 2 (turned bank (part (now (file .entry)) 5 from))) (now (out .entry)) at r (now (out .exit)) ⌝ }
+{
+    if file[from] == 1 {
+        return write_switch(out, at, bank);
+    }
+    write_field(out, at, 2, 0, &file[from..from + 5], 0)
+}
+
+// All nodes, from the payload of the first on.
+fn write_nodes(file: &[u8], from: usize, count: usize, bank: u8, out: &mut [u8], at: usize) -> usize
+    requires { ⌜ from + count * 8 ≤ length (now file) + 3 ⌝ }
+    requires { ⌜ at + count * 8 ≤ length (now out) ⌝ }
+    ensures { λ r. ⌜ Writes (flat (field 2) (column (λ a. turned bank (part (now (file .entry)) 5 a)) 8 from count)) (now (out .entry)) at r
+        (now (out .exit)) ⌝ }
+    ensures { λ r. ⌜ r ≡ at + count * 8 ⌝ }
+{
+    let mut end = at;
+    let mut i = 0;
+    while i < count {
+        end = write_node(file, from + i * 8, bank, out, end);
+        i += 1;
+    }
+    end
+}
+
+// Whether the node whose payload stands at `at` switches to another bank.
+fn is_stray(file: &[u8], at: usize, bank: u8) -> bool
+    requires { ⌜ at + 5 ≤ length (now file) ⌝ }
+    ensures { λ r. ⌜ r ≡ strays bank (part (now (file .entry)) 5 at) ⌝ }
+{
+    if file[at] != 1 {
+        return false;
+    }
+    if file[at + 1] != 0 {
+        return true;
+    }
+    if file[at + 2] != 0 {
+        return true;
+    }
+    if file[at + 3] != 0 {
+        return true;
+    }
+    file[at + 4] != bank
+}
+
+// The first node that switches to another bank; `count` where none does.
+fn first_stray(file: &[u8], from: usize, count: u64, bank: u8) -> u64
+    requires { ⌜ from + count * 8 ≤ length (now file) + 3 ⌝ }
+    ensures { λ r. ⌜ r ≡ firstWhere (strays bank) (column (part (now (file .entry)) 5) 8 from count) ⌝ }
+{
+    let mut i = 0;
+    while i < count {
+        if is_stray(file, from + i as usize * 8, bank) {
+            return i;
+        }
+        i += 1;
+    }
+    i
+}
+
+// Whether a result is taken, from its counts, its length and the room for it.
+fn answer(
+    nodes: u64,
+    rows: u64,
+    first: u64,
+    count: u64,
+    size: u64,
+    longest: u64,
+    drops: bool,
+    room: u64,
+) -> Conversion
+    ensures { λ r. ⌜ r ≡ answerOf nodes rows first count size longest drops room ⌝ }
+{
+    if MAX_NODES < nodes {
+        return Conversion::Refused(Refusal::Malformed(0));
+    }
+    if MAX_ROWS < rows {
+        return Conversion::Refused(Refusal::Malformed(1));
+    }
+    if first < count {
+        return Conversion::Refused(Refusal::Malformed(first));
+    }
+    if longest < size {
+        return Conversion::Refused(Refusal::Malformed(0));
+    }
+    if drops {
+        return Conversion::Refused(Refusal::FillBitDropped);
+    }
+    if room < size {
+        return Conversion::Refused(Refusal::TooShort(0));
+    }
+    Conversion::Converted(size)
+}
+
+// How many nodes a file of form 1 has in form 2.
+fn nodes2(file: &[u8], shape: Shape) -> u64
+    requires { ⌜ Read form1 (now file) shape ⌝ }
+    ensures { λ r. ⌜ r ≡ max (length (contentsIn form1 (now (file .entry)) .nodes)) (length (toForm2 (contentsIn form1 (now (file .entry))) .nodes)) ⌝ }
+{
+    if shape.banks == 1 {
+        return shape.nodes + 1;
+    }
+    shape.nodes
+}
+
+// How long it is there.
+fn length2(file: &[u8], shape: Shape) -> u64
+    requires { ⌜ Read form1 (now file) shape ⌝ }
+    ensures { λ r. ⌜ r ≡ length (written form2 (toForm2 (contentsIn form1 (now (file .entry))))) ⌝ }
+{
+    if shape.banks == 1 {
+        return file.len() as u64 + 40 + 5 * shape.rows;
+    }
+    file.len() as u64 + 4 + shape.banks
+}
+
+// The first node of a one-bank file that names another bank.
+fn stray1(file: &[u8], shape: Shape) -> u64
+    requires { ⌜ Read form1 (now file) shape ⌝ }
+    ensures { λ r. ⌜ r ≡ stray (contentsIn form1 (now (file .entry))) ⌝ }
+{
+    if shape.banks != 1 {
+        return shape.nodes;
+    }
+    first_stray(file, 29, shape.nodes, 0)
+}
+
+// The head of form 2.
+fn write_head(out: &mut [u8]) -> usize
+    requires { ⌜ 4 ≤ length (now out) ⌝ }
+    ensures { λ r. ⌜ Writes (field 16 (2 ∷ [])) (now (out .entry)) 0 r (now (out .exit)) ⌝ }
+{
+    let end = write_header(out, 0, 16, 1);
+    out[end] = 2;
+    end + 1
+}
+
+// A file of form 1 in form 2, its banks one byte longer.
+fn write_lengthened(file: &[u8], shape: Shape, out: &mut [u8]) -> usize
+    requires { ⌜ Read form1 (now file) shape ⌝ }
+    requires { ⌜ length (written form2 (lengthened (contentsIn form1 (now file)))) ≤ length (now out) ⌝ }
+    ensures { λ r. ⌜ Writes (written form2 (lengthened (contentsIn form1 (now (file .entry))))) (now (out .entry)) 0 r (now (out .exit)) ⌝ }
+{
+    let banks = shape.banks as usize;
+    let head = write_head(out);
+    let end = write_fields(file, 3, 26, 23, banks, 17, 0, 1, out, head);
+    write_bytes(out, end, &file[banks * 26..])
+}
+
+// A file of form 1 with one bank in form 2, where the layout stands in bank 1.
+fn write_widened(file: &[u8], shape: Shape, out: &mut [u8]) -> usize
+    requires { ⌜ Read form1 (now file) shape ⌝ }
+    requires { ⌜ shape .banks ≡ 1 ⌝ }
+    requires { ⌜ length (written form2 (widened (contentsIn form1 (now file)))) ≤ length (now out) ⌝ }
+    ensures { λ r. ⌜ Writes (written form2 (widened (contentsIn form1 (now (file .entry))))) (now (out .entry)) 0 r (now (out .exit)) ⌝ }
+{
+    let nodes = shape.nodes as usize;
+    let rows = shape.rows as usize;
+    let head = write_head(out);
+    let zero = write_field(out, head, 17, 0, &file[3..13], 14);
+    let one = write_field(out, zero, 17, 0, &file[3..26], 1);
+    let switch = write_switch(out, one, 1);
+    let end = write_nodes(file, 29, nodes, 1, out, switch);
+    let last = write_fields(
+        file,
+        29 + nodes * 8,
+        3 + 5 * nodes,
+        5 * nodes,
+        rows,
+        3,
+        5,
+        0,
+        out,
+        end,
+    );
+    write_bytes(out, last, &file[shape.values - 3..])
+}
+
+fn write2(file: &[u8], shape: Shape, out: &mut [u8]) -> usize
+    requires { ⌜ Read form1 (now file) shape ⌝ }
+    requires { ⌜ length (written form2 (toForm2 (contentsIn form1 (now file)))) ≤ length (now out) ⌝ }
+    ensures { λ r. ⌜ Writes (written form2 (toForm2 (contentsIn form1 (now (file .entry))))) (now (out .entry)) 0 r (now (out .exit)) ⌝ }
+{
+    if shape.banks == 1 {
+        return write_widened(file, shape, out);
+    }
+    write_lengthened(file, shape, out)
+}
+
+// A sound file of form 1 in form 2.
+fn convert2(file: &[u8], shape: Shape, out: &mut [u8]) -> Conversion
+    requires { ⌜ Read form1 (now file) shape ⌝ }
+    ensures { λ r. ⌜ ToForm2 (now (file .entry)) (now (out .entry)) r (now (out .exit)) ⌝ }
+{
+    let nodes = nodes2(file, shape);
+    let first = stray1(file, shape);
+    let size = length2(file, shape);
+    match answer(
+        nodes,
+        shape.rows,
+        first,
+        shape.nodes,
+        size,
+        65_536,
+        false,
+        out.len() as u64,
+    ) {
+        Conversion::Refused(why) => Conversion::Refused(why),
+        Conversion::Converted(n) => {
+            write2(file, shape, out);
+            Conversion::Converted(n)
+        }
+    }
+}
+
+// Form 1 to form 2. A refused call changes nothing that is lent.
+pub fn to_form2(file: &[u8], out: &mut [u8]) -> Conversion
+    ensures { λ r. ⌜ ToForm2 (now (file .entry)) (now (out .entry)) r (now (out .exit)) ⌝ }
+{
+    match form::read_form1(file) {
+        Form::Sound(shape) => convert2(file, shape, out),
+        Form::Broken(why) => Conversion::Refused(why),
+    }
+}
+
+// Whether all bytes are zero.
+fn is_zero(word: &[u8]) -> bool
+    ensures { λ r. ⌜ r ≡ allZero (now (word .entry)) ⌝ }
+{
+    let mut i = 0;
+    while i < word.len() {
+        if word[i] != 0 {
+            return false;
+        }
+        i += 1;
+    }
+    true
+}
+
+// Whether two runs of bytes of one length are the same.
+fn is_same(one: &[u8], other: &[u8]) -> bool
+    requires { ⌜ length (now one) ≡ length (now other) ⌝ }
+    ensures { λ r. ⌜ r ≡ same (now (one .entry)) (now (other .entry)) ⌝ }
+{
+    let mut i = 0;
+    while i < one.len() {
+        if one[i] != other[i] {
+            return false;
+        }
+        i += 1;
+    }
+    true
+}
+
+// Whether the first two banks are as the converter leaves them.
+fn is_bare(file: &[u8]) -> bool
+    requires { ⌜ 58 ≤ length (now file) ⌝ }
+    ensures { λ r. ⌜ r ≡ bare (part (now (file .entry)) 24 7) (part (now (file .entry)) 24 34) ⌝ }
+{
+    if !is_same(&file[7..17], &file[34..44]) {
+        return false;
+    }
+    if !is_zero(&file[17..31]) {
+        return false;
+    }
+    file[57] == 0
+}
+
+// Whether each of `count` rows, `step` bytes apart, begins with five zeros.
+fn rows_start_zero(file: &[u8], from: usize, step: usize, count: usize) -> bool
+    requires { ⌜ from + count * step + 5 ≤ length (now file) + step ⌝ }
+    ensures { λ r. ⌜ r ≡ allOf allZero (column (part (now (file .entry)) 5) step from count) ⌝ }
+{
+    let mut i = 0;
+    while i < count {
+        let p = from + i * step;
+        if !is_zero(&file[p..p + 5]) {
+            return false;
+        }
+        i += 1;
+    }
+    true
+}
+
+// Whether no bank has a fill bit of one.
+fn bits_clear(file: &[u8], count: usize) -> bool
+    requires { ⌜ 4 + count * 27 ≤ length (now file) ⌝ }
+    ensures { λ r. ⌜ r ≡ allOf bitClear (column (part (now (file .entry)) 24) 27 7 count) ⌝ }
+{
+    let mut i = 0;
+    while i < count {
+        if file[30 + i * 27] != 0 {
+            return false;
+        }
+        i += 1;
+    }
+    true
+}
+
+// Whether a file of form 2 has the shape that a one-bank file takes there.
+fn is_shape(file: &[u8], shape: Shape) -> bool
+    requires { ⌜ Read form2 (now file) shape ⌝ }
+    ensures { λ r. ⌜ r ≡ shaped (contentsIn form2 (now (file .entry))) ⌝ }
+{
+    if shape.banks != 2 {
+        return false;
+    }
+    if !is_bare(file) {
+        return false;
+    }
+    if shape.nodes == 0 {
+        return false;
+    }
+    if file[61] != 1 {
+        return false;
+    }
+    if first_stray(file, 61, shape.nodes, 1) < shape.nodes {
+        return false;
+    }
+    let nodes = shape.nodes as usize;
+    rows_start_zero(file, 61 + nodes * 8, 3 + 5 * nodes, shape.rows as usize)
+}
+
+// How long a file of form 2 is in form 1.
+fn length1(file: &[u8], shape: Shape, found: bool) -> u64
+    requires { ⌜ Read form2 (now file) shape ⌝ }
+    requires { ⌜ found ≡ shaped (contentsIn form2 (now file)) ⌝ }
+    ensures { λ r. ⌜ r ≡ length (written form1 (toForm1 (contentsIn form2 (now (file .entry))))) ⌝ }
+{
+    if found {
+        return file.len() as u64 - 40 - 5 * shape.rows;
+    }
+    file.len() as u64 - 4 - shape.banks
+}
+
+// The first node of a one-bank file of form 2 that names another bank.
+fn stray2(file: &[u8], shape: Shape) -> u64
+    requires { ⌜ Read form2 (now file) shape ⌝ }
+    ensures { λ r. ⌜ r ≡ stray (contentsIn form2 (now (file .entry))) ⌝ }
+{
+    if shape.banks != 1 {
+        return shape.nodes;
+    }
+    first_stray(file, 34, shape.nodes, 0)
+}
+
+// A file of form 2 in form 1, its banks one byte shorter.
+fn write_shortened(file: &[u8], shape: Shape, out: &mut [u8]) -> usize
+    requires { ⌜ Read form2 (now file) shape ⌝ }
+    requires { ⌜ length (written form1 (shortened (contentsIn form2 (now file)))) ≤ length (now out) ⌝ }
+    ensures { λ r. ⌜ Writes (written form1 (shortened (contentsIn form2 (now (file .entry))))) (now (out .entry)) 0 r (now (out .exit)) ⌝ }
+{
+    let banks = shape.banks as usize;
+    let end = write_fields(file, 7, 27, 23, banks, 1, 0, 0, out, 0);
+    write_bytes(out, end, &file[4 + banks * 27..])
+}
+
+// A file of form 2 with the shape in form 1, where the layout stands in bank 0 alone.
+fn write_narrowed(file: &[u8], shape: Shape, out: &mut [u8]) -> usize
+    requires { ⌜ Read form2 (now file) shape ⌝ }
+    requires { ⌜ shaped (contentsIn form2 (now file)) ≡ true ⌝ }
+    requires { ⌜ length (written form1 (narrowed (contentsIn form2 (now file)))) ≤ length (now out) ⌝ }
+    ensures { λ r. ⌜ Writes (written form1 (narrowed (contentsIn form2 (now (file .entry))))) (now (out .entry)) 0 r (now (out .exit)) ⌝ }
+{
+    let nodes = shape.nodes as usize;
+    let rows = shape.rows as usize;
+    let bank = write_field(out, 0, 1, 0, &file[34..57], 0);
+    let end = write_nodes(file, 69, nodes - 1, 0, out, bank);
+    let last = write_fields(
+        file,
+        66 + nodes * 8,
+        3 + 5 * nodes,
+        5 * nodes - 5,
+        rows,
+        3,
+        0,
+        0,
+        out,
+        end,
+    );
+    write_bytes(out, last, &file[shape.values - 3..])
+}
+
+fn write1(file: &[u8], shape: Shape, found: bool, out: &mut [u8]) -> usize
+    requires { ⌜ Read form2 (now file) shape ⌝ }
+    requires { ⌜ found ≡ shaped (contentsIn form2 (now file)) ⌝ }
+    requires { ⌜ length (written form1 (toForm1 (contentsIn form2 (now file)))) ≤ length (now out) ⌝ }
+    ensures { λ r. ⌜ Writes (written form1 (toForm1 (contentsIn form2 (now (file .entry))))) (now (out .entry)) 0 r (now (out .exit)) ⌝ }
+{
+    if found {
+        return write_narrowed(file, shape, out);
+    }
+    write_shortened(file, shape, out)
+}
+
+// A sound file of form 2 in form 1.
+fn convert1(file: &[u8], shape: Shape, out: &mut [u8]) -> Conversion
+    requires { ⌜ Read form2 (now file) shape ⌝ }
+    ensures { λ r. ⌜ ToForm1 (now (file .entry)) (now (out .entry)) r (now (out .exit)) ⌝ }
+{
+    let found = is_shape(file, shape);
+    let first = stray2(file, shape);
+    let size = length1(file, shape, found);
+    let clear = bits_clear(file, shape.banks as usize);
+    match answer(
+        shape.nodes,
+        shape.rows,
+        first,
+        shape.nodes,
+        size,
+        65_000,
+        !clear,
+        out.len() as u64,
+    ) {
+        Conversion::Refused(why) => Conversion::Refused(why),
+        Conversion::Converted(n) => {
+            write1(file, shape, found, out);
+            Conversion::Converted(n)
+        }
+    }
+}
+
+// Form 2 to form 1. A refused call changes nothing that is lent.
+pub fn to_form1(file: &[u8], out: &mut [u8]) -> Conversion
+    ensures { λ r. ⌜ ToForm1 (now (file .entry)) (now (out .entry)) r (now (out .exit)) ⌝ }
+{
+    match form::read_form2(file) {
+        Form::Sound(shape) => convert1(file, shape, out),
+        Form::Broken(why) => Conversion::Refused(why),
+    }
+}
