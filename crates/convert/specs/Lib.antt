@@ -1,3 +1,4 @@
 pub mod Convert
 pub mod Fitting
+pub mod RoundTrips
 pub mod Writes
