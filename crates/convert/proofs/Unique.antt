@@ -20,10 +20,10 @@ after new old e p q = p ∙ ap (λ (u : Conversion). outAfter u new old) e ∙ s
 -- the answer, and the buffer afterwards
 pub to-form2-unique : OneView 2 to-form2-kinds.ps to-form2-kinds.r to-form2-reads.Learnt (Conversion × List ℕ) (λ κs x e. (x, e .1 .0 .now))
 to-form2-unique κs a x y e f p q =
-    let v = determined (p .is) (q .is) in
-    paired v (after (written form2 (toForm2 (contentsIn form1 (a .0 .now)))) (a .1 .0 .now) v (p .out) (q .out))
+    let v = determined (p .0 .is) (q .0 .is) in
+    paired v (after (written form2 (toForm2 (contentsIn form1 (a .0 .now)))) (a .1 .0 .now) v (p .0 .out) (q .0 .out))
 
 pub to-form1-unique : OneView 2 to-form1-kinds.ps to-form1-kinds.r to-form1-reads.Learnt (Conversion × List ℕ) (λ κs x e. (x, e .1 .0 .now))
 to-form1-unique κs a x y e f p q =
-    let v = determined (p .is) (q .is) in
-    paired v (after (written form1 (toForm1 (contentsIn form2 (a .0 .now)))) (a .1 .0 .now) v (p .out) (q .out))
+    let v = determined (p .0 .is) (q .0 .is) in
+    paired v (after (written form1 (toForm1 (contentsIn form2 (a .0 .now)))) (a .1 .0 .now) v (p .0 .out) (q .0 .out))

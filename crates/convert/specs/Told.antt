@@ -17,12 +17,13 @@ use Rattle.form.specs.declared.Form.the-variants.{Sound, Broken}
 use Rattle.form.specs.declared.Kind.{Kind}
 use Rattle.form.specs.declared.Shape.{Shape}
 use Rattle.form.specs.Contents.{Contents, written}
+use Rattle.form.specs.Kind.{form1, form2}
 use Rattle.form.specs.Shape.{formIn}
 use Rattle.form.specs.Told.{toldForm}
 use Rattle.form.specs.Whole.{contentsIn}
 use Rattle.convert.specs.declared.Conversion.{Conversion}
 use Rattle.convert.specs.declared.Conversion.the-variants.{Converted, Refused}
-use Rattle.convert.specs.Convert.{stray, answerOf, answerFor, answerBy, Converts}
+use Rattle.convert.specs.Convert.{stray, answerOf, answerFor, answerBy, Converts, toForm2, toForm1, dropsNone, dropsBit, ToForm2, ToForm1}
 
 abbrev pub toldConversion : Conversion → Told ℕ
 toldConversion (Converted n) = gives n
@@ -107,3 +108,20 @@ converts-told from to turn drops {file} {old} {new} {answer} p =
     let c = contentsIn from file in
     subst (λ (r : Conversion). ConvertTold to (formIn from file) c (turn c) (drops c) (length old) (toldConversion r)) (sym (p .is))
     (answer-told to (formIn from file) c (turn c) (drops c) (length old))
+
+-- What the two calls tell.
+abbrev pub TellsForm2 : List ℕ → List ℕ → Conversion → Type 0
+TellsForm2 file old answer =
+    let c = contentsIn form1 file in
+    ConvertTold form2 (formIn form1 file) c (toForm2 c) (dropsNone c) (length old) (toldConversion answer)
+
+abbrev pub TellsForm1 : List ℕ → List ℕ → Conversion → Type 0
+TellsForm1 file old answer =
+    let c = contentsIn form2 file in
+    ConvertTold form1 (formIn form2 file) c (toForm1 c) (dropsBit c) (length old) (toldConversion answer)
+
+pub tells-form2 : {file old new : List ℕ} {answer : Conversion} → ToForm2 file old answer new → ToForm2 file old answer new × TellsForm2 file old answer
+tells-form2 p = (p, converts-told form1 form2 toForm2 dropsNone p)
+
+pub tells-form1 : {file old new : List ℕ} {answer : Conversion} → ToForm1 file old answer new → ToForm1 file old answer new × TellsForm1 file old answer
+tells-form1 p = (p, converts-told form2 form1 toForm1 dropsBit p)

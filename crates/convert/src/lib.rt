@@ -14,8 +14,10 @@ ghost use Rattle.form.specs.Kind.{form1, form2};
 ghost use Rattle.form.specs.Columns.{column};
 ghost use Rattle.form.specs.Contents.{bytes16, field, flat, written};
 ghost use Rattle.form.specs.Whole.{part, contentsIn};
-ghost use Rattle.convert.specs.Convert.{switchTo, strays, turned, zeros, stray, lengthened, widened, toForm2, answerOf, ToForm2, shortened, narrowed, toForm1, allZero, allOf, same, bare, startsZero, shaped, bitClear, dropsBit, ToForm1};
+ghost use Rattle.convert.specs.Convert.{switchTo, strays, turned, zeros, stray, lengthened, widened, toForm2, answerOf, ToForm2};
+ghost use Rattle.convert.specs.Convert.{shortened, narrowed, toForm1, allZero, allOf, same, bare, shaped, bitClear, ToForm1};
 ghost use Rattle.convert.specs.Fitting.{Read};
+ghost use Rattle.convert.specs.Told.{TellsForm2, TellsForm1};
 ghost use Rattle.convert.specs.Writes.{Writes};
 
 // How long the converted file is, or why there is none.
@@ -347,6 +349,7 @@ fn convert2(file: &[u8], shape: Shape, out: &mut [u8]) -> Conversion
 // Form 1 to form 2. A refused call changes nothing that is lent.
 pub fn to_form2(file: &[u8], out: &mut [u8]) -> Conversion
     ensures { λ r. ⌜ ToForm2 (now (file .entry)) (now (out .entry)) r (now (out .exit)) ⌝ }
+    ensures { λ r. ⌜ TellsForm2 (now (file .entry)) (now (out .entry)) r ⌝ }
 {
     match form::read_form1(file) {
         Form::Sound(shape) => convert2(file, shape, out),
@@ -554,6 +557,7 @@ fn convert1(file: &[u8], shape: Shape, out: &mut [u8]) -> Conversion
 // Form 2 to form 1. A refused call changes nothing that is lent.
 pub fn to_form1(file: &[u8], out: &mut [u8]) -> Conversion
     ensures { λ r. ⌜ ToForm1 (now (file .entry)) (now (out .entry)) r (now (out .exit)) ⌝ }
+    ensures { λ r. ⌜ TellsForm1 (now (file .entry)) (now (out .entry)) r ⌝ }
 {
     match form::read_form2(file) {
         Form::Sound(shape) => convert1(file, shape, out),
