@@ -1,4 +1,5 @@
 pub mod Convert
+pub mod Exactly
 pub mod Fitting
 pub mod RoundTrips
 pub mod Told
