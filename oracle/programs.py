@@ -133,11 +133,13 @@ def converter_case(rng):
     """A layout file, in the other form and back."""
     data = some_layout(rng)
     form = rng.choice((1, 2))
-    turn = convert.to_form_1 if form == 1 else convert.to_form_2
-    try:
-        if form == 1 and rng.random() < 0.7:
+    if form == 1 and rng.random() < 0.5:
+        try:
             data = convert.to_form_2(data)
-        told = turn(data)
+        except model.Refused:
+            pass
+    try:
+        told = (convert.to_form_1 if form == 1 else convert.to_form_2)(data)
     except model.Refused as refused:
         told = " ".join(map(str, ("refused", refused.number, *(refused.place or (0,))))).encode() + b"\n"
     return [str(form)], data, told
@@ -161,7 +163,7 @@ def main():
                 refused += told.startswith(b"refused")
                 if done.stdout != told:
                     wrong += 1
-                    print(f"{name} {' '.join(arguments)} < {given.hex()}: {done.stdout!r} for {told!r}"[:2000])
+                    print(f"{name} {' '.join(arguments)} < {given.hex()}: {done.stdout!r} for {told!r}"[:500])
             print(f"{name}: {asked.cases} cases, {refused} of them refused")
     print("no difference" if not wrong else f"{wrong} differ")
     sys.exit(wrong != 0)
