@@ -1,3 +1,5 @@
+pub mod ConversionLaws
+pub mod ConversionUnique
 pub mod FormLaws
 pub mod OverlayUnique
 pub mod ProfileLaws

@@ -1,5 +1,6 @@
 // The library for programs in other languages: exported functions over the proved ones, with numbers, slices and structs of
 // numbers only. include/denkumari.h tells a C program of them.
+mod conversions;
 mod forms;
 mod overlays;
 mod parts;

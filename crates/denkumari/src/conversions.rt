@@ -1,0 +1,37 @@
+// A layout file in the other form.
+use crate::DkCount;
+use crate::told::tell_refusal;
+use convert::Conversion;
+ghost use mathlib.Core.Path.{_≡_};
+ghost use Rattle.form.specs.Kind.{form1, form2};
+ghost use Rattle.convert.specs.Convert.{toForm1, toForm2, dropsNone, dropsBit};
+ghost use Rattle.denkumari.specs.Conversions.{conversionCount, WayTold};
+
+fn tell_conversion(done: Conversion) -> DkCount
+    ensures { λ r. ⌜ r ≡ conversionCount done ⌝ }
+{
+    match done {
+        Conversion::Converted(count) => DkCount {
+            refusal: 0,
+            place: 0,
+            count,
+        },
+        Conversion::Refused(why) => tell_refusal(why),
+    }
+}
+
+// A file of form 1 in form 2, with fill bits zero; a file of one bank gets a bank 1. A refused call changes nothing that is lent.
+#[no_mangle]
+pub extern "C" fn dk_to_form2(file: &[u8], out: &mut [u8]) -> DkCount
+    ensures { λ r. ⌜ WayTold form1 form2 toForm2 dropsNone (now (file .entry)) (now (out .entry)) r (now (out .exit)) ⌝ }
+{
+    tell_conversion(convert::to_form2(file, out))
+}
+
+// A file of form 2 in form 1. A refused call changes nothing that is lent.
+#[no_mangle]
+pub extern "C" fn dk_to_form1(file: &[u8], out: &mut [u8]) -> DkCount
+    ensures { λ r. ⌜ WayTold form2 form1 toForm1 dropsBit (now (file .entry)) (now (out .entry)) r (now (out .exit)) ⌝ }
+{
+    tell_conversion(convert::to_form1(file, out))
+}
