@@ -1,0 +1,206 @@
+-- A file that does not have exactly one bank, converted: Ticket 7: "the converted file gives the same answer". To form 2, and back from form 2 where the
+-- file has not Ticket 13's shape: the same verdict, place, K, passes, length, spans and padding, and everything lent the same afterwards.
+use mathlib.Core.Bool.{Bool, true, false}
+use mathlib.Core.List.{List, [], _∷_, _++_, map}
+use mathlib.Core.Logic.{_⊎_, inl, inr, ⊎-elim}
+use mathlib.Core.Path.{_≡_, refl, sym, ap, ap₂, subst, _∙_}
+use Prim.Native.Nat.{ℕ, zero, suc, _+_, _≤_, _<_}
+use native.Mathlib.Omega.{arith}
+use borrow.Author.Tests.{eqb-true, ne-eqb, not-false}
+use lib.Dec.{eqb}
+use lib.ListN.{length, getD, take, drop, length-map, take-append-drop}
+use lib.Seq.{length-take-le, getD-at}
+use Rattle.refusal.specs.Bools.{both}
+use Rattle.refusal.specs.Pick.{pick}
+use Rattle.refusal.specs.declared.Opt.the-variants.{None}
+use Rattle.refusal.specs.declared.Refusal.{Refusal}
+use Rattle.refusal.specs.declared.Refusal.the-variants.{BankCount}
+use Rattle.refusal.specs.declared.Verdict.{Verdict}
+use Rattle.refusal.specs.declared.Verdict.the-variants.{Refused as Turned}
+use Rattle.bankdef.specs.Check.{countSound, checkBanks, checkOf, banksOf}
+use Rattle.bankdef.specs.declared.Bankdef.{Bankdef}
+use Rattle.bankdef.specs.declared.Bankdefs.{Bankdefs}
+use Rattle.resolver.specs.Lists.{Lists, listsOf}
+use Rattle.resolver.specs.Passes.{program, rowOfPass, resolutionOf}
+use Rattle.resolver.specs.Layout.{layoutOf, unless}
+use Rattle.resolver.specs.declared.Choices.{Choices}
+use Rattle.resolver.specs.declared.Resolution.{Resolution}
+use Rattle.resolver.specs.declared.Settled.the-variants.{Refused as Unsettled}
+use Rattle.output.specs.DefaultBank.{withDefault, same-with-other-banks}
+use Rattle.output.specs.Output.{Input, input, Lent, Room, roomOf, outputOf, settledBuild, buildOf}
+use Rattle.output.specs.declared.Output.{Output}
+use Rattle.form.specs.Words.{byte}
+use Rattle.form.specs.Kind.{form1, form2, is1, is2}
+use Rattle.form.specs.Contents.{Contents, written, Each, BankFits, Fits}
+use Rattle.form.specs.Has.{Has}
+use Rattle.form.specs.Whole.{contentsIn, Bytes}
+use Rattle.filed.specs.Filed.{fileOutput, FileBuilt}
+use Rattle.filed.specs.Paged.{BuiltIn}
+use Rattle.convert.specs.declared.Conversion.the-variants.{Converted}
+use Rattle.convert.specs.Convert.{zeros, lengthened, shortened, alone, shaped, allOf, bitClear, dropsBit, dropsNone, toForm2, toForm1, ToForm2, ToForm1}
+use Rattle.convert.specs.Fitting.{lengthened-fits, shortened-fits}
+use Rattle.converted.specs.Says.{bankOf, tableFor, listsFor, inputFor, byte-in, word16-in, word32-in, word64-in, Alike, alike-banks}
+use Rattle.converted.specs.Says.{written-output, from-written, to-written}
+use Rattle.converted.specs.Conversions.{turned-file}
+
+-- ---- banks
+
+map-over : {X Y Z : Type 0} (P : X → Type 0) (f : X → Y) (g : Z → Y) (t : X → Z) → ((x : X) → P x → g (t x) ≡ f x) → (xs : List X) → Each P xs
+    → map g (map t xs) ≡ map f xs
+map-over P f g t same [] e = refl
+map-over P f g t same (x ∷ xs) e = ap₂ _∷_ (same x (e .0)) (map-over P f g t same xs (e .1))
+
+-- payloads of which one begins with the other's 23 bytes
+module _ (b d : List ℕ) (h : Has d 0 b) (long : 23 ≤ length b) where
+  pub begins-alike : pick true (byte d 23) 0 ≡ 0 → bankOf form2 d ≡ bankOf form1 b
+  begins-alike bit =
+      alike-banks form2 form1 d b
+      (record {
+        unit = word16-in d b 0 h 0 0 (omega arith) (omega (arith, long));
+        start = word64-in d b 0 h 2 2 (omega arith) (omega (arith, long));
+        size = word32-in d b 0 h 10 10 (omega arith) (omega (arith, long));
+        offset = word32-in d b 0 h 14 14 (omega arith) (omega (arith, long));
+        align = word32-in d b 0 h 18 18 (omega arith) (omega (arith, long));
+        flags = byte-in d b 0 h 22 22 (omega arith) (omega (arith, long));
+        bit = bit;
+      })
+
+-- "with fill bits zero"
+pub bank-lengthened : (b : List ℕ) → BankFits form1 b → bankOf form2 (b ++ zeros 1) ≡ bankOf form1 b
+bank-lengthened b fits =
+    begins-alike b (b ++ zeros 1) (record { rest = zeros 1; is = refl }) (omega (arith, fits .0)) (getD-at b 0 [] 0 23 (fits .0))
+
+pub bank-shortened : (b : List ℕ) → BankFits form2 b × (bitClear b ≡ true) → bankOf form1 (take 23 b) ≡ bankOf form2 b
+bank-shortened b (fits, clear) =
+    sym (begins-alike (take 23 b) b (record { rest = drop 23 b; is = sym (take-append-drop 23 b) })
+    (omega (arith, length-take-le 23 b (omega (arith, fits .0)))) (eqb-true (getD b 23 0) 0 clear))
+
+each-clear : (banks : List (List ℕ)) → Each (BankFits form2) banks → allOf bitClear banks ≡ true
+    → Each (λ (b : List ℕ). BankFits form2 b × (bitClear b ≡ true)) banks
+unfolding allOf
+each-clear [] e all = tt
+each-clear (b ∷ banks) e all = let h = both (bitClear b) (allOf bitClear banks) all in ((e .0, h .0), each-clear banks (e .1) (h .1))
+
+-- ---- whether bank 0 may be used alone is read of one bank only
+
+none-or-more : (n : ℕ) → (n ≡ 1 → ⊥) → (n ≡ 0) ⊎ (1 < n)
+none-or-more zero h = inl refl
+none-or-more (suc zero) h = absurd (h refl)
+none-or-more (suc (suc n)) h = inr (omega arith)
+
+module _ (b : Input) (leave : Bool) (room : Room) where
+  abbrev builtBy : Input → Resolution → Output
+  builtBy x r =
+      outputOf (program (x .banks) (x .lists)) (rowOfPass (x .lists) (r .passes)) (r .passes) (settledBuild x room (r .passes) (r .settled))
+
+  build-is : (x : Input) → buildOf x room ≡ builtBy x (layoutOf (x .banks) (x .lists) (x .choices))
+  unfolding buildOf
+  build-is x = refl
+
+  abbrev counted : Resolution
+  counted = record { settled = Unsettled BankCount; passes = 0 }
+
+  -- 1
+  no-bank : b .banks .len ≡ 0 → (choices : Choices) → layoutOf (b .banks) (b .lists) choices ≡ counted
+  unfolding layoutOf
+  no-bank e choices =
+      ap (λ (v : Verdict). unless v (unless (listsOf (b .banks .len) (b .lists) (choices .fill)) (resolutionOf (b .banks) (b .lists) (choices .limit))))
+      (law (checkBanks (banksOf (b .banks))) e)
+    where
+      law : {n : ℕ} (v : Verdict) → n ≡ 0 → pick (countSound n) v (Turned BankCount) ≡ Turned BankCount
+      law v f = rw f
+
+  none : b .banks .len ≡ 0 → buildOf (withDefault b leave) room ≡ buildOf b room
+  none e =
+      build-is (withDefault b leave) ∙ ap (builtBy (withDefault b leave)) (no-bank e (withDefault b leave .choices))
+      ∙ sym (build-is b ∙ ap (builtBy b) (no-bank e (b .choices)))
+
+  pub same-unless-one : (b .banks .len ≡ 1 → ⊥) → buildOf (withDefault b leave) room ≡ buildOf b room
+  same-unless-one other =
+      ⊎-elim (λ (e : b .banks .len ≡ 0). none e) (λ (e : 1 < b .banks .len). same-with-other-banks b leave e room) (none-or-more (b .banks .len) other)
+
+-- ---- to form 2
+
+module _ (c : Contents) (fits : Fits form1 c) where
+  pub lengthened-input : (fill : ℕ) → inputFor form2 (lengthened c) fill ≡ withDefault (inputFor form1 c fill) false
+  lengthened-input fill =
+      ap₂ (λ (n : ℕ) (l : List Bankdef). input (tableFor n l) (listsFor c) (record { limit = c .limit; fill = fill; «default_bank» = false }))
+      (length-map (c .banks) (λ (b : List ℕ). b ++ zeros 1))
+      (map-over (BankFits form1) (bankOf form1) (bankOf form2) (λ (b : List ℕ). b ++ zeros 1) bank-lengthened (c .banks) (fits .of-banks))
+
+  module _ (short : length (written form1 c) ≤ form1 .longest) (short2 : length (written form2 (lengthened c)) ≤ form2 .longest)
+      (other : length (c .banks) ≡ 1 → ⊥) (fill : ℕ) where
+    pub lengthened-same-answer : (room : Room) → fileOutput (written form2 (lengthened c)) fill None room ≡ fileOutput (written form1 c) fill None room
+    lengthened-same-answer room =
+        written-output is2 (lengthened c) (lengthened-fits c fits) short2 fill None room
+        ∙ ap (λ (b : Input). buildOf b room) (lengthened-input fill)
+        ∙ same-unless-one (inputFor form1 c fill) false room other
+        ∙ sym (written-output is1 c fits short fill None room)
+
+    pub lengthened-same-build : {old new : Lent} {r : Output} → FileBuilt (written form1 c) fill None old r new
+        → FileBuilt (written form2 (lengthened c)) fill None old r new
+    lengthened-same-build {old} {new} {r} p =
+        let q = from-written is1 c fits short p in
+        let mine : BuiltIn None (withDefault (inputFor form1 c fill) false) old r new =
+        record { answer = q .answer ∙ sym (same-unless-one (inputFor form1 c fill) false (roomOf old) other); left = q .left } in
+        to-written is2 (lengthened c) (lengthened-fits c fits) short2
+        (subst (λ (b : Input). BuiltIn None b old r new) (sym (lengthened-input fill)) mine)
+
+-- ---- back to form 1
+
+module _ (c : Contents) (fits : Fits form2 c) (clear : allOf bitClear (c .banks) ≡ true) where
+  pub shortened-input : (fill : ℕ) → inputFor form1 (shortened c) fill ≡ withDefault (inputFor form2 c fill) true
+  shortened-input fill =
+      ap₂ (λ (n : ℕ) (l : List Bankdef). input (tableFor n l) (listsFor c) (record { limit = c .limit; fill = fill; «default_bank» = true }))
+      (length-map (c .banks) (take 23))
+      (map-over (λ (b : List ℕ). BankFits form2 b × (bitClear b ≡ true)) (bankOf form2) (bankOf form1) (take 23) bank-shortened (c .banks)
+      (each-clear (c .banks) (fits .of-banks) clear))
+
+  module _ (short : length (written form2 c) ≤ form2 .longest) (short1 : length (written form1 (shortened c)) ≤ form1 .longest)
+      (other : length (c .banks) ≡ 1 → ⊥) (fill : ℕ) where
+    pub shortened-same-answer : (room : Room) → fileOutput (written form1 (shortened c)) fill None room ≡ fileOutput (written form2 c) fill None room
+    shortened-same-answer room =
+        written-output is1 (shortened c) (shortened-fits c fits) short1 fill None room
+        ∙ ap (λ (b : Input). buildOf b room) (shortened-input fill)
+        ∙ same-unless-one (inputFor form2 c fill) true room other
+        ∙ sym (written-output is2 c fits short fill None room)
+
+    pub shortened-same-build : {old new : Lent} {r : Output} → FileBuilt (written form2 c) fill None old r new
+        → FileBuilt (written form1 (shortened c)) fill None old r new
+    shortened-same-build {old} {new} {r} p =
+        let q = from-written is2 c fits short p in
+        let mine : BuiltIn None (withDefault (inputFor form2 c fill) true) old r new =
+        record { answer = q .answer ∙ sym (same-unless-one (inputFor form2 c fill) true (roomOf old) other); left = q .left } in
+        to-written is1 (shortened c) (shortened-fits c fits) short1
+        (subst (λ (b : Input). BuiltIn None b old r new) (sym (shortened-input fill)) mine)
+
+-- ---- the calls
+
+-- A file that was converted to form 2 and has not exactly one bank is built as before: the same answer, and everything lent the same afterwards.
+pub form2-same-build : (file out : List ℕ) (n : ℕ) (new : List ℕ) → Bytes file → ToForm2 file out (Converted n) new
+    → (length (contentsIn form1 file .banks) ≡ 1 → ⊥) → (fill : ℕ) {old left : Lent} {r : Output}
+    → FileBuilt file fill None old r left → FileBuilt (take n new) fill None old r left
+form2-same-build file out n new bytes call other fill {old} {left} {r} p =
+    let c = contentsIn form1 file in
+    let t = turned-file is1 toForm2 dropsNone file out n new bytes call in
+    let becomes : toForm2 c ≡ lengthened c = rw (ne-eqb (length (c .banks)) 1 other) refl in
+    let made = t .made ∙ ap (written form2) becomes in
+    let short2 : length (written form2 (lengthened c)) ≤ form2 .longest = rw becomes at (t .answer .short) in
+    subst (λ (f : List ℕ). FileBuilt f fill None old r left) (sym made)
+    (lengthened-same-build c (t .fits) (t .short) short2 other fill
+    (subst (λ (f : List ℕ). FileBuilt f fill None old r left) (sym (t .is)) p))
+
+-- So is one that was converted back and has neither exactly one bank nor the shape of Ticket 13.
+pub form1-same-build : (file out : List ℕ) (n : ℕ) (new : List ℕ) → Bytes file → ToForm1 file out (Converted n) new
+    → (length (contentsIn form2 file .banks) ≡ 1 → ⊥) → shaped (contentsIn form2 file) ≡ false → (fill : ℕ) {old left : Lent} {r : Output}
+    → FileBuilt file fill None old r left → FileBuilt (take n new) fill None old r left
+form1-same-build file out n new bytes call other plain fill {old} {left} {r} p =
+    let c = contentsIn form2 file in
+    let t = turned-file is2 toForm1 dropsBit file out n new bytes call in
+    let becomes : toForm1 c ≡ shortened c = rw plain refl in
+    let made = t .made ∙ ap (written form1) becomes in
+    let short1 : length (written form1 (shortened c)) ≤ form1 .longest = rw becomes at (t .answer .short) in
+    let clear : allOf bitClear (c .banks) ≡ true = not-false (allOf bitClear (c .banks)) (t .answer .none-dropped) in
+    subst (λ (f : List ℕ). FileBuilt f fill None old r left) (sym made)
+    (shortened-same-build c (t .fits) clear (t .short) short1 other fill
+    (subst (λ (f : List ℕ). FileBuilt f fill None old r left) (sym (t .is)) p))
