@@ -1,3 +1,6 @@
 pub mod Says
 pub mod Conversions
 pub mod OtherBanks
+pub mod OneBank
+pub mod Shaped
+pub mod Alone

@@ -1,5 +1,6 @@
--- A file that does not have exactly one bank, converted: Ticket 7: "the converted file gives the same answer". To form 2, and back from form 2 where the
--- file has not Ticket 13's shape: the same verdict, place, K, passes, length, spans and padding, and everything lent the same afterwards.
+-- A file that does not have exactly one bank, converted. Document 02, Ticket 7: "A converter goes from form 1 to form 2, with fill bits zero, and back."
+-- To form 2, and back from form 2 where the file has not Ticket 13's shape: the same verdict, place, K, passes, length, spans and padding, and everything
+-- lent the same afterwards, with a page size or without.
 use mathlib.Core.Bool.{Bool, true, false}
 use mathlib.Core.List.{List, [], _∷_, _++_, map}
 use mathlib.Core.Logic.{_⊎_, inl, inr, ⊎-elim}
@@ -12,7 +13,8 @@ use lib.ListN.{length, getD, take, drop, length-map, take-append-drop}
 use lib.Seq.{length-take-le, getD-at}
 use Rattle.refusal.specs.Bools.{both}
 use Rattle.refusal.specs.Pick.{pick}
-use Rattle.refusal.specs.declared.Opt.the-variants.{None}
+use Rattle.refusal.specs.declared.Opt.{Opt}
+use Rattle.refusal.specs.declared.Opt.the-variants.{None, Some}
 use Rattle.refusal.specs.declared.Refusal.{Refusal}
 use Rattle.refusal.specs.declared.Refusal.the-variants.{BankCount}
 use Rattle.refusal.specs.declared.Verdict.{Verdict}
@@ -29,13 +31,14 @@ use Rattle.resolver.specs.declared.Settled.the-variants.{Refused as Unsettled}
 use Rattle.output.specs.DefaultBank.{withDefault, same-with-other-banks}
 use Rattle.output.specs.Output.{Input, input, Lent, Room, roomOf, outputOf, settledBuild, buildOf}
 use Rattle.output.specs.declared.Output.{Output}
+use Rattle.profile_build.specs.InProfile.{saidOf}
 use Rattle.form.specs.Words.{byte}
 use Rattle.form.specs.Kind.{form1, form2, is1, is2}
 use Rattle.form.specs.Contents.{Contents, written, Each, BankFits, Fits}
 use Rattle.form.specs.Has.{Has}
 use Rattle.form.specs.Whole.{contentsIn, Bytes}
 use Rattle.filed.specs.Filed.{fileOutput, FileBuilt}
-use Rattle.filed.specs.Paged.{BuiltIn}
+use Rattle.filed.specs.Paged.{afterSaid, outputIn, BuiltIn}
 use Rattle.convert.specs.declared.Conversion.the-variants.{Converted}
 use Rattle.convert.specs.Convert.{zeros, lengthened, shortened, alone, shaped, allOf, bitClear, dropsBit, dropsNone, toForm2, toForm1, ToForm2, ToForm1}
 use Rattle.convert.specs.Fitting.{lengthened-fits, shortened-fits}
@@ -45,7 +48,7 @@ use Rattle.converted.specs.Conversions.{turned-file}
 
 -- ---- banks
 
-map-over : {X Y Z : Type 0} (P : X → Type 0) (f : X → Y) (g : Z → Y) (t : X → Z) → ((x : X) → P x → g (t x) ≡ f x) → (xs : List X) → Each P xs
+pub map-over : {X Y Z : Type 0} (P : X → Type 0) (f : X → Y) (g : Z → Y) (t : X → Z) → ((x : X) → P x → g (t x) ≡ f x) → (xs : List X) → Each P xs
     → map g (map t xs) ≡ map f xs
 map-over P f g t same [] e = refl
 map-over P f g t same (x ∷ xs) e = ap₂ _∷_ (same x (e .0)) (map-over P f g t same xs (e .1))
@@ -119,6 +122,11 @@ module _ (b : Input) (leave : Bool) (room : Room) where
   same-unless-one other =
       ⊎-elim (λ (e : b .banks .len ≡ 0). none e) (λ (e : 1 < b .banks .len). same-with-other-banks b leave e room) (none-or-more (b .banks .len) other)
 
+  -- in the profile too, which does not read that choice
+  pub same-in-profile : (page : Opt) → (b .banks .len ≡ 1 → ⊥) → outputIn page (withDefault b leave) room ≡ outputIn page b room
+  same-in-profile None other = same-unless-one other
+  same-in-profile (Some bits) other = ap (afterSaid (saidOf bits b)) (same-unless-one other)
+
 -- ---- to form 2
 
 module _ (c : Contents) (fits : Fits form1 c) where
@@ -129,22 +137,22 @@ module _ (c : Contents) (fits : Fits form1 c) where
       (map-over (BankFits form1) (bankOf form1) (bankOf form2) (λ (b : List ℕ). b ++ zeros 1) bank-lengthened (c .banks) (fits .of-banks))
 
   module _ (short : length (written form1 c) ≤ form1 .longest) (short2 : length (written form2 (lengthened c)) ≤ form2 .longest)
-      (other : length (c .banks) ≡ 1 → ⊥) (fill : ℕ) where
-    pub lengthened-same-answer : (room : Room) → fileOutput (written form2 (lengthened c)) fill None room ≡ fileOutput (written form1 c) fill None room
+      (other : length (c .banks) ≡ 1 → ⊥) (fill : ℕ) (page : Opt) where
+    pub lengthened-same-answer : (room : Room) → fileOutput (written form2 (lengthened c)) fill page room ≡ fileOutput (written form1 c) fill page room
     lengthened-same-answer room =
-        written-output is2 (lengthened c) (lengthened-fits c fits) short2 fill None room
-        ∙ ap (λ (b : Input). buildOf b room) (lengthened-input fill)
-        ∙ same-unless-one (inputFor form1 c fill) false room other
-        ∙ sym (written-output is1 c fits short fill None room)
+        written-output is2 (lengthened c) (lengthened-fits c fits) short2 fill page room
+        ∙ ap (λ (b : Input). outputIn page b room) (lengthened-input fill)
+        ∙ same-in-profile (inputFor form1 c fill) false room page other
+        ∙ sym (written-output is1 c fits short fill page room)
 
-    pub lengthened-same-build : {old new : Lent} {r : Output} → FileBuilt (written form1 c) fill None old r new
-        → FileBuilt (written form2 (lengthened c)) fill None old r new
+    pub lengthened-same-build : {old new : Lent} {r : Output} → FileBuilt (written form1 c) fill page old r new
+        → FileBuilt (written form2 (lengthened c)) fill page old r new
     lengthened-same-build {old} {new} {r} p =
         let q = from-written is1 c fits short p in
-        let mine : BuiltIn None (withDefault (inputFor form1 c fill) false) old r new =
-        record { answer = q .answer ∙ sym (same-unless-one (inputFor form1 c fill) false (roomOf old) other); left = q .left } in
+        let mine : BuiltIn page (withDefault (inputFor form1 c fill) false) old r new =
+        record { answer = q .answer ∙ sym (same-in-profile (inputFor form1 c fill) false (roomOf old) page other); left = q .left } in
         to-written is2 (lengthened c) (lengthened-fits c fits) short2
-        (subst (λ (b : Input). BuiltIn None b old r new) (sym (lengthened-input fill)) mine)
+        (subst (λ (b : Input). BuiltIn page b old r new) (sym (lengthened-input fill)) mine)
 
 -- ---- back to form 1
 
@@ -157,50 +165,50 @@ module _ (c : Contents) (fits : Fits form2 c) (clear : allOf bitClear (c .banks)
       (each-clear (c .banks) (fits .of-banks) clear))
 
   module _ (short : length (written form2 c) ≤ form2 .longest) (short1 : length (written form1 (shortened c)) ≤ form1 .longest)
-      (other : length (c .banks) ≡ 1 → ⊥) (fill : ℕ) where
-    pub shortened-same-answer : (room : Room) → fileOutput (written form1 (shortened c)) fill None room ≡ fileOutput (written form2 c) fill None room
+      (other : length (c .banks) ≡ 1 → ⊥) (fill : ℕ) (page : Opt) where
+    pub shortened-same-answer : (room : Room) → fileOutput (written form1 (shortened c)) fill page room ≡ fileOutput (written form2 c) fill page room
     shortened-same-answer room =
-        written-output is1 (shortened c) (shortened-fits c fits) short1 fill None room
-        ∙ ap (λ (b : Input). buildOf b room) (shortened-input fill)
-        ∙ same-unless-one (inputFor form2 c fill) true room other
-        ∙ sym (written-output is2 c fits short fill None room)
+        written-output is1 (shortened c) (shortened-fits c fits) short1 fill page room
+        ∙ ap (λ (b : Input). outputIn page b room) (shortened-input fill)
+        ∙ same-in-profile (inputFor form2 c fill) true room page other
+        ∙ sym (written-output is2 c fits short fill page room)
 
-    pub shortened-same-build : {old new : Lent} {r : Output} → FileBuilt (written form2 c) fill None old r new
-        → FileBuilt (written form1 (shortened c)) fill None old r new
+    pub shortened-same-build : {old new : Lent} {r : Output} → FileBuilt (written form2 c) fill page old r new
+        → FileBuilt (written form1 (shortened c)) fill page old r new
     shortened-same-build {old} {new} {r} p =
         let q = from-written is2 c fits short p in
-        let mine : BuiltIn None (withDefault (inputFor form2 c fill) true) old r new =
-        record { answer = q .answer ∙ sym (same-unless-one (inputFor form2 c fill) true (roomOf old) other); left = q .left } in
+        let mine : BuiltIn page (withDefault (inputFor form2 c fill) true) old r new =
+        record { answer = q .answer ∙ sym (same-in-profile (inputFor form2 c fill) true (roomOf old) page other); left = q .left } in
         to-written is1 (shortened c) (shortened-fits c fits) short1
-        (subst (λ (b : Input). BuiltIn None b old r new) (sym (shortened-input fill)) mine)
+        (subst (λ (b : Input). BuiltIn page b old r new) (sym (shortened-input fill)) mine)
 
 -- ---- the calls
 
 -- A file that was converted to form 2 and has not exactly one bank is built as before: the same answer, and everything lent the same afterwards.
 pub form2-same-build : (file out : List ℕ) (n : ℕ) (new : List ℕ) → Bytes file → ToForm2 file out (Converted n) new
-    → (length (contentsIn form1 file .banks) ≡ 1 → ⊥) → (fill : ℕ) {old left : Lent} {r : Output}
-    → FileBuilt file fill None old r left → FileBuilt (take n new) fill None old r left
-form2-same-build file out n new bytes call other fill {old} {left} {r} p =
+    → (length (contentsIn form1 file .banks) ≡ 1 → ⊥) → (fill : ℕ) (page : Opt) {old left : Lent} {r : Output}
+    → FileBuilt file fill page old r left → FileBuilt (take n new) fill page old r left
+form2-same-build file out n new bytes call other fill page {old} {left} {r} p =
     let c = contentsIn form1 file in
     let t = turned-file is1 toForm2 dropsNone file out n new bytes call in
     let becomes : toForm2 c ≡ lengthened c = rw (ne-eqb (length (c .banks)) 1 other) refl in
     let made = t .made ∙ ap (written form2) becomes in
     let short2 : length (written form2 (lengthened c)) ≤ form2 .longest = rw becomes at (t .answer .short) in
-    subst (λ (f : List ℕ). FileBuilt f fill None old r left) (sym made)
-    (lengthened-same-build c (t .fits) (t .short) short2 other fill
-    (subst (λ (f : List ℕ). FileBuilt f fill None old r left) (sym (t .is)) p))
+    subst (λ (f : List ℕ). FileBuilt f fill page old r left) (sym made)
+    (lengthened-same-build c (t .fits) (t .short) short2 other fill page
+    (subst (λ (f : List ℕ). FileBuilt f fill page old r left) (sym (t .is)) p))
 
 -- So is one that was converted back and has neither exactly one bank nor the shape of Ticket 13.
 pub form1-same-build : (file out : List ℕ) (n : ℕ) (new : List ℕ) → Bytes file → ToForm1 file out (Converted n) new
-    → (length (contentsIn form2 file .banks) ≡ 1 → ⊥) → shaped (contentsIn form2 file) ≡ false → (fill : ℕ) {old left : Lent} {r : Output}
-    → FileBuilt file fill None old r left → FileBuilt (take n new) fill None old r left
-form1-same-build file out n new bytes call other plain fill {old} {left} {r} p =
+    → (length (contentsIn form2 file .banks) ≡ 1 → ⊥) → shaped (contentsIn form2 file) ≡ false → (fill : ℕ) (page : Opt) {old left : Lent} {r : Output}
+    → FileBuilt file fill page old r left → FileBuilt (take n new) fill page old r left
+form1-same-build file out n new bytes call other plain fill page {old} {left} {r} p =
     let c = contentsIn form2 file in
     let t = turned-file is2 toForm1 dropsBit file out n new bytes call in
     let becomes : toForm1 c ≡ shortened c = rw plain refl in
     let made = t .made ∙ ap (written form1) becomes in
     let short1 : length (written form1 (shortened c)) ≤ form1 .longest = rw becomes at (t .answer .short) in
     let clear : allOf bitClear (c .banks) ≡ true = not-false (allOf bitClear (c .banks)) (t .answer .none-dropped) in
-    subst (λ (f : List ℕ). FileBuilt f fill None old r left) (sym made)
-    (shortened-same-build c (t .fits) clear (t .short) short1 other fill
-    (subst (λ (f : List ℕ). FileBuilt f fill None old r left) (sym (t .is)) p))
+    subst (λ (f : List ℕ). FileBuilt f fill page old r left) (sym made)
+    (shortened-same-build c (t .fits) clear (t .short) short1 other fill page
+    (subst (λ (f : List ℕ). FileBuilt f fill page old r left) (sym (t .is)) p))

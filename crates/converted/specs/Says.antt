@@ -167,13 +167,13 @@ column-front read step at (suc j) zero h = absurd (omega (arith, h))
 column-front read step at (suc j) (suc n) h = ap (λ (l : List _). read at ∷ l) (column-front read step (at + step) j n (omega (arith, h)))
 
 -- What reads w bytes reads the same inside a part.
-abbrev ReadsIn : (List ℕ → ℕ → ℕ) → ℕ → Type 0
+abbrev pub ReadsIn : (List ℕ → ℕ → ℕ) → ℕ → Type 0
 ReadsIn read w = (file part : List ℕ) (p : ℕ) → Has file p part → (i q : ℕ) → q ≡ p + i → i + w ≤ length part → read file q ≡ read part i
 
-byte-reads : ReadsIn (λ (l : List ℕ) (i : ℕ). byte l i) 1
+pub byte-reads : ReadsIn (λ (l : List ℕ) (i : ℕ). byte l i) 1
 byte-reads file part p h i q e less = byte-in file part p h i q e (omega (arith, less))
 
-word32-reads : ReadsIn word32 4
+pub word32-reads : ReadsIn word32 4
 word32-reads file part p h i q e less = word32-in file part p h i q e less
 
 module _ (read : List ℕ → ℕ → ℕ) (w : ℕ) (reads : ReadsIn read w) where
