@@ -4,3 +4,4 @@ pub mod OtherBanks
 pub mod OneBank
 pub mod Shaped
 pub mod Alone
+pub mod ThereAndBack

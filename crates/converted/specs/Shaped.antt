@@ -37,7 +37,7 @@ passes-by : (t : Bool) (a b : ℕ) → t ≡ false → a ≤ b → suc a ≤ pic
 passes-by true a b e h = absurd (clash refl e)
 passes-by false a b e h = omega (arith, h)
 
-none-stray : (nodes : List (List ℕ)) → length (map (turned 0) nodes) ≤ firstWhere (strays 0) (map (turned 0) nodes)
+pub none-stray : (nodes : List (List ℕ)) → length (map (turned 0) nodes) ≤ firstWhere (strays 0) (map (turned 0) nodes)
 unfolding firstWhere
 none-stray [] = omega arith
 none-stray (node ∷ nodes) =

@@ -1,0 +1,202 @@
+-- Two calls of the converter, there and back, by their contracts. Document 02, Ticket 7: "Form 1 to 2 to 1 gives the same bytes; form 2 to 1 to 2 does too,
+-- for every file that can go back", with Ticket 13's exceptions: "a two-bank form 1 file that already has the shape, which comes back as one bank, and a
+-- one-bank form 2 file, which comes back as the shape". The second call is not refused where the file fits what is lent.
+use mathlib.Core.Bool.{Bool, true, false, not, _&&_}
+use mathlib.Core.List.{List, [], _∷_, _++_, map}
+use mathlib.Core.Path.{_≡_, refl, sym, ap, ap₂, subst, _∙_}
+use Prim.Native.Nat.{ℕ, suc, _+_, _≤_, _<_, max}
+use native.Mathlib.Omega.{arith}
+use borrow.Author.Tests.{le-ltb, eqb-true, eq-eqb}
+use lib.Dec.{eqb, ltb}
+use lib.ListN.{length, getD, take, drop, length-map}
+use lib.Seq.{length-take-le, getD-at, getD-append-add}
+use Rattle.refusal.specs.Limits.{maxNodes, maxRows}
+use Rattle.refusal.specs.Pick.{pick}
+use Rattle.bankdef.specs.Search.{firstWhere}
+use Rattle.form.specs.declared.Form.{Form}
+use Rattle.form.specs.declared.Form.the-variants.{Sound}
+use Rattle.form.specs.declared.Kind.{Kind}
+use Rattle.form.specs.Kind.{Known, form1, form2, is1, is2}
+use Rattle.form.specs.Contents.{Contents, written, Each, BankFits, Fits}
+use Rattle.form.specs.Shape.{formIn}
+use Rattle.form.specs.RoundTrip.{written-sound}
+use Rattle.form.specs.Whole.{contentsIn, Bytes, contents-back}
+use Rattle.convert.specs.declared.Conversion.{Conversion}
+use Rattle.convert.specs.declared.Conversion.the-variants.{Converted}
+use Rattle.convert.specs.Convert.{strays, zeros, lengthened, widened, alone, shaped, shortened, narrowed, allOf, bitClear, dropsBit, dropsNone}
+use Rattle.convert.specs.Convert.{toForm2, toForm1, stray, answerOf, answerFor, answerBy, outAfter, Converts, ToForm2, ToForm1}
+use Rattle.convert.specs.Fitting.{form2-fits, form1-fits}
+use Rattle.convert.specs.RoundTrips.{there-and-back, back-and-there}
+use Rattle.converted.specs.Conversions.{turned-file}
+use Rattle.converted.specs.Shaped.{none-stray}
+
+-- ---- when a call is not refused
+
+converts-when : (nodes rows first count size longest : ℕ) (drops : Bool) (room : ℕ) → nodes ≤ maxNodes → rows ≤ maxRows → count ≤ first → size ≤ longest
+    → drops ≡ false → size ≤ room → answerOf nodes rows first count size longest drops room ≡ Converted size
+unfolding answerOf
+converts-when nodes rows first count size longest drops room a b c d e f =
+    rw (le-ltb maxNodes nodes a, le-ltb maxRows rows b, le-ltb first count c, le-ltb longest size d, e, le-ltb room size f) refl
+
+-- What is asked of contents d that become c in the form `to`.
+record Fine (to : Kind) (d c : Contents) (drops : Bool) (room : ℕ) : Type 0 where
+  few : max (length (d .nodes)) (length (c .nodes)) ≤ maxNodes
+  few-rows : length (d .rows) ≤ maxRows
+  none : length (d .nodes) ≤ stray d
+  short : length (written to c) ≤ to .longest
+  kept : drops ≡ false
+  fits : length (written to c) ≤ room
+
+module _ {from to : Kind} (known : Known from) (turn : Contents → Contents) (drops : Contents → Bool) (d c : Contents) (fits : Fits from d)
+    (short : length (written from d) ≤ from .longest) (becomes : turn d ≡ c) where
+  -- a call on the file of contents that fit: they become c, and so it answers c's length and writes c's file
+  second-call : (old new : List ℕ) (answer : Conversion) → Fine to d c (drops d) (length old) → Converts from to turn drops (written from d) old answer new
+      → (answer ≡ Converted (length (written to c))) × (new ≡ written to c ++ drop (length (written to c)) old)
+  second-call old new answer ok p =
+      let file = written from d in
+      let back = contents-back known d fits in
+      let said : answer ≡ answerFor to d c (drops d) (length old) =
+      p .is
+      ∙ ap (λ (f : Form). answerBy to f (contentsIn from file) (turn (contentsIn from file)) (drops (contentsIn from file)) (length old))
+      (written-sound known d fits short)
+      ∙ ap (λ (x : Contents). answerFor to x (turn x) (drops x) (length old)) back
+      ∙ ap (λ (x : Contents). answerFor to d x (drops d) (length old)) becomes in
+      let done = said
+      ∙ converts-when (max (length (d .nodes)) (length (c .nodes))) (length (d .rows)) (stray d) (length (d .nodes)) (length (written to c)) (to .longest)
+      (drops d) (length old) (ok .few) (ok .few-rows) (ok .none) (ok .short) (ok .kept) (ok .fits) in (
+        done,
+        p .out
+            ∙ ap (λ (a : Conversion). outAfter a (written to (turn (contentsIn from file))) old) done
+            ∙ ap (λ (x : Contents). written to x ++ drop (length (written to x)) old) (ap turn back ∙ becomes),
+      )
+
+-- ---- what to_form2 makes has not one bank, and no fill bit of one
+
+first-of : (banks : List (List ℕ)) → length banks ≡ 1 → Each (BankFits form1) banks → length (getD banks 0 []) ≡ 23
+first-of [] e fits = absurd (omega (arith, e))
+first-of (b ∷ banks) e fits = fits .0 .0
+
+longer-clear : (b : List ℕ) → length b ≡ 23 → bitClear (b ++ zeros 1) ≡ true
+longer-clear b e = eq-eqb (getD (b ++ zeros 1) 23 0) 0 (getD-at b 0 [] 0 23 e)
+
+bare-clear : (b : List ℕ) → length b ≡ 23 → bitClear (take 10 b ++ zeros 14) ≡ true
+bare-clear b e =
+    let x = take 10 b ++ zeros 14 in
+    let ten : length (take 10 b) ≡ 10 = length-take-le 10 b (omega (arith, e)) in
+    let last : getD x (10 + 13) 0 ≡ getD (zeros 14) 13 0 =
+    ap (λ (n : ℕ). getD x (n + 13) 0) (sym ten) ∙ getD-append-add (take 10 b) (zeros 14) 13 0 in
+    eq-eqb (getD x 23 0) 0 last
+
+all-clear : (banks : List (List ℕ)) → Each (BankFits form1) banks → allOf bitClear (map (λ (b : List ℕ). b ++ zeros 1) banks) ≡ true
+unfolding allOf
+all-clear [] e = refl
+all-clear (b ∷ banks) e = ap₂ _&&_ (longer-clear b (e .0 .0)) (all-clear banks (e .1))
+
+two-clear : (x y : List ℕ) → bitClear x ≡ true → bitClear y ≡ true → allOf bitClear (x ∷ y ∷ []) ≡ true
+unfolding allOf
+two-clear x y e f = ap₂ _&&_ e (ap₂ _&&_ f refl)
+
+record Made (c d : Contents) : Type 0 where
+  rows : length (d .rows) ≡ length (c .rows)
+  more : alone d ≡ false
+  clear : dropsBit d ≡ false
+
+makes2 : (c : Contents) → Fits form1 c → Made c (toForm2 c)
+makes2 c fits = go (alone c) refl
+  where
+    go : (t : Bool) → alone c ≡ t → Made c (pick t (widened c) (lengthened c))
+    go true e =
+        let b = getD (c .banks) 0 [] in
+        let long = first-of (c .banks) (eqb-true (length (c .banks)) 1 e) (fits .of-banks) in
+        record {
+          rows = length-map (c .rows) (λ (row : List ℕ). zeros 5 ++ row);
+          more = refl;
+          clear = ap not (two-clear (take 10 b ++ zeros 14) (b ++ zeros 1) (bare-clear b long) (longer-clear b long));
+        }
+    go false e =
+        record {
+          rows = refl;
+          more = ap (λ (n : ℕ). eqb n 1) (length-map (c .banks) (λ (b : List ℕ). b ++ zeros 1)) ∙ e;
+          clear = ap not (all-clear (c .banks) (fits .of-banks));
+        }
+
+-- where there is not one bank, no node strays
+stray-none : (d : Contents) → alone d ≡ false → length (d .nodes) ≤ stray d
+stray-none d e = rw e (omega arith)
+
+within-next : (t : Bool) (a b : ℕ) → a ≤ b → pick t 0 (suc a) ≤ suc b
+within-next true a b h = omega arith
+within-next false a b h = omega (arith, h)
+
+first-within : (p : List ℕ → Bool) (l : List (List ℕ)) → firstWhere p l ≤ length l
+unfolding firstWhere
+first-within p [] = omega arith
+first-within p (x ∷ l) = within-next (p x) (firstWhere p l) (length l) (first-within p l)
+
+-- "Form 1 to 2 to 1 gives the same bytes"
+pub to-form2-and-back : (file out mid : List ℕ) (n : ℕ) → Bytes file → ToForm2 file out (Converted n) mid
+    → (alone (contentsIn form1 file) ≡ false → shaped (lengthened (contentsIn form1 file)) ≡ false)
+    → (old new : List ℕ) (answer : Conversion) → length file ≤ length old → ToForm1 (take n mid) old answer new
+    → (answer ≡ Converted (length file)) × (new ≡ file ++ drop (length file) old)
+to-form2-and-back file out mid n bytes call other old new answer room again =
+    let c = contentsIn form1 file in
+    let d = toForm2 c in
+    let t = turned-file is1 toForm2 dropsNone file out n mid bytes call in
+    let m = makes2 c (t .fits) in
+    let stays : alone c ≡ true → firstWhere (strays 0) (c .nodes) ≡ length (c .nodes) =
+    λ e.
+    let low : length (c .nodes) ≤ firstWhere (strays 0) (c .nodes) = rw e at (t .answer .none-strays) in
+    omega (arith, low, first-within (strays 0) (c .nodes)) in
+    let same : length (written form1 c) ≡ length file = ap length (t .is) in
+    let ok : Fine form1 d c (dropsBit d) (length old) =
+    record {
+      few = omega (arith, t .answer .few);
+      few-rows = omega (arith, m .rows, t .answer .few-rows);
+      none = stray-none d (m .more);
+      short = t .short;
+      kept = m .clear;
+      fits = omega (arith, same, room);
+    } in
+    let p = second-call is2 toForm1 dropsBit d c (form2-fits c (t .fits)) (t .answer .short) (there-and-back c (t .fits) stays other) old new answer ok
+    (subst (λ (f : List ℕ). ToForm1 f old answer new) (t .made) again) in (
+      p .0 ∙ ap Converted same,
+      p .1 ∙ ap (λ (f : List ℕ). f ++ drop (length f) old) (t .is),
+    )
+
+-- ---- what to_form1 makes has one bank only of the shape, and then no switch strays
+
+record Went (d c : Contents) : Type 0 where
+  rows : length (c .rows) ≡ length (d .rows)
+  none : length (c .nodes) ≤ stray c
+
+makes1 : (d : Contents) → alone d ≡ false → Went d (toForm1 d)
+makes1 d more = go (shaped d)
+  where
+    go : (t : Bool) → Went d (pick t (narrowed d) (shortened d))
+    go true = record { rows = length-map (d .rows) (drop 5); none = none-stray (drop 1 (d .nodes)) }
+    go false = record { rows = refl; none = stray-none (shortened d) (ap (λ (n : ℕ). eqb n 1) (length-map (d .banks) (take 23)) ∙ more) }
+
+-- "form 2 to 1 to 2 does too, for every file that can go back", but for one with one bank
+pub to-form1-and-again : (file out mid : List ℕ) (n : ℕ) → Bytes file → ToForm1 file out (Converted n) mid → alone (contentsIn form2 file) ≡ false
+    → (old new : List ℕ) (answer : Conversion) → length file ≤ length old → ToForm2 (take n mid) old answer new
+    → (answer ≡ Converted (length file)) × (new ≡ file ++ drop (length file) old)
+to-form1-and-again file out mid n bytes call more old new answer room again =
+    let d = contentsIn form2 file in
+    let c = toForm1 d in
+    let t = turned-file is2 toForm1 dropsBit file out n mid bytes call in
+    let w = makes1 d more in
+    let same : length (written form2 d) ≡ length file = ap length (t .is) in
+    let ok : Fine form2 c d false (length old) =
+    record {
+      few = omega (arith, t .answer .few);
+      few-rows = omega (arith, w .rows, t .answer .few-rows);
+      none = w .none;
+      short = t .short;
+      kept = refl;
+      fits = omega (arith, same, room);
+    } in
+    let p = second-call is1 toForm2 dropsNone c d (form1-fits d (t .fits)) (t .answer .short) (back-and-there d (t .fits) (t .answer .none-dropped) more) old
+    new answer ok (subst (λ (f : List ℕ). ToForm2 f old answer new) (t .made) again) in (
+      p .0 ∙ ap Converted same,
+      p .1 ∙ ap (λ (f : List ℕ). f ++ drop (length f) old) (t .is),
+    )
