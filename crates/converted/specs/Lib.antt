@@ -5,3 +5,4 @@ pub mod OneBank
 pub mod Shaped
 pub mod Alone
 pub mod ThereAndBack
+pub mod Exceptions

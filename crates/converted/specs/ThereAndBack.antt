@@ -49,25 +49,29 @@ record Fine (to : Kind) (d c : Contents) (drops : Bool) (room : ℕ) : Type 0 wh
 
 module _ {from to : Kind} (known : Known from) (turn : Contents → Contents) (drops : Contents → Bool) (d c : Contents) (fits : Fits from d)
     (short : length (written from d) ≤ from .longest) (becomes : turn d ≡ c) where
-  -- a call on the file of contents that fit: they become c, and so it answers c's length and writes c's file
+  -- a call on the file of contents that fit answers of them and of c, which they become
+  pub call-said : (old new : List ℕ) (answer : Conversion) → Converts from to turn drops (written from d) old answer new
+      → answer ≡ answerFor to d c (drops d) (length old)
+  call-said old new answer p =
+      let file = written from d in
+      p .is
+      ∙ ap (λ (f : Form). answerBy to f (contentsIn from file) (turn (contentsIn from file)) (drops (contentsIn from file)) (length old))
+      (written-sound known d fits short)
+      ∙ ap (λ (x : Contents). answerFor to x (turn x) (drops x) (length old)) (contents-back known d fits)
+      ∙ ap (λ (x : Contents). answerFor to d x (drops d) (length old)) becomes
+
+  -- and where nothing is against it, it answers the length of c's file and writes that
   second-call : (old new : List ℕ) (answer : Conversion) → Fine to d c (drops d) (length old) → Converts from to turn drops (written from d) old answer new
       → (answer ≡ Converted (length (written to c))) × (new ≡ written to c ++ drop (length (written to c)) old)
   second-call old new answer ok p =
       let file = written from d in
-      let back = contents-back known d fits in
-      let said : answer ≡ answerFor to d c (drops d) (length old) =
-      p .is
-      ∙ ap (λ (f : Form). answerBy to f (contentsIn from file) (turn (contentsIn from file)) (drops (contentsIn from file)) (length old))
-      (written-sound known d fits short)
-      ∙ ap (λ (x : Contents). answerFor to x (turn x) (drops x) (length old)) back
-      ∙ ap (λ (x : Contents). answerFor to d x (drops d) (length old)) becomes in
-      let done = said
+      let done = call-said old new answer p
       ∙ converts-when (max (length (d .nodes)) (length (c .nodes))) (length (d .rows)) (stray d) (length (d .nodes)) (length (written to c)) (to .longest)
       (drops d) (length old) (ok .few) (ok .few-rows) (ok .none) (ok .short) (ok .kept) (ok .fits) in (
         done,
         p .out
             ∙ ap (λ (a : Conversion). outAfter a (written to (turn (contentsIn from file))) old) done
-            ∙ ap (λ (x : Contents). written to x ++ drop (length (written to x)) old) (ap turn back ∙ becomes),
+            ∙ ap (λ (x : Contents). written to x ++ drop (length (written to x)) old) (ap turn (contents-back known d fits) ∙ becomes),
       )
 
 -- ---- what to_form2 makes has not one bank, and no fill bit of one
@@ -121,7 +125,7 @@ makes2 c fits = go (alone c) refl
         }
 
 -- where there is not one bank, no node strays
-stray-none : (d : Contents) → alone d ≡ false → length (d .nodes) ≤ stray d
+pub stray-none : (d : Contents) → alone d ≡ false → length (d .nodes) ≤ stray d
 stray-none d e = rw e (omega arith)
 
 within-next : (t : Bool) (a b : ℕ) → a ≤ b → pick t 0 (suc a) ≤ suc b
