@@ -1,9 +1,9 @@
 -- A form 2 file with one bank that uses it, worked through. Document 02, Ticket 13: "From form 2 on, labels, written items and reserves in bank 0 are
 -- refused even when it is alone. Form 1 files that use it are still read and compared as before." So the way back lets it in: the same answer is not
 -- promised of a form 2 file with one bank.
-use mathlib.Core.List.{List, [], _∷_, _++_}
+use mathlib.Core.List.{[], _∷_}
 use mathlib.Core.Path.{_≡_, refl, ap, _∙_}
-use Prim.Native.Nat.{ℕ, _*_, _≤_}
+use Prim.Native.Nat.{_*_, _≤_}
 use native.Mathlib.Omega.{arith}
 use borrow.Author.Tests.{le-ltb}
 use lib.ListN.{length}

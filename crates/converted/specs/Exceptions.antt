@@ -2,15 +2,14 @@
 -- back as one bank, and a one-bank form 2 file, which comes back as the shape." Besides, a one-bank form 2 file of 4,096 nodes goes back and does not come
 -- again, and a form 1 file whose banks need more bytes than form 2 may have does not go at all.
 use mathlib.Core.Bool.{Bool, true, false}
-use mathlib.Core.List.{List, _++_, map}
+use mathlib.Core.List.{List, _++_}
 use mathlib.Core.Path.{_≡_, refl, sym, ap, _∙_}
-use Prim.Native.Nat.{ℕ, suc, _+_, _≤_, _<_, max}
+use Prim.Native.Nat.{ℕ, _+_, _≤_, _<_, max}
 use native.Mathlib.Omega.{arith}
 use borrow.Author.Tests.{le-ltb, lt-ltb, eqb-true, ne-eqb}
 use lib.Dec.{eqb}
-use lib.ListN.{length, take, drop, length-map}
+use lib.ListN.{length, take, length-map}
 use Rattle.refusal.specs.Limits.{maxNodes, maxRows}
-use Rattle.refusal.specs.Pick.{pick}
 use Rattle.refusal.specs.declared.Refusal.the-variants.{Malformed}
 use Rattle.form.specs.declared.Form.{Form}
 use Rattle.form.specs.declared.Form.the-variants.{Sound}

@@ -3,7 +3,7 @@
 use mathlib.Core.Bool.{Bool, true, false, not, _&&_}
 use mathlib.Core.List.{List, [], _∷_, _++_, map, append-nil}
 use mathlib.Core.Path.{_≡_, refl, sym, ap, ap₂, subst, _∙_}
-use Prim.Native.Nat.{ℕ, zero, suc, _+_, _*_, _≤_, _<_}
+use Prim.Native.Nat.{ℕ, zero, suc, _+_, _*_, _≤_}
 use native.Mathlib.Omega.{arith}
 use borrow.Author.Tests.{eqb-true, eq-eqb}
 use lib.Dec.{eqb, ltb}
@@ -27,7 +27,6 @@ use Rattle.output.specs.Output.{closedOf, fillOf, toldBuild, roomTold, placedTo
 use Rattle.output.specs.Items.{lengthOf, itemsOf}
 use Rattle.output.specs.Placing.{Placed, holds, stops, placedAll}
 use Rattle.output.specs.Spans.{spansOf}
-use Rattle.output.specs.declared.Build.{Build}
 use Rattle.output.specs.declared.Build.the-variants.{Done, Refused}
 use Rattle.output.specs.declared.Output.{Output}
 use Rattle.form.specs.Words.{byte, word16, word32, word64}
@@ -46,7 +45,7 @@ use Rattle.convert.specs.Convert.{switchTo, isSwitch, namesBank, strays, turned
 use Rattle.convert.specs.Fitting.{widened-fits}
 use Rattle.default_bank.specs.Widened.{bare, turned as turnedIn, zerosAhead, withSwitch, widened as widenedIn, OneBank, raisedOutput}
 use Rattle.default_bank.specs.Same.{TwoBanks, same-answer, same-build}
-use Rattle.converted.specs.Says.{bankOf, kindOn, operandOn, numbersOn, statesOn, tableFor, listsFor, inputFor, byte-in, word16-in, word64-in}
+use Rattle.converted.specs.Says.{bankOf, kindOn, operandOn, numbersOn, statesOn, tableFor, listsFor, inputFor, word16-in, word64-in}
 use Rattle.converted.specs.Says.{ReadsIn, byte-reads, word32-reads, column-in, written-output, from-written, to-written}
 use Rattle.converted.specs.Conversions.{turned-file}
 use Rattle.converted.specs.OtherBanks.{map-over, bank-lengthened}

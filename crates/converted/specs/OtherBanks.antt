@@ -5,24 +5,21 @@ use mathlib.Core.Bool.{Bool, true, false}
 use mathlib.Core.List.{List, [], _∷_, _++_, map}
 use mathlib.Core.Logic.{_⊎_, inl, inr, ⊎-elim}
 use mathlib.Core.Path.{_≡_, refl, sym, ap, ap₂, subst, _∙_}
-use Prim.Native.Nat.{ℕ, zero, suc, _+_, _≤_, _<_}
+use Prim.Native.Nat.{ℕ, zero, suc, _≤_, _<_}
 use native.Mathlib.Omega.{arith}
 use borrow.Author.Tests.{eqb-true, ne-eqb, not-false}
-use lib.Dec.{eqb}
 use lib.ListN.{length, getD, take, drop, length-map, take-append-drop}
 use lib.Seq.{length-take-le, getD-at}
 use Rattle.refusal.specs.Bools.{both}
 use Rattle.refusal.specs.Pick.{pick}
 use Rattle.refusal.specs.declared.Opt.{Opt}
 use Rattle.refusal.specs.declared.Opt.the-variants.{None, Some}
-use Rattle.refusal.specs.declared.Refusal.{Refusal}
 use Rattle.refusal.specs.declared.Refusal.the-variants.{BankCount}
 use Rattle.refusal.specs.declared.Verdict.{Verdict}
 use Rattle.refusal.specs.declared.Verdict.the-variants.{Refused as Turned}
-use Rattle.bankdef.specs.Check.{countSound, checkBanks, checkOf, banksOf}
+use Rattle.bankdef.specs.Check.{countSound, checkBanks, banksOf}
 use Rattle.bankdef.specs.declared.Bankdef.{Bankdef}
-use Rattle.bankdef.specs.declared.Bankdefs.{Bankdefs}
-use Rattle.resolver.specs.Lists.{Lists, listsOf}
+use Rattle.resolver.specs.Lists.{listsOf}
 use Rattle.resolver.specs.Passes.{program, rowOfPass, resolutionOf}
 use Rattle.resolver.specs.Layout.{layoutOf, unless}
 use Rattle.resolver.specs.declared.Choices.{Choices}
@@ -40,9 +37,9 @@ use Rattle.form.specs.Whole.{contentsIn, Bytes}
 use Rattle.filed.specs.Filed.{fileOutput, FileBuilt}
 use Rattle.filed.specs.Paged.{afterSaid, outputIn, BuiltIn}
 use Rattle.convert.specs.declared.Conversion.the-variants.{Converted}
-use Rattle.convert.specs.Convert.{zeros, lengthened, shortened, alone, shaped, allOf, bitClear, dropsBit, dropsNone, toForm2, toForm1, ToForm2, ToForm1}
+use Rattle.convert.specs.Convert.{zeros, lengthened, shortened, shaped, allOf, bitClear, dropsBit, dropsNone, toForm2, toForm1, ToForm2, ToForm1}
 use Rattle.convert.specs.Fitting.{lengthened-fits, shortened-fits}
-use Rattle.converted.specs.Says.{bankOf, tableFor, listsFor, inputFor, byte-in, word16-in, word32-in, word64-in, Alike, alike-banks}
+use Rattle.converted.specs.Says.{bankOf, tableFor, listsFor, inputFor, byte-in, word16-in, word32-in, word64-in, alike-banks}
 use Rattle.converted.specs.Says.{written-output, from-written, to-written}
 use Rattle.converted.specs.Conversions.{turned-file}
 

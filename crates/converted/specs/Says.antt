@@ -1,14 +1,13 @@
 -- What the file of some contents says, field by field, and so what goes to the build: the bank of a payload, a node's kind and operand, a row's numbers
 -- and states. Document 01: "1 bank (unit 2 bytes, signed start 8, size 4, offset 4, label alignment 4, flags 1 ..); 2 node (kind 1, operand 4); 3 row
 -- (number 4 and state 1 for each node)"; document 02: "a payload one byte longer (fill bit, 0 or 1)".
-use mathlib.Core.Bool.{Bool}
 use mathlib.Core.List.{List, [], _∷_, _++_, map}
 use mathlib.Core.Path.{_≡_, refl, sym, ap, ap₂, _∙_}
 use Prim.Native.Nat.{ℕ, zero, suc, _+_, _*_, _-_, _≤_, _<_, min}
 use native.Mathlib.Nat.{add-zero}
 use native.Mathlib.Omega.{arith}
 use lib.Dec.{eqb, ltb}
-use lib.ListN.{length, take, drop, replicate, length-map}
+use lib.ListN.{length, take, drop, replicate}
 use lib.Seq.{take-append-seam}
 use mir.Syntax.{w64}
 use mir.Val.{toZ}
@@ -21,7 +20,6 @@ use Rattle.bankdef.specs.declared.Bankdefs.{Bankdefs}
 use Rattle.resolver.specs.Lists.{Lists, lists}
 use Rattle.output.specs.Output.{Input, input, Lent, Room, leftBy, visitsOf}
 use Rattle.output.specs.declared.Output.{Output}
-use Rattle.form.specs.declared.Form.{Form}
 use Rattle.form.specs.declared.Form.the-variants.{Sound}
 use Rattle.form.specs.declared.Kind.{Kind}
 use Rattle.form.specs.Words.{byte, word16, word32, word64}

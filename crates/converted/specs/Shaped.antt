@@ -3,7 +3,7 @@
 use mathlib.Core.Bool.{Bool, true, false}
 use mathlib.Core.List.{List, [], _∷_, map}
 use mathlib.Core.Path.{_≡_, refl, sym, ap, subst, _∙_}
-use Prim.Native.Nat.{ℕ, suc, _+_, _≤_, _<_}
+use Prim.Native.Nat.{ℕ, suc, _≤_}
 use native.Mathlib.Omega.{arith}
 use lib.ListN.{length, take, drop}
 use Rattle.refusal.specs.Bools.{clash}
@@ -18,7 +18,7 @@ use Rattle.form.specs.Contents.{Contents, written, Fits}
 use Rattle.form.specs.Whole.{contentsIn, Bytes}
 use Rattle.filed.specs.Filed.{FileBuilt}
 use Rattle.convert.specs.declared.Conversion.the-variants.{Converted}
-use Rattle.convert.specs.Convert.{switchTo, isSwitch, strays, turned, widened, shaped, narrowed, dropsBit, toForm1, ToForm1}
+use Rattle.convert.specs.Convert.{switchTo, isSwitch, strays, turned, shaped, narrowed, dropsBit, toForm1, ToForm1}
 use Rattle.convert.specs.Fitting.{narrowed-fits, rest-long, shape-two, shape-some}
 use Rattle.convert.specs.RoundTrips.{widened-again}
 use Rattle.default_bank.specs.Widened.{raisedOutput}

@@ -4,21 +4,19 @@
 use mathlib.Core.Bool.{Bool, true, false, not, _&&_}
 use mathlib.Core.List.{List, [], _∷_, _++_, map}
 use mathlib.Core.Path.{_≡_, refl, sym, ap, ap₂, subst, _∙_}
-use Prim.Native.Nat.{ℕ, suc, _+_, _≤_, _<_, max}
+use Prim.Native.Nat.{ℕ, suc, _+_, _≤_, max}
 use native.Mathlib.Omega.{arith}
 use borrow.Author.Tests.{le-ltb, eqb-true, eq-eqb}
-use lib.Dec.{eqb, ltb}
+use lib.Dec.{eqb}
 use lib.ListN.{length, getD, take, drop, length-map}
 use lib.Seq.{length-take-le, getD-at, getD-append-add}
 use Rattle.refusal.specs.Limits.{maxNodes, maxRows}
 use Rattle.refusal.specs.Pick.{pick}
 use Rattle.bankdef.specs.Search.{firstWhere}
 use Rattle.form.specs.declared.Form.{Form}
-use Rattle.form.specs.declared.Form.the-variants.{Sound}
 use Rattle.form.specs.declared.Kind.{Kind}
 use Rattle.form.specs.Kind.{Known, form1, form2, is1, is2}
 use Rattle.form.specs.Contents.{Contents, written, Each, BankFits, Fits}
-use Rattle.form.specs.Shape.{formIn}
 use Rattle.form.specs.RoundTrip.{written-sound}
 use Rattle.form.specs.Whole.{contentsIn, Bytes, contents-back}
 use Rattle.convert.specs.declared.Conversion.{Conversion}
