@@ -1,0 +1,5 @@
+pub mod Raised
+pub mod Firsts
+pub mod Rules
+pub mod Same
+pub mod Cases

@@ -1,0 +1,181 @@
+-- Ticket 13 with Ticket 9: the profile's answer for a layout with one bank, and for the same layout with a bank 1: the same but for places, and bank 1 has
+-- bank 0's pages.
+use Prim.Native.Nat.{ℕ, zero, suc, _-_}
+use mathlib.Core.Path.{_≡_, refl, sym, ap, _∙_}
+use mathlib.Core.Bool.{Bool, true, false}
+use mathlib.Core.List.{List, [], _∷_, _++_, map}
+use lib.ListN.{getD, length, replicate}
+use Rattle.refusal.specs.Bools.{either, both}
+use Rattle.refusal.specs.Limits.{maxBanks}
+use Rattle.refusal.specs.Pick.{pick, pick-true, pick-false}
+use Rattle.refusal.specs.declared.Refusal.{Refusal}
+use Rattle.refusal.specs.declared.Refusal.the-variants.{BankCount, BankNumber, Malformed, OffProfile}
+use Rattle.refusal.specs.declared.Verdict.{Verdict}
+use Rattle.refusal.specs.declared.Verdict.the-variants.{Accepted, Refused}
+use Rattle.bankdef.specs.Check.{banksOf, countSound, checkBanks, checkOf}
+use Rattle.bankdef.specs.Numbers.{bankFault}
+use Rattle.bankdef.specs.declared.Bankdef.{Bankdef}
+use Rattle.bankdef.specs.declared.Bankdefs.{Bankdefs}
+use Rattle.resolver.specs.Lists.{Lists, firstOf, nodeCountSound, rowCountSound, knownFill, nodeFault, nodesTo, listsOf}
+use Rattle.output.specs.Output.{Input}
+use Rattle.profile.specs.Kept.{Judged, keeps, breaks, judged}
+use Rattle.profile.specs.Pages.{noPages, pagesIn, pagesOf}
+use Rattle.profile.specs.Profile.{verdictOf, pagedBy, profileOf}
+use Rattle.profile.specs.Rules.{rulesOf}
+use Rattle.profile.specs.declared.Paged.{Paged}
+use Rattle.default_bank.specs.Widened.{onlyBank, twoBanks, withSwitch, withBank1, OneBank, shifted, misplaced, countsSound, raised}
+use Rattle.default_bank.specs.Cells.{Counted}
+use Rattle.default_bank.specs.Checks.{two-bank-check, shiftedVerdict, field-here, field-there, lists-shift}
+use Rattle.default_bank.specs.Same.{TwoBanks, two-banks, check-here}
+use Rattle.default_profile.specs.Raised.{placeRaised, ruleVerdict, raisedVerdict, raisedPaged}
+use Rattle.default_profile.specs.Rules.{single, rules-raised}
+
+-- The list check names 4 alone.
+data Four : Verdict → Type 0 where
+  none : Four Accepted
+  at : (place : ℕ) → Four (Refused (Malformed place))
+
+picked : (t : Bool) {v w : Verdict} → Four v → Four w → Four (pick t v w)
+picked true p q = p
+picked false p q = q
+
+next : {v w : Verdict} → Four v → Four w → Four (firstOf v w)
+next none q = q
+next (at place) q = at place
+
+nodes-four : (n : ℕ) (l : Lists) (i : ℕ) → Four (nodesTo n l i)
+unfolding nodesTo
+nodes-four n l zero = none
+nodes-four n l (suc i) = next (nodes-four n l i) (picked (nodeFault n l i) (at i) none)
+
+lists-four : (n : ℕ) (l : Lists) (fill : ℕ) → Four (listsOf n l fill)
+unfolding listsOf
+lists-four n l fill =
+    picked (nodeCountSound l) (picked (rowCountSound l) (picked (knownFill fill) (nodes-four n l (length (l .kinds))) (at 3)) (at 1)) (at 0)
+
+module _ (b : Input) (table : Bankdefs) (one : OneBank b) (two : TwoBanks (onlyBank b) table) (page : ℕ) where
+  abbrev l : Lists
+  l = b .lists
+
+  abbrev m : Lists
+  m = withSwitch (b .lists)
+
+  abbrev fill : ℕ
+  fill = b .choices .fill
+
+  counted : Counted l
+  counted = record { operands = one .operands; numbers = one .numbers; states = one .states }
+
+  check-there : checkOf table ≡ pick (bankFault (onlyBank b)) (Refused (BankNumber (pick (misplaced (onlyBank b)) 0 1))) Accepted
+  check-there = law (two .count) (two .banks) ∙ two-bank-check (onlyBank b)
+    where
+      law : {n : ℕ} {k x : List Bankdef} → n ≡ 2 → k ≡ x → pick (countSound n) (checkBanks k) (Refused BankCount) ≡ checkBanks x
+      law e f = rw (e, f)
+
+  abbrev Goal : Type 0
+  Goal = verdictOf table m fill page ≡ raisedVerdict b (verdictOf (b .banks) l fill page)
+
+  -- by what the checks and the rules say of each
+  from-parts : {c d x y r s : Verdict} → checkOf (b .banks) ≡ c → checkOf table ≡ d → listsOf 1 l fill ≡ x → listsOf 2 m fill ≡ y
+      → rulesOf (b .banks) l page ≡ r → rulesOf table m page ≡ s → firstOf d (firstOf y s) ≡ raisedVerdict b (firstOf c (firstOf x r)) → Goal
+  unfolding verdictOf
+  from-parts {c} {d} {x} {y} {r} {s} e f g h i j k =
+      law f (ap (λ (n : ℕ). listsOf n m fill) (two .count) ∙ h) j ∙ k
+      ∙ ap (raisedVerdict b) (sym (law e (ap (λ (n : ℕ). listsOf n l fill) (one .count) ∙ g) i))
+    where
+      law : {a b c x y z : Verdict} → a ≡ x → b ≡ y → c ≡ z → firstOf a (firstOf b c) ≡ firstOf x (firstOf y z)
+      law e f g = rw (e, f, g)
+
+  refusing : {why other : Refusal} → why ≡ other → _≡_ {A = Verdict} (Refused why) (Refused other)
+  refusing e = rw e
+
+  -- 2
+  faulty : bankFault (onlyBank b) ≡ true → Goal
+  faulty e =
+      from-parts (check-here b table one two ∙ pick-true _ _ e) (check-there ∙ pick-true _ _ e) refl refl refl refl
+      (refusing (sym (pick-true _ _ e)))
+
+  module _ (sound : bankFault (onlyBank b) ≡ false) where
+    table-here : checkOf (b .banks) ≡ Accepted
+    table-here = check-here b table one two ∙ pick-false _ _ sound
+
+    table-there : checkOf table ≡ Accepted
+    table-there = check-there ∙ pick-false _ _ sound
+
+    -- 4 with a field
+    miscounted : countsSound b ≡ false → Goal
+    miscounted e =
+        let why = Malformed (pick (rowCountSound l) 3 1) in
+        from-parts table-here table-there (field-here l counted (one .switches) (one .room) fill e)
+        (field-there l counted (one .switches) (one .room) fill e) refl refl
+        (refusing (law (BankNumber (pick (misplaced (onlyBank b)) 0 1)) (shifted why) why sound e))
+      where
+        law : {s t : Bool} (x y z : Refusal) → s ≡ false → t ≡ false → z ≡ pick s x (pick t y z)
+        law x y z f g = rw (f, g)
+
+    module _ (counts : countsSound b ≡ true) where
+      shifts : (why : Refusal) → shifted why ≡ raised b why
+      shifts why = law (BankNumber (pick (misplaced (onlyBank b)) 0 1)) (shifted why) why sound counts
+        where
+          law : {s t : Bool} (x y z : Refusal) → s ≡ false → t ≡ true → y ≡ pick s x (pick t y z)
+          law x y z e f = rw (e, f)
+
+      -- 19
+      in-rules : {v : Verdict} → Judged (b .banks) l page v → ruleVerdict v ≡ raisedVerdict b v
+      in-rules (keeps h) = refl
+      in-rules (breaks {rule} {at} h) = refusing (shifts (OffProfile rule (placeRaised rule at)))
+
+      -- 4 at a node
+      in-lists : {v : Verdict} → Four v
+          → firstOf (shiftedVerdict v) (ruleVerdict (rulesOf (b .banks) l page)) ≡ raisedVerdict b (firstOf v (rulesOf (b .banks) l page))
+      in-lists none = in-rules (judged (b .banks) l page)
+      in-lists (at place) = refusing (shifts (Malformed place))
+
+      judged-alike : Goal
+      judged-alike =
+          let both-sound = both (rowCountSound l) (knownFill fill) counts in
+          from-parts table-here table-there refl (lists-shift l counted (one .switches) (one .room) fill (both-sound .0) (both-sound .1))
+          refl (rules-raised b table one two page) (in-lists (lists-four 1 l fill))
+
+  -- The profile says yes to both or refuses both, for the same reason, its place raised.
+  pub same-verdict : verdictOf table m fill page ≡ raisedVerdict b (verdictOf (b .banks) l fill page)
+  same-verdict =
+      either (bankFault (onlyBank b)) faulty (λ sound. either (countsSound b) (judged-alike sound) (miscounted sound))
+
+  -- ---- the pages
+
+  pages-here : pagesOf page (b .banks) ≡ pagesIn page (onlyBank b) ∷ replicate 15 noPages
+  unfolding pagesOf
+  pages-here = law (single b table one two) (one .count)
+    where
+      law : {k : List Bankdef} {n : ℕ} → k ≡ onlyBank b ∷ [] → n ≡ 1
+          → map (pagesIn page) k ++ replicate (maxBanks - n) noPages ≡ pagesIn page (onlyBank b) ∷ replicate 15 noPages
+      law e f = rw (e, f)
+
+  pages-there : pagesOf page table ≡ noPages ∷ pagesIn page (onlyBank b) ∷ replicate 14 noPages
+  unfolding pagesOf
+  pages-there = law (two .banks) (two .count)
+    where
+      law : {k x : List Bankdef} {n : ℕ} → k ≡ x → n ≡ 2
+          → map (pagesIn page) k ++ replicate (maxBanks - n) noPages ≡ map (pagesIn page) x ++ replicate 14 noPages
+      law e f = rw (e, f)
+
+  -- Bank 1 has bank 0's pages, bank 0 none.
+  pub same-pages : pagesOf page table ≡ noPages ∷ getD (pagesOf page (b .banks)) 0 0 ∷ replicate 14 noPages
+  same-pages = pages-there ∙ ap (λ (p : List ℕ). noPages ∷ getD p 0 0 ∷ replicate 14 noPages) (sym pages-here)
+
+  -- The whole answer of the profile call.
+  pub same-profile : profileOf table m fill page ≡ raisedPaged b (profileOf (b .banks) l fill page)
+  same-profile = ap (λ (v : Verdict). pagedBy v page table) same-verdict ∙ go (verdictOf (b .banks) l fill page)
+    where
+      go : (v : Verdict) → pagedBy (raisedVerdict b v) page table ≡ raisedPaged b (pagedBy v page (b .banks))
+      go Accepted = ap (λ (p : List ℕ). record { verdict = Accepted; pages = p }) same-pages
+      go (Refused why) = refl
+
+-- what the profile call answers of a layout
+abbrev pub profiled : Input → ℕ → Paged
+profiled b page = profileOf (b .banks) (b .lists) (b .choices .fill) page
+
+-- Of the layout with the table that the converter makes.
+pub converted-same-profile : (b : Input) → OneBank b → (page : ℕ) → profiled (withBank1 b) page ≡ raisedPaged b (profiled b page)
+converted-same-profile b one page = same-profile b (twoBanks (onlyBank b)) one (two-banks (onlyBank b)) page
