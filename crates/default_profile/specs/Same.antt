@@ -12,7 +12,7 @@ use Rattle.refusal.specs.declared.Refusal.{Refusal}
 use Rattle.refusal.specs.declared.Refusal.the-variants.{BankCount, BankNumber, Malformed, OffProfile}
 use Rattle.refusal.specs.declared.Verdict.{Verdict}
 use Rattle.refusal.specs.declared.Verdict.the-variants.{Accepted, Refused}
-use Rattle.bankdef.specs.Check.{banksOf, countSound, checkBanks, checkOf}
+use Rattle.bankdef.specs.Check.{countSound, checkBanks, checkOf}
 use Rattle.bankdef.specs.Numbers.{bankFault}
 use Rattle.bankdef.specs.declared.Bankdef.{Bankdef}
 use Rattle.bankdef.specs.declared.Bankdefs.{Bankdefs}
