@@ -33,8 +33,6 @@ if ! command -v python3 >/dev/null; then
     echo "skipped: random layouts held against oracle/model.py, for want of python3"
     exit 0
 fi
-python3 oracle/generate.py "$seed" "$layouts" --batch >"$out/layouts"
-python3 oracle/model.py --batch <"$out/layouts" >"$out/expected"
 compare() {
     name=$1
     shift
@@ -46,8 +44,28 @@ compare() {
     fi
     echo "$name: $(wc -l <"$out/answers") layouts, each answer the model's"
 }
-compare "C, from files" "$out/batch"
-compare "C, from tables" "$out/batch" --tables
+# draw KIND: layouts of a kind (oracle/generate.py), for what follows
+draw() {
+    python3 oracle/generate.py "$seed" "$layouts" "$1" >"$out/layouts"
+}
+# held NAME [CHOICE ..]: the answers of C, from files and from tables, against the model's, under these choices
+held() {
+    under=$1
+    shift
+    python3 oracle/model.py --batch --padding "$@" <"$out/layouts" >"$out/expected"
+    compare "C, from files$under" "$out/batch" --padding "$@"
+    compare "C, from tables$under" "$out/batch" --tables --padding "$@"
+}
+draw --form-2
+held ", form 2"
+held ", form 2, full fill" --fill 1
+draw --paged
+held ", in the profile" --page 16
+held ", in the profile, full fill" --page 16 --fill 1
+draw --batch
+held ", full fill" --fill 1
+held ""
+python3 oracle/model.py --batch <"$out/layouts" >"$out/expected"
 
 # the bench, on cases of its own
 python3 oracle/bench.py --generate "$seed" "$layouts" >"$out/cases"
@@ -59,6 +77,13 @@ if ! cmp -s "$out/expected_cases" "$out/answers_cases"; then
     exit 1
 fi
 echo "C, the bench: $(wc -l <"$out/answers_cases") cases, each answer the model's"
+
+# files of records, whole and damaged, and calls that write them
+python3 oracle/damage.py "$emulator $out/records" --every 0 --random "$layouts" --writes "$layouts" --seed "$seed" >"$out/said" || {
+    cat "$out/said"
+    exit 1
+}
+echo "C, records: $(cut -d: -f2 <"$out/said" | cut -c2-)"
 
 [ -x "$out/batch_rust" ] || exit 0
 # The kit's emulator is made for the kit's own programs and does not run these.

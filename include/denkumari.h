@@ -9,7 +9,7 @@
  *
  * Refusals. `refusal` is 0 where the call was accepted, else one of the numbers below, and `place` (and `second`) says where. A refused
  * call leaves every buffer as it was, and every other field of its answer is 0, except `passes`. An accepted call leaves the lists that
- * it wrote as they were past what it wrote; the rest of the image is made zero.
+ * it wrote as they were past what it wrote; the rest of the image is made zero, or takes the fill bits of filled banks.
  *
  * Stack. What a call needs, all its frames included, is said of each, with what was measured on the longest lists. bindings/c/stack.c measures it by
  * painting a thread's stack, and the tests fail where a call needs more. */
@@ -24,7 +24,7 @@ extern "C" {
 #endif
 
 /* The version of this interface. */
-#define DENKUMARI_VERSION "0.1.0"
+#define DENKUMARI_VERSION "0.2.0"
 
 /* Limits: what is beyond one of them is refused. */
 #define DK_MAX_BANKS 16
@@ -32,37 +32,57 @@ extern "C" {
 #define DK_MAX_ROWS 16
 #define DK_MAX_SPANS 4096
 #define DK_MAX_STORED 512
-#define DK_MAX_FILE 65000
+#define DK_MAX_FILE 65536 /* of form 2; form 1 has at most 65,000 bytes */
 #define DK_MAX_POSITION UINT32_MAX
 
 /* What `refusal` says, and what stands in `place` with it. */
 enum dk_refusal {
     DK_ACCEPTED = 0,           /* nothing is refused */
     DK_BANK_COUNT = 1,         /* not 1 to 16 banks; place 0 */
-    DK_BANK_NUMBER = 2,        /* a bank's number is beyond its limit, or a filled bank has size 0; place: the bank */
+    DK_BANK_NUMBER = 2,        /* a bank's number is beyond its limit, a filled bank has size 0, a fill bit is above 1, or bank 0's is not 0;
+                                  place: the bank */
     DK_BANKS_OVERLAP = 3,      /* two banks overlap; place and second: the first such pair */
     DK_MALFORMED = 4,          /* a count, kind, bank number, state or value range is bad; place: the node, or 0, 1 for the count of nodes,
-                                  of rows. Of a file of form 1 that is broken: the first field that is, from 0. In dk_blocks, dk_hex: 0 */
+                                  of rows, 3 for a fill that is neither 0 nor 1. Of a file that is broken: the first field that is, from 0. In
+                                  dk_blocks, dk_hex and the calls about records: 0 */
     DK_POSITION_PAST = 5,      /* a position would pass 4,294,967,295; place: the node */
     DK_NEGATIVE_ALIGNMENT = 6, /* no longer given: alignments are met below address 0 too */
     DK_LABEL_OFF_BOUNDARY = 7, /* a label in the last pass is between two addresses; place: the node */
     DK_UNRESOLVED = 8,         /* the last pass ended unresolved; place 0 */
-    DK_DEFAULT_BANK = 9,       /* bank 0 is used though there are others; place: the node */
+    DK_DEFAULT_BANK = 9,       /* bank 0 is used though there are others or it is closed; place: the node */
     DK_PAST_BANK = 10,         /* an item ends past its bank's size; place: the node */
     DK_NO_OUTPUT = 11,         /* an item is written in a bank without output offset; place: the node */
     DK_OVERLAP = 12,           /* an item would share a bit with another, or have a mark (an item of size 0) strictly inside it, or is a mark
                                   strictly inside another; place and second: start and size of that other, in bits, of a mark its place and 0 */
     DK_STORE_FULL = 13,        /* over 512 items, or over 512 marks; place: the node */
-    DK_TOO_SHORT = 14,         /* a buffer is too short; place: image 0, spans 1, blocks 2, hex 3 */
+    DK_TOO_SHORT = 14,         /* a buffer is too short; place: image or bytes 0, spans 1, blocks 2, hex or text 3 */
     DK_BAD_STORE = 15,         /* a store that was given is not one: over 512 intervals or marks, or intervals past an offer's limits, empty, not
                                   ascending or sharing a bit, or marks past an offer's limit, out of order or strictly inside an interval;
                                   place: 512 for either count, else the first interval at fault, else the first mark at fault */
     DK_BAD_PART = 16,          /* a part of an image is empty, outside it, or not on byte edges; place 0 */
-    DK_PARTLY_COVERED = 17     /* an overlay covers a range only in part; place 0 */
+    DK_PARTLY_COVERED = 17,    /* an overlay covers a range only in part; place 0 */
+    DK_FILL_BIT_LOST = 18,     /* a way back to form 1 would drop a fill bit of one; place 0. No call of this header gives it */
+    DK_OFF_PROFILE = 19        /* a layout breaks the profile; place: the rule, enum dk_rule; second: its bank or node, 0 for the page size */
 };
 
 /* The offset of a span that has none. */
 #define DK_NO_OFFSET UINT64_MAX
+
+/* The pages of a bank that has no offset, or that is not in the table. */
+#define DK_NO_PAGES UINT64_MAX
+
+/* The rules of the profile, in the order in which they are tried. */
+enum dk_rule {
+    DK_RULE_PAGE = 1,   /* the page size has exactly one bit set */
+    DK_RULE_ALIGN = 2,  /* every alignment is 0 or has exactly one bit set: label alignments, then those of nodes, in every row */
+    DK_RULE_OFFSET = 3, /* a bank's offset is on a page */
+    DK_RULE_SIZE = 4,   /* a bank with an offset has a size of whole pages */
+    DK_RULE_UNIT = 5,   /* address units are 8 or 16 bits */
+    DK_RULE_ADDR = 6    /* addr goes to a multiple of its bank's unit, in every row */
+};
+
+/* The fill's choice. */
+enum dk_fill { DK_FILL_INHERITED = 0, DK_FILL_FULL = 1 };
 
 /* What a bank has. */
 enum dk_flags { DK_HAS_SIZE = 1, DK_HAS_OFFSET = 2, DK_HAS_ALIGN = 4, DK_FILL = 8 };
@@ -86,16 +106,17 @@ enum dk_kind {
 struct dk_layout {
     uint64_t refusal; /* enum dk_refusal */
     uint64_t place;
-    uint64_t second;  /* of refusals 3 and 12, else 0 */
+    uint64_t second;  /* of refusals 3, 12 and 19, else 0 */
     uint64_t passes;  /* passes run, in a refusal from 5 on too */
     uint64_t k;       /* the first pass that was not unresolved; 0 for pass limit 0 */
     uint64_t length;  /* of the image, in bits */
     uint64_t spans;   /* how many were written */
+    uint64_t padding[DK_MAX_BANKS]; /* of each bank: the bits lost to DK_ALIGN and to label alignment in the last pass; refused, zeros */
 };
 
 /* The answer of a call that writes a list. */
 struct dk_count {
-    uint64_t refusal; /* DK_ACCEPTED, DK_MALFORMED or DK_TOO_SHORT */
+    uint64_t refusal; /* DK_ACCEPTED, DK_MALFORMED, DK_TOO_SHORT or, of the calls that write records, DK_BAD_PART */
     uint64_t place;
     uint64_t count;   /* how many elements were written */
 };
@@ -118,41 +139,99 @@ struct dk_offer {
 
 /* Lays tables out. Bank i, from 0, has units[i] bits to an address, starts[i], and, where its flag is set, bank_sizes[i] (in bits),
  * bank_offsets[i] (the place of its first bit in the image, in bits) and aligns[i] (label alignment); flags[i] is a sum of
- * DK_HAS_SIZE, DK_HAS_OFFSET, DK_HAS_ALIGN and DK_FILL. The six lists are equally long, else 1; other flags are 2.
+ * DK_HAS_SIZE, DK_HAS_OFFSET, DK_HAS_ALIGN and DK_FILL; fill_bits[i], 0 or 1, is what a filled bank with size and offset has where no item is
+ * written, up to the image's length. The seven lists are equally long, else 1; other flags and fill bits are 2, and so is 1 for bank 0.
  *
  * Node j has kinds[j], and operands[j], a bank for DK_SWITCH, a depth for DK_LABEL and DK_CONSTANT, the first bit in `values` for items. There are
  * `rows` rows, 1 to 16; row r gives node j numbers[r * nodes + j] and states[r * nodes + j] (0 resolved, 1 stable, 2 unresolved). `limit` is
- * the pass limit.
+ * the pass limit. `fill` is DK_FILL_INHERITED, by which a filled bank whose last bit is the image's length is left out, or DK_FILL_FULL, by which the image
+ * reaches the end of every filled bank. `closed` says whether bank 0 may hold labels, written items and reserves where it is the only bank: 0, as in form 1,
+ * that it may; any other number, as in form 2, that it may not.
  *
  * Writes the image, bits from the top of each byte, and the spans, labels and written items in the order of the nodes: span i has addresses[i],
  * offsets[i] (in bits, or DK_NO_OFFSET) and sizes[i] (in bits, 0 for a label). The shortest of the three lists counts.
  *
- * It needs less than 24 KiB of stack (20.3 KiB). */
+ * It needs less than 24 KiB of stack (22.4 KiB). */
 struct dk_layout dk_build(const uint16_t *units, size_t units_len,
                           const int64_t *starts, size_t starts_len,
                           const uint32_t *bank_sizes, size_t bank_sizes_len,
                           const uint32_t *bank_offsets, size_t bank_offsets_len,
                           const uint32_t *aligns, size_t aligns_len,
                           const uint8_t *flags, size_t flags_len,
+                          const uint8_t *fill_bits, size_t fill_bits_len,
                           const uint8_t *kinds, size_t kinds_len,
                           const uint32_t *operands, size_t operands_len,
                           const uint32_t *numbers, size_t numbers_len,
                           const uint8_t *states, size_t states_len,
                           uint64_t rows,
                           const uint8_t *values, size_t values_len,
-                          uint8_t limit,
+                          uint8_t limit, uint8_t fill, uint8_t closed,
                           uint8_t *image, size_t image_len,
                           int64_t *addresses, size_t addresses_len,
                           uint64_t *offsets, size_t offsets_len,
                           uint64_t *sizes, size_t sizes_len);
 
-/* The same for a file of form 1, at most 65,000 bytes: image and spans as above. It needs less than 128 KiB of stack (124.0 KiB), most of it
- * for the lists of the file. */
-struct dk_layout dk_form(const uint8_t *file, size_t file_len,
+/* The same for a file of form 1, at most 65,000 bytes, or of form 2, at most 65,536: image and spans as above. Bank 0 is closed in form 2, open in form 1.
+ * It needs less than 136 KiB of stack (129.6 KiB), most of it for the lists of the file. */
+struct dk_layout dk_form(const uint8_t *file, size_t file_len, uint8_t fill,
                          uint8_t *image, size_t image_len,
                          int64_t *addresses, size_t addresses_len,
                          uint64_t *offsets, size_t offsets_len,
                          uint64_t *sizes, size_t sizes_len);
+
+/* What the profile says of a layout. */
+struct dk_profile {
+    uint64_t refusal; /* DK_ACCEPTED, or the number of a refusal: 1 to 4, then DK_OFF_PROFILE */
+    uint64_t place;
+    uint64_t second;
+    uint64_t pages[DK_MAX_BANKS]; /* of each bank: its size over the page size, or DK_NO_PAGES; refused, zeros */
+};
+
+/* Whether tables, as in dk_build, keep the profile of a device with pages of `page` bits: refused 1, 2, 3 and 4 as dk_build refuses them before its first
+ * pass, then 19 with the first rule that is broken. It needs less than 8 KiB of stack (5.3 KiB). */
+struct dk_profile dk_profile(uint32_t page,
+                             const uint16_t *units, size_t units_len,
+                             const int64_t *starts, size_t starts_len,
+                             const uint32_t *bank_sizes, size_t bank_sizes_len,
+                             const uint32_t *bank_offsets, size_t bank_offsets_len,
+                             const uint32_t *aligns, size_t aligns_len,
+                             const uint8_t *flags, size_t flags_len,
+                             const uint8_t *fill_bits, size_t fill_bits_len,
+                             const uint8_t *kinds, size_t kinds_len,
+                             const uint32_t *operands, size_t operands_len,
+                             const uint32_t *numbers, size_t numbers_len,
+                             const uint8_t *states, size_t states_len,
+                             uint64_t rows,
+                             const uint8_t *values, size_t values_len,
+                             uint8_t fill);
+
+/* dk_build and dk_form in the profile of a device with pages of `page` bits: what dk_profile refuses is refused so, with no pass run; everything else is as
+ * without a profile. They need less than 28 KiB and 136 KiB of stack (24.6 and 129.6 KiB). */
+struct dk_layout dk_build_paged(uint32_t page,
+                                const uint16_t *units, size_t units_len,
+                                const int64_t *starts, size_t starts_len,
+                                const uint32_t *bank_sizes, size_t bank_sizes_len,
+                                const uint32_t *bank_offsets, size_t bank_offsets_len,
+                                const uint32_t *aligns, size_t aligns_len,
+                                const uint8_t *flags, size_t flags_len,
+                                const uint8_t *fill_bits, size_t fill_bits_len,
+                                const uint8_t *kinds, size_t kinds_len,
+                                const uint32_t *operands, size_t operands_len,
+                                const uint32_t *numbers, size_t numbers_len,
+                                const uint8_t *states, size_t states_len,
+                                uint64_t rows,
+                                const uint8_t *values, size_t values_len,
+                                uint8_t limit, uint8_t fill, uint8_t closed,
+                                uint8_t *image, size_t image_len,
+                                int64_t *addresses, size_t addresses_len,
+                                uint64_t *offsets, size_t offsets_len,
+                                uint64_t *sizes, size_t sizes_len);
+
+struct dk_layout dk_form_paged(const uint8_t *file, size_t file_len, uint8_t fill, uint32_t page,
+                               uint8_t *image, size_t image_len,
+                               int64_t *addresses, size_t addresses_len,
+                               uint64_t *offsets, size_t offsets_len,
+                               uint64_t *sizes, size_t sizes_len);
 
 /* The blocks that spans make: taken by offset, a span that starts at the end of those before it joins them. As many offsets as sizes, at
  * most 4,096 (else 4). Block i starts at bit block_offsets[i] and has block_sizes[i] bits. It needs less than 12 KiB of stack (8.3 KiB), 8 KiB
@@ -209,19 +288,58 @@ struct dk_count dk_overlay_runs(const uint8_t *overlay, size_t overlay_len,
                                 uint64_t *firsts, size_t firsts_len,
                                 uint64_t *counts, size_t counts_len);
 
+/* Files of records. `load` is the address of the image's first byte.
+ *
+ * Writes the blocks of an image, block i being sizes[i] bits from bit offsets[i] on, as Intel HEX: data records of at most 16 bytes that stay within a block
+ * and within 64 KiB, a type 04 record where the upper half of the address changes, an end record; upper case, lines end in LF. `count` is the length of the
+ * text. Refused 16 (place 0) where a block is empty, outside the image or not on byte edges, 4 (place 0) where the blocks don't ascend or share a bit, the
+ * lists differ in length, or an address is past 4,294,967,295, then 14 (place 3) where `text` is too short. It needs less than 1 KiB of stack. */
+struct dk_count dk_write_hex(const uint8_t *image, size_t image_len,
+                             const uint64_t *offsets, size_t offsets_len,
+                             const uint64_t *sizes, size_t sizes_len,
+                             uint32_t load, uint8_t *text, size_t text_len);
+
+/* The same as S-records, with addresses of `width` bytes: 2 (S1 and S9) or 4 (S3 and S7), cut as above, end address 0. 4 also where the width is neither, or an
+ * address does not fit it. It needs less than 1 KiB of stack. */
+struct dk_count dk_write_srec(const uint8_t *image, size_t image_len,
+                              const uint64_t *offsets, size_t offsets_len,
+                              const uint64_t *sizes, size_t sizes_len,
+                              uint32_t load, uint8_t width, uint8_t *text, size_t text_len);
+
+/* Which records a file is read as. */
+enum dk_format { DK_INTEL_HEX = 0, DK_S_RECORDS = 1 };
+
+/* Reads a file of records: the byte at address a goes to bytes[a - load], and every other byte stays as it was. Block i is the sizes[i] bits from bit offsets[i]
+ * on, ascending, touching ones joined; `count` is how many there are. Any format other than DK_INTEL_HEX is read as S-records of either width. Refused 4 (place 0) where
+ * the file is bad: a line, a byte given twice or below `load`; then 14 where `bytes` (place 0) or a list (place 2) is too short. It needs less than 1 KiB of
+ * stack. */
+struct dk_count dk_read_records(uint8_t format, const uint8_t *text, size_t text_len, uint32_t load,
+                                uint8_t *bytes, size_t bytes_len,
+                                uint64_t *offsets, size_t offsets_len,
+                                uint64_t *sizes, size_t sizes_len);
+
+/* Where a file of records is bad. */
+struct dk_fault {
+    uint64_t fault; /* 1 where it is, else 0 */
+    uint64_t line;  /* the first line at which no good file can go on, from 0 */
+};
+
+/* The same file, asked why it is refused with 4. It needs less than 1 KiB of stack. */
+struct dk_fault dk_record_fault(uint8_t format, const uint8_t *text, size_t text_len, uint32_t load);
+
 /* A refusal in words, without its place. */
 static inline const char *dk_words(uint64_t refusal)
 {
     switch (refusal) {
     case DK_ACCEPTED: return "accepted";
     case DK_BANK_COUNT: return "there are not 1 to 16 banks";
-    case DK_BANK_NUMBER: return "a bank's number is beyond its limit, or a filled bank has size 0";
+    case DK_BANK_NUMBER: return "a bank's number or fill bit is beyond its limit, or a filled bank has size 0";
     case DK_BANKS_OVERLAP: return "two banks overlap in the output";
-    case DK_MALFORMED: return "a count, kind, bank number, state, value range or file is malformed";
+    case DK_MALFORMED: return "a count, kind, bank number, state, value range, choice or file is malformed";
     case DK_POSITION_PAST: return "a position would pass 4,294,967,295";
     case DK_LABEL_OFF_BOUNDARY: return "a label in the last pass is between two addresses";
     case DK_UNRESOLVED: return "the last pass ended unresolved";
-    case DK_DEFAULT_BANK: return "bank 0 is used though there are others";
+    case DK_DEFAULT_BANK: return "bank 0 is used though there are others or it is closed";
     case DK_PAST_BANK: return "an item ends past its bank's size";
     case DK_NO_OUTPUT: return "an item is written in a bank that has no place in the output";
     case DK_OVERLAP: return "a placement would share a bit with another, or have a mark strictly inside it";
@@ -230,6 +348,8 @@ static inline const char *dk_words(uint64_t refusal)
     case DK_BAD_STORE: return "a store that was given is not one";
     case DK_BAD_PART: return "a part of an image is empty, outside it, or not on byte edges";
     case DK_PARTLY_COVERED: return "an overlay covers a range only in part";
+    case DK_FILL_BIT_LOST: return "the way back to form 1 would drop a fill bit of one";
+    case DK_OFF_PROFILE: return "the layout breaks a rule of the paged device's profile";
     default: return "a refusal that this header has no words for";
     }
 }

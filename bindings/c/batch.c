@@ -1,9 +1,12 @@
-/* The library as a side of the comparison with the Rust: reads files of form 1 from standard input, each behind four bytes of
+/* The library as a side of the comparison with the Rust: reads files of either form from standard input, each behind four bytes of
  * length, big-endian, and writes a line for each (oracle/README.md, "The lines"). It lends what the program `layout` lends.
  *
  *     batch             lays each file out with dk_form
  *     batch --tables    takes sound files apart itself and calls dk_build; broken ones still go to dk_form
- *     batch --spans     reads lists of spans instead, a line each, OFFSET:SIZE,.. with - for no offset, and writes their blocks */
+ *     batch --spans     reads lists of spans instead, a line each, OFFSET:SIZE,.. with - for no offset, and writes their blocks
+ *
+ * The first two also take --fill N, the fill's choice, --page N, the page size of a device with pages, and --padding, by which each bank's padding, and with
+ * --page its pages, stand at the end of a line. */
 #include <inttypes.h>
 #include <stdio.h>
 #include <stdlib.h>
@@ -21,9 +24,9 @@ static uint64_t offsets[SPANS], sizes[SPANS], starts[SPANS], lengths[SPANS];
 static void print_refusal(struct dk_layout r)
 {
     printf("refused %" PRIu64 " %" PRIu64, r.refusal, r.place);
-    if (r.refusal == DK_BANKS_OVERLAP || r.refusal == DK_OVERLAP)
+    if (r.refusal == DK_BANKS_OVERLAP || r.refusal == DK_OVERLAP || r.refusal == DK_OFF_PROFILE)
         printf(" %" PRIu64, r.second);
-    if (r.refusal > DK_MALFORMED)
+    if (r.refusal > DK_MALFORMED && r.refusal != DK_OFF_PROFILE)
         printf(" passes %" PRIu64, r.passes);
     putchar('\n');
 }
@@ -64,14 +67,21 @@ static void print_image(uint64_t bits)
         fwrite(hex, 1, r.count, stdout);
 }
 
+/* What the caller chooses. */
+static uint8_t fill;
+static uint32_t page;
+static int paged, padded;
+
 /* The tables of a file. */
-enum { BANKS = 2500, NODES = 8192, CELLS = 13056 };
+enum { BANKS = 2600, NODES = 8192, CELLS = 13107 };
 
 static uint16_t units[BANKS];
 static int64_t bank_starts[BANKS];
 static uint32_t bank_sizes[BANKS], bank_offsets[BANKS], aligns[BANKS];
-static uint8_t flags[BANKS], kinds[NODES], states[CELLS];
+static uint8_t flags[BANKS], fill_bits[BANKS], kinds[NODES], states[CELLS];
 static uint32_t operands[NODES], numbers[CELLS];
+static size_t banks, nodes, rows, values_at, values_size;
+static uint8_t form;
 
 static uint64_t big(const uint8_t *from, int bytes)
 {
@@ -87,13 +97,21 @@ static int is_next(size_t size, size_t at, int tag, size_t length)
     return at + 3 + length <= size && file[at] == tag && big(file + at + 1, 2) == length;
 }
 
-/* Takes a sound file apart and lays its tables out; 0 where it is not sound. */
-static int build(size_t size, struct dk_layout *r)
+/* Takes a sound file apart; 0 where it is not sound. */
+static int take_apart(size_t size)
 {
-    size_t at = 0, banks = 0, nodes = 0, rows = 0;
-    if (size > 65000)
+    size_t at = 0;
+    banks = nodes = rows = 0;
+    form = size > 0 && file[0] == 16 ? 2 : 1;
+    if (size > (form == 2 ? 65536 : 65000))
         return 0;
-    for (; is_next(size, at, 1, 23) && file[at + 25] <= 15; at += 26, banks++) {
+    if (form == 2) {
+        if (!is_next(size, 0, 16, 1) || file[3] != 2)
+            return 0;
+        at = 4;
+    }
+    size_t length = form == 2 ? 24 : 23;
+    for (; is_next(size, at, form == 2 ? 17 : 1, length) && file[at + 25] <= 15 && (form == 1 || file[at + 26] <= 1); at += 3 + length, banks++) {
         const uint8_t *p = file + at + 3;
         units[banks] = (uint16_t)big(p, 2);
         bank_starts[banks] = (int64_t)big(p + 2, 8);
@@ -101,6 +119,7 @@ static int build(size_t size, struct dk_layout *r)
         bank_offsets[banks] = (uint32_t)big(p + 14, 4);
         aligns[banks] = (uint32_t)big(p + 18, 4);
         flags[banks] = p[22];
+        fill_bits[banks] = form == 2 ? p[23] : 0;
     }
     for (; is_next(size, at, 2, 5); at += 8, nodes++) {
         kinds[nodes] = file[at + 3];
@@ -112,21 +131,46 @@ static int build(size_t size, struct dk_layout *r)
             states[rows * nodes + i] = file[at + 7 + 5 * i];
         }
     }
-    size_t length = at + 3 <= size ? (size_t)big(file + at + 1, 2) : 0;
+    length = at + 3 <= size ? (size_t)big(file + at + 1, 2) : 0;
     if (!is_next(size, at, 4, length) || !is_next(size, at + 3 + length, 5, 1) || at + length + 7 != size)
         return 0;
-    *r = dk_build(units, banks, bank_starts, banks, bank_sizes, banks, bank_offsets, banks, aligns, banks, flags, banks,
-                  kinds, nodes, operands, nodes, numbers, rows * nodes, states, rows * nodes, rows,
-                  file + at + 3, length, file[size - 1],
-                  image, IMAGE, addresses, SPANS, offsets, SPANS, sizes, SPANS);
+    values_at = at + 3;
+    values_size = length;
     return 1;
+}
+
+/* The tables of the file, with what follows them in a call. */
+#define TABLES units, banks, bank_starts, banks, bank_sizes, banks, bank_offsets, banks, aligns, banks, flags, banks, fill_bits, banks, \
+               kinds, nodes, operands, nodes, numbers, rows * nodes, states, rows * nodes, rows, file + values_at, values_size
+#define OUTPUT image, IMAGE, addresses, SPANS, offsets, SPANS, sizes, SPANS
+
+static struct dk_layout from_tables(size_t size)
+{
+    uint8_t limit = file[size - 1];
+    return paged ? dk_build_paged(page, TABLES, limit, fill, form == 2, OUTPUT) : dk_build(TABLES, limit, fill, form == 2, OUTPUT);
+}
+
+static struct dk_layout from_file(size_t size)
+{
+    return paged ? dk_form_paged(file, size, fill, page, OUTPUT) : dk_form(file, size, fill, OUTPUT);
+}
+
+/* A number for each bank of the file, - for none. */
+static void print_each(const char *name, const uint64_t *each)
+{
+    printf(" | %s ", name);
+    for (size_t i = 0; i < banks; i++) {
+        if (each[i] == DK_NO_PAGES)
+            printf("%s-", i ? "," : "");
+        else
+            printf("%s%" PRIu64, i ? "," : "", each[i]);
+    }
 }
 
 static void lay_out(size_t size, int tables)
 {
-    struct dk_layout r;
-    if (!tables || !build(size, &r))
-        r = dk_form(file, size, image, IMAGE, addresses, SPANS, offsets, SPANS, sizes, SPANS);
+    int sound = take_apart(size);
+    struct dk_layout r = tables && sound ? from_tables(size) : from_file(size);
     if (r.refusal != DK_ACCEPTED) {
         print_refusal(r);
         return;
@@ -137,6 +181,11 @@ static void lay_out(size_t size, int tables)
     print_spans(r.spans);
     fputs(" | blocks ", stdout);
     print_blocks(r.spans);
+    if (padded) {
+        print_each("padding", r.padding);
+        if (paged)
+            print_each("pages", dk_profile(page, TABLES, fill).pages);
+    }
     putchar('\n');
 }
 
@@ -159,9 +208,19 @@ static int print_span_lists(void)
 
 int main(int argc, char **argv)
 {
-    int tables = argc > 1 && strcmp(argv[1], "--tables") == 0;
-    if (argc > 1 && strcmp(argv[1], "--spans") == 0)
-        return print_span_lists();
+    int tables = 0;
+    for (int i = 1; i < argc; i++) {
+        if (strcmp(argv[i], "--spans") == 0)
+            return print_span_lists();
+        tables |= strcmp(argv[i], "--tables") == 0;
+        padded |= strcmp(argv[i], "--padding") == 0;
+        if (i + 1 < argc && strcmp(argv[i], "--fill") == 0)
+            fill = (uint8_t)strtoul(argv[++i], NULL, 10);
+        else if (i + 1 < argc && strcmp(argv[i], "--page") == 0) {
+            page = (uint32_t)strtoul(argv[++i], NULL, 10);
+            paged = 1;
+        }
+    }
     uint8_t head[4];
     while (fread(head, 1, sizeof head, stdin) == sizeof head) {
         size_t size = (size_t)big(head, 4);

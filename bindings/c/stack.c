@@ -10,12 +10,12 @@
 
 #include "../../include/denkumari.h"
 
-enum { STACK = 1 << 20, GAP = 128, PAINT = 0x5c, NODES = 4096, FILE_MOST = 65000 };
+enum { STACK = 1 << 20, GAP = 128, PAINT = 0x5c, NODES = 4096, FILE_MOST = 65536, TEXT = 65536 };
 
 static uint8_t stack[STACK] __attribute__((aligned(4096)));
 
 /* What is lent: the longest lists. */
-static uint8_t image[16384], hex[32768], values[1], flags[2], kinds[NODES], states[NODES], file[FILE_MOST];
+static uint8_t image[16384], hex[32768], values[1], flags[2], fill_bits[2], text[TEXT], kinds[NODES], states[NODES], file[FILE_MOST];
 static int64_t starts[2], addresses[NODES];
 static uint16_t units[2];
 static uint32_t bank_sizes[2], bank_offsets[2], aligns[2], operands[NODES], numbers[NODES];
@@ -30,14 +30,63 @@ static void blocks(void)
 
 static void build(void)
 {
-    refusal = dk_build(units, 2, starts, 2, bank_sizes, 2, bank_offsets, 2, aligns, 2, flags, 2, kinds, NODES, operands, NODES,
-                       numbers, NODES, states, NODES, 1, values, sizeof values, 10, image, sizeof image, addresses, NODES,
+    refusal = dk_build(units, 2, starts, 2, bank_sizes, 2, bank_offsets, 2, aligns, 2, flags, 2, fill_bits, 2, kinds, NODES, operands, NODES,
+                       numbers, NODES, states, NODES, 1, values, sizeof values, 10, DK_FILL_FULL, 1, image, sizeof image, addresses, NODES,
                        offsets, NODES, sizes, NODES).refusal;
+}
+
+static void build_paged(void)
+{
+    refusal = dk_build_paged(8, units, 2, starts, 2, bank_sizes, 2, bank_offsets, 2, aligns, 2, flags, 2, fill_bits, 2, kinds, NODES, operands, NODES,
+                             numbers, NODES, states, NODES, 1, values, sizeof values, 10, DK_FILL_FULL, 1, image, sizeof image, addresses, NODES,
+                             offsets, NODES, sizes, NODES).refusal;
+}
+
+static void profile(void)
+{
+    refusal = dk_profile(8, units, 2, starts, 2, bank_sizes, 2, bank_offsets, 2, aligns, 2, flags, 2, fill_bits, 2, kinds, NODES, operands, NODES,
+                         numbers, NODES, states, NODES, 1, values, sizeof values, DK_FILL_FULL).refusal;
+}
+
+static void form_paged(void)
+{
+    refusal = dk_form_paged(file, file_length, DK_FILL_INHERITED, 8, image, sizeof image, addresses, NODES, offsets, NODES, sizes, NODES).refusal;
+}
+
+static uint64_t text_length;
+
+static void write_hex(void)
+{
+    struct dk_count r = dk_write_hex(image, sizeof image, block_offsets, 1024, block_sizes, 1024, 0xfff8, text, sizeof text);
+    refusal = r.refusal;
+    text_length = r.count;
+}
+
+static void write_srec(void)
+{
+    struct dk_count r = dk_write_srec(image, sizeof image, block_offsets, 1024, block_sizes, 1024, 0xfff8, 4, text, sizeof text);
+    refusal = r.refusal;
+    text_length = r.count;
+}
+
+static void read_hex(void)
+{
+    refusal = dk_read_records(DK_INTEL_HEX, text, text_length, 0xfff8, image, sizeof image, offsets, NODES, sizes, NODES).refusal;
+}
+
+static void read_srec(void)
+{
+    refusal = dk_read_records(DK_S_RECORDS, text, text_length, 0xfff8, image, sizeof image, offsets, NODES, sizes, NODES).refusal;
+}
+
+static void fault(void)
+{
+    refusal = dk_record_fault(DK_S_RECORDS, text, text_length, 0xfff8).fault;
 }
 
 static void form(void)
 {
-    refusal = dk_form(file, file_length, image, sizeof image, addresses, NODES, offsets, NODES, sizes, NODES).refusal;
+    refusal = dk_form(file, file_length, DK_FILL_INHERITED, image, sizeof image, addresses, NODES, offsets, NODES, sizes, NODES).refusal;
 }
 
 static void digits(void)
@@ -100,7 +149,9 @@ static void on_a_thread(void (*what)(void))
 static void fill_tables(void)
 {
     units[0] = units[1] = 8;
-    flags[1] = DK_HAS_OFFSET;
+    flags[1] = DK_HAS_OFFSET | DK_HAS_SIZE | DK_FILL;
+    bank_sizes[1] = 8192;
+    fill_bits[1] = 1;
     kinds[0] = DK_SWITCH;
     operands[0] = 1;
     for (size_t i = 1; i < NODES; i++) {
@@ -119,15 +170,18 @@ static void field(uint8_t tag, const uint8_t *bytes, size_t length)
     file_length += length;
 }
 
-/* The same layout as a file of form 1. */
+/* The same layout as a file of form 2. */
 static void fill_file(void)
 {
     static uint8_t row[5 * NODES];
-    uint8_t bank[23] = {0, 8}, node[5] = {0}, limit = 10;
+    uint8_t two = 2, bank[24] = {0, 8}, node[5] = {0}, limit = 10;
     file_length = 0;
-    field(1, bank, sizeof bank);
-    bank[22] = DK_HAS_OFFSET;
-    field(1, bank, sizeof bank);
+    field(16, &two, 1);
+    field(17, bank, sizeof bank);
+    bank[12] = 8192 >> 8;
+    bank[22] = DK_HAS_OFFSET | DK_HAS_SIZE | DK_FILL;
+    bank[23] = 1;
+    field(17, bank, sizeof bank);
     for (size_t i = 0; i < NODES; i++) {
         node[0] = kinds[i];
         node[4] = (uint8_t)operands[i];
@@ -184,7 +238,10 @@ int main(void)
     fill_tables();
     bad |= measure("dk_build", build, 24 * 1024);
     fill_file();
-    bad |= measure("dk_form", form, 128 * 1024);
+    bad |= measure("dk_profile", profile, 8 * 1024);
+    bad |= measure("dk_build_paged", build_paged, 28 * 1024);
+    bad |= measure("dk_form", form, 136 * 1024);
+    bad |= measure("dk_form_paged", form_paged, 136 * 1024);
     fill_store();
     bad |= measure("dk_offer", offer, 1024);
     bad |= measure("dk_hex", digits, 1024);
@@ -192,5 +249,10 @@ int main(void)
     fill_overlay();
     bad |= measure("dk_overlay_range", range, 1024);
     bad |= measure("dk_overlay_runs", runs, 1024);
+    bad |= measure("dk_write_hex", write_hex, 1024);
+    bad |= measure("dk_read_records, Intel HEX", read_hex, 1024);
+    bad |= measure("dk_write_srec", write_srec, 1024);
+    bad |= measure("dk_read_records, S-records", read_srec, 1024);
+    bad |= measure("dk_record_fault", fault, 1024);
     return bad;
 }

@@ -21,7 +21,7 @@ static void expect(int holds, const char *what)
 static const uint16_t units[] = {8, 10};
 static const int64_t starts[] = {0, 64};
 static const uint32_t bank_sizes[] = {0, 40}, bank_offsets[] = {0, 0}, aligns[] = {0, 0};
-static uint8_t flags[] = {0, DK_HAS_SIZE | DK_HAS_OFFSET | DK_FILL};
+static uint8_t flags[] = {0, DK_HAS_SIZE | DK_HAS_OFFSET | DK_FILL}, fill_bits[] = {0, 0}, fill, closed;
 static const uint8_t kinds[] = {DK_SWITCH, DK_LABEL, DK_DATA, DK_RESERVE, DK_INSTRUCTION};
 static uint32_t operands[] = {1, 0, 0, 0, 16};
 static uint32_t numbers[] = {0, 0, 10, 10, 10};
@@ -41,7 +41,7 @@ static struct dk_layout build(size_t banks, size_t image_len, size_t span_len)
 {
     lent = fresh;
     return dk_build(units, banks, starts, banks, bank_sizes, banks, bank_offsets, banks, aligns, banks, flags, banks,
-                    kinds, 5, operands, 5, numbers, 5, states, 5, 1, values, sizeof values, 10,
+                    fill_bits, banks, kinds, 5, operands, 5, numbers, 5, states, 5, 1, values, sizeof values, 10, fill, closed,
                     lent.image, image_len, lent.addresses, span_len, lent.offsets, span_len, lent.sizes, span_len);
 }
 
@@ -54,6 +54,8 @@ static void expect_refusal(struct dk_layout r, uint64_t number, uint64_t place, 
 {
     expect(r.refusal == number && r.place == place && r.second == second && r.passes == passes, what);
     expect(r.k == 0 && r.length == 0 && r.spans == 0, what);
+    for (size_t i = 0; i < DK_MAX_BANKS; i++)
+        expect(r.padding[i] == 0, what);
     expect(untouched(), what);
 }
 
@@ -95,15 +97,103 @@ static void refused_builds(void)
     expect_refusal(build(2, 8, 4), DK_PAST_BANK, 4, 0, 2, "an item past its bank");
     numbers[3] = 10;
     lent = fresh;
-    struct dk_layout r = dk_build(units, 2, starts, 2, bank_sizes, 1, bank_offsets, 2, aligns, 2, flags, 2, kinds, 5, operands, 5, numbers, 5, states, 5, 1,
-                                  values, 4, 10, lent.image, 8, lent.addresses, 4, lent.offsets, 4, lent.sizes, 4);
+    struct dk_layout r = dk_build(units, 2, starts, 2, bank_sizes, 1, bank_offsets, 2, aligns, 2, flags, 2, fill_bits, 2, kinds, 5, operands, 5, numbers, 5,
+                                  states, 5, 1, values, 4, 10, 0, 0, lent.image, 8, lent.addresses, 4, lent.offsets, 4, lent.sizes, 4);
     expect_refusal(r, DK_BANK_COUNT, 0, 0, 0, "lists of banks of different lengths");
+}
+
+/* Fill bits, the fill's choice, a closed bank 0, padding and the profile, on the worked example's tables. */
+static void choices(void)
+{
+    static const uint8_t ones[] = {0xff, 0xff, 0xf2, 0xab, 0xff, 0, 0, 0};
+    fill_bits[1] = 1;
+    struct dk_layout r = build(2, 8, 4);
+    expect(r.refusal == DK_ACCEPTED && r.length == 40 && memcmp(lent.image, ones, sizeof ones) == 0, "gaps of ones");
+    fill_bits[1] = 2;
+    expect_refusal(build(2, 8, 4), DK_BANK_NUMBER, 1, 0, 0, "a fill bit of two");
+    fill_bits[1] = 0;
+    fill_bits[0] = 1;
+    expect_refusal(build(2, 8, 4), DK_BANK_NUMBER, 0, 0, 0, "a fill bit of bank 0");
+    fill_bits[0] = 0;
+    fill = 2;
+    expect_refusal(build(2, 8, 4), DK_MALFORMED, 3, 0, 0, "an unknown fill");
+    fill = DK_FILL_FULL;
+    expect_worked(build(2, 8, 4), "full fill, where inherited fill reaches as far");
+    fill = DK_FILL_INHERITED;
+    static const uint8_t align[] = {DK_NOTHING, DK_ALIGN, DK_LABEL};
+    static const uint32_t none[3], to[] = {0, 12, 0};
+    r = dk_build(units, 1, starts, 1, bank_sizes, 1, bank_offsets, 1, aligns, 1, flags, 1, fill_bits, 1, align, 2, none, 2, to, 2, states, 2, 1,
+                 values, 4, 10, 0, 1, lent.image, 8, lent.addresses, 4, lent.offsets, 4, lent.sizes, 4);
+    expect(r.refusal == DK_ACCEPTED && r.padding[0] == 0, "an align that is met costs nothing");
+    r = dk_build(units, 1, starts, 1, bank_sizes, 1, bank_offsets, 1, aligns, 1, flags, 1, fill_bits, 1, align, 3, none, 3, to, 3, states, 3, 1,
+                 values, 4, 10, 0, 0, lent.image, 8, lent.addresses, 4, lent.offsets, 4, lent.sizes, 4);
+    expect(r.refusal == DK_ACCEPTED && r.spans == 1, "bank 0 alone, open");
+    lent = fresh;
+    r = dk_build(units, 1, starts, 1, bank_sizes, 1, bank_offsets, 1, aligns, 1, flags, 1, fill_bits, 1, align, 3, none, 3, to, 3, states, 3, 1,
+                 values, 4, 10, 0, 7, lent.image, 8, lent.addresses, 4, lent.offsets, 4, lent.sizes, 4);
+    expect_refusal(r, DK_DEFAULT_BANK, 2, 0, 2, "bank 0 alone, closed");
+    struct dk_profile said = dk_profile(8, units, 2, starts, 2, bank_sizes, 2, bank_offsets, 2, aligns, 2, flags, 2, fill_bits, 2, kinds, 5, operands, 5,
+                                        numbers, 5, states, 5, 1, values, sizeof values, 0);
+    expect(said.refusal == DK_OFF_PROFILE && said.place == DK_RULE_UNIT && said.second == 1 && said.pages[0] == 0, "a unit of ten bits in the profile");
+    lent = fresh;
+    r = dk_build_paged(8, units, 2, starts, 2, bank_sizes, 2, bank_offsets, 2, aligns, 2, flags, 2, fill_bits, 2, kinds, 5, operands, 5, numbers, 5,
+                       states, 5, 1, values, 4, 10, 0, 0, lent.image, 8, lent.addresses, 4, lent.offsets, 4, lent.sizes, 4);
+    expect_refusal(r, DK_OFF_PROFILE, DK_RULE_UNIT, 1, 0, "the same build in the profile");
+    static const uint16_t bytes[] = {8, 8};
+    said = dk_profile(8, bytes, 2, starts, 2, bank_sizes, 2, bank_offsets, 2, aligns, 2, flags, 2, fill_bits, 2, kinds, 5, operands, 5, numbers, 5,
+                      states, 5, 1, values, sizeof values, 0);
+    expect(said.refusal == DK_ACCEPTED && said.pages[0] == DK_NO_PAGES && said.pages[1] == 5 && said.pages[15] == DK_NO_PAGES, "five pages of a byte");
+    r = dk_build_paged(3, bytes, 2, starts, 2, bank_sizes, 2, bank_offsets, 2, aligns, 2, flags, 2, fill_bits, 2, kinds, 5, operands, 5, numbers, 5,
+                       states, 5, 1, values, 4, 10, 0, 0, lent.image, 8, lent.addresses, 4, lent.offsets, 4, lent.sizes, 4);
+    expect_refusal(r, DK_OFF_PROFILE, DK_RULE_PAGE, 0, 0, "a page of three bits");
+}
+
+/* Two blocks written and read back, as both kinds of records. */
+static void records(void)
+{
+    static const uint8_t image[] = {1, 2, 3, 4, 5, 6, 7, 8};
+    static const uint64_t at[] = {0, 40}, size[] = {16, 24};
+    static uint8_t text[256], before[256];
+    memset(before, 0xa5, sizeof before);
+    memset(text, 0xa5, sizeof text);
+    struct dk_count r = dk_write_hex(image, 8, at, 2, size, 2, 0x1fffe, text, sizeof text);
+    static const char hex[] = ":020000040001F9\n:02FFFE000102FE\n:020000040002F8\n:03000300060708E5\n:00000001FF\n";
+    expect(r.refusal == DK_ACCEPTED && r.count == sizeof hex - 1 && memcmp(text, hex, r.count) == 0 && text[r.count] == 0xa5, "Intel HEX");
+    for (int kind = 0; kind < 2; kind++) {
+        if (kind == 1)
+            r = dk_write_srec(image, 8, at, 2, size, 2, 0x1fffe, 4, text, sizeof text);
+        expect(r.refusal == DK_ACCEPTED, "records are written");
+        lent = fresh;
+        struct dk_count n = dk_read_records((uint8_t)kind, text, r.count, 0x1fffe, lent.image, 8, lent.offsets, 4, lent.sizes, 4);
+        expect(n.refusal == DK_ACCEPTED && n.count == 2 && lent.offsets[0] == 0 && lent.sizes[0] == 16 && lent.offsets[1] == 40 && lent.sizes[1] == 24,
+               "the blocks that are read back");
+        expect(lent.image[0] == 1 && lent.image[1] == 2 && lent.image[2] == 0xa5 && lent.image[4] == 0xa5 && lent.image[5] == 6 && lent.image[7] == 8,
+               "the bytes that are read back, and the gap between them");
+        struct dk_fault fault = dk_record_fault((uint8_t)kind, text, r.count, 0x1fffe);
+        expect(fault.fault == 0 && fault.line == 0, "a good file");
+        lent = fresh;
+        n = dk_read_records((uint8_t)kind, text, r.count, 0x1ffff, lent.image, 8, lent.offsets, 4, lent.sizes, 4);
+        expect(n.refusal == DK_MALFORMED && n.place == 0 && n.count == 0 && untouched(), "a byte below the load address");
+        fault = dk_record_fault((uint8_t)kind, text, r.count, 0x1ffff);
+        expect(fault.fault == 1 && fault.line == (kind == 0), "the line with that byte");
+        n = dk_read_records((uint8_t)kind, text, r.count, 0x1fffe, lent.image, 7, lent.offsets, 4, lent.sizes, 4);
+        expect(n.refusal == DK_TOO_SHORT && n.place == 0 && untouched(), "a byte short");
+        n = dk_read_records((uint8_t)kind, text, r.count, 0x1fffe, lent.image, 8, lent.offsets, 1, lent.sizes, 4);
+        expect(n.refusal == DK_TOO_SHORT && n.place == 2 && untouched(), "a block short");
+    }
+    memset(text, 0xa5, sizeof text);
+    r = dk_write_srec(image, 8, at, 2, size, 2, 0x1fffe, 2, text, sizeof text);
+    expect(r.refusal == DK_MALFORMED && memcmp(text, before, sizeof text) == 0, "addresses past 16 bits");
+    r = dk_write_hex(image, 7, at, 2, size, 2, 0, text, sizeof text);
+    expect(r.refusal == DK_BAD_PART && memcmp(text, before, sizeof text) == 0, "a block past the image");
+    r = dk_write_hex(image, 8, at, 2, size, 2, 0x1fffe, text, sizeof hex - 2);
+    expect(r.refusal == DK_TOO_SHORT && r.place == 3 && memcmp(text, before, sizeof text) == 0, "a character short");
 }
 
 static struct dk_layout lay_out(const uint8_t *file, size_t size)
 {
     lent = fresh;
-    return dk_form(file, size, lent.image, 8, lent.addresses, 4, lent.offsets, 4, lent.sizes, 4);
+    return dk_form(file, size, fill, lent.image, 8, lent.addresses, 4, lent.offsets, 4, lent.sizes, 4);
 }
 
 static void files(const char *path)
@@ -117,6 +207,12 @@ static void files(const char *path)
     expect_worked(lay_out(file, size), "the worked example as a file");
     expect_refusal(lay_out(file, 0), DK_MALFORMED, 0, 0, 0, "an empty file");
     expect_refusal(lay_out(file, size - 1), DK_MALFORMED, 9, 0, 0, "a file that is cut in its last field");
+    fill = 2;
+    expect_refusal(lay_out(file, size), DK_MALFORMED, 3, 0, 0, "a file and an unknown fill");
+    fill = 0;
+    lent = fresh;
+    expect_refusal(dk_form_paged(file, size, 0, 8, lent.image, 8, lent.addresses, 4, lent.offsets, 4, lent.sizes, 4), DK_OFF_PROFILE, DK_RULE_UNIT, 1, 0,
+                   "a file in the profile");
     file[0] = 7;
     expect_refusal(lay_out(file, size), DK_MALFORMED, 0, 0, 0, "a first field that is unknown");
 }
@@ -146,13 +242,13 @@ static void other_refusals(void)
 /* "where a length is 0 any pointer will do, NULL too" */
 static void null_with_length_0(void)
 {
-    struct dk_layout r = dk_build(NULL, 0, NULL, 0, NULL, 0, NULL, 0, NULL, 0, NULL, 0, NULL, 0, NULL, 0, NULL, 0, NULL, 0, 1, NULL, 0, 10,
-                                  NULL, 0, NULL, 0, NULL, 0, NULL, 0);
+    struct dk_layout r = dk_build(NULL, 0, NULL, 0, NULL, 0, NULL, 0, NULL, 0, NULL, 0, NULL, 0, NULL, 0, NULL, 0, NULL, 0, NULL, 0, 1, NULL, 0,
+                                  10, 0, 0, NULL, 0, NULL, 0, NULL, 0, NULL, 0);
     expect(r.refusal == DK_BANK_COUNT, "no bank and nothing lent");
-    r = dk_build(units, 1, starts, 1, bank_sizes, 1, bank_offsets, 1, aligns, 1, flags, 1, NULL, 0, NULL, 0, NULL, 0, NULL, 0, 1, NULL, 0, 10,
-                 NULL, 0, NULL, 0, NULL, 0, NULL, 0);
+    r = dk_build(units, 1, starts, 1, bank_sizes, 1, bank_offsets, 1, aligns, 1, flags, 1, fill_bits, 1, NULL, 0, NULL, 0, NULL, 0, NULL, 0, 1, NULL, 0,
+                 10, 0, 0, NULL, 0, NULL, 0, NULL, 0, NULL, 0);
     expect(r.refusal == DK_ACCEPTED && r.length == 0 && r.spans == 0, "no node and nothing lent");
-    expect(dk_form(NULL, 0, NULL, 0, NULL, 0, NULL, 0, NULL, 0).refusal == DK_MALFORMED, "no file and nothing lent");
+    expect(dk_form(NULL, 0, 0, NULL, 0, NULL, 0, NULL, 0, NULL, 0).refusal == DK_MALFORMED, "no file and nothing lent");
     expect(dk_blocks(NULL, 0, NULL, 0, NULL, 0, NULL, 0).refusal == DK_ACCEPTED, "no span and nothing lent");
     expect(dk_hex(NULL, 0, 0, NULL, 0).refusal == DK_ACCEPTED, "hex of nothing");
     expect(dk_part(NULL, 0, 0, 8).refusal == DK_BAD_PART, "a part of no image");
@@ -160,7 +256,7 @@ static void null_with_length_0(void)
 
 static void words(void)
 {
-    for (uint64_t number = 0; number <= DK_BAD_PART; number++)
+    for (uint64_t number = 0; number <= DK_OFF_PROFILE; number++)
         expect(number == 6 || strcmp(dk_words(number), dk_words(UINT64_MAX)) != 0, "a refusal that is given has words");
     expect(strstr(dk_words(DK_OVERLAP), "share a bit") != NULL, "the words of 12");
 }
@@ -171,6 +267,8 @@ int main(int argc, char **argv)
     worked_example();
     refused_builds();
     other_refusals();
+    choices();
+    records();
     null_with_length_0();
     words();
     files(argc > 1 ? argv[1] : "examples/worked.form");

@@ -1,6 +1,6 @@
-//! The crate as a side of the comparison with customasm's Rust: files of form 1 from standard input, each behind four bytes of length, big-endian;
+//! The crate as a side of the comparison with customasm's Rust: files of either form from standard input, each behind four bytes of length, big-endian;
 //! a line for each (oracle/README.md, "The lines"). It lends what the program `layout` lends.
-use denkumari::{get_blocks, hex, layout_form, Refusal, Spans, NO_OFFSET};
+use denkumari::{get_blocks, hex, layout_form, Fill, Refusal, Spans, NO_OFFSET};
 use std::io::{self, BufWriter, Read, Write};
 
 const SPANS: usize = 4096;
@@ -21,7 +21,7 @@ fn joined(parts: Vec<String>) -> String {
 
 fn accepted(lent: &mut Lent, file: &[u8]) -> Result<String, Refusal> {
     let spans = Spans { addresses: &mut lent.addresses, offsets: &mut lent.offsets, sizes: &mut lent.sizes };
-    let layout = layout_form(file, &mut lent.image, spans)?;
+    let layout = layout_form(file, Fill::Inherited, None, &mut lent.image, spans)?;
     let n = layout.spans;
     let blocks = get_blocks(&lent.offsets[..n], &lent.sizes[..n], &mut lent.starts, &mut lent.lengths)?;
     let digits = hex(&lent.image, layout.length, &mut lent.digits)?;

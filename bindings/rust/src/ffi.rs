@@ -1,7 +1,7 @@
 //! The archive's functions (include/denkumari.h), called with slices. Everything `unsafe` is here: each call passes the pointers and lengths of
 //! slices that live as long as the call, those that are written behind `&mut`, so that none overlaps another.
 
-use crate::{Banks, Nodes, Spans};
+use crate::{Banks, Choices, Nodes, Spans};
 
 #[repr(C)]
 pub struct DkLayout {
@@ -12,6 +12,21 @@ pub struct DkLayout {
     pub k: u64,
     pub length: u64,
     pub spans: u64,
+    pub padding: [u64; 16],
+}
+
+#[repr(C)]
+pub struct DkProfile {
+    pub refusal: u64,
+    pub place: u64,
+    pub second: u64,
+    pub pages: [u64; 16],
+}
+
+#[repr(C)]
+pub struct DkFault {
+    pub fault: u64,
+    pub line: u64,
 }
 
 #[repr(C)]
@@ -41,13 +56,47 @@ extern "C" {
     fn dk_build(
         units: *const u16, units_len: usize, starts: *const i64, starts_len: usize, bank_sizes: *const u32, bank_sizes_len: usize,
         bank_offsets: *const u32, bank_offsets_len: usize, aligns: *const u32, aligns_len: usize, flags: *const u8, flags_len: usize,
-        kinds: *const u8, kinds_len: usize, operands: *const u32, operands_len: usize, numbers: *const u32, numbers_len: usize,
-        states: *const u8, states_len: usize, rows: u64, values: *const u8, values_len: usize, limit: u8,
+        fill_bits: *const u8, fill_bits_len: usize, kinds: *const u8, kinds_len: usize, operands: *const u32, operands_len: usize, numbers: *const u32, numbers_len: usize,
+        states: *const u8, states_len: usize, rows: u64, values: *const u8, values_len: usize, limit: u8, fill: u8, closed: u8,
         image: *mut u8, image_len: usize, addresses: *mut i64, addresses_len: usize, offsets: *mut u64, offsets_len: usize,
         sizes: *mut u64, sizes_len: usize,
     ) -> DkLayout;
+    fn dk_build_paged(
+        page: u32,
+        units: *const u16, units_len: usize, starts: *const i64, starts_len: usize, bank_sizes: *const u32, bank_sizes_len: usize,
+        bank_offsets: *const u32, bank_offsets_len: usize, aligns: *const u32, aligns_len: usize, flags: *const u8, flags_len: usize,
+        fill_bits: *const u8, fill_bits_len: usize, kinds: *const u8, kinds_len: usize, operands: *const u32, operands_len: usize,
+        numbers: *const u32, numbers_len: usize, states: *const u8, states_len: usize, rows: u64, values: *const u8, values_len: usize,
+        limit: u8, fill: u8, closed: u8,
+        image: *mut u8, image_len: usize, addresses: *mut i64, addresses_len: usize, offsets: *mut u64, offsets_len: usize,
+        sizes: *mut u64, sizes_len: usize,
+    ) -> DkLayout;
+    fn dk_profile(
+        page: u32,
+        units: *const u16, units_len: usize, starts: *const i64, starts_len: usize, bank_sizes: *const u32, bank_sizes_len: usize,
+        bank_offsets: *const u32, bank_offsets_len: usize, aligns: *const u32, aligns_len: usize, flags: *const u8, flags_len: usize,
+        fill_bits: *const u8, fill_bits_len: usize, kinds: *const u8, kinds_len: usize, operands: *const u32, operands_len: usize,
+        numbers: *const u32, numbers_len: usize, states: *const u8, states_len: usize, rows: u64, values: *const u8, values_len: usize, fill: u8,
+    ) -> DkProfile;
+    fn dk_form_paged(
+        file: *const u8, file_len: usize, fill: u8, page: u32, image: *mut u8, image_len: usize, addresses: *mut i64, addresses_len: usize,
+        offsets: *mut u64, offsets_len: usize, sizes: *mut u64, sizes_len: usize,
+    ) -> DkLayout;
+    fn dk_write_hex(
+        image: *const u8, image_len: usize, offsets: *const u64, offsets_len: usize, sizes: *const u64, sizes_len: usize,
+        load: u32, text: *mut u8, text_len: usize,
+    ) -> DkCount;
+    fn dk_write_srec(
+        image: *const u8, image_len: usize, offsets: *const u64, offsets_len: usize, sizes: *const u64, sizes_len: usize,
+        load: u32, width: u8, text: *mut u8, text_len: usize,
+    ) -> DkCount;
+    fn dk_read_records(
+        format: u8, text: *const u8, text_len: usize, load: u32, bytes: *mut u8, bytes_len: usize,
+        offsets: *mut u64, offsets_len: usize, sizes: *mut u64, sizes_len: usize,
+    ) -> DkCount;
+    fn dk_record_fault(format: u8, text: *const u8, text_len: usize, load: u32) -> DkFault;
     fn dk_form(
-        file: *const u8, file_len: usize, image: *mut u8, image_len: usize, addresses: *mut i64, addresses_len: usize,
+        file: *const u8, file_len: usize, fill: u8, image: *mut u8, image_len: usize, addresses: *mut i64, addresses_len: usize,
         offsets: *mut u64, offsets_len: usize, sizes: *mut u64, sizes_len: usize,
     ) -> DkLayout;
     fn dk_blocks(
@@ -68,29 +117,103 @@ extern "C" {
 }
 
 #[rustfmt::skip]
-pub fn build(b: &Banks<'_>, n: &Nodes<'_>, image: &mut [u8], s: Spans<'_>) -> DkLayout {
+pub fn build(b: &Banks<'_>, n: &Nodes<'_>, c: Choices, image: &mut [u8], s: Spans<'_>) -> DkLayout {
+    let (fill, closed) = (c.fill as u8, c.closed as u8);
     // SAFETY: see the module
     unsafe {
-        dk_build(
-            b.units.as_ptr(), b.units.len(), b.starts.as_ptr(), b.starts.len(), b.sizes.as_ptr(), b.sizes.len(),
-            b.offsets.as_ptr(), b.offsets.len(), b.aligns.as_ptr(), b.aligns.len(), b.flags.as_ptr(), b.flags.len(),
-            n.kinds.as_ptr(), n.kinds.len(), n.operands.as_ptr(), n.operands.len(), n.numbers.as_ptr(), n.numbers.len(),
-            n.states.as_ptr(), n.states.len(), n.rows, n.values.as_ptr(), n.values.len(), n.limit,
-            image.as_mut_ptr(), image.len(), s.addresses.as_mut_ptr(), s.addresses.len(), s.offsets.as_mut_ptr(), s.offsets.len(),
-            s.sizes.as_mut_ptr(), s.sizes.len(),
+        match c.page {
+            None => dk_build(
+                b.units.as_ptr(), b.units.len(), b.starts.as_ptr(), b.starts.len(), b.sizes.as_ptr(), b.sizes.len(),
+                b.offsets.as_ptr(), b.offsets.len(), b.aligns.as_ptr(), b.aligns.len(), b.flags.as_ptr(), b.flags.len(),
+                b.fill_bits.as_ptr(), b.fill_bits.len(),
+                n.kinds.as_ptr(), n.kinds.len(), n.operands.as_ptr(), n.operands.len(), n.numbers.as_ptr(), n.numbers.len(),
+                n.states.as_ptr(), n.states.len(), n.rows, n.values.as_ptr(), n.values.len(),
+                n.limit, fill, closed,
+                image.as_mut_ptr(), image.len(), s.addresses.as_mut_ptr(), s.addresses.len(), s.offsets.as_mut_ptr(), s.offsets.len(),
+                s.sizes.as_mut_ptr(), s.sizes.len(),
+            ),
+            Some(page) => dk_build_paged(
+                page, b.units.as_ptr(), b.units.len(), b.starts.as_ptr(), b.starts.len(), b.sizes.as_ptr(), b.sizes.len(),
+                b.offsets.as_ptr(), b.offsets.len(), b.aligns.as_ptr(), b.aligns.len(), b.flags.as_ptr(), b.flags.len(),
+                b.fill_bits.as_ptr(), b.fill_bits.len(),
+                n.kinds.as_ptr(), n.kinds.len(), n.operands.as_ptr(), n.operands.len(), n.numbers.as_ptr(), n.numbers.len(),
+                n.states.as_ptr(), n.states.len(), n.rows, n.values.as_ptr(), n.values.len(),
+                n.limit, fill, closed,
+                image.as_mut_ptr(), image.len(), s.addresses.as_mut_ptr(), s.addresses.len(), s.offsets.as_mut_ptr(), s.offsets.len(),
+                s.sizes.as_mut_ptr(), s.sizes.len(),
+            ),
+        }
+    }
+}
+
+#[rustfmt::skip]
+pub fn profile(b: &Banks<'_>, n: &Nodes<'_>, fill: u8, page: u32) -> DkProfile {
+    // SAFETY: see the module
+    unsafe {
+        dk_profile(
+            page, b.units.as_ptr(), b.units.len(), b.starts.as_ptr(), b.starts.len(), b.sizes.as_ptr(), b.sizes.len(),
+                b.offsets.as_ptr(), b.offsets.len(), b.aligns.as_ptr(), b.aligns.len(), b.flags.as_ptr(), b.flags.len(),
+                b.fill_bits.as_ptr(), b.fill_bits.len(),
+                n.kinds.as_ptr(), n.kinds.len(), n.operands.as_ptr(), n.operands.len(), n.numbers.as_ptr(), n.numbers.len(),
+                n.states.as_ptr(), n.states.len(), n.rows, n.values.as_ptr(), n.values.len(),
+            fill,
         )
     }
 }
 
 #[rustfmt::skip]
-pub fn form(file: &[u8], image: &mut [u8], s: Spans<'_>) -> DkLayout {
+pub fn form(file: &[u8], fill: u8, page: Option<u32>, image: &mut [u8], s: Spans<'_>) -> DkLayout {
     // SAFETY: see the module
     unsafe {
-        dk_form(
-            file.as_ptr(), file.len(), image.as_mut_ptr(), image.len(), s.addresses.as_mut_ptr(), s.addresses.len(),
-            s.offsets.as_mut_ptr(), s.offsets.len(), s.sizes.as_mut_ptr(), s.sizes.len(),
+        match page {
+            None => dk_form(
+                file.as_ptr(), file.len(), fill,
+                image.as_mut_ptr(), image.len(), s.addresses.as_mut_ptr(), s.addresses.len(), s.offsets.as_mut_ptr(), s.offsets.len(),
+                s.sizes.as_mut_ptr(), s.sizes.len(),
+            ),
+            Some(page) => dk_form_paged(
+                file.as_ptr(), file.len(), fill, page,
+                image.as_mut_ptr(), image.len(), s.addresses.as_mut_ptr(), s.addresses.len(), s.offsets.as_mut_ptr(), s.offsets.len(),
+                s.sizes.as_mut_ptr(), s.sizes.len(),
+            ),
+        }
+    }
+}
+
+#[rustfmt::skip]
+pub fn write_hex(image: &[u8], offsets: &[u64], sizes: &[u64], load: u32, text: &mut [u8]) -> DkCount {
+    // SAFETY: see the module
+    unsafe {
+        dk_write_hex(
+            image.as_ptr(), image.len(), offsets.as_ptr(), offsets.len(), sizes.as_ptr(), sizes.len(), load, text.as_mut_ptr(), text.len(),
         )
     }
+}
+
+#[rustfmt::skip]
+pub fn write_srec(image: &[u8], offsets: &[u64], sizes: &[u64], load: u32, width: u8, text: &mut [u8]) -> DkCount {
+    // SAFETY: see the module
+    unsafe {
+        dk_write_srec(
+            image.as_ptr(), image.len(), offsets.as_ptr(), offsets.len(), sizes.as_ptr(), sizes.len(), load, width, text.as_mut_ptr(), text.len(),
+        )
+    }
+}
+
+#[rustfmt::skip]
+pub fn read_records(format: u8, text: &[u8], load: u32, bytes: &mut [u8], offsets: &mut [u64], sizes: &mut [u64]) -> DkCount {
+    // SAFETY: see the module
+    unsafe {
+        dk_read_records(
+            format, text.as_ptr(), text.len(), load, bytes.as_mut_ptr(), bytes.len(),
+            offsets.as_mut_ptr(), offsets.len(), sizes.as_mut_ptr(), sizes.len(),
+        )
+    }
+}
+
+pub fn record_fault(format: u8, text: &[u8], load: u32) -> DkFault {
+    // SAFETY: see the module
+    unsafe { dk_record_fault(format, text.as_ptr(), text.len(), load) }
 }
 
 #[rustfmt::skip]

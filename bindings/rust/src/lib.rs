@@ -2,7 +2,7 @@
 //!
 //! Every answer comes from a library that is proved against the rules of the repository's `docs/`; this crate only passes slices to it and
 //! takes its numbers apart. It has no dependencies, never panics and asks for no `unsafe`; only [`Program`] allocates. The library is x86-64 Linux
-//! code. Stack: include/denkumari.h says what each call needs, 125 kB at the most.
+//! code. Stack: include/denkumari.h says what each call needs, 136 KiB at the most.
 //!
 //! The whole way, from tables to image and blocks:
 //!
@@ -15,6 +15,7 @@
 mod ffi;
 pub mod overlays;
 mod owned;
+pub mod records;
 mod store;
 mod words;
 
@@ -32,6 +33,27 @@ pub const FILL: u8 = 8;
 
 /// The offset of a span that has none.
 pub const NO_OFFSET: u64 = u64::MAX;
+
+/// How far the image is filled.
+#[derive(Clone, Copy, Debug, Default, PartialEq, Eq)]
+pub enum Fill {
+    /// As far as the fill of customasm: a filled bank whose last bit is the image's length is left out.
+    #[default]
+    Inherited = 0,
+    /// To the end of every filled bank that has a size and an offset.
+    Full = 1,
+}
+
+/// What the caller of a build chooses.
+#[derive(Clone, Copy, Debug, Default, PartialEq, Eq)]
+pub struct Choices {
+    /// How far the image is filled.
+    pub fill: Fill,
+    /// Whether bank 0 is closed to labels, written items and reserves even where it is the only bank, as in form 2. Files say so themselves.
+    pub closed: bool,
+    /// The page size in bits of a device with pages, whose profile is then checked before the first pass.
+    pub page: Option<u32>,
+}
 
 /// Kinds of nodes.
 #[allow(missing_docs)]
@@ -65,6 +87,8 @@ pub struct Banks<'a> {
     pub aligns: &'a [u32],
     /// Sums of [`HAS_SIZE`], [`HAS_OFFSET`], [`HAS_ALIGN`] and [`FILL`].
     pub flags: &'a [u8],
+    /// What a filled bank with size and offset has where no item is written, up to the image's length: 0 or 1, for bank 0 it is 0.
+    pub fill_bits: &'a [u8],
 }
 
 /// The nodes: a kind and an operand for each, and in each of `rows` rows, one after the other, a number and a state for each.
@@ -108,19 +132,21 @@ pub struct Layout {
     pub length: u64,
     /// How many spans were written.
     pub spans: usize,
+    /// The bits of each bank that were lost to `align` and to label alignment in the last pass.
+    pub padding: [u64; 16],
 }
 
 /// A buffer that was too short.
 #[derive(Clone, Copy, Debug, PartialEq, Eq)]
 #[non_exhaustive]
 pub enum Buffer {
-    /// The image.
+    /// The image, or the bytes that records are read into.
     Image,
     /// The lists of spans.
     Spans,
     /// The lists of blocks.
     Blocks,
-    /// The hex digits.
+    /// The hex digits, or the text of records.
     Hex,
 }
 
@@ -132,11 +158,11 @@ pub enum Buffer {
 pub enum Refusal {
     /// 1: not 1 to 16 banks, or lists of banks of different lengths.
     BankCount,
-    /// 2: a number of the bank is beyond its limit, or it is filled and has size 0.
+    /// 2: a number or the fill bit of the bank is beyond its limit, or it is filled and has size 0.
     BankNumber { bank: u64 },
     /// 3: two banks overlap; the first such pair.
     BanksOverlap { first: u64, second: u64 },
-    /// 4: something given is malformed; the node, or 0, 1 for the count of nodes, of rows, or the broken field of a file.
+    /// 4: something given is malformed; the node, or 0, 1 for the count of nodes, of rows, 3 for an unknown fill, or the broken field of a file.
     Malformed { place: u64 },
     /// 5: a position would pass 4,294,967,295.
     PositionPast { node: u64, passes: u64 },
@@ -144,7 +170,7 @@ pub enum Refusal {
     LabelOffBoundary { node: u64, passes: u64 },
     /// 8: the last pass ended unresolved.
     Unresolved { passes: u64 },
-    /// 9: bank 0 is used though there are others.
+    /// 9: bank 0 is used though there are others or it is closed.
     DefaultBank { node: u64, passes: u64 },
     /// 10: an item ends past its bank's size.
     PastBank { node: u64, passes: u64 },
@@ -160,6 +186,10 @@ pub enum Refusal {
     BadPart,
     /// 17: an overlay covers a range only in part.
     PartlyCovered,
+    /// 18: the way back to form 1 would drop a fill bit of one.
+    FillBitLost,
+    /// 19: the layout breaks a rule of the profile, 1 to 6; the rule's bank or node, 0 for the page size.
+    OffProfile { rule: u64, at: u64 },
     /// A number that this crate does not know: the archive is newer than the crate.
     Unknown { number: u64, place: u64 },
 }
@@ -183,6 +213,8 @@ impl Refusal {
             Refusal::TooShort { .. } => 14,
             Refusal::BadPart => 16,
             Refusal::PartlyCovered => 17,
+            Refusal::FillBitLost => 18,
+            Refusal::OffProfile { .. } => 19,
             Refusal::Unknown { number, .. } => number,
         }
     }
@@ -205,6 +237,8 @@ impl Refusal {
             14 => Refusal::too_short(place, passes),
             16 => Refusal::BadPart,
             17 => Refusal::PartlyCovered,
+            18 => Refusal::FillBitLost,
+            19 => Refusal::OffProfile { rule: place, at: second },
             _ => Refusal::Unknown { number, place },
         }
     }
@@ -224,7 +258,7 @@ impl Refusal {
 fn layout_of(r: ffi::DkLayout) -> Result<Layout, Refusal> {
     match r.refusal {
         // at most 4,096 spans are counted, and each was written into a slice
-        0 => Ok(Layout { k: r.k, passes: r.passes, length: r.length, spans: r.spans as usize }),
+        0 => Ok(Layout { k: r.k, passes: r.passes, length: r.length, spans: r.spans as usize, padding: r.padding }),
         number => Err(Refusal::told(number, r.place, r.second, r.passes)),
     }
 }
@@ -237,13 +271,22 @@ fn count_of(r: ffi::DkCount) -> Result<usize, Refusal> {
 }
 
 /// Lays tables out: writes the image, bits from the top of each byte and zero past its length, and the spans.
-pub fn build(banks: &Banks<'_>, nodes: &Nodes<'_>, image: &mut [u8], spans: Spans<'_>) -> Result<Layout, Refusal> {
-    layout_of(ffi::build(banks, nodes, image, spans))
+pub fn build(banks: &Banks<'_>, nodes: &Nodes<'_>, choices: Choices, image: &mut [u8], spans: Spans<'_>) -> Result<Layout, Refusal> {
+    layout_of(ffi::build(banks, nodes, choices, image, spans))
 }
 
-/// Lays a file of form 1 out, at most 65,000 bytes.
-pub fn layout_form(file: &[u8], image: &mut [u8], spans: Spans<'_>) -> Result<Layout, Refusal> {
-    layout_of(ffi::form(file, image, spans))
+/// The pages of each bank in the profile of a device with pages of `page` bits, `None` for a bank without offset; or why the tables don't keep it.
+pub fn profile(banks: &Banks<'_>, nodes: &Nodes<'_>, fill: Fill, page: u32) -> Result<[Option<u64>; 16], Refusal> {
+    let r = ffi::profile(banks, nodes, fill as u8, page);
+    match r.refusal {
+        0 => Ok(r.pages.map(|pages| if pages == u64::MAX { None } else { Some(pages) })),
+        number => Err(Refusal::told(number, r.place, r.second, 0)),
+    }
+}
+
+/// Lays a file of form 1 out, at most 65,000 bytes, or of form 2, at most 65,536; in the profile of a device with pages where a page size is given.
+pub fn layout_form(file: &[u8], fill: Fill, page: Option<u32>, image: &mut [u8], spans: Spans<'_>) -> Result<Layout, Refusal> {
+    layout_of(ffi::form(file, fill as u8, page, image, spans))
 }
 
 /// Writes the blocks that spans make, taken by offset, and answers how many there are. At most 4,096 spans, as many offsets as sizes.

@@ -1,6 +1,6 @@
 //! A layout that owns its lists, for callers who would rather not keep ten slices in step.
 
-use crate::{build, get_blocks, Banks, Buffer, Layout, Nodes, Refusal, Spans, FILL, HAS_ALIGN, HAS_OFFSET, HAS_SIZE, NO_OFFSET};
+use crate::{build, get_blocks, Banks, Buffer, Choices, Layout, Nodes, Refusal, Spans, FILL, HAS_ALIGN, HAS_OFFSET, HAS_SIZE, NO_OFFSET};
 
 /// A bank.
 #[derive(Clone, Copy, Debug, PartialEq, Eq)]
@@ -17,12 +17,14 @@ pub struct Bank {
     pub align: Option<u32>,
     /// Whether its range is filled.
     pub fill: bool,
+    /// What the range has where no item is written: ones, or zeros.
+    pub ones: bool,
 }
 
 impl Bank {
     /// A bank of this address unit that starts at 0 and has nothing else.
     pub fn new(unit: u16) -> Bank {
-        Bank { unit, start: 0, size: None, offset: None, align: None, fill: false }
+        Bank { unit, start: 0, size: None, offset: None, align: None, fill: false, ones: false }
     }
 
     fn flags(&self) -> u8 {
@@ -92,6 +94,7 @@ pub struct Program {
     rows: u64,
     values: Vec<u8>,
     limit: u8,
+    choices: Choices,
 }
 
 impl Program {
@@ -121,6 +124,12 @@ impl Program {
         self
     }
 
+    /// What is chosen: the fill, whether bank 0 is closed, a page size. [`Choices::default`] if this is not called.
+    pub fn choices(&mut self, choices: Choices) -> &mut Program {
+        self.choices = choices;
+        self
+    }
+
     /// The bytes that items are taken from.
     pub fn values(&mut self, bytes: &[u8]) -> &mut Program {
         self.values = bytes.to_vec();
@@ -137,6 +146,7 @@ impl Program {
             offsets: &list(|bank| bank.offset),
             aligns: &list(|bank| bank.align),
             flags: &self.banks.iter().map(Bank::flags).collect::<Vec<_>>(),
+            fill_bits: &self.banks.iter().map(|bank| bank.ones as u8).collect::<Vec<_>>(),
         };
         let nodes = Nodes {
             kinds: &self.kinds,
@@ -152,7 +162,7 @@ impl Program {
         let mut image = vec![0; most_bytes.min(4096)];
         let layout = loop {
             let spans = Spans { addresses: &mut addresses, offsets: &mut offsets, sizes: &mut sizes };
-            match build(&banks, &nodes, &mut image, spans) {
+            match build(&banks, &nodes, self.choices, &mut image, spans) {
                 // what is lent grows by itself up to the most that the caller allows
                 Err(Refusal::TooShort { buffer: Buffer::Image, .. }) if image.len() < most_bytes => {
                     let more = image.len().saturating_mul(2).max(1).min(most_bytes);

@@ -4,7 +4,7 @@ use denkumari::*;
 const FLAGS: &[u8] = &[0, HAS_SIZE | HAS_OFFSET | FILL];
 
 fn banks(flags: &[u8]) -> Banks<'_> {
-    Banks { units: &[8, 10], starts: &[0, 64], sizes: &[0, 40], offsets: &[0, 0], aligns: &[0, 0], flags }
+    Banks { units: &[8, 10], starts: &[0, 64], sizes: &[0, 40], offsets: &[0, 0], aligns: &[0, 0], flags, fill_bits: &[0, 0] }
 }
 
 fn nodes<'a>(kinds: &'a [u8], numbers: &'a [u32]) -> Nodes<'a> {
@@ -15,7 +15,7 @@ fn nodes<'a>(kinds: &'a [u8], numbers: &'a [u32]) -> Nodes<'a> {
 fn laid_out(banks: Banks<'_>, nodes: Nodes<'_>, bytes: usize, places: usize) -> (Result<Layout, Refusal>, bool) {
     let (mut image, mut addresses, mut offsets, mut sizes) = (vec![0xa5; bytes], vec![-7; places], vec![7; places], vec![9; places]);
     let spans = Spans { addresses: &mut addresses, offsets: &mut offsets, sizes: &mut sizes };
-    let answer = build(&banks, &nodes, &mut image, spans);
+    let answer = build(&banks, &nodes, Choices::default(), &mut image, spans);
     let same = image == vec![0xa5; bytes] && addresses == vec![-7; places] && offsets == vec![7; places] && sizes == vec![9; places];
     (answer, same)
 }
@@ -26,7 +26,7 @@ const NUMBERS: &[u32] = &[0, 0, 10, 10, 10];
 #[test]
 fn worked_example() {
     let (answer, same) = laid_out(banks(FLAGS), nodes(KINDS, NUMBERS), 8, 4);
-    assert_eq!(answer, Ok(Layout { k: 1, passes: 2, length: 40, spans: 3 }));
+    assert_eq!(answer, Ok(Layout { k: 1, passes: 2, length: 40, spans: 3, padding: [0; 16] }));
     assert!(!same);
 }
 
@@ -47,7 +47,7 @@ fn refusals_leave_everything_alone() {
 fn files() {
     let mut image = [1; 8];
     let spans = Spans { addresses: &mut [], offsets: &mut [], sizes: &mut [] };
-    assert_eq!(layout_form(&[], &mut image, spans), Err(Refusal::Malformed { place: 0 }));
+    assert_eq!(layout_form(&[], Fill::Inherited, None, &mut image, spans), Err(Refusal::Malformed { place: 0 }));
     assert_eq!(image, [1; 8]);
 }
 
@@ -79,7 +79,58 @@ fn an_owned_program_grows_its_image() {
 }
 
 #[test]
+fn choices_are_passed_on() {
+    let mut program = Program::new(10);
+    program.bank(Bank::new(8)).bank(Bank { size: Some(8), offset: Some(0), fill: true, ones: true, ..Bank::new(8) });
+    program.bank(Bank { size: Some(1), offset: Some(8), fill: true, ones: true, ..Bank::new(8) });
+    program.row(&[]);
+    assert_eq!(program.build(2).unwrap().image, [0xff]);
+    program.choices(Choices { fill: Fill::Full, ..Choices::default() });
+    assert_eq!(program.build(2).unwrap().image, [0xff, 0x80]);
+    program.choices(Choices { page: Some(8), ..Choices::default() });
+    assert_eq!(program.build(2), Err(Refusal::OffProfile { rule: 4, at: 2 }));
+    let mut alone = Program::new(10);
+    alone.bank(Bank::new(8)).node(kind::RESERVE, 0).node(kind::ALIGN, 0).node(kind::LABEL, 0).row(&[(10, 0), (16, 0), (0, 0)]);
+    assert_eq!(alone.build(0).unwrap().layout.padding[..2], [6, 0]);
+    alone.choices(Choices { closed: true, ..Choices::default() });
+    assert_eq!(alone.build(0), Err(Refusal::DefaultBank { node: 0, passes: 2 }));
+}
+
+#[test]
+fn pages() {
+    let flags = [0, HAS_SIZE | HAS_OFFSET];
+    let banks = Banks { units: &[8, 16], starts: &[0, 0], sizes: &[0, 64], offsets: &[0, 32], aligns: &[0, 0], flags: &flags, fill_bits: &[0, 1] };
+    let nodes = Nodes { kinds: &[], operands: &[], numbers: &[], states: &[], rows: 1, values: &[], limit: 1 };
+    let mut pages = [None; 16];
+    pages[1] = Some(2);
+    assert_eq!(profile(&banks, &nodes, Fill::Inherited, 32), Ok(pages));
+    assert_eq!(profile(&banks, &nodes, Fill::Inherited, 0), Err(Refusal::OffProfile { rule: 1, at: 0 }));
+    assert_eq!(profile(&banks, &nodes, Fill::Inherited, 64), Err(Refusal::OffProfile { rule: 3, at: 1 }));
+}
+
+#[test]
+fn records_are_written_and_read_back() {
+    use records::{line_at_fault, read, write_hex, write_srec, Format, Width};
+    let image = [1, 2, 3, 4];
+    let mut text = [0; 128];
+    let hex = write_hex(&image, &[0, 24], &[8, 8], 16, &mut text).unwrap();
+    assert_eq!(&text[..hex], b":0100100001EE\n:0100130004E8\n:00000001FF\n");
+    let (mut bytes, mut offsets, mut sizes) = ([0xff; 4], [7; 2], [7; 2]);
+    assert_eq!(read(Format::IntelHex, &text[..hex], 16, &mut bytes, &mut offsets, &mut sizes), Ok(2));
+    assert_eq!((bytes, offsets, sizes), ([1, 0xff, 0xff, 4], [0, 24], [8, 8]));
+    assert_eq!(line_at_fault(Format::IntelHex, &text[..hex], 16), None);
+    assert_eq!(line_at_fault(Format::IntelHex, &text[..hex], 17), Some(0));
+    assert_eq!(line_at_fault(Format::SRecords, &text[..hex], 16), Some(0));
+    let short = Refusal::TooShort { buffer: Buffer::Hex, passes: 0 };
+    assert_eq!(write_srec(&image, &[0], &[32], 0, Width::Two, &mut text[..4]), Err(short));
+    assert_eq!(write_srec(&image, &[0], &[32], 65_533, Width::Two, &mut text), Err(Refusal::Malformed { place: 0 }));
+    assert!(write_srec(&image, &[0], &[32], 65_533, Width::Four, &mut text).is_ok());
+    assert_eq!(write_hex(&image, &[1], &[8], 0, &mut text), Err(Refusal::BadPart));
+}
+
+#[test]
 fn refusals_are_told_in_words() {
+    assert_eq!(Refusal::OffProfile { rule: 3, at: 2 }.to_string(), "refused 19: the offset of bank 2 is not on a page");
     let refusal = Refusal::Overlap { start: 0, size: 128, passes: 2 };
     assert_eq!(refusal.to_string(), "refused 12: a placement would share a bit with what stands from bit 0 on, 128 bits");
     let error: Box<dyn std::error::Error> = Box::new(Refusal::TooShort { buffer: Buffer::Spans, passes: 1 });

@@ -1,0 +1,44 @@
+//! Files of Intel HEX and of S-records: the blocks of an image written, and a file read into bytes and blocks. `load` is the address of the first byte.
+
+use crate::{count_of, ffi, Refusal};
+
+/// Which records a file is read as.
+#[derive(Clone, Copy, Debug, PartialEq, Eq)]
+pub enum Format {
+    /// Intel HEX.
+    IntelHex = 0,
+    /// S-records, of either width.
+    SRecords = 1,
+}
+
+/// How many bytes an address in S-records has.
+#[derive(Clone, Copy, Debug, PartialEq, Eq)]
+pub enum Width {
+    /// S1 and S9.
+    Two = 2,
+    /// S3 and S7.
+    Four = 4,
+}
+
+/// Writes blocks on byte edges, lent as offsets and sizes in bits, as Intel HEX, and answers the length of the text. Refused 16 for a block that is empty,
+/// outside the image or off a byte edge, 4 for blocks that don't ascend or share a bit and for an address past 32 bits, then 14 for the text.
+pub fn write_hex(image: &[u8], offsets: &[u64], sizes: &[u64], load: u32, text: &mut [u8]) -> Result<usize, Refusal> {
+    count_of(ffi::write_hex(image, offsets, sizes, load, text))
+}
+
+/// The same as S-records; 4 also for an address that does not fit the width.
+pub fn write_srec(image: &[u8], offsets: &[u64], sizes: &[u64], load: u32, width: Width, text: &mut [u8]) -> Result<usize, Refusal> {
+    count_of(ffi::write_srec(image, offsets, sizes, load, width as u8, text))
+}
+
+/// Reads a file: its bytes go to `bytes`, counted from the load address, and every other byte stays; its blocks, in bits, ascending, touching ones joined, to the
+/// two lists. Answers how many blocks there are. Refused 4 for a bad file, then 14 for the bytes or the lists.
+pub fn read(format: Format, text: &[u8], load: u32, bytes: &mut [u8], offsets: &mut [u64], sizes: &mut [u64]) -> Result<usize, Refusal> {
+    count_of(ffi::read_records(format as u8, text, load, bytes, offsets, sizes))
+}
+
+/// The first line, from 0, at which no good file can go on; `None` of a good file.
+pub fn line_at_fault(format: Format, text: &[u8], load: u32) -> Option<u64> {
+    let r = ffi::record_fault(format as u8, text, load);
+    (r.fault != 0).then_some(r.line)
+}
