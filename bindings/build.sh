@@ -1,6 +1,6 @@
 #!/bin/sh
-# Builds the proved archive and the programs over it: target/staticlib/libdenkumari.a, and in build/bindings the C programs batch, test, store, overlays, records,
-# stack and blocks_time, and, where a Rust compiler has the x86-64 target, the Rust ones batch_rust, worked_rust, calls_rust, store_rust and
+# Builds the proved archive and the programs over it: target/staticlib/libdenkumari.a, and in build/bindings the C programs batch, test, store, overlays,
+# records, stack and blocks_time, and, where a Rust compiler has the x86-64 target, the Rust ones batch_rust, worked_rust, calls_rust, store_rust and
 # overlays_rust. Says what it skipped.
 #
 # Not on x86-64, CC names a C compiler for it (default x86_64-linux-gnu-gcc; Debian: gcc-x86-64-linux-gnu libc6-dev-amd64-cross). RUSTC names the

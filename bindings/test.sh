@@ -56,13 +56,22 @@ held() {
     compare "C, from files$under" "$out/batch" --padding "$@"
     compare "C, from tables$under" "$out/batch" --tables --padding "$@"
 }
+# converted FORM [ROOM]: the files in that form, against oracle/convert.py
+converted() {
+    python3 oracle/convert.py --batch --to "$1" ${2:+--room "$2"} <"$out/layouts" >"$out/expected"
+    compare "C, to form $1${2:+ in $2 bytes}" "$out/batch" --to "$1" ${2:+--room "$2"}
+}
 draw --form-2
+converted 1
+converted 1 200
 held ", form 2"
 held ", form 2, full fill" --fill 1
 draw --paged
 held ", in the profile" --page 16
 held ", in the profile, full fill" --page 16 --fill 1
 draw --batch
+converted 2
+converted 2 200
 held ", full fill" --fill 1
 held ""
 python3 oracle/model.py --batch <"$out/layouts" >"$out/expected"

@@ -61,7 +61,7 @@ enum dk_refusal {
                                   place: 512 for either count, else the first interval at fault, else the first mark at fault */
     DK_BAD_PART = 16,          /* a part of an image is empty, outside it, or not on byte edges; place 0 */
     DK_PARTLY_COVERED = 17,    /* an overlay covers a range only in part; place 0 */
-    DK_FILL_BIT_LOST = 18,     /* a way back to form 1 would drop a fill bit of one; place 0. No call of this header gives it */
+    DK_FILL_BIT_LOST = 18,     /* a way back to form 1 would drop a fill bit of one; place 0 */
     DK_OFF_PROFILE = 19        /* a layout breaks the profile; place: the rule, enum dk_rule; second: its bank or node, 0 for the page size */
 };
 
@@ -116,7 +116,7 @@ struct dk_layout {
 
 /* The answer of a call that writes a list. */
 struct dk_count {
-    uint64_t refusal; /* DK_ACCEPTED, DK_MALFORMED, DK_TOO_SHORT or, of the calls that write records, DK_BAD_PART */
+    uint64_t refusal; /* DK_ACCEPTED, DK_MALFORMED, DK_TOO_SHORT, of calls that write records DK_BAD_PART, of dk_to_form1 DK_FILL_BIT_LOST */
     uint64_t place;
     uint64_t count;   /* how many elements were written */
 };
@@ -233,6 +233,14 @@ struct dk_layout dk_form_paged(const uint8_t *file, size_t file_len, uint8_t fil
                                uint64_t *offsets, size_t offsets_len,
                                uint64_t *sizes, size_t sizes_len);
 
+/* A layout file in the other form: `count` is the length of the result, which stands at the front of `out`, and what is behind it stays. On the way to form 2
+ * fill bits are zero, and a file of one bank gets a bank 1 with bank 0's record, a switch to it ahead of the first node, and every switch to bank 0 turned
+ * into one to bank 1; the way back takes exactly that shape to one bank. Refused 4 for a broken file or one of the other form (place: the first broken field), over
+ * 4,096 nodes in file or result (0), over 16 rows (1), a one-bank file that names another bank (the node), or a result past its form's length (0); then, on
+ * the way to form 1, 18 for a fill bit of one; then 14 (place 0) where `out` is too short. They need less than 1 KiB of stack. */
+struct dk_count dk_to_form2(const uint8_t *file, size_t file_len, uint8_t *out, size_t out_len);
+struct dk_count dk_to_form1(const uint8_t *file, size_t file_len, uint8_t *out, size_t out_len);
+
 /* The blocks that spans make: taken by offset, a span that starts at the end of those before it joins them. As many offsets as sizes, at
  * most 4,096 (else 4). Block i starts at bit block_offsets[i] and has block_sizes[i] bits. It needs less than 12 KiB of stack (8.3 KiB), 8 KiB
  * of it for the spans' numbers. */
@@ -309,10 +317,10 @@ struct dk_count dk_write_srec(const uint8_t *image, size_t image_len,
 /* Which records a file is read as. */
 enum dk_format { DK_INTEL_HEX = 0, DK_S_RECORDS = 1 };
 
-/* Reads a file of records: the byte at address a goes to bytes[a - load], and every other byte stays as it was. Block i is the sizes[i] bits from bit offsets[i]
- * on, ascending, touching ones joined; `count` is how many there are. Any format other than DK_INTEL_HEX is read as S-records of either width. Refused 4 (place 0) where
- * the file is bad: a line, a byte given twice or below `load`; then 14 where `bytes` (place 0) or a list (place 2) is too short. It needs less than 1 KiB of
- * stack. */
+/* Reads a file of records: the byte at address a goes to bytes[a - load], and every other byte stays as it was. Block i is the sizes[i] bits from bit
+ * offsets[i] on, ascending, touching ones joined; `count` is how many there are. Any format other than DK_INTEL_HEX is read as S-records of either width.
+ * Refused 4 (place 0) where the file is bad: a line, a byte given twice or below `load`; then 14 where `bytes` (place 0) or a list (place 2) is too short.
+ * It needs less than 1 KiB of stack. */
 struct dk_count dk_read_records(uint8_t format, const uint8_t *text, size_t text_len, uint32_t load,
                                 uint8_t *bytes, size_t bytes_len,
                                 uint64_t *offsets, size_t offsets_len,

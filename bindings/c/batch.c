@@ -3,6 +3,7 @@
  *
  *     batch             lays each file out with dk_form
  *     batch --tables    takes sound files apart itself and calls dk_build; broken ones still go to dk_form
+ *     batch --to N      converts each file to form N, 1 or 2, into --room BYTES, and writes `ok` and the result in hex, or the refusal (oracle/convert.py)
  *     batch --spans     reads lists of spans instead, a line each, OFFSET:SIZE,.. with - for no offset, and writes their blocks
  *
  * The first two also take --fill N, the fill's choice, --page N, the page size of a device with pages, and --padding, by which each bank's padding, and with
@@ -189,6 +190,20 @@ static void lay_out(size_t size, int tables)
     putchar('\n');
 }
 
+/* The file in the other form, into so many bytes. */
+static void convert(size_t size, int to, size_t room)
+{
+    static uint8_t out[DK_MAX_FILE];
+    struct dk_count r = to == 2 ? dk_to_form2(file, size, out, room) : dk_to_form1(file, size, out, room);
+    if (r.refusal != DK_ACCEPTED)
+        printf("refused %" PRIu64 " %" PRIu64, r.refusal, r.place);
+    else
+        fputs("ok ", stdout);
+    for (uint64_t i = 0; i < r.count; i++)
+        printf("%02x", out[i]);
+    putchar('\n');
+}
+
 static int print_span_lists(void)
 {
     static char line[1 << 16];
@@ -208,7 +223,8 @@ static int print_span_lists(void)
 
 int main(int argc, char **argv)
 {
-    int tables = 0;
+    int tables = 0, to = 0;
+    size_t room = DK_MAX_FILE;
     for (int i = 1; i < argc; i++) {
         if (strcmp(argv[i], "--spans") == 0)
             return print_span_lists();
@@ -216,6 +232,10 @@ int main(int argc, char **argv)
         padded |= strcmp(argv[i], "--padding") == 0;
         if (i + 1 < argc && strcmp(argv[i], "--fill") == 0)
             fill = (uint8_t)strtoul(argv[++i], NULL, 10);
+        else if (i + 1 < argc && strcmp(argv[i], "--to") == 0)
+            to = atoi(argv[++i]);
+        else if (i + 1 < argc && strcmp(argv[i], "--room") == 0)
+            room = strtoul(argv[++i], NULL, 10);
         else if (i + 1 < argc && strcmp(argv[i], "--page") == 0) {
             page = (uint32_t)strtoul(argv[++i], NULL, 10);
             paged = 1;
@@ -228,7 +248,10 @@ int main(int argc, char **argv)
             fprintf(stderr, "batch: a file of %zu bytes is cut or too long\n", size);
             return 1;
         }
-        lay_out(size, tables);
+        if (to)
+            convert(size, to, room < DK_MAX_FILE ? room : DK_MAX_FILE);
+        else
+            lay_out(size, tables);
     }
     return 0;
 }

@@ -84,6 +84,21 @@ static void fault(void)
     refusal = dk_record_fault(DK_S_RECORDS, text, text_length, 0xfff8).fault;
 }
 
+static uint8_t other[FILE_MOST];
+static uint64_t other_length;
+
+static void to_form1(void)
+{
+    struct dk_count r = dk_to_form1(file, file_length, other, sizeof other);
+    refusal = r.refusal;
+    other_length = r.count;
+}
+
+static void to_form2(void)
+{
+    refusal = dk_to_form2(other, other_length, file, sizeof file).refusal;
+}
+
 static void form(void)
 {
     refusal = dk_form(file, file_length, DK_FILL_INHERITED, image, sizeof image, addresses, NODES, offsets, NODES, sizes, NODES).refusal;
@@ -242,6 +257,9 @@ int main(void)
     bad |= measure("dk_build_paged", build_paged, 28 * 1024);
     bad |= measure("dk_form", form, 136 * 1024);
     bad |= measure("dk_form_paged", form_paged, 136 * 1024);
+    file[57] = 0;
+    bad |= measure("dk_to_form1", to_form1, 1024);
+    bad |= measure("dk_to_form2", to_form2, 1024);
     fill_store();
     bad |= measure("dk_offer", offer, 1024);
     bad |= measure("dk_hex", digits, 1024);

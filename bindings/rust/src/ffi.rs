@@ -56,8 +56,8 @@ extern "C" {
     fn dk_build(
         units: *const u16, units_len: usize, starts: *const i64, starts_len: usize, bank_sizes: *const u32, bank_sizes_len: usize,
         bank_offsets: *const u32, bank_offsets_len: usize, aligns: *const u32, aligns_len: usize, flags: *const u8, flags_len: usize,
-        fill_bits: *const u8, fill_bits_len: usize, kinds: *const u8, kinds_len: usize, operands: *const u32, operands_len: usize, numbers: *const u32, numbers_len: usize,
-        states: *const u8, states_len: usize, rows: u64, values: *const u8, values_len: usize, limit: u8, fill: u8, closed: u8,
+        fill_bits: *const u8, fill_bits_len: usize, kinds: *const u8, kinds_len: usize, operands: *const u32, operands_len: usize,
+        numbers: *const u32, numbers_len: usize, states: *const u8, states_len: usize, rows: u64, values: *const u8, values_len: usize, limit: u8, fill: u8, closed: u8,
         image: *mut u8, image_len: usize, addresses: *mut i64, addresses_len: usize, offsets: *mut u64, offsets_len: usize,
         sizes: *mut u64, sizes_len: usize,
     ) -> DkLayout;
@@ -76,7 +76,8 @@ extern "C" {
         units: *const u16, units_len: usize, starts: *const i64, starts_len: usize, bank_sizes: *const u32, bank_sizes_len: usize,
         bank_offsets: *const u32, bank_offsets_len: usize, aligns: *const u32, aligns_len: usize, flags: *const u8, flags_len: usize,
         fill_bits: *const u8, fill_bits_len: usize, kinds: *const u8, kinds_len: usize, operands: *const u32, operands_len: usize,
-        numbers: *const u32, numbers_len: usize, states: *const u8, states_len: usize, rows: u64, values: *const u8, values_len: usize, fill: u8,
+        numbers: *const u32, numbers_len: usize, states: *const u8, states_len: usize, rows: u64, values: *const u8, values_len: usize,
+        fill: u8,
     ) -> DkProfile;
     fn dk_form_paged(
         file: *const u8, file_len: usize, fill: u8, page: u32, image: *mut u8, image_len: usize, addresses: *mut i64, addresses_len: usize,
@@ -94,6 +95,8 @@ extern "C" {
         format: u8, text: *const u8, text_len: usize, load: u32, bytes: *mut u8, bytes_len: usize,
         offsets: *mut u64, offsets_len: usize, sizes: *mut u64, sizes_len: usize,
     ) -> DkCount;
+    fn dk_to_form2(file: *const u8, file_len: usize, out: *mut u8, out_len: usize) -> DkCount;
+    fn dk_to_form1(file: *const u8, file_len: usize, out: *mut u8, out_len: usize) -> DkCount;
     fn dk_record_fault(format: u8, text: *const u8, text_len: usize, load: u32) -> DkFault;
     fn dk_form(
         file: *const u8, file_len: usize, fill: u8, image: *mut u8, image_len: usize, addresses: *mut i64, addresses_len: usize,
@@ -209,6 +212,16 @@ pub fn read_records(format: u8, text: &[u8], load: u32, bytes: &mut [u8], offset
             offsets.as_mut_ptr(), offsets.len(), sizes.as_mut_ptr(), sizes.len(),
         )
     }
+}
+
+pub fn to_form2(file: &[u8], out: &mut [u8]) -> DkCount {
+    // SAFETY: see the module
+    unsafe { dk_to_form2(file.as_ptr(), file.len(), out.as_mut_ptr(), out.len()) }
+}
+
+pub fn to_form1(file: &[u8], out: &mut [u8]) -> DkCount {
+    // SAFETY: see the module
+    unsafe { dk_to_form1(file.as_ptr(), file.len(), out.as_mut_ptr(), out.len()) }
 }
 
 pub fn record_fault(format: u8, text: &[u8], load: u32) -> DkFault {

@@ -289,6 +289,16 @@ pub fn layout_form(file: &[u8], fill: Fill, page: Option<u32>, image: &mut [u8],
     layout_of(ffi::form(file, fill as u8, page, image, spans))
 }
 
+/// A file of form 1 in form 2, with fill bits zero; one bank becomes two. Answers its length.
+pub fn to_form2(file: &[u8], out: &mut [u8]) -> Result<usize, Refusal> {
+    count_of(ffi::to_form2(file, out))
+}
+
+/// A file of form 2 in form 1. Answers its length.
+pub fn to_form1(file: &[u8], out: &mut [u8]) -> Result<usize, Refusal> {
+    count_of(ffi::to_form1(file, out))
+}
+
 /// Writes the blocks that spans make, taken by offset, and answers how many there are. At most 4,096 spans, as many offsets as sizes.
 pub fn get_blocks(offsets: &[u64], sizes: &[u64], block_offsets: &mut [u64], block_sizes: &mut [u64]) -> Result<usize, Refusal> {
     count_of(ffi::blocks(offsets, sizes, block_offsets, block_sizes))

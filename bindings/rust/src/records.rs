@@ -31,8 +31,8 @@ pub fn write_srec(image: &[u8], offsets: &[u64], sizes: &[u64], load: u32, width
     count_of(ffi::write_srec(image, offsets, sizes, load, width as u8, text))
 }
 
-/// Reads a file: its bytes go to `bytes`, counted from the load address, and every other byte stays; its blocks, in bits, ascending, touching ones joined, to the
-/// two lists. Answers how many blocks there are. Refused 4 for a bad file, then 14 for the bytes or the lists.
+/// Reads a file: its bytes go to `bytes`, counted from the load address, and every other byte stays; its blocks, in bits, ascending, touching ones
+/// joined, to the two lists. Answers how many blocks there are. Refused 4 for a bad file, then 14 for the bytes or the lists.
 pub fn read(format: Format, text: &[u8], load: u32, bytes: &mut [u8], offsets: &mut [u64], sizes: &mut [u64]) -> Result<usize, Refusal> {
     count_of(ffi::read_records(format as u8, text, load, bytes, offsets, sizes))
 }

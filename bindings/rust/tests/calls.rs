@@ -52,6 +52,19 @@ fn files() {
 }
 
 #[test]
+fn files_in_the_other_form() {
+    let old = [&[1, 0, 23, 0, 8][..], &[0; 21], &[4, 0, 0, 5, 0, 1, 1]].concat();
+    let (mut new, mut back) = ([0xa5; 80], [0xa5; 80]);
+    let long = to_form2(&old, &mut new).unwrap();
+    assert_eq!((long, &new[..4], new[4], new[31]), (4 + 2 * 27 + 8 + 7, &[16, 0, 1, 2][..], 17, 17));
+    assert_eq!(to_form1(&new[..long], &mut back), Ok(old.len()));
+    assert_eq!(&back[..old.len()], &old[..]);
+    new[57] = 1;
+    assert_eq!(to_form1(&new[..long], &mut back), Err(Refusal::FillBitLost));
+    assert_eq!(to_form1(&old, &mut back), Err(Refusal::Malformed { place: 0 }));
+}
+
+#[test]
 fn blocks_hex_and_parts() {
     let (mut starts, mut lengths) = ([7; 3], [9; 3]);
     let (offsets, sizes) = ([20, NO_OFFSET, 0, 10], [5, 5, 10, 3]);
