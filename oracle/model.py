@@ -526,6 +526,8 @@ def main():
     parser.add_argument("--fill", type=int, default=INHERITED)
     parser.add_argument("--page", type=int)
     asked = parser.parse_args()
+    if not 0 <= asked.fill < 256 or asked.page is not None and not 0 <= asked.page < 2 ** 32:
+        parser.error("the fill's choice is a byte, the page size a number of 32 bits")
     choices = Choices(asked.fill, asked.page)
     data = sys.stdin.buffer.read()
     if asked.batch:

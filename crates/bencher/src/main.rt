@@ -4,8 +4,8 @@
 //                                                    last `runs` and their number
 //     bencher RELEASED OVERLAY LOAD ADDRESS COUNT    `overlay` or `released`, whichever the range comes from, and its bytes
 //
-// Bytes that a file does not give read as FF, as erased flash does. A refusal is one line, `refused` with its number and place; where a file was refused, one more
-// says which, and one more the line at fault, from 0, if there is one.
+// Bytes that a file does not give read as FF, as erased flash does. A refusal is one line, `refused` with its number and place; where a file was refused,
+// one more says which, and one more the line at fault, from 0, if there is one.
 use bench::Listed;
 use bench::Source;
 use bitvec::Hex;

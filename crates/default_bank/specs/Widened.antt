@@ -61,7 +61,7 @@ withSwitch l =
       values = l .values;
     }
 
--- the same limit and fill; bank 0 is not to be used alone: "In form 2 .. refused even when it is alone"
+-- the same limit and fill; bank 0 is not to be used alone: "From form 2 on, labels, written items and reserves in bank 0 are refused even when it is alone."
 abbrev pub closing : Choices → Choices
 closing choices = record { limit = choices .limit; fill = choices .fill; «default_bank» = false }
 
@@ -87,7 +87,7 @@ pub record OneBank (b : Input) : Type 0 where
 
 -- ---- its answer
 
--- "node numbers in places rise by one": those of 4, 5, 7, 9, 10, 11 and 13. The places of the others are no nodes.
+-- "node numbers in places rise by one": those of 4, 5, 7, 9, 10, 11 and 13. The places of the others that a build gives are no nodes; 19 comes before a build.
 abbrev pub shifted : Refusal → Refusal
 shifted (Malformed node) = Malformed (suc node)
 shifted (PositionPast node) = PositionPast (suc node)

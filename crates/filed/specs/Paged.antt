@@ -36,7 +36,8 @@ pub ordinary : {page : Opt} {b : Input} {old new : Lent} {r : Output} → page �
 ordinary {page} {b} {old} {new} {r} e p = subst (λ (q : Opt). BuiltIn q b old r new) (sym e) (record { answer = p .answer; left = p .left })
 
 module _ (bits : ℕ) (b : Input) (old : Lent) where
-  as-said : (v : Verdict) → afterYes v (builtOf b old) old ≡ outcome (afterSaid v (buildOf b (roomOf old))) (leaves b old (afterSaid v (buildOf b (roomOf old))))
+  as-said : (v : Verdict)
+      → afterYes v (builtOf b old) old ≡ outcome (afterSaid v (buildOf b (roomOf old))) (leaves b old (afterSaid v (buildOf b (roomOf old))))
   as-said Accepted = refl
   as-said (Refused why) = refl
 

@@ -8,7 +8,8 @@ use Rattle.output.specs.Output.{Lent, roomOf}
 use Rattle.output.specs.declared.Output.{Output}
 use Rattle.filed.specs.Filed.{FileBuilt}
 
-pub one-file-build : {file : List ℕ} {fill : ℕ} {page : Opt} {old x y : Lent} {r s : Output} → FileBuilt file fill page old r x → FileBuilt file fill page old s y → (r ≡ s) × (x ≡ y)
+pub one-file-build : {file : List ℕ} {fill : ℕ} {page : Opt} {old x y : Lent} {r s : Output} → FileBuilt file fill page old r x
+    → FileBuilt file fill page old s y → (r ≡ s) × (x ≡ y)
 one-file-build c d =
     let same = determined (c .answer) (d .answer) in
     (same, determined (c .left) (rw (← same) at (d .left)))

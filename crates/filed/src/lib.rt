@@ -21,8 +21,8 @@ const ROOM: usize = 8_192;
 
 const CELLS: usize = 13_107;
 
-// What a file chooses, with the fill's choice, which no form carries: its pass limit, and whether bank 0 may be used. "From form 2 on, labels, written items and
-// reserves in bank 0 are refused even when it is alone."
+// What a file chooses, with the fill's choice, which no form carries: its pass limit, and whether bank 0 may be used. "From form 2 on, labels, written
+// items and reserves in bank 0 are refused even when it is alone."
 fn chosen(shape: Shape, fill: u8) -> Choices
     ensures { λ r. ⌜ r ≡ choicesOf shape fill ⌝ }
 {

@@ -347,7 +347,7 @@ fields-written {k} known c =
     ∙ ap₂ _++_ (head-fields known)
     (some (k .tag) (c .banks) _ _ (some 2 (c .nodes) _ _ (some 3 (c .rows) _ _ (last-fields c))))
 
--- "Every file within its form's length is the writer's of exactly one list of fields, bank bytes whole, or broken."
+-- Every file within its form's length is the writer's of exactly one list of fields, bank bytes whole, or broken.
 pub data BrokenOrWritten (k : Kind) (file : List ℕ) : Type 0 where
   broken : (why : Refusal) → formIn k file ≡ Broken why → BrokenOrWritten k file
   written-once : (c : Contents) → Fits k c → fileOf (fieldsOf k c) ≡ file → ((fs : List Field) → fileOf fs ≡ file → fs ≡ fieldsOf k c)

@@ -74,7 +74,7 @@ abbrev pub paddingBy : List ℕ → Build → List ℕ
 paddingBy sums (Done k bits spans) = sums
 paddingBy sums (Refused why) = replicate maxBanks 0
 
--- the build of a row, as it is outputOf after so many passes
+-- a build's answer with the passes run, and each bank's padding where it is accepted
 abbrev pub outputOf : Program → Row → ℕ → Build → Output
 outputOf p row passes x = record { build = x; passes = passes; padding = paddingBy (paddingsOf p row) x }
 

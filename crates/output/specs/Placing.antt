@@ -1,4 +1,4 @@
--- What the build asks of each node in turn: refusals 9 to 13, and the intervals stored (document 01, "Image, spans, blocks").
+-- What the build asks of each node in turn: refusals 9 to 13, and the intervals and marks stored (document 01, "Image, spans, blocks").
 use Prim.Native.Nat.{ℕ, _+_}
 use mathlib.Core.Bool.{Bool, true, false, not, _&&_, _||_}
 use mathlib.Core.List.{List, [], _∷_}
@@ -104,7 +104,7 @@ tried closed bank def stored n at out =
 abbrev pub placing : Bool → ℕ → Bankdef → State → Node → Pos → Offset → Verdict
 placing closed bank def stored n at out = pick (isPlaced n) (tried closed bank def stored n at out) Accepted
 
--- the verdict on a node by the position that it sees: 5 or 6 where the walk stops there
+-- the verdict on a node by the position that it sees: 5 where the walk stops there
 abbrev pub verdictSeen : Bool → ℕ → Bankdef → State → Node → Offset → Moved → Verdict
 verdictSeen closed bank def stored n out (Stopped why) = Refused why
 verdictSeen closed bank def stored n out (To at) = placing closed bank def stored n at out

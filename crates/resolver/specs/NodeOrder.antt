@@ -60,7 +60,7 @@ module _ (p : Program) (row : Row) where
     pub seen : seenAt i ≡ To now
     pub off : now .position % defAt i .unit ≡ 0 → ⊥
 
-  -- The pass goes on past node i: the walk is not stopped there (5, 6), and in the last pass a label is on a boundary (7).
+  -- The pass goes on past node i: the walk is not stopped there (5), and in the last pass a label is on a boundary (7).
   pub record GoesPast (isLast : Bool) (i : ℕ) : Type 0 where
     pub now : Pos
     pub seen : seenAt i ≡ To now
@@ -158,7 +158,7 @@ module _ (p : Program) (row : Row) where
     way zero = inl (0, refl, λ j. λ h. absurd (not-suc-le-zero h))
     way (suc n) = next-way n (passTo p row before isFirst isLast n) (way n)
 
-    -- A pass is refused for what the first node meets that meets 5, 6 or 7.
+    -- A pass is refused for what the first node meets that meets 5 or 7.
     pub first-met : (why : Refusal) → passOf p row before isFirst isLast ≡ Refused why → (i : ℕ) × MeetsFirst isLast (length (p .kinds)) i why
     first-met why e =
         ⊎-elim (λ a. absurd (ended (a .1) e))

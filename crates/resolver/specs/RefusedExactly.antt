@@ -309,7 +309,7 @@ module _ (banks : Bankdefs) (l : Lists) (choices : Choices) where
     λ u. settled-as Unresolved (ending-decides u),
   )
 
-  -- "and 8 at its end": such a pass has gone past every node, so that 5, 6 and 7 come before 8.
+  -- "and 8 at its end": such a pass has gone past every node, so that 5 and 7 come before 8.
   pub eight-at-end : (u : LastUnresolved banks l choices) (i : ℕ) → i < length (l .kinds) → GoesPast (program banks l) (rowOfPass l (u .pass)) true i
   eight-at-end u = ran-to-end (program banks l) (rowOfPass l (u .pass)) (rowOfPass l (u .pass - 1)) (eqb (u .pass) 1) true 2 (u .ends)
 
