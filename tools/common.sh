@@ -114,9 +114,19 @@ ask() {
     esac
 }
 
+# Whether an answer is whole: it ends as the program ends it, so one that was cut, on a full disk say, is not taken for an answer.
+whole() {
+    case $1 in
+    station | rehex) tail -n 1 "$room/said" | grep -qxE ':00000001FF|S9030000FC|S70500000000FA' ;;
+    converter) [ "$(tail -c 4 "$room/said" | od -An -v -tx1 | tr -d ' ' | cut -c 1-6)" = 050001 ] ;;
+    *) [ -z "$(tail -c 1 "$room/said")" ] ;;
+    esac
+}
+
 # And hands its answer on: status 0.
 answer() {
     ask "$@"
+    whole "$1" || say "the program's answer was cut"
     cat "$room/said" || say "the answer could not be written"
     exit 0
 }
