@@ -47,7 +47,13 @@ module _ (file : List ℕ) (s : Shape) (sound : formOf file ≡ Sound s) (kinds 
       let few : s .nodes ≤ 8192 = omega (arith, p .room, p .short) in
       let cells : s .rows * s .nodes ≤ 13107 = omega (arith, p .room, p .short) in
       l .verdict
-      ∙ rw (sound, le-leb (s .nodes) (length kinds) (omega arith), le-leb (s .nodes) (length operands) (omega arith), le-leb (s .rows * s .nodes) (length numbers) (omega arith), le-leb (s .rows * s .nodes) (length states) (omega arith)) refl
+      ∙ rw (
+        sound,
+        le-leb (s .nodes) (length kinds) (omega arith),
+        le-leb (s .nodes) (length operands) (omega arith),
+        le-leb (s .rows * s .nodes) (length numbers) (omega arith),
+        le-leb (s .rows * s .nodes) (length states) (omega arith),
+      ) refl
 
   pub held : 8192 ≤ length kinds → 8192 ≤ length operands → 13107 ≤ length numbers → 13107 ≤ length states
       → {v : Verdict} {kinds′ operands′ numbers′ states′ : List ℕ} → Lists file kinds operands numbers states v kinds′ operands′ numbers′ states′
@@ -90,8 +96,13 @@ module _ (file : List ℕ) (fill : ℕ) (page : Opt) (old : Lent) where
 
     pub laid-out : (banks : Bankdefs) (kinds operands numbers states values : List ℕ) (choices : Choices) → HeldIn file s kinds operands numbers states
         → choices ≡ choicesOf s fill → banks ≡ tableOf file → values ≡ valuesBy file (formOf file)
-        → BuiltIn page (input banks (lists (take (s .nodes) kinds) (take (s .nodes) operands) (take (s .rows * s .nodes) numbers) (take (s .rows * s .nodes) states) (s .rows) values) choices) old r new
+        → BuiltIn page (input banks
+        (lists (take (s .nodes) kinds) (take (s .nodes) operands) (take (s .rows * s .nodes) numbers) (take (s .rows * s .nodes) states) (s .rows) values)
+        choices) old r new
         → FileBuilt file fill page old r new
     laid-out banks kinds operands numbers states values choices h ec eb ev b =
-        as-read (subst (λ (x : ℕ). BuiltIn page (input (tableOf file) (lists (kindsOf file) (operandsOf file) (numbersOf file) (statesOf file) x (valuesBy file (formOf file))) (choicesOf s fill)) old r new) (places file s sound .rows)
+        as-read (subst
+        (λ (x : ℕ). BuiltIn page (input (tableOf file)
+        (lists (kindsOf file) (operandsOf file) (numbersOf file) (statesOf file) x (valuesBy file (formOf file))) (choicesOf s fill)) old r new)
+        (places file s sound .rows)
         (rw (ec, eb, ev, h .of-kinds, h .of-operands, h .of-numbers, h .of-states) at b))
