@@ -23,7 +23,7 @@ if ! command -v "$cc" >/dev/null; then
     echo "skipped: the C and Rust programs, for want of a C compiler for x86-64 ($cc)"
     exit 0
 fi
-for program in batch test store overlays stack records blocks_time; do
+for program in batch test store overlays stack records blocks_time fill_time; do
     "$cc" -std=c11 -O2 -Wall -Wextra -Werror -static -pthread -o "$out/$program" "bindings/c/$program.c" "$archive"
 done
 echo "built: libdenkumari.a and the C programs"

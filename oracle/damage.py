@@ -121,7 +121,7 @@ def damaged(rng):
             del lines[i]
             text = b"".join(lines)
         elif way == 6:
-            load = rng.choice((load + 1, load + 3, 0, 0xFFFF_FFFF))
+            load = rng.choice((min(load + 1, 0xFFFF_FFFF), min(load + 3, 0xFFFF_FFFF), 0, 0xFFFF_FFFF))
         else:
             lines[i] = sound_again(kind, lines[i], rng)
             text = b"".join(lines)

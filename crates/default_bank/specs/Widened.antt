@@ -87,7 +87,8 @@ pub record OneBank (b : Input) : Type 0 where
 
 -- ---- its answer
 
--- "node numbers in places rise by one": those of 4, 5, 7, 9, 10, 11 and 13. The places of the others that a build gives are no nodes; 19 comes before a build.
+-- "node numbers in places rise by one": those of 4, 5, 7, 9, 10, 11 and 13. The places of the others are no nodes, but
+-- for those of 19, which the ordinary build does not give: `default_profile` has it.
 abbrev pub shifted : Refusal → Refusal
 shifted (Malformed node) = Malformed (suc node)
 shifted (PositionPast node) = PositionPast (suc node)
