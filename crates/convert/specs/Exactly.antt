@@ -1,17 +1,17 @@
 -- When a call of the converter is refused, with which number and place, and when it is not: exactly, of every answer that meets its contract.
-use Prim.Native.Nat.{ℕ, _≤_, _<_, max}
-use mathlib.Core.Bool.{Bool, true, false}
-use mathlib.Core.List.{List}
-use mathlib.Core.Logic.{_↔_}
+use Prim.Native.Nat.{ℕ, zero, suc, _≤_, _<_, max}
+use mathlib.Core.Bool.{Bool, true, false, not}
+use mathlib.Core.List.{List, [], _∷_}
+use mathlib.Core.Logic.{_⊎_, inl, inr, _↔_}
 use mathlib.Core.Path.{_≡_, refl, sym, ap, ap₂, subst, _∙_}
 use native.Mathlib.Omega.{arith}
 use lib.Dec.{ltb}
-use lib.ListN.{length}
-use borrow.Author.Tests.{lt-ltb, le-ltb}
-use Rattle.refusal.specs.Bools.{clash}
+use lib.ListN.{length, getD}
+use borrow.Author.Tests.{lt-ltb, le-ltb, eq-eqb, eqb-true}
+use Rattle.refusal.specs.Bools.{either, both, clash}
 use Rattle.refusal.specs.Limits.{maxNodes, maxRows}
 use Rattle.refusal.specs.Pick.{pick, pick-true, pick-false}
-use Rattle.refusal.specs.Told.{Told, gives, refuses, toldNumber, toldRefusal}
+use Rattle.refusal.specs.Told.{Told, gives, refuses, toldNumber}
 use Rattle.refusal.specs.declared.Place.{Place}
 use Rattle.refusal.specs.declared.Place.the-variants.{One}
 use Rattle.refusal.specs.declared.Refusal.the-variants.{Malformed, FillBitDropped, TooShort}
@@ -27,7 +27,7 @@ use Rattle.form.specs.Told.{toldForm, FormTold, form-told}
 use Rattle.form.specs.Whole.{contentsIn}
 use Rattle.convert.specs.declared.Conversion.{Conversion}
 use Rattle.convert.specs.declared.Conversion.the-variants.{Converted, Refused}
-use Rattle.convert.specs.Convert.{stray, answerOf, answerFor, answerBy, Converts, toForm2, dropsNone, ToForm2}
+use Rattle.convert.specs.Convert.{allOf, bitClear, dropsBit, stray, answerOf, answerFor, answerBy, outAfter, Converts, toForm2, dropsNone, ToForm2}
 use Rattle.convert.specs.Told as told
 use Rattle.convert.specs.Told.{toldConversion, Counts, ConvertTold, converts-told}
 
@@ -128,6 +128,16 @@ module _ {k : Kind} {form : Form} {c d : Contents} {drops : Bool} {room : ℕ} (
   from-given (told.short s e a b f h) q = absurd (never (sym q))
   from-given (told.taken s e a b f h) q = (record { shape = s; sound = e; counts = a; within = b }, f, h, sym (same q))
 
+  from-any : {t : Told ℕ} {n : ℕ} {p : Place} → ConvertTold k form c d drops room t → t ≡ refuses n p → (n ≡ 4) ⊎ ((n ≡ 14) ⊎ (n ≡ 18))
+  from-any (told.broken e) q = inl (sym (number q) ∙ four _ _ e)
+  from-any (told.nodes s e h) q = inl (sym (number q))
+  from-any (told.rows s e a h) q = inl (sym (number q))
+  from-any (told.names s e a b h) q = inl (sym (number q))
+  from-any (told.long s e a h) q = inl (sym (number q))
+  from-any (told.bit s e a b h) q = inr (inr (sym (number q)))
+  from-any (told.short s e a b f h) q = inr (inl (sym (number q)))
+  from-any (told.taken s e a b f h) q = absurd (never q)
+
 -- ---- from a cause to the answer
 
 module _ (k : Kind) (c d : Contents) (drops : Bool) (room : ℕ) where
@@ -153,7 +163,8 @@ module _ (k : Kind) (c d : Contents) (drops : Bool) (room : ℕ) where
 
   counted : Counts c d
       → answerFor k c d drops room
-      ≡ pick (ltb (k .longest) long) (Refused (Malformed 0)) (pick drops (Refused FillBitDropped) (pick (ltb room long) (Refused (TooShort 0)) (Converted long)))
+      ≡ pick (ltb (k .longest) long) (Refused (Malformed 0))
+      (pick drops (Refused FillBitDropped) (pick (ltb room long) (Refused (TooShort 0)) (Converted long)))
   unfolding answerOf
   counted a =
       pick-false _ _ (le-ltb maxNodes most (a .nodes)) ∙ pick-false _ _ (le-ltb maxRows (length (c .rows)) (a .rows))
@@ -236,6 +247,44 @@ module _ (from to : Kind) (turn : Contents → Contents) (drops : Contents → B
         call .is ∙ on-sound to c (turn c) (drops c) (length old) (h .0 .sound)
         ∙ given-answer to c (turn c) (drops c) (length old) (h .0 .counts) (h .0 .within) (h .1) (h .2) ∙ ap Converted (sym (h .3)),
   )
+
+  -- No other number is told,
+  pub refused-only-4-14-18 : (n : ℕ) (p : Place) → toldConversion answer ≡ refuses n p → (n ≡ 4) ⊎ ((n ≡ 14) ⊎ (n ≡ 18))
+  refused-only-4-14-18 n p e = from-any (broken-four from file) (converts-told from to turn drops call) e
+
+  -- and with each of them the buffer is as it was.
+  pub refused-changes-nothing : (n : ℕ) (p : Place) → toldConversion answer ≡ refuses n p → new ≡ old
+  refused-changes-nothing n p e = call .out ∙ go answer e
+    where
+      go : (r : Conversion) → toldConversion r ≡ refuses n p → outAfter r (written to (turn (contentsIn from file))) old ≡ old
+      go (Converted m) q = absurd (never q)
+      go (Refused why) q = refl
+
+-- ---- "a way back that would drop a fill bit of one"
+
+one-set : (banks : List (List ℕ)) → allOf bitClear banks ≡ false → (i : ℕ) × (i < length banks) × (getD (getD banks i []) 23 0 ≡ 0 → ⊥)
+unfolding allOf
+one-set [] e = absurd (clash refl e)
+one-set (b ∷ banks) e =
+    either (bitClear b)
+    (λ t.
+    let rest : allOf bitClear banks ≡ false = rw t at e in
+    let r = one-set banks rest in
+    (suc (r .0), omega (arith, r .1), r .2))
+    (λ t. (0, omega arith, λ z. clash (eq-eqb (getD b 23 0) 0 z) t))
+
+each-clear : (banks : List (List ℕ)) → allOf bitClear banks ≡ true → (i : ℕ) → i < length banks → getD (getD banks i []) 23 0 ≡ 0
+unfolding allOf
+each-clear [] e i h = absurd (omega (arith, h))
+each-clear (b ∷ banks) e zero h = eqb-true (getD b 23 0) 0 (both (bitClear b) (allOf bitClear banks) e .0)
+each-clear (b ∷ banks) e (suc i) h = each-clear banks (both (bitClear b) (allOf bitClear banks) e .1) i (omega (arith, h))
+
+-- A fill bit is dropped exactly where the last byte of some bank is not zero.
+pub drops-bit-exactly : (d : Contents) → (dropsBit d ≡ true) ↔ ((i : ℕ) × (i < length (d .banks)) × (getD (getD (d .banks) i []) 23 0 ≡ 0 → ⊥))
+drops-bit-exactly d = (
+  λ e. either (allOf bitClear (d .banks)) (λ t. absurd (clash e (ap not t))) (λ f. one-set (d .banks) f),
+  λ h. either (allOf bitClear (d .banks)) (λ t. absurd (h .2 (each-clear (d .banks) t (h .0) (h .1)))) (λ f. ap not f),
+)
 
 -- The way to form 2 drops no fill bit: it is never refused 18.
 pub to-form2-never-18 : {file old new : List ℕ} {answer : Conversion} → ToForm2 file old answer new → (p : Place) → toldConversion answer ≡ refuses 18 p → ⊥
