@@ -14,7 +14,7 @@ same-length : tie.Need-same-length
 same-length c = search needs
 
 returns : tie.Need-returns
-returns c = way-told (c .tell-conversion .ensures) (c .before .before .before .to-form2 .ensures)
+returns c = way-told (c .tell-conversion .ensures) (c .before .before .before .to-form2 .ensures .0)
 
 pub dk-to-form2-spec : {M : Type 1} → statement M
 dk-to-form2-spec =
