@@ -32,7 +32,7 @@ use Rattle.bitvec.specs.HexDigits.{hexOf, digitAt, digitValue, paddedBit}
 use Rattle.sort.specs.Sorted.{insertBy, sortedBy}
 use Rattle.blocks.specs.Spans.{spansOf}
 use Rattle.blocks.specs.Walk.{blocksFrom, blocksOf}
-use Rattle.output.specs.Placing.{closesDefault, checked, placing}
+use Rattle.placing.specs.Placing.{closesDefault, checked, placing}
 use Rattle.iter.specs.Address.{outputPosition}
 use Rattle.cases.specs.Figures.{ofVerdict, ofDistance, ofBlocks, ofResolution}
 

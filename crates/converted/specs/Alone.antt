@@ -19,9 +19,9 @@ use Rattle.resolver.specs.Layout.{layoutOf}
 use Rattle.resolver.specs.Lists.{nodesTo, anyRowFault, listsOf}
 use Rattle.resolver.specs.Once.{walkTo, passTo}
 use Rattle.resolver.specs.Passes.{first, settledBy}
-use Rattle.output.specs.Visits.{visitsTo, each}
-use Rattle.output.specs.Items.{lengthOf}
-use Rattle.output.specs.Placing.{checked, placedFrom}
+use Rattle.visits.specs.Visits.{visitsTo, each}
+use Rattle.visits.specs.Items.{lengthOf}
+use Rattle.placing.specs.Placing.{checked, placedFrom}
 use Rattle.output.specs.Output.{Room, roomFor, refusedAfter, buildOf}
 use Rattle.output.specs.declared.Build.the-variants.{Done}
 use Rattle.output.specs.declared.Output.{Output}

@@ -24,9 +24,9 @@ use Rattle.resolver.specs.declared.Settled.{Settled}
 use Rattle.resolver.specs.declared.Settled.the-variants.{At, Refused as Unsettled}
 use Rattle.output.specs.Output.{Input, input, Lent, Room, roomOf, roomFor, placedBuild, settledBuild, settledOf, passesOf, visitsOf, buildOf, leftBy, Builds}
 use Rattle.output.specs.Output.{closedOf, fillOf, toldBuild, roomTold, placedTold, settledTold}
-use Rattle.output.specs.Items.{lengthOf, itemsOf}
-use Rattle.output.specs.Placing.{Placed, holds, stops, placedAll}
-use Rattle.output.specs.Spans.{spansOf}
+use Rattle.visits.specs.Items.{lengthOf, itemsOf}
+use Rattle.placing.specs.Placing.{Placed, holds, stops, placedAll}
+use Rattle.visits.specs.Spans.{spansOf}
 use Rattle.output.specs.declared.Build.the-variants.{Done, Refused}
 use Rattle.output.specs.declared.Output.{Output}
 use Rattle.form.specs.Words.{byte, word16, word32, word64}

@@ -19,7 +19,7 @@ use Rattle.resolver.specs.Lists.{Row}
 use Rattle.resolver.specs.NodeOrder.{defAt}
 use Rattle.resolver.specs.Once.{Program, node, walkTo}
 use Rattle.resolver.specs.Padding.{distanceIn, labelLoses, lostBy, standsAt, lostAt, sumIn, paddingTo}
-use Rattle.output.specs.Output.{paddingsOf}
+use Rattle.placing.specs.Plan.{paddingsOf}
 use Rattle.default_bank.specs.Steps.{up, symbol-alike, inFirst, inSecond}
 use Rattle.default_bank.specs.Cells.{zeroed}
 use Rattle.default_bank.specs.Walks.{leading, Leads, bank-here, bank-there, standing as stand}

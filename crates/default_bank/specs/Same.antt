@@ -29,13 +29,14 @@ use Rattle.resolver.specs.declared.Choices.{Choices}
 use Rattle.resolver.specs.declared.Resolution.{Resolution}
 use Rattle.resolver.specs.declared.Settled.{Settled}
 use Rattle.resolver.specs.declared.Settled.the-variants.{At, Refused as Unsettled}
-use Rattle.output.specs.Blank.{blankOf, blank-zeros}
-use Rattle.output.specs.Items.{Item, lengthOf, imageOf, itemsOf}
-use Rattle.output.specs.Output.{Input, Room, roomOf, Lent, paddingsOf, outputOf, roomFor, placedBuild, buildRow, visitsOf, closedOf, fillOf, settledBuild}
+use Rattle.writing.specs.Blank.{blankOf, blank-zeros}
+use Rattle.visits.specs.Items.{Item, lengthOf, imageOf, itemsOf}
+use Rattle.output.specs.Output.{Input, Room, roomOf, Lent, outputOf, roomFor, placedBuild, buildRow, visitsOf, closedOf, fillOf, settledBuild}
+use Rattle.placing.specs.Plan.{paddingsOf}
 use Rattle.output.specs.Output.{passesOf, settledOf, buildOf, filled, leftBy, Builds}
-use Rattle.output.specs.Placing.{Placed, holds, stops, closesDefault, placedAll}
-use Rattle.output.specs.Spans.{Span, spansOf, over, addresses, words, sizes}
-use Rattle.output.specs.Visits.{visits}
+use Rattle.placing.specs.Placing.{Placed, holds, stops, closesDefault, placedAll}
+use Rattle.visits.specs.Spans.{Span, spansOf, over, addresses, words, sizes}
+use Rattle.visits.specs.Visits.{visits}
 use Rattle.output.specs.declared.Build.{Build}
 use Rattle.output.specs.declared.Build.the-variants.{Done, Refused}
 use Rattle.output.specs.declared.Output.{Output}

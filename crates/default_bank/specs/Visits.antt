@@ -31,15 +31,15 @@ use Rattle.overlap_checker.specs.declared.Entry.{Entry}
 use Rattle.overlap_checker.specs.Offers.{lacksRoom}
 use Rattle.overlap_checker.specs.State.{State, emptyState, meets, tries, namedIn, answer}
 use Rattle.overlap_checker.specs.Folds.{stateAfter}
-use Rattle.output.specs.Items.{isWritten, standing, itemAt, itemOf, itemsOf}
-use Rattle.output.specs.Placing.{endsPast, lacksOutput, isPlaced, isOffered, bitsAt, offerAt}
-use Rattle.output.specs.Placing.{offerOf, checked, answered, tried, placing, verdictSeen, verdictOn}
-use Rattle.output.specs.Placing.{Placed, holds, stops, placedIf, placedNext, placedFrom, placedAll}
-use Rattle.output.specs.PlacingLaws.{placed-last}
-use Rattle.output.specs.Spans.{Span, isSpan, sizeOf, addressTold, spanOf, spansOf}
-use Rattle.output.specs.VisitLaws.{visits-none, visits-next, each-next}
-use Rattle.output.specs.Visits.{seenPos, positionOf, visitAt, visitsTo, visits, each}
-use Rattle.output.specs.declared.visits.Visit.{Visit}
+use Rattle.visits.specs.Items.{isWritten, standing, itemAt, itemOf, itemsOf}
+use Rattle.placing.specs.Placing.{endsPast, lacksOutput, isPlaced, isOffered, bitsAt, offerAt}
+use Rattle.placing.specs.Placing.{offerOf, checked, answered, tried, placing, verdictSeen, verdictOn}
+use Rattle.placing.specs.Placing.{Placed, holds, stops, placedIf, placedNext, placedFrom, placedAll}
+use Rattle.placing.specs.PlacingLaws.{placed-last}
+use Rattle.visits.specs.Spans.{Span, isSpan, sizeOf, addressTold, spanOf, spansOf}
+use Rattle.visits.specs.VisitLaws.{visits-none, visits-next, each-next}
+use Rattle.visits.specs.Visits.{seenPos, positionOf, visitAt, visitsTo, visits, each}
+use Rattle.visits.specs.declared.Visit.{Visit}
 use Rattle.default_bank.specs.Widened.{shifted}
 use Rattle.default_bank.specs.Steps.{up, shiftedMoved}
 use Rattle.default_bank.specs.Cells.{zeroed}

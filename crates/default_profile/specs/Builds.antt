@@ -17,11 +17,11 @@ use Rattle.refusal.specs.declared.Verdict.the-variants.{Accepted, Refused as Tu
 use Rattle.bankdef.specs.declared.Bankdefs.{Bankdefs}
 use Rattle.resolver.specs.declared.Settled.{Settled}
 use Rattle.resolver.specs.declared.Settled.the-variants.{At, Refused as Unsettled}
-use Rattle.output.specs.Items.{lengthOf, itemsOf}
+use Rattle.visits.specs.Items.{lengthOf, itemsOf}
 use Rattle.output.specs.Output.{Input, Lent, Room, roomOf, roomFor, placedBuild, settledBuild, settledOf, passesOf, visitsOf, buildOf, Builds}
 use Rattle.output.specs.Output.{closedOf, fillOf, Figures, toldBuild, roomTold, placedTold, settledTold}
-use Rattle.output.specs.Placing.{Placed, holds, stops, placedAll}
-use Rattle.output.specs.Spans.{spansOf}
+use Rattle.placing.specs.Placing.{Placed, holds, stops, placedAll}
+use Rattle.visits.specs.Spans.{spansOf}
 use Rattle.output.specs.declared.Build.{Build}
 use Rattle.output.specs.declared.Build.the-variants.{Done, Refused}
 use Rattle.output.specs.declared.Output.{Output}

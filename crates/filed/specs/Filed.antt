@@ -14,9 +14,9 @@ use Rattle.form.specs.Lists.{kindsOf, operandsOf, numbersOf, statesOf, valuesBy
 use Rattle.resolver.specs.Lists.{Lists, lists}
 use Rattle.resolver.specs.declared.Choices.{Choices}
 use Rattle.resolver.specs.Passes.{program, rowOfPass}
-use Rattle.output.specs.Visits.{visits}
+use Rattle.visits.specs.Visits.{visits}
 use Rattle.output.specs.Output.{input, Lent, Room, roomOf, refusedAfter, leftBy}
-use Rattle.output.specs.declared.visits.Visit.{Visit}
+use Rattle.visits.specs.declared.Visit.{Visit}
 use Rattle.output.specs.declared.Output.{Output}
 use Rattle.filed.specs.Paged.{outputIn}
 

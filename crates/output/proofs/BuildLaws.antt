@@ -18,15 +18,17 @@ use Rattle.bankdef.specs.Check.{banksOf}
 use Rattle.resolver.specs.Lists.{Row}
 use Rattle.resolver.specs.Once.{Program}
 use Rattle.overlap_checker.specs.Ascending.{lt-or-le}
-use Rattle.output.specs.Visits.{visits}
-use Rattle.output.specs.Items.{itemsOf, lengthOf, imageOf}
-use Rattle.output.specs.Blank.{blankOf}
-use Rattle.output.specs.ItemLaws.{end-within}
-use Rattle.output.specs.Placing.{Placed, holds, stops, placedAll}
-use Rattle.output.specs.Spans.{spansOf, over, addresses, words, sizes}
+use Rattle.visits.specs.Visits.{visits}
+use Rattle.visits.specs.Items.{itemsOf, lengthOf, imageOf}
+use Rattle.writing.specs.Blank.{blankOf}
+use Rattle.visits.specs.ItemLaws.{end-within}
+use Rattle.placing.specs.Placing.{Placed, holds, stops, placedAll}
+use Rattle.visits.specs.Spans.{spansOf, over, addresses, words, sizes}
 use Rattle.output.specs.Output.{Lent, lent, Room, roomOf, roomFor, outputOf, refusedAfter, placedBuild, buildRow, leftBy}
-use Rattle.output.specs.Steps.{Planned, verdictPlaced, InValues, Fit, Fits, RowBuilt}
-use Rattle.output.specs.declared.placing.Plan.{Plan}
+use Rattle.placing.specs.Plan.{Planned, verdictPlaced}
+use Rattle.output.specs.Steps.{InValues, RowBuilt}
+use Rattle.writing.specs.Writes.{Fit, Fits}
+use Rattle.placing.specs.declared.Plan.{Plan}
 use Rattle.output.specs.declared.Build.{Build}
 use Rattle.output.specs.declared.Output.{Output}
 use Rattle.output.specs.declared.Build.the-variants.{Done, Refused}

@@ -1,10 +1,3 @@
 pub mod BuildLaws
-pub mod Carried
-pub mod Laying
-pub mod OfferLaws
-pub mod PlanLaws
 pub mod SettledLaws
 pub mod Unique
-pub mod Upto
-pub mod WritingOver
-pub mod WritingSteps

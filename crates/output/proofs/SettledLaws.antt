@@ -35,16 +35,17 @@ use Rattle.resolver.specs.declared.Settled.the-variants.{At, Refused as Unsettl
 use Rattle.resolver.specs.Counts.{too-many-nodes}
 use Rattle.resolver.specs.RowParts.{first-part, row-part}
 use Rattle.overlap_checker.specs.Ascending.{lt-or-le}
-use Rattle.output.specs.Visits.{visits}
-use Rattle.output.specs.VisitLaws.{each-from, member-visit}
-use Rattle.output.specs.Items.{isWritten, standing, itemOf, itemsOf}
-use Rattle.output.specs.Placing.{Placed, holds, stops, placedAll}
-use Rattle.output.specs.PlacingLaws.{picked-some}
+use Rattle.visits.specs.Visits.{visits}
+use Rattle.visits.specs.VisitLaws.{each-from, member-visit}
+use Rattle.visits.specs.Items.{isWritten, standing, itemOf, itemsOf}
+use Rattle.placing.specs.Placing.{Placed, holds, stops, placedAll}
+use Rattle.placing.specs.PlacingLaws.{picked-some}
 use Rattle.output.specs.Output.{Input, input, closedOf, Lent, Room, roomOf, roomFor, outputOf, refusedAfter, placedBuild, settledBuild}
 use Rattle.output.specs.Output.{buildOf, visitsOf, passesOf, settledOf}
 use Rattle.output.specs.Output.{toldBuild, roomTold, placedTold, settledTold, leftBy, Builds}
-use Rattle.output.specs.Steps.{programOf, rowOf, InValues, RowBuilt}
-use Rattle.output.specs.declared.visits.Visit.{Visit}
+use Rattle.visits.specs.Visits.{programOf, rowOf}
+use Rattle.output.specs.Steps.{InValues, RowBuilt}
+use Rattle.visits.specs.declared.Visit.{Visit}
 use Rattle.output.specs.declared.Build.{Build}
 use Rattle.output.specs.declared.Build.the-variants.{Done, Refused}
 use Rattle.output.specs.declared.Output.{Output}

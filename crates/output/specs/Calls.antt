@@ -20,14 +20,15 @@ use Rattle.resolver.specs.declared.Settled.{Settled}
 use Rattle.resolver.specs.declared.Settled.the-variants.{At, Refused as Unsettled}
 use Rattle.overlap_checker.specs.declared.Entry.{Entry}
 use Rattle.overlap_checker.specs.State.{State}
-use Rattle.output.specs.Visits.{visitAt, visitsTo}
-use Rattle.output.specs.Items.{Item, itemsOf, lengthOf}
-use Rattle.output.specs.Blank.{blankOf}
-use Rattle.output.specs.Placing.{reservesOf, Placed, holds, stops, placedAll}
-use Rattle.output.specs.Spans.{Span, spansOf}
+use Rattle.visits.specs.Visits.{visitAt, visitsTo}
+use Rattle.visits.specs.Items.{Item, itemsOf, lengthOf}
+use Rattle.writing.specs.Blank.{blankOf}
+use Rattle.placing.specs.Placing.{reservesOf, Placed, holds, stops, placedAll}
+use Rattle.visits.specs.Spans.{Span, spansOf}
 use Rattle.output.specs.Output.{Input, closedOf, Lent, Room, roomOf, roomFor, placedBuild, buildRow, settledBuild, buildOf}
-use Rattle.output.specs.Output.{paddingsOf, paddingBy, visitsOf, fillOf, passesOf, settledOf, filled, leftBy, Builds}
-use Rattle.output.specs.declared.visits.Visit.{Visit}
+use Rattle.placing.specs.Plan.{paddingsOf}
+use Rattle.output.specs.Output.{paddingBy, visitsOf, fillOf, passesOf, settledOf, filled, leftBy, Builds}
+use Rattle.visits.specs.declared.Visit.{Visit}
 use Rattle.output.specs.declared.Build.{Build}
 use Rattle.output.specs.declared.Build.the-variants.{Done, Refused}
 use Rattle.output.specs.declared.Output.{Output}

@@ -14,7 +14,7 @@ use Rattle.resolver.specs.declared.Choices.{Choices}
 use Rattle.resolver.specs.declared.Resolution.{Resolution}
 use Rattle.resolver.specs.declared.Settled.{Settled}
 use Rattle.resolver.specs.declared.Settled.the-variants.{At, Refused as Unsettled}
-use Rattle.output.specs.Placing.{closesDefault}
+use Rattle.placing.specs.Placing.{closesDefault}
 use Rattle.output.specs.Output.{Input, closedOf, Room, outputOf, passesOf, settledOf, visitsOf, fillOf, buildRow, settledBuild, buildOf}
 use Rattle.output.specs.Calls.{Call, visitIn}
 use Rattle.output.specs.RefusedAtNode.{Reaches, RefusedThere, PlacedKind, Nine, refused-9-exactly}

@@ -27,12 +27,12 @@ use Rattle.resolver.specs.Lists.{Lists, lists, nodesTo, listsOf}
 use Rattle.resolver.specs.Once.{passTo}
 use Rattle.resolver.specs.Passes.{program, rowOfPass, first, settledBy}
 use Rattle.resolver.specs.declared.Resolution.{Resolution}
-use Rattle.output.specs.Visits.{visitsTo, visits, each}
-use Rattle.output.specs.Items.{Item, itemsOf, lengthOf, imageOf}
-use Rattle.output.specs.ItemLaws.{length-grows, image-agrees}
-use Rattle.output.specs.Blank.{blankOf, blank-length, blank-bit}
+use Rattle.visits.specs.Visits.{visitsTo, visits, each}
+use Rattle.visits.specs.Items.{Item, itemsOf, lengthOf, imageOf}
+use Rattle.visits.specs.ItemLaws.{length-grows, image-agrees}
+use Rattle.writing.specs.Blank.{blankOf, blank-length, blank-bit}
 use Rattle.output.specs.ItemBits.{fillIn, length-fits, image-is}
-use Rattle.output.specs.Placing.{placedFrom}
+use Rattle.placing.specs.Placing.{placedFrom}
 use Rattle.output.specs.Output.{Input, input, fillOf, Lent, Room, roomOf, roomFor, visitsOf, buildOf, leftBy, Builds}
 use Rattle.output.specs.Calls.{Accepted, programIn, rowIn, itemsIn, valuesIn, passes-are, fine, blankIn}
 use Rattle.output.specs.declared.Build.{Build}

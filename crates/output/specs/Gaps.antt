@@ -16,9 +16,9 @@ use Rattle.bankdef.specs.declared.Bankdef.{Bankdef}
 use Rattle.bitvec.specs.Bits.{bitAt}
 use Rattle.overlap_checker.specs.declared.Entry.{Entry}
 use Rattle.overlap_checker.specs.Interval.{Covers}
-use Rattle.output.specs.Items.{Item, InItem}
-use Rattle.output.specs.Blank.{blankBit, blank-bit, blank-zeros}
-use Rattle.output.specs.ItemLaws.{zeros-bit}
+use Rattle.visits.specs.Items.{Item, InItem}
+use Rattle.writing.specs.Blank.{blankBit, blank-bit, blank-zeros}
+use Rattle.visits.specs.ItemLaws.{zeros-bit}
 use Rattle.output.specs.ItemBits.{rest-blank, item-off-reserves, length-fits}
 use Rattle.output.specs.Output.{filled}
 use Rattle.output.specs.Calls.{Accepted, itemsIn, reservesIn, visitsIn, valuesIn, blankIn, left-is, banks-sound}

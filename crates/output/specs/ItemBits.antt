@@ -23,14 +23,14 @@ use Rattle.bitvec.specs.Bits.{bitAt}
 use Rattle.blocks.specs.Bits.{NoSharedBit}
 use Rattle.overlap_checker.specs.declared.Entry.{Entry}
 use Rattle.overlap_checker.specs.Interval.{Covers}
-use Rattle.output.specs.declared.visits.Visit.{Visit}
-use Rattle.output.specs.Visits.{positionOf}
-use Rattle.output.specs.VisitLaws.{visit-member, member-visit, each-member, each-from}
-use Rattle.output.specs.Items.{Item, endOf, InItem, isWritten, standing, itemOf, imageOf}
-use Rattle.output.specs.ItemLaws.{fill-within, end-within, length-is-one, bit-of-none, bit-of-item}
-use Rattle.output.specs.Blank.{blankOf, blank-length}
-use Rattle.output.specs.Placing.{isOffered, isReserve, lacksOutput, bitsAt, offerOf, reserveOf}
-use Rattle.output.specs.PlacingLaws.{picked-some, OfferedBit, holds-apart, apart-one, each-apart, same-visit, written-stands, each-accepted}
+use Rattle.visits.specs.declared.Visit.{Visit}
+use Rattle.visits.specs.Visits.{positionOf}
+use Rattle.visits.specs.VisitLaws.{visit-member, member-visit, each-member, each-from}
+use Rattle.visits.specs.Items.{Item, endOf, InItem, isWritten, standing, itemOf, imageOf}
+use Rattle.visits.specs.ItemLaws.{fill-within, end-within, length-is-one, bit-of-none, bit-of-item}
+use Rattle.writing.specs.Blank.{blankOf, blank-length}
+use Rattle.placing.specs.Placing.{isOffered, isReserve, lacksOutput, bitsAt, offerOf, reserveOf}
+use Rattle.placing.specs.PlacingLaws.{picked-some, OfferedBit, holds-apart, apart-one, each-apart, same-visit, written-stands, each-accepted}
 use Rattle.output.specs.Output.{Lent, fillOf}
 use Rattle.output.specs.Calls.{Call, Accepted, nodesIn, visitIn, visitsIn, itemsIn, reservesIn, valuesIn, programIn, rowIn, closedIn}
 use Rattle.output.specs.Calls.{fine, blankIn, left-is}

@@ -1,17 +1,11 @@
-pub mod Blank
 pub mod Calls
 pub mod DefaultBank
 pub mod Fills
 pub mod Gaps
 pub mod ItemBits
-pub mod ItemLaws
-pub mod Items
-pub mod Kinds
 pub mod OffersMade
 pub mod Output
 pub mod Padding
-pub mod Placing
-pub mod PlacingLaws
 pub mod RaisedLimit
 pub mod Reached
 pub mod RefusedAtNode
@@ -19,8 +13,5 @@ pub mod ReorderLaws
 pub mod Reordered
 pub mod Rooms
 pub mod SpanFacts
-pub mod Spans
 pub mod Steps
 pub mod Unique
-pub mod VisitLaws
-pub mod Visits

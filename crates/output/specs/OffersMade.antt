@@ -23,17 +23,17 @@ use Rattle.resolver.specs.declared.Settled.the-variants.{At}
 use Rattle.overlap_checker.specs.declared.Entry.{Entry}
 use Rattle.overlap_checker.specs.Interval.{interval}
 use Rattle.overlap_checker.specs.State.{State, emptyState}
-use Rattle.output.specs.declared.visits.Visit.{Visit}
+use Rattle.visits.specs.declared.Visit.{Visit}
 use Rattle.output.specs.declared.Build.{Build}
 use Rattle.output.specs.declared.Build.the-variants.{Done, Refused}
-use Rattle.output.specs.Visits.{positionOf, visitsTo}
-use Rattle.output.specs.VisitLaws.{visits-none, visits-next, visit-member, each-member}
-use Rattle.output.specs.Items.{itemsOf, lengthOf}
-use Rattle.output.specs.Kinds.{offered-exactly}
-use Rattle.output.specs.Spans.{spansOf}
-use Rattle.output.specs.Placing.{isOffered, isReserve, bitsAt, offerOf, reserveOf, verdictOn}
-use Rattle.output.specs.Placing.{Placed, holds, stops, placedIf, placedNext, placedFrom, placedAll}
-use Rattle.output.specs.PlacingLaws.{placed-last}
+use Rattle.visits.specs.Visits.{positionOf, visitsTo}
+use Rattle.visits.specs.VisitLaws.{visits-none, visits-next, visit-member, each-member}
+use Rattle.visits.specs.Items.{itemsOf, lengthOf}
+use Rattle.placing.specs.Kinds.{offered-exactly}
+use Rattle.visits.specs.Spans.{spansOf}
+use Rattle.placing.specs.Placing.{isOffered, isReserve, bitsAt, offerOf, reserveOf, verdictOn}
+use Rattle.placing.specs.Placing.{Placed, holds, stops, placedIf, placedNext, placedFrom, placedAll}
+use Rattle.placing.specs.PlacingLaws.{placed-last}
 use Rattle.output.specs.Output.{Room, roomOf, roomFor, placedBuild, settledBuild, settledOf, fillOf}
 use Rattle.output.specs.Calls.{Call, nodesIn, closedIn, programIn, rowIn, visitIn, visitsIn, visitsBefore, reservesIn, build-is}
 

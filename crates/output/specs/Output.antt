@@ -17,19 +17,18 @@ use Rattle.bankdef.specs.Fill.{fillBy}
 use Rattle.bankdef.specs.declared.Bankdefs.{Bankdefs}
 use Rattle.resolver.specs.Lists.{Lists, Row}
 use Rattle.resolver.specs.Once.{Program}
-use Rattle.resolver.specs.Padding.{paddingOf}
-use Rattle.bitvec.specs.Lists.{listOf}
 use Rattle.resolver.specs.Passes.{program, rowOfPass}
 use Rattle.resolver.specs.Layout.{layoutOf}
 use Rattle.resolver.specs.declared.Choices.{Choices}
 use Rattle.resolver.specs.declared.Settled.{Settled}
 use Rattle.resolver.specs.declared.Settled.the-variants.{At, Refused as Unsettled}
-use Rattle.output.specs.Visits.{visits}
-use Rattle.output.specs.Items.{Item, itemsOf, lengthOf, imageOf}
-use Rattle.output.specs.Blank.{blankOf}
-use Rattle.output.specs.Placing.{closesDefault, Placed, holds, stops, placedAll}
-use Rattle.output.specs.Spans.{spansOf, over, addresses, words, sizes}
-use Rattle.output.specs.declared.visits.Visit.{Visit}
+use Rattle.visits.specs.Visits.{visits}
+use Rattle.visits.specs.Items.{Item, itemsOf, lengthOf, imageOf}
+use Rattle.writing.specs.Blank.{blankOf}
+use Rattle.placing.specs.Placing.{closesDefault, Placed, holds, stops, placedAll}
+use Rattle.placing.specs.Plan.{paddingsOf}
+use Rattle.visits.specs.Spans.{spansOf, over, addresses, words, sizes}
+use Rattle.visits.specs.declared.Visit.{Visit}
 use Rattle.output.specs.declared.Build.{Build}
 use Rattle.output.specs.declared.Build.the-variants.{Done, Refused}
 use Rattle.output.specs.declared.Output.{Output}
@@ -65,11 +64,8 @@ roomOf l = record { image = length (l .image); spans = min (length (l .addresses
 
 -- ---- padding
 
--- "each bank should carry the sum of bits lost to `align` and to label alignment in the last pass" (document 02, Ticket 2): of banks 0 to 15
-abbrev pub paddingsOf : Program → Row → List ℕ
-paddingsOf p row = listOf maxBanks (paddingOf p row)
-
--- An accepted build answers them, a refused one zeros.
+-- "each bank should carry the sum of bits lost to `align` and to label alignment in the last pass" (document 02, Ticket 2): an accepted build answers
+-- those sums, of banks 0 to 15, a refused one zeros
 abbrev pub paddingBy : List ℕ → Build → List ℕ
 paddingBy sums (Done k bits spans) = sums
 paddingBy sums (Refused why) = replicate maxBanks 0

@@ -26,12 +26,13 @@ use Rattle.resolver.specs.NodeOrder.{seenAt}
 use Rattle.resolver.specs.Once.{walkTo, passTo}
 use Rattle.resolver.specs.Passes.{first, settledBy}
 use Rattle.resolver.specs.Padding.{sumIn, paddingOf, sizesTo, Walks, ends-at-sizes-and-padding}
-use Rattle.output.specs.Visits.{visitAt, visitsTo, each}
-use Rattle.output.specs.Items.{lengthOf}
-use Rattle.output.specs.Placing.{checked, placedFrom}
-use Rattle.output.specs.VisitLaws.{visit-member}
-use Rattle.output.specs.PlacingLaws.{each-accepted, seen-placing}
-use Rattle.output.specs.Output.{Input, input, Lent, Room, roomOf, roomFor, paddingsOf, paddingBy, buildOf, Builds}
+use Rattle.visits.specs.Visits.{visitAt, visitsTo, each}
+use Rattle.visits.specs.Items.{lengthOf}
+use Rattle.placing.specs.Placing.{checked, placedFrom}
+use Rattle.visits.specs.VisitLaws.{visit-member}
+use Rattle.placing.specs.PlacingLaws.{each-accepted, seen-placing}
+use Rattle.output.specs.Output.{Input, input, Lent, Room, roomOf, roomFor, paddingBy, buildOf, Builds}
+use Rattle.placing.specs.Plan.{paddingsOf}
 use Rattle.output.specs.Calls.{Call, Accepted, programIn, rowIn, nodesIn, visitIn, visitsIn, closedIn, fine, padding-is}
 use Rattle.output.specs.declared.Build.the-variants.{Done, Refused}
 use Rattle.output.specs.declared.Output.{Output}

@@ -8,8 +8,8 @@ use Rattle.resolver.specs.LastPass.{sees-in-last}
 use Rattle.resolver.specs.Passes.{rowOfPass}
 use Rattle.resolver.specs.declared.Settled.the-variants.{At}
 use Rattle.overlap_checker.specs.State.{State}
-use Rattle.output.specs.Placing.{holds, placedAll}
-use Rattle.output.specs.Visits.{visitAt}
+use Rattle.placing.specs.Placing.{holds, placedAll}
+use Rattle.visits.specs.Visits.{visitAt}
 use Rattle.output.specs.Output.{settledOf}
 use Rattle.output.specs.Calls.{Call, nodesIn, closedIn, programIn, visitIn, visitsBefore, passes-are}
 use Rattle.output.specs.RefusedAtNode.{Reaches}

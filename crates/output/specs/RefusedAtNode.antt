@@ -41,18 +41,18 @@ use Rattle.overlap_checker.specs.Going.{Fits, fits-empty, fits-folded}
 use Rattle.overlap_checker.specs.Naming.{Named}
 use Rattle.overlap_checker.specs.WhatIsStored.{stored-accepted, accepted-stored, mark-accepted, accepted-mark}
 use Rattle.overlap_checker.specs.Demand3.{overlap-offered, full-offered, full-place, empty-offered, mark-full-offered, overlap-names, stored-is-accepted, marks-are-accepted, stored-few, marks-few}
-use Rattle.output.specs.declared.visits.Visit.{Visit}
+use Rattle.visits.specs.declared.Visit.{Visit}
 use Rattle.output.specs.declared.Build.{Build}
 use Rattle.output.specs.declared.Build.the-variants.{Done, Refused}
-use Rattle.output.specs.Visits.{positionOf, visitsTo}
-use Rattle.output.specs.VisitLaws.{visits-next, visits-split}
-use Rattle.output.specs.Items.{isWritten, itemsOf, lengthOf}
-use Rattle.output.specs.Kinds.{written-exactly, offered-exactly, placed-exactly}
-use Rattle.output.specs.Spans.{sizeOf, spansOf}
-use Rattle.output.specs.Placing.{isPlaced, isOffered, closesDefault, usesDefault, endsPast, lacksOutput, offerOf, offersOf}
-use Rattle.output.specs.Placing.{checked, answered, tried, placing, verdictOn}
-use Rattle.output.specs.Placing.{verdictSeen, Placed, holds, stops, placedIf, placedNext, placedFrom, placedAll}
-use Rattle.output.specs.PlacingLaws.{refused-accepted, placed-append, placed-last, stops-stay, checked-opens, picked-some, offer-is, placed-accepts}
+use Rattle.visits.specs.Visits.{positionOf, visitsTo}
+use Rattle.visits.specs.VisitLaws.{visits-next, visits-split}
+use Rattle.visits.specs.Items.{isWritten, itemsOf, lengthOf}
+use Rattle.placing.specs.Kinds.{written-exactly, offered-exactly, placed-exactly}
+use Rattle.visits.specs.Spans.{sizeOf, spansOf}
+use Rattle.placing.specs.Placing.{isPlaced, isOffered, closesDefault, usesDefault, endsPast, lacksOutput, offerOf, offersOf}
+use Rattle.placing.specs.Placing.{checked, answered, tried, placing, verdictOn}
+use Rattle.placing.specs.Placing.{verdictSeen, Placed, holds, stops, placedIf, placedNext, placedFrom, placedAll}
+use Rattle.placing.specs.PlacingLaws.{refused-accepted, placed-append, placed-last, stops-stay, checked-opens, picked-some, offer-is, placed-accepts}
 use Rattle.output.specs.Output.{Input, closedOf, Room, roomOf, roomFor, placedBuild, buildRow, settledBuild, settledOf, visitsOf, fillOf, toldBuild}
 use Rattle.output.specs.Calls.{Call, nodesIn, closedIn, programIn, rowIn, visitIn, visitsIn, visitsBefore, build-is}
 

@@ -12,7 +12,7 @@ use lib.ListN.{length}
 use Rattle.bitvec.specs.Bits.{bitAt, same-bits}
 use Rattle.bitvec.specs.Written.{written, length-written, bytes-written, bitAt-written, writtenBit-inside, written-other}
 use Rattle.blocks.specs.Bits.{NoSharedBit}
-use Rattle.output.specs.Items.{Item, endOf, InItem}
+use Rattle.visits.specs.Items.{Item, endOf, InItem}
 
 -- ---- no shared bit, whatever the order
 

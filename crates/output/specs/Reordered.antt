@@ -17,8 +17,8 @@ use Rattle.bitvec.specs.Within.{covers}
 use Rattle.bitvec.specs.Bits.{bitAt, ofBits}
 use Rattle.bitvec.specs.Written.{written, writtenBit, Writes, accepted-written}
 use Rattle.blocks.specs.Bits.{NoSharedBit}
-use Rattle.output.specs.Items.{Item, endOf, InItem, lengthOf, imageOf}
-use Rattle.output.specs.Blank.{blankOf}
+use Rattle.visits.specs.Items.{Item, endOf, InItem, lengthOf, imageOf}
+use Rattle.writing.specs.Blank.{blankOf}
 use Rattle.output.specs.ReorderLaws.{put, put-swap, max-swap, apart-reordered}
 use Rattle.output.specs.Output.{Lent}
 use Rattle.output.specs.Calls.{Accepted, itemsIn, valuesIn, fine, blankIn, left-is}

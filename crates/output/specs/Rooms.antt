@@ -14,8 +14,8 @@ use Rattle.refusal.specs.declared.Place.the-variants.{One}
 use Rattle.refusal.specs.declared.Refusal.{Refusal}
 use Rattle.resolver.specs.declared.Settled.the-variants.{At}
 use Rattle.overlap_checker.specs.State.{State}
-use Rattle.output.specs.Items.{lengthOf}
-use Rattle.output.specs.Placing.{Placed, holds, placedAll}
+use Rattle.visits.specs.Items.{lengthOf}
+use Rattle.placing.specs.Placing.{Placed, holds, placedAll}
 use Rattle.output.specs.Output.{Lent, Room, roomOf, settledOf, fillOf, passesOf, Figures, toldBuild, roomTold, placedTold, settledTold, leftBy, visitsOf}
 use Rattle.output.specs.declared.Build.the-variants.{Refused}
 use Rattle.output.specs.Calls.{Call, closedIn, visitsIn, itemsIn, spansIn, valuesIn, passes-are}
@@ -48,8 +48,8 @@ module _ (c : Call) (all : AllPlaced c) where
       ∙ ap (settledTold (c .given) (roomOf (c .old))) (all .settled)
       ∙ ap
       (λ (n : ℕ). placedTold (roomOf (c .old)) (all .k)
-      (lengthOf (fillOf (c .given)) (Rattle.output.specs.Items.itemsOf (visitsOf (c .given) n)))
-      (length (Rattle.output.specs.Spans.spansOf (visitsOf (c .given) n)))
+      (lengthOf (fillOf (c .given)) (Rattle.visits.specs.Items.itemsOf (visitsOf (c .given) n)))
+      (length (Rattle.visits.specs.Spans.spansOf (visitsOf (c .given) n)))
       (placedAll (closedIn c) (visitsOf (c .given) n)))
       (sym (passes-are c))
       ∙ ap (placedTold (roomOf (c .old)) (all .k) (lengthIn c) (spanCount c)) (all .placed)

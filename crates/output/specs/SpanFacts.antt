@@ -29,14 +29,14 @@ use Rattle.blocks.specs.Spans as blocks-spans
 use Rattle.blocks.specs.Bits.{InPlaced, InSpan, InBlock, Some, NoSharedBit, blocks-apart}
 use Rattle.blocks.specs.Row.{InARow, blocks-in-a-row}
 use Rattle.blocks.specs.Walk.{blocksOf}
-use Rattle.output.specs.declared.visits.Visit.{Visit}
-use Rattle.output.specs.Visits.{positionOf, visitAt, visitsTo}
-use Rattle.output.specs.VisitLaws.{visits-split, each-append, each-next}
-use Rattle.output.specs.Items.{isWritten}
-use Rattle.output.specs.Kinds.{written-exactly}
-use Rattle.output.specs.Spans.{Span, isSpan, sizeOf, addressTold, spanAt, spanOf, spansOf, over, addresses, words, sizes}
-use Rattle.output.specs.Placing.{isReserve, isOffered, bitsAt, offerOf}
-use Rattle.output.specs.PlacingLaws.{picked-some, OfferedBit, holds-apart, apart-one, each-apart}
+use Rattle.visits.specs.declared.Visit.{Visit}
+use Rattle.visits.specs.Visits.{positionOf, visitAt, visitsTo}
+use Rattle.visits.specs.VisitLaws.{visits-split, each-append, each-next}
+use Rattle.visits.specs.Items.{isWritten}
+use Rattle.placing.specs.Kinds.{written-exactly}
+use Rattle.visits.specs.Spans.{Span, isSpan, sizeOf, addressTold, spanAt, spanOf, spansOf, over, addresses, words, sizes}
+use Rattle.placing.specs.Placing.{isReserve, isOffered, bitsAt, offerOf}
+use Rattle.placing.specs.PlacingLaws.{picked-some, OfferedBit, holds-apart, apart-one, each-apart}
 use Rattle.output.specs.Output.{Lent}
 use Rattle.output.specs.Calls.{Call, Accepted, nodesIn, visitIn, visitsBefore, visitsIn, spansIn, programIn, rowIn, closedIn, fine, left-is}
 
@@ -53,7 +53,7 @@ module _ (c : Call) where
   more false l x = ap length (mathlib.Core.List.append-nil l)
 
   pub spans-counted : (n : ℕ) → length (spansOf (visitsBefore c n)) ≡ spansAmong c n
-  unfolding spansAmong visitsTo Rattle.output.specs.Visits.each
+  unfolding spansAmong visitsTo Rattle.visits.specs.Visits.each
   spans-counted zero = refl
   spans-counted (suc i) =
       ap length (each-next (programIn c) (rowIn c) spanOf i)

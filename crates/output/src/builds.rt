@@ -1,15 +1,15 @@
 // The public build: the passes, the first walk, then, once nothing can be refused any more, the second.
 use crate::Build;
 use crate::Output;
-use crate::placing::closes_default;
-use crate::placing::plan_row;
-use crate::writing::write_image;
-use crate::writing::write_spans;
 use bankdef::Bankdefs;
+use placing::closes_default;
+use placing::plan_row;
 use refusal::Refusal;
 use refusal::Verdict;
 use resolver::Choices;
 use resolver::Settled;
+use writing::write_image;
+use writing::write_spans;
 ghost use mathlib.Core.Path.{_≡_};
 ghost use mathlib.Core.Bool.{true};
 ghost use Prim.Native.Nat.{ℕ, _+_, _*_, _-_, _≤_, _<_, min};
@@ -19,11 +19,13 @@ ghost use Rattle.refusal.specs.Limits.{maxNodes, maxRows};
 ghost use Rattle.bankdef.specs.Check.{banksOf};
 ghost use Rattle.bankdef.specs.Fill.{fillBy};
 ghost use Rattle.resolver.specs.Lists.{lists};
-ghost use Rattle.output.specs.Visits.{visits};
-ghost use Rattle.output.specs.Items.{itemsOf};
-ghost use Rattle.output.specs.Placing.{closesDefault};
+ghost use Rattle.visits.specs.Visits.{visits};
+ghost use Rattle.visits.specs.Items.{itemsOf};
+ghost use Rattle.placing.specs.Placing.{closesDefault};
 ghost use Rattle.output.specs.Output.{input, lent, refusedAfter, Builds};
-ghost use Rattle.output.specs.Steps.{programOf, rowOf, maxEnd, InValues, RowBuilt};
+ghost use Rattle.visits.specs.Visits.{programOf, rowOf};
+ghost use Rattle.placing.specs.Plan.{maxEnd};
+ghost use Rattle.output.specs.Steps.{InValues, RowBuilt};
 
 // Whether an image of so many bytes has fewer bits. Whole bytes are compared, so that no product can wrap.
 fn lacks_bytes(bytes: u64, bits: u64) -> bool

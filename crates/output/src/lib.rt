@@ -1,8 +1,5 @@
 // The build: from the lists and the pass that settled to the image and its spans.
 mod builds;
-mod placing;
-mod visits;
-mod writing;
 
 pub use builds::build_output;
 use refusal::Refusal;

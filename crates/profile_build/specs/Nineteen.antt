@@ -39,16 +39,16 @@ use Rattle.overlap_checker.specs.Folds.{stateAfter}
 use Rattle.overlap_checker.specs.Offers.{lacksRoom}
 use Rattle.overlap_checker.specs.State.{meets, tries, namedIn}
 use Rattle.overlap_checker.specs.declared.Entry.{Entry}
-use Rattle.output.specs.Items.{isWritten, itemsOf, lengthOf}
+use Rattle.visits.specs.Items.{isWritten, itemsOf, lengthOf}
 use Rattle.output.specs.Output.{Input, Lent, Room, roomOf, visitsOf, closedOf, fillOf, passesOf, settledOf}
 use Rattle.output.specs.Output.{Figures, toldBuild, roomTold, placedTold, settledTold}
-use Rattle.output.specs.Placing.{isPlaced, usesDefault, endsPast, lacksOutput, checked, answered, placing, verdictSeen, verdictOn, offerOf}
-use Rattle.output.specs.Placing.{Placed, holds, stops, placedIf, placedNext, placedFrom, placedAll}
-use Rattle.output.specs.PlacingLaws.{placed-last}
-use Rattle.output.specs.Spans.{sizeOf, spansOf}
-use Rattle.output.specs.Visits.{visitAt, visitsTo}
+use Rattle.placing.specs.Placing.{isPlaced, usesDefault, endsPast, lacksOutput, checked, answered, placing, verdictSeen, verdictOn, offerOf}
+use Rattle.placing.specs.Placing.{Placed, holds, stops, placedIf, placedNext, placedFrom, placedAll}
+use Rattle.placing.specs.PlacingLaws.{placed-last}
+use Rattle.visits.specs.Spans.{sizeOf, spansOf}
+use Rattle.visits.specs.Visits.{visitAt, visitsTo}
 use Rattle.output.specs.declared.Output.{Output}
-use Rattle.output.specs.declared.visits.Visit.{Visit}
+use Rattle.visits.specs.declared.Visit.{Visit}
 use Rattle.profile.specs.Exactly.{numberIs, table-low, lists-low}
 use Rattle.profile.specs.Kept.{Breaks}
 use Rattle.profile_build.specs.InProfile as told

@@ -27,14 +27,14 @@ use Rattle.overlap_checker.specs.State.{State}
 use Rattle.output.specs.Calls.{Accepted, nodesIn, visitIn, visitsIn, itemsIn, programIn, rowIn, closedIn, fine}
 use Rattle.output.specs.Fills.{full-fills-all}
 use Rattle.output.specs.ItemBits.{itemFor, item-has-written-node, length-not-below-fill, length-is-fill-or-end}
-use Rattle.output.specs.Items.{Item, endOf, InItem, isWritten}
-use Rattle.output.specs.Kinds.{written-exactly}
-use Rattle.output.specs.Placing.{isPlaced, isOffered, usesDefault, endsPast, lacksOutput, checked, answered, tried, offerOf, verdictOn}
-use Rattle.output.specs.PlacingLaws.{passed, checked-opens, seen-placing, each-accepted}
-use Rattle.output.specs.Spans.{sizeOf}
-use Rattle.output.specs.VisitLaws.{visit-member}
-use Rattle.output.specs.Visits.{seenPos, positionOf}
-use Rattle.output.specs.declared.visits.Visit.{Visit}
+use Rattle.visits.specs.Items.{Item, endOf, InItem, isWritten}
+use Rattle.placing.specs.Kinds.{written-exactly}
+use Rattle.placing.specs.Placing.{isPlaced, isOffered, usesDefault, endsPast, lacksOutput, checked, answered, tried, offerOf, verdictOn}
+use Rattle.placing.specs.PlacingLaws.{passed, checked-opens, seen-placing, each-accepted}
+use Rattle.visits.specs.Spans.{sizeOf}
+use Rattle.visits.specs.VisitLaws.{visit-member}
+use Rattle.visits.specs.Visits.{seenPos, positionOf}
+use Rattle.visits.specs.declared.Visit.{Visit}
 use Rattle.profile.specs.Kept.{InProfile}
 use Rattle.profile.specs.OneBit.{ExactlyOne, one-bit-exactly, zero-has-none}
 use Rattle.profile.specs.PageFacts.{pages-of-size}

@@ -25,10 +25,10 @@ use Rattle.resolver.specs.Layout.{layoutOf}
 use Rattle.resolver.specs.Lists.{lists, anyRowFault, nodesTo, listsOf}
 use Rattle.resolver.specs.Once.{walkTo, passTo}
 use Rattle.resolver.specs.Passes.{first, settledBy}
-use Rattle.output.specs.Items.{lengthOf}
+use Rattle.visits.specs.Items.{lengthOf}
 use Rattle.output.specs.Output.{Input, input, Room, roomFor, buildOf}
-use Rattle.output.specs.Placing.{checked, placedFrom}
-use Rattle.output.specs.Visits.{visitsTo, each}
+use Rattle.placing.specs.Placing.{checked, placedFrom}
+use Rattle.visits.specs.Visits.{visitsTo, each}
 use Rattle.output.specs.declared.Build.the-variants.{Done}
 use Rattle.profile.specs.Kept.{InProfile, said-kept}
 use Rattle.profile.specs.Rules.{rulesOf}

@@ -22,10 +22,10 @@ use Rattle.resolver.specs.declared.Settled.{Settled}
 use Rattle.resolver.specs.declared.Settled.the-variants.{At, Refused as Unsettled}
 use Rattle.blocks.specs.Spans.{acceptable}
 use Rattle.bankdef.specs.Check.{banksOf}
-use Rattle.output.specs.Blank.{blankOf}
-use Rattle.output.specs.Items.{itemsOf, lengthOf, imageOf}
-use Rattle.output.specs.Placing.{Placed, holds, stops, placedAll}
-use Rattle.output.specs.Spans.{Span, spansOf, words, sizes}
+use Rattle.writing.specs.Blank.{blankOf}
+use Rattle.visits.specs.Items.{itemsOf, lengthOf, imageOf}
+use Rattle.placing.specs.Placing.{Placed, holds, stops, placedAll}
+use Rattle.visits.specs.Spans.{Span, spansOf, words, sizes}
 use Rattle.output.specs.Output.{Input, input, Lent, Room, roomOf, roomFor, placedBuild, settledBuild, buildOf, visitsOf, closedOf, fillOf, passesOf, settledOf}
 use Rattle.output.specs.Output.{filled, leftBy}
 use Rattle.output.specs.declared.Build.{Build}

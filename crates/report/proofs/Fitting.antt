@@ -25,9 +25,9 @@ use Rattle.resolver.specs.Listed.{either-record}
 use Rattle.resolver.specs.Once.{Program, node, bankRecord, bankOf, walkTo}
 use Rattle.blocks.specs.Offsets.{offsetOf, wordOf, at-of-word}
 use Rattle.blocks.specs.Spans.{offsetWithin, spansOf, allWithin, acceptable}
-use Rattle.output.specs.Visits.{seenPos, positionOf, visitAt, visitsTo, each}
-use Rattle.output.specs.VisitLaws.{each-next, visits-none}
-use Rattle.output.specs.Spans.{Span, isSpan, spanAt, spanOf, spansOf as spansIn, words, sizes}
+use Rattle.visits.specs.Visits.{seenPos, positionOf, visitAt, visitsTo, each}
+use Rattle.visits.specs.VisitLaws.{each-next, visits-none}
+use Rattle.visits.specs.Spans.{Span, isSpan, spanAt, spanOf, spansOf as spansIn, words, sizes}
 use Rattle.form.specs.Fields.{by-test}
 use Rattle.report.specs.Steps.{OffsetFits, OffsetsFit}
 

@@ -10,11 +10,11 @@ use Rattle.bitvec.specs.HexDigits.{hexOf}
 use Rattle.blocks.specs.Spans.{spansOf}
 use Rattle.blocks.specs.Walk.{blocksOf}
 use Rattle.blocks.specs.Outcome.{origins, sizes}
-use Rattle.output.specs.Blank.{blankOf}
-use Rattle.output.specs.Items.{itemsOf, imageOf}
-use Rattle.output.specs.Spans.{spansOf as spansIn, words, sizes as spanSizes}
+use Rattle.writing.specs.Blank.{blankOf}
+use Rattle.visits.specs.Items.{itemsOf, imageOf}
+use Rattle.visits.specs.Spans.{spansOf as spansIn, words, sizes as spanSizes}
 use Rattle.output.specs.Output.{Room}
-use Rattle.output.specs.declared.visits.Visit.{Visit}
+use Rattle.visits.specs.declared.Visit.{Visit}
 use Rattle.output.specs.declared.Build.{Build}
 use Rattle.output.specs.declared.Build.the-variants.{Done, Refused}
 use Rattle.output.specs.declared.Output.{Output}

@@ -40,95 +40,78 @@ module _ (c : tie.After-resolve) (k : ℕ) (settles : c .resolve .result .settle
   cells : begin c .args .rows * length (begin c .args .kinds .now) ≤ 65536
   cells = omega (arith, mul-le-mul-right (length (begin c .args .kinds .now)) (rows .few), few)
 
--- src/builds.rt:114:9
 resolve-requires : tie.Need-resolve-requires
 resolve-requires c κs = search needs
 
--- src/builds.rt:120:26
 enum-known-settled : tie.Need-enum-known-settled
 enum-known-settled c = search needs
 
 refused-requires : tie.Need-refused-requires
 refused-requires c κs = search needs
 
--- src/builds.rt:124:21
 enum-known-settled-2 : tie.Need-enum-known-settled-2
 enum-known-settled-2 c = search needs
 
--- src/builds.rt:126:17
 row-start-requires : tie.Need-row-start-requires
 row-start-requires c κs =
     let f = c .before .before .before in
     let told = c .before .settled2 .given in
     (rows f (told .0 .0) (told .1) .some, rows f (told .0 .0) (told .1) .few, few f (told .0 .0) (told .1))
 
--- src/builds.rt:127:21
 add-e : tie.Need-add-e
 add-e c =
     let f = c .before .before .before .before in
     let told = c .before .before .settled2 .given in
     record { fits = omega (arith, cells f (told .0 .0) (told .1), c .row-start .ensures .1) }
 
--- src/builds.rt:132:17
 sub-build-row : tie.Need-sub-build-row
 sub-build-row c = search needs
 
--- src/builds.rt:132:17
 part-build-row-start : tie.Need-part-build-row-start
 part-build-row-start c = search needs
 
--- src/builds.rt:132:17
 part-build-row-end : tie.Need-part-build-row-end
 part-build-row-end c =
     let f = c .before .before .before .before in
     let told = c .before .before .settled2 .given in
     omega (arith, rows f (told .0 .0) (told .1) .numbered, c .row-start .ensures .1)
 
--- src/builds.rt:133:17
 mul-build-row : tie.Need-mul-build-row
 mul-build-row c =
     let f = c .before .before .before .before .before in
     let told = c .before .before .before .settled2 .given in
     record { fits = omega (arith, cells f (told .0 .0) (told .1), c .before .row-start .ensures .1) }
 
--- src/builds.rt:133:17
 sub-build-row-2 : tie.Need-sub-build-row-2
 sub-build-row-2 c = search needs
 
--- src/builds.rt:133:17
 part-build-row-start-2 : tie.Need-part-build-row-start-2
 part-build-row-start-2 c = search needs
 
--- src/builds.rt:133:17
 part-build-row-end-2 : tie.Need-part-build-row-end-2
 part-build-row-end-2 c =
     let f = c .before .before .before .before .before in
     let told = c .before .before .before .settled2 .given in
     omega (arith, rows f (told .0 .0) (told .1) .numbered, c .before .row-start .ensures .1)
 
--- src/builds.rt:134:17
 sub-build-row-3 : tie.Need-sub-build-row-3
 sub-build-row-3 c = search needs
 
--- src/builds.rt:134:17
 part-build-row-start-3 : tie.Need-part-build-row-start-3
 part-build-row-start-3 c = search needs
 
--- src/builds.rt:134:17
 part-build-row-end-3 : tie.Need-part-build-row-end-3
 part-build-row-end-3 c =
     let f = c .before .before .before .before .before .before in
     let told = c .before .before .before .before .settled2 .given in
     omega (arith, rows f (told .0 .0) (told .1) .stated, c .before .before .row-start .ensures .1)
 
--- src/builds.rt:128:17
 build-row-requires : tie.Need-build-row-requires
 build-row-requires c κs =
     let f = c .before .before .before .before .before .before .before .before .before .before .before in
     let told = c .before .before .before .before .before .before .before .before .before .settled2 .given in
     (few f (told .0 .0) (told .1), part-values (begin f .args .banks) (given (begin f)) (begin f .args .choices) (f .resolve .result) (f .resolve .ensures .0) (told .0 .0) (told .1) (c .before .before .before .before .before .before .before .row-start .result) (c .before .before .before .before .before .before .before .row-start .ensures .0))
 
--- src/builds.rt:98:1
 returns : tie.Need-returns
 returns c =
     let f = c .before .before .before .before in
@@ -136,23 +119,18 @@ returns c =
     refused (begin f .args .banks) (given (begin f)) (begin f .args .choices) (f .resolve .result) (f .resolve .ensures .0) (told .0 .0) (told .1) (old (begin f))
     (c .refused .result) (c .refused .ensures)
 
--- src/builds.rt:98:1
 same-length : tie.Need-same-length
 same-length c = search needs
 
--- src/builds.rt:98:1
 same-length-2 : tie.Need-same-length-2
 same-length-2 c = search needs
 
--- src/builds.rt:98:1
 same-length-3 : tie.Need-same-length-3
 same-length-3 c = search needs
 
--- src/builds.rt:98:1
 same-length-4 : tie.Need-same-length-4
 same-length-4 c = search needs
 
--- src/builds.rt:98:1
 returns-2 : tie.Need-returns-2
 returns-2 c =
     let f = c .before .before .before .before .before .before .before .before .before .before .before .before .before .before .before .before .before .before .before in

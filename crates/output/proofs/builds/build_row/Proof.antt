@@ -1,5 +1,5 @@
 -- `build_row` meets its contract: one law of BuildLaws for each return.
-use mathlib.Core.Path.{_≡_, sym, subst, _∙_}
+use mathlib.Core.Path.{_≡_, sym, ap, _∙_}
 use mathlib.Core.Bool.{Bool, false}
 use Prim.Native.Nat.{ℕ, _*_, _≤_, _<_, min}
 use native.Mathlib.Omega.{arith}
@@ -9,9 +9,10 @@ use Rattle.bankdef.specs.Check.{banksOf}
 use Rattle.bankdef.specs.Fill.{fillBy}
 use Rattle.resolver.specs.Lists.{Row}
 use Rattle.resolver.specs.Once.{Program}
-use Rattle.output.specs.Placing.{closesDefault}
+use Rattle.placing.specs.Placing.{closesDefault}
 use Rattle.output.specs.Output.{Lent, lent, roomOf}
-use Rattle.output.specs.Steps.{Planned, programOf, rowOf}
+use Rattle.placing.specs.Plan.{Planned, planOf, plan-parts}
+use Rattle.visits.specs.Visits.{programOf, rowOf}
 use Rattle.output.proofs.BuildLaws.{row-stopped, row-short-image, row-short-spans, row-done, items-fit, spans-fit}
 use borrow.Author.Needs.{needs}
 use Rattle.output.proofs.builds.build_row.Statement.{statement}
@@ -19,13 +20,13 @@ use Rattle.output.proofs.builds.build_row.Tie as tie
 use Rattle.output.proofs.builds.build_row.Reads as reads
 use Rattle.output.proofs.builds.build_row.Lts as lts
 use Rattle.bankdef.proofs.fill_length.Reads as fill-length-reads
-use Rattle.output.proofs.placing.closes_default.Reads as closes-default-reads
+use Rattle.placing.proofs.closes_default.Reads as closes-default-reads
 use Rattle.output.proofs.builds.lacks_bytes.Reads as lacks-bytes-reads
 use Rattle.output.proofs.builds.refused.Reads as refused-reads
 use Rattle.output.proofs.builds.shorter.Reads as shorter-reads
-use Rattle.output.proofs.placing.plan_row.Reads as plan-row-reads
-use Rattle.output.proofs.writing.write_image.Reads as write-image-reads
-use Rattle.output.proofs.writing.write_spans.Reads as write-spans-reads
+use Rattle.placing.proofs.plan_row.Reads as plan-row-reads
+use Rattle.writing.proofs.write_image.Reads as write-image-reads
+use Rattle.writing.proofs.write_spans.Reads as write-spans-reads
 
 abbrev given : tie.Start → Program
 given s = programOf (s .args .banks) (s .args .kinds .now) (s .args .operands .now) (s .args .first .now)
@@ -48,9 +49,10 @@ begin c = c .before .before .before .before .before .before .before .before .bef
 -- what the first walk found, from the fill's own length
 planned : (c : tie.After-plan-row) → Planned (given (begin c)) (row (begin c)) (closed (begin c)) (fill (begin c)) (c .plan-row .result)
 planned c =
-    subst (λ (f : ℕ). Planned (given (begin c)) (row (begin c)) (closed (begin c)) f (c .plan-row .result)) (c .before .before .fill-length .ensures .0)
-    (subst (λ (b : Bool). Planned (given (begin c)) (row (begin c)) b (c .before .before .fill-length .result) (c .plan-row .result))
-    (c .before .closes-default .ensures) (c .plan-row .ensures))
+    plan-parts (given (begin c)) (row (begin c)) (closed (begin c)) (fill (begin c)) (c .plan-row .result)
+    (c .plan-row .ensures .0
+    ∙ ap (λ (b : Bool). planOf (given (begin c)) (row (begin c)) b (c .before .before .fill-length .result)) (c .before .closes-default .ensures)
+    ∙ ap (planOf (given (begin c)) (row (begin c)) (closed (begin c))) (c .before .before .fill-length .ensures .0))
 
 -- the places behind the first walk, each from the next
 abbrev walked : tie.After-lacks-bytes → tie.After-plan-row
@@ -73,7 +75,6 @@ long c = sym (c .before .lacks-bytes .ensures) ∙ c .if1 .left
 enough : (c : tie.Else2) → walked (roomy c) .plan-row .result .spans ≤ roomOf (old (begin (walked (roomy c)))) .spans
 enough c = omega (arith, c .before .shorter2 .ensures, c .before .before .shorter .ensures, c .if2 .left)
 
--- src/builds.rt:86:9
 fill-length-requires : tie.Need-fill-length-requires
 fill-length-requires c κs = search needs
 
@@ -102,7 +103,7 @@ enum-told : tie.Need-enum-told
 enum-told c = search needs
 
 lacks-bytes-requires : tie.Need-lacks-bytes-requires
-lacks-bytes-requires c κs = c .before .before .before .plan-row .ensures .low
+lacks-bytes-requires c κs = c .before .before .before .plan-row .ensures .1
 
 refused-requires-2 : tie.Need-refused-requires-2
 refused-requires-2 c κs = search needs

@@ -6,11 +6,9 @@ use Rattle.output.proofs.builds.lacks_bytes.Tie as tie
 use Rattle.output.proofs.builds.lacks_bytes.Reads as reads
 use Rattle.output.proofs.builds.lacks_bytes.Lts as lts
 
--- src/builds.rt:31:14
 add-result : tie.Need-add-result
 add-result c = search needs
 
--- src/builds.rt:27:1
 returns : tie.Need-returns
 returns c = bytes-short (c .args .bytes) (c .args .bits)
 

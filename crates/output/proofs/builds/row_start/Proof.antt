@@ -11,11 +11,9 @@ use Rattle.output.proofs.builds.row_start.Reads as reads
 use Rattle.output.proofs.builds.row_start.Lts as lts
 use Rattle.output.proofs.builds.shorter.Reads as shorter-reads
 
--- src/builds.rt:90:9
 shorter-requires : tie.Need-shorter-requires
 shorter-requires c κs = search needs
 
--- src/builds.rt:92:9
 returns : tie.Need-returns
 returns c =
     let a = c .before .before .args in
@@ -23,11 +21,9 @@ returns c =
     let whole = mul-le-mul-right (a .n) (c .before .before .pre .0) in
     (rw (none, zero-mul (a .n)), omega (arith, whole, one-mul (a .n)))
 
--- src/builds.rt:94:7
 sub-result : tie.Need-sub-result
 sub-result c = search needs
 
--- src/builds.rt:94:5
 mul-result : tie.Need-mul-result
 mul-result c =
     let a = c .before .before .args in
@@ -35,7 +31,6 @@ mul-result c =
     let rows-low = mul-le-mul-right (a .n) (c .before .before .pre .1) in
     record { fits = omega (arith, ends, rows-low, c .before .before .pre .2) }
 
--- src/builds.rt:85:1
 returns-2 : tie.Need-returns-2
 returns-2 c =
     let a = c .before .before .args in

@@ -1,0 +1,5 @@
+pub mod Kinds
+pub mod Placing
+pub mod PlacingLaws
+pub mod Plan
+pub mod Steps

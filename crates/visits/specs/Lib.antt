@@ -1,0 +1,6 @@
+pub mod ItemLaws
+pub mod Items
+pub mod Spans
+pub mod Upto
+pub mod VisitLaws
+pub mod Visits

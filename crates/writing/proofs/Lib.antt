@@ -1,0 +1,4 @@
+pub mod Laying
+pub mod Unique
+pub mod WritingOver
+pub mod WritingSteps
