@@ -67,10 +67,10 @@ module _ (n : Node) where
 module _ (a : Store) where
   pub goes-none : (offer : List Entry) → Sound a → offer ≡ [] → Goes a offer Accepted a
   unfolding stateAfter
-  goes-none offer s none = record { state = λ _. rw none; sound = s }
+  goes-none offer s none = record { state = λ _. rw none; sound = s; left = rw none }
 
   pub goes-refused : (offer : List Entry) (why : Refusal) → Sound a → Goes a offer (Refused why) a
-  goes-refused offer why s = record { state = λ e. absurd (never e); sound = s }
+  goes-refused offer why s = record { state = λ e. absurd (never e); sound = s; left = refl }
     where
       never : Refused why ≡ Accepted → ⊥
       never e = let z : _≡_ {A = ℕ} 0 1 = cc in omega arith
@@ -79,7 +79,7 @@ module _ (a : Store) where
       → Offers a e node r b → Goes a offer r b
   unfolding stateAfter
   goes-offered e node offer made s within r b o =
-      record { state = λ _. state-after a e node r b s o ∙ rw made; sound = sound-after a e node r b s o within }
+      record { state = λ _. state-after a e node r b s o ∙ rw made; sound = sound-after a e node r b s o within; left = rw made (o .left) }
 
 pub answered-none : (s : State) (node : ℕ) (offer : List Entry) → offer ≡ [] → Accepted ≡ answered s node offer
 answered-none s node offer none = rw none

@@ -80,7 +80,7 @@ fn offer_node(
 }
 
 // The verdict on a node by the position that it sees: 5 where the walk stops there, then 9 to 13. And how many intervals and marks are stored then.
-fn place(
+pub fn place(
     closed: bool,
     bank: u64,
     def: Bankdef,
