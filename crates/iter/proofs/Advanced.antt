@@ -1,21 +1,16 @@
 -- What the proofs of the walk share beyond the laws of specs/Advance.antt.
-use Prim.Native.Nat.{ℕ, zero, suc, _+_, _-_, _<_, _≤_}
-use mathlib.Core.Path.{_≡_, refl, sym}
+use Prim.Native.Nat.{ℕ, _+_, _-_, _<_, _≤_}
+use mathlib.Core.Path.{_≡_, sym}
 use mathlib.Core.Bool.{Bool, true, false}
-use mathlib.Core.List.{List, [], _∷_}
-use native.Mathlib.Nat.{le-of-suc-le-suc}
 use native.Mathlib.Omega.{arith}
-use lib.Dec.{leb}
-use lib.ListN.{getD, length}
-use borrow.Author.Tests.{leb-false, le-leb, lt-leb, eq-eqb, ne-eqb}
-use Rattle.refusal.specs.Bools.{either, neither}
-use Rattle.refusal.specs.Limits.{maxBanks}
+use borrow.Author.Tests.{le-leb, lt-leb, eq-eqb, ne-eqb}
+use Rattle.refusal.specs.Bools.{either}
 use Rattle.refusal.specs.Pick.{pick-true, pick-false}
 use Rattle.refusal.specs.declared.Refusal.{Refusal}
 use Rattle.refusal.specs.declared.Opt.the-variants.{None, Some}
 use Rattle.bankdef.specs.declared.Bankdef.{Bankdef}
-use Rattle.iter.specs.Step.{alignedTo, outermostSymbol, seenOf, badState, advancedOf, still, alignedMotion, seenSkips, seenMotion, advanceSkips}
-use Rattle.iter.specs.Step.{advanceMotion, maxSum, lostAfter, malformed}
+use Rattle.iter.specs.Step.{alignedTo, outermostSymbol, seenOf, advancedOf, still, alignedMotion, seenSkips, seenMotion, advanceSkips}
+use Rattle.iter.specs.Step.{advanceMotion, maxSum, lostAfter}
 use Rattle.iter.specs.ToldFacts.{none-skipped}
 use Rattle.iter.specs.declared.Moved.{Moved}
 use Rattle.iter.specs.declared.Moved.the-variants.{To, Refused}
@@ -59,13 +54,3 @@ sum-within lost bits h k = sym (pick-true _ _ (le-leb (lost + bits) maxSum (omeg
 
 pub sum-stops : (lost bits : ℕ) → bits ≤ maxSum → maxSum - bits < lost → maxSum ≡ lostAfter lost bits
 sum-stops lost bits h k = sym (pick-false _ _ (lt-leb (lost + bits) maxSum (omega arith)))
-
--- an element within the list is read whatever stands for those outside
-pub any-default : {A : Type 0} (l : List A) (i : ℕ) (d e : A) → i < length l → getD l i d ≡ getD l i e
-any-default [] i d e h = absurd (omega arith)
-any-default (x ∷ l) zero d e h = refl
-any-default (x ∷ l) (suc i) d e h = any-default l i d e (le-of-suc-le-suc h)
-
--- a node that is not malformed stands in one of the 16 banks
-pub in-table : (bank : ℕ) (node : Node) → malformed bank node ≡ false → bank < maxBanks
-in-table bank node e = leb-false maxBanks bank (neither (leb maxBanks bank) (badState node) e .0)

@@ -16,6 +16,10 @@ use Rattle.iter.proofs.steps.advance.Kinds as advance-kinds
 use Rattle.iter.proofs.steps.advance.Reads as advance-reads
 use Rattle.iter.proofs.steps.bank_after.Kinds as bank-after-kinds
 use Rattle.iter.proofs.steps.bank_after.Reads as bank-after-reads
+use Rattle.iter.proofs.steps.cross.Kinds as cross-kinds
+use Rattle.iter.proofs.steps.cross.Reads as cross-reads
+use Rattle.iter.proofs.steps.lost_after.Kinds as lost-after-kinds
+use Rattle.iter.proofs.steps.lost_after.Reads as lost-after-reads
 use Rattle.iter.proofs.steps.seen.Kinds as seen-kinds
 use Rattle.iter.proofs.steps.seen.Reads as seen-reads
 use Rattle.iter.proofs.steps.start.Kinds as start-kinds
@@ -43,6 +47,12 @@ advance-unique κs a x y e f p q = determined (p .0) (q .0)
 
 pub bank-after-unique : OneOutcome 0 bank-after-kinds.ps bank-after-kinds.r bank-after-reads.Learnt
 bank-after-unique κs a x y e f p q = determined p q
+
+pub cross-unique : OneOutcome 0 cross-kinds.ps cross-kinds.r cross-reads.Learnt
+cross-unique κs a x y e f p q = determined p q
+
+pub lost-after-unique : OneOutcome 0 lost-after-kinds.ps lost-after-kinds.r lost-after-reads.Learnt
+lost-after-unique κs a x y e f p q = determined p q
 
 pub seen-unique : OneOutcome 0 seen-kinds.ps seen-kinds.r seen-reads.Learnt
 seen-unique κs a x y e f p q = determined (p .0) (q .0)

@@ -4,6 +4,7 @@ pub mod AdvanceFacts
 pub mod Agrees
 pub mod Aligned
 pub mod Cases
+pub mod Crossing
 pub mod Distance
 pub mod Figures
 pub mod Known

@@ -11,6 +11,8 @@ pub use places::on_boundary;
 use refusal::Refusal;
 pub use steps::advance;
 pub use steps::bank_after;
+pub use steps::cross;
+pub use steps::lost_after;
 pub use steps::seen;
 pub use steps::start;
 pub use steps::step;
@@ -66,6 +68,14 @@ pub enum Moved {
 pub struct Motion {
     pub to: Moved,
     pub skipped: Skipped,
+}
+
+// A node crossed in the bank that it stands in: the position that it sees, what its alignment skips, and the bank's position after it.
+// Refused, nothing is skipped and the position is the one given.
+pub struct Crossing {
+    pub seen: Moved,
+    pub skipped: Skipped,
+    pub after: Pos,
 }
 
 // A step of the walk: the position that the node sees, what its alignment skips, and the walk after it. Refused, nothing is

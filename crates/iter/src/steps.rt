@@ -1,4 +1,5 @@
 // The walk from node to node, by value.
+use crate::Crossing;
 use crate::Distance;
 use crate::Motion;
 use crate::Moved;
@@ -16,8 +17,9 @@ ghost use mathlib.Core.Bool.{_||_};
 ghost use Prim.Native.Nat.{_<_};
 ghost use lib.Dec.{eqb};
 ghost use Rattle.refusal.specs.Limits.{maxBanks};
-ghost use Rattle.iter.specs.Step.{movedBy, startOf, bankAfter, outermostSymbol, badState, malformed};
+ghost use Rattle.iter.specs.Step.{movedBy, startOf, bankAfter, outermostSymbol, badState};
 ghost use Rattle.iter.specs.Step.{still, motionOf, alignedMotion, seenMotion, advanceMotion, counted, lostAfter, kept, stopped, stepOf};
+ghost use Rattle.iter.specs.Crossing.{halted, crossingOf};
 ghost use Rattle.iter.specs.Known.{staysKnown};
 ghost use Rattle.iter.specs.Figures.{SightTold, AdvanceTold};
 ghost use Rattle.iter.specs.StepFigures.{StepTold};
@@ -174,13 +176,6 @@ pub fn advance(def: Bankdef, at: Pos, node: Node) -> Motion
     }
 }
 
-// Whether a step's numbers are malformed: the bank that the node stands in, or a state that it reads.
-fn is_malformed(bank: u64, node: Node) -> bool
-    ensures { λ r. ⌜ r ≡ malformed bank node ⌝ }
-{
-    bank >= refusal::MAX_BANKS || is_bad_state(node)
-}
-
 // What a step counts as lost: an `align`'s own distance, and else that of a symbol's alignment.
 fn counts(node: Node, sight: Skipped, own: Skipped) -> Skipped
     ensures { λ r. ⌜ r ≡ counted node sight own ⌝ }
@@ -188,8 +183,8 @@ fn counts(node: Node, sight: Skipped, own: Skipped) -> Skipped
     if node.kind == 8 { own } else { sight }
 }
 
-// "the sum of bits lost"
-fn lost_after(lost: u64, bits: u32) -> u64
+// "the sum of bits lost", with those of one node more
+pub fn lost_after(lost: u64, bits: u32) -> u64
     ensures { λ r. ⌜ r ≡ lostAfter lost bits ⌝ }
 {
     let more = bits as u64;
@@ -197,6 +192,44 @@ fn lost_after(lost: u64, bits: u32) -> u64
         lost + more
     } else {
         MAX_SUM
+    }
+}
+
+// A crossing that is refused: nothing is skipped, and the position is the one given.
+fn refused_crossing(at: Pos, why: Refusal) -> Crossing
+    ensures { λ r. ⌜ r ≡ halted at why ⌝ }
+{
+    Crossing {
+        seen: Moved::Refused(why),
+        skipped: Skipped { bits: 0, units: 0 },
+        after: at,
+    }
+}
+
+// One node in the bank that it stands in, whose record is `def` and whose position is `at`: what it sees, what its alignment skips,
+// and the position after it. No other bank is read, so that a loop need not hand its walk about.
+pub fn cross(def: Bankdef, at: Pos, node: Node) -> Crossing
+    ensures { λ r. ⌜ r ≡ crossingOf def at node ⌝ }
+{
+    if is_bad_state(node) {
+        return refused_crossing(at, Refusal::Malformed(node.index));
+    }
+    let sight = seen(def, at, node);
+    let found = sight.to;
+    match found {
+        Moved::To(p) => {
+            let own = advance(def, p, node);
+            let went = own.to;
+            match went {
+                Moved::To(q) => Crossing {
+                    seen: Moved::To(p),
+                    skipped: counts(node, sight.skipped, own.skipped),
+                    after: q,
+                },
+                Moved::Refused(why) => refused_crossing(at, why),
+            }
+        }
+        Moved::Refused(why) => refused_crossing(at, why),
     }
 }
 
@@ -229,25 +262,18 @@ pub fn step(def: Bankdef, walk: Walk, node: Node) -> Stepped
     ensures told { λ r. ⌜ StepTold def walk node r ⌝ }
 {
     let bank = bank_after(walk.bank, node);
-    if is_malformed(bank, node) {
+    if bank >= refusal::MAX_BANKS {
         return refused_step(walk, Refusal::Malformed(node.index));
     }
-    let sight = seen(def, walk.at[bank as usize], node);
-    let found = sight.to;
-    match found {
+    let crossing = cross(def, walk.at[bank as usize], node);
+    let sight = crossing.seen;
+    match sight {
         Moved::To(p) => {
-            let own = advance(def, p, node);
-            let went = own.to;
-            match went {
-                Moved::To(q) => {
-                    let skipped = counts(node, sight.skipped, own.skipped);
-                    Stepped {
-                        seen: Moved::To(p),
-                        skipped,
-                        walk: moved_walk(walk, bank, q, skipped.bits),
-                    }
-                }
-                Moved::Refused(why) => refused_step(walk, why),
+            let skipped = crossing.skipped;
+            Stepped {
+                seen: Moved::To(p),
+                skipped,
+                walk: moved_walk(walk, bank, crossing.after, skipped.bits),
             }
         }
         Moved::Refused(why) => refused_step(walk, why),
