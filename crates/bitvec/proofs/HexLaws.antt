@@ -12,7 +12,8 @@ use Rattle.bitvec.specs.Within.{endsWithin}
 use Rattle.bitvec.specs.Lists.{listOf, listOf-more}
 use Rattle.bitvec.specs.Numeral.{numeral, numeral-cong, numeral-high, numeral-low, numeral-cleared}
 use Rattle.bitvec.specs.Bits.{bitAt, Bytes, bitAt-lt, byte-numeral}
-use Rattle.bitvec.specs.HexDigits.{digitOf, paddedBit, digitValue, digitAt, digitCount, hexOf, hexAnswer, Prints, hex-told, paddedBit-lt, paddedBit-own, paddedBit-past}
+use Rattle.bitvec.specs.HexDigits.{digitOf, paddedBit, digitValue, digitAt, digitCount, hexOf, hexAnswer, Prints, hex-told, paddedBit-lt, paddedBit-own}
+use Rattle.bitvec.specs.HexDigits.{paddedBit-past}
 
 module _ (bytes : List ℕ) (bits : ℕ) where
   -- the eight bits that are printed of byte j

@@ -19,9 +19,11 @@ use Rattle.form.specs.Shape.{bankCountIn, nodesStartIn, nodeCountIn, rowsStartI
 use Rattle.form.specs.Whole.{part, contentsIn}
 use Rattle.convert.specs.declared.Conversion.{Conversion}
 use Rattle.convert.specs.declared.Conversion.the-variants.{Converted, Refused}
-use Rattle.convert.specs.Convert.{strays, isSwitch, turned, zeros, alone, stray, answerOf, answerFor, shortened, narrowed, toForm1, allOf, allZero, same, bare, startsZero, shaped, bitClear, dropsBit, ToForm1}
+use Rattle.convert.specs.Convert.{strays, isSwitch, turned, zeros, alone, stray, answerOf, answerFor, shortened, narrowed, toForm1, allOf, allZero, same}
+use Rattle.convert.specs.Convert.{bare, startsZero, shaped, bitClear, dropsBit, ToForm1}
 use Rattle.convert.specs.Fitting.{Read, shortened-long, narrowed-long, shape-two, shape-some, rest-long}
-use Rattle.convert.proofs.Assembled.{map-column, column-same, fits, banks-many, nodes-many, rows-many, banks-in, nodes-in, rows-in, values-at, nodes-at, rows-at, file-long, from-nodes, from-values, tail, padded}
+use Rattle.convert.proofs.Assembled.{map-column, column-same, fits, banks-many, nodes-many, rows-many, banks-in, nodes-in, rows-in, values-at, nodes-at}
+use Rattle.convert.proofs.Assembled.{rows-at, file-long, from-nodes, from-values, tail, padded}
 use Rattle.convert.proofs.Laws.{node-byte, all-same, part-front, part-back, part-at}
 
 -- ---- the shape

@@ -18,7 +18,8 @@ use Rattle.form.specs.Kind.{form1, form2, is1, is2}
 use Rattle.form.specs.Contents.{Contents, written, Each, Long, BankFits, Fits}
 use Rattle.form.specs.Shape.{formIn}
 use Rattle.form.specs.Whole.{Bytes, contentsIn, contents-fit, file-is-written, contents-back}
-use Rattle.convert.specs.Convert.{switchTo, isSwitch, namesBank, strays, turned, zeros, lengthened, widened, alone, toForm2, shortened, narrowed, toForm1, allOf, allZero, same, bare, startsZero, shaped, bitClear, dropsBit}
+use Rattle.convert.specs.Convert.{switchTo, isSwitch, namesBank, strays, turned, zeros, lengthened, widened, alone, toForm2, shortened, narrowed, toForm1}
+use Rattle.convert.specs.Convert.{allOf, allZero, same, bare, startsZero, shaped, bitClear, dropsBit}
 use Rattle.convert.specs.Fitting.{form2-fits, form1-fits, shape-two, shape-some}
 
 -- ---- lists

@@ -31,7 +31,8 @@ use Rattle.form.specs.Lists.{cells, kindsIn, operandsIn, numbersIn, statesIn, v
 use Rattle.form.specs.Contents.{field, flat, Contents, written, Each, Long, BankFits, Fits}
 use Rattle.form.specs.Has.{Has, has-left, has-right, field-payload}
 use Rattle.form.specs.Parts.{has-at, field-long}
-use Rattle.form.specs.Sections.{Begins, Stops, bank-long, nodesAt, rowsAt, valuesAt, from-banks, from-nodes, from-rows, banks-are, nodes-start, nodes-are, rows-start, rows-are}
+use Rattle.form.specs.Sections.{Begins, Stops, bank-long, nodesAt, rowsAt, valuesAt, from-banks, from-nodes, from-rows, banks-are, nodes-start, nodes-are}
+use Rattle.form.specs.Sections.{rows-start, rows-are}
 use Rattle.form.specs.RoundTrip.{begins, halts, values-field, written-sound, written-kind}
 use Rattle.form.specs.Writer.{shapeFor}
 use Rattle.form.specs.Written.{column-of}

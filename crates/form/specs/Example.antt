@@ -11,7 +11,8 @@ use Rattle.form.specs.declared.Form.the-variants.{Sound, Broken}
 use Rattle.form.specs.Words.{word16}
 use Rattle.form.specs.Fields.{fieldAt, soundAt, runIn, run}
 use Rattle.form.specs.Kind.{form1, begins2, kindOf}
-use Rattle.form.specs.Shape.{bankCountIn, nodesStartIn, nodeCountIn, rowsStartIn, rowCountIn, valuesStartIn, valuesSizeIn, limitStartIn, fieldsBeforeIn, shapeIn, formIn, formOf}
+use Rattle.form.specs.Shape.{bankCountIn, nodesStartIn, nodeCountIn, rowsStartIn, rowCountIn, valuesStartIn, valuesSizeIn, limitStartIn, fieldsBeforeIn}
+use Rattle.form.specs.Shape.{shapeIn, formIn, formOf}
 use Rattle.form.specs.Contents.{bytes16, bytes32, bytes64, field, flat, written}
 use Rattle.form.specs.Writer.{Node, Cell, Layout, flagsOf, bankBytes, encode}
 

@@ -15,7 +15,8 @@ use Rattle.form.specs.declared.Form.the-variants.{Sound, Broken}
 use Rattle.form.specs.Words.{byte, word16}
 use Rattle.form.specs.Fields.{fieldAt, run, field-ends, by-test}
 use Rattle.form.specs.Kind.{Known, headed, known-longest}
-use Rattle.form.specs.Shape.{bankCountIn, nodesStartIn, nodeCountIn, rowsStartIn, rowCountIn, valuesStartIn, valuesSizeIn, limitStartIn, fieldsBeforeIn, shapeIn, formIn, Counted}
+use Rattle.form.specs.Shape.{bankCountIn, nodesStartIn, nodeCountIn, rowsStartIn, rowCountIn, valuesStartIn, valuesSizeIn, limitStartIn, fieldsBeforeIn}
+use Rattle.form.specs.Shape.{shapeIn, formIn, Counted}
 use Rattle.form.specs.Within.{fields-within}
 
 -- a field whose header is cut is none

@@ -22,9 +22,11 @@ use Rattle.form.specs.Lists.{cells, valuesBy}
 use Rattle.form.specs.Contents.{field, flat, Contents, headBytes, written, Each, Long, BankFits, Fits}
 use Rattle.form.specs.Writer.{Node, Cell, Layout, bankBytes, nodeBytes, cellBytes, contents, encode, Writes, Full, Writable, shapeFor, Says}
 use Rattle.form.specs.Has.{Has, has-left, has-right, has-byte, has-all, field-length, field-size, field-payload, field-there}
-use Rattle.form.specs.Parts.{Any, each-any, field-long, bank-fits, bank-back, node-length, row-length, kind-back, operand-back, cells-of, number-back, state-back}
+use Rattle.form.specs.Parts.{Any, each-any, field-long, bank-fits, bank-back, node-length, row-length, kind-back, operand-back, cells-of, number-back}
+use Rattle.form.specs.Parts.{state-back}
 use Rattle.form.specs.Rest.{form-sound}
-use Rattle.form.specs.Sections.{Begins, Stops, bank-long, head-length, begins-head, nodesAt, rowsAt, valuesAt, has-head, from-banks, from-nodes, from-rows, from-values, banks-are, nodes-start, nodes-are, rows-start, rows-are, values-start}
+use Rattle.form.specs.Sections.{Begins, Stops, bank-long, head-length, begins-head, nodesAt, rowsAt, valuesAt, has-head, from-banks, from-nodes}
+use Rattle.form.specs.Sections.{from-rows, from-values, banks-are, nodes-start, nodes-are, rows-start, rows-are, values-start}
 use Rattle.form.specs.Written.{no-field, flat-length, column-of}
 
 -- a values field is none of the fields that may go before it

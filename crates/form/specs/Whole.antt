@@ -26,7 +26,8 @@ use Rattle.form.specs.Has.{Has, has-left, field-payload}
 use Rattle.form.specs.Parts.{field-long}
 use Rattle.form.specs.Rest.{SoundFile, sound-file}
 use Rattle.form.specs.RoundTrip.{flat-map, begins, halts, values-field, values-begin, values-long, limit-is, written-sound}
-use Rattle.form.specs.Sections.{bank-long, nodesAt, rowsAt, valuesAt, from-banks, from-nodes, from-rows, banks-are, nodes-start, nodes-are, rows-start, rows-are}
+use Rattle.form.specs.Sections.{bank-long, nodesAt, rowsAt, valuesAt, from-banks, from-nodes, from-rows, banks-are, nodes-start, nodes-are, rows-start}
+use Rattle.form.specs.Sections.{rows-are}
 use Rattle.form.specs.Writer.{shapeFor}
 use Rattle.form.specs.Written.{column-of}
 

@@ -22,7 +22,8 @@ use Rattle.overlap_checker.specs.Folds.{stateAfter, accepted, nonzero, e
 use Rattle.overlap_checker.specs.Ascending.{told, lt-or-le}
 use Rattle.overlap_checker.specs.Bits.{clash-exactly, clash-empty-exactly, any-found, any-of}
 use Rattle.overlap_checker.specs.MarkLaws.{cross-found, cross-of, crosses-none, length-marked, resting-rising, resting-proper}
-use Rattle.overlap_checker.specs.Answers.{clear-apart, apart-clear, clash-hits, cross-hits, hit-either, three-ways, answer-overlaps, answer-full, answer-passes, room-below, no-room, mark-room, no-mark-room, after-either}
+use Rattle.overlap_checker.specs.Answers.{clear-apart, apart-clear, clash-hits, cross-hits, hit-either, three-ways, answer-overlaps, answer-full}
+use Rattle.overlap_checker.specs.Answers.{answer-passes, room-below, no-room, mark-room, no-mark-room, after-either}
 use Rattle.overlap_checker.specs.Going.{Fits, length-inserted, fits-empty, fits-folded}
 use Rattle.overlap_checker.specs.Faults.{same-number, ascending-proper}
 use Rattle.overlap_checker.specs.WhatIsStored as what

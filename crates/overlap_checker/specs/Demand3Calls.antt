@@ -18,7 +18,8 @@ use Rattle.overlap_checker.specs.Naming.{Named}
 use Rattle.overlap_checker.specs.Marks.{ProperMarks}
 use Rattle.overlap_checker.specs.State.{State, emptyState, answer, after}
 use Rattle.overlap_checker.specs.Lent.{Lent, lent, held, heldMarks, stateIn, Sound, laid, starts, lengths, laidInto, Calls}
-use Rattle.overlap_checker.specs.Folds.{stateAfter, answers, acceptedBy, nonzero, empties, AllWithin, SharesBitWith, CoversMark, InsideOf, RefusedBy, CallsInTurn}
+use Rattle.overlap_checker.specs.Folds.{stateAfter, answers, acceptedBy, nonzero, empties, AllWithin, SharesBitWith, CoversMark, InsideOf, RefusedBy}
+use Rattle.overlap_checker.specs.Folds.{CallsInTurn}
 use Rattle.overlap_checker.specs.Laid.{starts-length, lengths-length, state-laid}
 use Rattle.overlap_checker.specs.Going.{Grown, state-none, sound-none, laid-again, left-is, state-after, sound-after, folded-grows}
 use Rattle.overlap_checker.specs.Checks.{calls-offers}

@@ -17,7 +17,8 @@ use Rattle.overlap_checker.specs.State.{State, holding, answer, putAt, i
 use Rattle.overlap_checker.specs.Ascending.{told, lt-or-le, or-neither, or-none, Ascending}
 use Rattle.overlap_checker.specs.Bits.{inside-exactly, clash-exactly, clash-empty-exactly}
 use Rattle.overlap_checker.specs.MarkLaws.{crosses-none, length-marked, resting-rising}
-use Rattle.overlap_checker.specs.Answers.{apart-clear, room-below, mark-room, answer-passes, accepted-free, accepted-uncrossed, accepted-room, accepted-mark-room, accepted-keeps, keeping-bits, keeping-mark}
+use Rattle.overlap_checker.specs.Answers.{apart-clear, room-below, mark-room, answer-passes, accepted-free, accepted-uncrossed, accepted-room}
+use Rattle.overlap_checker.specs.Answers.{accepted-mark-room, accepted-keeps, keeping-bits, keeping-mark}
 use Rattle.overlap_checker.specs.Going.{Fits, fits-after, length-inserted}
 use Rattle.overlap_checker.specs.Insertion.{inserted-either, marked-either}
 

@@ -21,9 +21,11 @@ use Rattle.overlap_checker.specs.MarkLaws.{Resting, lies, no-mark-fault,
 use Rattle.overlap_checker.specs.State.{answer, figures}
 use Rattle.overlap_checker.specs.Lent.{Lent, held, heldMarks, stateIn, Sound, callFigures, Calls}
 use Rattle.overlap_checker.specs.Folds.{RefusedBy}
-use Rattle.overlap_checker.specs.Ascending.{told, lt-or-le, fault-le, not-past, within-limits, Ascending, no-fault, sits, faultless, ascending, sits-at, ends-before}
+use Rattle.overlap_checker.specs.Ascending.{told, lt-or-le, fault-le, not-past, within-limits, Ascending, no-fault, sits, faultless, ascending, sits-at}
+use Rattle.overlap_checker.specs.Ascending.{ends-before}
 use Rattle.overlap_checker.specs.Answers.{three-ways, tries-overlaps, tries-full, tries-passes}
-use Rattle.overlap_checker.specs.Checks.{sound-fine, fine-sound, checks-count, checks-mark-count, checks-fault, checks-mark-fault, checks-limits, checks-passes, six-ways}
+use Rattle.overlap_checker.specs.Checks.{sound-fine, fine-sound, checks-count, checks-mark-count, checks-fault, checks-mark-fault, checks-limits}
+use Rattle.overlap_checker.specs.Checks.{checks-passes, six-ways}
 
 -- ---- ascending is proper
 

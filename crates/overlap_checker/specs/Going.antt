@@ -19,7 +19,8 @@ use Rattle.overlap_checker.specs.Marks.{countBelow, firstMarkFault}
 use Rattle.overlap_checker.specs.Rising.{Rising, place-counts, starts-rising}
 use Rattle.overlap_checker.specs.MarkLaws.{Resting, resting, resting-rising, orderly, resting-inserted, resting-marked, length-marked}
 use Rattle.overlap_checker.specs.State.{State, emptyState, answer, inserted, after}
-use Rattle.overlap_checker.specs.Lent.{Spans, Lent, spansOf, zipped, heldIn, held, heldMarks, stateIn, Intact, Sound, laidInto, starts, lengths, leaving, Offers}
+use Rattle.overlap_checker.specs.Lent.{Spans, Lent, spansOf, zipped, heldIn, held, heldMarks, stateIn, Intact, Sound, laidInto, starts, lengths, leaving}
+use Rattle.overlap_checker.specs.Lent.{Offers}
 use Rattle.overlap_checker.specs.Folds.{stateAfter, AllWithin}
 use Rattle.overlap_checker.specs.Ascending.{lt-or-le, or-neither, Sits, Ascending, ascending, faultless}
 use Rattle.overlap_checker.specs.Neighbours.{place-le, none-below, one-below, ends-low, ends-high}

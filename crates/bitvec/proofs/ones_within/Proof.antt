@@ -42,7 +42,8 @@ returns-2 c =
     let rest = c .before .before .ones-from-edge in
     let j = a .from / 8 in
     two-ranges (a .image .now) (head .last .0) (rest .last .0) (a .from) (8 * j + 8) (8 * (j + 1)) (a .end)
-    (same-range (a .image .now) _ _ _ (a .from) (8 * j + 8) (head .ensures) (omega arith) (omega arith)) (rest .ensures) (omega arith) (omega arith) (omega arith)
+    (same-range (a .image .now) _ _ _ (a .from) (8 * j + 8) (head .ensures) (omega arith) (omega arith)) (rest .ensures)
+    (omega arith) (omega arith) (omega arith)
 
 pub ones-within-spec : {M : Type 1} → statement M
 ones-within-spec =
