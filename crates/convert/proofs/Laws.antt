@@ -1,108 +1,23 @@
--- Laws for the writing of fields: stores one behind the other, one field more, and the bytes of a node.
+-- Laws for the tests of a file: the bytes of a node, a column and a list gone through one by one.
 use mathlib.Core.Bool.{Bool, true, false, not, _&&_}
-use mathlib.Core.List.{List, [], _∷_, _++_, append-nil}
-use mathlib.Core.Path.{_≡_, refl, sym, ap, ap₂, subst, _∙_}
+use mathlib.Core.List.{List, [], _∷_}
+use mathlib.Core.Path.{_≡_, refl, sym, ap, ap₂, _∙_}
 use Prim.Native.Nat.{ℕ, zero, suc, _+_, _*_, _-_, _≤_, _<_}
-use native.Mathlib.Nat.{zero-add, mul-add}
-use native.Mathlib.Decide.{decLe}
+use native.Mathlib.Nat.{zero-add}
 use native.Mathlib.Omega.{arith}
 use lib.Dec.{eqb}
-use lib.ListN.{length, getD, take, drop, set, replicate, length-append, length-drop, length-replicate, drop-of-length-le}
-use lib.Seq.{sets, length-take-le, getD-take, getD-drop, drop-cons, drop-drop, drop-at, take-add, take-all, take-nil, take-take}
+use lib.ListN.{length, getD, drop, drop-of-length-le}
+use lib.Seq.{drop-cons}
 use borrow.Author.Tests.{eq-eqb, ne-eqb}
 use Rattle.refusal.specs.Bools.{either}
 use Rattle.bankdef.specs.Search.{firstWhere}
 use Rattle.form.specs.Words.{byte}
-use Rattle.form.specs.Columns.{column, column-last}
-use Rattle.form.specs.Contents.{bytes16, field, flat}
-use Rattle.form.specs.Has.{field-length}
-use Rattle.form.specs.Whole.{part, flat-append}
-use Rattle.convert.specs.Convert.{switchTo, zeros, strays, allOf, allZero, same}
-use Rattle.convert.specs.Writes.{Writes, writes-then, writes-long}
-
--- ---- stores one behind the other
-
-pub stores3 : (l : List ℕ) (e a b c : ℕ) → set (set (set l e a) (e + 1) b) (e + 2) c ≡ sets l e (a ∷ b ∷ c ∷ [])
-stores3 l e a b c =
-    let p : e + 1 ≡ suc e = omega arith in
-    let q : e + 2 ≡ suc (suc e) = omega arith in
-    ap₂ (λ (i j : ℕ). set (set (set l e a) i b) j c) p q
-
-pub stores5 : (l : List ℕ) (e a b c d x : ℕ)
-    → set (set (set (set (set l e a) (e + 1) b) (e + 2) c) (e + 3) d) (e + 4) x ≡ sets l e (a ∷ b ∷ c ∷ d ∷ x ∷ [])
-stores5 l e a b c d x =
-    let p : e + 1 ≡ suc e = omega arith in
-    let q : e + 2 ≡ suc (suc e) = omega arith in
-    let r : e + 3 ≡ suc (suc (suc e)) = omega arith in
-    let s : e + 4 ≡ suc (suc (suc (suc e))) = omega arith in
-    λ i. set (set (set (set (set l e a) (p i) b) (q i) c) (r i) d) (s i) x
-
-pub writes5 : (l : List ℕ) (e a b c d x : ℕ)
-    → Writes (a ∷ b ∷ c ∷ d ∷ x ∷ []) l e (e + 5) (set (set (set (set (set l e a) (e + 1) b) (e + 2) c) (e + 3) d) (e + 4) x)
-writes5 l e a b c d x = record { place = refl; buffer = stores5 l e a b c d x }
-
--- ---- a field
-
-pub zeros-length : (n : ℕ) → length (zeros n) ≡ n
-zeros-length n = length-replicate {A = ℕ} n 0
-
-pub padded-length : (before behind : ℕ) (word : List ℕ) → length (zeros before ++ (word ++ zeros behind)) ≡ before + length word + behind
-padded-length before behind word =
-    omega (
-      arith,
-      length-append (zeros before) (word ++ zeros behind),
-      length-append word (zeros behind),
-      zeros-length before,
-      zeros-length behind,
-    )
-
-pub header-field : (tag n : ℕ) (payload : List ℕ) → length payload ≡ n → (tag ∷ bytes16 n) ++ payload ≡ field tag payload
-unfolding field
-header-field tag n payload e = ap (λ (m : ℕ). tag ∷ (bytes16 m ++ payload)) (sym e)
-
-pub header-length : (tag n : ℕ) → length (tag ∷ bytes16 n) ≡ 3
-unfolding bytes16
-header-length tag n = refl
-
-pub part-length : (file : List ℕ) (n at : ℕ) → at + n ≤ length file → length (part file n at) ≡ n
-part-length file n at h = length-take-le n (drop at file) (omega (arith, length-drop at file))
-
-pub field-none : (tag : ℕ) (payload : List ℕ) → field tag (zeros 0 ++ (payload ++ zeros 0)) ≡ field tag payload
-field-none tag payload = ap (field tag) (append-nil payload)
-
-pub switch-written : (bank : ℕ) {old mid new : List ℕ} {at end end′ : ℕ} → Writes (2 ∷ bytes16 5) old at end mid → Writes (switchTo bank) mid end end′ new
-    → Writes (field 2 (switchTo bank)) old at end′ new
-switch-written bank {old} {mid} {new} {at} {end} {end′} p q =
-    subst (λ (l : List ℕ). Writes l old at end′ new) (header-field 2 5 (switchTo bank) refl) (writes-then p q)
-
-pub head-written : {old mid : List ℕ} {at end : ℕ} → Writes (16 ∷ bytes16 1) old at end mid → Writes (field 16 (2 ∷ [])) old at (end + 1) (set mid end 2)
-head-written {old} {mid} {at} {end} p =
-    let one : Writes (2 ∷ []) mid end (end + 1) (set mid end 2) = record { place = refl; buffer = refl } in
-    subst (λ (l : List ℕ). Writes l old at (end + 1) (set mid end 2)) (header-field 16 1 (2 ∷ []) refl) (writes-then p one)
-
--- one field more
-flat-one : {X : Type 0} (write : X → List ℕ) (x : X) → flat write (x ∷ []) ≡ write x
-unfolding flat
-flat-one write x = append-nil (write x)
-
-module _ (tag : ℕ) (what : ℕ → List ℕ) (step from : ℕ) where
-  pub fields-none : {old : List ℕ} {at : ℕ} → Writes (flat (field tag) (column what step from 0)) old at at old
-  unfolding flat column
-  fields-none {old} {at} = record { place = omega arith; buffer = refl }
-
-  pub fields-turn : (i : ℕ) {old mid new : List ℕ} {at end end′ : ℕ} → Writes (flat (field tag) (column what step from i)) old at end mid
-      → Writes (field tag (what (from + i * step))) mid end end′ new → Writes (flat (field tag) (column what step from (i + 1))) old at end′ new
-  fields-turn i {old} {mid} {new} {at} {end} {end′} p q =
-      let x = what (from + i * step) in
-      let e : flat (field tag) (column what step from (i + 1)) ≡ flat (field tag) (column what step from i) ++ field tag x =
-      ap (flat (field tag)) (column-last what step from i) ∙ flat-append (field tag) (column what step from i) (x ∷ [])
-      ∙ ap (λ (l : List ℕ). flat (field tag) (column what step from i) ++ l) (flat-one (field tag) x) in
-      subst (λ (l : List ℕ). Writes l old at end′ new) (sym e) (writes-then p q)
+use Rattle.form.specs.Columns.{column}
+use Rattle.form.specs.Whole.{part}
+use Rattle.convert_write.specs.PartLaws.{part-at}
+use Rattle.convert_write.specs.Turning.{strays, allOf, allZero, same}
 
 -- ---- the bytes of a node
-
-pub node-byte : (file : List ℕ) (at i : ℕ) → i < 5 → byte file (at + i) ≡ getD (part file 5 at) i 0
-node-byte file at i h = sym (getD-take 5 (drop at file) i 0 h ∙ getD-drop at file i 0)
 
 abbrev pub straysOf : ℕ → ℕ → ℕ → ℕ → ℕ → ℕ → Bool
 straysOf bank a b c d e = eqb a 1 && not (eqb b 0 && (eqb c 0 && (eqb d 0 && eqb e bank)))
@@ -110,11 +25,11 @@ straysOf bank a b c d e = eqb a 1 && not (eqb b 0 && (eqb c 0 && (eqb d 0 && eqb
 pub strays-at : (bank : ℕ) (file : List ℕ) (at : ℕ)
     → straysOf bank (byte file at) (byte file (at + 1)) (byte file (at + 2)) (byte file (at + 3)) (byte file (at + 4)) ≡ strays bank (part file 5 at)
 strays-at bank file at =
-    let p₀ = ap (byte file) {x = at} {y = at + 0} (omega arith) ∙ node-byte file at 0 (omega arith) in
-    let p₁ = node-byte file at 1 (omega arith) in
-    let p₂ = node-byte file at 2 (omega arith) in
-    let p₃ = node-byte file at 3 (omega arith) in
-    let p₄ = node-byte file at 4 (omega arith) in
+    let p₀ = ap (byte file) {x = at} {y = at + 0} (omega arith) ∙ sym (part-at file 5 at 0 (omega arith)) in
+    let p₁ = sym (part-at file 5 at 1 (omega arith)) in
+    let p₂ = sym (part-at file 5 at 2 (omega arith)) in
+    let p₃ = sym (part-at file 5 at 3 (omega arith)) in
+    let p₄ = sym (part-at file 5 at 4 (omega arith)) in
     λ i. straysOf bank (p₀ i) (p₁ i) (p₂ i) (p₃ i) (p₄ i)
 
 module _ (bank a b c d e : ℕ) where
@@ -241,58 +156,9 @@ module _ (l m : List ℕ) (long : length l ≡ length m) where
   unfolding same
   same-ends i h q = sym (q ∙ rw (drop-of-length-le l {i = i} h, drop-of-length-le m {i = i} (omega (arith, long))) refl)
 
--- ---- parts of parts
-
-pub drop-take : (m n : ℕ) (l : List ℕ) → drop m (take (m + n) l) ≡ take n (drop m l)
-drop-take m n l =
-    ap (drop m) (take-add m n l)
-    ∙ go
-  where
-    go : drop m (take m l ++ take n (drop m l)) ≡ take n (drop m l)
-    go =
-        elim (decLe m (length l)) [
-          | yes h ↦ drop-at (take m l) (take n (drop m l)) m (length-take-le m l h)
-          | no h ↦
-              let none : drop m l ≡ [] = drop-of-length-le l {i = m} (omega arith) in
-              let all : take m l ≡ l = take-all m l (omega arith) in
-              rw (none, all) (ap (drop m) (ap (λ (k : List ℕ). l ++ k) (take-nil n) ∙ append-nil l) ∙ none ∙ sym (take-nil n))
-        ]
-
-pub part-front : (file : List ℕ) (m n at : ℕ) → m ≤ n → take m (part file n at) ≡ part file m at
-part-front file m n at h = take-take m n (drop at file) h
-
-pub part-back : (file : List ℕ) (m n k at : ℕ) → n ≡ m + k → drop m (part file n at) ≡ part file k (at + m)
-part-back file m n k at e =
-    ap (λ (j : ℕ). drop m (take j (drop at file))) e ∙ drop-take m k (drop at file) ∙ ap (take k) (drop-drop m at file)
-
-pub part-at : (file : List ℕ) (n at i : ℕ) → i < n → getD (part file n at) i 0 ≡ byte file (at + i)
-part-at file n at i h = getD-take n (drop at file) i 0 h ∙ getD-drop at file i 0
-
 pub first-within : {A : Type 0} (p : A → Bool) (l : List A) → firstWhere p l ≤ length l
 unfolding firstWhere
 first-within p [] = omega arith
 first-within p (x ∷ l) =
     let more = first-within p l in
     either (p x) (λ t. rw t (omega arith)) (λ t. rw t (omega arith))
-
--- ---- where a writing has come to
-
-pub stage : {old new bytes : List ℕ} {at end : ℕ} → Writes bytes old at end new → (n m l : ℕ) → at ≡ n → length bytes ≡ m → length old ≡ l
-    → (end ≡ n + m) × (length new ≡ l)
-stage {old} {new} {bytes} {at} {end} w n m l p q e = (omega (arith, w .place, p, q), writes-long w ∙ e)
-
-pub padded-field : (tag : ℕ) (file : List ℕ) (keep behind at : ℕ) → at + keep ≤ length file
-    → length (field tag (zeros 0 ++ (part file keep at ++ zeros behind))) ≡ 3 + (0 + keep + behind)
-padded-field tag file keep behind at h =
-    field-length tag (zeros 0 ++ (part file keep at ++ zeros behind))
-    ∙ ap (λ (n : ℕ). 3 + n) (padded-length 0 behind (part file keep at) ∙ ap (λ (n : ℕ). 0 + n + behind) (part-length file keep at h))
-
--- five bytes more in each row
-pub rows-more : (r n : ℕ) → r * (3 + (5 + 5 * n + 0)) ≡ r * (3 + 5 * n) + r * 5
-rows-more r n = ap (λ (m : ℕ). r * m) {x = 3 + (5 + 5 * n + 0)} {y = 3 + 5 * n + 5} (omega arith) ∙ mul-add r (3 + 5 * n) 5
-
--- and five bytes less
-pub rows-less : (r n : ℕ) → 0 < n → r * (3 + (0 + (5 * n - 5) + 0)) + r * 5 ≡ r * (3 + 5 * n)
-rows-less r n h =
-    let m = 3 + (0 + (5 * n - 5) + 0) in
-    sym (mul-add r m 5) ∙ ap (λ (k : ℕ). r * k) {x = m + 5} {y = 3 + 5 * n} (omega arith)

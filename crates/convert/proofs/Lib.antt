@@ -1,4 +1,4 @@
-pub mod Assembled
 pub mod Back
 pub mod Laws
+pub mod There
 pub mod Unique

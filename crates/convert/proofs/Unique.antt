@@ -8,7 +8,8 @@ use Rattle.form.specs.Kind.{form1, form2}
 use Rattle.form.specs.Contents.{written}
 use Rattle.form.specs.Whole.{contentsIn}
 use Rattle.convert.specs.declared.Conversion.{Conversion}
-use Rattle.convert.specs.Convert.{outAfter, toForm1, toForm2}
+use Rattle.convert.specs.Convert.{outAfter}
+use Rattle.convert_write.specs.Turning.{toForm1, toForm2}
 use Rattle.convert.proofs.to_form1.Kinds as to-form1-kinds
 use Rattle.convert.proofs.to_form1.Reads as to-form1-reads
 use Rattle.convert.proofs.to_form2.Kinds as to-form2-kinds

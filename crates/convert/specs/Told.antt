@@ -23,7 +23,8 @@ use Rattle.form.specs.Told.{toldForm}
 use Rattle.form.specs.Whole.{contentsIn}
 use Rattle.convert.specs.declared.Conversion.{Conversion}
 use Rattle.convert.specs.declared.Conversion.the-variants.{Converted, Refused}
-use Rattle.convert.specs.Convert.{stray, answerOf, answerFor, answerBy, Converts, toForm2, toForm1, dropsNone, dropsBit, ToForm2, ToForm1}
+use Rattle.convert.specs.Convert.{stray, answerOf, answerFor, answerBy, Converts, dropsNone, ToForm2, ToForm1}
+use Rattle.convert_write.specs.Turning.{toForm2, toForm1, dropsBit}
 
 abbrev pub toldConversion : Conversion → Told ℕ
 toldConversion (Converted n) = gives n

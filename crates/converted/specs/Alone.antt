@@ -30,8 +30,8 @@ use Rattle.form.specs.Columns.{column}
 use Rattle.form.specs.Kind.{form1, form2, is1, is2}
 use Rattle.form.specs.Contents.{bytes16, field, flat, Contents, written, Fits}
 use Rattle.filed.specs.Filed.{fileOutput}
-use Rattle.convert.specs.Convert.{zeros, toForm1}
-use Rattle.convert.specs.Fitting.{form1-fits}
+use Rattle.convert_write.specs.Turning.{zeros, toForm1}
+use Rattle.convert_write.specs.Fitting.{form1-fits}
 use Rattle.converted.specs.Says.{bankOf, inputFor, written-output}
 
 -- one bank of unit 8, the rest zero; a reserve of 8 bits; limit 1

@@ -20,10 +20,12 @@ use Rattle.form.specs.Shape.{formIn}
 use Rattle.form.specs.Whole.{contentsIn, Bytes, contents-fit, file-is-written}
 use Rattle.convert.specs.declared.Conversion.{Conversion}
 use Rattle.convert.specs.declared.Conversion.the-variants.{Refused}
-use Rattle.convert.specs.Convert.{turned, zeros, lengthened, widened, alone, shaped, shortened, narrowed, dropsNone}
-use Rattle.convert.specs.Convert.{toForm2, toForm1, stray, answerOf, answerFor, answerBy, outAfter, ToForm2}
-use Rattle.convert.specs.Fitting.{shortened-fits, lengthened-long, shape-two}
-use Rattle.convert.specs.RoundTrips.{widened-shaped}
+use Rattle.convert_write.specs.Turning.{turned, zeros, lengthened, widened, alone, shaped, shortened, narrowed}
+use Rattle.convert.specs.Convert.{dropsNone}
+use Rattle.convert_write.specs.Turning.{toForm2, toForm1}
+use Rattle.convert.specs.Convert.{stray, answerOf, answerFor, answerBy, outAfter, ToForm2}
+use Rattle.convert_write.specs.Fitting.{shortened-fits, lengthened-long, shape-two}
+use Rattle.converted.specs.RoundTrips.{widened-shaped}
 use Rattle.converted.specs.ThereAndBack.{call-said, stray-none}
 
 too-many : (nodes rows first count size longest : ℕ) (drops : Bool) (room : ℕ) → maxNodes < nodes

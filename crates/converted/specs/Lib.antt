@@ -6,3 +6,5 @@ pub mod Shaped
 pub mod Alone
 pub mod ThereAndBack
 pub mod Exceptions
+pub mod RoundTrips
+pub mod Exactly

@@ -41,8 +41,9 @@ use Rattle.form.specs.Written.{flat-length}
 use Rattle.filed.specs.Filed.{fileOutput, FileBuilt}
 use Rattle.filed.specs.Paged.{BuiltIn}
 use Rattle.convert.specs.declared.Conversion.the-variants.{Converted}
-use Rattle.convert.specs.Convert.{switchTo, isSwitch, namesBank, strays, turned, zeros, widened, dropsNone, toForm2, ToForm2}
-use Rattle.convert.specs.Fitting.{widened-fits}
+use Rattle.convert_write.specs.Turning.{switchTo, isSwitch, namesBank, strays, turned, zeros, widened, toForm2}
+use Rattle.convert.specs.Convert.{dropsNone, ToForm2}
+use Rattle.convert_write.specs.Fitting.{widened-fits}
 use Rattle.default_bank.specs.Widened.{bare, turned as turnedIn, zerosAhead, withSwitch, widened as widenedIn, OneBank, raisedOutput}
 use Rattle.default_bank.specs.Same.{TwoBanks, same-answer, same-build}
 use Rattle.converted.specs.Says.{bankOf, kindOn, operandOn, numbersOn, statesOn, tableFor, listsFor, inputFor, word16-in, word64-in}

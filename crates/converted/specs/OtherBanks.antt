@@ -37,8 +37,9 @@ use Rattle.form.specs.Whole.{contentsIn, Bytes}
 use Rattle.filed.specs.Filed.{fileOutput, FileBuilt}
 use Rattle.filed.specs.Paged.{afterSaid, outputIn, BuiltIn}
 use Rattle.convert.specs.declared.Conversion.the-variants.{Converted}
-use Rattle.convert.specs.Convert.{zeros, lengthened, shortened, shaped, allOf, bitClear, dropsBit, dropsNone, toForm2, toForm1, ToForm2, ToForm1}
-use Rattle.convert.specs.Fitting.{lengthened-fits, shortened-fits}
+use Rattle.convert_write.specs.Turning.{zeros, lengthened, shortened, shaped, allOf, bitClear, dropsBit, toForm2, toForm1}
+use Rattle.convert.specs.Convert.{dropsNone, ToForm2, ToForm1}
+use Rattle.convert_write.specs.Fitting.{lengthened-fits, shortened-fits}
 use Rattle.converted.specs.Says.{bankOf, tableFor, listsFor, inputFor, byte-in, word16-in, word32-in, word64-in, alike-banks}
 use Rattle.converted.specs.Says.{written-output, from-written, to-written}
 use Rattle.converted.specs.Conversions.{turned-file}

@@ -18,9 +18,10 @@ use Rattle.form.specs.Contents.{Contents, written, Fits}
 use Rattle.form.specs.Whole.{contentsIn, Bytes}
 use Rattle.filed.specs.Filed.{FileBuilt}
 use Rattle.convert.specs.declared.Conversion.the-variants.{Converted}
-use Rattle.convert.specs.Convert.{switchTo, isSwitch, strays, turned, shaped, narrowed, dropsBit, toForm1, ToForm1}
-use Rattle.convert.specs.Fitting.{narrowed-fits, rest-long, shape-two, shape-some}
-use Rattle.convert.specs.RoundTrips.{widened-again}
+use Rattle.convert_write.specs.Turning.{switchTo, isSwitch, strays, turned, shaped, narrowed, dropsBit, toForm1}
+use Rattle.convert.specs.Convert.{ToForm1}
+use Rattle.convert_write.specs.Fitting.{narrowed-fits, rest-long, shape-two, shape-some}
+use Rattle.converted.specs.RoundTrips.{widened-again}
 use Rattle.default_bank.specs.Widened.{raisedOutput}
 use Rattle.converted.specs.Says.{inputFor}
 use Rattle.converted.specs.Conversions.{turned-file}

@@ -21,10 +21,12 @@ use Rattle.form.specs.RoundTrip.{written-sound}
 use Rattle.form.specs.Whole.{contentsIn, Bytes, contents-back}
 use Rattle.convert.specs.declared.Conversion.{Conversion}
 use Rattle.convert.specs.declared.Conversion.the-variants.{Converted}
-use Rattle.convert.specs.Convert.{strays, zeros, lengthened, widened, alone, shaped, shortened, narrowed, allOf, bitClear, dropsBit, dropsNone}
-use Rattle.convert.specs.Convert.{toForm2, toForm1, stray, answerOf, answerFor, answerBy, outAfter, Converts, ToForm2, ToForm1}
-use Rattle.convert.specs.Fitting.{form2-fits, form1-fits}
-use Rattle.convert.specs.RoundTrips.{there-and-back, back-and-there}
+use Rattle.convert_write.specs.Turning.{strays, zeros, lengthened, widened, alone, shaped, shortened, narrowed, allOf, bitClear, dropsBit}
+use Rattle.convert.specs.Convert.{dropsNone}
+use Rattle.convert_write.specs.Turning.{toForm2, toForm1}
+use Rattle.convert.specs.Convert.{stray, answerOf, answerFor, answerBy, outAfter, Converts, ToForm2, ToForm1}
+use Rattle.convert_write.specs.Fitting.{form2-fits, form1-fits}
+use Rattle.converted.specs.RoundTrips.{there-and-back, back-and-there}
 use Rattle.converted.specs.Conversions.{turned-file}
 use Rattle.converted.specs.Shaped.{none-stray}
 

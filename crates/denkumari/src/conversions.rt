@@ -4,7 +4,8 @@ use crate::told::tell_refusal;
 use convert::Conversion;
 ghost use mathlib.Core.Path.{_≡_};
 ghost use Rattle.form.specs.Kind.{form1, form2};
-ghost use Rattle.convert.specs.Convert.{toForm1, toForm2, dropsNone, dropsBit};
+ghost use Rattle.convert_write.specs.Turning.{toForm1, toForm2, dropsBit};
+ghost use Rattle.convert.specs.Convert.{dropsNone};
 ghost use Rattle.denkumari.specs.Conversions.{conversionCount, WayTold};
 
 fn tell_conversion(done: Conversion) -> DkCount

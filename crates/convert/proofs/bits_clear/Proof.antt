@@ -10,8 +10,9 @@ use lib.ListN.{length, getD}
 use Rattle.form.specs.Words.{byte}
 use Rattle.form.specs.Columns.{column}
 use Rattle.form.specs.Whole.{part}
-use Rattle.convert.specs.Convert.{allOf, bitClear}
-use Rattle.convert.proofs.Laws.{all-starts, all-on, all-fails, all-ends, part-at}
+use Rattle.convert_write.specs.Turning.{allOf, bitClear}
+use Rattle.convert.proofs.Laws.{all-starts, all-on, all-fails, all-ends}
+use Rattle.convert_write.specs.PartLaws.{part-at}
 use Rattle.convert.proofs.bits_clear.Statement.{statement}
 use Rattle.convert.proofs.bits_clear.Tie as tie
 

@@ -6,9 +6,11 @@ use native.Mathlib.Omega.{arith}
 use borrow.Author.Needs.{needs}
 use Rattle.form.specs.Kind.{form1, form2, is2}
 use Rattle.form.specs.Whole.{contentsIn}
-use Rattle.convert.specs.Convert.{toForm1, dropsBit, answerFor}
-use Rattle.convert.specs.Writes.{writes-front}
-use Rattle.convert.proofs.Assembled.{sizes, converted-room}
+use Rattle.convert_write.specs.Turning.{toForm1, dropsBit}
+use Rattle.convert.specs.Convert.{answerFor}
+use Rattle.convert_write.specs.Writes.{writes-front}
+use Rattle.convert_write.specs.Sizes.{sizes}
+use Rattle.convert.proofs.There.{converted-room}
 use Rattle.convert.proofs.Back.{back-answer, back-converts, back-refuses}
 use Rattle.convert.proofs.convert1.Statement.{statement}
 use Rattle.convert.proofs.convert1.Tie as tie

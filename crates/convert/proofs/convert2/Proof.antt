@@ -8,9 +8,10 @@ use borrow.Author.Needs.{needs}
 use Rattle.form.specs.Kind.{form1, form2, is1}
 use Rattle.form.specs.Contents.{written}
 use Rattle.form.specs.Whole.{contentsIn}
-use Rattle.convert.specs.Convert.{toForm2, answerFor}
-use Rattle.convert.specs.Writes.{writes-front}
-use Rattle.convert.proofs.Assembled.{answer-is, converted-room, converts, refuses}
+use Rattle.convert_write.specs.Turning.{toForm2}
+use Rattle.convert.specs.Convert.{answerFor}
+use Rattle.convert_write.specs.Writes.{writes-front}
+use Rattle.convert.proofs.There.{answer-is, converted-room, converts, refuses}
 use Rattle.convert.proofs.convert2.Statement.{statement}
 use Rattle.convert.proofs.convert2.Tie as tie
 

@@ -6,7 +6,7 @@ use borrow.Author.Needs.{needs}
 use Rattle.bankdef.specs.Search.{firstWhere}
 use Rattle.form.specs.Columns.{column}
 use Rattle.form.specs.Whole.{part}
-use Rattle.convert.specs.Convert.{strays}
+use Rattle.convert_write.specs.Turning.{strays}
 use Rattle.convert.proofs.Laws.{search-starts, search-on, search-met, search-ends}
 use Rattle.convert.proofs.first_stray.Statement.{statement}
 use Rattle.convert.proofs.first_stray.Tie as tie

@@ -5,9 +5,9 @@ use native.Mathlib.Omega.{arith}
 use borrow.Author.Needs.{needs}
 use borrow.Author.Tests.{not-true, not-false}
 use Rattle.form.specs.Whole.{part}
-use Rattle.convert.specs.Convert.{same, allZero}
+use Rattle.convert_write.specs.Turning.{same, allZero}
 use Rattle.convert.proofs.Back.{bare-at}
-use Rattle.convert.proofs.Laws.{part-length}
+use Rattle.convert_write.specs.PartLaws.{part-length}
 use Rattle.convert.proofs.is_bare.Statement.{statement}
 use Rattle.convert.proofs.is_bare.Tie as tie
 

@@ -3,7 +3,7 @@ use Prim.Native.Nat.{_-_, _≤_}
 use mathlib.Core.Path.{_≡_, refl}
 use native.Mathlib.Omega.{arith}
 use lib.ListN.{length, drop}
-use Rattle.convert.specs.Convert.{same}
+use Rattle.convert_write.specs.Turning.{same}
 use Rattle.convert.proofs.Laws.{same-on, same-fails, same-ends}
 use Rattle.convert.proofs.is_same.Statement.{statement}
 use Rattle.convert.proofs.is_same.Tie as tie

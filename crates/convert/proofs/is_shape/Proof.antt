@@ -9,8 +9,8 @@ use lib.ListN.{length}
 use Rattle.form.specs.Kind.{is2}
 use Rattle.form.specs.Columns.{column, column-length}
 use Rattle.form.specs.Whole.{part}
-use Rattle.convert.specs.Convert.{strays, bare}
-use Rattle.convert.proofs.Assembled.{sizes}
+use Rattle.convert_write.specs.Turning.{strays, bare}
+use Rattle.convert_write.specs.Sizes.{sizes}
 use Rattle.convert.proofs.Back.{shape-banks, shape-bare, shape-none, shape-kind, shape-stray, shape-rows}
 use Rattle.convert.proofs.Laws.{first-within}
 use Rattle.convert.proofs.is_shape.Statement.{statement}

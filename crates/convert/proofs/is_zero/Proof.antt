@@ -3,7 +3,7 @@ use Prim.Native.Nat.{_-_, _≤_}
 use mathlib.Core.Path.{_≡_, refl}
 use native.Mathlib.Omega.{arith}
 use lib.ListN.{length, drop}
-use Rattle.convert.specs.Convert.{allZero}
+use Rattle.convert_write.specs.Turning.{allZero}
 use Rattle.convert.proofs.Laws.{zero-on, zero-fails, zero-ends}
 use Rattle.convert.proofs.is_zero.Statement.{statement}
 use Rattle.convert.proofs.is_zero.Tie as tie

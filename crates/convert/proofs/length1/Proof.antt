@@ -2,7 +2,7 @@
 use mathlib.Core.Path.{sym, _∙_}
 use native.Mathlib.Omega.{arith}
 use Rattle.form.specs.Kind.{is2}
-use Rattle.convert.proofs.Assembled.{file-short, rows-few}
+use Rattle.convert_write.specs.Sizes.{file-short, rows-few}
 use Rattle.convert.proofs.Back.{back-shaped, back-other}
 use Rattle.convert.proofs.length1.Statement.{statement}
 use Rattle.convert.proofs.length1.Tie as tie

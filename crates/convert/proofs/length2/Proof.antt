@@ -1,7 +1,8 @@
 -- `convert::length2` meets its contract: what one bank more, one node more and its cells take, or a byte for each bank.
 use native.Mathlib.Omega.{arith}
 use Rattle.form.specs.Kind.{is1}
-use Rattle.convert.proofs.Assembled.{file-short, rows-few, banks-few, length-one, length-other}
+use Rattle.convert_write.specs.Sizes.{file-short, rows-few, banks-few}
+use Rattle.convert.proofs.There.{length-one, length-other}
 use Rattle.convert.proofs.length2.Statement.{statement}
 use Rattle.convert.proofs.length2.Tie as tie
 

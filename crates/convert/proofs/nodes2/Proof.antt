@@ -1,7 +1,8 @@
 -- `convert::nodes2` meets its contract: one more where there is one bank.
 use native.Mathlib.Omega.{arith}
 use Rattle.form.specs.Kind.{is1}
-use Rattle.convert.proofs.Assembled.{nodes-one, nodes-other, nodes-few}
+use Rattle.convert.proofs.There.{nodes-one, nodes-other}
+use Rattle.convert_write.specs.Sizes.{nodes-few}
 use Rattle.convert.proofs.nodes2.Statement.{statement}
 use Rattle.convert.proofs.nodes2.Tie as tie
 

@@ -10,7 +10,7 @@ use borrow.Author.Tests.{not-true, not-false}
 use lib.ListN.{length, take, drop}
 use Rattle.form.specs.Columns.{column}
 use Rattle.form.specs.Whole.{part}
-use Rattle.convert.specs.Convert.{allOf, allZero}
+use Rattle.convert_write.specs.Turning.{allOf, allZero}
 use Rattle.convert.proofs.Laws.{all-starts, all-on, all-fails, all-ends}
 use Rattle.convert.proofs.rows_start_zero.Statement.{statement}
 use Rattle.convert.proofs.rows_start_zero.Tie as tie

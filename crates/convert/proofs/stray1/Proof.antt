@@ -3,7 +3,8 @@ use mathlib.Core.Path.{_∙_}
 use native.Mathlib.Omega.{arith}
 use borrow.Author.Needs.{needs}
 use Rattle.form.specs.Kind.{is1}
-use Rattle.convert.proofs.Assembled.{nodes-at, rows-at, values-start, values-inside, stray-one, stray-other}
+use Rattle.convert_write.specs.Sizes.{nodes-at, rows-at, values-start, values-inside}
+use Rattle.convert.proofs.There.{stray-one, stray-other}
 use Rattle.convert.proofs.stray1.Statement.{statement}
 use Rattle.convert.proofs.stray1.Tie as tie
 

@@ -2,7 +2,7 @@
 use mathlib.Core.Path.{_∙_}
 use native.Mathlib.Omega.{arith}
 use Rattle.form.specs.Kind.{is2}
-use Rattle.convert.proofs.Assembled.{sizes}
+use Rattle.convert_write.specs.Sizes.{sizes}
 use Rattle.convert.proofs.Back.{back-stray-one, back-stray-other}
 use Rattle.convert.proofs.stray2.Statement.{statement}
 use Rattle.convert.proofs.stray2.Tie as tie

@@ -1,0 +1,4 @@
+pub mod Assembled
+pub mod Back
+pub mod Laws
+pub mod Unique

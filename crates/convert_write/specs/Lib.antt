@@ -1,0 +1,5 @@
+pub mod Fitting
+pub mod PartLaws
+pub mod Sizes
+pub mod Turning
+pub mod Writes
