@@ -22,7 +22,6 @@ use Rattle.convert_write.specs.Turning.{bitClear, dropsBit}
 use Rattle.convert_write.specs.Fitting.{Read, shortened-long, narrowed-long, shape-two, shape-some}
 use Rattle.convert_write.specs.PartLaws.{part-front, part-back, part-at}
 use Rattle.convert_write.specs.Sizes.{fits, banks-many, nodes-many, rows-many, banks-in, nodes-in, rows-in, nodes-at, rows-at, file-long}
-use Rattle.convert.specs.declared.Conversion.{Conversion}
 use Rattle.convert.specs.declared.Conversion.the-variants.{Converted, Refused}
 use Rattle.convert.specs.Convert.{stray, answerOf, answerFor, ToForm1}
 use Rattle.convert.proofs.Laws.{all-same}

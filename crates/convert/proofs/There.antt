@@ -21,7 +21,6 @@ use Rattle.form.specs.Whole.{part, contentsIn}
 use Rattle.convert_write.specs.Turning.{strays, turned, toForm2}
 use Rattle.convert_write.specs.Fitting.{Read, lengthened-long, widened-long}
 use Rattle.convert_write.specs.Sizes.{fits, banks-many, nodes-many, rows-many, nodes-in, nodes-at, file-long, one-is, alone-is, alone-not}
-use Rattle.convert.specs.declared.Conversion.{Conversion}
 use Rattle.convert.specs.declared.Conversion.the-variants.{Converted, Refused}
 use Rattle.convert.specs.Convert.{stray, answerOf, answerFor, ToForm2}
 

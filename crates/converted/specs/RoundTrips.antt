@@ -1,16 +1,15 @@
 -- "Form 1 to 2 to 1 gives the same bytes; form 2 to 1 to 2 does too, for every file that can go back." Ticket 13: "Ticket 7's equality excepts a two-bank
 -- form 1 file that already has the shape, which comes back as one bank, and a one-bank form 2 file, which comes back as the shape."
-use mathlib.Core.Bool.{Bool, true, false, not, _&&_}
+use mathlib.Core.Bool.{Bool, true, false}
 use mathlib.Core.List.{List, [], _∷_, _++_, map}
 use mathlib.Core.Path.{_≡_, refl, sym, ap, ap₂, _∙_}
-use Prim.Native.Nat.{ℕ, zero, suc, _+_, _*_, _-_, _≤_, _<_}
+use Prim.Native.Nat.{ℕ, suc, _*_, _-_, _≤_, _<_}
 use native.Mathlib.Omega.{arith}
 use lib.Dec.{eqb}
 use lib.ListN.{length, getD, take, drop, length-map, length-drop, take-append-drop, drop-of-length-le}
-use lib.Seq.{take-at, drop-at, take-append-le, getD-at, length-take-le, take-all, take-take, drop-cons}
-use borrow.Author.Tests.{eq-eqb, ne-eqb, eqb-true, not-false}
+use lib.Seq.{take-at, drop-at, take-append-le, getD-at, length-take-le, take-take, drop-cons}
+use borrow.Author.Tests.{eq-eqb, eqb-true, not-false}
 use Rattle.refusal.specs.Bools.{either, both, clash}
-use Rattle.refusal.specs.Pick.{pick}
 use Rattle.bankdef.specs.Search.{firstWhere}
 use Rattle.form.specs.declared.Form.the-variants.{Sound}
 use Rattle.form.specs.declared.Shape.{Shape}

@@ -118,13 +118,13 @@ fn build_read(
     let cells = shape.rows as usize * nodes;
     build_with(
         page,
-        form::read_banks(file),
+        form_lists::read_banks(file),
         &kinds[..nodes],
         &operands[..nodes],
         &numbers[..cells],
         &states[..cells],
         shape.rows,
-        form::read_values(file),
+        form_lists::read_values(file),
         choices,
         image,
         addresses,
@@ -160,7 +160,7 @@ pub fn build_file(
             let mut operands = [0u32; ROOM];
             let mut numbers = [0u32; CELLS];
             let mut states = [0u8; CELLS];
-            form::read_lists(file, &mut kinds, &mut operands, &mut numbers, &mut states);
+            form_lists::read_lists(file, &mut kinds, &mut operands, &mut numbers, &mut states);
             build_read(
                 file,
                 shape,

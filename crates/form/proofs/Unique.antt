@@ -1,23 +1,40 @@
--- Uniqueness: the contract of each public function has one outcome, over its own clause: the answer, and all that is lent afterwards.
+-- Uniqueness: the contract of each public function has one outcome, over its own clause: the answer.
 use Prim.Native.Nat.{ℕ}
-use mathlib.Core.List.{List}
-use mathlib.Core.Path.{_≡_, sym, ap, _∙_}
-use Rattle.refusal.specs.Outcome.{OneOutcome, OneView}
-use Rattle.refusal.specs.Pick.{determined, paired}
-use Rattle.refusal.specs.declared.Verdict.{Verdict}
-use Rattle.form.specs.Lists.{kindsOf, operandsOf, numbersOf, statesOf, listAfter}
-use Rattle.form.proofs.read_banks.Kinds as read-banks-kinds
-use Rattle.form.proofs.read_banks.Reads as read-banks-reads
+use mathlib.Core.Path.{ap₂}
+use Rattle.refusal.specs.Outcome.{OneOutcome}
+use Rattle.refusal.specs.Pick.{determined}
+use Rattle.form.proofs.read16.Kinds as read16-kinds
+use Rattle.form.proofs.read16.Reads as read16-reads
+use Rattle.form.proofs.read32.Kinds as read32-kinds
+use Rattle.form.proofs.read32.Reads as read32-reads
+use Rattle.form.proofs.read64.Kinds as read64-kinds
+use Rattle.form.proofs.read64.Reads as read64-reads
+use Rattle.form.proofs.count_run.Kinds as count-run-kinds
+use Rattle.form.proofs.count_run.Reads as count-run-reads
+use Rattle.form.proofs.kind_of.Kinds as kind-of-kinds
+use Rattle.form.proofs.kind_of.Reads as kind-of-reads
 use Rattle.form.proofs.read_form1.Kinds as read-form1-kinds
 use Rattle.form.proofs.read_form1.Reads as read-form1-reads
 use Rattle.form.proofs.read_form2.Kinds as read-form2-kinds
 use Rattle.form.proofs.read_form2.Reads as read-form2-reads
-use Rattle.form.proofs.read_lists.Kinds as read-lists-kinds
-use Rattle.form.proofs.read_lists.Reads as read-lists-reads
 use Rattle.form.proofs.read_shape.Kinds as read-shape-kinds
 use Rattle.form.proofs.read_shape.Reads as read-shape-reads
-use Rattle.form.proofs.read_values.Kinds as read-values-kinds
-use Rattle.form.proofs.read_values.Reads as read-values-reads
+
+pub read16-unique : OneOutcome 1 read16-kinds.ps read16-kinds.r read16-reads.Learnt
+read16-unique κs a x y e f p q = determined p q
+
+pub read32-unique : OneOutcome 1 read32-kinds.ps read32-kinds.r read32-reads.Learnt
+read32-unique κs a x y e f p q = determined p q
+
+pub read64-unique : OneOutcome 1 read64-kinds.ps read64-kinds.r read64-reads.Learnt
+read64-unique κs a x y e f p q = determined p q
+
+pub kind-of-unique : OneOutcome 1 kind-of-kinds.ps kind-of-kinds.r kind-of-reads.Learnt
+kind-of-unique κs a x y e f p q = determined p q
+
+pub count-run-unique : OneOutcome 1 count-run-kinds.ps count-run-kinds.r count-run-reads.Learnt
+count-run-unique κs a x y e f p q =
+    ap₂ (λ (count end : ℕ). record { count = count; end = end }) (determined (p .0) (q .0)) (determined (p .1) (q .1))
 
 pub read-shape-unique : OneOutcome 1 read-shape-kinds.ps read-shape-kinds.r read-shape-reads.Learnt
 read-shape-unique κs a x y e f p q = determined (p .is) (q .is)
@@ -27,26 +44,3 @@ read-form1-unique κs a x y e f p q = determined (p .is) (q .is)
 
 pub read-form2-unique : OneOutcome 1 read-form2-kinds.ps read-form2-kinds.r read-form2-reads.Learnt
 read-form2-unique κs a x y e f p q = determined (p .is) (q .is)
-
-pub read-banks-unique : OneOutcome 1 read-banks-kinds.ps read-banks-kinds.r read-banks-reads.Learnt
-read-banks-unique κs a x y e f p q = determined p q
-
--- the value bytes
-pub read-values-unique : OneView 1 read-values-kinds.ps read-values-kinds.r read-values-reads.Learnt (List ℕ) (λ κs x e. x .now)
-read-values-unique κs a x y e f p q = determined p q
-
--- two lists that follow from the same answer
-after : (new old : List ℕ) {v w : Verdict} {a b : List ℕ} → v ≡ w → a ≡ listAfter v new old → b ≡ listAfter w new old → a ≡ b
-after new old e p q = p ∙ ap (λ (u : Verdict). listAfter u new old) e ∙ sym q
-
--- the answer, and kinds, operands, numbers and states afterwards
-pub read-lists-unique : OneView 5 read-lists-kinds.ps read-lists-kinds.r read-lists-reads.Learnt (Verdict × (List ℕ × (List ℕ × (List ℕ × List ℕ))))
-    (λ κs x e. (x, (e .1 .0 .now, (e .1 .1 .0 .now, (e .1 .1 .1 .0 .now, e .1 .1 .1 .1 .0 .now)))))
-read-lists-unique κs a x y e f p q =
-    let file = a .0 .now in
-    let v = determined (p .lists .verdict) (q .lists .verdict) in
-    paired v
-    (paired (after (kindsOf file) (a .1 .0 .now) v (p .lists .of-kinds) (q .lists .of-kinds))
-    (paired (after (operandsOf file) (a .1 .1 .0 .now) v (p .lists .of-operands) (q .lists .of-operands))
-    (paired (after (numbersOf file) (a .1 .1 .1 .0 .now) v (p .lists .of-numbers) (q .lists .of-numbers))
-    (after (statesOf file) (a .1 .1 .1 .1 .0 .now) v (p .lists .of-states) (q .lists .of-states)))))

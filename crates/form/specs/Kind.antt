@@ -10,7 +10,7 @@ use native.Mathlib.Omega.{arith}
 use Rattle.refusal.specs.Bools.{both}
 use Rattle.refusal.specs.Pick.{pick}
 use Rattle.form.specs.declared.Kind.{Kind}
-use Rattle.form.specs.Fields.{fieldAt, field-ends, by-test}
+use Rattle.form.specs.Fields.{fieldAt, field-ends}
 use Rattle.form.specs.Words.{byte}
 
 -- Document 01: bank is tag 1, 23 bytes; "at most 65,000 bytes".

@@ -6,7 +6,6 @@ use mathlib.Core.Path.{_≡_, refl, sym, ap, ap₂, subst, _∙_}
 use Prim.Native.Nat.{ℕ, suc, _+_, _*_, _≤_}
 use native.Mathlib.Nat.{add-zero}
 use native.Mathlib.Omega.{arith}
-use lib.Dec.{eqb}
 use lib.ListN.{length, take, drop, length-append}
 use lib.Seq.{take-append-seam}
 use Rattle.bankdef.specs.declared.Bankdef.{Bankdef}
@@ -21,7 +20,7 @@ use Rattle.form.specs.Banks.{bankAt, banksIn}
 use Rattle.form.specs.Lists.{cells, valuesBy}
 use Rattle.form.specs.Contents.{field, flat, Contents, headBytes, written, Each, Long, BankFits, Fits}
 use Rattle.form.specs.Writer.{Node, Cell, Layout, bankBytes, nodeBytes, cellBytes, contents, encode, Writes, Full, Writable, shapeFor, Says}
-use Rattle.form.specs.Has.{Has, has-left, has-right, has-byte, has-all, field-length, field-size, field-payload, field-there}
+use Rattle.form.specs.Has.{Has, has-left, has-right, has-byte, field-length, field-size, field-payload, field-there}
 use Rattle.form.specs.Parts.{Any, each-any, field-long, bank-fits, bank-back, node-length, row-length, kind-back, operand-back, cells-of, number-back}
 use Rattle.form.specs.Parts.{state-back}
 use Rattle.form.specs.Rest.{form-sound}

@@ -3,16 +3,16 @@
 use mathlib.Core.Bool.{true, false}
 use mathlib.Core.List.{List, [], _∷_, _++_, append-nil}
 use mathlib.Core.Path.{_≡_, refl, sym, ap, ap₂, _∙_}
-use Prim.Native.Nat.{ℕ, _+_, _*_, _<_}
+use Prim.Native.Nat.{ℕ, _+_, _*_}
 use native.Mathlib.Omega.{arith}
 use borrow.Author.Tests.{eq-eqb}
 use lib.ListN.{length}
 use Rattle.form.specs.declared.Kind.{Kind}
 use Rattle.form.specs.Words.{byte}
-use Rattle.form.specs.Fields.{fieldAt, soundAt, run, run-stop}
+use Rattle.form.specs.Fields.{soundAt, run, run-stop}
 use Rattle.form.specs.Kind.{Known, is1, is2, known-apart, begins2, headed}
 use Rattle.form.specs.Shape.{bankCountIn, nodesStartIn, nodeCountIn, rowsStartIn, rowCountIn, valuesStartIn, fieldsBeforeIn}
-use Rattle.form.specs.Contents.{bytes16, field, flat, Contents, headBytes, Each, Long, BankFits, Fits}
+use Rattle.form.specs.Contents.{bytes16, field, flat, Contents, headBytes, Long, BankFits, Fits}
 use Rattle.form.specs.Has.{Has, has-left, has-right, has-byte, field-payload, field-there}
 use Rattle.form.specs.Parts.{field-long, bank-sound, node-sound, row-sound}
 use Rattle.form.specs.Written.{Other, no-run, flat-skip, run-of}

@@ -12,7 +12,6 @@ use Rattle.refusal.specs.Pick.{pick}
 use Rattle.refusal.specs.Told.{Told, gives, refuses, Nothing, nothing, toldRefusal, toldVerdict}
 use Rattle.refusal.specs.declared.Place.{Place}
 use Rattle.refusal.specs.declared.Place.the-variants.{One}
-use Rattle.refusal.specs.declared.Refusal.{Refusal}
 use Rattle.refusal.specs.declared.Refusal.the-variants.{Malformed}
 use Rattle.refusal.specs.declared.Verdict.{Verdict}
 use Rattle.refusal.specs.declared.Verdict.the-variants.{Accepted, Refused}

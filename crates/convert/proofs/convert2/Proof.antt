@@ -1,12 +1,9 @@
 -- `convert::convert2` meets its contract: the answer, and what is written where it is taken.
-use Prim.Native.Nat.{ℕ, _≤_}
-use mathlib.Core.Path.{_≡_, refl, sym, _∙_}
+use mathlib.Core.Path.{_≡_, sym, _∙_}
 use mathlib.Core.Bool.{false}
 use lib.ListN.{length}
-use native.Mathlib.Omega.{arith}
 use borrow.Author.Needs.{needs}
-use Rattle.form.specs.Kind.{form1, form2, is1}
-use Rattle.form.specs.Contents.{written}
+use Rattle.form.specs.Kind.{form1, form2}
 use Rattle.form.specs.Whole.{contentsIn}
 use Rattle.convert_write.specs.Turning.{toForm2}
 use Rattle.convert.specs.Convert.{answerFor}

@@ -1,8 +1,7 @@
 -- `convert::first_stray` meets its contract. The invariant: none of the nodes passed is one.
-use Prim.Native.Nat.{ℕ, _+_, _-_, _*_, _≤_}
+use Prim.Native.Nat.{_+_, _-_, _*_, _≤_}
 use mathlib.Core.Path.{_≡_, sym, _∙_}
 use native.Mathlib.Omega.{arith}
-use borrow.Author.Needs.{needs}
 use Rattle.bankdef.specs.Search.{firstWhere}
 use Rattle.form.specs.Columns.{column}
 use Rattle.form.specs.Whole.{part}

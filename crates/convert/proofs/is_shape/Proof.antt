@@ -1,15 +1,12 @@
 -- `convert::is_shape` meets its contract: the definition's five tests, one by one.
-use Prim.Native.Nat.{_+_, _*_, _≤_}
-use mathlib.Core.Bool.{true, false}
-use mathlib.Core.Path.{_≡_, sym, _∙_}
+use Prim.Native.Nat.{_≤_}
+use mathlib.Core.Path.{sym, _∙_}
 use native.Mathlib.Omega.{arith}
-use borrow.Author.Needs.{needs}
 use borrow.Author.Tests.{not-true, not-false}
-use lib.ListN.{length}
 use Rattle.form.specs.Kind.{is2}
 use Rattle.form.specs.Columns.{column, column-length}
 use Rattle.form.specs.Whole.{part}
-use Rattle.convert_write.specs.Turning.{strays, bare}
+use Rattle.convert_write.specs.Turning.{strays}
 use Rattle.convert_write.specs.Sizes.{sizes}
 use Rattle.convert.proofs.Back.{shape-banks, shape-bare, shape-none, shape-kind, shape-stray, shape-rows}
 use Rattle.convert.proofs.Laws.{first-within}

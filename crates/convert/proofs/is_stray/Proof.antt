@@ -1,8 +1,7 @@
 -- `convert::is_stray` meets its contract: the bytes of the node, one by one.
-use Prim.Native.Nat.{ℕ, _+_}
+use Prim.Native.Nat.{_+_}
 use mathlib.Core.Path.{_∙_}
 use native.Mathlib.Omega.{arith}
-use borrow.Author.Needs.{needs}
 use Rattle.form.specs.Words.{byte}
 use Rattle.convert.proofs.Laws.{strays-at, stray-kind, stray-first, stray-second, stray-third, stray-last}
 use Rattle.convert.proofs.is_stray.Statement.{statement}

@@ -1,7 +1,6 @@
 -- `convert::stray1` meets its contract: nodes are looked at where there is one bank.
 use mathlib.Core.Path.{_∙_}
 use native.Mathlib.Omega.{arith}
-use borrow.Author.Needs.{needs}
 use Rattle.form.specs.Kind.{is1}
 use Rattle.convert_write.specs.Sizes.{nodes-at, rows-at, values-start, values-inside}
 use Rattle.convert.proofs.There.{stray-one, stray-other}

@@ -1,6 +1,5 @@
 -- `convert_write::write1` meets its contract: the shape, or any other file.
-use Prim.Native.Nat.{ℕ, _≤_}
-use mathlib.Core.List.{List}
+use Prim.Native.Nat.{_≤_}
 use mathlib.Core.Path.{sym, _∙_, subst}
 use lib.ListN.{length}
 use borrow.Author.Needs.{needs}

@@ -1,13 +1,10 @@
 -- `convert_write::write2` meets its contract: one bank, or any other number.
-use Prim.Native.Nat.{ℕ, _≤_}
-use mathlib.Core.List.{List}
-use mathlib.Core.Path.{sym, ap, subst}
+use Prim.Native.Nat.{_≤_}
+use mathlib.Core.Path.{sym, subst}
 use lib.ListN.{length}
-use native.Mathlib.Omega.{arith}
 use borrow.Author.Needs.{needs}
-use Rattle.form.specs.Kind.{form1, form2}
+use Rattle.form.specs.Kind.{form2}
 use Rattle.form.specs.Contents.{Contents, written}
-use Rattle.form.specs.Whole.{contentsIn}
 use Rattle.convert_write.specs.Writes.{Writes}
 use Rattle.convert_write.proofs.Assembled.{to-widened, to-lengthened}
 use Rattle.convert_write.proofs.write2.Statement.{statement}

@@ -1,11 +1,10 @@
 -- `convert_write::write_field` meets its contract: header, zeros, bytes and zeros, one behind the other.
-use Prim.Native.Nat.{ℕ, _+_, _≤_}
+use Prim.Native.Nat.{ℕ, _+_}
 use mathlib.Core.List.{List, _∷_, _++_}
-use mathlib.Core.Path.{_≡_, sym, ap, _∙_, subst}
+use mathlib.Core.Path.{subst}
 use native.Mathlib.Omega.{arith}
-use borrow.Author.Needs.{needs}
 use lib.ListN.{length}
-use Rattle.form.specs.Contents.{bytes16, field}
+use Rattle.form.specs.Contents.{bytes16}
 use Rattle.convert_write.specs.Turning.{zeros}
 use Rattle.convert_write.specs.Writes.{Writes, writes-then, writes-long}
 use Rattle.convert_write.proofs.Laws.{zeros-length, padded-length, header-field, header-length}

@@ -1,6 +1,5 @@
 -- `convert_write::write_head` meets its contract: the header, and one byte.
 use Prim.Native.Nat.{_+_, _≤_}
-use mathlib.Core.List.{[], _∷_}
 use native.Mathlib.Omega.{arith}
 use lib.ListN.{length, length-set}
 use Rattle.convert_write.specs.Writes.{writes-long}

@@ -1,5 +1,5 @@
 -- `convert_write::write_header` meets its contract: three bytes, one behind the other.
-use Prim.Native.Nat.{_+_, _/_, _%_}
+use Prim.Native.Nat.{_/_, _%_}
 use native.Mathlib.Omega.{arith}
 use borrow.Author.Needs.{needs}
 use lib.ListN.{length-set}

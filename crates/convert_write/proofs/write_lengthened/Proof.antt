@@ -1,9 +1,9 @@
 -- `convert_write::write_lengthened` meets its contract: the head, the banks, and the file from its nodes on.
-use Prim.Native.Nat.{ℕ, _+_, _-_, _*_, _≤_}
+use Prim.Native.Nat.{ℕ, _+_, _-_, _*_}
 use mathlib.Core.List.{List, [], _∷_, _++_}
-use mathlib.Core.Path.{_≡_, _∙_, subst}
+use mathlib.Core.Path.{_≡_, subst}
 use native.Mathlib.Omega.{arith}
-use lib.ListN.{length, take, drop, length-take, length-drop}
+use lib.ListN.{length, take, drop}
 use Rattle.form.specs.Kind.{form1, form2, is1}
 use Rattle.form.specs.Columns.{column}
 use Rattle.form.specs.Contents.{field, flat, written}
@@ -12,7 +12,7 @@ use Rattle.form.specs.Whole.{contentsIn}
 use Rattle.convert_write.specs.Turning.{lengthened}
 use Rattle.convert_write.specs.Fitting.{lengthened-long}
 use Rattle.convert_write.specs.Writes.{Writes, writes-then, writes-long}
-use Rattle.convert_write.specs.Sizes.{Sizes, sizes, fits, file-long, banks-many}
+use Rattle.convert_write.specs.Sizes.{sizes, fits, file-long, banks-many}
 use Rattle.convert_write.proofs.Assembled.{padded, tail-long, lengthened-is}
 use Rattle.convert_write.proofs.write_lengthened.Statement.{statement}
 use Rattle.convert_write.proofs.write_lengthened.Tie as tie

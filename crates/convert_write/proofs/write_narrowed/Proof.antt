@@ -1,9 +1,8 @@
 -- `convert_write::write_narrowed` meets its contract: the bank, the nodes behind the first, the rows without their first cells, and the file from its values on.
 use Prim.Native.Nat.{ℕ, _+_, _-_, _*_, _≤_}
-use mathlib.Core.List.{List, [], _∷_, _++_}
-use mathlib.Core.Path.{_≡_, refl, _∙_, subst}
+use mathlib.Core.List.{List, _++_}
+use mathlib.Core.Path.{refl, _∙_, subst}
 use native.Mathlib.Omega.{arith}
-use borrow.Author.Needs.{needs}
 use lib.ListN.{length, take, drop}
 use Rattle.form.specs.Kind.{is2}
 use Rattle.form.specs.Columns.{column}

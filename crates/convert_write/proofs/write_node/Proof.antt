@@ -1,18 +1,16 @@
 -- `convert_write::write_node` meets its contract: a switch is turned, another node copied.
-use Prim.Native.Nat.{ℕ, _+_, _-_, _≤_}
-use mathlib.Core.Bool.{true, false}
-use mathlib.Core.List.{List, _++_}
+use Prim.Native.Nat.{ℕ, _+_, _-_}
+use mathlib.Core.List.{List}
 use mathlib.Core.Path.{_≡_, refl, sym, ap, _∙_, subst}
 use native.Mathlib.Omega.{arith}
 use borrow.Author.Needs.{needs}
 use borrow.Author.Tests.{eq-eqb, ne-eqb}
-use lib.Dec.{eqb}
 use lib.ListN.{length, getD, take, drop}
 use Rattle.form.specs.Words.{byte}
 use Rattle.form.specs.Contents.{field}
 use Rattle.form.specs.Whole.{part}
-use Rattle.convert_write.specs.Turning.{switchTo, isSwitch, turned, zeros}
-use Rattle.convert_write.specs.Writes.{Writes, writes-long}
+use Rattle.convert_write.specs.Turning.{switchTo, turned}
+use Rattle.convert_write.specs.Writes.{Writes}
 use Rattle.convert_write.specs.PartLaws.{part-length, part-at}
 use Rattle.convert_write.proofs.Laws.{field-none}
 use Rattle.convert_write.proofs.write_node.Statement.{statement}

@@ -1,10 +1,8 @@
 -- `convert_write::write_nodes` meets its contract. The invariant: i nodes stand in the buffer.
 use Prim.Native.Nat.{ℕ, _+_, _-_, _*_, _≤_}
 use mathlib.Core.List.{List}
-use mathlib.Core.Path.{_≡_, refl, subst}
+use mathlib.Core.Path.{_≡_, subst}
 use native.Mathlib.Omega.{arith}
-use borrow.Author.Needs.{needs}
-use lib.ListN.{length}
 use Rattle.form.specs.Columns.{column}
 use Rattle.form.specs.Contents.{field, flat}
 use Rattle.form.specs.Has.{field-length}

@@ -1,13 +1,8 @@
 -- `convert_write::write_switch` meets its contract: the header, and five bytes behind it.
-use Prim.Native.Nat.{ℕ, _+_, _≤_}
-use mathlib.Core.List.{List, [], _∷_, _++_}
-use mathlib.Core.Path.{_≡_, refl, _∙_, subst}
+use Prim.Native.Nat.{_+_, _≤_}
 use native.Mathlib.Omega.{arith}
-use borrow.Author.Needs.{needs}
 use lib.ListN.{length, length-set}
-use Rattle.form.specs.Contents.{bytes16, field}
-use Rattle.convert_write.specs.Turning.{switchTo}
-use Rattle.convert_write.specs.Writes.{Writes, writes-then, writes-long}
+use Rattle.convert_write.specs.Writes.{writes-long}
 use Rattle.convert_write.proofs.Laws.{writes5, header-length, switch-written}
 use Rattle.convert_write.proofs.write_switch.Statement.{statement}
 use Rattle.convert_write.proofs.write_switch.Tie as tie

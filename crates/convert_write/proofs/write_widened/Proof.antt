@@ -1,9 +1,8 @@
 -- `convert_write::write_widened` meets its contract: the head, the two banks, the switch, the nodes, the rows, and the file from its values on.
 use Prim.Native.Nat.{ℕ, _+_, _-_, _*_, _≤_}
 use mathlib.Core.List.{List, [], _∷_, _++_}
-use mathlib.Core.Path.{_≡_, refl, _∙_, subst}
+use mathlib.Core.Path.{refl, _∙_, subst}
 use native.Mathlib.Omega.{arith}
-use borrow.Author.Needs.{needs}
 use lib.ListN.{length, take, drop}
 use Rattle.form.specs.Kind.{is1}
 use Rattle.form.specs.Columns.{column}

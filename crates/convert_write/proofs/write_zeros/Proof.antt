@@ -1,9 +1,9 @@
 -- `convert_write::write_zeros` meets its contract. The invariant: i zeros stand in the buffer.
-use Prim.Native.Nat.{ℕ, _-_, _+_, _≤_, _<_}
-use mathlib.Core.List.{List, [], _∷_, _++_}
+use Prim.Native.Nat.{ℕ, _-_, _+_, _≤_}
+use mathlib.Core.List.{List, [], _∷_}
 use mathlib.Core.Path.{_≡_, refl, sym, ap, _∙_}
 use native.Mathlib.Omega.{arith}
-use lib.ListN.{length, set, replicate, length-set, replicate-append-replicate}
+use lib.ListN.{length, set, length-set, replicate-append-replicate}
 use lib.Seq.{sets}
 use Rattle.convert_write.specs.Turning.{zeros}
 use Rattle.convert_write.specs.Writes.{sets-append}

@@ -1,5 +1,4 @@
 -- `form::begins2` meets its contract: a field of tag 16 and one byte, and that byte.
-use Prim.Native.Nat.{_+_, _≤_}
 use mathlib.Core.Bool.{true, false}
 use mathlib.Core.Path.{_≡_, refl, sym, _∙_}
 use borrow.Author.Needs.{needs}

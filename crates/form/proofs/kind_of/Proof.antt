@@ -1,5 +1,5 @@
 -- `form::kind_of` meets its contract: the head chooses.
-use mathlib.Core.Path.{refl, sym, _∙_}
+use mathlib.Core.Path.{sym, _∙_}
 use borrow.Author.Needs.{needs}
 use Rattle.form.specs.Kind.{kindOf}
 use Rattle.form.proofs.kind_of.Statement.{statement}

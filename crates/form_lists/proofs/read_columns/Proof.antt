@@ -1,4 +1,4 @@
--- `form::read_columns` meets its contract. The invariant: the first i things of both columns stand in the lists.
+-- `form_lists::read_columns` meets its contract. The invariant: the first i things of both columns stand in the lists.
 use Prim.Native.Nat.{_+_, _-_, _*_, _≤_}
 use mathlib.Core.Path.{_≡_, refl, _∙_}
 use mathlib.Core.List.{[]}
@@ -6,11 +6,11 @@ use native.Mathlib.Nat.{mul-le-mul-right}
 use native.Mathlib.Omega.{arith}
 use lib.ListN.{length, length-set}
 use lib.Seq.{paste, paste-zero}
 use Rattle.form.specs.Columns.{column}
 use Rattle.form.specs.Words.{byte, word32}
 use Rattle.form.specs.Columns.{column-turn}
-use Rattle.form.proofs.read_columns.Statement.{statement}
-use Rattle.form.proofs.read_columns.Tie as tie
+use Rattle.form_lists.proofs.read_columns.Statement.{statement}
+use Rattle.form_lists.proofs.read_columns.Tie as tie
 
 abbrev Inv-loop : tie.InvT-loop
 Inv-loop file word-at byte-at step count from words₀ bytes₀ i₀ words bytes i =

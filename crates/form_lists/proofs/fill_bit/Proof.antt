@@ -1,10 +1,10 @@
--- `form::fill_bit` meets its contract: the byte behind the flags, where a bank has one.
+-- `form_lists::fill_bit` meets its contract: the byte behind the flags, where a bank has one.
 use mathlib.Core.Path.{refl}
 use borrow.Author.Needs.{needs}
 use borrow.Author.Tests.{lt-ltb, le-ltb}
 use native.Mathlib.Omega.{arith}
-use Rattle.form.proofs.fill_bit.Statement.{statement}
-use Rattle.form.proofs.fill_bit.Tie as tie
+use Rattle.form_lists.proofs.fill_bit.Statement.{statement}
+use Rattle.form_lists.proofs.fill_bit.Tie as tie
 
 returns : tie.Need-returns
 returns c = rw (le-ltb 23 (c .before .before .args .kind .bank) (omega arith)) refl

@@ -1,4 +1,4 @@
--- `form::read_banks` meets its contract: the run of banks, of which 16 are read at most.
+-- `form_lists::read_banks` meets its contract: the run of banks, of which 16 are read at most.
 use Prim.Native.Nat.{ℕ, _+_, _-_, _*_, _≤_, min}
 use mathlib.Core.Path.{_≡_, sym, ap, ap₂, subst, _∙_}
 use mathlib.Core.List.{List, _++_}
@@ -7,14 +7,13 @@ use borrow.Author.Needs.{needs}
 use native.Mathlib.Nat.{mul-le-mul-right}
 use native.Mathlib.Omega.{arith}
 use lib.ListN.{length, replicate}
 use Rattle.form.specs.declared.Kind.{Kind}
 use Rattle.form.specs.Banks.{banksIn, noBank}
-use Rattle.form.specs.Fields.{run}
 use Rattle.form.specs.Kind.{Known, kindOf, kind-known, kind-headed, known-heads}
-use Rattle.form.specs.Shape.{bankCountIn, nodesStartIn, bankCount}
+use Rattle.form.specs.Shape.{bankCountIn, nodesStartIn}
 use Rattle.form.specs.Within.{nodes-within}
-use Rattle.form.proofs.read_banks.Statement.{statement}
-use Rattle.form.proofs.read_banks.Tie as tie
+use Rattle.form_lists.proofs.read_banks.Statement.{statement}
+use Rattle.form_lists.proofs.read_banks.Tie as tie
 
 -- the banks stand within the file, whatever the form
 within : (file : List ℕ) (k : Kind) → k ≡ kindOf file → k .heads * 4 + bankCountIn k file * (3 + k .bank) ≤ length file

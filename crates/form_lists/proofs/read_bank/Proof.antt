@@ -1,14 +1,14 @@
--- `form::read_bank` meets its contract: each number from its own place.
+-- `form_lists::read_bank` meets its contract: each number from its own place.
 use borrow.Author.Needs.{needs}
 use mathlib.Core.Path.{ap, _∙_}
 use Prim.Native.Nat.{_+_}
 use Rattle.form.specs.Words.{byte}
 use mir.Syntax.{w64}
 use mir.Val.{toZ}
 use mir.ValLaws.{toZ-ofZ}
 use Rattle.form.specs.Banks.{optOf, bankAt}
-use Rattle.form.proofs.read_bank.Statement.{statement}
-use Rattle.form.proofs.read_bank.Tie as tie
+use Rattle.form_lists.proofs.read_bank.Statement.{statement}
+use Rattle.form_lists.proofs.read_bank.Tie as tie
 
 add-flags : tie.Need-add-flags
 add-flags c = search needs

@@ -1,16 +1,16 @@
--- `form::read_table` meets its contract. The invariant: the first i banks, and no bank behind them.
+-- `form_lists::read_table` meets its contract. The invariant: the first i banks, and no bank behind them.
 use Prim.Native.Nat.{ℕ, suc, _+_, _-_, _*_, _≤_, _<_}
-use mathlib.Core.Path.{_≡_, refl, sym, ap, _∙_}
-use mathlib.Core.List.{List, _∷_, _++_}
+use mathlib.Core.Path.{_≡_, refl, ap, _∙_}
+use mathlib.Core.List.{List, _++_}
 use native.Mathlib.Nat.{mul-le-mul-right}
 use native.Mathlib.Omega.{arith}
 use lib.ListN.{set, replicate}
 use Rattle.form.specs.declared.Kind.{Kind}
 use Rattle.form.specs.Banks.{bankAt, banksIn, noBank}
 use Rattle.form.specs.Columns.{column, column-set}
 use Rattle.form.specs.Kind.{known-heads, known-bank}
-use Rattle.form.proofs.read_table.Statement.{statement}
-use Rattle.form.proofs.read_table.Tie as tie
+use Rattle.form_lists.proofs.read_table.Statement.{statement}
+use Rattle.form_lists.proofs.read_table.Tie as tie
 
 -- a turn puts the next bank in the place of the first that is none
 turn : (k : Kind) (file : List ℕ) (i : ℕ) → i < 16

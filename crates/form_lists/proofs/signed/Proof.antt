@@ -1,4 +1,4 @@
--- `form::signed` meets its contract: from 2 ^ 63 on, a word is one less than the negative of what it lacks to the largest.
+-- `form_lists::signed` meets its contract: from 2 ^ 63 on, a word is one less than the negative of what it lacks to the largest.
 use Prim.Native.Nat.{ℕ, zero, suc, _-_, _^_, _≤_, _<_}
 use mathlib.Core.Path.{_≡_, refl, sym, ap, _∙_, subst}
 use borrow.Author.Needs.{needs}
@@ -8,8 +8,8 @@ use lib.IntN.{ℤ, pos, negsuc, _-ℤ_}
 use mir.Syntax.{w64}
 use mir.Val.{toZ, ofZ, SFits}
 use mir.ValLaws.{toZ-pos, toZ-neg, toZ-ofZ}
-use Rattle.form.proofs.signed.Statement.{statement}
-use Rattle.form.proofs.signed.Tie as tie
+use Rattle.form_lists.proofs.signed.Statement.{statement}
+use Rattle.form_lists.proofs.signed.Tie as tie
 
 -- what a word lacks to the largest
 abbrev lacks : ℕ → ℕ

@@ -1,17 +1,17 @@
--- `form::read_values` meets its contract: the part that the shape names stands within the file.
+-- `form_lists::read_values` meets its contract: the part that the shape names stands within the file.
 use Prim.Native.Nat.{ℕ, _+_, _-_}
 use mathlib.Core.Path.{_≡_, sym, ap, _∙_}
 use mathlib.Core.List.{List}
 use borrow.Author.Needs.{needs}
 use native.Mathlib.Omega.{arith}
 use lib.ListN.{length, take, drop}
 use Rattle.form.specs.declared.Kind.{Kind}
 use Rattle.form.specs.declared.Shape.{Shape}
 use Rattle.form.specs.Lists.{valuesBy}
 use Rattle.form.specs.Shape.{shapeIn, limitStartIn}
 use Rattle.form.specs.Rest.{SoundFile, sound-file}
-use Rattle.form.proofs.read_values.Statement.{statement}
-use Rattle.form.proofs.read_values.Tie as tie
+use Rattle.form_lists.proofs.read_values.Statement.{statement}
+use Rattle.form_lists.proofs.read_values.Tie as tie
 
 -- the value bytes end before the limit
 inside : (k : Kind) (file : List ℕ) (s : Shape) → SoundFile k file s → s .values + s .size + 4 ≡ length file

@@ -1,9 +1,9 @@
--- `form::read_lists` meets its contract: a broken file changes nothing, a sound one is read.
+-- `form_lists::read_lists` meets its contract: a broken file changes nothing, a sound one is read.
 use mathlib.Core.Path.{refl, sym, _∙_}
 use borrow.Author.Needs.{needs}
 use Rattle.form.specs.Told.{lists-are}
-use Rattle.form.proofs.read_lists.Statement.{statement}
-use Rattle.form.proofs.read_lists.Tie as tie
+use Rattle.form_lists.proofs.read_lists.Statement.{statement}
+use Rattle.form_lists.proofs.read_lists.Tie as tie
 
 read-shape-requires : tie.Need-read-shape-requires
 read-shape-requires c κs = search needs

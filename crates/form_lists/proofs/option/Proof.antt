@@ -1,8 +1,8 @@
--- `form::option` meets its contract: the flag's test chooses.
+-- `form_lists::option` meets its contract: the flag's test chooses.
 use mathlib.Core.Path.{sym, _∙_, refl}
 use borrow.Author.Needs.{needs}
-use Rattle.form.proofs.option.Statement.{statement}
-use Rattle.form.proofs.option.Tie as tie
+use Rattle.form_lists.proofs.option.Statement.{statement}
+use Rattle.form_lists.proofs.option.Tie as tie
 
 is-set-requires : tie.Need-is-set-requires
 is-set-requires c κs = search needs

@@ -1,13 +1,13 @@
--- `form::nodes_start` meets its contract: the head and the banks before them.
+-- `form_lists::nodes_start` meets its contract: the head and the banks before them.
 use Prim.Native.Nat.{_+_, _*_, _≤_}
-use mathlib.Core.Path.{_≡_, sym, ap, subst, _∙_}
+use mathlib.Core.Path.{sym, ap, subst, _∙_}
 use borrow.Author.Needs.{needs}
 use native.Mathlib.Omega.{arith}
 use Rattle.form.specs.declared.Kind.{Kind}
 use Rattle.form.specs.Kind.{Known, kind-known, known-bank}
 use Rattle.form.specs.Filled.{places}
-use Rattle.form.proofs.nodes_start.Statement.{statement}
-use Rattle.form.proofs.nodes_start.Tie as tie
+use Rattle.form_lists.proofs.nodes_start.Statement.{statement}
+use Rattle.form_lists.proofs.nodes_start.Tie as tie
 
 fits : (c : tie.After-kind-of) → c .kind-of .result .heads * 4 + c .before .before .args .shape .banks * (3 + c .kind-of .result .bank) ≤ 65536
 fits c =

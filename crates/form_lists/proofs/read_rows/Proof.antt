@@ -1,15 +1,15 @@
--- `form::read_rows` meets its contract. The invariant: the rows passed stand in the lists, and behind them their old contents.
+-- `form_lists::read_rows` meets its contract. The invariant: the rows passed stand in the lists, and behind them their old contents.
 use Prim.Native.Nat.{_+_, _-_, _*_, _≤_}
 use mathlib.Core.Path.{_≡_, refl, _∙_}
 use mathlib.Core.List.{_++_}
 use native.Mathlib.Nat.{mul-le-mul-right, zero-mul}
 use native.Mathlib.Omega.{arith}
 use lib.ListN.{length, drop}
 use Rattle.form.specs.Lists.{cells}
 use Rattle.form.specs.Words.{byte, word32}
 use Rattle.form.specs.Cells.{cells-turn}
-use Rattle.form.proofs.read_rows.Statement.{statement}
-use Rattle.form.proofs.read_rows.Tie as tie
+use Rattle.form_lists.proofs.read_rows.Statement.{statement}
+use Rattle.form_lists.proofs.read_rows.Tie as tie
 
 abbrev Inv-loop : tie.InvT-loop
 Inv-loop file at nodes rows numbers₀ states₀ r₀ numbers states r =
