@@ -6,7 +6,7 @@ use mathlib.Core.Path.{_≡_, refl, sym, ap, ap₂, subst, _∙_}
 use Prim.Native.Nat.{ℕ, zero, suc, _+_, _*_, _≤_}
 use native.Mathlib.Omega.{arith}
 use borrow.Author.Tests.{eqb-true, eq-eqb}
-use lib.Dec.{eqb, ltb}
+use lib.Dec.{eqb}
 use lib.ListN.{length, getD, take, drop, length-map, take-append-drop}
 use lib.Seq.{length-take-le, take-at, drop-at, getD-append-add}
 use mir.Syntax.{w64}
@@ -15,19 +15,12 @@ use Rattle.refusal.specs.Bools.{both, clash}
 use Rattle.refusal.specs.Limits.{maxNodes}
 use Rattle.refusal.specs.Pick.{pick}
 use Rattle.refusal.specs.declared.Opt.the-variants.{None}
-use Rattle.refusal.specs.declared.Refusal.the-variants.{TooShort}
 use Rattle.bankdef.specs.Search.{firstWhere}
 use Rattle.bankdef.specs.declared.Bankdef.{Bankdef}
 use Rattle.bankdef.specs.declared.Bankdefs.{Bankdefs}
 use Rattle.resolver.specs.Lists.{Lists, lists}
-use Rattle.resolver.specs.declared.Settled.{Settled}
-use Rattle.resolver.specs.declared.Settled.the-variants.{At, Refused as Unsettled}
-use Rattle.output.specs.Output.{Input, input, Lent, Room, roomOf, roomFor, placedBuild, settledBuild, settledOf, passesOf, visitsOf, buildOf, leftBy, Builds}
-use Rattle.output.specs.Output.{closedOf, fillOf, toldBuild, roomTold, placedTold, settledTold}
-use Rattle.visits.specs.Items.{lengthOf, itemsOf}
-use Rattle.placing.specs.Placing.{Placed, holds, stops, placedAll}
-use Rattle.visits.specs.Spans.{spansOf}
-use Rattle.output.specs.declared.Build.the-variants.{Done, Refused}
+use Rattle.output.specs.Output.{Input, input, Lent, Room, roomOf, visitsOf, buildOf, leftBy, Builds}
+use Rattle.output.specs.Output.{toldBuild}
 use Rattle.output.specs.declared.Output.{Output}
 use Rattle.form.specs.Words.{byte, word16, word32, word64}
 use Rattle.form.specs.Banks.{isSet, optOf}
@@ -44,6 +37,7 @@ use Rattle.convert.specs.declared.Conversion.the-variants.{Converted}
 use Rattle.convert_write.specs.Turning.{switchTo, isSwitch, namesBank, strays, turned, zeros, widened, toForm2}
 use Rattle.convert.specs.Convert.{dropsNone, ToForm2}
 use Rattle.convert_write.specs.Fitting.{widened-fits}
+use Rattle.default_bank.specs.Figures.{build-told}
 use Rattle.default_bank.specs.Widened.{bare, turned as turnedIn, zerosAhead, withSwitch, widened as widenedIn, OneBank, raisedOutput}
 use Rattle.default_bank.specs.Same.{TwoBanks, same-answer, same-build}
 use Rattle.converted.specs.Says.{bankOf, kindOn, operandOn, numbersOn, statesOn, tableFor, listsFor, inputFor, word16-in, word64-in}
@@ -173,31 +167,7 @@ no-bit : (b : List ℕ) → bankOf form1 b .«fill_bit» ≡ 0
 unfolding bankOf
 no-bit b = refl
 
--- ---- the build's figures are those of its answer
-
-room-told : (room : Room) (k bits spans : ℕ) → toldBuild (roomFor room k bits spans) ≡ roomTold room k bits spans
-room-told room k bits spans = go (ltb (8 * room .image) bits) (ltb (room .spans) spans)
-  where
-    go : (x y : Bool)
-        → toldBuild (pick x (Refused (TooShort 0)) (pick y (Refused (TooShort 1)) (Done k bits spans)))
-        ≡ pick x (toldBuild (Refused (TooShort 0))) (pick y (toldBuild (Refused (TooShort 1))) (toldBuild (Done k bits spans)))
-    go true y = refl
-    go false true = refl
-    go false false = refl
-
-placed-told : (room : Room) (k bits spans : ℕ) (p : Placed) → toldBuild (placedBuild room k bits spans p) ≡ placedTold room k bits spans p
-placed-told room k bits spans (holds stored) = room-told room k bits spans
-placed-told room k bits spans (stops why) = refl
-
-settled-told : (b : Input) (room : Room) (s : Settled) → toldBuild (settledBuild b room (passesOf b) s) ≡ settledTold b room s
-settled-told b room (At k) =
-    let vs = visitsOf b (passesOf b) in
-    placed-told room k (lengthOf (fillOf b) (itemsOf vs)) (length (spansOf vs)) (placedAll (closedOf b) vs)
-settled-told b room (Unsettled why) = refl
-
-build-told : (b : Input) (room : Room) → toldBuild (buildOf b room .build) ≡ settledTold b room (settledOf b)
-unfolding buildOf
-build-told b room = settled-told b room (settledOf b)
+-- ---- a build without a page size is the ordinary one
 
 as-build : {b : Input} {old new : Lent} {r : Output} → BuiltIn None b old r new → Builds b old r new
 as-build {b} {old} {new} {r} p =

@@ -9,3 +9,4 @@ pub mod Padding
 pub mod Same
 pub mod Places
 pub mod Cases
+pub mod Figures

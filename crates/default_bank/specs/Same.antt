@@ -33,7 +33,7 @@ use Rattle.writing.specs.Blank.{blankOf, blank-zeros}
 use Rattle.visits.specs.Items.{Item, lengthOf, imageOf, itemsOf}
 use Rattle.output.specs.Output.{Input, Room, roomOf, Lent, outputOf, roomFor, placedBuild, buildRow, visitsOf, closedOf, fillOf, settledBuild}
 use Rattle.placing.specs.Plan.{paddingsOf}
-use Rattle.output.specs.Output.{passesOf, settledOf, buildOf, filled, leftBy, Builds}
+use Rattle.output.specs.Output.{passesOf, settledOf, buildOf, leftBy, Builds}
 use Rattle.placing.specs.Placing.{Placed, holds, stops, closesDefault, placedAll}
 use Rattle.visits.specs.Spans.{Span, spansOf, over, addresses, words, sizes}
 use Rattle.visits.specs.Visits.{visits}
@@ -103,7 +103,7 @@ module _ (b : Input) (table : Bankdefs) (one : OneBank b) (two : TwoBanks (onlyB
   kept : bankRecord table 1 ≡ bankRecord (b .banks) 0
   kept = ap (λ (k : List Bankdef). getD k 1 noBank) (two .banks)
 
-  single : banksOf (b .banks) ≡ onlyBank b ∷ []
+  pub single : banksOf (b .banks) ≡ onlyBank b ∷ []
   single = go (b .banks .len) (b .banks .defs) (one .count) (one .table)
     where
       go : (n : ℕ) (defs : List Bankdef) → n ≡ 1 → length defs ≡ maxBanks → take n defs ≡ getD (take n defs) 0 noBank ∷ []
@@ -121,11 +121,31 @@ module _ (b : Input) (table : Bankdefs) (one : OneBank b) (two : TwoBanks (onlyB
       law : {n : ℕ} {k : List Bankdef} → n ≡ 1 → k ≡ onlyBank b ∷ [] → pick (countSound n) (checkBanks k) (Turned BankCount) ≡ checkBanks (onlyBank b ∷ [])
       law e f = rw (e, f)
 
-  check-there : checkOf table ≡ pick (bankFault (onlyBank b)) (Turned (BankNumber (pick (misplaced (onlyBank b)) 0 1))) Accepted
+  pub check-there : checkOf table ≡ pick (bankFault (onlyBank b)) (Turned (BankNumber (pick (misplaced (onlyBank b)) 0 1))) Accepted
   check-there = law (two .count) (two .banks) ∙ two-bank-check (onlyBank b)
     where
       law : {n : ℕ} {k x : List Bankdef} → n ≡ 2 → k ≡ x → pick (countSound n) (checkBanks k) (Turned BankCount) ≡ checkBanks x
       law e f = rw (e, f)
+
+  -- with sound banks: what the checks say, and where a refusal's place goes
+  module _ (sound : bankFault (onlyBank b) ≡ false) where
+    pub table-here : checkOf (b .banks) ≡ Accepted
+    table-here = check-here ∙ pick-false _ _ sound
+
+    pub table-there : checkOf table ≡ Accepted
+    table-there = check-there ∙ pick-false _ _ sound
+
+    pub stays-miscounted : countsSound b ≡ false → (why : Refusal) → why ≡ raised b why
+    stays-miscounted counts why = law (BankNumber (pick (misplaced (onlyBank b)) 0 1)) (shifted why) why sound counts
+      where
+        law : {s t : Bool} (x y z : Refusal) → s ≡ false → t ≡ false → z ≡ pick s x (pick t y z)
+        law x y z e f = rw (e, f)
+
+    pub shifts-counted : countsSound b ≡ true → (why : Refusal) → shifted why ≡ raised b why
+    shifts-counted counts why = law (BankNumber (pick (misplaced (onlyBank b)) 0 1)) (shifted why) why sound counts
+      where
+        law : {s t : Bool} (x y z : Refusal) → s ≡ false → t ≡ true → y ≡ pick s x (pick t y z)
+        law x y z e f = rw (e, f)
 
   -- ---- the row of the last pass
 
@@ -202,19 +222,13 @@ module _ (b : Input) (table : Bankdefs) (one : OneBank b) (two : TwoBanks (onlyB
         (away (BankNumber 0) (BankNumber (pick (misplaced (onlyBank b)) 0 1)) (sym (pick-true _ _ e)))
 
     module _ (sound : bankFault (onlyBank b) ≡ false) where
-      table-here : checkOf (b .banks) ≡ Accepted
-      table-here = check-here ∙ pick-false _ _ sound
-
-      table-there : checkOf table ≡ Accepted
-      table-there = check-there ∙ pick-false _ _ sound
-
       lists-here : (v : Verdict) → listsOf 1 l (b .choices .fill) ≡ v → layoutHere ≡ unless v (resolutionOf (b .banks) l (b .choices .limit))
-      lists-here v e = after-table (b .banks) l (b .choices) v table-here (ap (λ (n : ℕ). listsOf n l (b .choices .fill)) (one .count) ∙ e)
+      lists-here v e = after-table (b .banks) l (b .choices) v (table-here sound) (ap (λ (n : ℕ). listsOf n l (b .choices .fill)) (one .count) ∙ e)
 
       lists-there : (v : Verdict) → listsOf 2 (withSwitch l) (b .choices .fill) ≡ v
           → layoutThere ≡ unless v (resolutionOf table (withSwitch l) (b .choices .limit))
       lists-there v e =
-          after-table table (withSwitch l) (closing (b .choices)) v table-there (ap (λ (n : ℕ). listsOf n (withSwitch l) (b .choices .fill)) (two .count) ∙ e)
+          after-table table (withSwitch l) (closing (b .choices)) v (table-there sound) (ap (λ (n : ℕ). listsOf n (withSwitch l) (b .choices .fill)) (two .count) ∙ e)
 
       -- 4 with a field
       miscounted : countsSound b ≡ false → Goal
@@ -223,18 +237,9 @@ module _ (b : Input) (table : Bankdefs) (one : OneBank b) (two : TwoBanks (onlyB
           from-layouts {x = turnedAway why} {y = turnedAway why}
           (lists-here (Turned why) (field-here l counted (one .switches) (one .room) (b .choices .fill) e))
           (lists-there (Turned why) (field-there l counted (one .switches) (one .room) (b .choices .fill) e))
-          (away why why (law (BankNumber (pick (misplaced (onlyBank b)) 0 1)) (shifted why) why sound e))
-        where
-          law : {s t : Bool} (x y z : Refusal) → s ≡ false → t ≡ false → z ≡ pick s x (pick t y z)
-          law x y z f g = rw (f, g)
+          (away why why (stays-miscounted sound e why))
 
       module _ (counts : countsSound b ≡ true) where
-        shifts : (why : Refusal) → shifted why ≡ raised b why
-        shifts why = law (BankNumber (pick (misplaced (onlyBank b)) 0 1)) (shifted why) why sound counts
-          where
-            law : {s t : Bool} (x y z : Refusal) → s ≡ false → t ≡ true → y ≡ pick s x (pick t y z)
-            law x y z e f = rw (e, f)
-
         row-count : rowCountSound l ≡ true
         row-count = both (rowCountSound l) (knownFill (b .choices .fill)) counts .0
 
@@ -255,13 +260,13 @@ module _ (b : Input) (table : Bankdefs) (one : OneBank b) (two : TwoBanks (onlyB
             go : (x y : Bool)
                 → pick x (Refused (TooShort 0)) (pick y (Refused (TooShort 1)) (Done k bits spans))
                 ≡ raisedBuild b (pick x (Refused (TooShort 0)) (pick y (Refused (TooShort 1)) (Done k bits spans)))
-            go true y = ap (λ (why : Refusal). Refused why) (shifts (TooShort 0))
-            go false true = ap (λ (why : Refusal). Refused why) (shifts (TooShort 1))
+            go true y = ap (λ (why : Refusal). Refused why) (shifts-counted sound counts (TooShort 0))
+            go false true = ap (λ (why : Refusal). Refused why) (shifts-counted sound counts (TooShort 1))
             go false false = refl
 
         placed-alike : (k bits spans : ℕ) (q : Placed) → placedBuild room k bits spans (shiftedPlaced q) ≡ raisedBuild b (placedBuild room k bits spans q)
         placed-alike k bits spans (holds stored) = room-alike k bits spans
-        placed-alike k bits spans (stops why) = ap (λ (r : Refusal). Refused r) (shifts why)
+        placed-alike k bits spans (stops why) = ap (λ (r : Refusal). Refused r) (shifts-counted sound counts why)
 
         row-alike : (n k : ℕ) → buildRow (closedOf w) (visitsOf w n) (fillOf w) room k ≡ raisedBuild b (buildRow (closedOf b) (visitsOf b n) (fillOf b) room k)
         row-alike n k =
@@ -275,7 +280,7 @@ module _ (b : Input) (table : Bankdefs) (one : OneBank b) (two : TwoBanks (onlyB
 
         settled-alike : (n : ℕ) (s : Settled) → settledBuild w room n (shiftedSettled s) ≡ raisedBuild b (settledBuild b room n s)
         settled-alike n (At k) = row-alike n k
-        settled-alike n (Unsettled why) = ap (λ (r : Refusal). Refused r) (shifts why)
+        settled-alike n (Unsettled why) = ap (λ (r : Refusal). Refused r) (shifts-counted sound counts why)
 
         output-alike : (n : ℕ) (x : Build)
             → outputOf (program table (withSwitch l)) (rowOfPass (withSwitch l) n) n (raisedBuild b x) ≡ raisedOutput b (outputOf sides (rowOfPass l n) n x)
@@ -293,7 +298,8 @@ module _ (b : Input) (table : Bankdefs) (one : OneBank b) (two : TwoBanks (onlyB
         laid : (v : Verdict) → listsOf 1 l (b .choices .fill) ≡ v → Goal
         laid (Turned why) e =
             from-layouts {x = turnedAway why} {y = turnedAway (shifted why)}
-            (lists-here (Turned why) e) (lists-there (Turned (shifted why)) (lists-shifted ∙ ap shiftedVerdict e)) (away why (shifted why) (shifts why))
+            (lists-here (Turned why) e) (lists-there (Turned (shifted why)) (lists-shifted ∙ ap shiftedVerdict e))
+            (away why (shifted why) (shifts-counted sound counts why))
         laid Accepted e =
             from-layouts {x = resolutionOf (b .banks) l (b .choices .limit)} {y = shiftedResolution (resolutionOf (b .banks) l (b .choices .limit))}
             (lists-here Accepted e)

@@ -1,12 +1,9 @@
 -- Ticket 13 with Ticket 9, of the build in the profile: the same answer but for places, and everything lent the same.
-use Prim.Native.Nat.{ℕ, _*_, _<_}
+use Prim.Native.Nat.{ℕ, _<_}
 use mathlib.Core.Path.{_≡_, refl, sym, ap, subst, _∙_}
-use mathlib.Core.Bool.{Bool, true, false}
 use mathlib.Core.List.{_∷_}
 use native.Mathlib.Omega.{arith}
-use lib.Dec.{ltb}
-use lib.ListN.{getD, length, replicate}
-use Rattle.refusal.specs.Pick.{pick}
+use lib.ListN.{getD, replicate}
 use Rattle.refusal.specs.Told.{Told, toldNumber}
 use Rattle.refusal.specs.declared.Refusal.{Refusal}
 use Rattle.refusal.specs.declared.Refusal.the-variants.{BankCount, BankNumber, BanksOverlap, Malformed}
@@ -15,19 +12,15 @@ use Rattle.refusal.specs.declared.Refusal.the-variants.{NoOutput, Overlap, Stor
 use Rattle.refusal.specs.declared.Verdict.{Verdict}
 use Rattle.refusal.specs.declared.Verdict.the-variants.{Accepted, Refused as Turned}
 use Rattle.bankdef.specs.declared.Bankdefs.{Bankdefs}
-use Rattle.resolver.specs.declared.Settled.{Settled}
-use Rattle.resolver.specs.declared.Settled.the-variants.{At, Refused as Unsettled}
-use Rattle.visits.specs.Items.{lengthOf, itemsOf}
-use Rattle.output.specs.Output.{Input, Lent, Room, roomOf, roomFor, placedBuild, settledBuild, settledOf, passesOf, visitsOf, buildOf, Builds}
-use Rattle.output.specs.Output.{closedOf, fillOf, Figures, toldBuild, roomTold, placedTold, settledTold}
-use Rattle.placing.specs.Placing.{Placed, holds, stops, placedAll}
-use Rattle.visits.specs.Spans.{spansOf}
+use Rattle.output.specs.Output.{Input, Lent, Room, roomOf, buildOf, Builds}
+use Rattle.output.specs.Output.{Figures, toldBuild}
 use Rattle.output.specs.declared.Build.{Build}
 use Rattle.output.specs.declared.Build.the-variants.{Done, Refused}
 use Rattle.output.specs.declared.Output.{Output}
 use Rattle.profile_build.specs.InProfile.{Outcome, outcome, leaves, builtOf, saidOf, afterYes, builtInProfile, BuildsInProfile, answer-of, left-of}
 use Rattle.profile_build.specs.Nineteen.{ordinary-below-17}
 use Rattle.default_bank.specs.Widened.{onlyBank, twoBanks, widened, withBank1, OneBank, raised, raisedBuild, raisedOutput}
+use Rattle.default_bank.specs.Figures.{build-told}
 use Rattle.default_bank.specs.Same.{TwoBanks, two-banks, same-build}
 use Rattle.default_profile.specs.Raised.{ruleRaised, raisedVerdict}
 use Rattle.default_profile.specs.Same.{same-verdict}
@@ -67,30 +60,6 @@ other-stays BadPart h = refl
 other-stays PartlyCovered h = refl
 other-stays FillBitDropped h = refl
 other-stays (OffProfile rule at) h = absurd (let x : ⊥ = omega (arith, h) in x)
-
-room-told : (room : Room) (k bits spans : ℕ) → toldBuild (roomFor room k bits spans) ≡ roomTold room k bits spans
-room-told room k bits spans = go (ltb (8 * room .image) bits) (ltb (room .spans) spans)
-  where
-    go : (x y : Bool)
-        → toldBuild (pick x (Refused (TooShort 0)) (pick y (Refused (TooShort 1)) (Done k bits spans)))
-        ≡ pick x (toldBuild (Refused (TooShort 0))) (pick y (toldBuild (Refused (TooShort 1))) (toldBuild (Done k bits spans)))
-    go true y = refl
-    go false true = refl
-    go false false = refl
-
-placed-told : (room : Room) (k bits spans : ℕ) (p : Placed) → toldBuild (placedBuild room k bits spans p) ≡ placedTold room k bits spans p
-placed-told room k bits spans (holds stored) = room-told room k bits spans
-placed-told room k bits spans (stops why) = refl
-
-settled-told : (b : Input) (room : Room) (s : Settled) → toldBuild (settledBuild b room (passesOf b) s) ≡ settledTold b room s
-settled-told b room (At k) =
-    let vs = visitsOf b (passesOf b) in
-    placed-told room k (lengthOf (fillOf b) (itemsOf vs)) (length (spansOf vs)) (placedAll (closedOf b) vs)
-settled-told b room (Unsettled why) = refl
-
-build-told : (b : Input) (room : Room) → toldBuild (buildOf b room .build) ≡ settledTold b room (settledOf b)
-unfolding buildOf
-build-told b room = settled-told b room (settledOf b)
 
 -- the ordinary build meets its contract
 own : (b : Input) (old : Lent) → Builds b old (buildOf b (roomOf old)) (leaves b old (buildOf b (roomOf old)))

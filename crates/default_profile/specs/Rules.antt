@@ -2,15 +2,14 @@
 use Prim.Native.Nat.{ℕ, zero, suc, _<_}
 use mathlib.Core.Path.{_≡_, refl, sym, ap, _∙_}
 use mathlib.Core.Bool.{Bool, true, false, _||_}
-use mathlib.Core.List.{List, [], _∷_}
+use mathlib.Core.List.{List}
 use native.Mathlib.Omega.{arith}
 use borrow.Author.Tests.{eqb-true}
 use lib.Dec.{eqb}
-use lib.ListN.{getD, length, take}
+use lib.ListN.{getD, length}
 use Rattle.refusal.specs.Bools.{either}
-use Rattle.refusal.specs.Limits.{maxBanks}
 use Rattle.refusal.specs.Pick.{pick}
-use Rattle.bankdef.specs.Check.{noBank, banksOf}
+use Rattle.bankdef.specs.Check.{noBank}
 use Rattle.bankdef.specs.declared.Bankdef.{Bankdef}
 use Rattle.bankdef.specs.declared.Bankdefs.{Bankdefs}
 use Rattle.iter.specs.declared.Node.{Node}
@@ -22,8 +21,8 @@ use Rattle.profile.specs.RuleLaws.{all-kept}
 use Rattle.profile.specs.Rules.{bankAligned, nodeAligned, alignsKept, onPage, wholePages, unitKept, addrKept, addrsKept, numberIn, ruled, rulesOf}
 use Rattle.profile.specs.Standing.{bankBefore, bankOfNode}
 use Rattle.default_bank.specs.Widened.{onlyBank, bare, withSwitch, OneBank}
-use Rattle.default_bank.specs.Cells.{turned-at, Counted, row-zeroed, node-up}
-use Rattle.default_bank.specs.Same.{TwoBanks}
+use Rattle.default_bank.specs.Cells.{turned-at, row-zeroed, node-up}
+use Rattle.default_bank.specs.Same.{TwoBanks, counted, single}
 use Rattle.default_profile.specs.Raised.{ruleVerdict}
 use Rattle.default_profile.specs.Firsts.{all-alike, ruled-up, ruled-stays, ruled-twice, seven-raised}
 
@@ -34,27 +33,14 @@ module _ (b : Input) (table : Bankdefs) (one : OneBank b) (two : TwoBanks (onlyB
   abbrev m : Lists
   m = withSwitch (b .lists)
 
-  counted : Counted l
-  counted = record { operands = one .operands; numbers = one .numbers; states = one .states }
-
   -- ---- the banks
-
-  pub single : banksOf (b .banks) ≡ onlyBank b ∷ []
-  single = go (b .banks .len) (b .banks .defs) (one .count) (one .table)
-    where
-      go : (n : ℕ) (defs : List Bankdef) → n ≡ 1 → length defs ≡ maxBanks → take n defs ≡ getD (take n defs) 0 noBank ∷ []
-      go n [] e f = absurd (never f)
-        where
-          never : 0 ≡ maxBanks → ⊥
-          never g = omega arith
-      go n (d ∷ defs) e f = rw e
 
   -- bank 0 there has its unit and start, and the banks from 1 on are those from 0 on here
   zeroth : bankRecord table 0 ≡ bare (onlyBank b)
   zeroth = ap (λ (k : List Bankdef). getD k 0 noBank) (two .banks)
 
   later : (k : ℕ) → bankRecord table (suc k) ≡ bankRecord (b .banks) k
-  later k = ap (λ (d : List Bankdef). getD d (suc k) noBank) (two .banks) ∙ sym (ap (λ (d : List Bankdef). getD d k noBank) single)
+  later k = ap (λ (d : List Bankdef). getD d (suc k) noBank) (two .banks) ∙ sym (ap (λ (d : List Bankdef). getD d k noBank) (single b table one two))
 
   -- a rule over the banks that bank 0 keeps there, since it has nothing that the rule asks about
   banks-up : (keeps : Bankdef → Bool) (rule : ℕ) → keeps (bare (onlyBank b)) ≡ true → (eqb rule 1 || eqb rule 5) ≡ false
@@ -79,8 +65,8 @@ module _ (b : Input) (table : Bankdefs) (one : OneBank b) (two : TwoBanks (onlyB
 
   shown-later : (r i : ℕ) → r < l .rows → numberIn m r (suc i) ≡ numberIn l r i
   shown-later r i h =
-      same (row-zeroed l counted 0 (some r h)) (row-zeroed l counted r h)
-      ∙ ap (λ (n : Node). n .number) (node-up l counted (rowAt l 0 .numbers) (rowAt l r) i)
+      same (row-zeroed l (counted b table one two) 0 (some r h)) (row-zeroed l (counted b table one two) r h)
+      ∙ ap (λ (n : Node). n .number) (node-up l (counted b table one two) (rowAt l 0 .numbers) (rowAt l r) i)
     where
       some : (r : ℕ) → r < l .rows → 0 < l .rows
       some r h = omega arith

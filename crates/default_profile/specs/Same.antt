@@ -7,12 +7,12 @@ use mathlib.Core.List.{List, [], _∷_, _++_, map}
 use lib.ListN.{getD, length, replicate}
 use Rattle.refusal.specs.Bools.{either, both}
 use Rattle.refusal.specs.Limits.{maxBanks}
-use Rattle.refusal.specs.Pick.{pick, pick-true, pick-false}
+use Rattle.refusal.specs.Pick.{pick, pick-true}
 use Rattle.refusal.specs.declared.Refusal.{Refusal}
-use Rattle.refusal.specs.declared.Refusal.the-variants.{BankCount, BankNumber, Malformed, OffProfile}
+use Rattle.refusal.specs.declared.Refusal.the-variants.{Malformed, OffProfile}
 use Rattle.refusal.specs.declared.Verdict.{Verdict}
 use Rattle.refusal.specs.declared.Verdict.the-variants.{Accepted, Refused}
-use Rattle.bankdef.specs.Check.{countSound, checkBanks, checkOf}
+use Rattle.bankdef.specs.Check.{checkOf}
 use Rattle.bankdef.specs.Numbers.{bankFault}
 use Rattle.bankdef.specs.declared.Bankdef.{Bankdef}
 use Rattle.bankdef.specs.declared.Bankdefs.{Bankdefs}
@@ -23,12 +23,12 @@ use Rattle.profile.specs.Pages.{noPages, pagesIn, pagesOf}
 use Rattle.profile.specs.Profile.{verdictOf, pagedBy, profileOf}
 use Rattle.profile.specs.Rules.{rulesOf}
 use Rattle.profile.specs.declared.Paged.{Paged}
-use Rattle.default_bank.specs.Widened.{onlyBank, twoBanks, withSwitch, withBank1, OneBank, shifted, misplaced, countsSound, raised}
-use Rattle.default_bank.specs.Cells.{Counted}
-use Rattle.default_bank.specs.Checks.{two-bank-check, shiftedVerdict, field-here, field-there, lists-shift}
-use Rattle.default_bank.specs.Same.{TwoBanks, two-banks, check-here}
+use Rattle.default_bank.specs.Widened.{onlyBank, twoBanks, withSwitch, withBank1, OneBank, countsSound}
+use Rattle.default_bank.specs.Checks.{shiftedVerdict, field-here, field-there, lists-shift}
+use Rattle.default_bank.specs.Same.{TwoBanks, two-banks, counted, single, check-here, check-there, table-here, table-there}
+use Rattle.default_bank.specs.Same.{stays-miscounted, shifts-counted}
 use Rattle.default_profile.specs.Raised.{placeRaised, ruleVerdict, raisedVerdict, raisedPaged}
-use Rattle.default_profile.specs.Rules.{single, rules-raised}
+use Rattle.default_profile.specs.Rules.{rules-raised}
 
 -- The list check names 4 alone.
 data Four : Verdict → Type 0 where
@@ -63,15 +63,6 @@ module _ (b : Input) (table : Bankdefs) (one : OneBank b) (two : TwoBanks (onlyB
   abbrev fill : ℕ
   fill = b .choices .fill
 
-  counted : Counted l
-  counted = record { operands = one .operands; numbers = one .numbers; states = one .states }
-
-  check-there : checkOf table ≡ pick (bankFault (onlyBank b)) (Refused (BankNumber (pick (misplaced (onlyBank b)) 0 1))) Accepted
-  check-there = law (two .count) (two .banks) ∙ two-bank-check (onlyBank b)
-    where
-      law : {n : ℕ} {k x : List Bankdef} → n ≡ 2 → k ≡ x → pick (countSound n) (checkBanks k) (Refused BankCount) ≡ checkBanks x
-      law e f = rw (e, f)
-
   abbrev Goal : Type 0
   Goal = verdictOf table m fill page ≡ raisedVerdict b (verdictOf (b .banks) l fill page)
 
@@ -92,49 +83,35 @@ module _ (b : Input) (table : Bankdefs) (one : OneBank b) (two : TwoBanks (onlyB
   -- 2
   faulty : bankFault (onlyBank b) ≡ true → Goal
   faulty e =
-      from-parts (check-here b table one two ∙ pick-true _ _ e) (check-there ∙ pick-true _ _ e) refl refl refl refl
+      from-parts (check-here b table one two ∙ pick-true _ _ e) (check-there b table one two ∙ pick-true _ _ e) refl refl refl refl
       (refusing (sym (pick-true _ _ e)))
 
   module _ (sound : bankFault (onlyBank b) ≡ false) where
-    table-here : checkOf (b .banks) ≡ Accepted
-    table-here = check-here b table one two ∙ pick-false _ _ sound
-
-    table-there : checkOf table ≡ Accepted
-    table-there = check-there ∙ pick-false _ _ sound
-
     -- 4 with a field
     miscounted : countsSound b ≡ false → Goal
     miscounted e =
         let why = Malformed (pick (rowCountSound l) 3 1) in
-        from-parts table-here table-there (field-here l counted (one .switches) (one .room) fill e)
-        (field-there l counted (one .switches) (one .room) fill e) refl refl
-        (refusing (law (BankNumber (pick (misplaced (onlyBank b)) 0 1)) (shifted why) why sound e))
-      where
-        law : {s t : Bool} (x y z : Refusal) → s ≡ false → t ≡ false → z ≡ pick s x (pick t y z)
-        law x y z f g = rw (f, g)
+        from-parts (table-here b table one two sound) (table-there b table one two sound)
+        (field-here l (counted b table one two) (one .switches) (one .room) fill e)
+        (field-there l (counted b table one two) (one .switches) (one .room) fill e) refl refl
+        (refusing (stays-miscounted b table one two sound e why))
 
     module _ (counts : countsSound b ≡ true) where
-      shifts : (why : Refusal) → shifted why ≡ raised b why
-      shifts why = law (BankNumber (pick (misplaced (onlyBank b)) 0 1)) (shifted why) why sound counts
-        where
-          law : {s t : Bool} (x y z : Refusal) → s ≡ false → t ≡ true → y ≡ pick s x (pick t y z)
-          law x y z e f = rw (e, f)
-
       -- 19
       in-rules : {v : Verdict} → Judged (b .banks) l page v → ruleVerdict v ≡ raisedVerdict b v
       in-rules (keeps h) = refl
-      in-rules (breaks {rule} {at} h) = refusing (shifts (OffProfile rule (placeRaised rule at)))
+      in-rules (breaks {rule} {at} h) = refusing (shifts-counted b table one two sound counts (OffProfile rule (placeRaised rule at)))
 
       -- 4 at a node
       in-lists : {v : Verdict} → Four v
           → firstOf (shiftedVerdict v) (ruleVerdict (rulesOf (b .banks) l page)) ≡ raisedVerdict b (firstOf v (rulesOf (b .banks) l page))
       in-lists none = in-rules (judged (b .banks) l page)
-      in-lists (at place) = refusing (shifts (Malformed place))
+      in-lists (at place) = refusing (shifts-counted b table one two sound counts (Malformed place))
 
       judged-alike : Goal
       judged-alike =
           let both-sound = both (rowCountSound l) (knownFill fill) counts in
-          from-parts table-here table-there refl (lists-shift l counted (one .switches) (one .room) fill (both-sound .0) (both-sound .1))
+          from-parts (table-here b table one two sound) (table-there b table one two sound) refl (lists-shift l (counted b table one two) (one .switches) (one .room) fill (both-sound .0) (both-sound .1))
           refl (rules-raised b table one two page) (in-lists (lists-four 1 l fill))
 
   -- The profile says yes to both or refuses both, for the same reason, its place raised.
