@@ -8,8 +8,9 @@ use Rattle.form.specs.Whole.{contentsIn}
 use Rattle.form.specs.declared.Kind.{Kind}
 use Rattle.convert.specs.Convert.{outAfter, Converts}
 use Rattle.convert.specs.declared.Conversion.{Conversion}
-use Rattle.denkumari.specs.Conversions.{conversionCount, WayTold}
-use Rattle.denkumari.specs.declared.DkCount.{DkCount}
+use Rattle.denkumari.specs.Conversions.{WayTold}
+use Rattle.told.specs.Counts.{conversionCount}
+use Rattle.told.specs.declared.DkCount.{DkCount}
 
 pub way-told : {from to : Kind} {turn : Contents → Contents} {drops : Contents → Bool} {file old new : List ℕ} {r : Conversion} {t : DkCount}
     → t ≡ conversionCount r → Converts from to turn drops file old r new → WayTold from to turn drops file old t new

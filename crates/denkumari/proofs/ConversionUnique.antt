@@ -4,7 +4,7 @@ use Prim.Native.Nat.{ℕ}
 use Rattle.refusal.specs.Outcome.{OneView}
 use Rattle.refusal.specs.Pick.{paired}
 use Rattle.denkumari.specs.Conversions.{one-way}
-use Rattle.denkumari.specs.declared.DkCount.{DkCount}
+use Rattle.told.specs.declared.DkCount.{DkCount}
 use Rattle.denkumari.proofs.conversions.dk_to_form2.Kinds as to-kinds
 use Rattle.denkumari.proofs.conversions.dk_to_form2.Reads as to-reads
 use Rattle.denkumari.proofs.conversions.dk_to_form1.Kinds as back-kinds

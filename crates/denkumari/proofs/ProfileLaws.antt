@@ -11,10 +11,10 @@ use Rattle.profile.specs.declared.Paged.{Paged}
 use Rattle.output.specs.Output.{input, Lent, roomOf}
 use Rattle.output.specs.declared.Output.{Output}
 use Rattle.filed.specs.Paged.{outputIn, BuiltIn}
-use Rattle.denkumari.specs.Told.{layoutTold}
-use Rattle.denkumari.specs.Profiles.{profileTold, ProfileSaid, PagedTold}
-use Rattle.denkumari.specs.declared.DkLayout.{DkLayout}
-use Rattle.denkumari.specs.declared.profiles.DkProfile.{DkProfile}
+use Rattle.told.specs.Told.{layoutTold, profileTold}
+use Rattle.denkumari.specs.Profiles.{ProfileSaid, PagedTold}
+use Rattle.told.specs.declared.DkLayout.{DkLayout}
+use Rattle.told.specs.declared.DkProfile.{DkProfile}
 
 pub profile-said : {banks table : Bankdefs} {l : Lists} {chosen choices : Choices} {page : ℕ} {p : Paged} {t : DkProfile} → banks ≡ table
     → chosen ≡ choices → t ≡ profileTold p → Answers banks l (chosen .fill) page p → ProfileSaid table l (choices .fill) page t

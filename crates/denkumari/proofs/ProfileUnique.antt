@@ -7,7 +7,7 @@ use Rattle.refusal.specs.Pick.{determined, paired}
 use Rattle.output.specs.Output.{Lent, lent}
 use Rattle.denkumari.specs.Profiles.{one-paged}
 use Rattle.denkumari.specs.Unique.{one-form}
-use Rattle.denkumari.specs.declared.DkLayout.{DkLayout}
+use Rattle.told.specs.declared.DkLayout.{DkLayout}
 use Rattle.denkumari.proofs.forms.dk_form_paged.Kinds as form-kinds
 use Rattle.denkumari.proofs.forms.dk_form_paged.Reads as form-reads
 use Rattle.denkumari.proofs.profiles.dk_profile.Kinds as profile-kinds

@@ -8,7 +8,7 @@ use Rattle.refusal.specs.Outcome.{OneOutcome, OneView}
 use Rattle.refusal.specs.Pick.{determined, paired}
 use Rattle.record_fill.specs.Outcome.{Lent, lent}
 use Rattle.denkumari.specs.RecordFiles.{one-write, one-read}
-use Rattle.denkumari.specs.declared.DkCount.{DkCount}
+use Rattle.told.specs.declared.DkCount.{DkCount}
 use Rattle.denkumari.proofs.record_files.dk_write_hex.Kinds as hex-kinds
 use Rattle.denkumari.proofs.record_files.dk_write_hex.Reads as hex-reads
 use Rattle.denkumari.proofs.record_files.dk_write_srec.Kinds as srec-kinds

@@ -6,14 +6,14 @@ use contract.Lifetimes.{Lfts}
 use denote.Triple.Clauses.{AtExit}
 use Rattle.refusal.specs.Outcome.{OneOutcome, OneView}
 use Rattle.refusal.specs.Pick.{paired}
-use Rattle.denkumari.specs.declared.DkCount.{DkCount}
-use Rattle.denkumari.specs.declared.DkLayout.{DkLayout}
+use Rattle.told.specs.declared.DkCount.{DkCount}
+use Rattle.told.specs.declared.DkLayout.{DkLayout}
 use Rattle.output.specs.Output.{Lent, lent}
 use Rattle.denkumari.specs.Unique.{one-form, one-build, one-blocks, one-hex, one-part}
 use Rattle.denkumari.proofs.forms.dk_form.Kinds as form-kinds
 use Rattle.denkumari.proofs.forms.dk_form.Reads as form-reads
-use Rattle.denkumari.proofs.tables.dk_build.Kinds as build-kinds
-use Rattle.denkumari.proofs.tables.dk_build.Reads as build-reads
+use Rattle.denkumari.proofs.builds.dk_build.Kinds as build-kinds
+use Rattle.denkumari.proofs.builds.dk_build.Reads as build-reads
 use Rattle.denkumari.proofs.parts.dk_blocks.Kinds as blocks-kinds
 use Rattle.denkumari.proofs.parts.dk_blocks.Reads as blocks-reads
 use Rattle.denkumari.proofs.parts.dk_hex.Kinds as hex-kinds

@@ -11,19 +11,14 @@ use Rattle.form.specs.Whole.{contentsIn}
 use Rattle.form.specs.declared.Kind.{Kind}
 use Rattle.convert.specs.Convert.{answerBy, outAfter}
 use Rattle.convert.specs.declared.Conversion.{Conversion}
-use Rattle.convert.specs.declared.Conversion.the-variants.{Converted, Refused}
-use Rattle.denkumari.specs.Told.{counted, refusedCount}
-use Rattle.denkumari.specs.declared.DkCount.{DkCount}
-
--- how many bytes the converted file has, or why there is none
-abbrev pub conversionCount : Conversion → DkCount
-conversionCount (Converted n) = counted n
-conversionCount (Refused why) = refusedCount why
+use Rattle.told.specs.Counts.{conversionCount}
+use Rattle.told.specs.declared.DkCount.{DkCount}
 
 -- What a way from one form to another promises: its answer, told in numbers, and every byte of the lent buffer.
 module _ (from to : Kind) (turn : Contents → Contents) (drops : Contents → Bool) (file old : List ℕ) where
   abbrev pub answerIn : Conversion
-  answerIn = answerBy to (formIn from file) (contentsIn from file) (turn (contentsIn from file)) (drops (contentsIn from file)) (length old)
+  answerIn =
+      answerBy to (formIn from file) (contentsIn from file) (turn (contentsIn from file)) (drops (contentsIn from file)) (length old)
 
   pub record WayTold (r : DkCount) (new : List ℕ) : Type 0 where
     pub answer : r ≡ conversionCount answerIn

@@ -5,8 +5,8 @@ use Prim.Native.Nat.{ℕ}
 use Rattle.refusal.specs.declared.Opt.{Opt}
 use Rattle.output.specs.Output.{Lent, roomOf}
 use Rattle.filed.specs.Filed.{fileOutput, FileBuilt}
-use Rattle.denkumari.specs.Told.{layoutTold}
-use Rattle.denkumari.specs.declared.DkLayout.{DkLayout}
+use Rattle.told.specs.Told.{layoutTold}
+use Rattle.told.specs.declared.DkLayout.{DkLayout}
 
 -- What `dk_form` and `dk_form_paged` promise: that build, told in numbers.
 pub record FormTold (file : List ℕ) (fill : ℕ) (page : Opt) (old : Lent) (r : DkLayout) (new : Lent) : Type 0 where

@@ -6,5 +6,4 @@ pub mod Profiles
 pub mod RecordFiles
 pub mod Stores
 pub mod Tables
-pub mod Told
 pub mod Unique

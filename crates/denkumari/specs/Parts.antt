@@ -1,29 +1,20 @@
 -- Blocks, hex and parts of an image, as a caller in another language is told of them.
 use mathlib.Core.Path.{_≡_}
 use mathlib.Core.List.{List}
-use Prim.Native.Nat.{ℕ, _/_}
-use lib.ListN.{length}
+use Prim.Native.Nat.{ℕ}
 use Rattle.refusal.specs.Pick.{pick}
-use Rattle.refusal.specs.Refusals.{numberOf}
 use Rattle.refusal.specs.declared.Refusal.the-variants.{Malformed}
-use Rattle.refusal.specs.declared.Verdict.{Verdict}
-use Rattle.refusal.specs.declared.Verdict.the-variants.{Accepted, Refused as TurnedAway}
 use Rattle.bitvec.specs.HexDigits.{hexAnswer, hexAfter}
 use Rattle.bitvec.specs.Part.{partVerdict}
-use Rattle.bitvec.specs.declared.Hex.{Hex}
-use Rattle.bitvec.specs.declared.Hex.the-variants.{Digits, Refused as Unprinted}
 use Rattle.blocks.specs.Spans.{spansOf, acceptable}
 use Rattle.blocks.specs.Walk.{blocksOf}
 use Rattle.blocks.specs.Outcome.{answerOf, originsAfter, sizesAfter}
 use Rattle.blocks.specs.declared.Blocks.{Blocks}
-use Rattle.blocks.specs.declared.Blocks.the-variants.{Found, Refused}
-use Rattle.denkumari.specs.Told.{counted, refusedCount}
-use Rattle.denkumari.specs.declared.DkCount.{DkCount}
-use Rattle.denkumari.specs.declared.DkPart.{DkPart}
-
-abbrev pub blocksCount : Blocks → DkCount
-blocksCount (Found n) = counted n
-blocksCount (Refused why) = refusedCount why
+use Rattle.blocks.specs.declared.Blocks.the-variants.{Refused}
+use Rattle.told.specs.Counts.{blocksCount, hexCount}
+use Rattle.told.specs.Parts.{partBy}
+use Rattle.told.specs.declared.DkCount.{DkCount}
+use Rattle.told.specs.declared.DkPart.{DkPart}
 
 -- "Block and hex calls try 4 .., then 14"
 abbrev pub blocksAnswer : List ℕ → List ℕ → List ℕ → List ℕ → Blocks
@@ -36,19 +27,11 @@ pub record BlocksTold (words lengths origins sizes : List ℕ) (r : DkCount) (or
   pub first : origins′ ≡ pick (acceptable words lengths) (originsAfter (blocksOf (spansOf words lengths)) origins sizes) origins
   pub second : sizes′ ≡ pick (acceptable words lengths) (sizesAfter (blocksOf (spansOf words lengths)) origins sizes) sizes
 
-abbrev pub hexCount : Hex → DkCount
-hexCount (Digits n) = counted n
-hexCount (Unprinted why) = refusedCount why
-
 -- What `dk_hex` promises: its answer, and the lent hex.
 pub record HexTold (bytes : List ℕ) (bits : ℕ) (hex : List ℕ) (r : DkCount) (hex′ : List ℕ) : Type 0 where
   pub answer : r ≡ hexCount (hexAnswer bytes bits hex)
   pub digits : hex′ ≡ hexAfter bytes bits hex
 
--- "For a block on byte edges the caller gets back that part of its own image": here as its start and its length in bytes.
-abbrev pub partBy : ℕ → ℕ → Verdict → DkPart
-partBy offset size Accepted = record { refusal = 0; start = offset / 8; length = size / 8 }
-partBy offset size (TurnedAway why) = record { refusal = numberOf why; start = 0; length = 0 }
-
+-- What `dk_part` promises: "For a block on byte edges the caller gets back that part of its own image".
 pub record PartTold (image : List ℕ) (offset size : ℕ) (r : DkPart) : Type 0 where
   pub answer : r ≡ partBy offset size (partVerdict image offset size)

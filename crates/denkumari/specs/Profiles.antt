@@ -1,32 +1,16 @@
 -- The profile of a device with pages, and a build in it, as a caller in another language is told of them.
 use mathlib.Core.Path.{_≡_}
-use mathlib.Core.List.{List}
 use Prim.Native.Nat.{ℕ}
-use lib.ListN.{replicate}
-use Rattle.refusal.specs.Limits.{maxBanks}
 use Rattle.refusal.specs.Pick.{determined}
-use Rattle.refusal.specs.Refusals.{numberOf, placeOf}
 use Rattle.refusal.specs.declared.Opt.the-variants.{Some}
-use Rattle.refusal.specs.declared.Verdict.{Verdict}
-use Rattle.refusal.specs.declared.Verdict.the-variants.{Accepted, Refused}
 use Rattle.bankdef.specs.declared.Bankdefs.{Bankdefs}
 use Rattle.resolver.specs.Lists.{Lists}
 use Rattle.profile.specs.Profile.{profileOf}
-use Rattle.profile.specs.declared.Paged.{Paged}
 use Rattle.output.specs.Output.{Input, Lent, roomOf}
 use Rattle.filed.specs.Paged.{outputIn, BuiltIn}
-use Rattle.denkumari.specs.Told.{firstOf, secondOf, layoutTold}
-use Rattle.denkumari.specs.declared.DkLayout.{DkLayout}
-use Rattle.denkumari.specs.declared.profiles.DkProfile.{DkProfile}
-
--- "It says yes .., then with each bank's pages"; "place: rule and bank or node" (document 02, Ticket 9). Refused, all pages are 0.
-abbrev pub profileBy : Verdict → List ℕ → DkProfile
-profileBy Accepted pages = record { refusal = 0; place = 0; second = 0; pages = pages }
-profileBy (Refused why) pages =
-    record { refusal = numberOf why; place = firstOf (placeOf why); second = secondOf (placeOf why); pages = replicate maxBanks 0 }
-
-abbrev pub profileTold : Paged → DkProfile
-profileTold p = profileBy (p .verdict) (p .pages)
+use Rattle.told.specs.Told.{layoutTold, profileTold}
+use Rattle.told.specs.declared.DkLayout.{DkLayout}
+use Rattle.told.specs.declared.DkProfile.{DkProfile}
 
 -- What `dk_profile` promises.
 pub record ProfileSaid (banks : Bankdefs) (l : Lists) (fill page : ℕ) (r : DkProfile) : Type 0 where

@@ -4,21 +4,13 @@ use mathlib.Core.List.{List}
 use Prim.Native.Nat.{ℕ}
 use Rattle.refusal.specs.Pick.{determined}
 use Rattle.record_write.specs.declared.Written.{Written}
-use Rattle.record_write.specs.declared.Written.the-variants.{Length, Refused}
 use Rattle.record_read.specs.Reading.{Read}
 use Rattle.record_read.specs.Outcome.{faultOf}
-use Rattle.record_read.specs.declared.Fault.{Fault}
-use Rattle.record_read.specs.declared.Fault.the-variants.{Good, At}
 use Rattle.record_fill.specs.Outcome.{Lent, answerOf, lentAfter}
-use Rattle.denkumari.specs.Told.{counted, refusedCount}
-use Rattle.denkumari.specs.Parts.{blocksCount}
-use Rattle.denkumari.specs.declared.DkCount.{DkCount}
-use Rattle.denkumari.specs.declared.record_files.DkFault.{DkFault}
-
--- how many characters were written, or why none
-abbrev pub writtenCount : Written → DkCount
-writtenCount (Length n) = counted n
-writtenCount (Refused why) = refusedCount why
+use Rattle.told.specs.Counts.{blocksCount, writtenCount}
+use Rattle.told.specs.Parts.{lineTold}
+use Rattle.told.specs.declared.DkCount.{DkCount}
+use Rattle.told.specs.declared.DkFault.{DkFault}
 
 -- What `dk_write_hex` and `dk_write_srec` promise: a writer's answer, told in numbers, and every character of the lent text.
 pub record WriteTold (answer : Written) (after : List ℕ) (r : DkCount) (new : List ℕ) : Type 0 where
@@ -30,12 +22,7 @@ pub record ReadTold (load : ℕ) (read : Read) (old : Lent) (r : DkCount) (new :
   pub answer : r ≡ blocksCount (answerOf load old read)
   pub left : new ≡ lentAfter load old read
 
--- "the first line at which no good file can go on, from 0"
-abbrev pub lineTold : Fault → DkFault
-lineTold Good = record { fault = 0; line = 0 }
-lineTold (At n) = record { fault = 1; line = n }
-
--- What `dk_record_fault` promises.
+-- What `dk_record_fault` promises: "the first line at which no good file can go on, from 0".
 pub record FaultTold (read : Read) (r : DkFault) : Type 0 where
   pub answer : r ≡ lineTold (faultOf read)
 

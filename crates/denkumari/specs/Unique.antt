@@ -9,9 +9,9 @@ use Rattle.output.specs.Output.{Input, Lent}
 use Rattle.denkumari.specs.Forms.{FormTold}
 use Rattle.denkumari.specs.Parts.{BlocksTold, HexTold, PartTold}
 use Rattle.denkumari.specs.Tables.{TablesTold}
-use Rattle.denkumari.specs.declared.DkCount.{DkCount}
-use Rattle.denkumari.specs.declared.DkLayout.{DkLayout}
-use Rattle.denkumari.specs.declared.DkPart.{DkPart}
+use Rattle.told.specs.declared.DkCount.{DkCount}
+use Rattle.told.specs.declared.DkLayout.{DkLayout}
+use Rattle.told.specs.declared.DkPart.{DkPart}
 
 module _ {old x y : Lent} {r s : DkLayout} where
   pub one-form : {file : List ℕ} {fill : ℕ} {page : Opt} → FormTold file fill page old r x → FormTold file fill page old s y → (r ≡ s) × (x ≡ y)

@@ -1,7 +1,7 @@
 // A layout file, laid out in one call.
-use crate::DkLayout;
-use crate::told::tell_layout;
 use refusal::Opt;
+use told::DkLayout;
+use told::tell_layout;
 ghost use mathlib.Core.Path.{_≡_};
 ghost use Rattle.refusal.specs.declared.Opt.the-variants.{None, Some};
 ghost use Rattle.output.specs.Output.{lent};

@@ -1,10 +1,9 @@
 // Blocks, hex and parts of an image.
-use crate::DkCount;
-use crate::DkPart;
-use crate::told::tell_refusal;
-use bitvec::Hex;
-use blocks::Blocks;
-use refusal::Verdict;
+use told::DkCount;
+use told::DkPart;
+use told::tell_blocks;
+use told::tell_hex;
+use told::tell_part;
 ghost use mathlib.Core.Path.{_≡_};
 ghost use Rattle.denkumari.specs.Parts.{BlocksTold, HexTold, PartTold};
 
@@ -21,14 +20,7 @@ pub extern "C" fn dk_blocks(
         (now («block_offsets» .exit)) (now («block_sizes» .exit))
         ⌝ }
 {
-    match blocks::get_blocks(offsets, sizes, block_offsets, block_sizes) {
-        Blocks::Found(count) => DkCount {
-            refusal: 0,
-            place: 0,
-            count,
-        },
-        Blocks::Refused(why) => tell_refusal(why),
-    }
+    tell_blocks(blocks::get_blocks(offsets, sizes, block_offsets, block_sizes))
 }
 
 // The first `bits` bits of some bytes in hex.
@@ -36,14 +28,7 @@ pub extern "C" fn dk_blocks(
 pub extern "C" fn dk_hex(bytes: &[u8], bits: u64, hex: &mut [u8]) -> DkCount
     ensures { λ r. ⌜ HexTold (now (bytes .entry)) bits (now (hex .entry)) r (now (hex .exit)) ⌝ }
 {
-    match bitvec::write_hex(bytes, bits, hex) {
-        Hex::Digits(count) => DkCount {
-            refusal: 0,
-            place: 0,
-            count,
-        },
-        Hex::Refused(why) => tell_refusal(why),
-    }
+    tell_hex(bitvec::write_hex(bytes, bits, hex))
 }
 
 // Where in an image the block of `size` bits from bit `offset` on stands, in bytes.
@@ -51,16 +36,5 @@ pub extern "C" fn dk_hex(bytes: &[u8], bits: u64, hex: &mut [u8]) -> DkCount
 pub extern "C" fn dk_part(image: &[u8], offset: u64, size: u64) -> DkPart
     ensures { λ r. ⌜ PartTold (now (image .entry)) offset size r ⌝ }
 {
-    match bitvec::part_verdict(image, offset, size) {
-        Verdict::Accepted => DkPart {
-            refusal: 0,
-            start: offset / 8,
-            length: size / 8,
-        },
-        Verdict::Refused(why) => DkPart {
-            refusal: refusal::number(why),
-            start: 0,
-            length: 0,
-        },
-    }
+    tell_part(bitvec::part_verdict(image, offset, size), offset, size)
 }

@@ -1,52 +1,16 @@
 // The profile of a device with pages, and a build in it, of tables that are lent as lists of numbers.
-use crate::DkLayout;
-use crate::tables::choose;
-use crate::tables::make_banks;
-use crate::told::first_of;
-use crate::told::second_of;
-use crate::told::tell_layout;
-use profile::Paged;
 use refusal::Opt;
-use refusal::Verdict;
+use tables::choose;
+use tables::make_banks;
+use told::DkLayout;
+use told::DkProfile;
+use told::tell_layout;
+use told::tell_paged;
 ghost use mathlib.Core.Path.{_≡_};
 ghost use Rattle.resolver.specs.Lists.{lists};
 ghost use Rattle.output.specs.Output.{input, lent};
-ghost use Rattle.denkumari.specs.Tables.{given, tableOf, choicesBy};
-ghost use Rattle.denkumari.specs.Profiles.{profileTold, ProfileSaid, PagedTold};
-
-// What the profile says of a layout. `refusal` is 0 where it is kept, and then `pages` has the pages of each bank, the largest number for none; else the
-// refusal's number, with its place, and zeros.
-#[repr(C)]
-pub struct DkProfile {
-    pub refusal: u64,
-    pub place: u64,
-    pub second: u64,
-    pub pages: [u64; 16],
-}
-
-fn tell_paged(paged: Paged) -> DkProfile
-    ensures { λ r. ⌜ r ≡ profileTold paged ⌝ }
-{
-    let pages = paged.pages;
-    let verdict = paged.verdict;
-    match verdict {
-        Verdict::Accepted => DkProfile {
-            refusal: 0,
-            place: 0,
-            second: 0,
-            pages,
-        },
-        Verdict::Refused(why) => {
-            let place = refusal::place_of(why);
-            DkProfile {
-                refusal: refusal::number(why),
-                place: first_of(place),
-                second: second_of(place),
-                pages: [0; 16],
-            }
-        }
-    }
-}
+ghost use Rattle.tables.specs.Tables.{given, tableOf, choicesBy};
+ghost use Rattle.denkumari.specs.Profiles.{ProfileSaid, PagedTold};
 
 // Whether tables keep the profile of a device with pages of `page` bits.
 #[no_mangle]

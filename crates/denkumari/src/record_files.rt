@@ -1,58 +1,15 @@
 // Files of Intel HEX and of S-records: the blocks of an image written, and a file read into bytes and blocks.
-use crate::DkCount;
-use crate::told::tell_refusal;
-use blocks::Blocks;
-use record_read::Fault;
-use record_write::Written;
+use told::DkCount;
+use told::DkFault;
+use told::tell_blocks;
+use told::tell_fault;
+use told::tell_written;
 ghost use mathlib.Core.Path.{_≡_};
 ghost use Rattle.record_write.specs.Outcome.{input, answerOf, textAfter};
 ghost use Rattle.srec.specs.Writing.{answerSrec, lentSrec};
 ghost use Rattle.record_read.specs.Reading.{readText};
 ghost use Rattle.record_fill.specs.Outcome.{lent};
-ghost use Rattle.denkumari.specs.Parts.{blocksCount};
-ghost use Rattle.denkumari.specs.RecordFiles.{writtenCount, lineTold, WriteTold, ReadTold, FaultTold};
-
-// Where a file is at fault: `fault` is 1 and `line` the first line at which no good file can go on, from 0; or both are 0.
-#[repr(C)]
-pub struct DkFault {
-    pub fault: u64,
-    pub line: u64,
-}
-
-fn tell_written(written: Written) -> DkCount
-    ensures { λ r. ⌜ r ≡ writtenCount written ⌝ }
-{
-    match written {
-        Written::Length(count) => DkCount {
-            refusal: 0,
-            place: 0,
-            count,
-        },
-        Written::Refused(why) => tell_refusal(why),
-    }
-}
-
-fn tell_blocks(found: Blocks) -> DkCount
-    ensures { λ r. ⌜ r ≡ blocksCount found ⌝ }
-{
-    match found {
-        Blocks::Found(count) => DkCount {
-            refusal: 0,
-            place: 0,
-            count,
-        },
-        Blocks::Refused(why) => tell_refusal(why),
-    }
-}
-
-fn tell_fault(fault: Fault) -> DkFault
-    ensures { λ r. ⌜ r ≡ lineTold fault ⌝ }
-{
-    match fault {
-        Fault::Good => DkFault { fault: 0, line: 0 },
-        Fault::At(line) => DkFault { fault: 1, line },
-    }
-}
+ghost use Rattle.denkumari.specs.RecordFiles.{WriteTold, ReadTold, FaultTold};
 
 // The blocks of an image as Intel HEX from a load address on.
 #[no_mangle]

@@ -1,62 +1,10 @@
 // The store of placed intervals and marks, in three arrays and two counts that the caller keeps between calls.
-use refusal::Place;
-use refusal::Verdict;
+use told::DkOffer;
+use told::tell_offer;
 ghost use mathlib.Core.Path.{_≡_};
-ghost use Rattle.refusal.specs.Told.{refuses, toldVerdict};
 ghost use Rattle.overlap_checker.specs.Interval.{interval};
 ghost use Rattle.overlap_checker.specs.Lent.{lent};
-ghost use Rattle.denkumari.specs.Stores.{inFigures, OfferTold};
-
-// The answer to an offer. `refusal` is 0 where it was accepted, else document 01's number; then `place` and `second` are its place, 0 where
-// it has none. `count` and `marks` are how many intervals and marks are stored afterwards; refused, the counts given.
-#[repr(C)]
-pub struct DkOffer {
-    pub refusal: u64,
-    pub place: u64,
-    pub second: u64,
-    pub count: u64,
-    pub marks: u64,
-}
-
-// A refusal's number and place, with the counts.
-fn tell_place(number: u64, at: Place, count: u64, marks: u64) -> DkOffer
-    ensures { λ r. ⌜ r ≡ inFigures (refuses number at) count marks ⌝ }
-{
-    match at {
-        Place::One(place) => DkOffer {
-            refusal: number,
-            place,
-            second: 0,
-            count,
-            marks,
-        },
-        Place::Two(place, second) => DkOffer {
-            refusal: number,
-            place,
-            second,
-            count,
-            marks,
-        },
-    }
-}
-
-// A verdict in document 01's figures, with the counts.
-fn tell_offer(verdict: Verdict, count: u64, marks: u64) -> DkOffer
-    ensures { λ r. ⌜ r ≡ inFigures (toldVerdict verdict) count marks ⌝ }
-{
-    match verdict {
-        Verdict::Accepted => DkOffer {
-            refusal: 0,
-            place: 0,
-            second: 0,
-            count,
-            marks,
-        },
-        Verdict::Refused(why) => {
-            tell_place(refusal::number(why), refusal::place_of(why), count, marks)
-        }
-    }
-}
+ghost use Rattle.denkumari.specs.Stores.{OfferTold};
 
 // An offer of `size` bits from bit `position` on to a store: it tries 15, 4, 12, 13. Accepted, it is put in, with bits among the intervals, without
 // among the marks.

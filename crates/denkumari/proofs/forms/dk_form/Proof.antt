@@ -1,7 +1,7 @@
 -- `dk_form` meets its contract: the build of the file, told in numbers.
 use mathlib.Core.Path.{ap, _∙_}
 use Rattle.denkumari.proofs.FormLaws.{as-told}
-use Rattle.denkumari.specs.Told.{layoutTold}
+use Rattle.told.specs.Told.{layoutTold}
 use Rattle.refusal.specs.declared.Opt.the-variants.{None}
 use Rattle.output.specs.Output.{lent}
 use borrow.Author.Needs.{needs}
@@ -28,9 +28,13 @@ same-length-4 c = search needs
 
 returns : tie.Need-returns
 returns c =
-    let a = c .before .before .before .before .before .before .before .before .before .before .before .before .before .before .before .before .before .args in
-    let b = c .before .before .before .before .before .before .before .before .build-file in
-    record { answer = c .tell-layout .ensures ∙ ap layoutTold (b .ensures .answer); built = as-told (a .file .now) (a .fill) None (lent (a .image .now) (a .addresses .now) (a .offsets .now) (a .sizes .now)) (b .ensures) }
+    let b = c .before .before .before .before .before .before .before .before in
+    let a = b .before .before .before .before .before .before .before .before .before .args in
+    let old = lent (a .image .now) (a .addresses .now) (a .offsets .now) (a .sizes .now) in
+    record {
+      answer = c .tell-layout .ensures ∙ ap layoutTold (b .build-file .ensures .answer);
+      built = as-told (a .file .now) (a .fill) None old (b .build-file .ensures);
+    }
 
 pub dk-form-spec : {M : Type 1} → statement M
 dk-form-spec =

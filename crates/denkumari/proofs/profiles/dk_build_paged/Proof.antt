@@ -29,7 +29,10 @@ same-length-4 : tie.Need-same-length-4
 same-length-4 c = search needs
 
 returns : tie.Need-returns
-returns c = paged-told (c .before .before .before .before .before .before .before .before .before .before .before .before .before .before .make-banks .ensures) (c .before .before .before .before .before .before .before .before .before .before .before .before .before .choose .ensures) (c .tell-layout .ensures) (c .before .before .before .before .before .before .before .before .build-with .ensures)
+returns c =
+    let built = c .before .before .before .before .before .before .before .before in
+    let chosen = built .before .before .before .before .before in
+    paged-told (chosen .before .make-banks .ensures) (chosen .choose .ensures) (c .tell-layout .ensures) (built .build-with .ensures)
 
 pub dk-build-paged-spec : {M : Type 1} → statement M
 dk-build-paged-spec =

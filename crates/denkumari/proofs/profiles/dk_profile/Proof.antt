@@ -17,7 +17,10 @@ tell-paged-requires : tie.Need-tell-paged-requires
 tell-paged-requires c κs = search needs
 
 returns : tie.Need-returns
-returns c = profile-said (c .before .before .before .make-banks .ensures) (c .before .before .choose .ensures) (c .tell-paged .ensures) (c .before .check-profile .ensures)
+returns c =
+    let said = c .before in
+    let chosen = said .before in
+    profile-said (chosen .before .make-banks .ensures) (chosen .choose .ensures) (c .tell-paged .ensures) (said .check-profile .ensures)
 
 pub dk-profile-spec : {M : Type 1} → statement M
 dk-profile-spec =

@@ -1,6 +1,6 @@
 -- `dk_read_records` meets its contract: the answer, told in numbers.
 use mathlib.Core.Path.{ap, _∙_}
-use Rattle.denkumari.specs.Parts.{blocksCount}
+use Rattle.told.specs.Counts.{blocksCount}
 use borrow.Author.Needs.{needs}
 use Rattle.denkumari.proofs.record_files.dk_read_records.Statement.{statement}
 use Rattle.denkumari.proofs.record_files.dk_read_records.Tie as tie
@@ -21,7 +21,9 @@ same-length-3 : tie.Need-same-length-3
 same-length-3 c = search needs
 
 returns : tie.Need-returns
-returns c = let w = c .before .before .before .before .before .before .before .read .ensures in record { answer = c .tell-blocks .ensures ∙ ap blocksCount (w .answer); left = w .after }
+returns c =
+    let w = c .before .before .before .before .before .before .before .read .ensures in
+    record { answer = c .tell-blocks .ensures ∙ ap blocksCount (w .answer); left = w .after }
 
 pub dk-read-records-spec : {M : Type 1} → statement M
 dk-read-records-spec =

@@ -3,10 +3,6 @@ use borrow.Author.Needs.{needs}
 use Rattle.denkumari.proofs.StoreLaws.{told-call}
 use Rattle.denkumari.proofs.stores.dk_offer.Statement.{statement}
 use Rattle.denkumari.proofs.stores.dk_offer.Tie as tie
-use Rattle.denkumari.proofs.stores.dk_offer.Reads as reads
-use Rattle.denkumari.proofs.stores.dk_offer.Lts as lts
-use Rattle.denkumari.proofs.stores.tell_offer.Reads as tell-offer-reads
-use Rattle.overlap_checker.proofs.check_and_insert.Reads as check-and-insert-reads
 
 check-and-insert-requires : tie.Need-check-and-insert-requires
 check-and-insert-requires c κs = search needs
