@@ -45,13 +45,19 @@ slice-aggregate-build-read-4 c = search needs
 
 build-read-requires : tie.Need-build-read-requires
 build-read-requires c κs =
-    let s = c .before .before .before .before .before .before .before .before .before .before .before .before .before .before .before .before .before .before .shape .given in
-    held (c .before .before .before .before .before .before .before .before .before .before .before .before .before .before .before .before .before .before .before .before .before .before .before .before .before .args .file .now) (s .0 .0) (sym (c .before .before .before .before .before .before .before .before .before .before .before .before .before .before .before .before .before .before .before .before .read-shape .ensures .is) ∙ s .1) _ _ _ _ (omega arith) (omega arith) (omega arith) (omega arith) (c .before .before .before .before .before .before .before .before .before .before .before .before .read-lists .ensures .lists)
+    let listed = c .before .before .before .before .before .before .before .before .before .before .before .before in
+    let sound = listed .before .before .before .before .before .before in
+    let shaped = sound .before .before in
+    let a = shaped .before .before .before .before .before .args in
+    let s = sound .shape .given in
+    held (a .file .now) (s .0 .0) (sym (shaped .read-shape .ensures .is) ∙ s .1) _ _ _ _
+    (omega arith) (omega arith) (omega arith) (omega arith) (listed .read-lists .ensures .lists)
 
 returns : tie.Need-returns
 returns c =
     let a = c .before .before .before .before .before .before .before .before .args in
-    broken (a .file .now) (a .fill) (a .page) (lent (a .image .now) (a .addresses .now) (a .offsets .now) (a .sizes .now)) _ (sym (c .before .before .before .read-shape .ensures .is) ∙ c .before .why .given .1)
+    let old = lent (a .image .now) (a .addresses .now) (a .offsets .now) (a .sizes .now) in
+    broken (a .file .now) (a .fill) (a .page) old _ (sym (c .before .before .before .read-shape .ensures .is) ∙ c .before .why .given .1)
 
 same-length : tie.Need-same-length
 same-length c = search needs

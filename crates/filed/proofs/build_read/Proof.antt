@@ -17,16 +17,24 @@ read-banks-requires : tie.Need-read-banks-requires
 read-banks-requires c κs = search needs
 
 slice-aggregate-build-with : tie.Need-slice-aggregate-build-with
-slice-aggregate-build-with c = sym (length-take-le _ _ (c .before .before .before .before .before .before .before .before .before .before .before .pre .kinds-fit))
+slice-aggregate-build-with c =
+    let start = c .before .before .before .before .before .before .before .before .before .before .before in
+    sym (length-take-le _ _ (start .pre .kinds-fit))
 
 slice-aggregate-build-with-2 : tie.Need-slice-aggregate-build-with-2
-slice-aggregate-build-with-2 c = sym (length-take-le _ _ (c .before .before .before .before .before .before .before .before .before .before .before .before .pre .operands-fit))
+slice-aggregate-build-with-2 c =
+    let start = c .before .before .before .before .before .before .before .before .before .before .before .before in
+    sym (length-take-le _ _ (start .pre .operands-fit))
 
 slice-aggregate-build-with-3 : tie.Need-slice-aggregate-build-with-3
-slice-aggregate-build-with-3 c = sym (length-take-le _ _ (c .before .before .before .before .before .before .before .before .before .before .before .before .before .pre .numbers-fit))
+slice-aggregate-build-with-3 c =
+    let start = c .before .before .before .before .before .before .before .before .before .before .before .before .before in
+    sym (length-take-le _ _ (start .pre .numbers-fit))
 
 slice-aggregate-build-with-4 : tie.Need-slice-aggregate-build-with-4
-slice-aggregate-build-with-4 c = sym (length-take-le _ _ (c .before .before .before .before .before .before .before .before .before .before .before .before .before .before .pre .states-fit))
+slice-aggregate-build-with-4 c =
+    let start = c .before .before .before .before .before .before .before .before .before .before .before .before .before .before in
+    sym (length-take-le _ _ (start .pre .states-fit))
 
 read-values-requires : tie.Need-read-values-requires
 read-values-requires c κs = search needs
@@ -48,10 +56,15 @@ same-length-4 c = search needs
 
 returns : tie.Need-returns
 returns c =
-    let s = c .before .before .before .before .before .before .before .before .before .before .before .before .before .before .before .before .before .before .before .before .before .before .before .before .before .before .before in
+    let built = c .before .before .before .before .before .before .before in
+    let valued = built .before .before .before .before .before in
+    let banked = valued .before .before .before .before .before in
+    let s = banked .before .before .before .before .before .before .before .before .before .before in
     let a = s .args in
-    laid-out (a .file .now) (a .fill) (a .page) (lent (a .image .now) (a .addresses .now) (a .offsets .now) (a .sizes .now)) (a .shape) (s .pre .sound) _ (a .kinds .now) (a .operands .now) (a .numbers .now) (a .states .now) _ _ (s .pre) (c .before .before .before .before .before .before .before .before .before .before .before .before .before .before .before .before .before .before .chosen .ensures)
-    (c .before .before .before .before .before .before .before .before .before .before .before .before .before .before .before .before .before .read-banks .ensures) (c .before .before .before .before .before .before .before .before .before .before .before .before .read-values .ensures) (c .before .before .before .before .before .before .before .build-with .ensures)
+    let old = lent (a .image .now) (a .addresses .now) (a .offsets .now) (a .sizes .now) in
+    laid-out (a .file .now) (a .fill) (a .page) old (a .shape) (s .pre .sound) _
+    (a .kinds .now) (a .operands .now) (a .numbers .now) (a .states .now) _ _ (s .pre)
+    (banked .before .chosen .ensures) (banked .read-banks .ensures) (valued .read-values .ensures) (built .build-with .ensures)
 
 pub build-read-spec : {M : Type 1} → statement M
 build-read-spec =

@@ -29,7 +29,9 @@ same-length-4 : tie.Need-same-length-4
 same-length-4 c = search needs
 
 returns : tie.Need-returns
-returns c = ordinary (c .before .before .before .before .before .before .before .before .before .before .before .before .enum-told .given .1) (c .before .before .before .before .before .before .before .build-output .ensures)
+returns c =
+    let built = c .before .before .before .before .before .before .before in
+    ordinary (built .before .before .before .before .before .enum-told .given .1) (built .build-output .ensures)
 
 same-length-5 : tie.Need-same-length-5
 same-length-5 c = search needs
@@ -44,7 +46,9 @@ same-length-8 : tie.Need-same-length-8
 same-length-8 c = search needs
 
 returns-2 : tie.Need-returns-2
-returns-2 c = in-profile (c .before .before .before .before .before .before .before .before .before .before .before .before .before .page .given .1) (c .before .before .before .before .before .before .before .build-in-profile .ensures)
+returns-2 c =
+    let built = c .before .before .before .before .before .before .before in
+    in-profile (built .before .before .before .before .before .before .page .given .1) (built .build-in-profile .ensures)
 
 pub build-with-spec : {M : Type 1} → statement M
 build-with-spec =
