@@ -46,56 +46,9 @@ use Rattle.filed.specs.Filed.{listsIn, choicesOf, outputBy, FileBuilt}
 use Rattle.text.specs.Lines.{refusalText}
 use Rattle.report.specs.Report.{imageRoom, spanRoom, lentRoom, doneText, answerText, builtText, reportText}
 use Rattle.report.specs.Steps.{Fitting, answered, OffsetsFit}
-use Rattle.report.proofs.Fitting.{fit-acceptable, spans-fit}
-use Rattle.report.proofs.Table.{word-fits, table-fits}
-
--- a part of numbers within the limit
-small-take : (n : ℕ) (l : List ℕ) → ((i : ℕ) → getD l i 0 ≤ maxPosition) → (i : ℕ) → getD (take n l) i 0 ≤ maxPosition
-small-take zero l h i = zero-le
-small-take (suc n) [] h i = zero-le
-small-take (suc n) (x ∷ l) h zero = h 0
-small-take (suc n) (x ∷ l) h (suc i) = small-take n l (λ j. h (suc j)) i
-
-small-part : (n from : ℕ) (l : List ℕ) → ((i : ℕ) → getD l i 0 ≤ maxPosition) → (i : ℕ) → getD (take n (drop from l)) i 0 ≤ maxPosition
-small-part n from l h = small-take n (drop from l) (λ i. rw (getD-drop from l i 0) (h (from + i)))
-
-not-done : (why : Refusal) (k bits n : ℕ) → Refused why ≡ Done k bits n → ⊥
-not-done why k bits n e = let z : _≡_ {A = ℕ} 0 1 = cc in omega arith
-
-done-bits : (k bits n k₁ bits₁ n₁ : ℕ) → Done k₁ bits₁ n₁ ≡ Done k bits n → bits₁ ≡ bits
-done-bits k bits n k₁ bits₁ n₁ e = cc
-
-done-spans : (k bits n k₁ bits₁ n₁ : ℕ) → Done k₁ bits₁ n₁ ≡ Done k bits n → n₁ ≡ n
-done-spans k bits n k₁ bits₁ n₁ e = cc
-
-module _ (room : Room) (k bits n : ℕ) where
-  abbrev Fits : ℕ → Type 0
-  Fits n₁ = (bits ≤ 8 * room .image) × (n ≤ room .spans) × (n ≡ n₁)
-
-  fits-room : (k₁ bits₁ n₁ : ℕ) → roomFor room k₁ bits₁ n₁ ≡ Done k bits n → Fits n₁
-  fits-room k₁ bits₁ n₁ e =
-      by-test (ltb (8 * room .image) bits₁)
-      (λ y. absurd (not-done (TooShort 0) k bits n (sym (pick-true _ _ y) ∙ e)))
-      (λ a.
-      by-test (ltb (room .spans) n₁)
-      (λ y. absurd (not-done (TooShort 1) k bits n (sym (pick-true _ _ y) ∙ sym (pick-false _ _ a) ∙ e)))
-      (λ b.
-      let same = sym (pick-false _ _ b) ∙ sym (pick-false _ _ a) ∙ e in
-      let eb = done-bits k bits n k₁ bits₁ n₁ same in
-      let en = done-spans k bits n k₁ bits₁ n₁ same in
-      let ha = ltb-false (8 * room .image) bits₁ a in
-      let hb = ltb-false (room .spans) n₁ b in
-      (omega (arith, ha, eb), omega (arith, hb, en), sym en)))
-
-  fits-placed : (k₁ bits₁ n₁ : ℕ) (q : Placed) → placedBuild room k₁ bits₁ n₁ q ≡ Done k bits n → Fits n₁
-  fits-placed k₁ bits₁ n₁ (holds stored) e = fits-room k₁ bits₁ n₁ e
-  fits-placed k₁ bits₁ n₁ (stops why) e = absurd (not-done why k bits n e)
-
-  fits-settled : (b : Input) (passes : ℕ) (s : Settled) → settledBuild b room passes s ≡ Done k bits n → Fits (length (spansOf (visitsOf b passes)))
-  fits-settled b passes (Unsettled why) e = absurd (not-done why k bits n e)
-  fits-settled b passes (At k₁) e =
-      let vs = visitsOf b passes in
-      fits-placed k₁ (lengthOf (fillOf b) (itemsOf vs)) (length (spansOf vs)) (placedAll (closedOf b) vs) e
+use Rattle.report.specs.Accepted.{small-part, small-cells, Fits, fits-settled}
+use Rattle.report.specs.Fitting.{fit-acceptable, spans-fit}
+use Rattle.report.specs.Table.{word-fits, table-fits}
 
 -- what is printed of a layout
 abbrev layoutText : Input → Output → List ℕ
@@ -177,26 +130,6 @@ module _ (b : Input) (old : Lent) (hi : length (old .image) ≡ imageRoom) (ha :
         (rw gi (w .0), w .0, rw go (w .1), rw gs (w .1), accepted k bits n e)
 
 -- ---- the layout of a file
-
--- five bytes a cell, each number of 32 bits
-small-append : (l m : List ℕ) → ((i : ℕ) → getD l i 0 ≤ maxPosition) → ((i : ℕ) → getD m i 0 ≤ maxPosition) → (i : ℕ) → getD (l ++ m) i 0 ≤ maxPosition
-small-append [] m hl hm i = hm i
-small-append (x ∷ l) m hl hm zero = hl 0
-small-append (x ∷ l) m hl hm (suc i) = small-append l m (λ j. hl (suc j)) hm i
-
-module _ (read : ℕ → ℕ) (small : (at : ℕ) → read at ≤ maxPosition) where
-  small-column : (step at n i : ℕ) → getD (column read step at n) i 0 ≤ maxPosition
-  unfolding column
-  small-column step at zero i = zero-le
-  small-column step at (suc n) zero = small at
-  small-column step at (suc n) (suc i) = small-column step (at + step) n i
-
-  small-cells : (nodes at rows i : ℕ) → getD (cells read nodes at rows) i 0 ≤ maxPosition
-  unfolding cells
-  small-cells nodes at zero i = zero-le
-  small-cells nodes at (suc rows) i =
-      small-append (column read 5 at nodes) (cells read nodes (at + (3 + 5 * nodes)) rows) (small-column 5 at nodes)
-      (small-cells nodes (at + (3 + 5 * nodes)) rows) i
 
 module _ (file : List ℕ) (fill : ℕ) (page : Opt) (bytes : (i : ℕ) → getD file i 0 < 256) (old : Lent) (hi : length (old .image) ≡ imageRoom)
     (ha : length (old .addresses) ≡ spanRoom) (ho : length (old .offsets) ≡ spanRoom) (hs : length (old .sizes) ≡ spanRoom) (r : Output) (new : Lent)

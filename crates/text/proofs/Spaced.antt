@@ -7,7 +7,7 @@ use native.Mathlib.Omega.{arith}
 use lib.ListN.{length, getD, take, drop, length-append, drop-of-length-le}
 use lib.Seq.{drop-cons, take-suc}
 use Rattle.text.specs.Decimal.{decimal}
-use Rattle.text.specs.Lines.{spaced, line}
+use Rattle.text.specs.Lines.{spaced}
 
 pub spaced-append : (xs ys : List ℕ) → spaced (xs ++ ys) ≡ spaced xs ++ spaced ys
 unfolding spaced
@@ -36,7 +36,3 @@ module _ (ns : List ℕ) (i : ℕ) (h : i < length ns) where
 pub spaced-done : (ns : List ℕ) (i : ℕ) → length ns ≤ i → length (spaced (drop i ns)) ≡ 0
 unfolding spaced
 spaced-done ns i h = ap (λ (l : List ℕ). length (spaced l)) (drop-of-length-le ns h)
-
--- how long a line is
-pub line-length : (word numbers : List ℕ) → length (line word numbers) ≡ length word + length (spaced numbers) + 1
-line-length word numbers = length-append (word ++ spaced numbers) (10 ∷ []) ∙ ap (λ (k : ℕ). k + 1) (length-append word (spaced numbers))

@@ -6,7 +6,7 @@ use native.Mathlib.Omega.{arith}
 use lib.ListN.{length, length-append}
 use Rattle.text.specs.Ascii.{ascii}
 use Rattle.text.specs.Lines.{spaced, passesText, blocksText, imageText, layoutText}
-use Rattle.text.proofs.Spaced.{line-length}
+use Rattle.text.specs.Lengths.{line-length}
 
 pub layout-length : (k n : ℕ) (os ss hex : List ℕ)
     → length (layoutText k n os ss hex) ≡ 6 + length (spaced (k ∷ [])) + 1 + length (blocksText n os ss) + length (imageText hex)

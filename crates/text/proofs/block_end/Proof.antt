@@ -5,7 +5,7 @@ use mathlib.Core.List.{[], _∷_}
 use Prim.Native.Nat.{ℕ}
 use Rattle.text.specs.Puts.{endOf}
 use Rattle.text.specs.Lines.{blockWord}
-use Rattle.text.proofs.Spaced.{line-length}
+use Rattle.text.specs.Lengths.{line-length}
 use Rattle.text.proofs.block_end.Statement.{statement}
 use Rattle.text.proofs.block_end.Tie as tie
 

@@ -4,7 +4,7 @@ use native.Mathlib.Omega.{arith}
 use lib.ListN.{length}
 use Rattle.text.specs.Ends.{fits-of, short-of, puts-short, puts-writes}
 use Rattle.text.specs.Lines.{spaced}
-use Rattle.text.proofs.Spaced.{line-length}
+use Rattle.text.specs.Lengths.{line-length}
 use Prim.Native.Nat.{_+_}
 use Rattle.text.proofs.put_line.Statement.{statement}
 use Rattle.text.proofs.put_line.Tie as tie
