@@ -3,7 +3,8 @@ use told::DkCount;
 use told::tell_conversion;
 ghost use mathlib.Core.Path.{_≡_};
 ghost use Rattle.form.specs.Kind.{form1, form2};
-ghost use Rattle.convert.specs.Convert.{toForm1, toForm2, dropsNone, dropsBit};
+ghost use Rattle.convert_write.specs.Turning.{toForm1, toForm2, dropsBit};
+ghost use Rattle.convert.specs.Convert.{dropsNone};
 ghost use Rattle.denkumari.specs.Conversions.{WayTold};
 
 // A file of form 1 in form 2, with fill bits zero; a file of one bank gets a bank 1. A refused call changes nothing that is lent.

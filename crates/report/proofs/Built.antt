@@ -1,40 +1,28 @@
 -- From the contract of a file's build to its text: an accepted build fits what is lent, and its spans stand at the front of the lent lists.
 use mathlib.Core.Path.{_≡_, refl, sym, ap, ap₂, subst, _∙_}
-use mathlib.Core.Bool.{Bool, true, false}
-use mathlib.Core.List.{List, [], _∷_, _++_}
-use Prim.Native.Nat.{ℕ, zero, suc, _+_, _-_, _*_, _≤_, _<_, min, zero-le}
+use mathlib.Core.Bool.{true}
+use mathlib.Core.List.{List}
+use Prim.Native.Nat.{ℕ, _+_, _≤_, _<_}
 use native.Mathlib.Omega.{arith}
-use lib.Dec.{ltb}
-use lib.ListN.{length, getD, take, drop, length-map}
-use lib.Seq.{take-at, getD-drop}
-use borrow.Author.Tests.{ltb-false}
+use lib.ListN.{length, getD, take, length-map}
+use lib.Seq.{take-at}
 use Rattle.refusal.specs.Limits.{maxPosition}
-use Rattle.refusal.specs.Pick.{pick, pick-true, pick-false}
 use Rattle.refusal.specs.declared.Refusal.{Refusal}
-use Rattle.refusal.specs.declared.Refusal.the-variants.{TooShort}
 use Rattle.refusal.specs.declared.Opt.{Opt}
 use Rattle.refusal.specs.declared.Opt.the-variants.{None, Some}
 use Rattle.refusal.specs.declared.Verdict.{Verdict}
 use Rattle.refusal.specs.declared.Verdict.the-variants.{Accepted, Refused as TurnedAway}
-use Rattle.resolver.specs.Lists.{rowAt}
-use Rattle.resolver.specs.Passes.{program, rowOfPass}
-use Rattle.resolver.specs.declared.Settled.{Settled}
-use Rattle.resolver.specs.declared.Settled.the-variants.{At, Refused as Unsettled}
 use Rattle.blocks.specs.Spans.{acceptable}
 use Rattle.bankdef.specs.Check.{banksOf}
 use Rattle.writing.specs.Blank.{blankOf}
-use Rattle.visits.specs.Items.{itemsOf, lengthOf, imageOf}
-use Rattle.placing.specs.Placing.{Placed, holds, stops, placedAll}
+use Rattle.visits.specs.Items.{itemsOf, imageOf}
 use Rattle.visits.specs.Spans.{Span, spansOf, words, sizes}
-use Rattle.output.specs.Output.{Input, input, Lent, Room, roomOf, roomFor, placedBuild, settledBuild, buildOf, visitsOf, closedOf, fillOf, passesOf, settledOf}
+use Rattle.output.specs.Output.{Input, input, Lent, roomOf, buildOf, visitsOf, passesOf, settledOf}
 use Rattle.output.specs.Output.{filled, leftBy}
 use Rattle.output.specs.declared.Build.{Build}
 use Rattle.output.specs.declared.Build.the-variants.{Done, Refused}
 use Rattle.output.specs.declared.Output.{Output}
-use Rattle.form.specs.Fields.{by-test}
 use Rattle.form.specs.Banks.{tableOf}
-use Rattle.form.specs.Columns.{column}
-use Rattle.form.specs.Lists.{cells}
 use Rattle.form.specs.Shape.{formOf, nodeCount, rowsStart, rowCount}
 use Rattle.form.specs.Words.{word32}
 use Rattle.form.specs.declared.Form.{Form}
@@ -46,8 +34,8 @@ use Rattle.filed.specs.Filed.{listsIn, choicesOf, outputBy, FileBuilt}
 use Rattle.text.specs.Lines.{refusalText}
 use Rattle.report.specs.Report.{imageRoom, spanRoom, lentRoom, doneText, answerText, builtText, reportText}
 use Rattle.report.specs.Steps.{Fitting, answered, OffsetsFit}
-use Rattle.report.specs.Accepted.{small-part, small-cells, Fits, fits-settled}
-use Rattle.report.specs.Fitting.{fit-acceptable, spans-fit}
+use Rattle.report.specs.Accepted.{small-cells, Fits, fits-settled}
+use Rattle.report.specs.Fitting.{fit-acceptable, build-spans-fit}
 use Rattle.report.specs.Table.{word-fits, table-fits}
 
 -- what is printed of a layout
@@ -112,14 +100,10 @@ module _ (b : Input) (old : Lent) (hi : length (old .image) ≡ imageRoom) (ha :
 
   -- where each number is within its type's range
   module _ (banks-fit : OffsetsFit (b .banks)) (small : (i : ℕ) → getD (b .lists .numbers) i 0 ≤ maxPosition) where
-    row-small : (k i : ℕ) → getD (rowAt (b .lists) k .numbers) i 0 ≤ maxPosition
-    row-small k i = small-part (length (b .lists .kinds)) (k * length (b .lists .kinds)) (b .lists .numbers) small i
-
     accepted : (k bits n : ℕ) (e : r .build ≡ Done k bits n) → acceptable (take n (new .offsets)) (take n (new .sizes)) ≡ true
     accepted k bits n e =
         let w = within k bits n e in
-        let all = spans-fit (program (b .banks) (b .lists)) (rowOfPass (b .lists) (r .passes)) banks-fit (row-small 0)
-        (row-small (min (r .passes) (b .lists .rows) - 1)) (length (b .lists .kinds)) in
+        let all = build-spans-fit b banks-fit small (r .passes) in
         rw (offsets-part k bits n e, sizes-part k bits n e) (fit-acceptable (spans k bits n e) all (omega (arith, w .1, w .2)))
 
     build-fits : (q : Build) → r .build ≡ q → length (new .image) ≡ imageRoom → length (new .offsets) ≡ spanRoom → length (new .sizes) ≡ spanRoom

@@ -23,20 +23,16 @@ use Rattle.blocks.specs.Count.{blocks-few}
 use Rattle.blocks.specs.Outcome.{origins, sizes, over, roomFor, Contract}
 use Rattle.blocks.specs.Acceptable.{acceptable-parts}
 use Rattle.text.specs.Lines.{blockWord, line, passesText, blocksText, imageText, layoutText}
+use Rattle.report.specs.Blocks.{spans-few}
 use Rattle.report.specs.Report.{doneText}
 
 -- the digits stand at the front
-pub hex-part : (bytes : List ℕ) (bits : ℕ) (hex : List ℕ) (r : Hex) (after : List ℕ) → Prints bytes bits hex r after → bits ≤ 8 * length bytes → digitCount bits ≤ length hex → take (digitCount bits) after ≡ hexOf bytes bits
+pub hex-part : (bytes : List ℕ) (bits : ℕ) (hex : List ℕ) (r : Hex) (after : List ℕ) → Prints bytes bits hex r after → bits ≤ 8 * length bytes
+    → digitCount bits ≤ length hex → take (digitCount bits) after ≡ hexOf bytes bits
 hex-part bytes bits hex r after p h room =
     let inside : leb (0 + bits) (8 * length bytes) ≡ true = le-leb (0 + bits) (8 * length bytes) (omega arith) in
     ap (take (digitCount bits)) (p .digits ∙ rw (inside, le-leb (digitCount bits) (length hex) room) refl)
     ∙ take-at (hexOf bytes bits) (drop (digitCount bits) hex) (digitCount bits) (length-hexOf bytes bits)
-
-spans-few : (ws zs : List ℕ) → length (spansOf ws zs) ≤ length ws
-unfolding spansOf
-spans-few [] zs = omega arith
-spans-few (w ∷ ws) [] = omega arith
-spans-few (w ∷ ws) (z ∷ zs) = omega (arith, spans-few ws zs)
 
 -- the lines of blocks that stand before old contents
 lines-over : (bs : List Block) (ro rs : List ℕ) → blocksText (length bs) (origins bs ++ ro) (sizes bs ++ rs) ≡ blocksText (length bs) (origins bs) (sizes bs)
@@ -68,7 +64,8 @@ module _ (words lengths os ss : List ℕ) (ho : maxNodes ≤ length os) (hs : ma
     pub never-refused : (why : Refusal) → r ≡ Refused why → ⊥
     never-refused why e = not-both (length bs) why (sym found ∙ e)
 
-    pub found-text : (k bits : ℕ) (image : List ℕ) (count : ℕ) → r ≡ Found count → layoutText k count os₁ ss₁ (hexOf image bits) ≡ doneText k bits words lengths image
+    pub found-text : (k bits : ℕ) (image : List ℕ) (count : ℕ) → r ≡ Found count
+        → layoutText k count os₁ ss₁ (hexOf image bits) ≡ doneText k bits words lengths image
     found-text k bits image count e =
         let counted = found-count count (length bs) (sym e ∙ found) in
         let first : os₁ ≡ over (origins bs) os = c .first ∙ pick-true _ _ y ∙ pick-true _ _ room in

@@ -2,7 +2,7 @@
 use mathlib.Core.Path.{_≡_, refl, sym, subst, _∙_}
 use mathlib.Core.Bool.{Bool, true, false}
 use mathlib.Core.List.{List, [], _∷_, _++_, append-nil}
-use Prim.Native.Nat.{ℕ, zero, suc, _+_, _≤_, zero-le}
+use Prim.Native.Nat.{ℕ, zero, suc, _+_, _-_, _*_, _≤_, min, zero-le}
 use native.Mathlib.Omega.{arith}
 use lib.Dec.{eqb}
 use lib.ListN.{length, getD, length-map}
@@ -20,20 +20,23 @@ use Rattle.iter.specs.Step.{startOf, bankAfter}
 use Rattle.iter.specs.StepCases.{standing, step-cases}
 use Rattle.iter.specs.WithinLimit.{Small, Within, AllSmall, seen-within, step-within, never-past}
 use Rattle.iter.specs.declared.Stepped.{Stepped}
-use Rattle.resolver.specs.Lists.{Row}
+use Rattle.resolver.specs.Lists.{Row, rowAt}
 use Rattle.resolver.specs.Listed.{either-record}
+use Rattle.resolver.specs.Passes.{program, rowOfPass}
 use Rattle.resolver.specs.Once.{Program, node, bankRecord, bankOf, walkTo}
 use Rattle.blocks.specs.Offsets.{offsetOf, wordOf, at-of-word}
 use Rattle.blocks.specs.Spans.{offsetWithin, spansOf, allWithin, acceptable}
+use Rattle.output.specs.Output.{Input, visitsOf}
 use Rattle.visits.specs.Visits.{seenPos, positionOf, visitAt, visitsTo, each}
 use Rattle.visits.specs.VisitLaws.{each-next, visits-none}
 use Rattle.visits.specs.Spans.{Span, isSpan, spanAt, spanOf, spansOf as spansIn, words, sizes}
 use Rattle.form.specs.Fields.{by-test}
+use Rattle.report.specs.Accepted.{small-part}
 use Rattle.report.specs.Steps.{OffsetFits, OffsetsFit}
 
 -- ---- spans within the limits are accepted
 
-abbrev Fit : Span → Type 0
+abbrev pub Fit : Span → Type 0
 Fit s = (offsetWithin (s .offset) ≡ true) × (s .size ≤ maxPosition)
 
 abbrev pub AllFit : List Span → Type 0
@@ -72,7 +75,7 @@ either false x y hx hy = hy
 
 module _ (p : Program) (row : Row) (banks : OffsetsFit (p .banks)) (first : (i : ℕ) → getD (p .first) i 0 ≤ maxPosition)
     (numbers : (i : ℕ) → getD (row .numbers) i 0 ≤ maxPosition) where
-  small : (i : ℕ) → node p row i .number ≤ maxPosition
+  pub small : (i : ℕ) → node p row i .number ≤ maxPosition
   small i = either (eqb (getD (p .kinds) i 0) 5) (getD (p .first) i 0) (getD (row .numbers) i 0) (first i) (numbers i)
 
   walk-small : (i : ℕ) → AllSmall (walkTo p row i)
@@ -88,7 +91,7 @@ module _ (p : Program) (row : Row) (banks : OffsetsFit (p .banks)) (first : (i :
       step-cases def walk n (λ (s : Stepped). Small (seenPos (s .seen))) (λ why. zero-le)
       (λ a b s e. subst Within s (seen-within def (standing walk n) n (walk-small i (bankAfter (walk .bank) n))))
 
-  span-fits : (i : ℕ) → Fit (spanAt (visitAt p row i))
+  pub span-fits : (i : ℕ) → Fit (spanAt (visitAt p row i))
   span-fits i =
       let bank = bankAfter (walkTo p row i .bank) (node p row i) in (
         out-fits (bankRecord (p .banks) bank .offset) (positionOf (visitAt p row i))
@@ -107,3 +110,14 @@ module _ (p : Program) (row : Row) (banks : OffsetsFit (p .banks)) (first : (i :
       (by-test (isSpan (node p row i))
       (λ y. rw y (fit-last (spansIn (visitsTo p row i)) (spanAt (visitAt p row i)) (spans-fit i) (span-fits i)))
       (λ n. rw (n, append-nil (spansIn (visitsTo p row i))) (spans-fit i)))
+
+-- ---- the spans of a build, in the row of any pass
+
+module _ (b : Input) (banks : OffsetsFit (b .banks)) (numbers : (i : ℕ) → getD (b .lists .numbers) i 0 ≤ maxPosition) where
+  pub row-small : (k i : ℕ) → getD (rowAt (b .lists) k .numbers) i 0 ≤ maxPosition
+  row-small k i = small-part (length (b .lists .kinds)) (k * length (b .lists .kinds)) (b .lists .numbers) numbers i
+
+  pub build-spans-fit : (passes : ℕ) → AllFit (spansIn (visitsOf b passes))
+  build-spans-fit passes =
+      spans-fit (program (b .banks) (b .lists)) (rowOfPass (b .lists) passes) banks (row-small 0) (row-small (min passes (b .lists .rows) - 1))
+      (length (b .lists .kinds))
