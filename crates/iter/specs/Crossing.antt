@@ -6,16 +6,20 @@ use mathlib.Core.Bool.{Bool, true, false, _||_}
 use mathlib.Core.List.{List, [], _∷_}
 use native.Mathlib.Nat.{le-of-suc-le-suc}
 use native.Mathlib.Omega.{arith}
-use lib.Dec.{leb}
-use lib.ListN.{getD, length}
-use borrow.Author.Tests.{le-leb, lt-leb}
+use lib.Dec.{leb, eqb}
+use lib.ListN.{getD, set, length}
+use lib.Seq.{set-getD}
+use borrow.Author.Tests.{le-leb, lt-leb, eqb-true, eqb-false}
+use Rattle.refusal.specs.Bools.{either}
 use Rattle.refusal.specs.Limits.{maxBanks}
 use Rattle.refusal.specs.Pick.{pick, pick-true, pick-false}
 use Rattle.refusal.specs.declared.Refusal.{Refusal}
 use Rattle.refusal.specs.declared.Refusal.the-variants.{Malformed}
 use Rattle.bankdef.specs.declared.Bankdef.{Bankdef}
 use Rattle.iter.specs.Distance.{noSkip}
-use Rattle.iter.specs.Step.{origin, seenOf, badState, advancedOf, bankAfter, kept, stopped, stepSkips, steppedTo, steppedFrom, stepOf}
+use Rattle.iter.specs.Advance.{sound-state, early}
+use Rattle.iter.specs.Step.{origin, outermostSymbol, seenOf, badState, advancedOf, bankAfter, kept, stopped, stepSkips, steppedTo, steppedFrom, stepOf}
+use Rattle.iter.specs.StepFacts.{sees-plain, stands-in}
 use Rattle.iter.specs.declared.Crossing.{Crossing}
 use Rattle.iter.specs.declared.Moved.{Moved}
 use Rattle.iter.specs.declared.Moved.the-variants.{To, Refused}
@@ -61,6 +65,33 @@ module _ (def : Bankdef) (at : Pos) (node : Node) where
         → crossingOf def at node ≡ record { seen = To p; skipped = stepSkips def at p node; after = q }
     unfolding crossingOf
     cross-moves p q s a = rw (sound, s, a)
+
+never : {p : Pos} {why : Refusal} → To p ≡ Refused why → ⊥
+never e = let z : _≡_ {A = ℕ} 0 1 = cc in omega arith
+
+-- A crossing that is refused leaves the position as it was.
+halts : (def : Bankdef) (at : Pos) (node : Node) (why : Refusal) {c : Crossing} → c ≡ crossingOf def at node → c .seen ≡ Refused why → c .after ≡ at
+unfolding crossingOf
+halts def at node why e f =
+    ap (λ (x : Crossing). x .after) e ∙ tested (badState node) (seenOf def at node) (ap (λ (x : Crossing). x .seen) (sym e) ∙ f)
+  where
+    advanced : (p : Pos) (s : Skipped) (m : Moved) → crossedTo at p s m .seen ≡ Refused why → crossedTo at p s m .after ≡ at
+    advanced p s (To q) g = absurd (never g)
+    advanced p s (Refused x) g = refl
+
+    tested : (t : Bool) (m : Moved) → pick t (halted at (Malformed (node .index))) (crossedFrom def at node m) .seen ≡ Refused why
+        → pick t (halted at (Malformed (node .index))) (crossedFrom def at node m) .after ≡ at
+    tested true m g = refl
+    tested false (To p) g = advanced p (stepSkips def at p node) (advancedOf def p node) g
+    tested false (Refused x) g = refl
+
+-- A bank switch is made wherever there is such a bank.
+switch-made : (def : Bankdef) (at : Pos) (node : Node) → node .kind ≡ 1 → (why : Refusal) → crossingOf def at node .seen ≡ Refused why → ⊥
+switch-made def at node k why e =
+    let sound : badState node ≡ false = rw k in
+    let plain : outermostSymbol node ≡ false = rw k in
+    let goes : advancedOf def at node ≡ To at = sound-state def at node sound ∙ early def at node (rw k (omega arith)) in
+    never (ap (λ (x : Crossing). x .seen) (sym (cross-moves def at node sound at at (sees-plain def at node plain) goes)) ∙ e)
 
 -- ---- a crossing put into the walk
 
@@ -120,6 +151,35 @@ module _ (def : Bankdef) (walk : Walk) (node : Node) {bank : ℕ} (b : bank ≡ 
     pub crossing-made : {p : Pos} → c .seen ≡ To p
         → stepOf def walk node ≡ record { seen = To p; skipped = c .skipped; walk = kept walk bank (c .after) (c .skipped .bits) }
     crossing-made s = crossing-in ∙ ap (putBy walk bank c) s
+
+    -- What the node sees is what the crossing sees.
+    pub crossing-sees : stepOf def walk node .seen ≡ c .seen
+    crossing-sees = ap (λ (s : Stepped). s .seen) crossing-in ∙ put-seen (c .seen)
+      where
+        put-seen : (m : Moved) → putBy walk bank c m .seen ≡ m
+        put-seen (To p) = refl
+        put-seen (Refused why) = refl
+
+    -- The positions after a step, refused ones too: the bank's is the one after the crossing.
+    pub crossing-places : stepOf def walk node .walk .at ≡ set (walk .at) bank (c .after)
+    crossing-places = ap (λ (s : Stepped). s .walk .at) crossing-in ∙ put-places (c .seen) refl
+      where
+        put-places : (m : Moved) → c .seen ≡ m → putBy walk bank c m .walk .at ≡ set (walk .at) bank (c .after)
+        put-places (To p) f = refl
+        put-places (Refused why) f =
+            sym (set-getD (walk .at) bank origin)
+            ∙ ap (set (walk .at) bank) (sym (halts def (getD (walk .at) bank origin) node why e f))
+
+    -- And the walk goes on in the node's bank, since a switch is never refused in one of the banks.
+    pub crossing-stands : stepOf def walk node .walk .bank ≡ bank
+    crossing-stands = ap (λ (s : Stepped). s .walk .bank) crossing-in ∙ put-bank (c .seen) refl
+      where
+        put-bank : (m : Moved) → c .seen ≡ m → putBy walk bank c m .walk .bank ≡ bank
+        put-bank (To p) f = refl
+        put-bank (Refused why) f =
+            either (eqb (node .kind) 1)
+            (λ t. absurd (switch-made def (getD (walk .at) bank origin) node (eqb-true (node .kind) 1 t) why (ap (λ (x : Crossing). x .seen) (sym e) ∙ f)))
+            (λ t. sym (stands-in (walk .bank) node (eqb-false (node .kind) 1 t)) ∙ sym b)
 
 -- an element within the list is read whatever stands for those outside
 pub any-default : {A : Type 0} (l : List A) (i : ℕ) (d e : A) → i < length l → getD l i d ≡ getD l i e

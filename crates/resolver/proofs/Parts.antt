@@ -1,10 +1,12 @@
 -- What is made of the parts that are lent as rows: a node, and a pass.
 use Prim.Native.Nat.{ℕ, _+_, _*_, _-_, min}
-use mathlib.Core.Path.{_≡_}
+use mathlib.Core.Path.{_≡_, sym, _∙_}
 use mathlib.Core.List.{List, []}
-use mathlib.Core.Bool.{Bool}
+use mathlib.Core.Bool.{Bool, false}
+use native.Mathlib.Omega.{arith}
 use lib.Dec.{eqb}
 use lib.ListN.{take, drop, length}
+use borrow.Author.Tests.{ne-eqb}
 use Rattle.bankdef.specs.declared.Bankdefs.{Bankdefs}
 use Rattle.iter.specs.declared.Node.{Node}
 use Rattle.resolver.specs.Lists.{Row, lists, rowWith, nodeAt, nodeOf}
@@ -29,13 +31,31 @@ part-node kinds operands numbers states r i e =
     let n = length kinds in
     rw (first-part n numbers, row-part r n numbers, row-part r n states) at e
 
--- a pass over those parts is the pass that reads the rows
-pub part-pass : (banks : Bankdefs) (kinds operands numbers states : List ℕ) (rows k : ℕ) (isLast : Bool) {x y : ℕ} {v : Pass} →
-    let n = length kinds in
-    x ≡ min k rows - 1 →
-    y ≡ min (k - 1) rows - 1 →
-    v ≡ passOf (programWith banks kinds operands (part 0 n numbers)) (partRow n x numbers states) (partRow n y numbers states) (eqb k 1) isLast →
-    v ≡ passAt banks (lists kinds operands numbers states rows []) k isLast
-part-pass banks kinds operands numbers states rows k isLast {x = x} {y = y} p q e =
-    let n = length kinds in
-    rw (first-part n numbers, row-part x n numbers, row-part x n states, row-part y n numbers, row-part y n states, p, q) at e
+-- pass 1 reads the first row, and so does a pass 0
+first-row : (k rows : ℕ) → k ≡ 1 → min k rows - 1 ≡ 0
+first-row k rows one = omega arith
+
+row-before : (k rows : ℕ) → k ≡ 1 → min (k - 1) rows - 1 ≡ 0
+row-before k rows one = omega arith
+
+-- a pass over those parts is the pass that reads the rows: pass k reads row x, and the pass before it row y
+module _ (banks : Bankdefs) (kinds operands numbers states : List ℕ) (rows k : ℕ) (isLast : Bool) {x y : ℕ} {v : Pass} (p : x ≡ min k rows - 1)
+    (q : y ≡ min (k - 1) rows - 1) where
+  -- where both read one row
+  pub part-alone : x ≡ y
+      → let n = length kinds in
+      v ≡ passOf (programWith banks kinds operands (part 0 n numbers)) (partRow n x numbers states) (partRow n x numbers states) (eqb k 1) isLast
+      → v ≡ passAt banks (lists kinds operands numbers states rows []) k isLast
+  part-alone same e =
+      let n = length kinds in
+      rw (← p, ← (same ∙ q)) (rw (first-part n numbers, row-part x n numbers, row-part x n states) at e)
+
+  -- and where they read two: then pass k is not pass 1
+  pub part-beside : (x ≡ y → ⊥)
+      → let n = length kinds in
+      v ≡ passOf (programWith banks kinds operands (part 0 n numbers)) (partRow n x numbers states) (partRow n y numbers states) false isLast
+      → v ≡ passAt banks (lists kinds operands numbers states rows []) k isLast
+  part-beside apart e =
+      let n = length kinds in
+      rw (← p, ← q, ne-eqb k 1 (λ one. apart (p ∙ first-row k rows one ∙ sym (q ∙ row-before k rows one))))
+      (rw (first-part n numbers, row-part x n numbers, row-part x n states, row-part y n numbers, row-part y n states) at e)

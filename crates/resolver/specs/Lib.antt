@@ -1,5 +1,4 @@
 pub mod Answer
-pub mod Before
 pub mod Cases
 pub mod Chosen
 pub mod Counts
@@ -31,6 +30,7 @@ pub mod RowParts
 pub mod Run
 pub mod Sound
 pub mod StepRefusals
+pub mod Switches
 pub mod Told
 pub mod Unread
 pub mod UnreadStep

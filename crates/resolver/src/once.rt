@@ -6,23 +6,19 @@ use bankdef::Bankdefs;
 use iter::Moved;
 use iter::Node;
 use iter::Pos;
-use iter::Skipped;
-use iter::Stepped;
-use iter::Walk;
 use iter::bank_after;
+use iter::cross;
 use iter::on_boundary;
-use iter::start;
-use iter::step;
 use refusal::MAX_BANKS;
 use refusal::Opt;
 use refusal::Refusal;
 ghost use mathlib.Core.Path.{_≡_};
+ghost use mathlib.Core.Bool.{false};
 ghost use Rattle.bankdef.specs.Check.{noBank};
-ghost use Rattle.iter.specs.Step.{stepOf};
 ghost use Prim.Native.Nat.{_/_};
-ghost use Rattle.resolver.specs.Before.{steppedBefore};
 ghost use Rattle.resolver.specs.Lists.{rowWith};
-ghost use Rattle.resolver.specs.Once.{programWith, bankRecord, bankOf, labelState, stateOf, offBoundary, met, passOf};
+ghost use Rattle.resolver.specs.Once.{programWith, bankRecord, labelState, stateOf, offBoundary, met, passOf};
+ghost use Rattle.resolver.specs.Switches.{Switches};
 
 // The record of a bank that the table does not list: its unit is 0, and no address of it can be told.
 fn no_record() -> Bankdef
@@ -50,14 +46,6 @@ pub fn bank_record(banks: Bankdefs, bank: u64) -> Bankdef
         return no_record();
     }
     banks.defs[bank as usize]
-}
-
-// The step over a node, in the bank that it stands in.
-fn step_at(banks: Bankdefs, walk: Walk, node: Node) -> Stepped
-    ensures { λ r. ⌜ r ≡ stepOf (bankOf banks walk node) walk node ⌝ }
-{
-    let bank = bank_after(walk.bank, node);
-    step(bank_record(banks, bank), walk, node)
 }
 
 // The whole units in a position; a unit of 0 holds none.
@@ -148,27 +136,52 @@ fn meet(
     }
 }
 
-// The step of the pass before over the same node. Pass 1 has none before it, and nothing asks for it there.
-fn step_before(banks: Bankdefs, walk: Walk, node: Node, is_first: bool) -> Stepped
-    ensures { λ r. ⌜ r ≡ steppedBefore banks walk node «is_first» ⌝ }
+// A pass over a row that the pass before reads too, or that has none before it: each label has the address of the pass before.
+pub fn pass_alone(
+    banks: Bankdefs,
+    kinds: &[u8],
+    operands: &[u32],
+    first: &[u32],
+    numbers: &[u32],
+    states: &[u8],
+    is_first: bool,
+    is_last: bool,
+) -> Pass
+    requires { ⌜ Switches (banks .len) (now kinds) (now operands) ⌝ }
+    ensures { λ r. ⌜ r ≡ passOf (programWith banks (now (kinds .entry)) (now (operands .entry)) (now (first .entry)))
+        (rowWith (now (numbers .entry)) (now (states .entry)))
+        (rowWith (now (numbers .entry)) (now (states .entry)))
+        «is_first» «is_last» ⌝ }
 {
-    if is_first {
-        let seen = Moved::To(Pos {
-            position: 0,
-            known: true,
-        });
-        let skipped = Skipped { bits: 0, units: 0 };
-        return Stepped {
-            seen,
-            skipped,
-            walk,
-        };
+    let origin = Pos {
+        position: 0,
+        known: true,
+    };
+    let mut at = [origin; 16];
+    let mut bank: u64 = 0;
+    let mut merged: u8 = 0;
+    let mut i = 0;
+    while i < kinds.len() {
+        let node = node_at(kinds, operands, first, numbers, states, i);
+        bank = bank_after(bank, node);
+        let def = banks.defs[bank as usize];
+        let crossing = cross(def, at[bank as usize], node);
+        let seen = crossing.seen;
+        match meet(def, node, seen, is_first, is_last, merged, seen) {
+            Pass::Refused(why) => return Pass::Refused(why),
+            Pass::State(state) => {
+                merged = state;
+            }
+        }
+        let after = crossing.after;
+        at[bank as usize] = after;
+        i += 1;
     }
-    step_at(banks, walk, node)
+    Pass::State(merged)
 }
 
-// A pass: the row's walk, with the walk of the pass before beside it for the labels' addresses.
-pub fn resolve_once(
+// A pass beside the walk of the pass before, which reads another row.
+pub fn pass_beside(
     banks: Bankdefs,
     kinds: &[u8],
     operands: &[u32],
@@ -177,34 +190,42 @@ pub fn resolve_once(
     states: &[u8],
     before_numbers: &[u32],
     before_states: &[u8],
-    is_first: bool,
     is_last: bool,
 ) -> Pass
+    requires { ⌜ Switches (banks .len) (now kinds) (now operands) ⌝ }
     ensures { λ r. ⌜ r ≡ passOf (programWith banks (now (kinds .entry)) (now (operands .entry)) (now (first .entry)))
         (rowWith (now (numbers .entry)) (now (states .entry)))
         (rowWith (now («before_numbers» .entry)) (now («before_states» .entry)))
-        «is_first» «is_last» ⌝ }
+        false «is_last» ⌝ }
 {
-    let mut walk = start();
-    let mut walk_before = start();
+    let origin = Pos {
+        position: 0,
+        known: true,
+    };
+    let mut at = [origin; 16];
+    let mut at_before = [origin; 16];
+    let mut bank: u64 = 0;
     let mut merged: u8 = 0;
     let mut i = 0;
     while i < kinds.len() {
         let node = node_at(kinds, operands, first, numbers, states, i);
-        let def = bank_record(banks, bank_after(walk.bank, node));
-        let stepped = step(def, walk, node);
+        bank = bank_after(bank, node);
+        let def = banks.defs[bank as usize];
+        let crossing = cross(def, at[bank as usize], node);
         let node_before = node_at(kinds, operands, first, before_numbers, before_states, i);
-        let stepped_before = step_before(banks, walk_before, node_before, is_first);
-        let seen_before = stepped_before.seen;
-        let seen = stepped.seen;
-        match meet(def, node, seen_before, is_first, is_last, merged, seen) {
+        let crossing_before = cross(def, at_before[bank as usize], node_before);
+        let before = crossing_before.seen;
+        let seen = crossing.seen;
+        match meet(def, node, before, false, is_last, merged, seen) {
             Pass::Refused(why) => return Pass::Refused(why),
             Pass::State(state) => {
                 merged = state;
             }
         }
-        walk = stepped.walk;
-        walk_before = stepped_before.walk;
+        let after = crossing.after;
+        at[bank as usize] = after;
+        let after_before = crossing_before.after;
+        at_before[bank as usize] = after_before;
         i += 1;
     }
     Pass::State(merged)

@@ -4,7 +4,8 @@ use crate::Pass;
 use crate::Resolution;
 use crate::Settled;
 use crate::lists::check_lists;
-use crate::once::resolve_once;
+use crate::once::pass_alone;
+use crate::once::pass_beside;
 use bankdef::Bankdefs;
 use bankdef::check;
 use refusal::Refusal;
@@ -18,6 +19,7 @@ ghost use Rattle.resolver.specs.Layout.{layoutOf};
 ghost use Rattle.resolver.specs.Lists.{lists, Rows};
 ghost use Rattle.resolver.specs.Figures.{Figures};
 ghost use Rattle.resolver.specs.Passes.{passAt, lastOf, resolutionOf};
+ghost use Rattle.resolver.specs.Switches.{Switches};
 
 // "Pass n reads row n, or the last row if there are fewer." Rows are counted from 0 and passes from 1.
 fn row_of_pass(rows: u64, n: u64) -> u64
@@ -46,24 +48,41 @@ fn pass_at(
     is_last: bool,
 ) -> Pass
     requires { ⌜ Rows (length (now kinds)) rows (now numbers) (now states) ⌝ }
+    requires { ⌜ Switches (banks .len) (now kinds) (now operands) ⌝ }
     requires { ⌜ 1 ≤ n ⌝ }
     ensures { λ r. ⌜ r ≡ passAt banks (lists (now (kinds .entry)) (now (operands .entry)) (now (numbers .entry)) (now (states .entry)) rows []) n «is_last» ⌝ }
 {
     let count = kinds.len();
-    let a = (row_of_pass(rows, n) as usize) * count;
+    let row = row_of_pass(rows, n);
+    let row_before = row_of_pass(rows, n - 1);
+    let a = (row as usize) * count;
     let e = a + count;
-    let b = (row_of_pass(rows, n - 1) as usize) * count;
+    let first = &numbers[0..count];
+    let its_numbers = &numbers[a..e];
+    let its_states = &states[a..e];
+    if row == row_before {
+        return pass_alone(
+            banks,
+            kinds,
+            operands,
+            first,
+            its_numbers,
+            its_states,
+            n == 1,
+            is_last,
+        );
+    }
+    let b = (row_before as usize) * count;
     let f = b + count;
-    resolve_once(
+    pass_beside(
         banks,
         kinds,
         operands,
-        &numbers[0..count],
-        &numbers[a..e],
-        &states[a..e],
+        first,
+        its_numbers,
+        its_states,
         &numbers[b..f],
         &states[b..f],
-        n == 1,
         is_last,
     )
 }
@@ -105,6 +124,7 @@ fn last_pass(
     n: u64,
 ) -> Resolution
     requires { ⌜ Rows (length (now kinds)) rows (now numbers) (now states) ⌝ }
+    requires { ⌜ Switches (banks .len) (now kinds) (now operands) ⌝ }
     requires { ⌜ 1 ≤ n ⌝ }
     ensures { λ r. ⌜ r ≡ record {
       settled = lastOf k (passAt banks
@@ -138,6 +158,7 @@ fn resolve_iteratively(
     limit: u8,
 ) -> Resolution
     requires { ⌜ Rows (length (now kinds)) rows (now numbers) (now states) ⌝ }
+    requires { ⌜ Switches (banks .len) (now kinds) (now operands) ⌝ }
     ensures { λ r. ⌜ r ≡ resolutionOf banks (lists (now (kinds .entry)) (now (operands .entry)) (now (numbers .entry)) (now (states .entry)) rows []) limit ⌝ }
 {
     let m = limit as u64;

@@ -1,27 +1,21 @@
--- Three rows lent as parts: each ends within the lists, and each is the row that the definition reads.
+-- Rows lent as parts: each ends within the lists, and each is the row that the definition reads. One walk where the pass and the pass before it read
+-- one row.
 use Prim.Native.Nat.{_+_, _*_, _≤_}
 use native.Mathlib.Omega.{arith}
 use lib.ListN.{length}
-use Rattle.resolver.proofs.Parts.{row-ends, part-pass}
+use Rattle.resolver.proofs.Parts.{row-ends, part-alone, part-beside}
 use borrow.Author.Needs.{needs}
 use Rattle.resolver.proofs.passes.pass_at.Statement.{statement}
 use Rattle.resolver.proofs.passes.pass_at.Tie as tie
 
 -- the pass's row, the row of the pass before, and the first row end within the lists
-ends : (c : tie.After-row-of-pass)
-    → c .row-of-pass .result * length (c .before .before .before .before .before .args .kinds .now) + length
-    (c .before .before .before .before .before .args .kinds .now) ≤ c .before .before .before .before .before .args .rows * length
-    (c .before .before .before .before .before .args .kinds .now)
-ends c = row-ends (c .row-of-pass .result) (c .before .before .before .before .before .args .rows)
-    (length (c .before .before .before .before .before .args .kinds .now)) (c .row-of-pass .ensures .1)
+ends : (c : tie.After-row-of-pass) → let a = c .before .before .before .before .before .args in
+    c .row-of-pass .result * length (a .kinds .now) + length (a .kinds .now) ≤ a .rows * length (a .kinds .now)
+ends c = let a = c .before .before .before .before .before .args in row-ends (c .row-of-pass .result) (a .rows) (length (a .kinds .now)) (c .row-of-pass .ensures .1)
 
-before-ends : (c : tie.After-row-of-pass2)
-    → c .row-of-pass2 .result * length (c .before .before .before .before .before .before .args .kinds .now) + length
-    (c .before .before .before .before .before .before .args .kinds .now) ≤ c .before .before .before .before .before .before .args .rows * length
-    (c .before .before .before .before .before .before .args .kinds .now)
-before-ends c =
-    row-ends (c .row-of-pass2 .result) (c .before .before .before .before .before .before .args .rows)
-    (length (c .before .before .before .before .before .before .args .kinds .now)) (c .row-of-pass2 .ensures .1)
+before-ends : (c : tie.After-row-of-pass2) → let a = c .before .before .before .before .before .before .args in
+    c .row-of-pass2 .result * length (a .kinds .now) + length (a .kinds .now) ≤ a .rows * length (a .kinds .now)
+before-ends c = let a = c .before .before .before .before .before .before .args in row-ends (c .row-of-pass2 .result) (a .rows) (length (a .kinds .now)) (c .row-of-pass2 .ensures .1)
 
 first-ends : (s : tie.Start) → length (s .args .kinds .now) ≤ s .args .rows * length (s .args .kinds .now)
 first-ends s = let h = row-ends 0 (s .args .rows) (length (s .args .kinds .now)) (omega (arith, s .pre .0 .some)) in omega arith
@@ -29,131 +23,124 @@ first-ends s = let h = row-ends 0 (s .args .rows) (length (s .args .kinds .now))
 row-of-pass-requires : tie.Need-row-of-pass-requires
 row-of-pass-requires c κs = search needs
 
-mul-a : tie.Need-mul-a
-mul-a c = omega (arith, ends c, c .before .before .before .before .before .pre .0 .numbered)
-
-add-e : tie.Need-add-e
-add-e c = omega (arith, ends c, c .before .before .before .before .before .pre .0 .numbered)
-
 sub-row-of-pass : tie.Need-sub-row-of-pass
 sub-row-of-pass c = search needs
 
 row-of-pass-requires-2 : tie.Need-row-of-pass-requires-2
 row-of-pass-requires-2 c κs = search needs
 
-mul-b : tie.Need-mul-b
-mul-b c = omega (arith, before-ends c, c .before .before .before .before .before .before .pre .0 .numbered)
+mul-a : tie.Need-mul-a
+mul-a c = omega (arith, ends (c .before), c .before .before .before .before .before .before .pre .0 .numbered)
 
-add-f : tie.Need-add-f
-add-f c = omega (arith, before-ends c, c .before .before .before .before .before .before .pre .0 .numbered)
+add-e : tie.Need-add-e
+add-e c = omega (arith, ends (c .before), c .before .before .before .before .before .before .pre .0 .numbered)
 
-sub-resolve-once : tie.Need-sub-resolve-once
-sub-resolve-once c = search needs
+sub-first : tie.Need-sub-first
+sub-first c = search needs
 
-part-resolve-once-start : tie.Need-part-resolve-once-start
-part-resolve-once-start c = search needs
+part-first-start : tie.Need-part-first-start
+part-first-start c = search needs
 
-part-resolve-once-end : tie.Need-part-resolve-once-end
-part-resolve-once-end c =
-    omega (arith, first-ends (c .before .before .before .before .before .before), c .before .before .before .before .before .before .pre .0 .numbered)
+part-first-end : tie.Need-part-first-end
+part-first-end c = omega (arith, first-ends (c .before .before .before .before .before .before), c .before .before .before .before .before .before .pre .0 .numbered)
 
-mul-resolve-once : tie.Need-mul-resolve-once
-mul-resolve-once c = omega (arith, ends (c .before .before), c .before .before .before .before .before .before .before .pre .0 .numbered)
+mul-its-numbers : tie.Need-mul-its-numbers
+mul-its-numbers c = omega (arith, ends (c .before .before), c .before .before .before .before .before .before .before .pre .0 .numbered)
 
-sub-resolve-once-2 : tie.Need-sub-resolve-once-2
-sub-resolve-once-2 c = search needs
+sub-its-numbers : tie.Need-sub-its-numbers
+sub-its-numbers c = search needs
 
-part-resolve-once-start-2 : tie.Need-part-resolve-once-start-2
-part-resolve-once-start-2 c = search needs
+part-its-numbers-start : tie.Need-part-its-numbers-start
+part-its-numbers-start c = search needs
 
-part-resolve-once-end-2 : tie.Need-part-resolve-once-end-2
-part-resolve-once-end-2 c = omega (arith, ends (c .before .before), c .before .before .before .before .before .before .before .pre .0 .numbered)
+part-its-numbers-end : tie.Need-part-its-numbers-end
+part-its-numbers-end c = omega (arith, ends (c .before .before), c .before .before .before .before .before .before .before .pre .0 .numbered)
 
-sub-resolve-once-3 : tie.Need-sub-resolve-once-3
-sub-resolve-once-3 c = search needs
+sub-its-states : tie.Need-sub-its-states
+sub-its-states c = search needs
 
-part-resolve-once-start-3 : tie.Need-part-resolve-once-start-3
-part-resolve-once-start-3 c = search needs
+part-its-states-start : tie.Need-part-its-states-start
+part-its-states-start c = search needs
 
-part-resolve-once-end-3 : tie.Need-part-resolve-once-end-3
-part-resolve-once-end-3 c = omega (arith, ends (c .before .before .before), c .before .before .before .before .before .before .before .before .pre .0 .stated)
+part-its-states-end : tie.Need-part-its-states-end
+part-its-states-end c = omega (arith, ends (c .before .before .before), c .before .before .before .before .before .before .before .before .pre .0 .stated)
 
-mul-resolve-once-2 : tie.Need-mul-resolve-once-2
-mul-resolve-once-2 c =
-    omega (
-      arith,
-      before-ends (c .before .before .before),
-      c .before .before .before .before .before .before .before .before .before .pre .0
-          .numbered,
-    )
-
-sub-resolve-once-4 : tie.Need-sub-resolve-once-4
-sub-resolve-once-4 c = search needs
-
-part-resolve-once-start-4 : tie.Need-part-resolve-once-start-4
-part-resolve-once-start-4 c = search needs
-
-part-resolve-once-end-4 : tie.Need-part-resolve-once-end-4
-part-resolve-once-end-4 c =
-    omega (
-      arith,
-      before-ends (c .before .before .before),
-      c .before .before .before .before .before .before .before .before .before .pre .0
-          .numbered,
-    )
-
-sub-resolve-once-5 : tie.Need-sub-resolve-once-5
-sub-resolve-once-5 c = search needs
-
-part-resolve-once-start-5 : tie.Need-part-resolve-once-start-5
-part-resolve-once-start-5 c = search needs
-
-part-resolve-once-end-5 : tie.Need-part-resolve-once-end-5
-part-resolve-once-end-5 c =
-    omega (
-      arith,
-      before-ends (c .before .before .before .before),
-      c .before .before .before .before .before .before .before .before .before .before
-          .pre .0 .stated,
-    )
-
-resolve-once-requires : tie.Need-resolve-once-requires
-resolve-once-requires c κs = search needs
+pass-alone-requires : tie.Need-pass-alone-requires
+pass-alone-requires c κs = c .before .before .before .before .before .before .before .before .before .before .pre .1 .0
 
 returns : tie.Need-returns
 returns c =
-    let a = c .before .before .before .before .before .before .before .before .before .before .before .before .args in
-    part-pass (a .banks) (a .kinds .now) (a .operands .now) (a .numbers .now) (a .states .now) (a .rows) (a .n) (a .is-last)
-    (c .before .before .before .before .before .before .before .row-of-pass .ensures .0)
-    (c .before .before .before .before .before .before .row-of-pass2 .ensures .0) (c .resolve-once .ensures)
+    let a = c .before .before .before .before .before .before .before .before .before .before .before .args in
+    part-alone (a .banks) (a .kinds .now) (a .operands .now) (a .numbers .now) (a .states .now) (a .rows) (a .n) (a .is-last)
+    (c .before .before .before .before .before .before .row-of-pass .ensures .0)
+    (c .before .before .before .before .before .row-of-pass2 .ensures .0) (c .before .if1 .taken) (c .pass-alone .ensures)
+
+mul-b : tie.Need-mul-b
+mul-b c = omega (arith, before-ends (c .before .before .before .before), c .before .before .before .before .before .before .before .before .before .before .pre .0 .numbered)
+
+add-f : tie.Need-add-f
+add-f c = omega (arith, before-ends (c .before .before .before .before), c .before .before .before .before .before .before .before .before .before .before .pre .0 .numbered)
+
+mul-pass-beside : tie.Need-mul-pass-beside
+mul-pass-beside c = omega (arith, before-ends (c .before .before .before .before), c .before .before .before .before .before .before .before .before .before .before .pre .0 .numbered)
+
+sub-pass-beside : tie.Need-sub-pass-beside
+sub-pass-beside c = search needs
+
+part-pass-beside-start : tie.Need-part-pass-beside-start
+part-pass-beside-start c = search needs
+
+part-pass-beside-end : tie.Need-part-pass-beside-end
+part-pass-beside-end c = omega (arith, before-ends (c .before .before .before .before), c .before .before .before .before .before .before .before .before .before .before .pre .0 .numbered)
+
+sub-pass-beside-2 : tie.Need-sub-pass-beside-2
+sub-pass-beside-2 c = search needs
+
+part-pass-beside-start-2 : tie.Need-part-pass-beside-start-2
+part-pass-beside-start-2 c = search needs
+
+part-pass-beside-end-2 : tie.Need-part-pass-beside-end-2
+part-pass-beside-end-2 c = omega (arith, before-ends (c .before .before .before .before .before), c .before .before .before .before .before .before .before .before .before .before .before .pre .0 .stated)
+
+pass-beside-requires : tie.Need-pass-beside-requires
+pass-beside-requires c κs = c .before .before .before .before .before .before .before .before .before .before .before .before .pre .1 .0
+
+returns-2 : tie.Need-returns-2
+returns-2 c =
+    let a = c .before .before .before .before .before .before .before .before .before .before .before .before .before .args in
+    part-beside (a .banks) (a .kinds .now) (a .operands .now) (a .numbers .now) (a .states .now) (a .rows) (a .n) (a .is-last)
+    (c .before .before .before .before .before .before .before .before .row-of-pass .ensures .0)
+    (c .before .before .before .before .before .before .before .row-of-pass2 .ensures .0) (c .before .before .before .if1 .left) (c .pass-beside .ensures)
 
 pub pass-at-spec : {M : Type 1} → statement M
 pass-at-spec =
     tie.close
     (tie.spec
     row-of-pass-requires
-    mul-a
-    add-e
     sub-row-of-pass
     row-of-pass-requires-2
+    mul-a
+    add-e
+    sub-first
+    part-first-start
+    part-first-end
+    mul-its-numbers
+    sub-its-numbers
+    part-its-numbers-start
+    part-its-numbers-end
+    sub-its-states
+    part-its-states-start
+    part-its-states-end
+    pass-alone-requires
+    returns
     mul-b
     add-f
-    sub-resolve-once
-    part-resolve-once-start
-    part-resolve-once-end
-    mul-resolve-once
-    sub-resolve-once-2
-    part-resolve-once-start-2
-    part-resolve-once-end-2
-    sub-resolve-once-3
-    part-resolve-once-start-3
-    part-resolve-once-end-3
-    mul-resolve-once-2
-    sub-resolve-once-4
-    part-resolve-once-start-4
-    part-resolve-once-end-4
-    sub-resolve-once-5
-    part-resolve-once-start-5
-    part-resolve-once-end-5
-    resolve-once-requires
-    returns)
+    mul-pass-beside
+    sub-pass-beside
+    part-pass-beside-start
+    part-pass-beside-end
+    sub-pass-beside-2
+    part-pass-beside-start-2
+    part-pass-beside-end-2
+    pass-beside-requires
+    returns-2)

@@ -27,19 +27,19 @@ abbrev passes : tie.Start Inv-loop μ-loop → ℕ → Bool → Pass
 passes s = passAt (s .args .banks) (given s)
 
 last-pass-requires : tie.Need-last-pass-requires Inv-loop μ-loop
-last-pass-requires c κs = (c .before .before .before .before .before .pre, search needs)
+last-pass-requires c κs = let h = c .before .before .before .before .before .pre in (h .0, (h .1, search needs))
 
 returns : tie.Need-returns Inv-loop μ-loop
 returns c = let s = c .before .before .before .before .before .before in no-limit (passes s) (s .args .limit) (c .before .if1 .taken) (c .last-pass .ensures)
 
 walked-passes-requires : tie.Need-walked-passes-requires Inv-loop μ-loop
-walked-passes-requires c κs = c .before .before .before .before .before .pre .few
+walked-passes-requires c κs = c .before .before .before .before .before .pre .0 .few
 
 loop-holds : tie.Need-loop-holds Inv-loop μ-loop
 loop-holds c = let s = c .before .before .before .before .before .before in (search needs, omega (arith, c .walked-passes .ensures), none-yet (passes s))
 
 pass-at-requires : tie.Need-pass-at-requires Inv-loop μ-loop
-pass-at-requires c κs = (c .before .before .before .before .before .before .before .before .pre, c .before .loop .inv .0)
+pass-at-requires c κs = let h = c .before .before .before .before .before .before .before .before .pre in (h .0, (h .1, c .before .loop .inv .0))
 
 enum-known-why : tie.Need-enum-known-why Inv-loop μ-loop
 enum-known-why c = search needs
@@ -68,7 +68,9 @@ add-last-pass c =
     )
 
 last-pass-requires-2 : tie.Need-last-pass-requires-2 Inv-loop μ-loop
-last-pass-requires-2 c κs = (c .before .before .before .before .before .before .before .before .before .before .before .before .before .pre, omega arith)
+last-pass-requires-2 c κs =
+    let h = c .before .before .before .before .before .before .before .before .before .before .before .before .before .pre in
+    (h .0, (h .1, omega arith))
 
 returns-3 : tie.Need-returns-3 Inv-loop μ-loop
 returns-3 c =
@@ -111,13 +113,15 @@ loop-again c =
     )
 
 last-pass-requires-3 : tie.Need-last-pass-requires-3 Inv-loop μ-loop
-last-pass-requires-3 c κs = (c .before .before .before .before .before .before .before .before .pre, omega (arith, c .before .before .before .if1 .left))
+last-pass-requires-3 c κs =
+    let h = c .before .before .before .before .before .before .before .before .pre in
+    (h .0, (h .1, omega (arith, c .before .before .before .if1 .left)))
 
 returns-4 : tie.Need-returns-4 Inv-loop μ-loop
 returns-4 c =
     let s = c .before .before .before .before .before .before .before .before .before in
     limit-pass (passes s) (s .args .limit) (s .args .rows) (c .before .before .loop .n) (c .before .before .before .before .if1 .left)
-    (λ p. λ h. repeats (s .args .banks) (given s) p false (s .pre .some) h)
+    (λ p. λ h. repeats (s .args .banks) (given s) p false (s .pre .0 .some) h)
     (omega (arith, c .before .loop-test .left, c .before .before .before .walked-passes .ensures, c .before .before .loop .inv))
     (c .before .before .loop .inv .2) (c .last-pass3 .ensures)
 
