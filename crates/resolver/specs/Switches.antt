@@ -10,6 +10,7 @@ use lib.ListN.{getD, length, List·getD-eq-default}
 use borrow.Author.Tests.{leb-false, eq-eqb}
 use Rattle.refusal.specs.Bools.{neither}
 use Rattle.refusal.specs.Limits.{maxBanks}
+use Rattle.refusal.specs.declared.Verdict.{Verdict}
 use Rattle.refusal.specs.declared.Verdict.the-variants.{Accepted}
 use Rattle.bankdef.specs.Check.{checkOf}
 use Rattle.bankdef.specs.Refused.{accepted}
@@ -35,14 +36,15 @@ module _ (banks : Bankdefs) (l : Lists) (fill : ℕ) where
       let past : leb (banks .len) (n .operand) ≡ false = rw (eq-eqb (getD (l .kinds) i 0) 1 k) at named in
       leb-false (banks .len) (n .operand) past
 
-  pub accepted-switches : checkOf banks ≡ Accepted → listsOf (banks .len) l fill ≡ Accepted → Switches (banks .len) (l .kinds) (l .operands)
-  accepted-switches t e =
-      let table = accepted banks t in
+  pub accepted-switches : {u v : Verdict} → u ≡ checkOf banks → u ≡ Accepted → v ≡ listsOf (banks .len) l fill → v ≡ Accepted
+      → Switches (banks .len) (l .kinds) (l .operands)
+  accepted-switches t f e g =
+      let table = accepted banks (sym t ∙ f) in
       record {
         some = table .least;
         few = table .most;
         named = λ i k.
             ⊎-elim (λ (h : length (l .kinds) ≤ i). absurd (let z = sym (List·getD-eq-default (l .kinds) 0 h) ∙ k in omega arith))
-            (λ (h : i < length (l .kinds)). switch-named e i h k)
+            (λ (h : i < length (l .kinds)). switch-named (sym e ∙ g) i h k)
             (or-past (length (l .kinds)) i);
       }

@@ -1,7 +1,6 @@
 -- The banks' verdict, the lists' verdict, and the passes, which the accepted lists make sound.
 use Rattle.resolver.specs.Lists.{Lists, lists}
 use Rattle.resolver.proofs.Accepted.{accepted-rows, banks-refused, lists-refused, both-accepted, layout-told}
-use mathlib.Core.Path.{sym, _∙_}
 use borrow.Author.Needs.{needs}
 use Rattle.resolver.specs.Switches.{accepted-switches}
 use Rattle.resolver.proofs.passes.resolve.Statement.{statement}
@@ -37,9 +36,9 @@ enum-told-2 c = search needs
 resolve-iteratively-requires : tie.Need-resolve-iteratively-requires
 resolve-iteratively-requires c κs =
     let s = c .before .before .before .before .before .before .before .before .before .before .before in
-    let lists-pass = sym (c .before .before .check-lists .ensures .0) ∙ c .enum-told2 .given .1 in (
-      accepted-rows (s .args .banks .len) (given s) (s .args .choices .fill) (c .before .before .check-lists .ensures .0) (c .enum-told2 .given .1),
-      accepted-switches (s .args .banks) (given s) (s .args .choices .fill) (sym (c .before .before .before .before .before .check .ensures .0) ∙ c .before .before .before .enum-told .given .1) lists-pass,
+    let l = c .before .before .check-lists .ensures .0 in (
+      accepted-rows (s .args .banks .len) (given s) (s .args .choices .fill) l (c .enum-told2 .given .1),
+      accepted-switches (s .args .banks) (given s) (s .args .choices .fill) (c .before .before .before .before .before .check .ensures .0) (c .before .before .before .enum-told .given .1) l (c .enum-told2 .given .1),
     )
 
 returns : tie.Need-returns
