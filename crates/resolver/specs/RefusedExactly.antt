@@ -22,7 +22,8 @@ use Rattle.bankdef.specs.Check.{checkOf}
 use Rattle.bankdef.specs.Refused.{Decided, count, number, pair, sound, decided}
 use Rattle.bankdef.specs.declared.Bankdefs.{Bankdefs}
 use Rattle.iter.specs.declared.Moved.the-variants.{Refused as Stopped}
-use Rattle.resolver.specs.Ends.{Runs, RunsLast, SettlesBelow, atLimit, Ending, early, last, ends, last-decides, refused-before, settled-below, settled-limit}
+use Rattle.resolver.specs.Ends.{Runs, RunsLast, SettlesBelow, atLimit, Ending, early}
+use Rattle.resolver.specs.Ends.{last, ends, last-decides, refused-before, settled-below, settled-limit}
 use Rattle.resolver.specs.Answer.{accepted-layout}
 use Rattle.resolver.specs.Figures.{PastFirst, OffInLast, LastUnresolved, SettlesAt, Figures}
 use Rattle.resolver.specs.Layout.{unless, layoutOf, Checked}

@@ -8,14 +8,22 @@ use borrow.Author.Needs.{needs}
 use Rattle.resolver.proofs.passes.pass_at.Statement.{statement}
 use Rattle.resolver.proofs.passes.pass_at.Tie as tie
 
--- the pass's row, the row of the pass before, and the first row end within the lists
-ends : (c : tie.After-row-of-pass) → let a = c .before .before .before .before .before .args in
-    c .row-of-pass .result * length (a .kinds .now) + length (a .kinds .now) ≤ a .rows * length (a .kinds .now)
-ends c = let a = c .before .before .before .before .before .args in row-ends (c .row-of-pass .result) (a .rows) (length (a .kinds .now)) (c .row-of-pass .ensures .1)
+-- where the rows are known: the start
+abbrev begun : tie.After-row-of-pass → tie.Start
+begun c = c .before .before .before .before .before
 
-before-ends : (c : tie.After-row-of-pass2) → let a = c .before .before .before .before .before .before .args in
-    c .row-of-pass2 .result * length (a .kinds .now) + length (a .kinds .now) ≤ a .rows * length (a .kinds .now)
-before-ends c = let a = c .before .before .before .before .before .before .args in row-ends (c .row-of-pass2 .result) (a .rows) (length (a .kinds .now)) (c .row-of-pass2 .ensures .1)
+-- the pass's row, the row of the pass before, and the first row end within the lists
+ends : (c : tie.After-row-of-pass) →
+    let n = length (begun c .args .kinds .now) in
+    c .row-of-pass .result * n + n ≤ begun c .args .rows * n
+ends c = row-ends (c .row-of-pass .result) (begun c .args .rows) (length (begun c .args .kinds .now)) (c .row-of-pass .ensures .1)
+
+before-ends : (c : tie.After-row-of-pass2) →
+    let n = length (begun (c .before) .args .kinds .now) in
+    c .row-of-pass2 .result * n + n ≤ begun (c .before) .args .rows * n
+before-ends c =
+    let a = begun (c .before) .args in
+    row-ends (c .row-of-pass2 .result) (a .rows) (length (a .kinds .now)) (c .row-of-pass2 .ensures .1)
 
 first-ends : (s : tie.Start) → length (s .args .kinds .now) ≤ s .args .rows * length (s .args .kinds .now)
 first-ends s = let h = row-ends 0 (s .args .rows) (length (s .args .kinds .now)) (omega (arith, s .pre .0 .some)) in omega arith
@@ -30,10 +38,10 @@ row-of-pass-requires-2 : tie.Need-row-of-pass-requires-2
 row-of-pass-requires-2 c κs = search needs
 
 mul-a : tie.Need-mul-a
-mul-a c = omega (arith, ends (c .before), c .before .before .before .before .before .before .pre .0 .numbered)
+mul-a c = omega (arith, ends (c .before), begun (c .before) .pre .0 .numbered)
 
 add-e : tie.Need-add-e
-add-e c = omega (arith, ends (c .before), c .before .before .before .before .before .before .pre .0 .numbered)
+add-e c = omega (arith, ends (c .before), begun (c .before) .pre .0 .numbered)
 
 sub-first : tie.Need-sub-first
 sub-first c = search needs
@@ -42,10 +50,10 @@ part-first-start : tie.Need-part-first-start
 part-first-start c = search needs
 
 part-first-end : tie.Need-part-first-end
-part-first-end c = omega (arith, first-ends (c .before .before .before .before .before .before), c .before .before .before .before .before .before .pre .0 .numbered)
+part-first-end c = omega (arith, first-ends (begun (c .before)), begun (c .before) .pre .0 .numbered)
 
 mul-its-numbers : tie.Need-mul-its-numbers
-mul-its-numbers c = omega (arith, ends (c .before .before), c .before .before .before .before .before .before .before .pre .0 .numbered)
+mul-its-numbers c = let r = c .before .before in omega (arith, ends r, begun r .pre .0 .numbered)
 
 sub-its-numbers : tie.Need-sub-its-numbers
 sub-its-numbers c = search needs
@@ -54,7 +62,7 @@ part-its-numbers-start : tie.Need-part-its-numbers-start
 part-its-numbers-start c = search needs
 
 part-its-numbers-end : tie.Need-part-its-numbers-end
-part-its-numbers-end c = omega (arith, ends (c .before .before), c .before .before .before .before .before .before .before .pre .0 .numbered)
+part-its-numbers-end c = let r = c .before .before in omega (arith, ends r, begun r .pre .0 .numbered)
 
 sub-its-states : tie.Need-sub-its-states
 sub-its-states c = search needs
@@ -63,26 +71,26 @@ part-its-states-start : tie.Need-part-its-states-start
 part-its-states-start c = search needs
 
 part-its-states-end : tie.Need-part-its-states-end
-part-its-states-end c = omega (arith, ends (c .before .before .before), c .before .before .before .before .before .before .before .before .pre .0 .stated)
+part-its-states-end c = let r = c .before .before .before in omega (arith, ends r, begun r .pre .0 .stated)
 
 pass-alone-requires : tie.Need-pass-alone-requires
 pass-alone-requires c κs = c .before .before .before .before .before .before .before .before .before .before .pre .1 .0
 
 returns : tie.Need-returns
 returns c =
-    let a = c .before .before .before .before .before .before .before .before .before .before .before .args in
+    let r = c .before .before .before .before .before in
+    let a = begun (r .before) .args in
     part-alone (a .banks) (a .kinds .now) (a .operands .now) (a .numbers .now) (a .states .now) (a .rows) (a .n) (a .is-last)
-    (c .before .before .before .before .before .before .row-of-pass .ensures .0)
-    (c .before .before .before .before .before .row-of-pass2 .ensures .0) (c .before .if1 .taken) (c .pass-alone .ensures)
+    (r .before .row-of-pass .ensures .0) (r .row-of-pass2 .ensures .0) (c .before .if1 .taken) (c .pass-alone .ensures)
 
 mul-b : tie.Need-mul-b
-mul-b c = omega (arith, before-ends (c .before .before .before .before), c .before .before .before .before .before .before .before .before .before .before .pre .0 .numbered)
+mul-b c = let r = c .before .before .before .before in omega (arith, before-ends r, begun (r .before) .pre .0 .numbered)
 
 add-f : tie.Need-add-f
-add-f c = omega (arith, before-ends (c .before .before .before .before), c .before .before .before .before .before .before .before .before .before .before .pre .0 .numbered)
+add-f c = let r = c .before .before .before .before in omega (arith, before-ends r, begun (r .before) .pre .0 .numbered)
 
 mul-pass-beside : tie.Need-mul-pass-beside
-mul-pass-beside c = omega (arith, before-ends (c .before .before .before .before), c .before .before .before .before .before .before .before .before .before .before .pre .0 .numbered)
+mul-pass-beside c = let r = c .before .before .before .before in omega (arith, before-ends r, begun (r .before) .pre .0 .numbered)
 
 sub-pass-beside : tie.Need-sub-pass-beside
 sub-pass-beside c = search needs
@@ -91,7 +99,7 @@ part-pass-beside-start : tie.Need-part-pass-beside-start
 part-pass-beside-start c = search needs
 
 part-pass-beside-end : tie.Need-part-pass-beside-end
-part-pass-beside-end c = omega (arith, before-ends (c .before .before .before .before), c .before .before .before .before .before .before .before .before .before .before .pre .0 .numbered)
+part-pass-beside-end c = let r = c .before .before .before .before in omega (arith, before-ends r, begun (r .before) .pre .0 .numbered)
 
 sub-pass-beside-2 : tie.Need-sub-pass-beside-2
 sub-pass-beside-2 c = search needs
@@ -100,17 +108,17 @@ part-pass-beside-start-2 : tie.Need-part-pass-beside-start-2
 part-pass-beside-start-2 c = search needs
 
 part-pass-beside-end-2 : tie.Need-part-pass-beside-end-2
-part-pass-beside-end-2 c = omega (arith, before-ends (c .before .before .before .before .before), c .before .before .before .before .before .before .before .before .before .before .before .pre .0 .stated)
+part-pass-beside-end-2 c = let r = c .before .before .before .before .before in omega (arith, before-ends r, begun (r .before) .pre .0 .stated)
 
 pass-beside-requires : tie.Need-pass-beside-requires
 pass-beside-requires c κs = c .before .before .before .before .before .before .before .before .before .before .before .before .pre .1 .0
 
 returns-2 : tie.Need-returns-2
 returns-2 c =
-    let a = c .before .before .before .before .before .before .before .before .before .before .before .before .before .args in
+    let r = c .before .before .before .before .before .before .before in
+    let a = begun (r .before) .args in
     part-beside (a .banks) (a .kinds .now) (a .operands .now) (a .numbers .now) (a .states .now) (a .rows) (a .n) (a .is-last)
-    (c .before .before .before .before .before .before .before .before .row-of-pass .ensures .0)
-    (c .before .before .before .before .before .before .before .row-of-pass2 .ensures .0) (c .before .before .before .if1 .left) (c .pass-beside .ensures)
+    (r .before .row-of-pass .ensures .0) (r .row-of-pass2 .ensures .0) (c .before .before .before .if1 .left) (c .pass-beside .ensures)
 
 pub pass-at-spec : {M : Type 1} → statement M
 pass-at-spec =

@@ -36,9 +36,12 @@ enum-told-2 c = search needs
 resolve-iteratively-requires : tie.Need-resolve-iteratively-requires
 resolve-iteratively-requires c κs =
     let s = c .before .before .before .before .before .before .before .before .before .before .before in
-    let l = c .before .before .check-lists .ensures .0 in (
-      accepted-rows (s .args .banks .len) (given s) (s .args .choices .fill) l (c .enum-told2 .given .1),
-      accepted-switches (s .args .banks) (given s) (s .args .choices .fill) (c .before .before .before .before .before .check .ensures .0) (c .before .before .before .enum-told .given .1) l (c .enum-told2 .given .1),
+    let a = s .args in
+    let l = c .before .before .check-lists .ensures .0 in
+    let t = c .before .before .before .before .before .check .ensures .0 in
+    let passed = c .before .before .before .enum-told .given .1 in (
+      accepted-rows (a .banks .len) (given s) (a .choices .fill) l (c .enum-told2 .given .1),
+      accepted-switches (a .banks) (given s) (a .choices .fill) t passed l (c .enum-told2 .given .1),
     )
 
 returns : tie.Need-returns
