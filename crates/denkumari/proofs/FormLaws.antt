@@ -1,12 +1,19 @@
--- The answer that is told is the definition's.
-use mathlib.Core.Path.{subst}
+-- The build of a file is told as it is.
+use mathlib.Core.Path.{_≡_, ap, subst, _∙_}
 use mathlib.Core.List.{List}
 use Prim.Native.Nat.{ℕ}
 use Rattle.refusal.specs.declared.Opt.{Opt}
-use Rattle.output.specs.Output.{Lent, roomOf}
+use Rattle.output.specs.Output.{Lent}
 use Rattle.output.specs.declared.Output.{Output}
-use Rattle.filed.specs.Filed.{FileBuilt, fileOutput}
+use Rattle.filed.specs.Filed.{FileBuilt}
+use Rattle.told.specs.Told.{layoutTold}
+use Rattle.told.specs.declared.DkLayout.{DkLayout}
+use Rattle.denkumari.specs.Forms.{FormTold}
 
-module _ (file : List ℕ) (fill : ℕ) (page : Opt) (old : Lent) where
-  pub as-told : {r : Output} {new : Lent} → FileBuilt file fill page old r new → FileBuilt file fill page old (fileOutput file fill page (roomOf old)) new
-  as-told {r} {new} b = subst (λ (o : Output). FileBuilt file fill page old o new) (b .answer) b
+pub form-told : {file : List ℕ} {fill : ℕ} {page : Opt} {old new : Lent} {r : Output} {t : DkLayout} → t ≡ layoutTold r
+    → FileBuilt file fill page old r new → FormTold file fill page old t new
+form-told {file} {fill} {page} {old} {new} told built =
+    record {
+      answer = told ∙ ap layoutTold (built .answer);
+      built = subst (λ (o : Output). FileBuilt file fill page old o new) (built .answer) built;
+    }

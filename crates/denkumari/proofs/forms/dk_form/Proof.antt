@@ -1,9 +1,5 @@
 -- `dk_form` meets its contract: the build of the file, told in numbers.
-use mathlib.Core.Path.{ap, _∙_}
-use Rattle.denkumari.proofs.FormLaws.{as-told}
-use Rattle.told.specs.Told.{layoutTold}
-use Rattle.refusal.specs.declared.Opt.the-variants.{None}
-use Rattle.output.specs.Output.{lent}
+use Rattle.denkumari.proofs.FormLaws.{form-told}
 use borrow.Author.Needs.{needs}
 use Rattle.denkumari.proofs.forms.dk_form.Statement.{statement}
 use Rattle.denkumari.proofs.forms.dk_form.Tie as tie
@@ -27,14 +23,7 @@ same-length-4 : tie.Need-same-length-4
 same-length-4 c = search needs
 
 returns : tie.Need-returns
-returns c =
-    let b = c .before .before .before .before .before .before .before .before in
-    let a = b .before .before .before .before .before .before .before .before .before .args in
-    let old = lent (a .image .now) (a .addresses .now) (a .offsets .now) (a .sizes .now) in
-    record {
-      answer = c .tell-layout .ensures ∙ ap layoutTold (b .build-file .ensures .answer);
-      built = as-told (a .file .now) (a .fill) None old (b .build-file .ensures);
-    }
+returns c = form-told (c .tell-layout .ensures) (c .before .before .before .before .before .before .before .before .build-file .ensures)
 
 pub dk-form-spec : {M : Type 1} → statement M
 dk-form-spec =
