@@ -1,7 +1,7 @@
 -- Two calls of the converter, there and back, by their contracts. Document 02, Ticket 7: "Form 1 to 2 to 1 gives the same bytes; form 2 to 1 to 2 does too,
 -- for every file that can go back", with Ticket 13's exceptions: "a two-bank form 1 file that already has the shape, which comes back as one bank, and a
 -- one-bank form 2 file, which comes back as the shape". The second call is not refused where the file fits what is lent.
-use mathlib.Core.Bool.{Bool, true, false, not}
+use mathlib.Core.Bool.{Bool, true, false, not, _&&_}
 use mathlib.Core.List.{List, [], _∷_, _++_, map}
 use mathlib.Core.Path.{_≡_, refl, sym, ap, ap₂, subst, _∙_}
 use Prim.Native.Nat.{ℕ, suc, _+_, _≤_, max}
