@@ -5,6 +5,10 @@
 // It writes nothing where an argument is no decimal number, or where there are more.
 use refusal::Opt;
 use text::Written;
+ghost use Prim.Native.Nat.{_≤_};
+ghost use lib.ListN.{length};
+ghost use Rattle.report.specs.Room.{reportRoom, fileRoom};
+ghost use Rattle.layout.specs.Program.{Shows, Reported};
 
 // Room for the longest file and a byte more, so that none is cut to a sound one.
 const FILE: usize = 65_537;
@@ -12,18 +16,16 @@ const FILE: usize = 65_537;
 // Room for the longest report.
 const TEXT: usize = 163_840;
 
-fn write(file: &[u8], fill: u8, page: Opt, text: &mut [u8]) {
+// The report of a file, handed to standard output from the front of `text`: how many bytes it is. There is room, so that the text is never too short.
+fn write(file: &[u8], fill: u8, page: Opt, text: &mut [u8]) -> usize
+    requires { ⌜ reportRoom ≤ length (now text) ⌝ }
+    ensures { λ r. ⌜ Shows (now (file .entry)) fill page r (now (text .exit)) ⌝ }
+{
     let Written::To(end) = report::report(file, fill, page, text) else {
-        return;
+        return 0;
     };
     io::write_all(1, &text[..end]);
-}
-
-// The number that argument i spells.
-fn number_at(i: usize) -> Opt {
-    let mut word = [0u8; 16];
-    let n = os::arg(i, &mut word);
-    args::number(&word[..n])
+    end
 }
 
 // A choice that no byte holds is as unknown as 255.
@@ -31,11 +33,14 @@ fn choice(n: u32) -> u8 {
     if n < 255 { n as u8 } else { 255 }
 }
 
-fn run(fill: u8, page: Opt) {
+// Reads a file and hands its report to standard output: how many bytes that is.
+fn run(fill: u8, page: Opt) -> usize
+    ensures { λ r. ⌜ Reported fill page r ⌝ }
+{
     let mut file = [0u8; FILE];
     let n = io::read_full(0, &mut file);
     let mut text = [0u8; TEXT];
-    write(&file[..n], fill, page, &mut text);
+    write(&file[..n], fill, page, &mut text)
 }
 
 fn main() {
@@ -47,14 +52,14 @@ fn main() {
         run(0, Opt::None);
         return;
     }
-    let Opt::Some(fill) = number_at(1) else {
+    let Opt::Some(fill) = args::number_at(1) else {
         return;
     };
     if count < 3 {
         run(choice(fill), Opt::None);
         return;
     }
-    let page = number_at(2);
+    let page = args::number_at(2);
     if let Opt::Some(_) = page {
         run(choice(fill), page);
     }

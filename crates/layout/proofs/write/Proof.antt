@@ -1,21 +1,49 @@
--- `write` ends, and writes a part of the text: the report ends within it.
-use mathlib.Core.Path.{sym}
-use Prim.Native.Nat.{_≤_}
+-- `write` meets its contract: there is room for every report, so that the text is never too short, and what is handed on is the report.
+use mathlib.Core.Path.{_≡_, sym, ap, _∙_}
+use mathlib.Core.List.{_++_}
+use Prim.Native.Nat.{ℕ, _≤_}
 use native.Mathlib.Omega.{arith}
-use lib.ListN.{length}
-use lib.Seq.{length-take-le}
-use Rattle.text.specs.Ends.{fits-of}
+use lib.ListN.{length, take, drop}
+use lib.Seq.{length-take-le, take-at}
+use Rattle.text.specs.declared.Written.the-variants.{To, TooShort}
 use Rattle.report.specs.Report.{reportText}
+use Rattle.report.specs.Room.{Bytes, every-report-fits, report-answers-length, report-stands-first}
 use borrow.Author.Needs.{needs}
 use Rattle.layout.proofs.write.Statement.{statement}
 use Rattle.layout.proofs.write.Tie as tie
 
--- where the report ends
-inside : (e : tie.After-end) → e .end .given .0 .0 ≤ length (e .before .before .before .before .report .last .1 .1 .1 .0)
+abbrev begin : tie.After-report → tie.Start
+begin d = d .before .before .before .before
+
+abbrev reported : tie.After-slice-known2 → tie.After-report
+reported k = k .before .before
+
+bytes : (d : tie.After-report) → Bytes (begin d .args .file .now)
+bytes d = λ i. d .before .before .before .shared-slice-known .given i .fits
+
+whole : (d : tie.After-report) → d .report .result ≡ To (length (reportText (begin d .args .file .now) (begin d .args .fill) (begin d .args .page)))
+whole d =
+    let a = begin d .args in
+    report-answers-length (a .file .now) (a .fill) (a .page) (bytes d) (begin d .pre) (d .report .ensures)
+
+never-short : {m : ℕ} → To m ≡ TooShort → ⊥
+never-short e = let z : _≡_ {A = ℕ} 0 1 = cc in omega arith
+
+to-same : {m n : ℕ} → To m ≡ To n → m ≡ n
+to-same e = cc
+
+abbrev came : tie.After-end → tie.After-report
+came e = reported (e .before .before)
+
+-- the end that the report told
+ended : (e : tie.After-end)
+    → e .end .given .0 .0 ≡ length (reportText (begin (came e) .args .file .now) (begin (came e) .args .fill) (begin (came e) .args .page))
+ended e = to-same (sym (e .end .given .1) ∙ whole (came e))
+
+inside : (e : tie.After-end) → e .end .given .0 .0 ≤ length (came e .report .last .1 .1 .1 .0)
 inside e =
-    let a = e .before .before .before .before .before .before .before .before .args in
-    let whole = fits-of (length (a .text .now)) 0 (length (reportText (a .file .now) (a .fill) (a .page))) (e .before .before .before .before .report .ensures .place) (e .end .given .1) in
-    omega (arith, whole .1, e .before .before .before .text .given)
+    let a = begin (came e) .args in
+    omega (arith, ended e, every-report-fits (a .file .now) (a .fill) (a .page) (bytes (came e)), begin (came e) .pre, e .before .before .before .text .given)
 
 report-requires : tie.Need-report-requires
 report-requires c κs = search needs
@@ -30,7 +58,7 @@ same-length : tie.Need-same-length
 same-length c = search needs
 
 returns : tie.Need-returns
-returns c = search needs
+returns c = absurd (never-short (sym (whole (reported (c .before .before))) ∙ c .enum-told .given .1))
 
 slice-reshare-prefix-write-all : tie.Need-slice-reshare-prefix-write-all
 slice-reshare-prefix-write-all c = inside (c .before)
@@ -45,7 +73,17 @@ same-length-2 : tie.Need-same-length-2
 same-length-2 c = search needs
 
 returns-2 : tie.Need-returns-2
-returns-2 c = search needs
+returns-2 c =
+    let e = c .before .before .before in
+    let a = begin (came e) .args in
+    let text = reportText (a .file .now) (a .fill) (a .page) in
+    record {
+      counted = ended e;
+      front =
+          ap (take (e .end .given .0 .0))
+          (report-stands-first (a .file .now) (a .fill) (a .page) (bytes (came e)) (begin (came e) .pre) (came e .report .ensures))
+          ∙ take-at text (drop (length text) (a .text .now)) (e .end .given .0 .0) (sym (ended e));
+    }
 
 pub write-spec : {M : Type 1} → statement M
 write-spec =
