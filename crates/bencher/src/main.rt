@@ -1,7 +1,7 @@
 // The program behind tools/bench: a released image and an overlay under trial, each an Intel HEX file.
 //
-//     bencher RELEASED OVERLAY LOAD                  a line for each run of bytes that the overlay changes: `run ADDRESS COUNT`, and the bytes of both, in hex;
-//                                                    last `runs` and their number
+//     bencher RELEASED OVERLAY LOAD                  a line for each run of bytes that the overlay changes, `run ADDRESS COUNT` and the bytes of
+//                                                    both, in hex; last `runs` and their number
 //     bencher RELEASED OVERLAY LOAD ADDRESS COUNT    `overlay` or `released`, whichever the range comes from, and its bytes
 //
 // Bytes that a file does not give read as FF, as erased flash does. A refusal is one line, `refused` with its number and place; where a file was refused,

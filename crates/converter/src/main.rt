@@ -5,18 +5,27 @@
 // A refusal is one line on standard output, `refused` with its number and place.
 use convert::Conversion;
 use refusal::Opt;
+ghost use Prim.Native.Nat.{_≤_};
+ghost use lib.ListN.{length};
+ghost use Rattle.converter.specs.Room.{longestFile, Held};
 
 // Room for the longest file and a byte more, so that none is cut to a sound one.
 const FILE: usize = 65_537;
 
-fn convert(form: u32, file: &[u8], out: &mut [u8]) -> Conversion {
+// The file in the other form. The buffer is never too short for it.
+fn convert(form: u32, file: &[u8], out: &mut [u8]) -> Conversion
+    requires { ⌜ longestFile ≤ length (now out) ⌝ }
+    ensures { λ r. ⌜ Held (length (now (out .entry))) r ⌝ }
+{
     if form == 1 {
         return convert::to_form1(file, out);
     }
     convert::to_form2(file, out)
 }
 
-fn write(form: u32, file: &[u8], out: &mut [u8]) {
+fn write(form: u32, file: &[u8], out: &mut [u8])
+    requires { ⌜ longestFile ≤ length (now out) ⌝ }
+{
     match convert(form, file, out) {
         Conversion::Refused(why) => {
             args::refuse(why);

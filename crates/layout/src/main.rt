@@ -5,9 +5,10 @@
 // It writes nothing where an argument is no decimal number, or where there are more.
 use refusal::Opt;
 use text::Written;
-ghost use Prim.Native.Nat.{_≤_};
+ghost use mathlib.Core.Path.{_≡_};
+ghost use Prim.Native.Nat.{_≤_, min};
 ghost use lib.ListN.{length};
-ghost use Rattle.report.specs.Room.{reportRoom, fileRoom};
+ghost use Rattle.report.specs.Room.{reportRoom};
 ghost use Rattle.layout.specs.Program.{Shows, Reported};
 
 // Room for the longest file and a byte more, so that none is cut to a sound one.
@@ -24,12 +25,13 @@ fn write(file: &[u8], fill: u8, page: Opt, text: &mut [u8]) -> usize
     let Written::To(end) = report::report(file, fill, page, text) else {
         return 0;
     };
-    io::write_all(1, &text[..end]);
-    end
+    args::print(text, end as u64)
 }
 
 // A choice that no byte holds is as unknown as 255.
-fn choice(n: u32) -> u8 {
+fn choice(n: u32) -> u8
+    ensures { λ r. ⌜ r ≡ min n 255 ⌝ }
+{
     if n < 255 { n as u8 } else { 255 }
 }
 

@@ -41,7 +41,7 @@ use Rattle.output.specs.declared.Output.{Output}
 use Rattle.form.specs.Banks.{tableOf}
 use Rattle.form.specs.Columns.{column-length}
 use Rattle.form.specs.Kind.{kindOf, kind-known, kind-headed, known-longest}
-use Rattle.form.specs.Shape.{formIn, formOf, nodesStart, nodeCount, nodesStartIn, rowsStartIn, limitStartIn, bankCount, rowsStart, rowCount, fieldsBeforeIn, shapeIn}
+use Rattle.form.specs.Shape.{formIn, formOf, nodesStart, nodeCount, rowsStartIn, limitStartIn, bankCount, rowsStart, rowCount, shapeIn}
 use Rattle.form.specs.Told.{FormTold, toldForm, form-told, long, no-head, no-values, no-limit, extra, sound}
 use Rattle.form.specs.Within.{nodes-within, rows-within, banks-within, fields-within}
 use Rattle.form.specs.Words.{byte, word32}

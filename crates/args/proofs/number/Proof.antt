@@ -50,8 +50,10 @@ returns-4 : tie.Need-returns-4 Inv-loop μ-loop
 returns-4 c =
     let t = c .before .before .before .before .before .before .before .args .text .now in
     let l = c .before .before .before .before .before .loop in
+    let digit : 48 ≤ getD t (l .i) 0 = omega (arith, c .before .before .if2 .left) in
+    let low : getD t (l .i) 0 ≤ 57 = omega (arith, c .before .if3 .left) in
     sym
-    (l .inv .0 ∙ digit-on t (l .i) (l .value) (c .before .before .before .before .loop-test .taken) (omega (arith, c .before .before .if2 .left)) (omega (arith, c .before .if3 .left))
+    (l .inv .0 ∙ digit-on t (l .i) (l .value) (c .before .before .before .before .loop-test .taken) digit low
     ∙ past-stays-past (10 * l .value + (getD t (l .i) 0 - 48)) (drop (l .i + 1) t) (c .if4 .taken))
 
 add-i : tie.Need-add-i Inv-loop μ-loop
@@ -64,7 +66,9 @@ loop-again : tie.Need-loop-again Inv-loop μ-loop
 loop-again c =
     let t = c .before .before .before .before .before .before .before .args .text .now in
     let l = c .before .before .before .before .before .loop in
-    (l .inv .0 ∙ digit-on t (l .i) (l .value) (c .before .before .before .before .loop-test .taken) (omega (arith, c .before .before .if2 .left)) (omega (arith, c .before .if3 .left)), omega (arith, c .if4 .left))
+    let digit : 48 ≤ getD t (l .i) 0 = omega (arith, c .before .before .if2 .left) in
+    let low : getD t (l .i) 0 ≤ 57 = omega (arith, c .before .if3 .left) in
+    (l .inv .0 ∙ digit-on t (l .i) (l .value) (c .before .before .before .before .loop-test .taken) digit low, omega (arith, c .if4 .left))
 
 cast-t14 : tie.Need-cast-t14 Inv-loop μ-loop
 cast-t14 c = omega (arith, c .before .loop .inv .1)

@@ -13,7 +13,9 @@ slice-aggregate-put-done-3 : tie.Need-slice-aggregate-put-done-3
 slice-aggregate-put-done-3 c = search needs
 
 put-done-requires : tie.Need-put-done-requires
-put-done-requires c κs = let s = c .before .before .before .before .before .before .before .before in (s .pre .0, (s .pre .1 .0, (search needs, (search needs, (search needs, s .pre .1 .1)))))
+put-done-requires c κs =
+    let s = c .before .before .before .before .before .before .before .before in
+    (s .pre .0, (s .pre .1 .0, (search needs, (search needs, (search needs, s .pre .1 .1)))))
 
 same-length : tie.Need-same-length
 same-length c = search needs

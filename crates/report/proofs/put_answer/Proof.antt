@@ -26,7 +26,8 @@ slice-aggregate-put-accepted-2 c =
 
 put-accepted-requires : tie.Need-put-accepted-requires
 put-accepted-requires c κs =
-    let f = rw (c .before .before .before .before .build2 .given .1) at (c .before .before .before .before .before .before .before .before .before .before .pre) in
+    let d = c .before .before .before .before in
+    let f = rw (d .build2 .given .1) at (d .before .before .before .before .before .before .pre) in
     (f .0, (f .1, f .4))
 
 same-length : tie.Need-same-length

@@ -1,5 +1,8 @@
 -- `put_build` meets its contract: what the contract of the file's build says is what `put_answer` asks and prints.
 use mathlib.Core.Path.{_∙_}
+use Prim.Native.Nat.{ℕ, _<_}
+use lib.ListN.{getD}
+use Rattle.filed.specs.Filed.{FileBuilt}
 use Rattle.output.specs.Output.{Lent, lent}
 use Rattle.report.proofs.Built.{file-text, file-fits}
 use borrow.Author.Needs.{needs}
@@ -18,15 +21,27 @@ new d =
     let after = d .build-file .last in
     lent (after .1 .1 .1 .0) (after .1 .1 .1 .1 .0) (after .1 .1 .1 .1 .1 .0) (after .1 .1 .1 .1 .1 .1 .0)
 
+-- a byte of the file is below 256
+bytes : (d : tie.After-build-file) (i : ℕ) → getD (begin d .args .file .now) i 0 < 256
+bytes d i = d .before .before .before .before .before .before .before .before .before .shared-slice-known .given i .fits
+
+built : (d : tie.After-build-file)
+    → FileBuilt (begin d .args .file .now) (begin d .args .fill) (begin d .args .page) (old (begin d)) (d .build-file .result) (new d)
+built d = d .build-file .ensures
+
 build-file-requires : tie.Need-build-file-requires
 build-file-requires c κs = search needs
 
 put-answer-requires : tie.Need-put-answer-requires
 put-answer-requires c κs =
     let d = c .before .before .before .before .before .before .before .before .before .before .before in
+    let a = begin d .args in
     let p = begin d .pre in
-    file-fits (begin d .args .file .now) (begin d .args .fill) (begin d .args .page) (λ i. d .before .before .before .before .before .before .before .before .before .shared-slice-known .given i .fits) (old (begin d)) (p .0) (p .1 .0) (p .1 .1 .0) (p .1 .1 .1)
-    (d .build-file .result) (new d) (d .build-file .ensures) (c .before .before .before .before .before .before .before .before .before .before .image .given ∙ p .0) (c .before .before .before .before .before .before .before .offsets .given ∙ p .1 .1 .0) (c .before .before .before .before .before .sizes .given ∙ p .1 .1 .1)
+    file-fits (a .file .now) (a .fill) (a .page) (bytes d) (old (begin d)) (p .0) (p .1 .0) (p .1 .1 .0) (p .1 .1 .1)
+    (d .build-file .result) (new d) (built d)
+    (c .before .before .before .before .before .before .before .before .before .before .image .given ∙ p .0)
+    (c .before .before .before .before .before .before .before .offsets .given ∙ p .1 .1 .0)
+    (c .before .before .before .before .before .sizes .given ∙ p .1 .1 .1)
 
 same-length : tie.Need-same-length
 same-length c = search needs
@@ -46,10 +61,11 @@ same-length-5 c = search needs
 returns : tie.Need-returns
 returns c =
     let d = c .before .before .before .before .before .before .before .before .before .before .before .before .before .before in
+    let a = begin d .args in
     let p = begin d .pre in
-    rw (← file-text (begin d .args .file .now) (begin d .args .fill) (begin d .args .page) (λ i. d .before .before .before .before .before .before .before .before .before .shared-slice-known .given i .fits) (old (begin d)) (p .0) (p .1 .0) (p .1 .1 .0) (p .1 .1 .1)
-    (d .build-file .result) (new d) (d .build-file .ensures))
-    (c .before .before .put-answer .ensures)
+    let same = file-text (a .file .now) (a .fill) (a .page) (bytes d) (old (begin d)) (p .0) (p .1 .0) (p .1 .1 .0) (p .1 .1 .1)
+    (d .build-file .result) (new d) (built d) in
+    rw (← same) (c .before .before .put-answer .ensures)
 
 pub put-build-spec : {M : Type 1} → statement M
 put-build-spec =

@@ -10,7 +10,8 @@ use Rattle.report.proofs.put_lines.Tie as tie
 abbrev begin : tie.After-write-hex → tie.Start
 begin d = d .before .before .before .before .before .before .before
 
-digits : (d : tie.After-write-hex) → take (digitCount (begin d .args .bits)) (d .write-hex .last .1 .1 .0) ≡ hexOf (begin d .args .image .now) (begin d .args .bits)
+digits : (d : tie.After-write-hex)
+    → take (digitCount (begin d .args .bits)) (d .write-hex .last .1 .1 .0) ≡ hexOf (begin d .args .image .now) (begin d .args .bits)
 digits d =
     let a = begin d .args in
     let p = begin d .pre in
@@ -26,7 +27,9 @@ slice-reshare-prefix-put-layout : tie.Need-slice-reshare-prefix-put-layout
 slice-reshare-prefix-put-layout c = search needs
 
 slice-aggregate-put-layout : tie.Need-slice-aggregate-put-layout
-slice-aggregate-put-layout c = sym (ap length (digits (c .before .before .before .before)) ∙ length-hexOf (begin (c .before .before .before .before) .args .image .now) (begin (c .before .before .before .before) .args .bits))
+slice-aggregate-put-layout c =
+    let d = c .before .before .before .before in
+    sym (ap length (digits d) ∙ length-hexOf (begin d .args .image .now) (begin d .args .bits))
 
 put-layout-requires : tie.Need-put-layout-requires
 put-layout-requires c κs = search needs

@@ -54,8 +54,9 @@ loop-less c = search needs
 loop-again : tie.Need-loop-again Inv-loop μ-loop
 loop-again c =
     let a = c .before .before .before .before .before .before .before .before .before .before .before .args in
-    let more = blocks-more (a .offsets .now) (a .sizes .now) (c .before .before .before .before .before .before .before .loop .i) (omega arith) (omega arith) in
-    (omega arith, rw more (writes-then (c .before .before .before .before .before .before .before .loop .inv .1) (c .before .before .write-block .ensures)))
+    let l = c .before .before .before .before .before .before .before .loop in
+    let more = blocks-more (a .offsets .now) (a .sizes .now) (l .i) (omega arith) (omega arith) in
+    (omega arith, rw more (writes-then (l .inv .1) (c .before .before .write-block .ensures)))
 
 same-length : tie.Need-same-length Inv-loop μ-loop
 same-length c = writes-long (c .before .loop .inv .1)
