@@ -82,7 +82,7 @@ four-or-none (no-limit h a b c) e = omega arith
 four-or-none (extra h a b c d) e = omega arith
 four-or-none (sound h a b c d) e = omega arith
 
-module _ {from to : Kind} (known : Known to) (turn : Contents → Contents) (drops : Contents → Bool) (file : List ℕ) (room : ℕ)
+module _ (from : Kind) {to : Kind} (known : Known to) (turn : Contents → Contents) (drops : Contents → Bool) (file : List ℕ) (room : ℕ)
     (enough : longestFile ≤ room) where
   abbrev said : Contents
   said = contentsIn from file
@@ -101,4 +101,4 @@ module _ {from to : Kind} (known : Known to) (turn : Contents → Contents) (dro
 pub conversion-held : {from to : Kind} {turn : Contents → Contents} {drops : Contents → Bool} {file old : List ℕ} {answer : Conversion} {new : List ℕ}
     → Known to → longestFile ≤ length old → Converts from to turn drops file old answer new → Held (length old) answer
 conversion-held {from} {to} {turn} {drops} {file} {old} known enough p =
-    subst (Held (length old)) (sym (p .is)) (by-form {from} known turn drops file (length old) enough (formIn from file) refl)
+    subst (Held (length old)) (sym (p .is)) (by-form from known turn drops file (length old) enough (formIn from file) refl)

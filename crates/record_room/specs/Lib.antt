@@ -1,2 +1,3 @@
+pub mod Calls
 pub mod Pieces
 pub mod Room

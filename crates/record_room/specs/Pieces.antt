@@ -29,10 +29,10 @@ sum-up : (t n rest all c p q r : ℕ) → t ≡ n → rest + n ≡ all → 240 +
 sum-up t n rest all c p q r e f g h = omega arith
 
 -- one block of n bytes at a, and the blocks behind it
-join : (whole first rest n k a p q r top blocks : ℕ) → whole ≡ first + rest → p ≤ q → k ≤ a → 16 * first + 240 * q ≤ 47 * n + 225 + 240 * r
-    → 16 * rest + 240 * r + 47 * (a + n) ≤ top + 225 * blocks
-    → 16 * whole + 240 * p + 47 * k ≤ top + 225 * suc blocks
-join whole first rest n k a p q r top blocks e f g h i = omega arith
+join : (whole first rest n k a p q r m t blocks : ℕ) → whole ≡ first + rest → p ≤ q → k ≤ a → 16 * first + 240 * q ≤ 47 * n + 225 + 240 * r
+    → 16 * rest + 240 * r + 47 * (a + n) ≤ m + 225 * blocks + t
+    → 16 * whole + 240 * p + 47 * k ≤ m + 225 * suc blocks + t
+join whole first rest n k a p q r m t blocks e f g h i = omega arith
 
 unfoldable pub cost : List Piece → ℕ
 cost [] = 0
@@ -78,8 +78,9 @@ cut-cost (suc turns) a (b ∷ l) h =
           sum-up (length (take n (b ∷ l))) n (length rest) (length (b ∷ l)) (cost (cutIn turns (a + n) rest)) (a / 65536) ((a + n) / 65536)
           ((a + length (b ∷ l)) / 65536) long (omega arith) (full-or-line a n (length (b ∷ l)) refl more) same
       | no last ↦
+          let past : length (b ∷ l) ≤ n = omega arith in
           let none : cost (cutIn turns (a + n) rest) ≡ 0 =
-          ap (λ (r : List ℕ). cost (cutIn turns (a + n) r)) (drop-of-length-le (b ∷ l) (omega arith)) ∙ none-left turns (a + n) in
+          ap (λ (r : List ℕ). cost (cutIn turns (a + n) r)) (drop-of-length-le (b ∷ l) past) ∙ none-left turns (a + n) in
           let low : a / 65536 ≤ (a + length (b ∷ l)) / 65536 = omega arith in
           let all : length (take n (b ∷ l)) ≡ length (b ∷ l) = omega arith in
           omega (arith, none, low, all)
@@ -113,11 +114,12 @@ module _ (load : ℕ) (image : List ℕ) where
       let low-start : load + k ≤ a = omega arith in
       let end : load + (b .origin / 8 + b .size / 8) ≡ a + length x = omega arith in
       let rest = blocks-cost l (b .origin / 8 + b .size / 8) parts places behind (omega arith) in
-      let then = subst (λ (m : ℕ). 16 * cost (piecesOf load image l) + 240 * (m / 65536) + 47 * m ≤ 47 * top + 225 * length l + 240 * (top / 65536)) end rest in
+      let then = subst (λ (m : ℕ). 16 * cost (piecesOf load image l) + 240 * (m / 65536) + 47 * m ≤ 47 * top + 225 * length l + 240 * (top / 65536))
+      end rest in
       let below : (load + k) / 65536 ≤ a / 65536 = div-up (load + k) a low-start in
       join (cost (cut a x ++ piecesOf load image l)) (cost (cut a x)) (cost (piecesOf load image l)) (length x) (load + k) a ((load + k) / 65536) (a / 65536)
-      ((a + length x) / 65536) (47 * top + 240 * (top / 65536)) (length l) (cost-append (cut a x) (piecesOf load image l)) below low-start
-      (cut-cost (length x) a x (omega arith)) (omega (arith, then))
+      ((a + length x) / 65536) (47 * top) (240 * (top / 65536)) (length l) (cost-append (cut a x) (piecesOf load image l)) below low-start
+      (cut-cost (length x) a x (omega arith)) then
 
   pub pieces-cost : (blocks : List Block) → allParts (length image) blocks ≡ true → allPlaced load blocks ≡ true
       → 16 * cost (piecesOf load image blocks) + 240 * (load / 65536) ≤ 47 * length image + 225 * length blocks + 240 * ((load + length image) / 65536)

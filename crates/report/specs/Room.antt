@@ -21,6 +21,7 @@ use Rattle.refusal.specs.declared.Refusal.{Refusal}
 use Rattle.refusal.specs.declared.Refusal.the-variants.{Malformed, TooShort as ShortOf}
 use Rattle.refusal.specs.declared.Verdict.{Verdict}
 use Rattle.refusal.specs.declared.Verdict.the-variants.{Accepted, Refused as TurnedAway}
+use Rattle.bitvec.specs.Bits.{Bytes}
 use Rattle.bitvec.specs.HexDigits.{hexOf, length-hexOf}
 use Rattle.blocks.specs.Acceptable.{acceptable-parts}
 use Rattle.blocks.specs.Count.{blocks-few}
@@ -71,9 +72,6 @@ reportRoom = 163840
 -- "Form 2 may have 65,536 bytes": the longest file, and a byte more.
 abbrev pub fileRoom : ℕ
 fileRoom = 65537
-
-abbrev pub Bytes : List ℕ → Type 0
-Bytes file = (i : ℕ) → getD file i 0 < 256
 
 -- ---- the text of an accepted build
 

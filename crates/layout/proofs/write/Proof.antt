@@ -1,13 +1,13 @@
 -- `write` meets its contract: there is room for every report, so that the text is never too short, and what is handed on is the report.
 use mathlib.Core.Path.{_≡_, sym, ap, _∙_}
 use mathlib.Core.List.{_++_}
-use Prim.Native.Nat.{ℕ, _≤_}
+use Prim.Native.Nat.{ℕ, _≤_, _<_}
 use native.Mathlib.Omega.{arith}
-use lib.ListN.{length, take, drop}
-use lib.Seq.{length-take-le, take-at}
+use lib.ListN.{length, getD, take, drop}
+use lib.Seq.{take-at}
 use Rattle.text.specs.declared.Written.the-variants.{To, TooShort}
 use Rattle.report.specs.Report.{reportText}
-use Rattle.report.specs.Room.{Bytes, every-report-fits, report-answers-length, report-stands-first}
+use Rattle.report.specs.Room.{every-report-fits, report-answers-length, report-stands-first}
 use borrow.Author.Needs.{needs}
 use Rattle.layout.proofs.write.Statement.{statement}
 use Rattle.layout.proofs.write.Tie as tie
@@ -18,8 +18,8 @@ begin d = d .before .before .before .before
 abbrev reported : tie.After-slice-known2 → tie.After-report
 reported k = k .before .before
 
-bytes : (d : tie.After-report) → Bytes (begin d .args .file .now)
-bytes d = λ i. d .before .before .before .shared-slice-known .given i .fits
+bytes : (d : tie.After-report) (i : ℕ) → getD (begin d .args .file .now) i 0 < 256
+bytes d i = d .before .before .before .shared-slice-known .given i .fits
 
 whole : (d : tie.After-report) → d .report .result ≡ To (length (reportText (begin d .args .file .now) (begin d .args .fill) (begin d .args .page)))
 whole d =
@@ -60,14 +60,8 @@ same-length c = search needs
 returns : tie.Need-returns
 returns c = absurd (never-short (sym (whole (reported (c .before .before))) ∙ c .enum-told .given .1))
 
-slice-reshare-prefix-write-all : tie.Need-slice-reshare-prefix-write-all
-slice-reshare-prefix-write-all c = inside (c .before)
-
-slice-aggregate-write-all : tie.Need-slice-aggregate-write-all
-slice-aggregate-write-all c = sym (length-take-le _ _ (inside (c .before .before)))
-
-write-all-requires : tie.Need-write-all-requires
-write-all-requires c κs = search needs
+print-requires : tie.Need-print-requires
+print-requires c κs = search needs
 
 same-length-2 : tie.Need-same-length-2
 same-length-2 c = search needs
@@ -77,25 +71,14 @@ returns-2 c =
     let e = c .before .before .before in
     let a = begin (came e) .args in
     let text = reportText (a .file .now) (a .fill) (a .page) in
+    let printed : c .print .result ≡ length text = omega (arith, c .print .ensures, ended e, inside e) in
     record {
-      counted = ended e;
+      counted = printed;
       front =
-          ap (take (e .end .given .0 .0))
+          ap (take (c .print .result))
           (report-stands-first (a .file .now) (a .fill) (a .page) (bytes (came e)) (begin (came e) .pre) (came e .report .ensures))
-          ∙ take-at text (drop (length text) (a .text .now)) (e .end .given .0 .0) (sym (ended e));
+          ∙ take-at text (drop (length text) (a .text .now)) (c .print .result) (sym printed);
     }
 
 pub write-spec : {M : Type 1} → statement M
-write-spec =
-    tie.close
-    (tie.spec
-    report-requires
-    enum-known-end
-    enum-told
-    same-length
-    returns
-    slice-reshare-prefix-write-all
-    slice-aggregate-write-all
-    write-all-requires
-    same-length-2
-    returns-2)
+write-spec = tie.close (tie.spec report-requires enum-known-end enum-told same-length returns print-requires same-length-2 returns-2)
