@@ -1,78 +1,137 @@
 #!/usr/bin/env python3
-"""The library beside the Rust, both as sides of the comparison, on four layouts.
+"""The library beside the Rust: instructions on both sides, counted in one run, and the processor time.
 
-    benchmark.py --ours "COMMAND" --rust "COMMAND" [--copies N] [--turns N]
+    bindings/build.sh
+    oracle/build.sh --edit bindings/long.edit --flags "-C opt-level=3" build/fast
+    python3 bindings/benchmark.py [--ours FOLDER] [--rust FOLDER] [--rehex PROGRAM] [--only TABLE ..] [--turns N] [--write DOCUMENT]
 
-A layout's cost is the processor time of a run on N copies of its file less that of a run on one, over N - 1; the least of several turns, in
-which the two sides alternate. Both commands are to be x86-64 code that is run the same way. docs/BENCHMARK.md says how."""
+FOLDERs are where the two builds put their programs. Prints the tables machine, layouts, series, calls, programs and stack; with --write they take the
+place of those in the document. Ends with 1 where two sides give different answers, where an exported call has no row, or where a stack figure of
+include/denkumari.h is not the measured one."""
 
 import argparse
-import resource
-import shlex
+import re
 import subprocess
 import sys
 from pathlib import Path
 
-sys.path.insert(0, str(Path(__file__).resolve().parent.parent / "oracle"))
-
-from form1 import DATA, INSTRUCTION, LABEL, RESERVE, SWITCH, Bank, Layout, encode
+from benchmark_calls import call_rows
+from benchmark_count import Differ, each, instructions, times, wanted
+from benchmark_layouts import LAYOUTS, SERIES, encode
+from benchmark_stack import stack_rows
 from generate import batched
+from programs_time import program_rows
+
+LONGEST = 65_000
 
 
-def layout(nodes, rows, values, limit):
-    """Nodes are (kind, operand), all behind a switch to a bank at offset 0."""
-    return Layout([Bank(), Bank(offset=0)], [(SWITCH, 1)] + nodes, [[(0, 0)] + row for row in rows], values, limit)
+def big(number):
+    return f"{number:,.0f}"
 
 
-def wide():
-    return layout([(LABEL, 1)] * 4095, [[(0, 0)] * 4095], b"", 10)
+def ratio(ours, theirs):
+    return f"{ours / theirs:.3f}" if ours < theirs / 50 else f"{ours / theirs:.2f}"
 
 
-def deep():
-    """Sixteen rows, each unresolved but for the last: sixteen passes over 160 nodes."""
-    nodes = [(LABEL, 1), (INSTRUCTION, 0)] * 80
-    rows = [[(0, 0), (8 * (1 + n % 4), 2 if n < 15 else 0)] * 80 for n in range(16)]
-    return layout(nodes, rows, b"\xa5" * 4, 16)
+class Sides:
+    """The programs that lay files out: ours, the Rust run once, and the judge as it runs in the comparison, where it resolves each file twice."""
+
+    def __init__(self, ours, rust):
+        self.batch, self.judge = [str(ours / "batch")], [str(rust / "judge")]
+
+    def commands(self, file):
+        tables = ["--tables", "--long"] if len(file) > LONGEST else []
+        return self.batch + tables, self.judge + ["--raw"], self.judge
+
+    def measured(self, name, layout, how_many=3):
+        """Instructions for one file, from its bytes to the printed line, by the first so many of the three; they must have printed the same."""
+        file = encode(layout)
+        found = [each(lambda n, c=command: (c, batched([file] * n))) for command in self.commands(file)[:how_many]]
+        lines = {said for _, said in found}
+        if len(lines) > 1:
+            raise Differ(f"{name}: the sides print different lines: {[line[:60] for line in lines]}")
+        return [cost for cost, _ in found], lines.pop().decode()
+
+    def timed(self, layout, costs, turns):
+        file = encode(layout)
+        return times([lambda n, c=command: (c, batched([file] * n)) for command in self.commands(file)], costs, turns)
 
 
-def large():
-    return layout([(LABEL, 1), (DATA, 3)], [[(0, 0), (131_000, 0)]], bytes(i % 251 for i in range(16_384)), 10)
+def layout_rows(sides, turns):
+    yield "| layout | here | the Rust | ratio | the judge | ratio | here, µs | the Rust, µs | ratio | both print |"
+    yield "|---|---|---|---|---|---|---|---|---|---|"
+    for name, (_, make) in LAYOUTS.items():
+        layout = make()
+        (ours, rust, judge), line = sides.measured(name, layout)
+        here, there, _ = sides.timed(layout, (ours, rust, judge), turns)
+        said = f"`{' '.join(line.split()[:4])} ..`, {len(line):,} bytes"
+        yield (f"| {name} | {big(ours)} | {big(rust)} | {ratio(ours, rust)} | {big(judge)} | {ratio(ours, judge)} "
+               f"| {here:,.0f} | {there:,.0f} | {ratio(here, there)} | {said} |")
 
 
-def offers():
-    """512 placements side by side: the store is filled."""
-    return layout([(INSTRUCTION, 0), (RESERVE, 0)] * 256, [[(3, 0), (5, 0)] * 256], b"\xff", 10)
+def series_rows(sides):
+    yield "| series | | here | times the row before | the Rust | times the row before | ratio |"
+    yield "|---|---|---|---|---|---|---|"
+    for name, (_, cases) in SERIES.items():
+        before = None
+        for label, layout in cases:
+            costs, _ = sides.measured(f"{name} {label}", layout, 2)
+            grown = [f"{cost / last:.2f}" for cost, last in zip(costs, before)] if before else ["", ""]
+            yield f"| {name} | {label} | {big(costs[0])} | {grown[0]} | {big(costs[1])} | {grown[1]} | {ratio(*costs)} |"
+            before = costs
 
 
-def cost(command, file, copies):
-    before = resource.getrusage(resource.RUSAGE_CHILDREN)
-    done = subprocess.run(shlex.split(command), input=batched([file] * copies), stdout=subprocess.PIPE, check=True)
-    after = resource.getrusage(resource.RUSAGE_CHILDREN)
-    return after.ru_utime - before.ru_utime, done.stdout.splitlines()[0]
+def first_line(*command):
+    try:
+        return subprocess.run(command, stdout=subprocess.PIPE, stderr=subprocess.STDOUT).stdout.decode().splitlines()[0]
+    except (OSError, IndexError):
+        return "not installed"
+
+
+def machine_rows():
+    model = re.search(r"model name\s*: (.*)", Path("/proc/cpuinfo").read_text())
+    yield "| what | which |\n|---|---|"
+    yield f"| processor | {model[1] if model else 'unknown'}, {first_line('uname', '-sm')} |"
+    yield f"| the library | {first_line('rt', '--version')} |"
+    for name, command in (("C", "cc"), ("the Rust", "rustc"), ("instructions", "valgrind"), ("objcopy", "objcopy"), ("srec_cat", "srec_cat")):
+        yield f"| {name} | {first_line(command, '--version')} |"
+
+
+def write_into(document, name, rows):
+    """The table behind `<!-- NAME -->` gives way to these rows."""
+    text = Path(document).read_text()
+    place = re.compile(rf"(<!-- {name} -->\n)(\|.*\n)*")
+    if not place.search(text):
+        raise SystemExit(f"{document}: no place for the table {name}")
+    Path(document).write_text(place.sub(lambda found: found[1] + "".join(row + "\n" for row in rows), text))
 
 
 def main():
     parser = argparse.ArgumentParser(description=__doc__, formatter_class=argparse.RawDescriptionHelpFormatter)
-    parser.add_argument("--ours", required=True)
-    parser.add_argument("--rust", required=True)
-    parser.add_argument("--copies", type=int, default=40)
-    parser.add_argument("--turns", type=int, default=3)
+    parser.add_argument("--ours", type=Path, default=Path("build/bindings"))
+    parser.add_argument("--rust", type=Path, default=Path("build/fast"))
+    parser.add_argument("--rehex", default="target/bin/rehex")
+    parser.add_argument("--only", nargs="+", metavar="TABLE")
+    parser.add_argument("--turns", type=int, default=5)
+    parser.add_argument("--write")
     asked = parser.parse_args()
-    print("| layout | here, ms | the Rust, ms | ratio |\n|---|---|---|---|")
-    for make in (wide, deep, large, offers):
-        file, least, said = encode(make()), {}, set()
-        for _ in range(asked.turns):
-            for side in (asked.ours, asked.rust):
-                one, _ = cost(side, file, 1)
-                many, line = cost(side, file, asked.copies)
-                said.add(line)
-                spent = (many - one) / (asked.copies - 1) * 1000
-                least[side] = min(spent, least.get(side, spent))
-        if len(said) > 1 or not next(iter(said)).startswith(b"ok"):
-            raise SystemExit(f"{make.__name__}: the two sides differ, or the layout is refused: {[line[:80] for line in said]}")
-        ours, rust = least[asked.ours], least[asked.rust]
-        print(f"| {make.__name__} | {ours:.2f} | {rust:.2f} | {ours / rust:.2f} |", flush=True)
+    wanted()
+    sides = Sides(asked.ours, asked.rust)
+    tables = {"machine": machine_rows, "layouts": lambda: layout_rows(sides, asked.turns), "series": lambda: series_rows(sides),
+              "calls": lambda: call_rows(asked.ours, asked.rust, asked.turns), "programs": lambda: program_rows([asked.rehex], asked.turns),
+              "stack": lambda: stack_rows(asked.ours)}
+    for name in asked.only or tables:
+        rows = []
+        print(f"\n<!-- {name} -->")
+        for row in tables[name]():
+            rows.append(row)
+            print(row, flush=True)
+        if asked.write:
+            write_into(asked.write, name, rows)
 
 
 if __name__ == "__main__":
-    main()
+    try:
+        main()
+    except Differ as differ:
+        sys.exit(f"benchmark.py: {differ}")

@@ -1,6 +1,6 @@
 #!/bin/sh
 # Builds the proved archive and the programs over it: target/staticlib/libdenkumari.a, and in build/bindings the C programs batch, test, store, overlays,
-# records, stack, blocks_time, fill_time and records_time, and, where a Rust compiler has the x86-64 target, the Rust ones batch_rust, worked_rust, calls_rust, store_rust and
+# records, stack and calls_time, and, where a Rust compiler has the x86-64 target, the Rust ones batch_rust, worked_rust, calls_rust, store_rust and
 # overlays_rust. Says what it skipped.
 #
 # Not on x86-64, CC names a C compiler for it (default x86_64-linux-gnu-gcc; Debian: gcc-x86-64-linux-gnu libc6-dev-amd64-cross). RUSTC names the
@@ -23,7 +23,7 @@ if ! command -v "$cc" >/dev/null; then
     echo "skipped: the C and Rust programs, for want of a C compiler for x86-64 ($cc)"
     exit 0
 fi
-for program in batch test store overlays stack records records_time blocks_time fill_time; do
+for program in batch test store overlays stack records calls_time; do
     "$cc" -std=c11 -O2 -Wall -Wextra -Werror -static -pthread -o "$out/$program" "bindings/c/$program.c" "$archive"
 done
 echo "built: libdenkumari.a and the C programs"

@@ -11,8 +11,8 @@
  * call leaves every buffer as it was, and every other field of its answer is 0, except `passes`. An accepted call leaves the lists that
  * it wrote as they were past what it wrote; the rest of the image is made zero, or takes the fill bits of filled banks.
  *
- * Stack. What a call needs, all its frames included, is said of each, with what was measured on the longest lists. bindings/c/stack.c measures it by
- * painting a thread's stack, and the tests fail where a call needs more. */
+ * Stack. What a call needs, all its frames included, is said of each, with what was measured on the longest lists, rounded up. bindings/c/stack.c measures
+ * it by painting a thread's stack, and the tests fail where a call needs more; docs/BENCHMARK.md has the bytes. */
 #ifndef DENKUMARI_H
 #define DENKUMARI_H
 
@@ -206,7 +206,7 @@ struct dk_profile dk_profile(uint32_t page,
                              uint8_t fill);
 
 /* dk_build and dk_form in the profile of a device with pages of `page` bits: what dk_profile refuses is refused so, with no pass run; everything else is as
- * without a profile. They need less than 28 KiB and 136 KiB of stack (24.6 and 129.6 KiB). */
+ * without a profile. They need less than 28 KiB and 136 KiB of stack (24.7 and 129.6 KiB). */
 struct dk_layout dk_build_paged(uint32_t page,
                                 const uint16_t *units, size_t units_len,
                                 const int64_t *starts, size_t starts_len,

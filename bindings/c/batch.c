@@ -2,7 +2,7 @@
  * length, big-endian, and writes a line for each (oracle/README.md, "The lines"). It lends what the program `layout` lends.
  *
  *     batch             lays each file out with dk_form
- *     batch --tables    takes sound files apart itself and calls dk_build; broken ones still go to dk_form
+ *     batch --tables    takes sound files apart itself and calls dk_build; broken ones still go to dk_form. With --long, files past their form's length too
  *     batch --to N      converts each file to form N, 1 or 2, into --room BYTES, and writes `ok` and the result in hex, or the refusal (oracle/convert.py)
  *     batch --spans     reads lists of spans instead, a line each, OFFSET:SIZE,.. with - for no offset, and writes their blocks
  *
@@ -14,135 +14,107 @@
 #include <string.h>
 
 #include "../../include/denkumari.h"
+#include "tables.h"
 
 enum { IMAGE = 16384, SPANS = 4096, FILE_MOST = 1 << 20 };
 
 static uint8_t file[FILE_MOST];
-static uint8_t image[IMAGE], hex[2 * IMAGE];
+static uint8_t image[IMAGE];
 static int64_t addresses[SPANS];
 static uint64_t offsets[SPANS], sizes[SPANS], starts[SPANS], lengths[SPANS];
 
-static void print_refusal(struct dk_layout r)
+/* The line under way: every span and block with its longest numbers, and the image, have room. */
+static char line[1 << 19];
+static size_t written;
+
+static void put(const char *text)
 {
-    printf("refused %" PRIu64 " %" PRIu64, r.refusal, r.place);
-    if (r.refusal == DK_BANKS_OVERLAP || r.refusal == DK_OVERLAP || r.refusal == DK_OFF_PROFILE)
-        printf(" %" PRIu64, r.second);
-    if (r.refusal > DK_MALFORMED && r.refusal != DK_OFF_PROFILE)
-        printf(" passes %" PRIu64, r.passes);
-    putchar('\n');
+    while (*text)
+        line[written++] = *text++;
 }
 
-static void print_spans(uint64_t count)
+static void put_number(uint64_t n)
 {
-    fputs(count == 0 ? "-" : "", stdout);
+    char digits[20];
+    size_t at = sizeof digits;
+    do
+        digits[--at] = (char)('0' + n % 10);
+    while (n /= 10);
+    while (at < sizeof digits)
+        line[written++] = digits[at++];
+}
+
+/* A number behind some text. */
+static void put_with(const char *text, uint64_t n)
+{
+    put(text);
+    put_number(n);
+}
+
+static void end_line(void)
+{
+    put("\n");
+    fwrite(line, 1, written, stdout);
+    written = 0;
+}
+
+static void put_refusal(struct dk_layout r)
+{
+    put_with("refused ", r.refusal);
+    put_with(" ", r.place);
+    if (r.refusal == DK_BANKS_OVERLAP || r.refusal == DK_OVERLAP || r.refusal == DK_OFF_PROFILE)
+        put_with(" ", r.second);
+    if (r.refusal > DK_MALFORMED && r.refusal != DK_OFF_PROFILE)
+        put_with(" passes ", r.passes);
+}
+
+static void put_spans(uint64_t count)
+{
+    put(count == 0 ? "-" : "");
     for (uint64_t i = 0; i < count; i++) {
-        printf("%s%" PRId64 ":", i ? "," : "", addresses[i]);
+        put(i ? "," : "");
+        put_with(addresses[i] < 0 ? "-" : "", addresses[i] < 0 ? -(uint64_t)addresses[i] : (uint64_t)addresses[i]);
         if (offsets[i] == DK_NO_OFFSET)
-            putchar('-');
+            put(":-");
         else
-            printf("%" PRIu64, offsets[i]);
-        printf(":%" PRIu64, sizes[i]);
+            put_with(":", offsets[i]);
+        put_with(":", sizes[i]);
     }
 }
 
-static void print_blocks(uint64_t spans)
+static void put_blocks(uint64_t spans)
 {
     struct dk_count r = dk_blocks(offsets, spans, sizes, spans, starts, SPANS, lengths, SPANS);
     if (r.refusal != DK_ACCEPTED) {
-        printf("blocks refused %" PRIu64 " %" PRIu64, r.refusal, r.place);
+        put_with("blocks refused ", r.refusal);
+        put_with(" ", r.place);
         return;
     }
-    fputs(r.count == 0 ? "-" : "", stdout);
-    for (uint64_t i = 0; i < r.count; i++)
-        printf("%s%" PRIu64 ":%" PRIu64, i ? "," : "", starts[i], lengths[i]);
+    put(r.count == 0 ? "-" : "");
+    for (uint64_t i = 0; i < r.count; i++) {
+        put_with(i ? "," : "", starts[i]);
+        put_with(":", lengths[i]);
+    }
 }
 
-static void print_image(uint64_t bits)
+/* The digits go to the line itself. */
+static void put_image(uint64_t bits)
 {
-    struct dk_count r = dk_hex(image, IMAGE, bits, hex, sizeof hex);
-    if (r.refusal != DK_ACCEPTED)
-        printf("hex refused %" PRIu64 " %" PRIu64, r.refusal, r.place);
-    else if (r.count == 0)
-        putchar('-');
+    struct dk_count r = dk_hex(image, IMAGE, bits, (uint8_t *)line + written, 2 * IMAGE);
+    if (r.refusal != DK_ACCEPTED) {
+        put_with("hex refused ", r.refusal);
+        put_with(" ", r.place);
+    } else if (r.count == 0)
+        put("-");
     else
-        fwrite(hex, 1, r.count, stdout);
+        written += r.count;
 }
 
 /* What the caller chooses. */
 static uint8_t fill;
 static uint32_t page;
-static int paged, padded;
+static int paged, padded, longer;
 
-/* The tables of a file. */
-enum { BANKS = 2600, NODES = 8192, CELLS = 13107 };
-
-static uint16_t units[BANKS];
-static int64_t bank_starts[BANKS];
-static uint32_t bank_sizes[BANKS], bank_offsets[BANKS], aligns[BANKS];
-static uint8_t flags[BANKS], fill_bits[BANKS], kinds[NODES], states[CELLS];
-static uint32_t operands[NODES], numbers[CELLS];
-static size_t banks, nodes, rows, values_at, values_size;
-static uint8_t form;
-
-static uint64_t big(const uint8_t *from, int bytes)
-{
-    uint64_t n = 0;
-    for (int i = 0; i < bytes; i++)
-        n = n << 8 | from[i];
-    return n;
-}
-
-/* Whether a field with this tag and this length of payload is next. */
-static int is_next(size_t size, size_t at, int tag, size_t length)
-{
-    return at + 3 + length <= size && file[at] == tag && big(file + at + 1, 2) == length;
-}
-
-/* Takes a sound file apart; 0 where it is not sound. */
-static int take_apart(size_t size)
-{
-    size_t at = 0;
-    banks = nodes = rows = 0;
-    form = size > 0 && file[0] == 16 ? 2 : 1;
-    if (size > (form == 2 ? 65536 : 65000))
-        return 0;
-    if (form == 2) {
-        if (!is_next(size, 0, 16, 1) || file[3] != 2)
-            return 0;
-        at = 4;
-    }
-    size_t length = form == 2 ? 24 : 23;
-    for (; is_next(size, at, form == 2 ? 17 : 1, length) && file[at + 25] <= 15 && (form == 1 || file[at + 26] <= 1); at += 3 + length, banks++) {
-        const uint8_t *p = file + at + 3;
-        units[banks] = (uint16_t)big(p, 2);
-        bank_starts[banks] = (int64_t)big(p + 2, 8);
-        bank_sizes[banks] = (uint32_t)big(p + 10, 4);
-        bank_offsets[banks] = (uint32_t)big(p + 14, 4);
-        aligns[banks] = (uint32_t)big(p + 18, 4);
-        flags[banks] = p[22];
-        fill_bits[banks] = form == 2 ? p[23] : 0;
-    }
-    for (; is_next(size, at, 2, 5); at += 8, nodes++) {
-        kinds[nodes] = file[at + 3];
-        operands[nodes] = (uint32_t)big(file + at + 4, 4);
-    }
-    for (; is_next(size, at, 3, 5 * nodes); at += 3 + 5 * nodes, rows++) {
-        for (size_t i = 0; i < nodes; i++) {
-            numbers[rows * nodes + i] = (uint32_t)big(file + at + 3 + 5 * i, 4);
-            states[rows * nodes + i] = file[at + 7 + 5 * i];
-        }
-    }
-    length = at + 3 <= size ? (size_t)big(file + at + 1, 2) : 0;
-    if (!is_next(size, at, 4, length) || !is_next(size, at + 3 + length, 5, 1) || at + length + 7 != size)
-        return 0;
-    values_at = at + 3;
-    values_size = length;
-    return 1;
-}
-
-/* The tables of the file, with what follows them in a call. */
-#define TABLES units, banks, bank_starts, banks, bank_sizes, banks, bank_offsets, banks, aligns, banks, flags, banks, fill_bits, banks, \
-               kinds, nodes, operands, nodes, numbers, rows * nodes, states, rows * nodes, rows, file + values_at, values_size
 #define OUTPUT image, IMAGE, addresses, SPANS, offsets, SPANS, sizes, SPANS
 
 static struct dk_layout from_tables(size_t size)
@@ -157,37 +129,43 @@ static struct dk_layout from_file(size_t size)
 }
 
 /* A number for each bank of the file, - for none. */
-static void print_each(const char *name, const uint64_t *each)
+static void put_each(const char *name, const uint64_t *each)
 {
-    printf(" | %s ", name);
+    put(" | ");
+    put(name);
     for (size_t i = 0; i < banks; i++) {
+        put(i ? "," : " ");
         if (each[i] == DK_NO_PAGES)
-            printf("%s-", i ? "," : "");
+            put("-");
         else
-            printf("%s%" PRIu64, i ? "," : "", each[i]);
+            put_number(each[i]);
     }
 }
 
 static void lay_out(size_t size, int tables)
 {
-    int sound = take_apart(size);
+    int sound = (tables || padded) && take_apart(file, size, longer);
     struct dk_layout r = tables && sound ? from_tables(size) : from_file(size);
     if (r.refusal != DK_ACCEPTED) {
-        print_refusal(r);
+        put_refusal(r);
+        end_line();
         return;
     }
-    printf("ok %" PRIu64 " %" PRIu64 " %" PRIu64 " ", r.k, r.passes, r.length);
-    print_image(r.length);
-    fputs(" | spans ", stdout);
-    print_spans(r.spans);
-    fputs(" | blocks ", stdout);
-    print_blocks(r.spans);
+    put_with("ok ", r.k);
+    put_with(" ", r.passes);
+    put_with(" ", r.length);
+    put(" ");
+    put_image(r.length);
+    put(" | spans ");
+    put_spans(r.spans);
+    put(" | blocks ");
+    put_blocks(r.spans);
     if (padded) {
-        print_each("padding", r.padding);
+        put_each("padding", r.padding);
         if (paged)
-            print_each("pages", dk_profile(page, TABLES, fill).pages);
+            put_each("pages", dk_profile(page, TABLES, fill).pages);
     }
-    putchar('\n');
+    end_line();
 }
 
 /* The file in the other form, into so many bytes. */
@@ -206,17 +184,17 @@ static void convert(size_t size, int to, size_t room)
 
 static int print_span_lists(void)
 {
-    static char line[1 << 16];
-    while (fgets(line, sizeof line, stdin)) {
+    static char list[1 << 16];
+    while (fgets(list, sizeof list, stdin)) {
         uint64_t n = 0;
-        for (char *at = line; *at != '\n' && *at && n < SPANS; n++) {
+        for (char *at = list; *at != '\n' && *at && n < SPANS; n++) {
             offsets[n] = *at == '-' ? DK_NO_OFFSET : strtoull(at, NULL, 10);
             at = strchr(at, ':') + 1;
             sizes[n] = strtoull(at, &at, 10);
             at += *at == ',';
         }
-        print_blocks(n);
-        putchar('\n');
+        put_blocks(n);
+        end_line();
     }
     return 0;
 }
@@ -230,6 +208,7 @@ int main(int argc, char **argv)
             return print_span_lists();
         tables |= strcmp(argv[i], "--tables") == 0;
         padded |= strcmp(argv[i], "--padding") == 0;
+        longer |= strcmp(argv[i], "--long") == 0;
         if (i + 1 < argc && strcmp(argv[i], "--fill") == 0)
             fill = (uint8_t)strtoul(argv[++i], NULL, 10);
         else if (i + 1 < argc && strcmp(argv[i], "--to") == 0)

@@ -1,11 +1,9 @@
 /* The bench's two functions. Without an argument: fixed cases, refusals, and lists that have to be left alone; prints what is wrong, and
- * last how many tests there were. With --batch: the cases of oracle/bench.py on standard input; a line for each. With --time: processor time
- * of the list beside that of a memcmp of both images, for three overlays. */
+ * last how many tests there were. With --batch: the cases of oracle/bench.py on standard input; a line for each. */
 #include <inttypes.h>
 #include <stdio.h>
 #include <stdlib.h>
 #include <string.h>
-#include <time.h>
 
 #include "../../include/denkumari.h"
 
@@ -87,55 +85,10 @@ static void batch(void)
     }
 }
 
-/* Overlays on images of 1 MiB in which every `every`th byte differs, with 256 blocks of `covered` bytes each. Beside a memcmp of two images of
- * that length which are equal, so that it goes over all of both. */
-enum { BYTES = 1 << 20, BLOCKS = 256, TURNS = 40, COMPARISONS = 16 };
-
-static double seconds(clock_t from)
-{
-    return (double)(clock() - from) / CLOCKS_PER_SEC;
-}
-
-static void timed(const char *name, uint64_t every, uint64_t covered)
-{
-    static uint8_t trial[BYTES], issued[BYTES], copy[BYTES];
-    static uint64_t at[BLOCKS], bits[BLOCKS], firsts[BYTES], counts[BYTES];
-    double ours = 1e9, theirs = 1e9;
-    uint64_t found = 0;
-    volatile int differs = 0;
-    for (uint64_t i = 0; i < BYTES; i++) {
-        issued[i] = copy[i] = (uint8_t)(i % 251);
-        trial[i] = (uint8_t)(issued[i] ^ ((i + 1) % every == 0));
-    }
-    for (uint64_t i = 0; i < BLOCKS; i++) {
-        at[i] = i * (BYTES / BLOCKS) * 8;
-        bits[i] = covered * 8;
-    }
-    for (int turn = 0; turn < TURNS; turn++) {
-        clock_t from = clock();
-        found = dk_overlay_runs(trial, BYTES, issued, BYTES, at, BLOCKS, bits, BLOCKS, firsts, BYTES, counts, BYTES).count;
-        double spent = seconds(from);
-        ours = spent < ours ? spent : ours;
-        from = clock();
-        for (int i = 0; i < COMPARISONS; i++)
-            differs += memcmp(copy, issued, BYTES);
-        spent = seconds(from) / COMPARISONS;
-        theirs = spent < theirs ? spent : theirs;
-    }
-    printf("| %s | %" PRIu64 " | %.3f | %.3f | %.1f |\n", name, found, ours * 1e3, theirs * 1e3, ours / theirs);
-}
-
 int main(int count, char **arguments)
 {
     if (count > 1 && strcmp(arguments[1], "--batch") == 0) {
         batch();
-        return 0;
-    }
-    if (count > 1 && strcmp(arguments[1], "--time") == 0) {
-        printf("| overlay | runs | list, ms | memcmp, ms | ratio |\n|---|---|---|---|---|\n");
-        timed("whole, last byte differs", BYTES, BYTES / BLOCKS);
-        timed("whole, every 4,096th byte differs", 4096, BYTES / BLOCKS);
-        timed("a sixteenth, every 4,096th byte differs", 4096, BYTES / BLOCKS / 16);
         return 0;
     }
     fixed();

@@ -1,0 +1,44 @@
+"""The stack that each call takes, as bindings/c/stack.c measures it, held against what include/denkumari.h says."""
+
+import math
+import re
+import subprocess
+from pathlib import Path
+
+from benchmark_count import Differ
+
+HEADER = Path(__file__).resolve().parent.parent / "include" / "denkumari.h"
+
+
+def promised():
+    """By call: what the comment above its declaration says. Of two calls under one comment the figures stand in their order."""
+    text = HEADER.read_text()
+    found = {}
+    for comment, declarations in re.findall(r"/\*((?:(?!\*/).)*?)\*/\n((?:(?:struct dk_\w+ )dk_\w+\([^;]*\);\n+)+)", text, re.S):
+        calls = re.findall(r"^struct \w+ (dk_\w+)\(", declarations, re.M)
+        said = re.search(r"needs? less than ([^(.]*) of\s+\*?\s*stack(?: \(([^)]*)\))?", re.sub(r"\n \* ", " ", comment))
+        if not said:
+            raise Differ(f"include/denkumari.h says nothing of the stack of {calls}")
+        limits = [int(n) for n in re.findall(r"\d+", said[1])]
+        measured = [float(n) for n in re.findall(r"\d+\.\d", said[2] or "")]
+        for i, call in enumerate(calls):
+            found[call] = limits[min(i, len(limits) - 1)], measured[min(i, len(measured) - 1)] if measured else None
+    return found
+
+
+def stack_rows(ours):
+    yield "| call | needs less than | measured, bytes |\n|---|---|---|"
+    header, wrong, seen = promised(), [], set()
+    lines = subprocess.run([ours / "stack"], stdout=subprocess.PIPE, check=True).stdout.decode().splitlines()
+    for name, measured, limit in (re.match(r"(.*): (\d+) bytes of stack, below (\d+)", line).groups() for line in lines):
+        call = name.split(",")[0]
+        said, figure = header[call]
+        seen.add(call)
+        kib = math.ceil(int(measured) / 102.4) / 10  # the header rounds up
+        if said * 1024 != int(limit) or (figure is not None and figure != kib):
+            wrong.append(f"{call}: less than {int(limit) // 1024} KiB ({kib} KiB)")
+        yield f"| {name} | {int(limit) // 1024} KiB | {'at most ' * (int(measured) <= 128)}{int(measured):,} |"
+    if seen != set(header):
+        raise Differ(f"bindings/c/stack.c does not measure {sorted(set(header) - seen)}")
+    if wrong:
+        raise Differ("include/denkumari.h is to say: " + "; ".join(wrong))

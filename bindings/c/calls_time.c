@@ -1,0 +1,327 @@
+/* One exported call, made again and again, to be counted or timed: calls_time CALL TIMES [FILE]. Prints a number that depends on what the call
+ * gave, and ends with 1 where it was refused. CALL is NAME or NAME:ORDER of the list at the end. FILE is a layout for the calls about layouts; the calls about
+ * records write to it what they made. memcmp, memcpy and memset are there for scale. bindings/benchmark.py runs it once with one call and once with many:
+ * the difference is the calls'. */
+#include <inttypes.h>
+#include <stdio.h>
+#include <stdlib.h>
+#include <string.h>
+
+#include "../../include/denkumari.h"
+#include "tables.h"
+
+enum { IMAGE = 16384, SPANS = 4096, OFFERS = 512, BENCH = 1 << 20, RUNS = 256, LOADED = 65536, TEXT = 4 * LOADED, PAGE = 8192 };
+
+static uint8_t file[TABLES_MOST], other[TABLES_MOST];
+static size_t file_length;
+static uint8_t image[IMAGE], hex[2 * IMAGE];
+static int64_t addresses[SPANS];
+static uint64_t offsets[SPANS], sizes[SPANS], block_offsets[SPANS], block_sizes[SPANS];
+
+/* What the last call said: its refusal, and a number for the rest. */
+static uint64_t refusal, told;
+
+#define OUTPUT image, IMAGE, addresses, SPANS, offsets, SPANS, sizes, SPANS
+
+static void laid(struct dk_layout r)
+{
+    refusal = r.refusal;
+    told = r.length + r.spans;
+}
+
+static void counted(struct dk_count r)
+{
+    refusal = r.refusal;
+    told = r.count;
+}
+
+static uint8_t limit(void)
+{
+    return file[file_length - 1];
+}
+
+static void build(void)
+{
+    laid(dk_build(TABLES, limit(), DK_FILL_INHERITED, form == 2, OUTPUT));
+}
+
+static void build_paged(void)
+{
+    laid(dk_build_paged(PAGE, TABLES, limit(), DK_FILL_INHERITED, form == 2, OUTPUT));
+}
+
+static void profile(void)
+{
+    struct dk_profile r = dk_profile(PAGE, TABLES, DK_FILL_INHERITED);
+    refusal = r.refusal;
+    told = r.pages[1];
+}
+
+static void laid_file(void)
+{
+    laid(dk_form(file, file_length, DK_FILL_INHERITED, OUTPUT));
+}
+
+static void laid_file_paged(void)
+{
+    laid(dk_form_paged(file, file_length, DK_FILL_INHERITED, PAGE, OUTPUT));
+}
+
+static void to_form1(void)
+{
+    counted(dk_to_form1(file, file_length, other, DK_MAX_FILE));
+}
+
+static void to_form2(void)
+{
+    counted(dk_to_form2(file, file_length, other, DK_MAX_FILE));
+}
+
+/* Numbers in another order, the same as in calls_time.rs. */
+static void shuffle(uint64_t *list, size_t count)
+{
+    uint64_t seed = 88172645463325252u;
+    for (size_t i = count - 1; i > 0; i--) {
+        seed ^= seed << 13;
+        seed ^= seed >> 7;
+        seed ^= seed << 17;
+        size_t j = seed % (i + 1);
+        uint64_t swapped = list[i];
+        list[i] = list[j];
+        list[j] = swapped;
+    }
+}
+
+/* Places 16 bits apart: rising, falling, shuffled, or all one. */
+static void place(const char *order, uint64_t *list, size_t count)
+{
+    for (size_t i = 0; i < count; i++)
+        list[i] = strcmp(order, "one") == 0 ? 64 : 16 * (strcmp(order, "falling") == 0 ? count - 1 - i : i);
+    if (strcmp(order, "shuffled") == 0)
+        shuffle(list, count);
+}
+
+static void make_spans(const char *order)
+{
+    place(order, offsets, SPANS);
+    for (size_t i = 0; i < SPANS; i++)
+        sizes[i] = 8;
+}
+
+static void blocks(void)
+{
+    counted(dk_blocks(offsets, SPANS, sizes, SPANS, block_offsets, SPANS, block_sizes, SPANS));
+}
+
+static void make_image(const char *order)
+{
+    (void)order;
+    for (size_t i = 0; i < IMAGE; i++)
+        image[i] = (uint8_t)(i % 251);
+}
+
+static void digits(void)
+{
+    struct dk_count r = dk_hex(image, IMAGE, 8 * IMAGE, hex, sizeof hex);
+    refusal = r.refusal;
+    told = r.count + hex[r.count / 3];
+}
+
+static void part(void)
+{
+    struct dk_part r = dk_part(image, IMAGE, 8 * 512, 8 * 1024);
+    refusal = r.refusal;
+    told = r.start + r.length;
+}
+
+/* A store, filled from empty by 512 calls. */
+static uint64_t offered[OFFERS];
+
+static void make_offers(const char *order)
+{
+    place(order, offered, OFFERS);
+}
+
+static void offer(void)
+{
+    uint64_t positions[OFFERS], extents[OFFERS], marks[OFFERS], count = 0;
+    for (size_t i = 0; i < OFFERS; i++) {
+        struct dk_offer r = dk_offer(positions, extents, count, marks, 0, offered[i], 8);
+        refusal |= r.refusal;
+        count = r.count;
+    }
+    told = count;
+}
+
+/* On the bench: 1 MiB, 256 blocks of 4 KiB, or of a sixteenth of it, and bytes that differ: the last, or every 4,096th. */
+static uint8_t trial[BENCH], issued[BENCH], copy[BENCH];
+static uint64_t firsts[BENCH], counts[BENCH];
+
+static void make_overlay(const char *order)
+{
+    uint64_t every = strcmp(order, "last") == 0 ? BENCH : 4096;
+    for (uint64_t i = 0; i < BENCH; i++) {
+        issued[i] = copy[i] = (uint8_t)(i % 251);
+        trial[i] = (uint8_t)(issued[i] ^ ((i + 1) % every == 0));
+    }
+    for (uint64_t i = 0; i < RUNS; i++) {
+        block_offsets[i] = i * (BENCH / RUNS) * 8;
+        block_sizes[i] = BENCH / RUNS * (strcmp(order, "sixteenth") == 0 ? 1 : 16) / 2;
+    }
+}
+
+static void runs(void)
+{
+    counted(dk_overlay_runs(trial, BENCH, issued, BENCH, block_offsets, RUNS, block_sizes, RUNS, firsts, BENCH, counts, BENCH));
+}
+
+static void range(void)
+{
+    struct dk_overlay r = dk_overlay_range(trial, BENCH, issued, BENCH, block_offsets, RUNS, block_sizes, RUNS, BENCH / 2, 64);
+    refusal = r.refusal;
+    told = r.image;
+}
+
+/* Records of 64 KiB from address 0 on. */
+static uint8_t loaded[LOADED], fetched[LOADED], text[TEXT];
+static size_t text_length;
+
+static void write_hex(void)
+{
+    uint64_t first = 0, bits = 8 * LOADED;
+    counted(dk_write_hex(loaded, LOADED, &first, 1, &bits, 1, 0, text, TEXT));
+}
+
+static void write_srec(void)
+{
+    uint64_t first = 0, bits = 8 * LOADED;
+    counted(dk_write_srec(loaded, LOADED, &first, 1, &bits, 1, 0, 4, text, TEXT));
+}
+
+static void make_text(const char *order)
+{
+    for (size_t i = 0; i < LOADED; i++)
+        loaded[i] = (uint8_t)(i % 251);
+    if (strcmp(order, "hex") == 0)
+        write_hex();
+    else
+        write_srec();
+    text_length = told;
+}
+
+static void read_hex(void)
+{
+    counted(dk_read_records(DK_INTEL_HEX, text, text_length, 0, fetched, LOADED, offsets, SPANS, sizes, SPANS));
+}
+
+static void read_srec(void)
+{
+    counted(dk_read_records(DK_S_RECORDS, text, text_length, 0, fetched, LOADED, offsets, SPANS, sizes, SPANS));
+}
+
+static void fault_hex(void)
+{
+    refusal = dk_record_fault(DK_INTEL_HEX, text, text_length, 0).fault;
+}
+
+static void fault_srec(void)
+{
+    refusal = dk_record_fault(DK_S_RECORDS, text, text_length, 0).fault;
+}
+
+/* What the compiler must not leave out. */
+static void used(void *bytes)
+{
+    __asm__ volatile("" : : "r"(bytes) : "memory");
+}
+
+static void compare_bytes(void)
+{
+    used(copy);
+    told = memcmp(copy, issued, BENCH) == 0;
+}
+
+static void copy_file(void)
+{
+    memcpy(other, file, file_length);
+    used(other);
+}
+
+static void set_image(void)
+{
+    memset(image, 0xff, IMAGE);
+    used(image);
+}
+
+static const struct { const char *name, *order; void (*make)(const char *); void (*call)(void); } calls[] = {
+    {"dk_build", "", NULL, build}, {"dk_form", "", NULL, laid_file}, {"dk_build_paged", "", NULL, build_paged},
+    {"dk_form_paged", "", NULL, laid_file_paged}, {"dk_profile", "", NULL, profile},
+    {"dk_to_form1", "", NULL, to_form1}, {"dk_to_form2", "", NULL, to_form2},
+    {"dk_blocks", "rising", make_spans, blocks}, {"dk_blocks", "falling", make_spans, blocks},
+    {"dk_blocks", "shuffled", make_spans, blocks}, {"dk_blocks", "one", make_spans, blocks},
+    {"dk_hex", "", make_image, digits}, {"dk_part", "", NULL, part},
+    {"dk_offer", "rising", make_offers, offer}, {"dk_offer", "falling", make_offers, offer}, {"dk_offer", "shuffled", make_offers, offer},
+    {"dk_overlay_range", "last", make_overlay, range}, {"dk_overlay_runs", "last", make_overlay, runs},
+    {"dk_overlay_runs", "every", make_overlay, runs}, {"dk_overlay_runs", "sixteenth", make_overlay, runs},
+    {"dk_write_hex", "hex", make_text, write_hex}, {"dk_write_srec", "srec", make_text, write_srec},
+    {"dk_read_records", "hex", make_text, read_hex}, {"dk_read_records", "srec", make_text, read_srec},
+    {"dk_record_fault", "hex", make_text, fault_hex}, {"dk_record_fault", "srec", make_text, fault_srec},
+    {"memcmp", "last", make_overlay, compare_bytes}, {"memcpy", "", NULL, copy_file}, {"memset", "", NULL, set_image}};
+
+static int is_about_records(size_t asked)
+{
+    return calls[asked].make == make_text;
+}
+
+/* The text that was written, or the bytes that were read. */
+static int keep(size_t asked, const char *name)
+{
+    int reads = calls[asked].call == read_hex || calls[asked].call == read_srec;
+    size_t length = reads ? LOADED : text_length;
+    FILE *kept = fopen(name, "wb");
+    return !kept || fwrite(reads ? fetched : text, 1, length, kept) != length || fclose(kept) != 0;
+}
+
+/* Takes a layout file apart. */
+static int take(const char *name)
+{
+    FILE *given = fopen(name, "rb");
+    if (!given)
+        return 0;
+    file_length = fread(file, 1, sizeof file, given);
+    fclose(given);
+    return take_apart(file, file_length, 1);
+}
+
+
+static size_t find(const char *asked)
+{
+    for (size_t i = 0; i < sizeof calls / sizeof *calls; i++) {
+        size_t length = strlen(calls[i].name);
+        if (strncmp(asked, calls[i].name, length) == 0
+            && (asked[length] == 0 || (asked[length] == ':' && strcmp(asked + length + 1, calls[i].order) == 0)))
+            return i;
+    }
+    fprintf(stderr, "calls_time: no call %s\n", asked);
+    exit(2);
+}
+
+int main(int argc, char **argv)
+{
+    if (argc < 3)
+        return 2;
+    size_t asked = find(argv[1]);
+    if (argc > 3 && !is_about_records(asked) && !take(argv[3]))
+        return 2;
+    if (calls[asked].make)
+        calls[asked].make(calls[asked].order);
+    for (long times = atol(argv[2]); times > 0; times--)
+        calls[asked].call();
+    if (calls[asked].call == blocks)
+        for (size_t i = 0; i < SPANS; i++)
+            told += block_offsets[i] * (i + 1);
+    if (argc > 3 && is_about_records(asked) && keep(asked, argv[3]))
+        return 2;
+    printf("%" PRIu64 "\n", told);
+    return refusal != 0;
+}
