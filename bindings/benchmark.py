@@ -5,8 +5,8 @@
     oracle/build.sh --edit bindings/long.edit --flags "-C opt-level=3" build/fast
     python3 bindings/benchmark.py [--ours FOLDER] [--rust FOLDER] [--rehex PROGRAM] [--only TABLE ..] [--turns N] [--write DOCUMENT]
 
-FOLDERs are where the two builds put their programs. Prints the tables machine, layouts, series, calls, programs and stack; with --write they take the
-place of those in the document. Ends with 1 where two sides give different answers, where an exported call has no row, or where a stack figure of
+FOLDERs are where the two builds put their programs. Prints the tables machine, layouts, where, series, calls, programs and stack; with --write
+they take the place of those in the document. Ends with 1 where two sides give different answers, where an exported call has no row, or where a stack figure of
 include/denkumari.h is not the measured one."""
 
 import argparse
@@ -15,10 +15,11 @@ import subprocess
 import sys
 from pathlib import Path
 
-from benchmark_calls import call_rows
+from benchmark_calls import call_rows, ratio
 from benchmark_count import Differ, each, instructions, times, wanted
 from benchmark_layouts import LAYOUTS, SERIES, encode
 from benchmark_stack import stack_rows
+from benchmark_where import where_rows
 from generate import batched
 from programs_time import program_rows
 
@@ -27,10 +28,6 @@ LONGEST = 65_000
 
 def big(number):
     return f"{number:,.0f}"
-
-
-def ratio(ours, theirs):
-    return f"{ours / theirs:.3f}" if ours < theirs / 50 else f"{ours / theirs:.2f}"
 
 
 class Sides:
@@ -117,9 +114,9 @@ def main():
     asked = parser.parse_args()
     wanted()
     sides = Sides(asked.ours, asked.rust)
-    tables = {"machine": machine_rows, "layouts": lambda: layout_rows(sides, asked.turns), "series": lambda: series_rows(sides),
-              "calls": lambda: call_rows(asked.ours, asked.rust, asked.turns), "programs": lambda: program_rows([asked.rehex], asked.turns),
-              "stack": lambda: stack_rows(asked.ours)}
+    tables = {"machine": machine_rows, "layouts": lambda: layout_rows(sides, asked.turns), "where": lambda: where_rows(asked.ours, asked.rust),
+              "series": lambda: series_rows(sides), "calls": lambda: call_rows(asked.ours, asked.rust, asked.turns),
+              "programs": lambda: program_rows([asked.rehex], asked.turns), "stack": lambda: stack_rows(asked.ours)}
     for name in asked.only or tables:
         rows = []
         print(f"\n<!-- {name} -->")

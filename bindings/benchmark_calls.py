@@ -90,27 +90,24 @@ class Bench:
         return self.known[key]
 
     def tool_cost(self, row):
-        """A tool's instructions for 64 KiB less those for 16 bytes; what it makes of our text, or we of its, must be the bytes."""
-        kind = "srec" if "srec" in row.call else "hex"
-        costs = []
-        for name, data in (("all", LOADED), ("few", LOADED[:16])):
-            binary, text = self.room / f"{name}.bin", self.room / f"{name}.{kind}"
-            binary.write_bytes(data)
-            command = tool_command(row.tool, kind, binary, text, True)
-            if "read" in row.call:
-                subprocess.run(command, check=True)
-                command = tool_command(row.tool, kind, text, self.room / "back", False)
-            costs.append(instructions(command)[0])
-        self.same_bytes(row, kind)
-        return costs[0] - costs[1]
-
-    def same_bytes(self, row, kind):
-        made, back = self.room / "made", self.room / "made.bin"
-        subprocess.run([self.ours / "calls_time", row.call, "1", made], check=True, stdout=subprocess.DEVNULL)
+        """A tool's instructions for the 64 KiB less those for 16 bytes. It reads the text that ours reads, and it reads what ours wrote: to the same bytes."""
+        kind, text, back = "srec" if "srec" in row.call else "hex", self.room / "text", self.room / "back.bin"
+        ours = [str(self.ours / "calls_time")]
+        subprocess.run(ours + [f"dk_write_{kind}", "1", text], check=True, stdout=subprocess.DEVNULL)
+        binary, few, few_text = self.room / "all.bin", self.room / "few.bin", self.room / "few.text"
+        binary.write_bytes(LOADED)
+        few.write_bytes(LOADED[:16])
+        instructions(tool_command(row.tool, kind, few, few_text, True))
+        read = instructions(tool_command(row.tool, kind, text, back, False))[0]
+        if back.read_bytes() != LOADED:
+            raise Differ(f"dk_write_{kind}: {row.tool} reads other bytes")
         if "write" in row.call:
-            subprocess.run(tool_command(row.tool, kind, made, back, False), check=True, stderr=subprocess.DEVNULL)
-        if (made if "read" in row.call else back).read_bytes() != LOADED:
-            raise Differ(f"{row.call}: {row.tool} has other bytes")
+            return (instructions(tool_command(row.tool, kind, binary, self.room / "made", True))[0]
+                    - instructions(tool_command(row.tool, kind, few, few_text, True))[0])
+        subprocess.run(ours + [row.call, "1", back], check=True, stdout=subprocess.DEVNULL)
+        if back.read_bytes() != LOADED:
+            raise Differ(f"{row.call}: other bytes")
+        return read - instructions(tool_command(row.tool, kind, few_text, back, False))[0]
 
     def beside(self, row, said):
         """Instructions of what stands beside a call, and how to run it, if it can be timed."""
@@ -137,6 +134,10 @@ def tool_command(tool, kind, source, target, writes):
         ["-address-length=4", "-output_block_size=16"] if writes else [])
 
 
+def ratio(ours, theirs):
+    return f"{ours / theirs:.3f}" if ours < theirs / 50 else f"{ours / theirs:.2f}"
+
+
 def number(value):
     return f"{value:,.0f}" if value >= 100 else f"{value:.3g}"
 
@@ -155,6 +156,6 @@ def call_rows(ours, rust, turns):
             other, run_other = bench.beside(row, said) if row.beside else (None, None)
             spent = bench.timed([(run, cost)] + [(run_other, other)] * bool(run_other), turns)
             cells = [row.call.split(":")[0], row.given, f"{cost:,.0f}", row.beside]
-            cells += [f"{other:,.0f}", f"{cost / other:.2f}"] if other else ["", ""]
-            cells += [number(spent[0])] + ([number(spent[1]), f"{spent[0] / spent[1]:.2f}"] if run_other else ["", ""])
+            cells += [f"{other:,.0f}", ratio(cost, other)] if other else ["", ""]
+            cells += [number(spent[0])] + ([number(spent[1]), ratio(*spent)] if run_other else ["", ""])
             yield f"| {' | '.join(cells)} |"

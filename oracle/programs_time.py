@@ -3,8 +3,8 @@
 
     programs_time.py PROGRAM [--turns N]
 
-PROGRAM is target/bin/rehex. Whole processes are counted, from start to end, S-records to Intel HEX; a time is the least of the turns, in which the three alternate. What
-comes out is compared byte for byte, as srec_cat reads it. Debian has the tools in srecord, binutils and valgrind.
+PROGRAM is target/bin/rehex. Whole processes are counted, from start to end, S-records to Intel HEX; a time is the least of the turns, in which the three
+alternate. What comes out is compared byte for byte, as srec_cat reads it. Debian has the tools in srecord, binutils and valgrind.
 """
 import argparse
 import random
