@@ -46,7 +46,8 @@ class Sides:
         found = [each(lambda n, c=command: (c, batched([file] * n))) for command in self.commands(file)[:how_many]]
         lines = {said for _, said in found}
         if len(lines) > 1:
-            raise Differ(f"{name}: the sides print different lines: {[line[:60] for line in lines]}")
+            hint = "; is the judge built with --edit bindings/long.edit?" if len(file) > LONGEST else ""
+            raise Differ(f"{name}: the sides print different lines: {[line[:60] for line in lines]}{hint}")
         return [cost for cost, _ in found], lines.pop().decode()
 
     def timed(self, layout, costs, turns):

@@ -50,5 +50,5 @@ def where_rows(ours, rust):
             there = own([str(rust / "judge"), "--raw"], batched([file]), RUST)
             for i in range(MOST):
                 yield f"| {name} | {cell(here, i)} | {cell(there, i)} |"
-            integer = sum(cost for function, cost in there.items() if "bigint" in function)
+            integer = sum(cost for function, cost in there.items() if "util::bigint::" in function)
             yield f"| {name} | | | all of `util::bigint`, a stand-in | {100 * integer / sum(there.values()):.0f} % |"
