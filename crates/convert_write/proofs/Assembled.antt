@@ -1,7 +1,7 @@
 -- What the code writes, piece by piece, is the converted file.
 use mathlib.Core.List.{List, [], _∷_, _++_, map, append-assoc, append-nil}
 use mathlib.Core.Path.{_≡_, refl, sym, ap, ap₂, _∙_}
-use Prim.Native.Nat.{ℕ, zero, suc, _+_, _*_, _-_}
+use Prim.Native.Nat.{ℕ, zero, suc, _+_, _*_, _-_, _≤_}
 use native.Mathlib.Omega.{arith}
 use lib.ListN.{length, getD, take, drop, length-drop}
 use lib.Seq.{take-all, take-take}
@@ -13,8 +13,9 @@ use Rattle.form.specs.Shape.{bankCountIn, nodesStartIn, nodeCountIn, rowsStartI
 use Rattle.form.specs.Whole.{part, contentsIn}
 use Rattle.convert_write.specs.Turning.{switchTo, turned, zeros, lengthened, widened, toForm2}
 use Rattle.convert_write.specs.Fitting.{Read, widened-long}
-use Rattle.convert_write.specs.Sizes.{fits, rows-many, banks-in, nodes-in, rows-in, values-at, nodes-at, rows-at, file-long, from-nodes, from-values}
-use Rattle.convert_write.specs.Sizes.{one-is, alone-is, alone-not}
+use Rattle.convert_write.specs.Sizes.{sizes, fits, rows-many, banks-in, nodes-in, rows-in, values-at, nodes-at, rows-at, file-long}
+use Rattle.convert_write.specs.Sizes.{from-nodes, from-values, one-is, alone-is, alone-not}
+use Rattle.convert_write.proofs.Laws.{rows-more}
 
 -- ---- columns
 
@@ -40,6 +41,34 @@ padded file before keep behind a = zeros before ++ (part file keep a ++ zeros be
 
 -- ---- to form 2
 
+-- the pieces that are written of a file with more banks, or none
+abbrev pub lengthenedPieces : List ℕ → Shape → List ℕ
+lengthenedPieces file s =
+    field 16 (2 ∷ [])
+    ++ (flat (field 17) (column (padded file 0 23 1) 26 3 (s .banks)) ++ take (length file - s .banks * 26) (drop (s .banks * 26) file))
+
+-- the pieces that are written of a one-bank file
+abbrev pub widenedPieces : List ℕ → Shape → List ℕ
+widenedPieces file s =
+    field 16 (2 ∷ [])
+    ++ (field 17 (zeros 0 ++ (take 10 (drop 3 file) ++ zeros 14))
+    ++ (field 17 (zeros 0 ++ (take 23 (drop 3 file) ++ zeros 1))
+    ++ (field 2 (switchTo 1)
+    ++ (flat (field 2) (column (λ (a : ℕ). turned 1 (part file 5 a)) 8 29 (s .nodes))
+    ++ (flat (field 3) (column (padded file 5 (5 * s .nodes) 0) (3 + 5 * s .nodes) (29 + s .nodes * 8) (s .rows))
+    ++ take (length file - (s .values - 3)) (drop (s .values - 3) file))))))
+
+-- where things stand in such a file, and the room for them in a buffer of `out` bytes
+pub record Widening (file : List ℕ) (s : Shape) (out : ℕ) : Type 0 where
+  pub one : s .banks ≡ 1
+  pub nodes : 26 + s .nodes * 8 ≡ rowsStartIn form1 file
+  pub rows : rowsStartIn form1 file + s .rows * (3 + 5 * s .nodes) ≡ valuesStartIn form1 file
+  pub values : s .values ≡ valuesStartIn form1 file + 3
+  pub inside : valuesStartIn form1 file ≤ length file
+  pub short : length file ≤ 65000
+  pub room : length file + 40 + 5 * s .rows ≤ out
+  pub more : s .rows * (3 + (5 + 5 * s .nodes + 0)) ≡ s .rows * (3 + 5 * s .nodes) + s .rows * 5
+
 module _ (file : List ℕ) (s : Shape) (r : Read form1 file s) where
   abbrev c₁ : Contents
   c₁ = contentsIn form1 file
@@ -53,10 +82,21 @@ module _ (file : List ℕ) (s : Shape) (r : Read form1 file s) where
   pub to-lengthened : (s .banks ≡ 1 → ⊥) → toForm2 c₁ ≡ lengthened c₁
   to-lengthened e = rw (alone-not file s r e) refl
 
-  pub lengthened-is :
-      field 16 (2 ∷ [])
-      ++ (flat (field 17) (column (padded file 0 23 1) 26 3 (s .banks)) ++ take (length file - s .banks * 26) (drop (s .banks * 26) file))
-      ≡ written form2 (lengthened c₁)
+  pub widening : s .banks ≡ 1 → (out : ℕ) → length (written form2 (widened c₁)) ≤ out → Widening file s out
+  widening one out h =
+      let z = sizes is1 file s r in
+      record {
+        one = one;
+        nodes = omega (arith, one, z);
+        rows = z .rows;
+        values = z .values;
+        inside = z .inside;
+        short = z .short;
+        room = omega (arith, wide-long one, h);
+        more = rows-more (s .rows) (s .nodes);
+      }
+
+  pub lengthened-is : lengthenedPieces file s ≡ written form2 (lengthened c₁)
   unfolding written
   lengthened-is =
       let banks : column (padded file 0 23 1) 26 3 (s .banks) ≡ map (λ (b : List ℕ). b ++ zeros 1) (c₁ .banks) =
@@ -72,15 +112,7 @@ module _ (file : List ℕ) (s : Shape) (r : Read form1 file s) where
         let many : bankCountIn form1 file ≡ 1 = sym (banks-in is1 file s r) ∙ one in
         column-at (part file 23) 26 [] 3 (bankCountIn form1 file) 0 (omega (arith, many)) ∙ ap (part file 23) {x = 3 + 0 * 26} {y = 3} refl
 
-    pub widened-is :
-        field 16 (2 ∷ [])
-        ++ (field 17 (zeros 0 ++ (take 10 (drop 3 file) ++ zeros 14))
-        ++ (field 17 (zeros 0 ++ (take 23 (drop 3 file) ++ zeros 1))
-        ++ (field 2 (switchTo 1)
-        ++ (flat (field 2) (column (λ (a : ℕ). turned 1 (part file 5 a)) 8 29 (s .nodes))
-        ++ (flat (field 3) (column (padded file 5 (5 * s .nodes) 0) (3 + 5 * s .nodes) (29 + s .nodes * 8) (s .rows))
-        ++ take (length file - (s .values - 3)) (drop (s .values - 3) file))))))
-        ≡ written form2 (widened c₁)
+    pub widened-is : widenedPieces file s ≡ written form2 (widened c₁)
     unfolding written flat
     widened-is =
         let b = getD (c₁ .banks) 0 [] in

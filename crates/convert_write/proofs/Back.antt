@@ -2,7 +2,7 @@
 use mathlib.Core.Bool.{true, false}
 use mathlib.Core.List.{List, [], _∷_, _++_, map, append-nil}
 use mathlib.Core.Path.{_≡_, refl, sym, ap, ap₂, _∙_}
-use Prim.Native.Nat.{ℕ, zero, suc, _+_, _*_, _-_, _<_}
+use Prim.Native.Nat.{ℕ, zero, suc, _+_, _*_, _-_, _≤_, _<_}
 use native.Mathlib.Omega.{arith}
 use lib.ListN.{length, getD, take, drop}
 use Rattle.form.specs.declared.Shape.{Shape}
@@ -14,9 +14,35 @@ use Rattle.form.specs.Whole.{part, contentsIn}
 use Rattle.convert_write.specs.Turning.{turned, zeros, shaped, shortened, narrowed, toForm1}
 use Rattle.convert_write.specs.Fitting.{Read, narrowed-long, shape-two, shape-some}
 use Rattle.convert_write.specs.PartLaws.{part-front, part-back}
-use Rattle.convert_write.specs.Sizes.{fits, banks-many, nodes-many, rows-many, banks-in, nodes-in, rows-in, values-at, nodes-at, rows-at, file-long}
-use Rattle.convert_write.specs.Sizes.{from-nodes, from-values}
+use Rattle.convert_write.specs.Sizes.{sizes, fits, banks-many, nodes-many, rows-many, banks-in, nodes-in, rows-in, values-at, nodes-at, rows-at}
+use Rattle.convert_write.specs.Sizes.{file-long, from-nodes, from-values}
+use Rattle.convert_write.proofs.Laws.{rows-less}
 use Rattle.convert_write.proofs.Assembled.{map-column, column-same, tail, padded}
+
+-- the pieces that are written of a file without the shape
+abbrev pub shortenedPieces : List ℕ → Shape → List ℕ
+shortenedPieces file s =
+    flat (field 1) (column (padded file 0 23 0) 27 7 (s .banks)) ++ take (length file - (4 + s .banks * 27)) (drop (4 + s .banks * 27) file)
+
+-- the pieces that are written of a file with the shape
+abbrev pub narrowedPieces : List ℕ → Shape → List ℕ
+narrowedPieces file s =
+    field 1 (zeros 0 ++ (take 23 (drop 34 file) ++ zeros 0))
+    ++ (flat (field 2) (column (λ (a : ℕ). turned 0 (part file 5 a)) 8 69 (s .nodes - 1))
+    ++ (flat (field 3) (column (padded file 0 (5 * s .nodes - 5) 0) (3 + 5 * s .nodes) (66 + s .nodes * 8) (s .rows))
+    ++ take (length file - (s .values - 3)) (drop (s .values - 3) file)))
+
+-- where things stand in such a file, and the room for them in a buffer of `out` bytes
+pub record Narrowing (file : List ℕ) (s : Shape) (out : ℕ) : Type 0 where
+  pub two : s .banks ≡ 2
+  pub some : 0 < s .nodes
+  pub nodes : 58 + s .nodes * 8 ≡ rowsStartIn form2 file
+  pub rows : rowsStartIn form2 file + s .rows * (3 + 5 * s .nodes) ≡ valuesStartIn form2 file
+  pub values : s .values ≡ valuesStartIn form2 file + 3
+  pub inside : valuesStartIn form2 file ≤ length file
+  pub short : length file ≤ 65536
+  pub room : length file ≤ out + 40 + 5 * s .rows
+  pub less : s .rows * (3 + (0 + (5 * s .nodes - 5) + 0)) + s .rows * 5 ≡ s .rows * (3 + 5 * s .nodes)
 
 module _ (file : List ℕ) (s : Shape) (r : Read form2 file s) where
   abbrev c₂ : Contents
@@ -32,6 +58,23 @@ module _ (file : List ℕ) (s : Shape) (r : Read form2 file s) where
   narrow-long e =
       omega (arith, narrowed-long c₂ (fits is2 file s r) (shape-two c₂ e) (shape-some c₂ e), file-long is2 file s r, rows-many is2 file s r)
 
+  pub narrowing : shaped c₂ ≡ true → (out : ℕ) → length (written form1 (narrowed c₂)) ≤ out → Narrowing file s out
+  narrowing e out h =
+      let z = sizes is2 file s r in
+      let two = narrow-two e in
+      let some = narrow-some e in
+      record {
+        two = two;
+        some = some;
+        nodes = omega (arith, two, z);
+        rows = z .rows;
+        values = z .values;
+        inside = z .inside;
+        short = z .short;
+        room = omega (arith, narrow-long e, h);
+        less = rows-less (s .rows) (s .nodes) some;
+      }
+
   pub to-narrowed : shaped c₂ ≡ true → toForm1 c₂ ≡ narrowed c₂
   to-narrowed e = rw e refl
 
@@ -40,9 +83,7 @@ module _ (file : List ℕ) (s : Shape) (r : Read form2 file s) where
 
   -- ---- what is written
 
-  pub shortened-is :
-      flat (field 1) (column (padded file 0 23 0) 27 7 (s .banks)) ++ take (length file - (4 + s .banks * 27)) (drop (4 + s .banks * 27) file)
-      ≡ written form1 (shortened c₂)
+  pub shortened-is : shortenedPieces file s ≡ written form1 (shortened c₂)
   unfolding written
   shortened-is =
       let n = bankCountIn form2 file in
@@ -70,12 +111,7 @@ module _ (file : List ℕ) (s : Shape) (r : Read form2 file s) where
     shift f g e step at (suc n) =
         ap₂ _∷_ (e at) (shift f g e step (at + step) n ∙ ap (λ (a : ℕ). column g step a n) {x = at + step + 5} {y = at + 5 + step} (omega arith))
 
-    pub narrowed-is :
-        field 1 (zeros 0 ++ (take 23 (drop 34 file) ++ zeros 0))
-        ++ (flat (field 2) (column (λ (a : ℕ). turned 0 (part file 5 a)) 8 69 (s .nodes - 1))
-        ++ (flat (field 3) (column (padded file 0 (5 * s .nodes - 5) 0) (3 + 5 * s .nodes) (66 + s .nodes * 8) (s .rows))
-        ++ take (length file - (s .values - 3)) (drop (s .values - 3) file)))
-        ≡ written form1 (narrowed c₂)
+    pub narrowed-is : narrowedPieces file s ≡ written form1 (narrowed c₂)
     unfolding written flat
     narrowed-is =
         let m = nodeCountIn form2 file in

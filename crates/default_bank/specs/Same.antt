@@ -228,7 +228,8 @@ module _ (b : Input) (table : Bankdefs) (one : OneBank b) (two : TwoBanks (onlyB
       lists-there : (v : Verdict) → listsOf 2 (withSwitch l) (b .choices .fill) ≡ v
           → layoutThere ≡ unless v (resolutionOf table (withSwitch l) (b .choices .limit))
       lists-there v e =
-          after-table table (withSwitch l) (closing (b .choices)) v (table-there sound) (ap (λ (n : ℕ). listsOf n (withSwitch l) (b .choices .fill)) (two .count) ∙ e)
+          after-table table (withSwitch l) (closing (b .choices)) v (table-there sound)
+          (ap (λ (n : ℕ). listsOf n (withSwitch l) (b .choices .fill)) (two .count) ∙ e)
 
       -- 4 with a field
       miscounted : countsSound b ≡ false → Goal

@@ -111,7 +111,8 @@ module _ (b : Input) (table : Bankdefs) (one : OneBank b) (two : TwoBanks (onlyB
       judged-alike : Goal
       judged-alike =
           let both-sound = both (rowCountSound l) (knownFill fill) counts in
-          from-parts (table-here b table one two sound) (table-there b table one two sound) refl (lists-shift l (counted b table one two) (one .switches) (one .room) fill (both-sound .0) (both-sound .1))
+          from-parts (table-here b table one two sound) (table-there b table one two sound) refl
+          (lists-shift l (counted b table one two) (one .switches) (one .room) fill (both-sound .0) (both-sound .1))
           refl (rules-raised b table one two page) (in-lists (lists-four 1 l fill))
 
   -- The profile says yes to both or refuses both, for the same reason, its place raised.

@@ -54,6 +54,10 @@ unitKept unit = eqb unit 8 || eqb unit 16
 abbrev pub addrKept : ℕ → ℕ → ℕ → Bool
 addrKept unit kind number = not (eqb kind 9) || multiple number unit
 
+-- of a node's number alone: rule 2 for an alignment, else rule 6
+abbrev pub keptBy : ℕ → ℕ → ℕ → Bool
+keptBy rule number unit = pick (eqb rule 2) (aligned number) (multiple number unit)
+
 -- ---- the first of some that does not keep a rule
 
 -- the first of n that does not, or n

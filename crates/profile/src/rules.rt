@@ -15,7 +15,7 @@ ghost use Rattle.resolver.specs.Lists.{lists, firstOf};
 ghost use Rattle.resolver.specs.Once.{bankRecord};
 ghost use Rattle.profile.specs.OneBit.{oneBit};
 ghost use Rattle.profile.specs.Profile.{verdictOf};
-ghost use Rattle.profile.specs.Rules.{multiple, aligned, bankAligned, onPage, wholePages, unitKept, nodeAligned, addrKept, all, ruled};
+ghost use Rattle.profile.specs.Rules.{multiple, keptBy, aligned, bankAligned, onPage, wholePages, unitKept, nodeAligned, addrKept, all, ruled};
 ghost use Rattle.profile.specs.Rules.{alignsKept, addrsKept, rulesOf};
 ghost use Rattle.profile.specs.Steps.{bankKeeps, nodesOf, Sized};
 
@@ -132,31 +132,25 @@ fn check_banks(banks: Bankdefs, rule: u64, page: u32) -> Verdict
     Verdict::Accepted
 }
 
-// Whether node `i` of `n` has an alignment that keeps rule 2 in every row.
-fn rows_aligned(numbers: &[u32], n: usize, rows: u64, i: usize) -> bool
-    requires { ⌜ (i < n) × (length (now numbers) ≡ rows * n) ⌝ }
-    ensures { λ t. ⌜ t ≡ all (λ r. aligned (getD (now (numbers .entry)) (r * n + i) 0)) rows ⌝ }
+// Whether a number keeps rule 2, as an alignment, or rule 6, as a multiple of the unit.
+fn is_kept(rule: u8, number: u32, unit: u32) -> bool
+    ensures { λ r. ⌜ r ≡ keptBy rule number unit ⌝ }
 {
-    let mut r: u64 = 0;
-    while r < rows {
-        let at = (r as usize) * n + i;
-        if !is_aligned(numbers[at]) {
-            return false;
-        }
-        r += 1;
+    if rule == 2 {
+        return is_aligned(number);
     }
-    true
+    is_multiple(number, unit)
 }
 
-// Whether node `i` of `n` goes to a multiple of the unit in every row.
-fn rows_on_unit(numbers: &[u32], n: usize, rows: u64, i: usize, unit: u32) -> bool
+// Whether the number of node `i` of `n` keeps that rule in every row.
+fn rows_keep(rule: u8, numbers: &[u32], n: usize, rows: u64, i: usize, unit: u32) -> bool
     requires { ⌜ (i < n) × (length (now numbers) ≡ rows * n) ⌝ }
-    ensures { λ t. ⌜ t ≡ all (λ r. multiple (getD (now (numbers .entry)) (r * n + i) 0) unit) rows ⌝ }
+    ensures { λ t. ⌜ t ≡ all (λ r. keptBy rule (getD (now (numbers .entry)) (r * n + i) 0) unit) rows ⌝ }
 {
     let mut r: u64 = 0;
     while r < rows {
         let at = (r as usize) * n + i;
-        if !is_multiple(numbers[at], unit) {
+        if !is_kept(rule, numbers[at], unit) {
             return false;
         }
         r += 1;
@@ -173,7 +167,7 @@ fn node_aligned(kinds: &[u8], numbers: &[u32], rows: u64, i: usize) -> bool
     if kinds[i] != 8 {
         return true;
     }
-    rows_aligned(numbers, kinds.len(), rows, i)
+    rows_keep(2, numbers, kinds.len(), rows, i, 0)
 }
 
 // Whether node `i`, if it is an `addr`, keeps rule 6 in every row, in a bank with this unit.
@@ -185,7 +179,7 @@ fn addr_kept(kinds: &[u8], numbers: &[u32], rows: u64, i: usize, unit: u32) -> b
     if kinds[i] != 9 {
         return true;
     }
-    rows_on_unit(numbers, kinds.len(), rows, i, unit)
+    rows_keep(6, numbers, kinds.len(), rows, i, unit)
 }
 
 // Rule 2 over the nodes, ascending: `align` in every row.

@@ -24,14 +24,14 @@ returns c =
     let other = ne-eqb (getD (s .args .kinds .now) (s .args .i) 0) 9 (c .if1 .taken) in
     sym (all-kept (keeps s (eqb (getD (s .args .kinds .now) (s .args .i) 0) 9)) (s .args .rows) (λ k h. rw other))
 
-rows-on-unit-requires : tie.Need-rows-on-unit-requires
-rows-on-unit-requires c κs = search needs
+rows-keep-requires : tie.Need-rows-keep-requires
+rows-keep-requires c κs = search needs
 
 returns-2 : tie.Need-returns-2
 returns-2 c =
     let s = c .before .before .before .before .before in
     let this = eq-eqb (getD (s .args .kinds .now) (s .args .i) 0) 9 (c .before .if1 .left) in
-    c .rows-on-unit .ensures ∙ ap (λ (t : Bool). all (keeps s t) (s .args .rows)) (sym this)
+    c .rows-keep .ensures ∙ ap (λ (t : Bool). all (keeps s t) (s .args .rows)) (sym this)
 
 pub addr-kept-spec : {M : Type 1} → statement M
-addr-kept-spec = tie.close (tie.spec shared-slice-read-if1 returns rows-on-unit-requires returns-2)
+addr-kept-spec = tie.close (tie.spec shared-slice-read-if1 returns rows-keep-requires returns-2)

@@ -6,19 +6,19 @@ use native.Mathlib.Omega.{arith}
 use lib.ListN.{getD, length}
 use borrow.Author.Needs.{needs}
 use Rattle.profile.specs.RuleLaws.{KeptTo, all-kept, not-all}
-use Rattle.profile.specs.Rules.{multiple}
+use Rattle.profile.specs.Rules.{keptBy}
 use Rattle.profile.proofs.Loops.{none-yet, one-more, is-broken, cell-inside}
-use Rattle.profile.proofs.rules.rows_on_unit.Statement.{statement}
-use Rattle.profile.proofs.rules.rows_on_unit.Tie as tie
+use Rattle.profile.proofs.rules.rows_keep.Statement.{statement}
+use Rattle.profile.proofs.rules.rows_keep.Tie as tie
 
 abbrev Inv-loop : tie.InvT-loop
-Inv-loop numbers n rows i unit r₀ r = (r ≤ rows) × KeptTo (λ k. multiple (getD numbers (k * n + i) 0) unit) r
+Inv-loop rule numbers n rows i unit r₀ r = (r ≤ rows) × KeptTo (λ k. keptBy rule (getD numbers (k * n + i) 0) unit) r
 
 abbrev μ-loop : tie.MeasureT-loop
-μ-loop numbers n rows i unit r₀ r = rows - r
+μ-loop rule numbers n rows i unit r₀ r = rows - r
 
 abbrev keeps : tie.Start Inv-loop μ-loop → ℕ → Bool
-keeps s k = multiple (getD (s .args .numbers .now) (k * s .args .n + s .args .i) 0) (s .args .unit)
+keeps s k = keptBy (s .args .rule) (getD (s .args .numbers .now) (k * s .args .n + s .args .i) 0) (s .args .unit)
 
 -- the number is one of the list
 inside : (c : tie.In-loop Inv-loop μ-loop) → let s = c .before .before .before in
@@ -36,21 +36,21 @@ mul-at c = omega (arith, inside c)
 add-at : tie.Need-add-at Inv-loop μ-loop
 add-at c = omega (arith, inside c)
 
-mul-is-multiple : tie.Need-mul-is-multiple Inv-loop μ-loop
-mul-is-multiple c = omega (arith, inside c)
+mul-is-kept : tie.Need-mul-is-kept Inv-loop μ-loop
+mul-is-kept c = omega (arith, inside c)
 
-shared-slice-read-is-multiple : tie.Need-shared-slice-read-is-multiple Inv-loop μ-loop
-shared-slice-read-is-multiple c = omega (arith, inside (c .before))
+shared-slice-read-is-kept : tie.Need-shared-slice-read-is-kept Inv-loop μ-loop
+shared-slice-read-is-kept c = omega (arith, inside (c .before))
 
-is-multiple-requires : tie.Need-is-multiple-requires Inv-loop μ-loop
-is-multiple-requires c κs = search needs
+is-kept-requires : tie.Need-is-kept-requires Inv-loop μ-loop
+is-kept-requires c κs = search needs
 
 returns : tie.Need-returns Inv-loop μ-loop
 returns c =
     let at = c .before .before .before .before in
     let s = at .before .before in
     sym (not-all (keeps s) (s .args .rows) (at .loop .r) (c .before .before .before .loop-test .taken) (at .loop .inv .1)
-    (is-broken (keeps s) (at .loop .r) (c .before .is-multiple .ensures) (c .if1 .taken)))
+    (is-broken (keeps s) (at .loop .r) (c .before .is-kept .ensures) (c .if1 .taken)))
 
 add-r : tie.Need-add-r Inv-loop μ-loop
 add-r c = search needs
@@ -61,7 +61,7 @@ loop-less c = search needs
 loop-again : tie.Need-loop-again Inv-loop μ-loop
 loop-again c =
     let at = c .before .before .before .before in
-    (search needs, one-more (keeps (at .before .before)) (at .loop .r) (at .loop .inv .1) (c .before .is-multiple .ensures) (c .if1 .left))
+    (search needs, one-more (keeps (at .before .before)) (at .loop .r) (at .loop .inv .1) (c .before .is-kept .ensures) (c .if1 .left))
 
 returns-2 : tie.Need-returns-2 Inv-loop μ-loop
 returns-2 c =
@@ -69,8 +69,8 @@ returns-2 c =
     let e : c .before .loop .r ≡ s .args .rows = omega arith in
     sym (all-kept (keeps s) (s .args .rows) (rw e at (c .before .loop .inv .1)))
 
-pub rows-on-unit-spec : {M : Type 1} → statement M
-rows-on-unit-spec =
+pub rows-keep-spec : {M : Type 1} → statement M
+rows-keep-spec =
     tie.close
     (tie.spec
     Inv-loop
@@ -78,9 +78,9 @@ rows-on-unit-spec =
     loop-holds
     mul-at
     add-at
-    mul-is-multiple
-    shared-slice-read-is-multiple
-    is-multiple-requires
+    mul-is-kept
+    shared-slice-read-is-kept
+    is-kept-requires
     returns
     add-r
     loop-less
