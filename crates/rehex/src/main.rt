@@ -8,6 +8,9 @@ use record_read::Fault;
 use record_write::Written;
 use refusal::Opt;
 use refusal::Refusal;
+ghost use Prim.Native.Nat.{_≤_};
+ghost use lib.ListN.{length};
+ghost use Rattle.record_room.specs.Calls.{NotShort};
 
 // The longest file that is read, and a byte more, so that nothing is cut to a sound file.
 const SOURCE: usize = 3_276_801;
@@ -20,7 +23,7 @@ const BLOCKS: usize = 4_096;
 // Room for those bytes as records of 16 in the longest kind, and for a short record more in each block and 64 KiB line.
 const TEXT: usize = 3_145_728;
 
-// The bytes and blocks as records.
+// The bytes and blocks as records. There is room for every file, so that 14 is not given.
 fn put(
     format: u8,
     load: u32,
@@ -28,7 +31,12 @@ fn put(
     offsets: &[u64],
     sizes: &[u64],
     out: &mut [u8],
-) -> Written {
+) -> Written
+    requires { ⌜ length (now bytes) ≤ 1048576 ⌝ }
+    requires { ⌜ length (now offsets) ≤ 4096 ⌝ }
+    requires { ⌜ 3145728 ≤ length (now out) ⌝ }
+    ensures { λ r. ⌜ NotShort r ⌝ }
+{
     if format == 0 {
         return ihex::write_ihex(bytes, offsets, sizes, load, out);
     }
@@ -48,7 +56,11 @@ fn rewrite(
     offsets: &mut [u64],
     sizes: &mut [u64],
     out: &mut [u8],
-) -> Written {
+) -> Written
+    requires { ⌜ length (now bytes) ≤ 1048576 ⌝ }
+    requires { ⌜ length (now offsets) ≤ 4096 ⌝ }
+    requires { ⌜ 3145728 ≤ length (now out) ⌝ }
+{
     match record_fill::read(other(format), source, load, bytes, offsets, sizes) {
         Blocks::Refused(why) => Written::Refused(why),
         Blocks::Found(count) => {

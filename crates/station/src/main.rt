@@ -8,6 +8,9 @@ use blocks::Blocks;
 use output::Build;
 use record_write::Written;
 use refusal::Opt;
+ghost use Prim.Native.Nat.{_≤_};
+ghost use lib.ListN.{length};
+ghost use Rattle.record_room.specs.Calls.{NotShort};
 
 // Room for the longest file and a byte more, so that none is cut to a sound one.
 const FILE: usize = 65_537;
@@ -19,7 +22,7 @@ const NODES: usize = 4_096;
 // Room for the image as records, a short one in each block.
 const TEXT: usize = 131_072;
 
-// The blocks as records.
+// The blocks as records. There is room for every file, so that 14 is not given.
 fn put(
     format: u8,
     load: u32,
@@ -27,7 +30,12 @@ fn put(
     offsets: &[u64],
     sizes: &[u64],
     out: &mut [u8],
-) -> Written {
+) -> Written
+    requires { ⌜ length (now image) ≤ 16384 ⌝ }
+    requires { ⌜ length (now offsets) ≤ 4096 ⌝ }
+    requires { ⌜ 131072 ≤ length (now out) ⌝ }
+    ensures { λ r. ⌜ NotShort r ⌝ }
+{
     if format == 0 {
         return ihex::write_ihex(image, offsets, sizes, load, out);
     }
@@ -43,7 +51,10 @@ fn write(
     sizes: &[u64],
     count: u64,
     out: &mut [u8; TEXT],
-) {
+)
+    requires { ⌜ length (now image) ≤ 16384 ⌝ }
+    requires { ⌜ length (now offsets) ≤ 4096 ⌝ }
+{
     let n = args::within(count, offsets);
     let m = args::within(count, sizes);
     let text: &mut [u8] = out;
@@ -69,7 +80,9 @@ fn join(
     block_offsets: &mut [u64; NODES],
     block_sizes: &mut [u64; NODES],
     out: &mut [u8; TEXT],
-) {
+)
+    requires { ⌜ length (now image) ≤ 16384 ⌝ }
+{
     let n = args::within(count, offsets);
     let m = args::within(count, sizes);
     match blocks::get_blocks(&offsets[..n], &sizes[..m], block_offsets, block_sizes) {
