@@ -1,10 +1,10 @@
 #!/usr/bin/env python3
-"""The programs over the library beside the models: what station, rehex, bencher and converter print for good, damaged and refused files.
+"""The programs over the library beside the models: what station, rehex, bencher, converter and mapper print for good, damaged and refused files.
 
     programs.py [--cases N] [--seed N] [--run "COMMAND"] [NAME ..]
 
-NAME is one of the programs (all that are built unless said), which stand in target/bin; COMMAND stands before each where the machine cannot start them by itself (an emulator). The models
-are model.py, records.py and convert.py; what the bench is to print is worked out here, byte by byte.
+NAME is one of the programs (all that are built unless said), which stand in target/bin; COMMAND stands before each where the machine cannot start them by
+itself (an emulator). The models are model.py, records.py, convert.py and map.py; what the bench is to print is worked out here, byte by byte.
 """
 import argparse
 import random
@@ -17,6 +17,7 @@ from pathlib import Path
 import convert
 import damage
 import generate
+import map as mapped
 import model
 import records
 
@@ -145,6 +146,13 @@ def converter_case(rng):
     return [str(form)], data, told
 
 
+def mapper_case(rng):
+    """A layout file, and where everything stands."""
+    data, fill = some_layout(rng), rng.choice((None, 0, 1, 1, 2))
+    arguments = [] if fill is None else [str(fill)]
+    return arguments, data, mapped.printed(data, model.Choices(fill=fill or 0)).encode()
+
+
 def main():
     parser = argparse.ArgumentParser(description=__doc__, formatter_class=argparse.RawDescriptionHelpFormatter)
     parser.add_argument("names", nargs="*", metavar="NAME")
@@ -152,7 +160,7 @@ def main():
     parser.add_argument("--seed", type=int, default=1)
     parser.add_argument("--run", type=shlex.split, default=[])
     asked = parser.parse_args()
-    makers = {"station": station_case, "rehex": rehex_case, "bencher": bencher_case, "converter": converter_case}
+    makers = {"station": station_case, "rehex": rehex_case, "bencher": bencher_case, "converter": converter_case, "mapper": mapper_case}
     wrong = 0
     with tempfile.TemporaryDirectory() as folder:
         for name in asked.names or [n for n in makers if (ROOT / "target/bin" / n).exists()]:
@@ -160,7 +168,7 @@ def main():
             for _ in range(asked.cases):
                 arguments, given, told = makers[name](rng, Path(folder)) if name == "bencher" else makers[name](rng)
                 done = subprocess.run([*asked.run, str(ROOT / "target/bin" / name), *arguments], input=given, capture_output=True, check=False)
-                refused += told.startswith(b"refused")
+                refused += told.startswith(b"refused") or b"\nrefused " in told
                 if done.stdout != told:
                     wrong += 1
                     print(f"{name} {' '.join(arguments)} < {given.hex()}: {done.stdout!r} for {told!r}"[:500])

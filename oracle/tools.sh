@@ -22,7 +22,24 @@ same() {
         wrong=1
     }
 }
-for tool in ihex srec rehex bench convert layout; do
+# a tool's call that is refused, with a pattern for its last line and one for what it says on standard error
+refused() {
+    last=$1 said=$2
+    shift 2
+    "$@" >"$room/out" 2>"$room/err" </dev/null
+    got=$?
+    [ "$got" -eq 1 ] && tail -n 1 "$room/out" | grep -qx "$last" && grep -q "$said" "$room/err" || {
+        echo "$*: status $got, '$(tail -n 1 "$room/out")' for '$last', '$(cat "$room/err")' for '$said'"
+        wrong=1
+    }
+}
+has() {
+    grep -qx "$2" "$1" || {
+        echo "$3: no line '$2'"
+        wrong=1
+    }
+}
+for tool in ihex srec rehex bench convert layout map; do
     is 0 "tools/$tool" --help
     is 2 "tools/$tool" --nothing
     is 2 "tools/$tool" examples
@@ -61,5 +78,39 @@ is 1 tools/convert "$room/two" --to 2
 is 2 tools/convert "$room/two" --to 3
 is 0 tools/layout "$room/two"
 is 0 tools/layout examples/banks.form --fill full --page 64
+# the node at which a refusal was met, and what it hits, in the words of each tool
+hit='node 7 (data, bank 1, position 64, address 32776 = 0x8008, 32 bits at output bit 64) overlaps .* from bit 0 on, 128 bits: node 2 (data, bank 1, '
+refused 'refused 12 0 128' "$hit" tools/layout examples/clamp-mark-after.form
+refused 'refused 12 0 128' "$hit" tools/map examples/clamp-mark-after.form
+has "$room/out" ' *7  data  .*  at fault' 'tools/map examples/clamp-mark-after.form'
+refused '</svg>' "$hit" tools/map --svg examples/clamp-mark-after.form
+refused 'refused 12 32 0' 'node 5 (data, .*) would have the mark at bit 32 .*: node 2 (reserve, ' tools/map examples/mark-then-table.form
+refused 'refused 10 3' 'node 3 (data, .*) ends at bit 41, 1 bit past the size of bank 1 ' tools/map examples/past-the-end.form
+refused 'refused 9 0' 'node 0 (label, bank 0, .*) uses bank 0' tools/map examples/alone.form
+for number in 1 2 3 4 5 6 7 8 9 10 11 12 13 14 15 16 17 18 19; do
+    is 0 tools/words examples/sequencer.form "refused $number 1 2"
+    [ "$(wc -l <"$room/out")" -eq 1 ] || {
+        echo "refusal $number is not said in one line"
+        wrong=1
+    }
+done
+is 1 tools/map README.md
+is 2 tools/map examples/banks.form examples/banks.form
+is 2 tools/map examples/banks.form --fill all
+is 0 tools/map --fill full --svg examples/lock.form
+is 0 tools/map examples/banks.form
+has "$room/out" ' *1 *8  256..287 *0x100..0x11f *0..255 *0..31 *256 *64 *24 *168  zeros' 'tools/map examples/banks.form'
+has "$room/out" ' *21  instruction *1 *64 *264 *0x108  64..87 *8..10 *24' 'tools/map examples/banks.form'
+has "$room/out" ' *3  320..335 *40..41 *16' 'tools/map examples/banks.form'
+tools/map --svg examples/sequencer.form >"$room/drawn" || wrong=1
+same docs/sequencer.svg "$room/drawn" "docs/sequencer.svg is not what tools/map --svg draws of examples/sequencer.form"
+# a write that fails is not an answer
+[ ! -c /dev/full ] || for tool in ihex srec layout map; do
+    "tools/$tool" examples/banks.form >/dev/full 2>"$room/err"
+    [ $? -eq 2 ] || {
+        echo "tools/$tool: an answer that could not be written has not status 2"
+        wrong=1
+    }
+done
 [ "$wrong" -eq 0 ] && echo "tools: all as they should be"
 exit "$wrong"

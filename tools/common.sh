@@ -1,7 +1,8 @@
-# What the tools over the programs share; they read it, nobody runs it. A tool sets `takes`, the options that it has, and `most`, how many files.
+# What the tools over the programs share; they read it, nobody runs it. A tool sets `takes`, its options with a value, `flags`, those without, and `most`, how
+# many files.
 home=$(cd "$(dirname "$0")/.." && pwd) || exit 2
 tool=tools/${0##*/}
-load='' width='' to='' fill='' page='' address='' count=''
+load='' width='' to='' fill='' page='' address='' count='' svg=''
 file='' other='' files=0 line='' kinds='type 00, 01 or 04'
 
 # Nothing was done: status 2.
@@ -47,6 +48,13 @@ options() {
         case $name in
         --help) usage ;;
         -?*)
+            case " ${flags:-} " in
+            *" $name "*)
+                svg=yes
+                shift
+                continue
+                ;;
+            esac
             case " $takes " in
             *" $name "*) ;;
             *) say "there is no option $name (--help says what there is)" ;;
@@ -136,7 +144,8 @@ records_words() {
     case $1 in
     4)
         if [ -n "$line" ]; then
-            echo "line $((line + 1)): no good file goes on so: no record of $kinds, a wrong checksum, a byte given twice, below the load address or past 4294967295, or no end record"
+            echo "line $((line + 1)): no good file goes on so: no record of $kinds, a wrong checksum, a byte given twice, below the load address or past" \
+                "4294967295, or no end record"
         elif [ "$(wc -c <"$from")" -gt "$2" ]; then
             echo "the file is longer than $2 bytes"
         else
