@@ -51,7 +51,7 @@ function read_file(   at, tag, long, place, newest) {
     form = n && b[0] == 16 ? 2 : 1
     banks = nodes = rows = fields = at = newest = 0
     broken = -1
-    if (n > longest()) { broken = 0; why = "the file has " n " bytes, and a file of form " form " has at most " longest(); return }
+    if (n > longest()) { broken = 0; why = "the file is longer than " longest() " bytes, the most that a file of form " form " has"; return }
     while (newest != 5) {
         if (at + 3 > n) return breaks(at, at < n ? "is cut in its head" : "is missing: the file ends before its " (newest < 4 ? "values" : "pass limit"))
         tag = b[at]; long = word(at + 1, 2)
