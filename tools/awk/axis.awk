@@ -33,7 +33,7 @@ function put_area(from, to, class, title, text) {
     segs++
 }
 function gather(axis,   bank, i) {
-    segs = ticks = marked = 0
+    segs = ticks = 0
     extent = axis < 0 ? bits_long : 0
     for (bank = 0; bank < banks; bank++) if (on_axis(bank, axis)) gaps(bank, base_of(bank, axis))
     for (i = 0; i < boxes; i++) if (box_what[i] == "p" && on_axis(box_bank[i], axis)) gather_box(i, base_of(box_bank[i], axis), "p")
@@ -57,7 +57,6 @@ function gather_tick(i, base) {
     if (kind[i] != 2 && kind[i] != 3 && !is_mark(i)) return
     tick_at[ticks] = base + position[i]
     tick_class[ticks] = kind[i] == 2 ? "label" : kind[i] == 3 ? "constant" : "mark"
-    if (is_mark(i)) marked = 1
     tick_title[ticks] = node_title(i)
     reach(tick_at[ticks++])
 }

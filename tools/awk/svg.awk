@@ -76,8 +76,8 @@ function draw_line(axis, line,   from, to, i, top) {
     for (i = 0; i < segs; i++) if (seg_from[i] < to && seg_to[i] > from) draw_area(i, from, to, top)
     if (hit && hit_from < to && hit_to >= from) draw_hit(from, to, top)
     for (i = 0; i < ticks; i++) if (line_at(tick_at[i]) == line) draw_tick(i, from, top)
-    if (faulty) draw_fault(from, to, top)
-    top += faulty ? 52 : marked ? 35 : 26
+    if (is_fault_line(line)) draw_fault(from, to, top)
+    top += is_fault_line(line) ? 52 : has_mark(line) ? 35 : 26
     draw_scale(axis, from, to, top)
     y = top + (axis < 0 ? 36 : 25)
 }
@@ -101,9 +101,13 @@ function draw_tick(i, from, top,   x) {
     else if (tick_class[i] == "label") emit(shape("M" x " " px(top) "v-8h3v3h-3", "label", tick_title[i]))
     else emit(shape("M" x " " px(top) "v-6", "constant", tick_title[i]))
 }
+function is_fault_line(line) { return faulty && line >= fault_line && line <= fault_last }
+function has_mark(line,   i) {
+    for (i = 0; i < ticks; i++) if (tick_class[i] == "mark" && line_at(tick_at[i]) == line) return 1
+    return 0
+}
 # the node at fault below what stands already
 function draw_fault(from, to, top,   x, x2) {
-    if (from < fault_line * line_bits || from > fault_last * line_bits) return
     x = x_of(high(fault_from, from), from)
     x2 = high(x_of(low(fault_from + bits[fault], to), from), x + 6)
     emit(area(x, top + 36, x2 - x, 14, "fault", "at fault: " node_title(fault)))
