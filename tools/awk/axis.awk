@@ -34,6 +34,7 @@ function put_area(from, to, class, title, text) {
 }
 function gather(axis,   bank, i) {
     segs = ticks = 0
+    axes++
     extent = axis < 0 ? bits_long : 0
     for (bank = 0; bank < banks; bank++) if (on_axis(bank, axis)) gaps(bank, base_of(bank, axis))
     for (i = 0; i < boxes; i++) if (box_what[i] == "p" && on_axis(box_bank[i], axis)) gather_box(i, base_of(box_bank[i], axis), "p")
@@ -53,12 +54,18 @@ function gather_box(i, base, class,   title) {
     put_area(base + box_from[i], base + box_to[i], class, title, class == "p" ? "" : box_node[i])
     reach(base + box_to[i])
 }
-function gather_tick(i, base) {
+# symbols at one place have one tick, and so have marks
+function gather_tick(i, base,   key) {
     if (kind[i] != 2 && kind[i] != 3 && !is_mark(i)) return
-    tick_at[ticks] = base + position[i]
-    tick_class[ticks] = kind[i] == 2 ? "label" : kind[i] == 3 ? "constant" : "mark"
-    tick_title[ticks] = node_title(i)
-    reach(tick_at[ticks++])
+    key = axes SUBSEP base + position[i] SUBSEP is_mark(i)
+    if (!(key in tick_of)) {
+        tick_of[key] = ticks
+        tick_at[ticks] = base + position[i]
+        tick_class[ticks] = is_mark(i) ? "mark" : "constant"
+        tick_title[ticks] = node_title(i)
+        reach(tick_at[ticks++])
+    } else tick_title[tick_of[key]] = tick_title[tick_of[key]] "\n" node_title(i)
+    if (kind[i] == 2) tick_class[tick_of[key]] = "label"
 }
 function is_mark(i) { return is_placed(i) && bits[i] == 0 }
 function reach(to) { if (to > extent) extent = to }

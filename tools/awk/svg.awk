@@ -98,7 +98,7 @@ function draw_hit(from, to, top,   x) {
 function draw_tick(i, from, top,   x) {
     x = px(x_of(tick_at[i], from))
     if (tick_class[i] == "mark") emit(shape("M" x " " px(top + 27) "l4 8h-8z", "mark", tick_title[i]))
-    else if (tick_class[i] == "label") emit(shape("M" x " " px(top) "v-8h3v3h-3", "label", tick_title[i]))
+    else if (tick_class[i] == "label") emit(shape("M" x " " px(top) "v-9l5 3.5-5 3.5", "label", tick_title[i]))
     else emit(shape("M" x " " px(top) "v-6", "constant", tick_title[i]))
 }
 function is_fault_line(line) { return faulty && line >= fault_line && line <= fault_last }
@@ -189,7 +189,7 @@ function draw_overview(   i, order, class, from, to, seg, kept) {
 function draw_run(from, to, class) { emit(area(x_of(from, 0), y, high((to - from) * scale, 0.5), 12, class == "i" ? "i0" : class, "")) }
 
 function style() {
-    return "<style>text{font:10px \"DejaVu Sans\",Verdana,Arial,sans-serif;fill:#000}.head{font-size:13px;font-weight:bold}" \
+    return "<style>text{font:10px \"DejaVu Sans\",Verdana,Arial,sans-serif;fill:#000;pointer-events:none}.head{font-size:13px;font-weight:bold}" \
         ".top{font-size:16px;font-weight:bold}.b,.be{font-weight:bold}.n,.rn,.m{text-anchor:middle}.e,.be{text-anchor:end}.n{fill:#fff}" \
         ".rn{font-weight:bold;stroke:#fff;stroke-width:3px;paint-order:stroke}.out{font-style:italic}" \
         "path{stroke:#000;stroke-width:.8;fill:none}path.out{stroke-dasharray:2 6}.mark{fill:#000}.label{fill:#000;stroke-width:1.1}" \
@@ -221,7 +221,7 @@ function legend(   x, i, count, parts, pair, asked) {
         emit(write(x + 34, y + 11, pair[2]))
         x += 54 + 5.6 * length(pair[2])
     }
-    emit(shape("M" px(x + 4) " " px(y + 13) "v-8h3v3h-3", "label") write(x + 13, y + 11, "label"))
+    emit(shape("M" px(x + 4) " " px(y + 12) "v-9l5 3.5-5 3.5", "label") write(x + 13, y + 11, "label"))
     emit(shape("M" px(x + 56) " " px(y + 13) "v-6", "constant") write(x + 63, y + 11, "constant"))
     emit(shape("M" px(x + 128) " " px(y + 3) "l4 8h-8z", "mark") write(x + 138, y + 11, "mark of 0 bits"))
     y += 14
