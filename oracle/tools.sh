@@ -44,6 +44,8 @@ for tool in ihex srec rehex bench convert layout map; do
     is 2 "tools/$tool" --nothing
     is 2 "tools/$tool" examples
     is 2 "tools/$tool" "$room/none"
+    is 2 "tools/$tool" ''
+    is 0 "tools/$tool" --nothing --help
     is 2 "tools/$tool" README.md README.md README.md
 done
 for tool in ihex srec; do

@@ -11,11 +11,14 @@ say() {
     exit 2
 }
 
-# The lines at the head of the tool.
+# The lines at the head of the tool, at once wherever --help stands.
 usage() {
     sed -n '2,/^[^#]/s/^# \{0,1\}//p' "$0"
     exit 0
 }
+for one in "$@"; do
+    [ "$one" != --help ] || usage
+done
 
 # A number, decimal or in hex after 0x, as decimal.
 number() {
@@ -46,7 +49,6 @@ options() {
     while [ "$#" -gt 0 ]; do
         name=$1
         case $name in
-        --help) usage ;;
         -?*)
             case " ${flags:-} " in
             *" $name "*)
@@ -62,6 +64,7 @@ options() {
             [ "$#" -ge 2 ] || say "$name wants a value"
             ;;
         *)
+            [ -n "$name" ] || say "the name of a file is empty"
             files=$((files + 1))
             [ "$files" -le "$most" ] || say "more files than $most"
             if [ "$files" -eq 1 ]; then file=$name; else other=$name; fi
@@ -92,7 +95,7 @@ readable() {
     [ ! -d "$1" ] || say "$1 is a folder"
     [ -r "$1" ] || say "$1 cannot be read"
 }
-room=$(mktemp -d) || exit 2
+room=$(mktemp -d 2>/dev/null) || say "no temporary folder can be made"
 trap 'rm -rf "$room"' EXIT
 
 # The file, or standard input for -, of which no more is read than shows that it is too long.
