@@ -22,13 +22,13 @@ same() {
         wrong=1
     }
 }
-# a tool's call that is refused, with a pattern for its last line and one for what it says on standard error
+# a tool's call that is refused, with its last line and a pattern for what it says on standard error
 refused() {
     last=$1 said=$2
     shift 2
     "$@" >"$room/out" 2>"$room/err" </dev/null
     got=$?
-    [ "$got" -eq 1 ] && tail -n 1 "$room/out" | grep -qx "$last" && grep -q "$said" "$room/err" || {
+    [ "$got" -eq 1 ] && [ "$(tail -n 1 "$room/out")" = "$last" ] && grep -q "$said" "$room/err" || {
         echo "$*: status $got, '$(tail -n 1 "$room/out")' for '$last', '$(cat "$room/err")' for '$said'"
         wrong=1
     }
@@ -78,6 +78,9 @@ same examples/banks.form "$room/one" "a file comes back changed from form 2"
 is 1 tools/convert examples/banks.form --to 1
 is 1 tools/convert "$room/two" --to 2
 is 2 tools/convert "$room/two" --to 3
+refused '' 'bank 1 .* has a fill bit of one' tools/convert examples/erased.form --to 1
+refused '' 'field 0, at byte 0, ' tools/convert README.md --to 2
+refused '' 'the file is of form 2 already' tools/convert examples/erased.form --to 2
 is 0 tools/layout "$room/two"
 is 0 tools/layout examples/banks.form --fill full --page 64
 # the node at which a refusal was met, and what it hits, in the words of each tool

@@ -1,4 +1,4 @@
-# A refusal in words; tools/words has the call, tools/awk/file.awk what is read. `said` is the refusal.
+# A refusal in words; tools/words has the call, tools/awk/file.awk what is read. `said` is the refusal, `to` the form that a file was to be converted to.
 
 # Where a node stands, where `mapper` says it: kind, bank, position, address, size and output; else what the file alone tells.
 function tell_node(node,   text, past) {
@@ -124,6 +124,19 @@ function tell_rule(rule, at,   r) {
     return tell_node(at) ": it goes to " number[r, at] ", no multiple of the unit of bank " switched(at) ", " unit[switched(at)]
 }
 
+# 4 and 18 of the converter: the file or its form, the counts of file and result, a bank that is not there, the length; a bank with a fill bit
+function tell_converted(no, place,   i, most) {
+    most = banks == 1 && to == 2 ? 4095 : 4096
+    if (no == 18) for (i = 0; i < banks; i++) if (bit[i]) return tell_bank(i) " has a fill bit of one, and form 1 has no fill bits"
+    if (no != 4) return tell(no, place, 0)
+    if (n && form == to) return "the file is of form " form " already, by its first byte"
+    if (broken >= 0) return why
+    if (nodes > most) return "there are " nodes " nodes, and at most " most " can be converted" (most < 4096 ? ", since a switch is put ahead of them" : "")
+    if (rows > 16) return "there are " rows " rows, and at most 16 can be converted"
+    if (banks == 1 && kind[place] == 1 && operand[place] > 0) return tell_node(place) ": the file has one bank"
+    return "the result would be longer than a file of form " to " may be, " (to == 2 ? 65536 : 65000) " bytes"
+}
+
 function tell(no, p, q) {
     if (no == 1) return "there are " several(banks, "bank") ", and 1 to 16 can be laid out"
     if (no == 2) return tell_table(p)
@@ -150,5 +163,5 @@ function tell(no, p, q) {
 END {
     read_file()
     split(said, w, " ")
-    print tell(w[2] + 0, w[3] + 0, w[4] + 0)
+    print to ? tell_converted(w[2] + 0, w[3] + 0) : tell(w[2] + 0, w[3] + 0, w[4] + 0)
 }
