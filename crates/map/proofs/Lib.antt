@@ -1,0 +1,5 @@
+pub mod EntryLaws
+pub mod MapLaws
+pub mod MetLaws
+pub mod TraceLaws
+pub mod Unique

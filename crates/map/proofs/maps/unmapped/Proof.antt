@@ -1,0 +1,20 @@
+-- `unmapped` meets its contract.
+use mathlib.Core.Path.{ap}
+use Rattle.refusal.specs.declared.Verdict.{Verdict}
+use lib.ListN.{replicate}
+use Rattle.map.specs.Map.{mapBy}
+use Rattle.map.specs.declared.Fault.the-variants.{None}
+use borrow.Author.Needs.{needs}
+use Rattle.map.proofs.maps.unmapped.Statement.{statement}
+use Rattle.map.proofs.maps.unmapped.Tie as tie
+
+-- src/maps.rt:162:18
+verdict-of-requires : tie.Need-verdict-of-requires
+verdict-of-requires c κs = search needs
+
+-- src/maps.rt:158:1
+returns : tie.Need-returns
+returns c = ap (λ (v : Verdict). mapBy 0 (record { verdict = v; nodes = 0; fault = None }) (replicate 16 0)) (c .verdict-of .ensures)
+
+pub unmapped-spec : {M : Type 1} → statement M
+unmapped-spec = tie.close (tie.spec verdict-of-requires returns)

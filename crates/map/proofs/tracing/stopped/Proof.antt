@@ -1,0 +1,20 @@
+-- `stopped` meets its contract: the node is the one before the count.
+use mathlib.Core.Path.{_≡_, ap}
+use Prim.Native.Nat.{ℕ, _+_, _-_}
+use native.Mathlib.Omega.{arith}
+use borrow.Author.Needs.{needs}
+use Rattle.map.proofs.tracing.stopped.Statement.{statement}
+use Rattle.map.proofs.tracing.stopped.Tie as tie
+
+-- src/tracing.rt:33:16
+add-t3 : tie.Need-add-t3
+add-t3 c = search needs
+
+-- src/tracing.rt:27:1
+returns : tie.Need-returns
+returns c =
+    let i = c .args .i in
+    ap (λ (k : ℕ). record { verdict = c .args .verdict; nodes = i + 1; fault = AtNode k }) (let same : i ≡ i + 1 - 1 = omega arith in same)
+
+pub stopped-spec : {M : Type 1} → statement M
+stopped-spec = tie.close (tie.spec add-t3 returns)

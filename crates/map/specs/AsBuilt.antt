@@ -1,0 +1,238 @@
+-- The map and the build of one layout: the map is refused exactly where the build is, with the same number and place, but for 14, which is the build's alone:
+-- the map lends no image. And its node at fault is the node at which the build is refused.
+use mathlib.Core.Path.{_≡_, refl, sym, ap, subst, _∙_}
+use mathlib.Core.Bool.{Bool, true, false}
+use mathlib.Core.Logic.{_⊎_, inl, inr, _↔_}
+use Prim.Native.Nat.{ℕ, zero, suc, _+_, _-_, _*_, _≤_, _<_}
+use native.Mathlib.Numerals.{add-one}
+use native.Mathlib.Omega.{arith}
+use lib.Dec.{ltb}
+use lib.ListN.{length}
+use Rattle.refusal.specs.Pick.{pick}
+use Rattle.refusal.specs.Refusals.{numberOf, placeOf}
+use Rattle.refusal.specs.Told.{Told, refuses}
+use Rattle.refusal.specs.declared.Place.{Place}
+use Rattle.refusal.specs.declared.Refusal.{Refusal}
+use Rattle.refusal.specs.declared.Refusal.the-variants.{TooShort}
+use Rattle.refusal.specs.declared.Verdict.{Verdict}
+use Rattle.refusal.specs.declared.Verdict.the-variants.{Accepted, Refused}
+use Rattle.iter.specs.declared.Moved.the-variants.{To}
+use Rattle.iter.specs.declared.Pos.{Pos}
+use Rattle.overlap_checker.specs.State.{State, emptyState}
+use Rattle.resolver.specs.LastPass.{sees-in-last}
+use Rattle.resolver.specs.Lists.{Row}
+use Rattle.resolver.specs.NodeOrder.{seenAt}
+use Rattle.resolver.specs.Once.{Program}
+use Rattle.resolver.specs.Passes.{program, rowOfPass}
+use Rattle.resolver.specs.declared.Settled.{Settled}
+use Rattle.resolver.specs.declared.Settled.the-variants.{At, Refused as Unsettled}
+use Rattle.output.specs.Calls as build
+use Rattle.output.specs.Calls.{build-is}
+use Rattle.visits.specs.Items.{itemsOf, lengthOf}
+use Rattle.output.specs.Output.{Input, Room, roomOf, closedOf, fillOf, visitsOf, passesOf, settledOf, placedBuild, settledBuild, toldBuild}
+use Rattle.placing.specs.Placing.{Placed, holds, stops, placedNext, placedFrom, placedAll}
+use Rattle.placing.specs.PlacingLaws.{placed-last}
+use Rattle.output.specs.RefusedAtNode.{Reaches, RefusedThere}
+use Rattle.visits.specs.Spans.{spansOf}
+use Rattle.visits.specs.VisitLaws.{visits-none, visits-next}
+use Rattle.visits.specs.Visits.{visitAt, visitsTo, visits}
+use Rattle.output.specs.declared.Build.{Build}
+use Rattle.output.specs.declared.Build.the-variants.{Done, Refused as TurnedAway}
+use Rattle.visits.specs.declared.Visit.{Visit}
+use Rattle.map.specs.Calls.{Call, nodesIn, reachIn, reach-is}
+use Rattle.map.specs.Map.{wholeReach, stoppedReach, walkedAll, tracedBy, traced, settledReach, reachOf}
+use Rattle.map.specs.TracedLaws.{stopped-at, traced-stopped}
+use Rattle.map.specs.declared.Fault.{Fault}
+use Rattle.map.specs.declared.Fault.the-variants.{None, At as AtNode}
+use Rattle.map.specs.declared.Reach.{Reach}
+
+-- ---- verdicts
+
+-- A map's verdict beside a build's answer: both refused for one reason, both accepted, or the map accepted and the build refused 14.
+pub data Agree : Verdict → Build → Type 0 where
+  refused : (why : Refusal) → Agree (Refused why) (TurnedAway why)
+  accepted : (k bits spans : ℕ) → Agree Accepted (Done k bits spans)
+  short : (buffer : ℕ) → Agree Accepted (TurnedAway (TooShort buffer))
+
+agree-placed : (room : Room) (k bits spans walked : ℕ) (q : Placed) → Agree (tracedBy walked q .verdict) (placedBuild room k bits spans q)
+agree-placed room k bits spans walked (stops why) = refused why
+agree-placed room k bits spans walked (holds s) = by (ltb (8 * room .image) bits) (ltb (room .spans) spans)
+  where
+    by : (x y : Bool) → Agree Accepted (pick x (TurnedAway (TooShort 0)) (pick y (TurnedAway (TooShort 1)) (Done k bits spans)))
+    by true y = short 0
+    by false true = short 1
+    by false false = accepted k bits spans
+
+agree-settled : (b : Input) (room : Room) (passes n : ℕ) (s : Settled)
+    → Agree (settledReach (closedOf b) (visitsOf b passes) n s .verdict) (settledBuild b room passes s)
+agree-settled b room passes n (Unsettled why) = refused why
+agree-settled b room passes n (At k) =
+    let vs = visitsOf b passes in
+    agree-placed room k (lengthOf (fillOf b) (itemsOf vs)) (length (spansOf vs)) (walkedAll (closedOf b) vs) (placedAll (closedOf b) vs)
+
+verdict-same : {a b : Refusal} → Refused a ≡ Refused b → a ≡ b
+verdict-same e = cc
+
+turned-same : {a b : Refusal} → TurnedAway a ≡ TurnedAway b → a ≡ b
+turned-same e = cc
+
+never-refused : {why : Refusal} → Accepted ≡ Refused why → ⊥
+never-refused e = let z : _≡_ {A = ℕ} 0 1 = cc in omega arith
+
+never-done : {why : Refusal} {k bits spans : ℕ} → Done k bits spans ≡ TurnedAway why → ⊥
+never-done e = let z : _≡_ {A = ℕ} 0 1 = cc in omega arith
+
+-- one layout, mapped and built
+module _ (m : Call) (c : build.Call) (one : m .given ≡ c .given) where
+  reach-there : reachIn (m .answer) ≡ reachOf (c .given)
+  reach-there = reach-is m ∙ ap reachOf one
+
+  pub map-agrees-with-build : Agree (m .answer .verdict) (c .answer .build)
+  map-agrees-with-build =
+      subst (λ (v : Verdict). Agree v (c .answer .build)) (sym (ap (λ (r : Reach). r .verdict) reach-there))
+      (subst (Agree (reachOf (c .given) .verdict)) (sym (build-is c))
+      (subst
+      (λ (n : ℕ). Agree (reachOf (c .given) .verdict) (settledBuild (c .given) (roomOf (c .old)) n (settledOf (c .given))))
+      (sym (build.passes-are c))
+      (agree-settled (c .given) (roomOf (c .old)) (passesOf (c .given)) (length (c .given .lists .kinds)) (settledOf (c .given)))))
+
+  -- Refused for anything but 14: the one exactly when the other, for the same reason.
+  pub refused-exactly-as-built : (why : Refusal) → (numberOf why ≡ 14 → ⊥) → (m .answer .verdict ≡ Refused why) ↔ (c .answer .build ≡ TurnedAway why)
+  refused-exactly-as-built why other = (λ e. to map-agrees-with-build refl refl e, λ e. from map-agrees-with-build refl refl e)
+    where
+      to : {v : Verdict} {x : Build} → Agree v x → m .answer .verdict ≡ v → c .answer .build ≡ x → m .answer .verdict ≡ Refused why
+          → c .answer .build ≡ TurnedAway why
+      to (refused w) f g e = g ∙ ap TurnedAway (verdict-same (sym f ∙ e))
+      to (accepted k bits spans) f g e = absurd (never-refused (sym f ∙ e))
+      to (short buffer) f g e = absurd (never-refused (sym f ∙ e))
+
+      from : {v : Verdict} {x : Build} → Agree v x → m .answer .verdict ≡ v → c .answer .build ≡ x → c .answer .build ≡ TurnedAway why
+          → m .answer .verdict ≡ Refused why
+      from (refused w) f g e = f ∙ ap Refused (turned-same (sym g ∙ e))
+      from (accepted k bits spans) f g e = absurd (never-done (sym g ∙ e))
+      from (short buffer) f g e = absurd (other (ap numberOf (sym (turned-same (sym g ∙ e)))))
+
+  -- What is built is mapped whole,
+  pub mapped-where-built : (k bits spans : ℕ) → c .answer .build ≡ Done k bits spans → m .answer .verdict ≡ Accepted
+  mapped-where-built k bits spans e = from map-agrees-with-build refl refl
+    where
+      from : {v : Verdict} {x : Build} → Agree v x → m .answer .verdict ≡ v → c .answer .build ≡ x → m .answer .verdict ≡ Accepted
+      from (refused w) f g = absurd (never-done (sym e ∙ g))
+      from (accepted j bits′ spans′) f g = f
+      from (short buffer) f g = f
+
+  -- and what is mapped whole is built, or the build lacks room alone.
+  pub built-where-mapped : m .answer .verdict ≡ Accepted
+      → ((k : ℕ) × (bits : ℕ) × (spans : ℕ) × (c .answer .build ≡ Done k bits spans)) ⊎ ((buffer : ℕ) × (c .answer .build ≡ TurnedAway (TooShort buffer)))
+  built-where-mapped e = to map-agrees-with-build refl refl
+    where
+      to : {v : Verdict} {x : Build} → Agree v x → m .answer .verdict ≡ v → c .answer .build ≡ x
+          → ((k : ℕ) × (bits : ℕ) × (spans : ℕ) × (c .answer .build ≡ Done k bits spans)) ⊎ ((buffer : ℕ) × (c .answer .build ≡ TurnedAway (TooShort buffer)))
+      to (refused w) f g = absurd (never-refused (sym e ∙ f))
+      to (accepted k bits spans) f g = inl (k, bits, spans, g)
+      to (short buffer) f g = inr (buffer, g)
+
+-- ---- the node at fault
+
+-- the first of visits placed one after another that is refused
+first-stopped : (p : Program) (row : Row) (closed : Bool) (why : Refusal) (n : ℕ) → placedAll closed (visitsTo p row n) ≡ stops why
+    → (i : ℕ) × (i < n) × (s : State) × (placedAll closed (visitsTo p row i) ≡ holds s) × (placedNext closed (visitAt p row i) (holds s) ≡ stops why)
+unfolding placedFrom
+first-stopped p row closed why zero e = absurd (stops-none (sym (ap (placedAll closed) (visits-none p row)) ∙ e))
+  where
+    stops-none : {s : State} → holds s ≡ stops why → ⊥
+    stops-none q = let z : _≡_ {A = ℕ} 0 1 = cc in omega arith
+first-stopped p row closed why (suc n) e = by (placedAll closed (visitsTo p row n)) refl (λ f. first-stopped p row closed why n f)
+  where
+    next : placedNext closed (visitAt p row n) (placedAll closed (visitsTo p row n)) ≡ stops why
+    next = sym (ap (placedAll closed) (visits-next p row n) ∙ placed-last closed _ (visitsTo p row n) (visitAt p row n)) ∙ e
+
+    by : (q : Placed) → placedAll closed (visitsTo p row n) ≡ q
+        → (placedAll closed (visitsTo p row n) ≡ stops why
+        → (i : ℕ) × (i < n) × (s : State) × (placedAll closed (visitsTo p row i) ≡ holds s) × (placedNext closed (visitAt p row i) (holds s) ≡ stops why))
+        → (i : ℕ) × (i < suc n) × (s : State) × (placedAll closed (visitsTo p row i) ≡ holds s) × (placedNext closed (visitAt p row i) (holds s) ≡ stops why)
+    by (holds s) f before = (n, omega arith, s, f, sym (ap (placedNext closed (visitAt p row n)) f) ∙ next)
+    by (stops w) f before =
+        let (i, low, s, held, stop) = before (f ∙ sym (ap (placedNext closed (visitAt p row n)) f) ∙ next) in
+        (i, omega (arith, low), s, held, stop)
+
+fault-same : {a b : ℕ} → AtNode a ≡ AtNode b → a ≡ b
+fault-same e = cc
+
+never-fault : {n : ℕ} → None ≡ AtNode n → ⊥
+never-fault e = let z : _≡_ {A = ℕ} 0 1 = cc in omega arith
+
+module _ (m : Call) (c : build.Call) (one : m .given ≡ c .given) where
+  abbrev given : Input
+  given = c .given
+
+  abbrev closed : Bool
+  closed = closedOf given
+
+  -- the row that the map shows is the build's
+  same-row : rowOfPass (given .lists) (passesOf given) ≡ build.rowIn c
+  same-row = ap (rowOfPass (given .lists)) (sym (build.passes-are c))
+
+  traced-there : (k : ℕ) → settledOf given ≡ At k → reachIn (m .answer) ≡ traced closed (build.visitsIn c)
+  traced-there k settled =
+      reach-there m c one
+      ∙ ap (settledReach closed (visitsOf given (passesOf given)) (length (given .lists .kinds))) settled
+      ∙ ap (λ (row : Row). traced closed (visits (build.programIn c) row)) same-row
+
+  -- Where the build is refused at a node, 9 to 13, that node is the map's fault, and the last that has an entry; the reason is the build's.
+  pub fault-is-where-refused : (n number : ℕ) {place : Place} → Reaches c n → (t : RefusedThere c n number place)
+      → (m .answer .fault ≡ AtNode n) × (m .answer .nodes ≡ n + 1) × (m .answer .verdict ≡ Refused (t .why))
+  fault-is-where-refused n number r t =
+      let row = build.rowIn c in
+      let stop : placedNext closed (visitAt (build.programIn c) row n) (holds (r .stored)) ≡ stops (t .why) =
+      sym
+      (ap (placedAll closed) (visits-next (build.programIn c) row n)
+      ∙ placed-last closed _ (build.visitsBefore c n) (visitAt (build.programIn c) row n)
+      ∙ ap (placedNext closed (visitAt (build.programIn c) row n)) (r .before))
+      ∙ t .stopped in
+      let is : reachIn (m .answer) ≡ stoppedReach (Refused (t .why)) (n + 1) =
+      traced-there (r .k) (r .settled) ∙ traced-stopped (build.programIn c) row closed n (r .stored) (t .why) (r .listed) (r .before) stop in (
+        ap (λ (x : Reach). x .fault) is ∙ ap AtNode (let back : n + 1 - 1 ≡ n = omega arith in back),
+        ap (λ (x : Reach). x .nodes) is,
+        ap (λ (x : Reach). x .verdict) is,
+      )
+
+  at-node : (n k : ℕ) (why : Refusal) → settledOf given ≡ At k → placedAll closed (build.visitsIn c) ≡ stops why
+      → AtNode (walkedAll closed (build.visitsIn c) - 1) ≡ AtNode n → Reaches c n × RefusedThere c n (numberOf why) (placeOf why)
+  at-node n k why settled f g =
+      let p = build.programIn c in
+      let row = build.rowIn c in
+      let (i, low, s, held, stop) = first-stopped p row closed why (build.nodesIn c) f in
+      let far = stopped-at p row closed i s why low held stop .1 in
+      let there = fault-same g in
+      let is : i ≡ n = omega (arith, far, there) in
+      let (at, sees) = subst (λ (x : Row). (at : Pos) × (seenAt p x i ≡ To at)) same-row
+      (sees-in-last (given .banks) (given .lists) (given .choices) k settled i low) in
+      let vs = build.visitsIn c in
+      let built : c .answer .build ≡ TurnedAway why =
+      build-is c
+      ∙ ap (settledBuild given (roomOf (c .old)) (c .answer .passes)) settled
+      ∙ ap (placedBuild (roomOf (c .old)) k (lengthOf (fillOf given) (itemsOf vs)) (length (spansOf vs))) f in
+      subst (λ (j : ℕ). Reaches c j × RefusedThere c j (numberOf why) (placeOf why)) is (
+        record { k = k; settled = settled; listed = low; stored = s; before = held; at = at; sees = sees },
+        record {
+          why = why;
+          stopped =
+              ap (placedAll closed) (visits-next p row i)
+              ∙ placed-last closed _ (visitsTo p row i) (visitAt p row i)
+              ∙ ap (placedNext closed (visitAt p row i)) held
+              ∙ stop;
+          told = ap toldBuild built;
+        },
+      )
+
+  -- And where a layout that settled has a node at fault, the build gets to that node and is refused there.
+  pub refused-is-where-fault : (n k : ℕ) → settledOf given ≡ At k → m .answer .fault ≡ AtNode n
+      → (why : Refusal) × Reaches c n × RefusedThere c n (numberOf why) (placeOf why)
+  refused-is-where-fault n k settled e =
+      by (placedAll closed (build.visitsIn c)) refl (sym (ap (λ (x : Reach). x .fault) (traced-there k settled)) ∙ e)
+    where
+      by : (q : Placed) → placedAll closed (build.visitsIn c) ≡ q → tracedBy (walkedAll closed (build.visitsIn c)) q .fault ≡ AtNode n
+          → (why : Refusal) × Reaches c n × RefusedThere c n (numberOf why) (placeOf why)
+      by (holds s) f g = absurd (never-fault g)
+      by (stops why) f g = let (reaches, there) = at-node n k why settled f g in (why, reaches, there)

@@ -1,0 +1,4 @@
+pub mod Lines
+pub mod Read
+pub mod Unique
+pub mod Writing

@@ -1,0 +1,5 @@
+pub mod Cells
+pub mod Marks
+pub mod Steps
+pub mod Text
+pub mod Unique
