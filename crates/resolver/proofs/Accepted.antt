@@ -1,5 +1,4 @@
 -- What a layout comes to by its two checks.
-use Prim.Native.Nat.{ℕ}
 use mathlib.Core.Path.{_≡_, sym, subst, _∙_}
 use mathlib.Core.List.{[]}
 use Rattle.refusal.specs.declared.Refusal.{Refusal}
@@ -8,12 +7,11 @@ use Rattle.refusal.specs.declared.Verdict.the-variants.{Accepted, Refused}
 use Rattle.bankdef.specs.Check.{checkOf}
 use Rattle.bankdef.specs.declared.Bankdefs.{Bankdefs}
 use Rattle.resolver.specs.Layout.{layoutOf}
-use Rattle.resolver.specs.Lists.{Lists, lists, listsOf}
+use Rattle.lists.specs.Lists.{Lists, lists, listsOf}
 use Rattle.resolver.specs.Passes.{resolutionOf}
 use Rattle.resolver.specs.Figures.{Figures}
 use Rattle.resolver.specs.RefusedExactly.{layout-figures}
-pub use Rattle.resolver.specs.Sound.{accepted-rows}
-use Rattle.resolver.specs.Sound.{ListFigures, lists-figures}
+pub use Rattle.lists.specs.Sound.{accepted-rows}
 use Rattle.resolver.specs.declared.Choices.{Choices}
 use Rattle.resolver.specs.declared.Settled.the-variants.{Refused as Turned}
 use Rattle.resolver.specs.declared.Resolution.{Resolution}
@@ -40,6 +38,3 @@ module _ (banks : Bankdefs) (l : Lists) (choices : Choices) where
 pub layout-told : (banks : Bankdefs) (l : Lists) (choices : Choices) {r : Resolution} → r ≡ layoutOf banks l choices
     → (r ≡ layoutOf banks l choices) × Figures banks l choices r
 layout-told banks l choices e = (e, subst (Figures banks l choices) (sym e) (layout-figures banks l choices))
-
-pub lists-told : (banks : ℕ) (l : Lists) (fill : ℕ) {v : Verdict} → v ≡ listsOf banks l fill → (v ≡ listsOf banks l fill) × ListFigures banks l fill v
-lists-told banks l fill e = (e, subst (ListFigures banks l fill) (sym e) (lists-figures banks l fill))

@@ -28,7 +28,7 @@ use Rattle.iter.specs.declared.Node.{Node}
 use Rattle.iter.specs.declared.Walk.{Walk}
 use Rattle.iter.specs.declared.Stepped.{Stepped}
 use Rattle.resolver.specs.Listed.{listed-bank}
-use Rattle.resolver.specs.Lists.{Row}
+use Rattle.lists.specs.Lists.{Row}
 use Rattle.resolver.specs.Once.{bankRecord, bankOf, labelState, stateOf, offBoundary, met, goesOn, Program, node, stepAt, walkTo, passTo, passOf, on, off}
 use Rattle.resolver.specs.Switches.{Switches}
 use Rattle.resolver.specs.declared.Pass.{Pass}

@@ -1,4 +1,4 @@
--- What is made of the parts that are lent as rows: a node, and a pass.
+-- What is made of the parts that are lent as rows: a pass.
 use Prim.Native.Nat.{ℕ, _+_, _*_, _-_, min}
 use mathlib.Core.Path.{_≡_, sym, _∙_}
 use mathlib.Core.List.{List, []}
@@ -8,11 +8,10 @@ use lib.Dec.{eqb}
 use lib.ListN.{take, drop, length}
 use borrow.Author.Tests.{ne-eqb}
 use Rattle.bankdef.specs.declared.Bankdefs.{Bankdefs}
-use Rattle.iter.specs.declared.Node.{Node}
-use Rattle.resolver.specs.Lists.{Row, lists, rowWith, nodeAt, nodeOf}
+use Rattle.lists.specs.Lists.{Row, lists, rowWith}
 use Rattle.resolver.specs.Once.{programWith, passOf}
 use Rattle.resolver.specs.Passes.{passAt}
-pub use Rattle.resolver.specs.RowParts.{row-ends, first-part, row-part}
+pub use Rattle.lists.specs.RowParts.{row-ends, first-part, row-part}
 use Rattle.resolver.specs.declared.Pass.{Pass}
 
 -- the part of a list that is lent, from a to e
@@ -22,14 +21,6 @@ part a e xs = take (e - a) (drop a xs)
 -- the row that the parts of n elements from r * n on make
 abbrev partRow : ℕ → ℕ → List ℕ → List ℕ → Row
 partRow n r numbers states = rowWith (part (r * n) (r * n + n) numbers) (part (r * n) (r * n + n) states)
-
--- a node of those parts is the node of the row
-pub part-node : (kinds operands numbers states : List ℕ) (r i : ℕ) {v : Node} →
-    let n = length kinds in
-    v ≡ nodeAt kinds operands (part 0 n numbers) (partRow n r numbers states) i → v ≡ nodeOf kinds operands numbers states r i
-part-node kinds operands numbers states r i e =
-    let n = length kinds in
-    rw (first-part n numbers, row-part r n numbers, row-part r n states) at e
 
 -- pass 1 reads the first row, and so does a pass 0
 first-row : (k rows : ℕ) → k ≡ 1 → min k rows - 1 ≡ 0

@@ -2,20 +2,10 @@
 -- line. Nothing is lent to be changed, so the outcome is the answer.
 use Rattle.refusal.specs.Pick.{determined}
 use Rattle.refusal.specs.Outcome.{OneOutcome}
-use Rattle.resolver.proofs.lists.node_at.Kinds as node-at-kinds
-use Rattle.resolver.proofs.lists.node_at.Reads as node-at-reads
-use Rattle.resolver.proofs.lists.check_lists.Kinds as check-lists-kinds
-use Rattle.resolver.proofs.lists.check_lists.Reads as check-lists-reads
 use Rattle.resolver.proofs.once.bank_record.Kinds as bank-record-kinds
 use Rattle.resolver.proofs.once.bank_record.Reads as bank-record-reads
 use Rattle.resolver.proofs.passes.resolve.Kinds as resolve-kinds
 use Rattle.resolver.proofs.passes.resolve.Reads as resolve-reads
-
-pub node-at-unique : OneOutcome 5 node-at-kinds.ps node-at-kinds.r node-at-reads.Learnt
-node-at-unique κs a x y e f p q = determined p q
-
-pub check-lists-unique : OneOutcome 5 check-lists-kinds.ps check-lists-kinds.r check-lists-reads.Learnt
-check-lists-unique κs a x y e f p q = determined (p .0) (q .0)
 
 pub bank-record-unique : OneOutcome 0 bank-record-kinds.ps bank-record-kinds.r bank-record-reads.Learnt
 bank-record-unique κs a x y e f p q = determined p q

@@ -7,7 +7,7 @@ use Rattle.refusal.specs.declared.Verdict.the-variants.{Accepted, Refused as Tu
 use Rattle.bankdef.specs.Check.{checkOf}
 use Rattle.bankdef.specs.declared.Bankdefs.{Bankdefs}
 use Rattle.resolver.specs.Layout.{unless, layoutOf}
-use Rattle.resolver.specs.Lists.{Lists, listsOf}
+use Rattle.lists.specs.Lists.{Lists, listsOf}
 use Rattle.resolver.specs.Passes.{passAt, resolutionOf}
 use Rattle.resolver.specs.Run.{Counted, accepted-passes, passes-bounded}
 use Rattle.resolver.specs.declared.Choices.{Choices}

@@ -11,7 +11,7 @@ use Rattle.bankdef.specs.Check.{noBank, firstPair}
 use Rattle.bankdef.specs.Search.{firstWhere}
 use Rattle.bankdef.specs.declared.Bankdefs.{Bankdefs}
 use Rattle.resolver.specs.Layout.{byDefault, layoutOf}
-use Rattle.resolver.specs.Lists.{lists, nodesTo, listsOf}
+use Rattle.lists.specs.Lists.{lists, nodesTo, listsOf}
 use Rattle.resolver.specs.Once.{passTo}
 use Rattle.resolver.specs.Passes.{first, settledBy}
 use Rattle.resolver.specs.declared.Settled.the-variants.{At}

@@ -9,7 +9,7 @@ use Rattle.refusal.specs.declared.Verdict.the-variants.{Accepted}
 use Rattle.bankdef.specs.Check.{checkOf}
 use Rattle.bankdef.specs.declared.Bankdefs.{Bankdefs}
 use Rattle.resolver.specs.Layout.{layoutOf}
-use Rattle.resolver.specs.Lists.{Lists, nodeCountSound, rowCountSound, listsOf}
+use Rattle.lists.specs.Lists.{Lists, nodeCountSound, rowCountSound, listsOf}
 use Rattle.resolver.specs.declared.Choices.{Choices}
 use Rattle.resolver.specs.declared.Settled.the-variants.{Refused}
 

@@ -14,7 +14,7 @@ use Rattle.bankdef.specs.Check.{checkOf}
 use Rattle.bankdef.specs.declared.Bankdefs.{Bankdefs}
 use Rattle.resolver.specs.Ends.{Runs, RunsLast}
 use Rattle.resolver.specs.Layout.{Checked}
-use Rattle.resolver.specs.Lists.{Lists, listsOf}
+use Rattle.lists.specs.Lists.{Lists, listsOf}
 use Rattle.resolver.specs.NodeOrder.{defAt, OffBoundary, GoesPast}
 use Rattle.resolver.specs.Once.{walkTo}
 use Rattle.resolver.specs.PassStates.{nodeIn}

@@ -7,7 +7,7 @@ use lib.ListN.{getD, length, take, drop}
 use lib.Seq.{getD-take, getD-drop}
 use borrow.Author.Tests.{eq-eqb, ne-eqb}
 use Rattle.bankdef.specs.declared.Bankdefs.{Bankdefs}
-use Rattle.resolver.specs.Lists.{Lists, rowAt}
+use Rattle.lists.specs.Lists.{Lists, rowAt}
 use Rattle.resolver.specs.Once.{node}
 use Rattle.resolver.specs.Passes.{program, rowOfPass}
 

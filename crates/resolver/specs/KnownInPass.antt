@@ -24,7 +24,7 @@ use Rattle.iter.specs.StepFacts.{others-kept, count-kept, own-bank, sees-before
 use Rattle.iter.specs.ToldFacts.{advance-told}
 use Rattle.iter.specs.declared.Node.{Node}
 use Rattle.iter.specs.declared.Pos.{Pos}
-use Rattle.resolver.specs.Lists.{Row}
+use Rattle.lists.specs.Lists.{Row}
 use Rattle.resolver.specs.NodeOrder.{defAt, GoesPast}
 use Rattle.resolver.specs.Once.{Program, node, walkTo}
 

@@ -23,7 +23,7 @@ use Rattle.iter.specs.declared.Stepped.{Stepped}
 use Rattle.iter.specs.declared.Walk.{Walk}
 use Rattle.resolver.specs.Ends.{Runs, after, atLimit}
 use Rattle.resolver.specs.Labels.{same-address, address-same}
-use Rattle.resolver.specs.Lists.{Lists, Row}
+use Rattle.lists.specs.Lists.{Lists, Row}
 use Rattle.resolver.specs.NodeOrder.{defAt, GoesPast, ran-to-end, seen-apart}
 use Rattle.resolver.specs.Once.{Program, node, bankRecord, sameAddress, labelState, stateOf, walkTo}
 use Rattle.resolver.specs.PassStates.{seenIn, defIn, nodeIn, stateIn}

@@ -10,7 +10,7 @@ use Rattle.iter.specs.declared.Moved.the-variants.{To}
 use Rattle.iter.specs.declared.Pos.{Pos}
 use Rattle.resolver.specs.Answer.{accepted-layout}
 use Rattle.resolver.specs.Layout.{layoutOf, Checked}
-use Rattle.resolver.specs.Lists.{Lists, Row}
+use Rattle.lists.specs.Lists.{Lists, Row}
 use Rattle.resolver.specs.NodeOrder.{seenAt, GoesPast, ran-to-end}
 use Rattle.resolver.specs.Passes.{program, rowOfPass}
 use Rattle.resolver.specs.RefusedExactly.{checked-of}

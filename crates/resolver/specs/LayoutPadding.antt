@@ -17,12 +17,12 @@ use Rattle.resolver.specs.Cases.{oneBank}
 use Rattle.resolver.specs.KnownInPass.{bankAt}
 use Rattle.resolver.specs.LastPass.{lastRow, accepted-checked, sees-in-last}
 use Rattle.resolver.specs.Layout.{withLimit, layoutOf}
-use Rattle.resolver.specs.Lists.{Lists, Row, lists}
+use Rattle.lists.specs.Lists.{Lists, Row, lists}
 use Rattle.resolver.specs.Once.{Program, node, walkTo}
 use Rattle.resolver.specs.Padding.{lostAt, sumIn, paddingOf, sizesTo, padding-bounded, walk-carries-padding, ends-at-sizes-and-padding}
 use Rattle.resolver.specs.Passes.{program, rowOfPass}
 use Rattle.resolver.specs.RaisedLimit.{same-row-above}
-use Rattle.resolver.specs.Sound.{accepted-lists}
+use Rattle.lists.specs.Sound.{accepted-lists}
 use Rattle.resolver.specs.declared.Choices.{Choices}
 use Rattle.resolver.specs.declared.Settled.the-variants.{At}
 

@@ -1,9 +1,7 @@
 pub mod Answer
 pub mod Cases
 pub mod Chosen
-pub mod Counts
 pub mod Ends
-pub mod FaultExactly
 pub mod Figures
 pub mod FirstRow
 pub mod KnownInPass
@@ -14,7 +12,6 @@ pub mod Layout
 pub mod LayoutPadding
 pub mod Least
 pub mod Listed
-pub mod Lists
 pub mod ListsExactly
 pub mod NeverFour
 pub mod NodeOrder
@@ -26,9 +23,7 @@ pub mod PositionPast
 pub mod RaisedLimit
 pub mod RefusedExactly
 pub mod Repeats
-pub mod RowParts
 pub mod Run
-pub mod Sound
 pub mod StepRefusals
 pub mod Switches
 pub mod Told

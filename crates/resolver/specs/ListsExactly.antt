@@ -15,9 +15,9 @@ use Rattle.refusal.specs.declared.Verdict.the-variants.{Accepted, Refused}
 use Rattle.bankdef.specs.Check.{checkOf}
 use Rattle.bankdef.specs.declared.Bankdefs.{Bankdefs}
 use Rattle.resolver.specs.Layout.{layoutOf}
-use Rattle.resolver.specs.Lists.{Lists, nodeCountSound, rowCountSound, knownFill, nodesTo, listsOf}
+use Rattle.lists.specs.Lists.{Lists, nodeCountSound, rowCountSound, knownFill, nodesTo, listsOf}
 use Rattle.resolver.specs.RefusedExactly.{four-exactly}
-use Rattle.resolver.specs.Sound.{Lowest, lowest-node, lowest-refused}
+use Rattle.lists.specs.Sound.{Lowest, lowest-node, lowest-refused}
 use Rattle.resolver.specs.Told.{toldSettled}
 use Rattle.resolver.specs.declared.Choices.{Choices}
 

@@ -35,13 +35,13 @@ use Rattle.iter.specs.declared.Skipped.{Skipped}
 use Rattle.iter.specs.declared.Stepped.{Stepped}
 use Rattle.iter.specs.declared.Walk.{Walk}
 use Rattle.resolver.specs.Layout.{Checked}
-use Rattle.resolver.specs.Lists.{Lists, nodeOf, headFault, anyRowFault}
+use Rattle.lists.specs.Lists.{Lists, nodeOf, headFault, anyRowFault}
 use Rattle.resolver.specs.NodeOrder.{seenAt, defAt, GoesPast, seen-apart}
 use Rattle.resolver.specs.Once.{bankRecord, walkTo}
 use Rattle.resolver.specs.PassStates.{nodeIn, sound-state-of-row}
 use Rattle.resolver.specs.Passes.{program, rowOfPass}
 use Rattle.resolver.specs.PositionPast.{stands-listed, sound-numbers}
-use Rattle.resolver.specs.Sound.{accepted-node, accepted-lists}
+use Rattle.lists.specs.Sound.{accepted-node, accepted-lists}
 
 -- ---- a step
 

@@ -18,7 +18,7 @@ use Rattle.iter.specs.declared.Walk.{Walk}
 use Rattle.iter.specs.declared.Stepped.{Stepped}
 use Rattle.iter.specs.declared.Moved.{Moved}
 use Rattle.iter.specs.declared.Moved.the-variants.{To, Refused as Stopped}
-use Rattle.resolver.specs.Lists.{Row, nodeAt}
+use Rattle.lists.specs.Lists.{Row, nodeAt}
 use Rattle.resolver.specs.declared.Pass.{Pass}
 use Rattle.resolver.specs.declared.Pass.the-variants.{State, Refused}
 

@@ -39,7 +39,7 @@ use Rattle.iter.specs.declared.Stepped.{Stepped}
 use Rattle.iter.specs.declared.Walk.{Walk}
 use Rattle.resolver.specs.KnownInPass.{bankAt}
 use Rattle.resolver.specs.Least.{or-past}
-use Rattle.resolver.specs.Lists.{Row}
+use Rattle.lists.specs.Lists.{Row}
 use Rattle.resolver.specs.NodeOrder.{seenAt, defAt}
 use Rattle.resolver.specs.Once.{Program, node, walkTo}
 

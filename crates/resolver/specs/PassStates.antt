@@ -19,11 +19,11 @@ use Rattle.iter.specs.declared.Moved.the-variants.{To, Refused as Stopped}
 use Rattle.iter.specs.declared.Node.{Node}
 use Rattle.iter.specs.declared.Pos.{Pos}
 use Rattle.iter.specs.declared.Walk.{Walk}
-use Rattle.resolver.specs.Lists.{Lists, isItem, pastEnd, rowFault, listsOf}
+use Rattle.lists.specs.Lists.{Lists, isItem, pastEnd, rowFault, listsOf}
 use Rattle.resolver.specs.NodeOrder.{seenAt, defAt}
 use Rattle.resolver.specs.Once.{Going, on, off, node, closed, sameAddress, labelState, stateOf, passTo}
 use Rattle.resolver.specs.Passes.{program, rowOfPass, passAt}
-use Rattle.resolver.specs.Sound.{accepted-row, accepted-lists}
+use Rattle.lists.specs.Sound.{accepted-row, accepted-lists}
 use Rattle.resolver.specs.Walked.{stateSeen, Largest, largest}
 use Rattle.resolver.specs.declared.Pass.the-variants.{State}
 

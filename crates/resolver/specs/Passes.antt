@@ -5,7 +5,7 @@ use lib.Dec.{eqb, ltb}
 use Rattle.refusal.specs.Pick.{pick}
 use Rattle.refusal.specs.declared.Refusal.the-variants.{Unresolved}
 use Rattle.bankdef.specs.declared.Bankdefs.{Bankdefs}
-use Rattle.resolver.specs.Lists.{Lists, Row, rowAt}
+use Rattle.lists.specs.Lists.{Lists, Row, rowAt}
 use Rattle.resolver.specs.Once.{Program, passOf}
 use Rattle.resolver.specs.declared.Pass.{Pass}
 use Rattle.resolver.specs.declared.Pass.the-variants.{State, Refused as Failed}

@@ -34,12 +34,12 @@ use Rattle.iter.specs.declared.Stepped.{Stepped}
 use Rattle.iter.specs.declared.Walk.{Walk}
 use Rattle.resolver.specs.LabelStates.{switchedTo, bank-by-switches}
 use Rattle.resolver.specs.Layout.{Checked}
-use Rattle.resolver.specs.Lists.{Lists, Row, nodeOf, headFault, anyRowFault}
+use Rattle.lists.specs.Lists.{Lists, Row, nodeOf, headFault, anyRowFault}
 use Rattle.resolver.specs.NodeOrder.{seenAt, defAt, GoesPast}
 use Rattle.resolver.specs.Once.{Program, node, walkTo}
 use Rattle.resolver.specs.PassStates.{nodeIn, sound-state-of-row}
 use Rattle.resolver.specs.Passes.{program, rowOfPass}
-use Rattle.resolver.specs.Sound.{accepted-node, accepted-lists}
+use Rattle.lists.specs.Sound.{accepted-node, accepted-lists}
 
 -- ---- a step
 

@@ -15,7 +15,7 @@ use Rattle.resolver.specs.Answer.{accepted-layout, layout-bounded, layou
 use Rattle.resolver.specs.Cases.{oneBank, settledAt}
 use Rattle.resolver.specs.Ends.{SettlesBelow, settled-below}
 use Rattle.resolver.specs.Layout.{byDefault, withLimit, layoutOf}
-use Rattle.resolver.specs.Lists.{Lists, lists, nodesTo, anyRowFault, listsOf}
+use Rattle.lists.specs.Lists.{Lists, lists, nodesTo, anyRowFault, listsOf}
 use Rattle.resolver.specs.Once.{walkTo, passTo}
 use Rattle.resolver.specs.Passes.{passAt, rowOfPass, first, settledBy}
 use Rattle.resolver.specs.Run.{IsK}

@@ -30,7 +30,7 @@ use Rattle.resolver.specs.Layout.{unless, layoutOf, Checked}
 use Rattle.resolver.specs.NeverFour.{never-four}
 use Rattle.resolver.specs.Run.{Settles, at-zero}
 use Rattle.resolver.specs.PositionPast.{five-met-exactly}
-use Rattle.resolver.specs.Lists.{Lists, firstOf, nodeFault, nodesTo, listsOf}
+use Rattle.lists.specs.Lists.{Lists, firstOf, nodeFault, nodesTo, listsOf}
 use Rattle.resolver.specs.NodeOrder.{seenAt, OffBoundary, GoesPast, MeetsFirst, first-met, met-first, ran-to-end}
 use Rattle.resolver.specs.Passes.{program, rowOfPass, passAt, unresolved, lastOf, settledBy, resolutionOf}
 use Rattle.resolver.specs.StepRefusals.{Refusable, step-refusals}

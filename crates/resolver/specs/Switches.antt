@@ -16,8 +16,8 @@ use Rattle.bankdef.specs.Check.{checkOf}
 use Rattle.bankdef.specs.Refused.{accepted}
 use Rattle.bankdef.specs.declared.Bankdefs.{Bankdefs}
 use Rattle.resolver.specs.Least.{or-past}
-use Rattle.resolver.specs.Lists.{Lists, nodeOf, headFault, anyRowFault, listsOf}
-use Rattle.resolver.specs.Sound.{accepted-node, accepted-lists}
+use Rattle.lists.specs.Lists.{Lists, nodeOf, headFault, anyRowFault, listsOf}
+use Rattle.lists.specs.Sound.{accepted-node, accepted-lists}
 
 -- "banks, bank 0 included: 1 to 16", and each bank switch names one of them
 pub record Switches (banks : ℕ) (kinds operands : List ℕ) : Type 0 where

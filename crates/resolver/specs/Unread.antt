@@ -21,10 +21,10 @@ use Rattle.iter.specs.declared.Walk.{Walk}
 use Rattle.resolver.specs.FirstRow.{state-of-its-row, number-of-its-row, declared-number-of-first-row}
 use Rattle.resolver.specs.Layout.{unless, layoutOf}
 use Rattle.resolver.specs.Least.{or-past}
-use Rattle.resolver.specs.Lists.{Lists, lists, rowAt, isItem, pastEnd, rowFault, headFault, anyRowFault, nodeFault, nodesTo, listsOf}
+use Rattle.lists.specs.Lists.{Lists, lists, rowAt, isItem, pastEnd, rowFault, headFault, anyRowFault, nodeFault, nodesTo, listsOf}
 use Rattle.resolver.specs.Once.{Going, on, off, node, bankOf, stepAt, walkTo, labelState, stateOf, met, meets, passTo, closed}
 use Rattle.resolver.specs.Passes.{program, passAt, settledBy, resolutionOf}
-use Rattle.resolver.specs.Sound.{accepted-node, accepted-lists}
+use Rattle.lists.specs.Sound.{accepted-node, accepted-lists}
 use Rattle.resolver.specs.UnreadStep.{SameRead, bank-same, step-same}
 use Rattle.resolver.specs.declared.Choices.{Choices}
 use Rattle.resolver.specs.declared.Pass.{Pass}

@@ -1,10 +1,7 @@
-// From the list of nodes and the rows of sizes to the pass that settles: the list check, a pass over a row, and the passes.
-mod lists;
+// From the list of nodes and the rows of sizes to the pass that settles: a pass over a row, and the passes.
 mod once;
 mod passes;
 
-pub use lists::check_lists;
-pub use lists::node_at;
 pub use once::bank_record;
 pub use passes::resolve;
 use refusal::Refusal;

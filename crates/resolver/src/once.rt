@@ -1,6 +1,5 @@
 // A pass over a row.
 use crate::Pass;
-use crate::lists::node_at;
 use bankdef::Bankdef;
 use bankdef::Bankdefs;
 use iter::Moved;
@@ -9,6 +8,7 @@ use iter::Pos;
 use iter::bank_after;
 use iter::cross;
 use iter::on_boundary;
+use lists::node_at;
 use refusal::MAX_BANKS;
 use refusal::Opt;
 use refusal::Refusal;
@@ -16,7 +16,7 @@ ghost use mathlib.Core.Path.{_≡_};
 ghost use mathlib.Core.Bool.{false};
 ghost use Rattle.bankdef.specs.Check.{noBank};
 ghost use Prim.Native.Nat.{_/_};
-ghost use Rattle.resolver.specs.Lists.{rowWith};
+ghost use Rattle.lists.specs.Lists.{rowWith};
 ghost use Rattle.resolver.specs.Once.{programWith, bankRecord, labelState, stateOf, offBoundary, met, passOf};
 ghost use Rattle.resolver.specs.Switches.{Switches};
 

@@ -6,7 +6,7 @@ use native.Mathlib.Omega.{arith}
 use lib.ListN.{length, length-map}
 use borrow.Author.Needs.{needs}
 use Rattle.iter.specs.Step.{bankAfter}
-use Rattle.resolver.specs.Lists.{Row, rowWith}
+use Rattle.lists.specs.Lists.{Row, rowWith}
 use Rattle.resolver.specs.Once.{Program, programWith, node, passTo, walkTo, goesOn, on}
 use Rattle.resolver.proofs.Going.{Stands, stands-start, stands-in, one-of-sixteen, record-is, sees, stands-next}
 use Rattle.resolver.proofs.Going.{pass-start, pass-meets, pass-goes, pass-refused, pass-done}

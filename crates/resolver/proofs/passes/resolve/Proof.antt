@@ -1,5 +1,5 @@
 -- The banks' verdict, the lists' verdict, and the passes, which the accepted lists make sound.
-use Rattle.resolver.specs.Lists.{Lists, lists}
+use Rattle.lists.specs.Lists.{Lists, lists}
 use Rattle.resolver.proofs.Accepted.{accepted-rows, banks-refused, lists-refused, both-accepted, layout-told}
 use borrow.Author.Needs.{needs}
 use Rattle.resolver.specs.Switches.{accepted-switches}

@@ -5,7 +5,7 @@ use mathlib.Core.List.{[]}
 use native.Mathlib.Omega.{arith}
 use borrow.Author.Needs.{needs}
 use Rattle.resolver.specs.Ends.{Unsettled}
-use Rattle.resolver.specs.Lists.{Lists, lists}
+use Rattle.lists.specs.Lists.{Lists, lists}
 use Rattle.resolver.specs.Passes.{passAt}
 use Rattle.resolver.specs.Repeats.{repeats}
 use Rattle.resolver.specs.declared.Pass.{Pass}
