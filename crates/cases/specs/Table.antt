@@ -22,7 +22,7 @@ use Rattle.overlap_checker.specs.State.{emptyState, meets, tries, namedIn, answ
 use Rattle.overlap_checker.specs.Folds.{stateAfter}
 use Rattle.resolver.specs.Cases.{answerFor}
 use Rattle.resolver.specs.Layout.{layoutOf}
-use Rattle.resolver.specs.Lists.{listsOf, nodesTo}
+use Rattle.lists.specs.Lists.{listsOf, nodesTo}
 use Rattle.resolver.specs.Once.{passTo}
 use Rattle.resolver.specs.Passes.{first, settledBy}
 use Rattle.bitvec.specs.Bits.{bitAt}

@@ -16,7 +16,7 @@ use Rattle.bankdef.specs.Search.{firstWhere}
 use Rattle.iter.specs.Distance.{distanceOf}
 use Rattle.iter.specs.Step.{startOf, seenOf, movedOn, advancedOf, seenSkips, advanceSkips, stepOf}
 use Rattle.resolver.specs.Layout.{layoutOf}
-use Rattle.resolver.specs.Lists.{nodesTo, anyRowFault, listsOf}
+use Rattle.lists.specs.Lists.{nodesTo, anyRowFault, listsOf}
 use Rattle.resolver.specs.Once.{walkTo, passTo}
 use Rattle.resolver.specs.Passes.{first, settledBy}
 use Rattle.visits.specs.Visits.{visitsTo, each}

@@ -18,7 +18,7 @@ use Rattle.refusal.specs.declared.Opt.the-variants.{None}
 use Rattle.bankdef.specs.Search.{firstWhere}
 use Rattle.bankdef.specs.declared.Bankdef.{Bankdef}
 use Rattle.bankdef.specs.declared.Bankdefs.{Bankdefs}
-use Rattle.resolver.specs.Lists.{Lists, lists}
+use Rattle.lists.specs.Lists.{Lists, lists}
 use Rattle.output.specs.Output.{Input, input, Lent, Room, roomOf, visitsOf, buildOf, leftBy, Builds}
 use Rattle.output.specs.Output.{toldBuild}
 use Rattle.output.specs.declared.Output.{Output}

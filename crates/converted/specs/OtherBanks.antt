@@ -19,7 +19,7 @@ use Rattle.refusal.specs.declared.Verdict.{Verdict}
 use Rattle.refusal.specs.declared.Verdict.the-variants.{Refused as Turned}
 use Rattle.bankdef.specs.Check.{countSound, checkBanks, banksOf}
 use Rattle.bankdef.specs.declared.Bankdef.{Bankdef}
-use Rattle.resolver.specs.Lists.{listsOf}
+use Rattle.lists.specs.Lists.{listsOf}
 use Rattle.resolver.specs.Passes.{program, rowOfPass, resolutionOf}
 use Rattle.resolver.specs.Layout.{layoutOf, unless}
 use Rattle.resolver.specs.declared.Choices.{Choices}

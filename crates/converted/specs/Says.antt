@@ -17,7 +17,7 @@ use Rattle.refusal.specs.declared.Opt.{Opt}
 use Rattle.bankdef.specs.Check.{noBank}
 use Rattle.bankdef.specs.declared.Bankdef.{Bankdef}
 use Rattle.bankdef.specs.declared.Bankdefs.{Bankdefs}
-use Rattle.resolver.specs.Lists.{Lists, lists}
+use Rattle.lists.specs.Lists.{Lists, lists}
 use Rattle.output.specs.Output.{Input, input, Lent, Room, leftBy, visitsOf}
 use Rattle.output.specs.declared.Output.{Output}
 use Rattle.form.specs.declared.Form.the-variants.{Sound}

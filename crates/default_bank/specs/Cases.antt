@@ -10,7 +10,7 @@ use Rattle.refusal.specs.declared.Opt.the-variants.{None, Some}
 use Rattle.bankdef.specs.Check.{noBank}
 use Rattle.bankdef.specs.declared.Bankdef.{Bankdef}
 use Rattle.resolver.specs.Layout.{byDefault}
-use Rattle.resolver.specs.Lists.{lists}
+use Rattle.lists.specs.Lists.{lists}
 use Rattle.output.specs.Output.{Input, input}
 use Rattle.default_bank.specs.Widened.{withBank1, OneBank}
 

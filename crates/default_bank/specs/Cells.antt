@@ -9,7 +9,7 @@ use lib.ListN.{getD, length, take, drop, length-append, length-drop}
 use lib.Seq.{length-take-le, take-append-le, take-take, drop-append-add, drop-drop}
 use Rattle.refusal.specs.Pick.{pick}
 use Rattle.iter.specs.declared.Node.{Node}
-use Rattle.resolver.specs.Lists.{Lists, Row, rowAt, nodeAt}
+use Rattle.lists.specs.Lists.{Lists, Row, rowAt, nodeAt}
 use Rattle.default_bank.specs.Widened.{turned, zerosAhead, withSwitch}
 use Rattle.default_bank.specs.Steps.{up}
 

@@ -19,8 +19,8 @@ use Rattle.bankdef.specs.Numbers.{startSound, isZero, fillBit, bankFault, zeroF
 use Rattle.bankdef.specs.Search.{firstWhere}
 use Rattle.bankdef.specs.declared.Bankdef.{Bankdef}
 use Rattle.iter.specs.declared.Node.{Node}
-use Rattle.resolver.specs.Lists.{Lists, Row, nodeAt, nodeOf, rowAt, rowFault, headFault, isItem, anyRowFault, nodeFault, firstOf, nodesTo}
-use Rattle.resolver.specs.Lists.{nodeCountSound, rowCountSound, knownFill, listsOf}
+use Rattle.lists.specs.Lists.{Lists, Row, nodeAt, nodeOf, rowAt, rowFault, headFault, isItem, anyRowFault, nodeFault, firstOf, nodesTo}
+use Rattle.lists.specs.Lists.{nodeCountSound, rowCountSound, knownFill, listsOf}
 use Rattle.default_bank.specs.Widened.{bare, turned, shifted, misplaced, withSwitch}
 use Rattle.default_bank.specs.Steps.{up}
 use Rattle.default_bank.specs.Cells.{length-ahead, turned-length, Counted, row-zeroed, node-up}

@@ -15,7 +15,7 @@ use Rattle.iter.specs.StepCases.{standing}
 use Rattle.iter.specs.declared.Node.{Node}
 use Rattle.iter.specs.declared.Walk.{Walk}
 use Rattle.resolver.specs.KnownInPass.{bankAt}
-use Rattle.resolver.specs.Lists.{Row}
+use Rattle.lists.specs.Lists.{Row}
 use Rattle.resolver.specs.NodeOrder.{defAt}
 use Rattle.resolver.specs.Once.{Program, node, walkTo}
 use Rattle.resolver.specs.Padding.{distanceIn, labelLoses, lostBy, standsAt, lostAt, sumIn, paddingTo}

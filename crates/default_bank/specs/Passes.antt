@@ -9,7 +9,7 @@ use lib.ListN.{getD}
 use Rattle.refusal.specs.Pick.{pick}
 use Rattle.refusal.specs.declared.Refusal.the-variants.{Unresolved}
 use Rattle.bankdef.specs.declared.Bankdefs.{Bankdefs}
-use Rattle.resolver.specs.Lists.{Lists, Row, rowAt}
+use Rattle.lists.specs.Lists.{Lists, Row, rowAt}
 use Rattle.resolver.specs.Once.{Program, bankRecord, passOf}
 use Rattle.resolver.specs.Passes.{program, rowOfPass, passAt, unresolved, first, passK, lastOf, afterK, settledBy, resolutionOf}
 use Rattle.resolver.specs.declared.Pass.{Pass}

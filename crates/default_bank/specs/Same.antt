@@ -21,10 +21,10 @@ use Rattle.bankdef.specs.declared.Bankdef.{Bankdef}
 use Rattle.bankdef.specs.declared.Bankdefs.{Bankdefs}
 use Rattle.resolver.specs.LastPass.{accepted-checked}
 use Rattle.resolver.specs.Layout.{unless, layoutOf}
-use Rattle.resolver.specs.Lists.{Lists, Row, rowCountSound, knownFill, listsOf}
+use Rattle.lists.specs.Lists.{Lists, Row, rowCountSound, knownFill, listsOf}
 use Rattle.resolver.specs.Once.{Program, bankRecord}
 use Rattle.resolver.specs.Passes.{program, rowOfPass, resolutionOf}
-use Rattle.resolver.specs.Sound.{accepted-lists}
+use Rattle.lists.specs.Sound.{accepted-lists}
 use Rattle.resolver.specs.declared.Choices.{Choices}
 use Rattle.resolver.specs.declared.Resolution.{Resolution}
 use Rattle.resolver.specs.declared.Settled.{Settled}

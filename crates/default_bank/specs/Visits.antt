@@ -25,7 +25,7 @@ use Rattle.iter.specs.declared.Moved.the-variants.{To, Refused as Stopped}
 use Rattle.iter.specs.declared.Node.{Node}
 use Rattle.iter.specs.declared.Pos.{Pos}
 use Rattle.iter.specs.declared.Walk.{Walk}
-use Rattle.resolver.specs.Lists.{Row, firstOf}
+use Rattle.lists.specs.Lists.{Row, firstOf}
 use Rattle.resolver.specs.Once.{Program, node, bankOf, stepAt, walkTo}
 use Rattle.overlap_checker.specs.declared.Entry.{Entry}
 use Rattle.overlap_checker.specs.Offers.{lacksRoom}

@@ -15,7 +15,7 @@ use Rattle.iter.specs.declared.Moved.the-variants.{To, Refused as Stopped}
 use Rattle.iter.specs.declared.Node.{Node}
 use Rattle.iter.specs.declared.Pos.{Pos}
 use Rattle.iter.specs.declared.Walk.{Walk}
-use Rattle.resolver.specs.Lists.{Row}
+use Rattle.lists.specs.Lists.{Row}
 use Rattle.resolver.specs.Once.{Program, Going, on, off, node, bankRecord, bankOf, stepAt, walkTo}
 use Rattle.resolver.specs.Once.{labelState, offBoundary, stateOf, met, goesOn, meets, passTo, closed, passOf}
 use Rattle.resolver.specs.declared.Pass.{Pass}

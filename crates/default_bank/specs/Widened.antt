@@ -16,7 +16,7 @@ use Rattle.bankdef.specs.Check.{noBank}
 use Rattle.bankdef.specs.Numbers.{startSound, fillBit, bankFault}
 use Rattle.bankdef.specs.declared.Bankdef.{Bankdef}
 use Rattle.bankdef.specs.declared.Bankdefs.{Bankdefs}
-use Rattle.resolver.specs.Lists.{Lists, rowCountSound, knownFill}
+use Rattle.lists.specs.Lists.{Lists, rowCountSound, knownFill}
 use Rattle.resolver.specs.Once.{bankRecord}
 use Rattle.resolver.specs.declared.Choices.{Choices}
 use Rattle.output.specs.Output.{Input}

@@ -8,7 +8,7 @@ use Rattle.refusal.specs.Pick.{pick}
 use Rattle.refusal.specs.declared.Refusal.the-variants.{OffProfile}
 use Rattle.refusal.specs.declared.Verdict.{Verdict}
 use Rattle.refusal.specs.declared.Verdict.the-variants.{Accepted, Refused}
-use Rattle.resolver.specs.Lists.{firstOf}
+use Rattle.lists.specs.Lists.{firstOf}
 use Rattle.resolver.specs.Passes.{first}
 use Rattle.profile.specs.Rules.{firstBroken, all, ruled}
 use Rattle.default_profile.specs.Raised.{ruleVerdict}

@@ -13,7 +13,7 @@ use Rattle.bankdef.specs.Check.{noBank}
 use Rattle.bankdef.specs.declared.Bankdef.{Bankdef}
 use Rattle.bankdef.specs.declared.Bankdefs.{Bankdefs}
 use Rattle.iter.specs.declared.Node.{Node}
-use Rattle.resolver.specs.Lists.{Lists, Row, nodeAt, rowAt}
+use Rattle.lists.specs.Lists.{Lists, Row, nodeAt, rowAt}
 use Rattle.resolver.specs.Once.{bankRecord}
 use Rattle.output.specs.Output.{Input}
 use Rattle.profile.specs.OneBit.{oneBit}

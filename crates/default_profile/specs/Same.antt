@@ -16,7 +16,7 @@ use Rattle.bankdef.specs.Check.{checkOf}
 use Rattle.bankdef.specs.Numbers.{bankFault}
 use Rattle.bankdef.specs.declared.Bankdef.{Bankdef}
 use Rattle.bankdef.specs.declared.Bankdefs.{Bankdefs}
-use Rattle.resolver.specs.Lists.{Lists, firstOf, nodeCountSound, rowCountSound, knownFill, nodeFault, nodesTo, listsOf}
+use Rattle.lists.specs.Lists.{Lists, firstOf, nodeCountSound, rowCountSound, knownFill, nodeFault, nodesTo, listsOf}
 use Rattle.output.specs.Output.{Input}
 use Rattle.profile.specs.Kept.{Judged, keeps, breaks, judged}
 use Rattle.profile.specs.Pages.{noPages, pagesIn, pagesOf}

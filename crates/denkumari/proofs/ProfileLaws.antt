@@ -3,7 +3,7 @@ use mathlib.Core.Path.{_≡_, ap, subst, _∙_}
 use Prim.Native.Nat.{ℕ}
 use Rattle.refusal.specs.declared.Opt.the-variants.{Some}
 use Rattle.bankdef.specs.declared.Bankdefs.{Bankdefs}
-use Rattle.resolver.specs.Lists.{Lists}
+use Rattle.lists.specs.Lists.{Lists}
 use Rattle.resolver.specs.declared.Choices.{Choices}
 use Rattle.profile.specs.Profile.{profileOf}
 use Rattle.profile.specs.Told.{Answers}

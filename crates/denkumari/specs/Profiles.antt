@@ -4,7 +4,7 @@ use Prim.Native.Nat.{ℕ}
 use Rattle.refusal.specs.Pick.{determined}
 use Rattle.refusal.specs.declared.Opt.the-variants.{Some}
 use Rattle.bankdef.specs.declared.Bankdefs.{Bankdefs}
-use Rattle.resolver.specs.Lists.{Lists}
+use Rattle.lists.specs.Lists.{Lists}
 use Rattle.profile.specs.Profile.{profileOf}
 use Rattle.output.specs.Output.{Input, Lent, roomOf}
 use Rattle.filed.specs.Paged.{outputIn, BuiltIn}

@@ -4,7 +4,7 @@ use tables::make_banks;
 use told::DkLayout;
 use told::tell_layout;
 ghost use mathlib.Core.Path.{_≡_};
-ghost use Rattle.resolver.specs.Lists.{lists};
+ghost use Rattle.lists.specs.Lists.{lists};
 ghost use Rattle.output.specs.Output.{input, lent};
 ghost use Rattle.tables.specs.Tables.{given, tableOf, choicesBy};
 ghost use Rattle.denkumari.specs.Tables.{TablesTold};

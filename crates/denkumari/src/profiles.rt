@@ -7,7 +7,7 @@ use told::DkProfile;
 use told::tell_layout;
 use told::tell_paged;
 ghost use mathlib.Core.Path.{_≡_};
-ghost use Rattle.resolver.specs.Lists.{lists};
+ghost use Rattle.lists.specs.Lists.{lists};
 ghost use Rattle.output.specs.Output.{input, lent};
 ghost use Rattle.tables.specs.Tables.{given, tableOf, choicesBy};
 ghost use Rattle.denkumari.specs.Profiles.{ProfileSaid, PagedTold};

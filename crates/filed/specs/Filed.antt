@@ -11,7 +11,7 @@ use Rattle.refusal.specs.declared.Opt.{Opt}
 use Rattle.form.specs.Shape.{formOf, rowCount}
 use Rattle.form.specs.Banks.{tableOf}
 use Rattle.form.specs.Lists.{kindsOf, operandsOf, numbersOf, statesOf, valuesBy}
-use Rattle.resolver.specs.Lists.{Lists, lists}
+use Rattle.lists.specs.Lists.{Lists, lists}
 use Rattle.resolver.specs.declared.Choices.{Choices}
 use Rattle.resolver.specs.Passes.{program, rowOfPass}
 use Rattle.visits.specs.Visits.{visits}

@@ -11,7 +11,7 @@ ghost use Prim.Native.Nat.{_*_, _≤_};
 ghost use lib.ListN.{length, take};
 ghost use Rattle.form.specs.Shape.{formOf};
 ghost use Rattle.form.specs.Lists.{kindsOf, operandsOf, numbersOf, statesOf};
-ghost use Rattle.resolver.specs.Lists.{lists};
+ghost use Rattle.lists.specs.Lists.{lists};
 ghost use Rattle.output.specs.Output.{input, lent};
 ghost use Rattle.filed.specs.Paged.{BuiltIn};
 ghost use Rattle.filed.specs.Filed.{choicesOf, FileBuilt, HeldIn};

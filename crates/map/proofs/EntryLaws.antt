@@ -10,7 +10,7 @@ use Rattle.bitvec.specs.Lists.{listOf, listOf-more}
 use Rattle.blocks.specs.Offsets.{wordOf}
 use Rattle.iter.specs.Step.{startOf}
 use Rattle.iter.specs.declared.Walk.{Walk}
-use Rattle.resolver.specs.Lists.{Row}
+use Rattle.lists.specs.Lists.{Row}
 use Rattle.resolver.specs.Once.{Program, walkTo}
 use Rattle.resolver.specs.Padding.{sizeBy}
 use Rattle.visits.specs.declared.Visit.{Visit}

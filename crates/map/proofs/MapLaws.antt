@@ -14,12 +14,12 @@ use Rattle.iter.specs.Step.{startOf, bankAfter}
 use Rattle.iter.specs.StepCases.{step-cases}
 use Rattle.iter.specs.declared.Stepped.{Stepped}
 use Rattle.resolver.specs.Layout.{layoutOf}
-use Rattle.resolver.specs.Lists.{Lists, Row, Rows}
+use Rattle.lists.specs.Lists.{Lists, Row, Rows}
 use Rattle.resolver.specs.Once.{Program, node, bankOf, walkTo}
 use Rattle.resolver.specs.Padding.{paddingTo, sumIn, Walks, walk-carries-padding}
 use Rattle.resolver.specs.Passes.{program, rowOfPass}
-use Rattle.resolver.specs.RowParts.{first-part, row-part}
-use Rattle.resolver.specs.Sound.{SoundLists, accepted-lists}
+use Rattle.lists.specs.RowParts.{first-part, row-part}
+use Rattle.lists.specs.Sound.{SoundLists, accepted-lists}
 use Rattle.resolver.specs.declared.Choices.{Choices}
 use Rattle.resolver.specs.declared.Resolution.{Resolution}
 use Rattle.resolver.specs.declared.Settled.{Settled}

@@ -20,7 +20,7 @@ use Rattle.iter.specs.declared.Moved.the-variants.{To}
 use Rattle.iter.specs.declared.Pos.{Pos}
 use Rattle.overlap_checker.specs.State.{State, emptyState}
 use Rattle.resolver.specs.LastPass.{sees-in-last}
-use Rattle.resolver.specs.Lists.{Row}
+use Rattle.lists.specs.Lists.{Row}
 use Rattle.resolver.specs.NodeOrder.{seenAt}
 use Rattle.resolver.specs.Once.{Program}
 use Rattle.resolver.specs.Passes.{program, rowOfPass}

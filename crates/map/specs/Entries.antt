@@ -15,7 +15,7 @@ use Rattle.iter.specs.declared.Moved.the-variants.{To}
 use Rattle.iter.specs.declared.Pos.{Pos}
 use Rattle.resolver.specs.Padding.{sizeBy, Walks}
 use Rattle.resolver.specs.Passes.{rowOfPass}
-use Rattle.resolver.specs.Sound.{accepted-lists}
+use Rattle.lists.specs.Sound.{accepted-lists}
 use Rattle.output.specs.Output.{passesOf}
 use Rattle.visits.specs.Visits.{seenPos}
 use Rattle.map.specs.Calls.{Call, programIn, rowIn, nodesIn, visitIn, passes-are, reach-is}

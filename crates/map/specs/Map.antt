@@ -17,7 +17,7 @@ use Rattle.refusal.specs.declared.Verdict.the-variants.{Accepted, Refused}
 use Rattle.bitvec.specs.Lists.{listOf}
 use Rattle.blocks.specs.Offsets.{wordOf}
 use Rattle.overlap_checker.specs.State.{emptyState}
-use Rattle.resolver.specs.Lists.{Row}
+use Rattle.lists.specs.Lists.{Row}
 use Rattle.resolver.specs.Once.{Program}
 use Rattle.resolver.specs.Padding.{sizeBy, paddingTo}
 use Rattle.resolver.specs.Passes.{program, rowOfPass}

@@ -24,7 +24,7 @@ use Rattle.iter.specs.declared.Pos.{Pos}
 use Rattle.resolver.specs.Figures.{Figures, PastFirst, OffInLast, LastUnresolved}
 use Rattle.resolver.specs.LastPass.{accepted-checked, sees-in-last}
 use Rattle.resolver.specs.Layout.{unless, layoutOf, Checked}
-use Rattle.resolver.specs.Lists.{listsOf}
+use Rattle.lists.specs.Lists.{listsOf}
 use Rattle.resolver.specs.NodeOrder.{seenAt}
 use Rattle.resolver.specs.Padding.{Walks}
 use Rattle.resolver.specs.Passes.{program, rowOfPass, passAt, resolutionOf}

@@ -7,7 +7,7 @@ use Rattle.refusal.specs.Limits.{maxNodes}
 use Rattle.refusal.specs.Refusals.{numberOf}
 use Rattle.refusal.specs.declared.Verdict.{Verdict}
 use Rattle.refusal.specs.declared.Verdict.the-variants.{Accepted, Refused}
-use Rattle.resolver.specs.Lists.{Row}
+use Rattle.lists.specs.Lists.{Row}
 use Rattle.resolver.specs.Once.{Program, walkTo}
 use Rattle.resolver.specs.declared.Settled.{Settled}
 use Rattle.resolver.specs.declared.Settled.the-variants.{At, Refused as Unsettled}

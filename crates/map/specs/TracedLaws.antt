@@ -8,7 +8,7 @@ use lib.ListN.{length, length-append}
 use Rattle.refusal.specs.declared.Refusal.{Refusal}
 use Rattle.refusal.specs.declared.Verdict.the-variants.{Refused}
 use Rattle.overlap_checker.specs.State.{State, emptyState}
-use Rattle.resolver.specs.Lists.{Row}
+use Rattle.lists.specs.Lists.{Row}
 use Rattle.resolver.specs.Once.{Program}
 use Rattle.visits.specs.declared.Visit.{Visit}
 use Rattle.visits.specs.Visits.{visitAt, visitsTo, visits}

@@ -15,7 +15,7 @@ ghost use Prim.Native.Nat.{ℕ, _+_, _*_, _-_, _≤_, _<_, min};
 ghost use lib.ListN.{length, replicate};
 ghost use Rattle.refusal.specs.Limits.{maxNodes, maxRows};
 ghost use Rattle.refusal.specs.Refusals.{numberOf};
-ghost use Rattle.resolver.specs.Lists.{lists};
+ghost use Rattle.lists.specs.Lists.{lists};
 ghost use Rattle.visits.specs.Visits.{programOf, rowOf};
 ghost use Rattle.output.specs.Output.{input};
 ghost use Rattle.map.specs.Map.{nodeOf, metReach, firstIn, lent, Maps};

@@ -22,7 +22,7 @@ use Rattle.form.specs.Lists.{kindsOf, operandsOf, numbersOf, statesOf, valuesBy
 use Rattle.form.specs.Filled.{Places, places}
 use Rattle.form.specs.Columns.{column-length}
 use Rattle.form.specs.Cells.{cells-length}
-use Rattle.resolver.specs.Lists.{lists}
+use Rattle.lists.specs.Lists.{lists}
 use Rattle.resolver.specs.Passes.{program, rowOfPass}
 use Rattle.resolver.specs.declared.Choices.{Choices}
 use Rattle.output.specs.Output.{Input, input}

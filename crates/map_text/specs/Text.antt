@@ -26,7 +26,7 @@ use Rattle.blocks.specs.Offsets.{noOffset}
 use Rattle.iter.specs.Address.{addressOf}
 use Rattle.iter.specs.declared.Address.{Address}
 use Rattle.iter.specs.declared.Address.the-variants.{At, Refused as Untold}
-use Rattle.resolver.specs.Lists.{Row}
+use Rattle.lists.specs.Lists.{Row}
 use Rattle.resolver.specs.Once.{Program, bankRecord}
 use Rattle.resolver.specs.Passes.{program, rowOfPass}
 use Rattle.output.specs.Output.{Input, input}

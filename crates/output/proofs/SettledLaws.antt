@@ -23,17 +23,17 @@ use Rattle.refusal.specs.declared.Verdict.the-variants.{Accepted, Refused as Tu
 use Rattle.bankdef.specs.Check.{banksOf, checkOf}
 use Rattle.bankdef.specs.Fill.{fillBy}
 use Rattle.bankdef.specs.declared.Bankdefs.{Bankdefs}
-use Rattle.resolver.specs.Lists.{Lists, Row, Rows, rowAt, isItem, pastEnd, rowFault, nodeOf, nodesTo, listsOf}
+use Rattle.lists.specs.Lists.{Lists, Row, Rows, rowAt, isItem, pastEnd, rowFault, nodeOf, nodesTo, listsOf}
 use Rattle.resolver.specs.Once.{Program, node}
 use Rattle.resolver.specs.Passes.{program, rowOfPass, resolutionOf}
 use Rattle.resolver.specs.Layout.{unless, layoutOf}
-use Rattle.resolver.specs.Sound.{accepted-row, accepted-rows}
+use Rattle.lists.specs.Sound.{accepted-row, accepted-rows}
 use Rattle.resolver.specs.declared.Choices.{Choices}
 use Rattle.resolver.specs.declared.Resolution.{Resolution}
 use Rattle.resolver.specs.declared.Settled.{Settled}
 use Rattle.resolver.specs.declared.Settled.the-variants.{At, Refused as Unsettled}
-use Rattle.resolver.specs.Counts.{too-many-nodes}
-use Rattle.resolver.specs.RowParts.{first-part, row-part}
+use Rattle.lists.specs.Counts.{too-many-nodes}
+use Rattle.lists.specs.RowParts.{first-part, row-part}
 use Rattle.overlap_checker.specs.Ascending.{lt-or-le}
 use Rattle.visits.specs.Visits.{visits}
 use Rattle.visits.specs.VisitLaws.{each-from, member-visit}

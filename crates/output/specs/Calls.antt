@@ -13,7 +13,7 @@ use Rattle.refusal.specs.declared.Refusal.the-variants.{TooShort}
 use Rattle.refusal.specs.declared.Verdict.the-variants.{Accepted as Yes}
 use Rattle.bankdef.specs.Check.{banksOf, checkOf}
 use Rattle.resolver.specs.LastPass.{accepted-checked}
-use Rattle.resolver.specs.Lists.{Row}
+use Rattle.lists.specs.Lists.{Row}
 use Rattle.resolver.specs.Once.{Program}
 use Rattle.resolver.specs.Passes.{program, rowOfPass}
 use Rattle.resolver.specs.declared.Settled.{Settled}

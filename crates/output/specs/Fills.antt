@@ -23,7 +23,7 @@ use Rattle.bitvec.specs.Lists.{listOf}
 use Rattle.bitvec.specs.Numeral.{numeral}
 use Rattle.resolver.specs.Chosen.{same-for-fills}
 use Rattle.resolver.specs.Layout.{layoutOf}
-use Rattle.resolver.specs.Lists.{Lists, lists, nodesTo, listsOf}
+use Rattle.lists.specs.Lists.{Lists, lists, nodesTo, listsOf}
 use Rattle.resolver.specs.Once.{passTo}
 use Rattle.resolver.specs.Passes.{program, rowOfPass, first, settledBy}
 use Rattle.resolver.specs.declared.Resolution.{Resolution}

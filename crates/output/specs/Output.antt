@@ -15,7 +15,7 @@ use Rattle.refusal.specs.declared.Refusal.the-variants.{TooShort}
 use Rattle.bankdef.specs.Check.{banksOf}
 use Rattle.bankdef.specs.Fill.{fillBy}
 use Rattle.bankdef.specs.declared.Bankdefs.{Bankdefs}
-use Rattle.resolver.specs.Lists.{Lists, Row}
+use Rattle.lists.specs.Lists.{Lists, Row}
 use Rattle.resolver.specs.Once.{Program}
 use Rattle.resolver.specs.Passes.{program, rowOfPass}
 use Rattle.resolver.specs.Layout.{layoutOf}

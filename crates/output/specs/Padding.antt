@@ -21,7 +21,7 @@ use Rattle.iter.specs.declared.Pos.{Pos}
 use Rattle.resolver.specs.Cases.{oneBank}
 use Rattle.resolver.specs.KnownInPass.{bankAt}
 use Rattle.resolver.specs.Layout.{byDefault, layoutOf}
-use Rattle.resolver.specs.Lists.{lists, nodesTo, anyRowFault, listsOf}
+use Rattle.lists.specs.Lists.{lists, nodesTo, anyRowFault, listsOf}
 use Rattle.resolver.specs.NodeOrder.{seenAt}
 use Rattle.resolver.specs.Once.{walkTo, passTo}
 use Rattle.resolver.specs.Passes.{first, settledBy}

@@ -19,7 +19,7 @@ use Rattle.iter.specs.Address.{unitsFrom, addressOf, outputPosition}
 use Rattle.iter.specs.Distance.{tellable}
 use Rattle.iter.specs.declared.Node.{Node}
 use Rattle.bankdef.specs.declared.Bankdef.{Bankdef}
-use Rattle.resolver.specs.Lists.{Row}
+use Rattle.lists.specs.Lists.{Row}
 use Rattle.resolver.specs.Once.{Program}
 use Rattle.overlap_checker.specs.declared.Entry.{Entry}
 use Rattle.overlap_checker.specs.Interval.{Covers}

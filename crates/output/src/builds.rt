@@ -18,7 +18,7 @@ ghost use lib.ListN.{length};
 ghost use Rattle.refusal.specs.Limits.{maxNodes, maxRows};
 ghost use Rattle.bankdef.specs.Check.{banksOf};
 ghost use Rattle.bankdef.specs.Fill.{fillBy};
-ghost use Rattle.resolver.specs.Lists.{lists};
+ghost use Rattle.lists.specs.Lists.{lists};
 ghost use Rattle.visits.specs.Visits.{visits};
 ghost use Rattle.visits.specs.Items.{itemsOf};
 ghost use Rattle.placing.specs.Placing.{closesDefault};

@@ -13,7 +13,7 @@ use Rattle.iter.specs.StepCases.{step-cases}
 use Rattle.iter.specs.declared.Moved.the-variants.{To}
 use Rattle.iter.specs.declared.Pos.{Pos}
 use Rattle.iter.specs.declared.Stepped.{Stepped}
-use Rattle.resolver.specs.Lists.{Row}
+use Rattle.lists.specs.Lists.{Row}
 use Rattle.resolver.specs.NodeOrder.{seenAt}
 use Rattle.resolver.specs.Once.{Program, node, bankOf, walkTo}
 use Rattle.resolver.specs.Padding.{paddingOf, walk-carries-padding}

@@ -22,7 +22,7 @@ use Rattle.iter.specs.declared.Node.{Node}
 use Rattle.iter.specs.declared.Pos.{Pos}
 use Rattle.iter.specs.declared.Moved.{Moved}
 use Rattle.iter.specs.declared.Moved.the-variants.{To, Refused as Stopped}
-use Rattle.resolver.specs.Lists.{Row, firstOf}
+use Rattle.lists.specs.Lists.{Row, firstOf}
 use Rattle.resolver.specs.Once.{Program}
 use Rattle.overlap_checker.specs.declared.Entry.{Entry}
 use Rattle.overlap_checker.specs.Interval.{Covers}

@@ -12,9 +12,9 @@ use Rattle.refusal.specs.declared.Verdict.the-variants.{Accepted, Refused}
 use Rattle.bankdef.specs.Check.{checkOf}
 use Rattle.bankdef.specs.Refused.{accepted}
 use Rattle.bankdef.specs.declared.Bankdefs.{Bankdefs}
-use Rattle.resolver.specs.FaultExactly.{otherBank, fault-exactly}
-use Rattle.resolver.specs.Lists.{Lists, lists, listsOf, firstOf}
-use Rattle.resolver.specs.Sound.{accepted-lists, accepted-node}
+use Rattle.lists.specs.FaultExactly.{otherBank, fault-exactly}
+use Rattle.lists.specs.Lists.{Lists, lists, listsOf, firstOf}
+use Rattle.lists.specs.Sound.{accepted-lists, accepted-node}
 use Rattle.profile.specs.Kept.{Judged, keeps, breaks, judged}
 use Rattle.profile.specs.OneBit.{ExactlyOne, one-bit-exactly, zero-has-none}
 use Rattle.profile.specs.Pages.{nonePaged, pagesOf}

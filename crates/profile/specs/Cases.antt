@@ -14,7 +14,7 @@ use Rattle.refusal.specs.declared.Verdict.the-variants.{Accepted, Refused}
 use Rattle.bankdef.specs.Check.{noBank}
 use Rattle.bankdef.specs.declared.Bankdef.{Bankdef}
 use Rattle.bankdef.specs.declared.Bankdefs.{Bankdefs}
-use Rattle.resolver.specs.Lists.{lists}
+use Rattle.lists.specs.Lists.{lists}
 use Rattle.resolver.specs.Passes.{first}
 use Rattle.profile.specs.Pages.{noPages, pagesOf}
 use Rattle.profile.specs.Rules.{rulesOf}

@@ -18,10 +18,10 @@ use Rattle.bankdef.specs.Refused as table
 use Rattle.bankdef.specs.Refused.{Decided, decided}
 use Rattle.bankdef.specs.declared.Bankdefs.{Bankdefs}
 use Rattle.resolver.specs.Layout.{Checked}
-use Rattle.resolver.specs.Lists.{Lists, knownFill, nodeCountSound, rowCountSound, nodesTo, listsOf, rowAt}
+use Rattle.lists.specs.Lists.{Lists, knownFill, nodeCountSound, rowCountSound, nodesTo, listsOf, rowAt}
 use Rattle.resolver.specs.NodeOrder.{defAt, GoesPast}
 use Rattle.resolver.specs.Passes.{program}
-use Rattle.resolver.specs.Sound.{lowest-node}
+use Rattle.lists.specs.Sound.{lowest-node}
 use Rattle.profile.specs.Keeping.{LabelAligned, AlignKept}
 use Rattle.profile.specs.Kept as kept
 use Rattle.profile.specs.Kept.{InProfile, Breaks, label, align, kept-said, broken-said}

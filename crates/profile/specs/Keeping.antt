@@ -11,7 +11,7 @@ use Rattle.refusal.specs.Bools.{either}
 use Rattle.refusal.specs.declared.Opt.{Opt}
 use Rattle.refusal.specs.declared.Opt.the-variants.{None, Some}
 use Rattle.bankdef.specs.declared.Bankdefs.{Bankdefs}
-use Rattle.resolver.specs.Lists.{Lists}
+use Rattle.lists.specs.Lists.{Lists}
 use Rattle.resolver.specs.Once.{bankRecord}
 use Rattle.profile.specs.OneBit.{ExactlyOne, one-bit-exactly}
 use Rattle.profile.specs.RuleLaws.{Every, kept-all, all-kept}

@@ -7,7 +7,7 @@ use Rattle.refusal.specs.declared.Refusal.the-variants.{OffProfile}
 use Rattle.refusal.specs.declared.Verdict.{Verdict}
 use Rattle.refusal.specs.declared.Verdict.the-variants.{Accepted, Refused}
 use Rattle.bankdef.specs.declared.Bankdefs.{Bankdefs}
-use Rattle.resolver.specs.Lists.{Lists, firstOf}
+use Rattle.lists.specs.Lists.{Lists, firstOf}
 use Rattle.resolver.specs.Once.{bankRecord}
 use Rattle.profile.specs.Keeping.{LabelAligned, AlignKept, OffsetKept, SizeKept, UnitKept, AddrKept}
 use Rattle.profile.specs.Keeping.{label-tells, align-tells, offset-tells, size-tells, unit-tells, addr-tells}

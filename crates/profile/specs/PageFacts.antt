@@ -10,7 +10,7 @@ use Rattle.refusal.specs.declared.Opt.{Opt}
 use Rattle.refusal.specs.declared.Opt.the-variants.{None, Some}
 use Rattle.bankdef.specs.Check.{noBank, banksOf}
 use Rattle.bankdef.specs.declared.Bankdefs.{Bankdefs}
-use Rattle.resolver.specs.Lists.{Lists}
+use Rattle.lists.specs.Lists.{Lists}
 use Rattle.resolver.specs.Once.{bankRecord}
 use Rattle.profile.specs.Kept.{InProfile}
 use Rattle.profile.specs.Pages.{noPages, pagesBy, pagesIn, pagesOf}

@@ -4,7 +4,7 @@ use Rattle.refusal.specs.declared.Verdict.{Verdict}
 use Rattle.refusal.specs.declared.Verdict.the-variants.{Accepted, Refused}
 use Rattle.bankdef.specs.Check.{checkOf}
 use Rattle.bankdef.specs.declared.Bankdefs.{Bankdefs}
-use Rattle.resolver.specs.Lists.{Lists, listsOf, firstOf}
+use Rattle.lists.specs.Lists.{Lists, listsOf, firstOf}
 use Rattle.profile.specs.Pages.{nonePaged, pagesOf}
 use Rattle.profile.specs.Rules.{rulesOf}
 use Rattle.profile.specs.declared.Paged.{Paged}

@@ -11,7 +11,7 @@ use Rattle.refusal.specs.declared.Verdict.{Verdict}
 use Rattle.refusal.specs.declared.Verdict.the-variants.{Accepted, Refused}
 use Rattle.refusal.specs.Bools.{either, clash}
 use Rattle.resolver.specs.Least.{first-least, first-found, first-from, first-at}
-use Rattle.resolver.specs.Lists.{firstOf}
+use Rattle.lists.specs.Lists.{firstOf}
 use Rattle.profile.specs.Rules.{firstBroken, all, ruled}
 
 module _ (keeps : ℕ → Bool) where

@@ -10,8 +10,8 @@ use Rattle.refusal.specs.declared.Refusal.the-variants.{OffProfile}
 use Rattle.refusal.specs.declared.Verdict.{Verdict}
 use Rattle.refusal.specs.declared.Verdict.the-variants.{Accepted, Refused}
 use Rattle.bankdef.specs.declared.Bankdefs.{Bankdefs}
-use Rattle.resolver.specs.FaultExactly.{shownIn}
-use Rattle.resolver.specs.Lists.{Lists, firstOf}
+use Rattle.lists.specs.FaultExactly.{shownIn}
+use Rattle.lists.specs.Lists.{Lists, firstOf}
 use Rattle.resolver.specs.Once.{bankRecord}
 use Rattle.resolver.specs.Passes.{first}
 use Rattle.profile.specs.OneBit.{oneBit}

@@ -9,7 +9,7 @@ use Rattle.refusal.specs.Pick.{pick}
 use Rattle.bankdef.specs.declared.Bankdefs.{Bankdefs}
 use Rattle.iter.specs.Step.{bankAfter}
 use Rattle.resolver.specs.LabelStates.{switchedTo, bank-by-switches}
-use Rattle.resolver.specs.Lists.{Lists, Row}
+use Rattle.lists.specs.Lists.{Lists, Row}
 use Rattle.resolver.specs.NodeOrder.{defAt, GoesPast}
 use Rattle.resolver.specs.Once.{bankRecord, node, walkTo}
 use Rattle.resolver.specs.Passes.{program}

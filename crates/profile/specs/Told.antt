@@ -10,7 +10,7 @@ use Rattle.refusal.specs.declared.Verdict.the-variants.{Accepted, Refused}
 use Rattle.bankdef.specs.Check.{checkOf}
 use Rattle.bankdef.specs.declared.Bankdefs.{Bankdefs}
 use Rattle.resolver.specs.Layout.{Checked}
-use Rattle.resolver.specs.Lists.{Lists, listsOf, firstOf}
+use Rattle.lists.specs.Lists.{Lists, listsOf, firstOf}
 use Rattle.profile.specs.Kept.{InProfile, Breaks, Judged, keeps, breaks, judged}
 use Rattle.profile.specs.Pages.{pagesOf}
 use Rattle.profile.specs.Profile.{verdictOf, pagedBy, profileOf}

@@ -9,7 +9,7 @@ use resolver::Choices;
 ghost use mathlib.Core.Path.{_≡_};
 ghost use Prim.Native.Nat.{_≤_, _<_};
 ghost use Rattle.refusal.specs.Limits.{maxBanks};
-ghost use Rattle.resolver.specs.Lists.{lists};
+ghost use Rattle.lists.specs.Lists.{lists};
 ghost use Rattle.profile.specs.Pages.{pagesIn, pagesOf};
 ghost use Rattle.profile.specs.Told.{Answers};
 

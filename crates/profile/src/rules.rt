@@ -11,7 +11,7 @@ ghost use lib.Dec.{eqb};
 ghost use lib.ListN.{length, getD};
 ghost use Rattle.refusal.specs.Limits.{maxBanks};
 ghost use Rattle.refusal.specs.Pick.{pick};
-ghost use Rattle.resolver.specs.Lists.{lists, firstOf};
+ghost use Rattle.lists.specs.Lists.{lists, firstOf};
 ghost use Rattle.resolver.specs.Once.{bankRecord};
 ghost use Rattle.profile.specs.OneBit.{oneBit};
 ghost use Rattle.profile.specs.Profile.{verdictOf};
@@ -297,7 +297,7 @@ pub fn judge(
         return Verdict::Refused(why);
     }
     let len = banks.len;
-    let listed = resolver::check_lists(len, kinds, operands, numbers, states, rows, values, fill);
+    let listed = lists::check_lists(len, kinds, operands, numbers, states, rows, values, fill);
     if let Verdict::Refused(why) = listed {
         return Verdict::Refused(why);
     }

@@ -6,7 +6,7 @@ use Rattle.refusal.specs.declared.Verdict.{Verdict}
 use Rattle.refusal.specs.declared.Verdict.the-variants.{Accepted, Refused}
 use Rattle.bankdef.specs.Check.{checkOf}
 use Rattle.resolver.specs.Layout.{Checked}
-use Rattle.resolver.specs.Lists.{listsOf, firstOf}
+use Rattle.lists.specs.Lists.{listsOf, firstOf}
 use Rattle.output.specs.Output.{Input, Lent, Room, roomOf, refusedAfter, settledOf, toldBuild, settledTold, Builds}
 use Rattle.output.specs.declared.Output.{Output}
 use Rattle.profile.specs.Kept.{Judged, keeps, breaks, judged}

@@ -8,7 +8,7 @@ use Rattle.refusal.specs.declared.Verdict.{Verdict}
 use Rattle.refusal.specs.declared.Verdict.the-variants.{Accepted, Refused}
 use Rattle.bankdef.specs.Check.{checkOf}
 use Rattle.resolver.specs.Layout.{Checked}
-use Rattle.resolver.specs.Lists.{listsOf}
+use Rattle.lists.specs.Lists.{listsOf}
 use Rattle.output.specs.Output.{Input, Lent, Room, roomOf, visitsOf, leftBy, buildOf, refusedAfter, settledOf, Figures, toldBuild, settledTold}
 use Rattle.output.specs.declared.Output.{Output}
 use Rattle.profile.specs.Kept.{InProfile, Breaks}

@@ -23,7 +23,7 @@ use Rattle.iter.specs.declared.Moved.the-variants.{To, Refused as Stopped}
 use Rattle.iter.specs.declared.Pos.{Pos}
 use Rattle.resolver.specs.Ends.{Ending, early, last, ends}
 use Rattle.resolver.specs.Layout.{Checked, unless, layoutOf}
-use Rattle.resolver.specs.Lists.{Lists, Row, listsOf, firstOf}
+use Rattle.lists.specs.Lists.{Lists, Row, listsOf, firstOf}
 use Rattle.resolver.specs.NodeOrder.{StopsAt, seenAt, defAt, first-met}
 use Rattle.resolver.specs.Once.{Program, node, walkTo}
 use Rattle.resolver.specs.Passes.{program, rowOfPass, passAt, lastOf, resolutionOf}

@@ -22,7 +22,7 @@ use Rattle.overlap_checker.specs.Marks.{countBelow, crossesAny, lowestInside}
 use Rattle.overlap_checker.specs.Offers.{placeFor, clashesAny, lacksRoom}
 use Rattle.overlap_checker.specs.State.{meets, tries, keeping, after}
 use Rattle.resolver.specs.Layout.{layoutOf}
-use Rattle.resolver.specs.Lists.{lists, anyRowFault, nodesTo, listsOf}
+use Rattle.lists.specs.Lists.{lists, anyRowFault, nodesTo, listsOf}
 use Rattle.resolver.specs.Once.{walkTo, passTo}
 use Rattle.resolver.specs.Passes.{first, settledBy}
 use Rattle.visits.specs.Items.{lengthOf}

@@ -12,7 +12,7 @@ use Rattle.refusal.specs.declared.Verdict.{Verdict}
 use Rattle.refusal.specs.declared.Verdict.the-variants.{Accepted, Refused}
 use Rattle.bankdef.specs.Check.{checkOf}
 use Rattle.resolver.specs.Layout.{Checked, layoutOf}
-use Rattle.resolver.specs.Lists.{listsOf}
+use Rattle.lists.specs.Lists.{listsOf}
 use Rattle.resolver.specs.Passes.{program, rowOfPass}
 use Rattle.resolver.specs.RefusedExactly.{table-first, lists-next}
 use Rattle.resolver.specs.declared.Resolution.{Resolution}

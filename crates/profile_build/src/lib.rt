@@ -8,7 +8,7 @@ use refusal::Refusal;
 use refusal::Verdict;
 use resolver::Choices;
 ghost use mathlib.Core.Path.{_≡_};
-ghost use Rattle.resolver.specs.Lists.{lists};
+ghost use Rattle.lists.specs.Lists.{lists};
 ghost use Rattle.output.specs.Output.{input, lent, refusedAfter};
 ghost use Rattle.profile_build.specs.InProfile.{BuildsInProfile};
 

@@ -20,7 +20,7 @@ use Rattle.iter.specs.Step.{startOf, bankAfter}
 use Rattle.iter.specs.StepCases.{standing, step-cases}
 use Rattle.iter.specs.WithinLimit.{Small, Within, AllSmall, seen-within, step-within, never-past}
 use Rattle.iter.specs.declared.Stepped.{Stepped}
-use Rattle.resolver.specs.Lists.{Row, rowAt}
+use Rattle.lists.specs.Lists.{Row, rowAt}
 use Rattle.resolver.specs.Listed.{either-record}
 use Rattle.resolver.specs.Passes.{program, rowOfPass}
 use Rattle.resolver.specs.Once.{Program, node, bankRecord, bankOf, walkTo}

@@ -30,7 +30,7 @@ use Rattle.iter.specs.declared.Node.{Node}
 use Rattle.iter.specs.declared.Pos.{Pos}
 use Rattle.resolver.specs.Ends.{Ending, early, last, ends}
 use Rattle.resolver.specs.Layout.{unless, layoutOf}
-use Rattle.resolver.specs.Lists.{Lists, Row, listsOf, nodesTo, nodeFault, knownFill, nodeCountSound, rowCountSound, firstOf}
+use Rattle.lists.specs.Lists.{Lists, Row, listsOf, nodesTo, nodeFault, knownFill, nodeCountSound, rowCountSound, firstOf}
 use Rattle.resolver.specs.NodeOrder.{StopsAt, seenAt, defAt, first-met}
 use Rattle.resolver.specs.Once.{Program, node, walkTo, bankRecord}
 use Rattle.resolver.specs.Passes.{program, rowOfPass, passAt, lastOf, resolutionOf, first}

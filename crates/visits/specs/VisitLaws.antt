@@ -8,7 +8,7 @@ use Prim.Native.Nat.{ℕ, zero, suc, _+_, _<_, _≤_}
 use native.Mathlib.Decide.{decLt, decLe}
 use native.Mathlib.Nat.{not-suc-le-zero}
 use native.Mathlib.Omega.{arith}
-use Rattle.resolver.specs.Lists.{Row}
+use Rattle.lists.specs.Lists.{Row}
 use Rattle.resolver.specs.Once.{Program}
 use Rattle.visits.specs.declared.Visit.{Visit}
 use Rattle.visits.specs.Visits.{visitAt, visitsTo, each}

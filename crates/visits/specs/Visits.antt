@@ -11,7 +11,7 @@ use Rattle.iter.specs.declared.Pos.{Pos}
 use Rattle.iter.specs.declared.Walk.{Walk}
 use Rattle.iter.specs.declared.Moved.{Moved}
 use Rattle.iter.specs.declared.Moved.the-variants.{To, Refused as Stopped}
-use Rattle.resolver.specs.Lists.{Row}
+use Rattle.lists.specs.Lists.{Row}
 use Rattle.resolver.specs.Once.{Program, node, bankOf, stepAt, walkTo}
 use Rattle.visits.specs.declared.Visit.{Visit}
 

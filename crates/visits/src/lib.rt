@@ -52,7 +52,7 @@ pub fn visit_node(
         ⌝ }
     ensures { λ r. ⌜ ((o : ℕ) → r .out ≡ Out o → o ≤ maxOffer) ⌝ }
 {
-    let node = resolver::node_at(kinds, operands, first, numbers, states, i);
+    let node = lists::node_at(kinds, operands, first, numbers, states, i);
     let bank = iter::bank_after(walk.bank, node);
     let def = resolver::bank_record(banks, bank);
     let stepped = iter::step(def, walk, node);

@@ -15,7 +15,7 @@ use Rattle.bitvec.specs.Written.{written, isWritten as passesNoEnd}
 use Rattle.iter.specs.Step.{startOf}
 use Rattle.iter.specs.declared.Node.{Node}
 use Rattle.iter.specs.declared.Walk.{Walk}
-use Rattle.resolver.specs.Lists.{Row}
+use Rattle.lists.specs.Lists.{Row}
 use Rattle.resolver.specs.Once.{Program, node, walkTo}
 use Rattle.visits.specs.declared.Visit.{Visit}
 use Rattle.visits.specs.Visits.{visitOf, visitAt, visitsTo}

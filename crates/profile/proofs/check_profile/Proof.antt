@@ -1,5 +1,5 @@
 -- The verdict, and the pages where it is yes.
-use Rattle.resolver.specs.Lists.{Lists, lists}
+use Rattle.lists.specs.Lists.{Lists, lists}
 use Rattle.profile.proofs.Answered.{says-no, says-yes, yes-shows}
 use borrow.Author.Needs.{needs}
 use Rattle.profile.proofs.check_profile.Statement.{statement}

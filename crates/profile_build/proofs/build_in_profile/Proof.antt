@@ -1,5 +1,5 @@
 -- What the profile says, and the ordinary build after a yes.
-use Rattle.resolver.specs.Lists.{lists}
+use Rattle.lists.specs.Lists.{lists}
 use Rattle.output.specs.Output.{Input, input, Lent, lent}
 use Rattle.profile_build.proofs.Laws.{verdict-is, says-no, says-yes}
 use borrow.Author.Needs.{needs}

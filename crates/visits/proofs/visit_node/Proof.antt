@@ -7,7 +7,7 @@ use Rattle.visits.proofs.visit_node.Lts as lts
 use Rattle.iter.proofs.bank_after.Reads as bank-after-reads
 use Rattle.iter.proofs.step.Reads as step-reads
 use Rattle.visits.proofs.out_of.Reads as out-of-reads
-use Rattle.resolver.proofs.node_at.Reads as node-at-reads
+use Rattle.lists.proofs.node_at.Reads as node-at-reads
 use Rattle.resolver.proofs.bank_record.Reads as bank-record-reads
 
 node-at-requires : tie.Need-node-at-requires

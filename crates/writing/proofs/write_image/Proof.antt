@@ -7,7 +7,7 @@ use lib.ListN.{length}
 use Rattle.bankdef.specs.Check.{banksOf}
 use Rattle.writing.specs.Blank.{blankOf, blank-length}
 use borrow.Author.Needs.{needs}
-use Rattle.resolver.specs.Lists.{Row}
+use Rattle.lists.specs.Lists.{Row}
 use Rattle.resolver.specs.Once.{Program, walkTo}
 use Rattle.visits.specs.Upto.{imageTo}
 use Rattle.writing.proofs.WritingSteps.{walk-start, image-start, image-keeps, walk-next, item-fits, image-next}

@@ -7,7 +7,7 @@ use lib.IntN.{ℤ}
 use borrow.Author.Needs.{needs}
 use Rattle.blocks.specs.Offsets.{wordOf}
 use Rattle.iter.specs.Address.{addressOf}
-use Rattle.resolver.specs.Lists.{Row}
+use Rattle.lists.specs.Lists.{Row}
 use Rattle.resolver.specs.Once.{Program, walkTo}
 use Rattle.visits.specs.declared.Visit.{Visit}
 use Rattle.visits.specs.Visits.{seenPos}

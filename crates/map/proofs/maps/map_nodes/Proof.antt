@@ -4,7 +4,7 @@ use native.Mathlib.Nat.{mul-le-mul-right}
 use native.Mathlib.Omega.{arith}
 use lib.ListN.{length}
 use Rattle.refusal.specs.Limits.{maxNodes}
-use Rattle.resolver.specs.Lists.{Lists, Rows, lists}
+use Rattle.lists.specs.Lists.{Lists, Rows, lists}
 use Rattle.map.specs.Map.{Lent, lent}
 use Rattle.map.proofs.MapLaws.{unrun, ran-rows, ran-few, ran-listed, reach-few, finished}
 use borrow.Author.Needs.{needs}

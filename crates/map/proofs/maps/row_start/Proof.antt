@@ -3,7 +3,7 @@ use mathlib.Core.Path.{ap}
 use Prim.Native.Nat.{ℕ, _-_, _*_}
 use native.Mathlib.Nat.{mul-le-mul-right}
 use native.Mathlib.Omega.{arith}
-use Rattle.resolver.specs.RowParts.{row-ends}
+use Rattle.lists.specs.RowParts.{row-ends}
 use borrow.Author.Needs.{needs}
 use Rattle.map.proofs.maps.row_start.Statement.{statement}
 use Rattle.map.proofs.maps.row_start.Tie as tie

@@ -5,7 +5,7 @@ use native.Mathlib.Nat.{mul-le-mul-right}
 use native.Mathlib.Omega.{arith}
 use lib.ListN.{length}
 use Rattle.refusal.specs.Limits.{maxNodes}
-use Rattle.resolver.specs.Lists.{Lists, Rows, lists}
+use Rattle.lists.specs.Lists.{Lists, Rows, lists}
 use Rattle.resolver.specs.declared.Settled.the-variants.{At}
 use Rattle.output.specs.Output.{Lent, lent}
 use Rattle.output.proofs.SettledLaws.{settled-rows, settled-few, part-values, finished, refused}

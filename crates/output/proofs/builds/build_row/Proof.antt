@@ -7,7 +7,7 @@ use lib.Dec.{ltb}
 use lib.ListN.{length}
 use Rattle.bankdef.specs.Check.{banksOf}
 use Rattle.bankdef.specs.Fill.{fillBy}
-use Rattle.resolver.specs.Lists.{Row}
+use Rattle.lists.specs.Lists.{Row}
 use Rattle.resolver.specs.Once.{Program}
 use Rattle.placing.specs.Placing.{closesDefault}
 use Rattle.output.specs.Output.{Lent, lent, roomOf}
