@@ -64,7 +64,7 @@ part-map-row-start : tie.Need-part-map-row-start
 part-map-row-start c = search needs
 
 part-map-row-end : tie.Need-part-map-row-end
-part-map-row-end c = omega (arith, rows c .before .before .numbered, c .before .row-start .ensures .1)
+part-map-row-end c = let r = rows (c .before .before) in omega (arith, r .numbered, c .before .row-start .ensures .1)
 
 mul-map-row : tie.Need-mul-map-row
 mul-map-row c = record { fits = omega (arith, cells (c .before .before .before), c .before .before .row-start .ensures .1) }
@@ -76,7 +76,7 @@ part-map-row-start-2 : tie.Need-part-map-row-start-2
 part-map-row-start-2 c = search needs
 
 part-map-row-end-2 : tie.Need-part-map-row-end-2
-part-map-row-end-2 c = omega (arith, rows c .before .before .before .numbered, c .before .before .row-start .ensures .1)
+part-map-row-end-2 c = let r = rows (c .before .before .before) in omega (arith, r .numbered, c .before .before .row-start .ensures .1)
 
 sub-map-row-3 : tie.Need-sub-map-row-3
 sub-map-row-3 c = search needs
@@ -88,7 +88,7 @@ part-map-row-end-3 : tie.Need-part-map-row-end-3
 part-map-row-end-3 c =
     let at-row-start = c .before .before .before in
     let at-else1 = at-row-start .before in
-    omega (arith, rows at-else1 .stated, at-row-start .row-start .ensures .1)
+    let r = rows at-else1 in omega (arith, r .stated, at-row-start .row-start .ensures .1)
 
 map-row-requires : tie.Need-map-row-requires
 map-row-requires c κs =

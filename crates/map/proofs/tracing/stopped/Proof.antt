@@ -3,6 +3,7 @@ use mathlib.Core.Path.{_≡_, ap}
 use Prim.Native.Nat.{ℕ, _+_, _-_}
 use native.Mathlib.Omega.{arith}
 use borrow.Author.Needs.{needs}
+use Rattle.map.specs.declared.Fault.the-variants.{At as AtNode}
 use Rattle.map.proofs.tracing.stopped.Statement.{statement}
 use Rattle.map.proofs.tracing.stopped.Tie as tie
 
