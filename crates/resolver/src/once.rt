@@ -222,10 +222,10 @@ pub fn pass_beside(
                 merged = state;
             }
         }
-        let after = crossing.after;
-        at[bank as usize] = after;
-        let after_before = crossing_before.after;
-        at_before[bank as usize] = after_before;
+        let next = crossing.after;
+        at[bank as usize] = next;
+        let next_before = crossing_before.after;
+        at_before[bank as usize] = next_before;
         i += 1;
     }
     Pass::State(merged)

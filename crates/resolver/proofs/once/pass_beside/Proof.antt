@@ -50,7 +50,7 @@ turn c = c .before .before .before
 abbrev banked : tie.After-meet Inv-loop μ-loop → tie.After-bank-after Inv-loop μ-loop
 banked c = c .before .before .before .before .before .before .before
 
-abbrev stored : tie.After-after-before Inv-loop μ-loop → tie.After-bank-after Inv-loop μ-loop
+abbrev stored : tie.After-next-before Inv-loop μ-loop → tie.After-bank-after Inv-loop μ-loop
 stored c = c .before .before .before .before .before .before .before .before .before .before .before .before
 
 -- the bank that node i stands in, in both rows
