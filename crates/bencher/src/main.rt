@@ -13,6 +13,8 @@ use blocks::Blocks;
 use record_read::Fault;
 use refusal::Opt;
 use refusal::Refusal;
+ghost use lib.ListN.{length};
+ghost use Rattle.bencher.specs.Shown.{Shown};
 
 // The longest file that is read, and a byte more, so that nothing is cut to a sound file.
 const TEXT: usize = 1_048_577;
@@ -96,16 +98,19 @@ fn load_file(
     load_text(load, name, &text[..n], bytes, offsets, sizes)
 }
 
-// Bytes in hex.
-fn show(bytes: &[u8], space: &mut [u8; HEX]) {
+// Bytes in hex: how many digits are handed to standard output.
+fn show(bytes: &[u8], space: &mut [u8; HEX]) -> usize
+    ensures { λ r. ⌜ Shown (length (now (bytes .entry))) r ⌝ }
+{
     if bytes.len() > BYTES {
-        return;
+        return 0;
     }
     let hex: &mut [u8] = space;
     let bits = 8 * bytes.len() as u64;
-    if let Hex::Digits(n) = bitvec::write_hex(bytes, bits, hex) {
-        args::print(hex, n);
-    }
+    let Hex::Digits(n) = bitvec::write_hex(bytes, bits, hex) else {
+        return 0;
+    };
+    args::print(hex, n)
 }
 
 // A run's line.
