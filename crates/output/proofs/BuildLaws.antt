@@ -10,9 +10,10 @@ use borrow.Author.Tests.{ltb-false, le-ltb, lt-ltb}
 use lib.Dec.{ltb}
 use lib.IntN.{ℤ}
 use lib.ListN.{length}
-use Rattle.refusal.specs.Pick.{pick, pick-true, pick-false}
+use Rattle.refusal.specs.Pick.{pick, pick-false}
 use Rattle.refusal.specs.declared.Refusal.{Refusal}
 use Rattle.refusal.specs.declared.Refusal.the-variants.{TooShort}
+use Rattle.refusal.specs.declared.Verdict.{Verdict}
 use Rattle.refusal.specs.declared.Verdict.the-variants.{Accepted, Refused as TurnedAway}
 use Rattle.bankdef.specs.Check.{banksOf}
 use Rattle.lists.specs.Lists.{Row}
@@ -26,8 +27,8 @@ use Rattle.placing.specs.Placing.{Placed, holds, stops, placedAll}
 use Rattle.visits.specs.Spans.{spansOf, over, addresses, words, sizes}
 use Rattle.output.specs.Output.{Lent, lent, Room, roomOf, roomFor, outputOf, refusedAfter, placedBuild, buildRow, leftBy}
 use Rattle.placing.specs.Plan.{Planned, verdictPlaced}
-use Rattle.output.specs.Steps.{InValues, RowBuilt}
-use Rattle.writing.specs.Writes.{Fit, Fits}
+use Rattle.output.specs.Steps.{InValues, roomVerdict, RowBuilt}
+use Rattle.writing.specs.Writes.{HasRoom}
 use Rattle.placing.specs.declared.Plan.{Plan}
 use Rattle.output.specs.declared.Build.{Build}
 use Rattle.output.specs.declared.Output.{Output}
@@ -60,6 +61,27 @@ built-by : (room : Room) (k bits spans : ℕ) (q : Placed) → verdictPlaced q �
 built-by room k bits spans (holds l) e = refl
 built-by room k bits spans (stops why) e = absurd (let z : _≡_ {A = ℕ} 0 1 = cc in omega arith)
 
+-- ---- room, by the verdict on it
+
+module _ (t u : Bool) where
+  short-by : {done : Build} (why : Refusal) → pick t (TurnedAway (TooShort 0)) (pick u (TurnedAway (TooShort 1)) Accepted) ≡ TurnedAway why
+      → pick t (Refused (TooShort 0)) (pick u (Refused (TooShort 1)) done) ≡ Refused why
+  short-by = tests t u
+    where
+      tests : (a b : Bool) {done : Build} (why : Refusal) → pick a (TurnedAway (TooShort 0)) (pick b (TurnedAway (TooShort 1)) Accepted) ≡ TurnedAway why
+          → pick a (Refused (TooShort 0)) (pick b (Refused (TooShort 1)) done) ≡ Refused why
+      tests true b why e = cc
+      tests false true why e = cc
+      tests false false why e = absurd (let z : _≡_ {A = ℕ} 0 1 = cc in omega arith)
+
+  roomy-by : pick t (TurnedAway (TooShort 0)) (pick u (TurnedAway (TooShort 1)) Accepted) ≡ Accepted → (t ≡ false) × (u ≡ false)
+  roomy-by = tests t u
+    where
+      tests : (a b : Bool) → pick a (TurnedAway (TooShort 0)) (pick b (TurnedAway (TooShort 1)) Accepted) ≡ Accepted → (a ≡ false) × (b ≡ false)
+      tests true b e = absurd (let z : _≡_ {A = ℕ} 0 1 = cc in omega arith)
+      tests false true e = absurd (let z : _≡_ {A = ℕ} 0 1 = cc in omega arith)
+      tests false false e = (refl, refl)
+
 module _ (p : Program) (row : Row) (closed : Bool) (fill k passes : ℕ) (values : List ℕ) (old : Lent) (plan : Plan)
     (planned : Planned p row closed fill plan) where
   -- a build that changes nothing
@@ -86,44 +108,46 @@ module _ (p : Program) (row : Row) (closed : Bool) (fill k passes : ℕ) (values
         ∙ ap (λ (n : ℕ). roomFor (roomOf old) k n (length (spansOf (visits p row)))) (sym (planned .reach accepted))
         ∙ ap (λ (n : ℕ). roomFor (roomOf old) k (plan .length) n) (sym (planned .count accepted))
 
-    pub row-short-image : ltb (8 * length (old .image)) (plan .length) ≡ true → (x : Output) → x ≡ refusedAfter passes (TooShort 0)
-        → RowBuilt p row closed fill k passes values old x old
-    row-short-image short = kept (TooShort 0) (sym (answers ∙ pick-true (Refused (TooShort 0)) _ short))
-
-    module _ (long : ltb (8 * length (old .image)) (plan .length) ≡ false) where
-      rest : buildRow closed (visits p row) fill (roomOf old) k
-          ≡ pick (ltb (roomOf old .spans) (plan .spans)) (Refused (TooShort 1)) (Done k (plan .length) (plan .spans))
-      rest = answers ∙ pick-false (Refused (TooShort 0)) _ long
-
-      pub row-short-spans : roomOf old .spans < plan .spans → (x : Output) → x ≡ refusedAfter passes (TooShort 1)
+    module _ {v : Verdict} (told : v ≡ roomVerdict (length (old .image)) (roomOf old .spans) (plan .length) (plan .spans)) where
+      -- there is no room
+      pub row-short : (why : Refusal) → v ≡ TurnedAway why → (x : Output) → x ≡ refusedAfter passes why
           → RowBuilt p row closed fill k passes values old x old
-      row-short-spans short = kept (TooShort 1) (sym (rest ∙ pick-true (Refused (TooShort 1)) _ (lt-ltb _ _ short)))
+      row-short why e =
+          kept why (sym (answers ∙ short-by (ltb (8 * length (old .image)) (plan .length)) (ltb (roomOf old .spans) (plan .spans)) why (sym told ∙ e)))
 
-      -- the image is long enough for every written item
-      pub items-fit : InValues (length values) (itemsOf (visits p row)) → Fit (length values) (length (old .image)) (itemsOf (visits p row))
-      items-fit within x m = (
-        le-trans (end-within fill m)
-            (subst (λ (n : ℕ). n ≤ 8 * length (old .image)) (planned .reach accepted) (ltb-false (8 * length (old .image)) (plan .length) long)),
-        within x m,
-      )
+      module _ (fits : v ≡ Accepted) where
+        tests : (ltb (8 * length (old .image)) (plan .length) ≡ false) × (ltb (roomOf old .spans) (plan .spans) ≡ false)
+        tests = roomy-by (ltb (8 * length (old .image)) (plan .length)) (ltb (roomOf old .spans) (plan .spans)) (sym told ∙ fits)
 
-      module _ (enough : plan .spans ≤ roomOf old .spans) where
-        pub spans-fit : Fits (length (spansOf (visits p row))) (length (old .addresses)) (length (old .offsets)) (length (old .sizes))
-        spans-fit =
+        -- there is room for every written item and every span
+        pub has-room : InValues (length values) (itemsOf (visits p row))
+            → HasRoom (visits p row) (length values) (length (old .image)) (length (old .addresses)) (length (old .offsets)) (length (old .sizes))
+        has-room within =
             let n = planned .count accepted in
-            record { first = omega (arith, n); second = omega (arith, n); third = omega (arith, n) }
+            let enough = ltb-false (roomOf old .spans) (plan .spans) (tests .1) in
+            record {
+              items = λ x m. (
+                le-trans (end-within fill m)
+                    (subst (λ (b : ℕ). b ≤ 8 * length (old .image)) (planned .reach accepted)
+                    (ltb-false (8 * length (old .image)) (plan .length) (tests .0))),
+                within x m,
+              );
+              first = omega (arith, n, enough);
+              second = omega (arith, n, enough);
+              third = omega (arith, n, enough);
+            }
 
         pub row-done : (image′ : List ℕ) (addressed′ : List ℤ) (offsets′ sized′ : List ℕ)
             → image′ ≡ imageOf values (blankOf (banksOf (p .banks)) (plan .length) (length (old .image))) (itemsOf (visits p row))
             → addressed′ ≡ over (addresses (spansOf (visits p row))) (old .addresses)
             → offsets′ ≡ over (words (spansOf (visits p row))) (old .offsets)
             → sized′ ≡ over (sizes (spansOf (visits p row))) (old .sizes)
-            → RowBuilt p row closed fill k passes values old (record { build = Done k (plan .length) (plan .spans); passes = passes; padding = plan .padding })
-            (lent image′ addressed′ offsets′ sized′)
+            → RowBuilt p row closed fill k passes values old
+            (record { build = Done k (plan .length) (plan .spans); passes = passes; padding = plan .padding }) (lent image′ addressed′ offsets′ sized′)
         row-done image′ addressed′ offsets′ sized′ a b c d =
             record {
               answer =
                   ap (λ (l : List ℕ). record { build = Done k (plan .length) (plan .spans); passes = passes; padding = l }) (planned .padding accepted)
-                  ∙ ap (outputOf p row passes) (sym (rest ∙ pick-false (Refused (TooShort 1)) _ (le-ltb _ _ enough)));
+                  ∙ ap (outputOf p row passes) (sym (answers ∙ pick-false _ _ (tests .0) ∙ pick-false _ _ (tests .1)));
               left = rw (a, b, c, d);
             }

@@ -32,6 +32,7 @@ use Rattle.resolver.specs.declared.Choices.{Choices}
 use Rattle.resolver.specs.declared.Resolution.{Resolution}
 use Rattle.resolver.specs.declared.Settled.{Settled}
 use Rattle.resolver.specs.declared.Settled.the-variants.{At, Refused as Unsettled}
+use Rattle.resolver.specs.Switches.{Switches, accepted-switches}
 use Rattle.lists.specs.Counts.{too-many-nodes}
 use Rattle.lists.specs.RowParts.{first-part, row-part}
 use Rattle.overlap_checker.specs.Ascending.{lt-or-le}
@@ -72,7 +73,9 @@ nodes-accepted : (banks : ℕ) (l : Lists) (fill : ℕ) → listsOf banks l fill
 unfolding listsOf
 nodes-accepted banks l fill e =
     through (leb fill 1) (nodesTo banks l (length (l .kinds))) (Malformed 3)
-    (through (leb 1 (l .rows) && (leb (l .rows) maxRows && (eqb (length (l .numbers)) (l .rows * length (l .kinds)) && eqb (length (l .states)) (l .rows * length (l .kinds)))))
+    (through
+    (leb 1 (l .rows)
+    && (leb (l .rows) maxRows && (eqb (length (l .numbers)) (l .rows * length (l .kinds)) && eqb (length (l .states)) (l .rows * length (l .kinds)))))
     _ (Malformed 1)
     (through (leb (length (l .kinds)) maxNodes && eqb (length (l .operands)) (length (l .kinds))) _ (Malformed 0) e))
 
@@ -122,12 +125,19 @@ module _ (banks : Bankdefs) (l : Lists) (m : Choices) (r : Resolution) (resolves
   answersFor old s = outputOf (program banks l) (rowOfPass l (r .passes)) (r .passes) (settledBuild (input banks l m) (roomOf old) (r .passes) s)
 
   module _ (k : ℕ) (settles : r .settled ≡ At k) where
-    checks : listsOf (banks .len) l (m .fill) ≡ Accepted
+    both-checks : (checkOf banks ≡ Accepted) × (listsOf (banks .len) l (m .fill) ≡ Accepted)
     unfolding layoutOf
-    checks =
+    both-checks =
         let whole : layoutOf banks l m .settled ≡ At k = sym (ap (λ (q : Resolution). q .settled) resolves) ∙ settles in
         let (a, inner) = unless-at (checkOf banks) (unless (listsOf (banks .len) l (m .fill)) (resolutionOf banks l (m .limit))) k whole in
-        unless-at (listsOf (banks .len) l (m .fill)) (resolutionOf banks l (m .limit)) k inner .0
+        (a, unless-at (listsOf (banks .len) l (m .fill)) (resolutionOf banks l (m .limit)) k inner .0)
+
+    checks : listsOf (banks .len) l (m .fill) ≡ Accepted
+    checks = both-checks .1
+
+    -- each bank switch names a bank of the table
+    pub settled-switches : Switches (banks .len) (l .kinds) (l .operands)
+    settled-switches = accepted-switches banks l (m .fill) (both-checks .0) checks
 
     pub settled-rows : Rows (length (l .kinds)) (l .rows) (l .numbers) (l .states)
     settled-rows = accepted-rows (banks .len) l (m .fill) (sym checks) refl
@@ -166,27 +176,34 @@ module _ (banks : Bankdefs) (l : Lists) (m : Choices) (r : Resolution) (resolves
     -- ---- the lists' parts are the program and its row
 
     module _ (start : ℕ) (starts : start ≡ (min (r .passes) (l .rows) - 1) * length (l .kinds)) where
-      part-program : programOf banks (l .kinds) (l .operands) (take (length (l .kinds) - 0) (drop 0 (l .numbers))) ≡ program banks l
+      -- the parts of the lists that the row's build is lent
+      abbrev lent-program : Program
+      lent-program = programOf banks (l .kinds) (l .operands) (take (length (l .kinds) - 0) (drop 0 (l .numbers)))
+
+      abbrev lent-part : List ℕ → List ℕ
+      lent-part xs = take (start + length (l .kinds) - start) (drop start xs)
+
+      abbrev lent-row : Row
+      lent-row = rowOf (lent-part (l .numbers)) (lent-part (l .states))
+
+      part-program : lent-program ≡ program banks l
       part-program = ap (programOf banks (l .kinds) (l .operands)) (first-part (length (l .kinds)) (l .numbers))
 
-      part : (xs : List ℕ) → take (start + length (l .kinds) - start) (drop start xs) ≡ take (length (l .kinds)) (drop ((min (r .passes) (l .rows) - 1) * length (l .kinds)) xs)
+      part : (xs : List ℕ) → lent-part xs ≡ take (length (l .kinds)) (drop ((min (r .passes) (l .rows) - 1) * length (l .kinds)) xs)
       part xs = rw starts (row-part (min (r .passes) (l .rows) - 1) (length (l .kinds)) xs)
 
-      part-row : rowOf (take (start + length (l .kinds) - start) (drop start (l .numbers))) (take (start + length (l .kinds) - start) (drop start (l .states))) ≡ rowOfPass l (r .passes)
+      part-row : lent-row ≡ rowOfPass l (r .passes)
       part-row = ap₂ rowOf (part (l .numbers)) (part (l .states))
 
-      pub part-values : InValues (length (l .values)) (itemsOf (visits (programOf banks (l .kinds) (l .operands) (take (length (l .kinds) - 0) (drop 0 (l .numbers))))
-          (rowOf (take (start + length (l .kinds) - start) (drop start (l .numbers))) (take (start + length (l .kinds) - start) (drop start (l .states))))))
+      pub part-values : InValues (length (l .values)) (itemsOf (visits lent-program lent-row))
       part-values =
-          subst (λ (p : Program). InValues (length (l .values)) (itemsOf (visits p (rowOf (take (start + length (l .kinds) - start) (drop start (l .numbers))) (take (start + length (l .kinds) - start) (drop start (l .states))))))) (sym part-program)
+          subst (λ (p : Program). InValues (length (l .values)) (itemsOf (visits p lent-row))) (sym part-program)
           (subst (λ (row : Row). InValues (length (l .values)) (itemsOf (visits (program banks l) row))) (sym part-row)
           (in-values (min (r .passes) (l .rows) - 1) (omega (arith, settled-rows .some))))
 
       -- the public answer from the row's
       pub finished : (old new : Lent) (x : Output)
-          → RowBuilt (programOf banks (l .kinds) (l .operands) (take (length (l .kinds) - 0) (drop 0 (l .numbers))))
-          (rowOf (take (start + length (l .kinds) - start) (drop start (l .numbers))) (take (start + length (l .kinds) - start) (drop start (l .states))))
-          (closedOf (input banks l m)) (fillBy (m .fill) (banksOf banks)) k (r .passes) (l .values) old x new
+          → RowBuilt lent-program lent-row (closedOf (input banks l m)) (fillBy (m .fill) (banksOf banks)) k (r .passes) (l .values) old x new
           → Builds (input banks l m) old x new
       finished old new x raw =
           let built = rw (part-program, part-row) at raw in

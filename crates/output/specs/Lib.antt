@@ -4,6 +4,7 @@ pub mod Fills
 pub mod Gaps
 pub mod ItemBits
 pub mod OffersMade
+pub mod OffersWithin
 pub mod Output
 pub mod Padding
 pub mod RaisedLimit

@@ -35,12 +35,13 @@ use Rattle.resolver.specs.declared.Settled.the-variants.{At, Refused as Unsettl
 use Rattle.overlap_checker.specs.declared.Entry.{Entry}
 use Rattle.overlap_checker.specs.Interval.{interval, StrictlyInside}
 use Rattle.overlap_checker.specs.State.{State, emptyState, answer}
-use Rattle.overlap_checker.specs.Folds.{stateAfter, accepted, nonzero, empties, AllWithin, SharesBitWith, CoversMark, HasInside, InsideOf, RefusedBy}
+use Rattle.overlap_checker.specs.Folds.{stateAfter, accepted, nonzero, empties, SharesBitWith, CoversMark, HasInside, InsideOf, RefusedBy}
 use Rattle.overlap_checker.specs.Answers.{three-ways, answer-overlaps, answer-full, answer-passes}
 use Rattle.overlap_checker.specs.Going.{Fits, fits-empty, fits-folded}
 use Rattle.overlap_checker.specs.Naming.{Named}
 use Rattle.overlap_checker.specs.WhatIsStored.{stored-accepted, accepted-stored, mark-accepted, accepted-mark}
-use Rattle.overlap_checker.specs.Demand3.{overlap-offered, full-offered, full-place, empty-offered, mark-full-offered, overlap-names, stored-is-accepted, marks-are-accepted, stored-few, marks-few}
+use Rattle.overlap_checker.specs.Demand3.{overlap-offered, full-offered, full-place, empty-offered, mark-full-offered, overlap-names}
+use Rattle.overlap_checker.specs.Demand3.{stored-is-accepted, marks-are-accepted, stored-few, marks-few}
 use Rattle.visits.specs.declared.Visit.{Visit}
 use Rattle.output.specs.declared.Build.{Build}
 use Rattle.output.specs.declared.Build.the-variants.{Done, Refused}
@@ -54,6 +55,7 @@ use Rattle.placing.specs.Placing.{checked, answered, tried, placing, verdictOn}
 use Rattle.placing.specs.Placing.{verdictSeen, Placed, holds, stops, placedIf, placedNext, placedFrom, placedAll}
 use Rattle.placing.specs.PlacingLaws.{refused-accepted, placed-append, placed-last, stops-stay, checked-opens, picked-some, offer-is, placed-accepts}
 use Rattle.output.specs.Output.{Input, closedOf, Room, roomOf, roomFor, placedBuild, buildRow, settledBuild, settledOf, visitsOf, fillOf, toldBuild}
+use Rattle.output.specs.OffersWithin.{OffsetsFit, offers-within}
 use Rattle.output.specs.Calls.{Call, nodesIn, closedIn, programIn, rowIn, visitIn, visitsIn, visitsBefore, build-is}
 
 -- ---- a build that gets to a node
@@ -557,10 +559,11 @@ module _ (c : Call) (n : ℕ) (r : Reaches c n) (p : GetsPast c n r) (e : Entry)
       )
 
   -- "Refusal 12 names the lowest stored start at or above the offer if those two share a bit, otherwise the one below", "naming the lowest such mark
-  -- unless an interval is to be named".
-  pub refused-12-names : AllWithin (offersBefore c n) → (place : Place) → RefusedThere c n 12 place
+  -- unless an interval is to be named". Every bank's offset has 32 bits, as its field has.
+  pub refused-12-names : OffsetsFit (c .given .banks) → (place : Place) → RefusedThere c n 12 place
       → (f : Entry) × (place ≡ Two (f .position) (f .size)) × List·Memᴰ f (offersBefore c n) × Named (r .stored) e f
-  refused-12-names within place t =
+  refused-12-names offsets place t =
+      let within = offers-within (programIn c) (rowIn c) offsets (closedIn c) n (r .stored) (r .before) in
       let fits = subst Fits (sym stored-is) (fits-folded emptyState (offersBefore c n) within fits-empty) in
       let told = refused-by-store 12 place (omega arith) .0 t in
       let (f, named, is) = overlap-names (r .stored) e n fits (place, told) in

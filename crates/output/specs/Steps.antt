@@ -3,6 +3,11 @@ use mathlib.Core.Path.{_≡_}
 use mathlib.Core.Bool.{Bool}
 use mathlib.Core.List.{List, List·Memᴰ}
 use Prim.Native.Nat.{ℕ, _+_, _*_, _≤_}
+use lib.Dec.{ltb}
+use Rattle.refusal.specs.Pick.{pick}
+use Rattle.refusal.specs.declared.Refusal.the-variants.{TooShort}
+use Rattle.refusal.specs.declared.Verdict.{Verdict}
+use Rattle.refusal.specs.declared.Verdict.the-variants.{Accepted, Refused}
 use Rattle.lists.specs.Lists.{Row}
 use Rattle.resolver.specs.Once.{Program}
 use Rattle.visits.specs.Visits.{visits}
@@ -13,6 +18,11 @@ use Rattle.output.specs.declared.Output.{Output}
 -- items that come from within `values` value bytes
 abbrev pub InValues : ℕ → List Item → Type 0
 InValues values xs = (x : Item) → List·Memᴰ x xs → x .from + x .size ≤ 8 * values
+
+-- "14: a lent output is too short: image 0, spans 1", of an image in bytes and of places for spans
+abbrev pub roomVerdict : ℕ → ℕ → ℕ → ℕ → Verdict
+roomVerdict bytes places bits spans =
+    pick (ltb (8 * bytes) bits) (Refused (TooShort 0)) (pick (ltb places spans) (Refused (TooShort 1)) Accepted)
 
 -- The build of a row: its answer, and everything lent afterwards.
 pub record RowBuilt (p : Program) (row : Row) (closed : Bool) (fill k passes : ℕ) (values : List ℕ) (old : Lent) (r : Output) (new : Lent)

@@ -8,8 +8,7 @@ use refusal::Refusal;
 use refusal::Verdict;
 use resolver::Choices;
 use resolver::Settled;
-use writing::write_image;
-use writing::write_spans;
+use writing::write_row;
 ghost use mathlib.Core.Path.{_≡_};
 ghost use mathlib.Core.Bool.{true};
 ghost use Prim.Native.Nat.{ℕ, _+_, _*_, _-_, _≤_, _<_, min};
@@ -19,13 +18,14 @@ ghost use Rattle.refusal.specs.Limits.{maxNodes, maxRows};
 ghost use Rattle.bankdef.specs.Check.{banksOf};
 ghost use Rattle.bankdef.specs.Fill.{fillBy};
 ghost use Rattle.lists.specs.Lists.{lists};
+ghost use Rattle.resolver.specs.Switches.{Switches};
 ghost use Rattle.visits.specs.Visits.{visits};
 ghost use Rattle.visits.specs.Items.{itemsOf};
 ghost use Rattle.placing.specs.Placing.{closesDefault};
 ghost use Rattle.output.specs.Output.{input, lent, refusedAfter, Builds};
 ghost use Rattle.visits.specs.Visits.{programOf, rowOf};
 ghost use Rattle.placing.specs.Plan.{maxEnd};
-ghost use Rattle.output.specs.Steps.{InValues, RowBuilt};
+ghost use Rattle.output.specs.Steps.{InValues, roomVerdict, RowBuilt};
 
 // Whether an image of so many bytes has fewer bits. Whole bytes are compared, so that no product can wrap.
 fn lacks_bytes(bytes: u64, bits: u64) -> bool
@@ -52,7 +52,21 @@ fn refused(why: Refusal, passes: u64) -> Output
     }
 }
 
-// The build over the row of the last pass. "14 comes last: image, then spans."
+// "14 comes last: image, then spans." Whether there is room, for the image in bytes and for the spans in places.
+fn room_for(bytes: u64, places: u64, bits: u64, spans: u64) -> Verdict
+    requires { ⌜ bits ≤ maxEnd ⌝ }
+    ensures { λ r. ⌜ r ≡ roomVerdict bytes places bits spans ⌝ }
+{
+    if lacks_bytes(bytes, bits) {
+        return Verdict::Refused(Refusal::TooShort(0));
+    }
+    if places < spans {
+        return Verdict::Refused(Refusal::TooShort(1));
+    }
+    Verdict::Accepted
+}
+
+// The build over the row of the last pass.
 fn build_row(
     banks: Bankdefs,
     kinds: &[u8],
@@ -70,6 +84,7 @@ fn build_row(
     sizes: &mut [u64],
 ) -> Output
     requires { ⌜ length (now kinds) ≤ maxNodes ⌝ }
+    requires { ⌜ Switches (banks .len) (now kinds) (now operands) ⌝ }
     requires { ⌜
         InValues (length (now values))
         (itemsOf (visits (programOf banks (now kinds) (now operands) (now first)) (rowOf (now numbers) (now states))))
@@ -91,16 +106,13 @@ fn build_row(
     }
     let length = plan.length;
     let spans = plan.spans;
-    let padding = plan.padding;
-    if lacks_bytes(image.len() as u64, length) {
-        return refused(Refusal::TooShort(0), passes);
-    }
     let two = shorter(offsets.len() as u64, sizes.len() as u64);
     let places = shorter(addresses.len() as u64, two);
-    if places < spans {
-        return refused(Refusal::TooShort(1), passes);
+    let room = room_for(image.len() as u64, places, length, spans);
+    if let Verdict::Refused(why) = room {
+        return refused(why, passes);
     }
-    write_image(
+    write_row(
         banks,
         kinds,
         operands,
@@ -110,18 +122,11 @@ fn build_row(
         values,
         length,
         image,
-    );
-    write_spans(
-        banks,
-        kinds,
-        operands,
-        first,
-        numbers,
-        states,
         addresses,
         offsets,
         sizes,
     );
+    let padding = plan.padding;
     Output {
         build: Build::Done { k, length, spans },
         passes,

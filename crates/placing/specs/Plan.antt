@@ -7,6 +7,7 @@ use Prim.Native.Nat.{ℕ, _≤_}
 use native.Mathlib.Omega.{arith}
 use lib.ListN.{length, replicate}
 use Rattle.refusal.specs.Limits.{maxBanks}
+use Rattle.refusal.specs.declared.Refusal.{Refusal}
 use Rattle.refusal.specs.declared.Verdict.{Verdict}
 use Rattle.refusal.specs.declared.Verdict.the-variants.{Accepted, Refused}
 use Rattle.bitvec.specs.Lists.{listOf}
@@ -31,10 +32,17 @@ abbrev pub verdictPlaced : Placed → Verdict
 verdictPlaced (holds stored) = Accepted
 verdictPlaced (stops why) = Refused why
 
--- a plan of visits that were placed; refused, it tells zeros
+abbrev pub planAccepted : ℕ → ℕ → List ℕ → Plan
+planAccepted bits spans sums = record { verdict = Accepted; length = bits; spans = spans; padding = sums }
+
+-- refused, a plan tells zeros
+abbrev pub planRefused : Refusal → Plan
+planRefused why = record { verdict = Refused why; length = 0; spans = 0; padding = replicate maxBanks 0 }
+
+-- a plan of visits that were placed
 abbrev pub planBy : ℕ → ℕ → List ℕ → Placed → Plan
-planBy bits spans sums (holds stored) = record { verdict = Accepted; length = bits; spans = spans; padding = sums }
-planBy bits spans sums (stops why) = record { verdict = Refused why; length = 0; spans = 0; padding = replicate maxBanks 0 }
+planBy bits spans sums (holds stored) = planAccepted bits spans sums
+planBy bits spans sums (stops why) = planRefused why
 
 -- The plan of a row: whether bank 0 is closed, and the fill's length.
 abbrev pub planOf : Program → Row → Bool → ℕ → Plan
@@ -56,7 +64,7 @@ module _ (bits spans : ℕ) (sums : List ℕ) where
 
   -- a plan that is accepted tells all of its numbers
   plan-accepted : (q : Placed) → planBy bits spans sums q .verdict ≡ Accepted
-      → planBy bits spans sums q ≡ record { verdict = Accepted; length = bits; spans = spans; padding = sums }
+      → planBy bits spans sums q ≡ planAccepted bits spans sums
   plan-accepted (holds stored) e = refl
   plan-accepted (stops why) e = absurd (let z : _≡_ {A = ℕ} 0 1 = cc in omega arith)
 
@@ -66,7 +74,7 @@ plan-parts p row closed fill plan is =
     let spans = length (spansOf (visits p row)) in
     let q = placedAll closed (visits p row) in
     let sums = paddingsOf p row in
-    let told : plan .verdict ≡ Accepted → plan ≡ record { verdict = Accepted; length = bits; spans = spans; padding = sums } =
+    let told : plan .verdict ≡ Accepted → plan ≡ planAccepted bits spans sums =
     λ e. is ∙ plan-accepted bits spans sums q (sym (ap (λ (x : Plan). x .verdict) is) ∙ e) in
     record {
       verdict = ap (λ (x : Plan). x .verdict) is ∙ plan-verdict bits spans sums q;

@@ -8,12 +8,17 @@ use bankdef::Bankdefs;
 pub use checks::closes_default;
 use iter::Moved;
 use iter::Node;
+use iter::bank_after;
+use iter::lost_after;
+use lists::node_at;
 use overlap_checker::Offered;
 use refusal::Offset;
+use refusal::Refusal;
 use refusal::Verdict;
 use visits::is_span;
 use visits::is_written;
-use visits::visit_node;
+use visits::origins;
+use visits::see_node;
 ghost use mathlib.Core.Path.{_≡_};
 ghost use mathlib.Core.Bool.{true};
 ghost use Prim.Native.Nat.{ℕ, _+_, _≤_};
@@ -21,12 +26,14 @@ ghost use lib.ListN.{length};
 ghost use Rattle.refusal.specs.Limits.{maxOffer, maxNodes};
 ghost use Rattle.refusal.specs.Pick.{pick};
 ghost use Rattle.refusal.specs.declared.Offset.the-variants.{At as Out};
+ghost use Rattle.refusal.specs.declared.Verdict.the-variants.{Accepted};
+ghost use Rattle.resolver.specs.Switches.{Switches};
 ghost use Rattle.overlap_checker.specs.Lent.{lent as store, stateIn, Sound};
 ghost use Rattle.visits.specs.Items.{itemAt, lengthOf};
 ghost use Rattle.visits.specs.Spans.{isSpan};
 ghost use Rattle.visits.specs.Visits.{programOf, rowOf};
 ghost use Rattle.placing.specs.Placing.{isPlaced, offerAt, answered, verdictSeen};
-ghost use Rattle.placing.specs.Plan.{maxEnd, planOf};
+ghost use Rattle.placing.specs.Plan.{maxEnd, planRefused, planAccepted, planOf};
 ghost use Rattle.placing.specs.Steps.{Goes};
 
 // The offer of a node that is placed: a label makes none, and neither does what stands nowhere in the output.
@@ -162,12 +169,74 @@ fn spans_after(node: Node, spans: u64) -> u64
     if is_span(node) { spans + 1 } else { spans }
 }
 
+// The image's length and the number of spans, so far.
+pub struct Sums {
+    pub length: u64,
+    pub spans: u64,
+}
+
+// "Image length is the larger of the fill's and ..": before the first node.
+fn no_sums(fill: u64) -> Sums
+    ensures { λ r. ⌜ r ≡ record { length = fill; spans = 0 } ⌝ }
+{
+    Sums {
+        length: fill,
+        spans: 0,
+    }
+}
+
+fn sums_after(node: Node, out: Offset, sums: Sums) -> Sums
+    requires { ⌜ ((o : ℕ) → out ≡ Out o → o ≤ maxOffer) ⌝ }
+    requires { ⌜ (sums .length ≤ maxEnd) × (sums .spans ≤ maxNodes) ⌝ }
+    ensures { λ r. ⌜ r .length ≡ lengthOf (sums .length) (itemAt node out) ⌝ }
+    ensures { λ r. ⌜ r .length ≤ maxEnd ⌝ }
+    ensures { λ r. ⌜ r .spans ≡ pick (isSpan node) (sums .spans + 1) (sums .spans) ⌝ }
+{
+    Sums {
+        length: length_after(node, out, sums.length),
+        spans: spans_after(node, sums.spans),
+    }
+}
+
 // What the first walk finds: the verdict on all nodes, and the image's length, the number of spans and each bank's padding. Refused, zeros.
 pub struct Plan {
     pub verdict: Verdict,
     pub length: u64,
     pub spans: u64,
     pub padding: [u64; 16],
+}
+
+fn refused_plan(why: Refusal) -> Plan
+    ensures { λ r. ⌜ r ≡ planRefused why ⌝ }
+{
+    Plan {
+        verdict: Verdict::Refused(why),
+        length: 0,
+        spans: 0,
+        padding: [0u64; 16],
+    }
+}
+
+fn accepted_plan(sums: Sums, padding: [u64; 16]) -> Plan
+    ensures { λ r. ⌜ r ≡ planAccepted (sums .length) (sums .spans) padding ⌝ }
+{
+    Plan {
+        verdict: Verdict::Accepted,
+        length: sums.length,
+        spans: sums.spans,
+        padding,
+    }
+}
+
+// An empty store.
+fn none_stored() -> Offered
+    ensures { λ r. ⌜ r ≡ record { verdict = Accepted; count = 0; marks = 0 } ⌝ }
+{
+    Offered {
+        verdict: Verdict::Accepted,
+        count: 0,
+        marks: 0,
+    }
 }
 
 // The first walk over the row of the last pass. It decides everything and writes nothing that is lent.
@@ -182,6 +251,7 @@ pub fn plan_row(
     fill: u64,
 ) -> Plan
     requires { ⌜ (fill ≤ maxOffer) × (length (now kinds) ≤ maxNodes) ⌝ }
+    requires { ⌜ Switches (banks .len) (now kinds) (now operands) ⌝ }
     ensures { λ r. ⌜
         r ≡ planOf (programOf banks (now (kinds .entry)) (now (operands .entry)) (now (first .entry)))
         (rowOf (now (numbers .entry)) (now (states .entry))) closed fill
@@ -190,53 +260,41 @@ pub fn plan_row(
 {
     let mut positions = [0u64; 512];
     let mut sizes = [0u64; 512];
-    let mut count: usize = 0;
     let mut marks = [0u64; 512];
-    let mut mark_count: usize = 0;
-    let mut walk = iter::start();
-    let mut reach = fill;
-    let mut spans: u64 = 0;
+    let mut stored = none_stored();
+    let mut at = origins();
+    let mut lost = [0u64; 16];
+    let mut bank: u64 = 0;
+    let mut sums = no_sums(fill);
     let mut i = 0;
     while i < kinds.len() {
-        let v = visit_node(banks, kinds, operands, first, numbers, states, walk, i);
-        let node = v.node;
-        let def = v.def;
-        let seen = v.seen;
-        let out = v.out;
-        let offered = place(
+        let node = node_at(kinds, operands, first, numbers, states, i);
+        bank = bank_after(bank, node);
+        let sight = see_node(banks.defs[bank as usize], at[bank as usize], node);
+        let seen = sight.seen;
+        let out = sight.out;
+        stored = place(
             closed,
-            v.bank,
-            def,
+            bank,
+            banks.defs[bank as usize],
             node,
             seen,
             out,
             &mut positions,
             &mut sizes,
-            count,
+            stored.count,
             &mut marks,
-            mark_count,
+            stored.marks,
         );
-        let verdict = offered.verdict;
-        if let Verdict::Refused(_) = verdict {
-            return Plan {
-                verdict,
-                length: 0,
-                spans: 0,
-                padding: [0u64; 16],
-            };
+        let verdict = stored.verdict;
+        if let Verdict::Refused(why) = verdict {
+            return refused_plan(why);
         }
-        count = offered.count;
-        mark_count = offered.marks;
-        reach = length_after(node, out, reach);
-        spans = spans_after(node, spans);
-        walk = v.walk;
+        sums = sums_after(node, out, sums);
+        let after = sight.after;
+        at[bank as usize] = after;
+        lost[bank as usize] = lost_after(lost[bank as usize], sight.bits);
         i += 1;
     }
-    let padding = walk.lost;
-    Plan {
-        verdict: Verdict::Accepted,
-        length: reach,
-        spans,
-        padding,
-    }
+    accepted_plan(sums, lost)
 }

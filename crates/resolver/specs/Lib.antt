@@ -24,6 +24,7 @@ pub mod RaisedLimit
 pub mod RefusedExactly
 pub mod Repeats
 pub mod Run
+pub mod Stands
 pub mod StepRefusals
 pub mod Switches
 pub mod Told

@@ -1,5 +1,6 @@
 pub mod ItemLaws
 pub mod Items
+pub mod Sights
 pub mod Spans
 pub mod Upto
 pub mod VisitLaws

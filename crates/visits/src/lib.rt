@@ -3,16 +3,19 @@ use bankdef::Bankdef;
 use bankdef::Bankdefs;
 use iter::Moved;
 use iter::Node;
+use iter::Pos;
 use iter::Walk;
 use refusal::Offset;
 ghost use mathlib.Core.Path.{_≡_};
 ghost use Prim.Native.Nat.{ℕ, _≤_};
-ghost use Rattle.refusal.specs.Limits.{maxOffer};
+ghost use lib.ListN.{replicate};
+ghost use Rattle.refusal.specs.Limits.{maxBanks, maxOffer};
 ghost use Rattle.refusal.specs.declared.Offset.the-variants.{At as Out};
 ghost use Rattle.iter.specs.Address.{outputPosition};
+ghost use Rattle.iter.specs.Step.{origin};
 ghost use Rattle.visits.specs.Items.{isWritten};
 ghost use Rattle.visits.specs.Spans.{isSpan, sizeOf};
-ghost use Rattle.visits.specs.Visits.{programOf, rowOf, seenPos, visitOf};
+ghost use Rattle.visits.specs.Visits.{programOf, rowOf, seenPos, sightOf, visitOf};
 
 // A node, the bank that it stands in, the position that it sees, where that is in the output, and the walk after it.
 pub struct Visit {
@@ -32,6 +35,44 @@ fn out_of(def: Bankdef, seen: Moved) -> Offset
     match seen {
         Moved::To(at) => iter::get_output_position(def, at.position),
         Moved::Refused(_) => iter::get_output_position(def, 0),
+    }
+}
+
+// "Each bank's position starts at 0, known"
+pub fn origins() -> [Pos; 16]
+    ensures { λ r. ⌜ r ≡ replicate maxBanks origin ⌝ }
+{
+    let origin = Pos {
+        position: 0,
+        known: true,
+    };
+    [origin; 16]
+}
+
+// What a node shows in its bank alone: the position that it sees, where that is in the output, the bits that it loses there, and the bank's
+// position afterwards.
+pub struct Sight {
+    pub seen: Moved,
+    pub out: Offset,
+    pub bits: u32,
+    pub after: Pos,
+}
+
+// A node seen in the bank that it stands in, whose position is `at`.
+pub fn see_node(def: Bankdef, at: Pos, node: Node) -> Sight
+    ensures { λ r. ⌜ r ≡ sightOf def at node ⌝ }
+    ensures { λ r. ⌜ ((o : ℕ) → r .out ≡ Out o → o ≤ maxOffer) ⌝ }
+{
+    let crossing = iter::cross(def, at, node);
+    let seen = crossing.seen;
+    let skipped = crossing.skipped;
+    let out = out_of(def, seen);
+    let after = crossing.after;
+    Sight {
+        seen,
+        out,
+        bits: skipped.bits,
+        after,
     }
 }
 

@@ -1,4 +1,4 @@
-// The second walk, which writes: the image's bits and the spans, once everything is decided.
+// The second walk over a row, which writes: the image's bits and the spans, once everything is decided.
 mod blank;
 
 use crate::blank::lay_blank;
@@ -7,11 +7,14 @@ use bankdef::Bankdefs;
 use iter::Address;
 use iter::Moved;
 use iter::Node;
+use iter::bank_after;
+use lists::node_at;
 use refusal::Offset;
 use visits::is_span;
 use visits::is_written;
+use visits::origins;
+use visits::see_node;
 use visits::size_of;
-use visits::visit_node;
 ghost use mathlib.Core.Path.{_≡_};
 ghost use mathlib.Core.Bool.{true};
 ghost use Prim.Native.Nat.{_+_, _<_};
@@ -20,11 +23,12 @@ ghost use Rattle.refusal.specs.Pick.{pick};
 ghost use Rattle.bankdef.specs.Check.{banksOf};
 ghost use Rattle.blocks.specs.Offsets.{wordOf};
 ghost use Rattle.iter.specs.Address.{addressOf};
+ghost use Rattle.resolver.specs.Switches.{Switches};
 ghost use Rattle.visits.specs.Items.{itemAt, itemsOf, imageOf};
 ghost use Rattle.visits.specs.Spans.{isSpan, sizeOf, addressTold, spansOf, over, addresses as addressesOf, words as wordsOf, sizes as sizesOf};
 ghost use Rattle.visits.specs.Visits.{programOf, rowOf, seenPos, visits};
 ghost use Rattle.writing.specs.Blank.{blankOf};
-ghost use Rattle.writing.specs.Writes.{Fit, Fits};
+ghost use Rattle.writing.specs.Writes.{Fit, HasRoom};
 
 // A written item's bits, at its place in the image; any other node leaves the image as it is.
 fn write_item(node: Node, out: Offset, values: &[u8], image: &mut [u8])
@@ -39,41 +43,6 @@ fn write_item(node: Node, out: Offset, values: &[u8], image: &mut [u8])
         Offset::At(o) => {
             bitvec::write_bits(image, o, values, node.operand as u64, node.number as u64);
         }
-    }
-}
-
-// The image of a row: the blank one, then each written item's bits.
-pub fn write_image(
-    banks: Bankdefs,
-    kinds: &[u8],
-    operands: &[u32],
-    first: &[u32],
-    numbers: &[u32],
-    states: &[u8],
-    values: &[u8],
-    bits: u64,
-    image: &mut [u8],
-)
-    requires { ⌜
-        Fit (length (now values)) (length (now image))
-        (itemsOf (visits (programOf banks (now kinds) (now operands) (now first)) (rowOf (now numbers) (now states))))
-        ⌝ }
-    ensures { λ _. ⌜
-        now (image .exit) ≡ imageOf (now (values .entry)) (blankOf (banksOf banks) bits (length (now (image .entry))))
-        (itemsOf (visits (programOf banks (now (kinds .entry)) (now (operands .entry)) (now (first .entry)))
-        (rowOf (now (numbers .entry)) (now (states .entry)))))
-        ⌝ }
-{
-    lay_blank(banks, bits, image);
-    let mut walk = iter::start();
-    let mut i = 0;
-    while i < kinds.len() {
-        let v = visit_node(banks, kinds, operands, first, numbers, states, walk, i);
-        let node = v.node;
-        let out = v.out;
-        write_item(node, out, values, image);
-        walk = v.walk;
-        i += 1;
     }
 }
 
@@ -127,21 +96,31 @@ fn put_span(
     count + 1
 }
 
-// The spans of a row, in node order; the lists keep their old contents past them.
-pub fn write_spans(
+// What a row leaves in everything lent: the image, the blank one and each written item's bits in it; and the spans, in node order, where the lists keep
+// their old contents past them.
+pub fn write_row(
     banks: Bankdefs,
     kinds: &[u8],
     operands: &[u32],
     first: &[u32],
     numbers: &[u32],
     states: &[u8],
+    values: &[u8],
+    bits: u64,
+    image: &mut [u8],
     addresses: &mut [i64],
     offsets: &mut [u64],
     sizes: &mut [u64],
 )
+    requires { ⌜ Switches (banks .len) (now kinds) (now operands) ⌝ }
     requires { ⌜
-        Fits (length (spansOf (visits (programOf banks (now kinds) (now operands) (now first)) (rowOf (now numbers) (now states)))))
-        (length (now addresses)) (length (now offsets)) (length (now sizes))
+        HasRoom (visits (programOf banks (now kinds) (now operands) (now first)) (rowOf (now numbers) (now states))) (length (now values))
+        (length (now image)) (length (now addresses)) (length (now offsets)) (length (now sizes))
+        ⌝ }
+    ensures image { λ _. ⌜
+        now (image .exit) ≡ imageOf (now (values .entry)) (blankOf (banksOf banks) bits (length (now (image .entry))))
+        (itemsOf (visits (programOf banks (now (kinds .entry)) (now (operands .entry)) (now (first .entry)))
+        (rowOf (now (numbers .entry)) (now (states .entry)))))
         ⌝ }
     ensures addresses { λ _. ⌜
         now (addresses .exit) ≡ over (addressesOf (spansOf (visits (programOf banks (now (kinds .entry)) (now (operands .entry)) (now (first .entry)))
@@ -159,17 +138,22 @@ pub fn write_spans(
         (now (sizes .entry))
         ⌝ }
 {
-    let mut walk = iter::start();
+    lay_blank(banks, bits, image);
+    let mut at = origins();
+    let mut bank: u64 = 0;
     let mut count = 0;
     let mut i = 0;
     while i < kinds.len() {
-        let v = visit_node(banks, kinds, operands, first, numbers, states, walk, i);
-        let node = v.node;
-        let def = v.def;
-        let seen = v.seen;
-        let out = v.out;
+        let node = node_at(kinds, operands, first, numbers, states, i);
+        bank = bank_after(bank, node);
+        let def = banks.defs[bank as usize];
+        let sight = see_node(def, at[bank as usize], node);
+        let seen = sight.seen;
+        let out = sight.out;
+        write_item(node, out, values, image);
         count = put_span(node, def, seen, out, count, addresses, offsets, sizes);
-        walk = v.walk;
+        let after = sight.after;
+        at[bank as usize] = after;
         i += 1;
     }
 }

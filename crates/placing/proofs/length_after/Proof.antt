@@ -45,7 +45,11 @@ returns-2 c =
     let known = c .before .before .before .out .given in
     let o-low = s .pre .0 (known .0 .0) (known .1) in
     let n-low = small (c .before) in
-    (length-at (s .args .node) (s .args .out) (s .args .length) (sym (c .before .before .before .before .before .before .is-written .ensures) ∙ not-false _ (c .before .before .before .before .before .if1 .left)) (known .0 .0) (known .1) _ (omega (arith, c .if2 .taken)), omega (arith, s .pre .1))
+    let w = c .before .before .before .before .before in
+    let written = sym (w .before .is-written .ensures) ∙ not-false _ (w .if1 .left) in (
+      length-at (s .args .node) (s .args .out) (s .args .length) written (known .0 .0) (known .1) _ (omega (arith, c .if2 .taken)),
+      omega (arith, s .pre .1),
+    )
 
 returns-3 : tie.Need-returns-3
 returns-3 c =
@@ -58,7 +62,11 @@ returns-4 c =
     let known = c .before .before .before .out .given in
     let o-low = s .pre .0 (known .0 .0) (known .1) in
     let n-low = small (c .before) in
-    (length-at (s .args .node) (s .args .out) (s .args .length) (sym (c .before .before .before .before .before .before .is-written .ensures) ∙ not-false _ (c .before .before .before .before .before .if1 .left)) (known .0 .0) (known .1) _ (omega (arith, c .if2 .left)), omega (arith, s .pre .1))
+    let w = c .before .before .before .before .before in
+    let written = sym (w .before .is-written .ensures) ∙ not-false _ (w .if1 .left) in (
+      length-at (s .args .node) (s .args .out) (s .args .length) written (known .0 .0) (known .1) _ (omega (arith, c .if2 .left)),
+      omega (arith, s .pre .1),
+    )
 
 pub length-after-spec : {M : Type 1} → statement M
 length-after-spec =

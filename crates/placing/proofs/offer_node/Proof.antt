@@ -6,7 +6,7 @@ use borrow.Author.Tests.{ne-eqb}
 use Rattle.refusal.specs.Limits.{maxPosition}
 use Rattle.refusal.specs.declared.Offset.{Offset}
 use Rattle.overlap_checker.specs.Interval.{interval, Within}
-use Rattle.overlap_checker.specs.Lent.{lent as store, stateIn}
+use Rattle.overlap_checker.specs.Lent.{Lent as Store, lent as store, stateIn}
 use Rattle.placing.specs.Placing.{offerAt}
 use Rattle.placing.proofs.OfferLaws.{offers-nowhere, offers-label, offers-one, goes-none, goes-offered, answered-none, answered-one}
 use borrow.Author.Needs.{needs}
@@ -15,6 +15,10 @@ use Rattle.placing.proofs.offer_node.Tie as tie
 use Rattle.placing.proofs.offer_node.Reads as reads
 use Rattle.placing.proofs.offer_node.Lts as lts
 use Rattle.overlap_checker.proofs.offer.Reads as offer-reads
+
+-- the store, as it is lent
+abbrev lentTo : tie.Start → Store
+lentTo s = store (s .args .positions .now) (s .args .sizes .now) (s .args .count) (s .args .marks .now) (s .args .mark-count)
 
 enum-told : tie.Need-enum-told
 enum-told c = search needs
@@ -27,8 +31,8 @@ returns c =
     let s = c .before .before .before .before .before in
     let a = s .args in
     let none = offers-label (a .node) (a .out) (c .if1 .taken) in (
-      answered-none (stateIn (store (a .positions .now) (a .sizes .now) (a .count) (a .marks .now) (a .mark-count))) (a .node .index) (offerAt (a .node) (a .out)) none,
-      goes-none (store (a .positions .now) (a .sizes .now) (a .count) (a .marks .now) (a .mark-count)) (offerAt (a .node) (a .out)) (s .pre .0) none,
+      answered-none (stateIn (lentTo s)) (a .node .index) (offerAt (a .node) (a .out)) none,
+      goes-none (lentTo s) (offerAt (a .node) (a .out)) (s .pre .0) none,
     )
 
 cast-offer : tie.Need-cast-offer
@@ -49,8 +53,8 @@ returns-2 c =
     let s = c .before .before in
     let a = s .args in
     let none : offerAt (a .node) (a .out) ≡ mathlib.Core.List.[] = rw (c .enum-told .given .1) (offers-nowhere (a .node)) in (
-      answered-none (stateIn (store (a .positions .now) (a .sizes .now) (a .count) (a .marks .now) (a .mark-count))) (a .node .index) (offerAt (a .node) (a .out)) none,
-      goes-none (store (a .positions .now) (a .sizes .now) (a .count) (a .marks .now) (a .mark-count)) (offerAt (a .node) (a .out)) (s .pre .0) none,
+      answered-none (stateIn (lentTo s)) (a .node .index) (offerAt (a .node) (a .out)) none,
+      goes-none (lentTo s) (offerAt (a .node) (a .out)) (s .pre .0) none,
     )
 
 returns-3 : tie.Need-returns-3
@@ -62,8 +66,8 @@ returns-3 c =
     let within : Within (interval (known .0 .0) (a .node .number)) = (s .pre .1 .1 (known .0 .0) (known .1), small (c .before)) in
     let e = interval (known .0 .0) (a .node .number) in
     let made : offerAt (a .node) (a .out) ≡ mathlib.Core.List._∷_ e mathlib.Core.List.[] = rw (known .1) (offers-one (a .node) (known .0 .0) (s .pre .1 .0) other) in (
-      answered-one (stateIn (store (a .positions .now) (a .sizes .now) (a .count) (a .marks .now) (a .mark-count))) e (a .node .index) (offerAt (a .node) (a .out)) made (c .offer .result .verdict) (c .offer .ensures .verdict),
-      goes-offered (store (a .positions .now) (a .sizes .now) (a .count) (a .marks .now) (a .mark-count)) e (a .node .index) (offerAt (a .node) (a .out)) made (s .pre .0) within
+      answered-one (stateIn (lentTo s)) e (a .node .index) (offerAt (a .node) (a .out)) made (c .offer .result .verdict) (c .offer .ensures .verdict),
+      goes-offered (lentTo s) e (a .node .index) (offerAt (a .node) (a .out)) made (s .pre .0) within
           (c .offer .result .verdict) _ (c .offer .ensures),
     )
 

@@ -1,7 +1,7 @@
 -- `place` meets its contract: one law for each way through the tests.
 use mathlib.Core.Path.{_≡_, sym, _∙_}
 use borrow.Author.Tests.{not-true, not-false}
-use Rattle.overlap_checker.specs.Lent.{lent as store, stateIn}
+use Rattle.overlap_checker.specs.Lent.{Lent as Store, lent as store, stateIn}
 use Rattle.placing.specs.Placing.{offerAt}
 use Rattle.placing.proofs.OfferLaws.{offers-unplaced, goes-none, goes-refused, verdict-stopped, verdict-unplaced, verdict-checked, verdict-offered}
 use borrow.Author.Needs.{needs}
@@ -12,6 +12,10 @@ use Rattle.placing.proofs.place.Lts as lts
 use Rattle.placing.proofs.checks.check_place.Reads as check-place-reads
 use Rattle.placing.proofs.checks.is_placed.Reads as is-placed-reads
 use Rattle.placing.proofs.offer_node.Reads as offer-node-reads
+
+-- the store, as it is lent
+abbrev lentTo : tie.Start → Store
+lentTo s = store (s .args .positions .now) (s .args .sizes .now) (s .args .count) (s .args .marks .now) (s .args .mark-count)
 
 enum-known-seen : tie.Need-enum-known-seen
 enum-known-seen c = search needs
@@ -28,8 +32,8 @@ returns c =
     let a = s .args in
     let known = c .before .before .before .seen2 .given in
     let none = sym (c .before .is-placed .ensures) ∙ not-true _ (c .if1 .taken) in (
-      verdict-unplaced (a .closed) (a .bank) (a .def) (stateIn (store (a .positions .now) (a .sizes .now) (a .count) (a .marks .now) (a .mark-count))) (a .node) (a .out) (a .seen) (known .0 .0) (known .1) none,
-      goes-none (store (a .positions .now) (a .sizes .now) (a .count) (a .marks .now) (a .mark-count)) (offerAt (a .node) (a .out)) (s .pre .0) (offers-unplaced (a .node) (a .out) none),
+      verdict-unplaced (a .closed) (a .bank) (a .def) (stateIn (lentTo s)) (a .node) (a .out) (a .seen) (known .0 .0) (known .1) none,
+      goes-none (lentTo s) (offerAt (a .node) (a .out)) (s .pre .0) (offers-unplaced (a .node) (a .out) none),
     )
 
 check-place-requires : tie.Need-check-place-requires
@@ -44,14 +48,16 @@ enum-told c = search needs
 offer-node-requires : tie.Need-offer-node-requires
 offer-node-requires c κs =
     let s = c .before .before .before .before .before .before .before .before .before .before .before in
-    (s .pre .0, (sym (c .before .before .before .before .before .before .before .is-placed .ensures) ∙ not-false _ (c .before .before .before .before .before .before .if1 .left), s .pre .1))
+    let w = c .before .before .before .before .before .before in
+    (s .pre .0, (sym (w .before .is-placed .ensures) ∙ not-false _ (w .if1 .left), s .pre .1))
 
 returns-2 : tie.Need-returns-2
 returns-2 c =
-    let a = c .before .before .before .args in
+    let s = c .before .before .before in
+    let a = s .args in
     let known = c .before .seen .given in (
-      verdict-stopped (a .closed) (a .bank) (a .def) (stateIn (store (a .positions .now) (a .sizes .now) (a .count) (a .marks .now) (a .mark-count))) (a .node) (a .out) (a .seen) (known .0 .0) (known .1),
-      goes-refused (store (a .positions .now) (a .sizes .now) (a .count) (a .marks .now) (a .mark-count)) (offerAt (a .node) (a .out)) (known .0 .0) (c .before .before .before .pre .0),
+      verdict-stopped (a .closed) (a .bank) (a .def) (stateIn (lentTo s)) (a .node) (a .out) (a .seen) (known .0 .0) (known .1),
+      goes-refused (lentTo s) (offerAt (a .node) (a .out)) (known .0 .0) (s .pre .0),
     )
 
 returns-3 : tie.Need-returns-3
@@ -61,9 +67,9 @@ returns-3 c =
     let known = c .before .before .before .before .before .before .before .seen2 .given in
     let placed = sym (c .before .before .before .before .before .is-placed .ensures) ∙ not-false _ (c .before .before .before .before .if1 .left) in
     let why = c .before .checked .given in (
-      verdict-checked (a .closed) (a .bank) (a .def) (stateIn (store (a .positions .now) (a .sizes .now) (a .count) (a .marks .now) (a .mark-count))) (a .node) (a .out) (a .seen) (known .0 .0) (known .1) placed
+      verdict-checked (a .closed) (a .bank) (a .def) (stateIn (lentTo s)) (a .node) (a .out) (a .seen) (known .0 .0) (known .1) placed
           (c .before .before .before .check-place .result) (c .before .before .before .check-place .ensures) (why .0 .0) (why .1),
-      goes-refused (store (a .positions .now) (a .sizes .now) (a .count) (a .marks .now) (a .mark-count)) (offerAt (a .node) (a .out)) (why .0 .0) (s .pre .0),
+      goes-refused (lentTo s) (offerAt (a .node) (a .out)) (why .0 .0) (s .pre .0),
     )
 
 returns-4 : tie.Need-returns-4
@@ -71,9 +77,11 @@ returns-4 c =
     let s = c .before .before .before .before .before .before .before .before .before .before .before .before in
     let a = s .args in
     let known = c .before .before .before .before .before .before .before .before .before .before .seen2 .given in
-    let placed = sym (c .before .before .before .before .before .before .before .before .is-placed .ensures) ∙ not-false _ (c .before .before .before .before .before .before .before .if1 .left) in (
-      verdict-offered (a .closed) (a .bank) (a .def) (stateIn (store (a .positions .now) (a .sizes .now) (a .count) (a .marks .now) (a .mark-count))) (a .node) (a .out) (a .seen) (known .0 .0) (known .1) placed
-          (c .before .before .before .before .before .before .check-place .result) (c .before .before .before .before .before .before .check-place .ensures) (c .before .before .before .before .enum-told .given .1) (c .offer-node .result .verdict) (c .offer-node .ensures .0),
+    let w = c .before .before .before .before .before .before in
+    let placed = sym (w .before .before .is-placed .ensures) ∙ not-false _ (w .before .if1 .left) in (
+      verdict-offered (a .closed) (a .bank) (a .def) (stateIn (lentTo s)) (a .node) (a .out) (a .seen) (known .0 .0) (known .1) placed
+          (w .check-place .result) (w .check-place .ensures) (c .before .before .before .before .enum-told .given .1)
+          (c .offer-node .result .verdict) (c .offer-node .ensures .0),
       c .offer-node .ensures .1,
     )
 

@@ -10,7 +10,8 @@ use Rattle.writing.proofs.address_of.Statement.{statement}
 use Rattle.writing.proofs.address_of.Tie as tie
 
 -- the address of that position
-found : (c : tie.After-get-address) → c .get-address .result ≡ addressOf (c .before .before .args .def) (seenPos (c .before .before .args .seen) .position) (c .before .before .args .index)
+found : (c : tie.After-get-address) → let a = c .before .before .args in
+    c .get-address .result ≡ addressOf (a .def) (seenPos (a .seen) .position) (a .index)
 found c = rw (← c .before .position-of .ensures) (c .get-address .ensures .0)
 
 position-of-requires : tie.Need-position-of-requires
@@ -26,7 +27,9 @@ enum-told : tie.Need-enum-told
 enum-told c = search needs
 
 returns : tie.Need-returns
-returns c = toZ-ofZ w64 (c .before .address .given .0 .0) (record { sfits = c .known-told .given .0 .1 }) ∙ ap addressTold (sym (c .before .address .given .1) ∙ found (c .before .before .before))
+returns c =
+    toZ-ofZ w64 (c .before .address .given .0 .0) (record { sfits = c .known-told .given .0 .1 })
+    ∙ ap addressTold (sym (c .before .address .given .1) ∙ found (c .before .before .before))
 
 returns-2 : tie.Need-returns-2
 returns-2 c = ap addressTold (sym (c .enum-told .given .1) ∙ found (c .before .before))

@@ -18,7 +18,8 @@ spans : (c : tie.Else1) → isSpan (c .before .before .before .before .args .nod
 spans c = sym (c .before .is-span .ensures) ∙ not-false _ (c .if1 .left)
 
 -- so there is room in each list
-room : (c : tie.Else1) → let args = c .before .before .before .before .args in (args .count < length (args .addresses .now)) × (args .count < length (args .offsets .now)) × (args .count < length (args .sizes .now))
+room : (c : tie.Else1) → let args = c .before .before .before .before .args in
+    (args .count < length (args .addresses .now)) × (args .count < length (args .offsets .now)) × (args .count < length (args .sizes .now))
 room c = c .before .before .before .before .pre (spans c)
 
 is-span-requires : tie.Need-is-span-requires

@@ -44,8 +44,11 @@ same-length : tie.Need-same-length
 same-length c = search needs
 
 returns-3 : tie.Need-returns-3
-returns-3 c = let s = c .before .before .before .before .before .before .before .before .before .before .before .before .before in
-    item-written (s .args .image .now) (s .args .values .now) (s .args .node) (writes (c .before .before .before .before .before .before .before .before .before)) (c .before .before .before .before .before .before .before .out .given .1) (s .pre) (c .before .before .write-bits .ensures .bytes)
+returns-3 c =
+    let w = c .before .before .before .before .before .before .before in
+    let s = w .before .before .before .before .before .before in
+    item-written (s .args .image .now) (s .args .values .now) (s .args .node) (writes (w .before .before)) (w .out .given .1) (s .pre)
+    (c .before .before .write-bits .ensures .bytes)
 
 pub write-item-spec : {M : Type 1} → statement M
 write-item-spec =

@@ -8,7 +8,7 @@ use Rattle.refusal.specs.Limits.{maxNodes}
 use Rattle.lists.specs.Lists.{Lists, Rows, lists}
 use Rattle.resolver.specs.declared.Settled.the-variants.{At}
 use Rattle.output.specs.Output.{Lent, lent}
-use Rattle.output.proofs.SettledLaws.{settled-rows, settled-few, part-values, finished, refused}
+use Rattle.output.proofs.SettledLaws.{settled-rows, settled-few, settled-switches, part-values, finished, refused}
 use borrow.Author.Needs.{needs}
 use Rattle.output.proofs.builds.build_output.Statement.{statement}
 use Rattle.output.proofs.builds.build_output.Tie as tie
@@ -106,18 +106,30 @@ part-build-row-end-3 c =
     let told = c .before .before .before .before .settled2 .given in
     omega (arith, rows f (told .0 .0) (told .1) .stated, c .before .before .row-start .ensures .1)
 
+-- where the row of the last pass begins, from the places behind it
+abbrev starting : tie.After-build-row → tie.After-row-start
+starting c = c .before .before .before .before .before .before .before .before
+
 build-row-requires : tie.Need-build-row-requires
 build-row-requires c κs =
-    let f = c .before .before .before .before .before .before .before .before .before .before .before in
-    let told = c .before .before .before .before .before .before .before .before .before .settled2 .given in
-    (few f (told .0 .0) (told .1), part-values (begin f .args .banks) (given (begin f)) (begin f .args .choices) (f .resolve .result) (f .resolve .ensures .0) (told .0 .0) (told .1) (c .before .before .before .before .before .before .before .row-start .result) (c .before .before .before .before .before .before .before .row-start .ensures .0))
+    let p = c .before .before .before .before .before .before .before in
+    let f = p .before .before .before .before in
+    let told = p .before .before .settled2 .given in
+    let a = begin f .args in (
+      few f (told .0 .0) (told .1),
+      (
+        settled-switches (a .banks) (given (begin f)) (a .choices) (f .resolve .result) (f .resolve .ensures .0) (told .0 .0) (told .1),
+        part-values (a .banks) (given (begin f)) (a .choices) (f .resolve .result) (f .resolve .ensures .0) (told .0 .0) (told .1)
+            (p .row-start .result) (p .row-start .ensures .0),
+      ),
+    )
 
 returns : tie.Need-returns
 returns c =
     let f = c .before .before .before .before in
     let told = c .before .before .settled .given in
-    refused (begin f .args .banks) (given (begin f)) (begin f .args .choices) (f .resolve .result) (f .resolve .ensures .0) (told .0 .0) (told .1) (old (begin f))
-    (c .refused .result) (c .refused .ensures)
+    refused (begin f .args .banks) (given (begin f)) (begin f .args .choices) (f .resolve .result) (f .resolve .ensures .0) (told .0 .0) (told .1)
+    (old (begin f)) (c .refused .result) (c .refused .ensures)
 
 same-length : tie.Need-same-length
 same-length c = search needs
@@ -133,10 +145,13 @@ same-length-4 c = search needs
 
 returns-2 : tie.Need-returns-2
 returns-2 c =
-    let f = c .before .before .before .before .before .before .before .before .before .before .before .before .before .before .before .before .before .before .before in
-    let told = c .before .before .before .before .before .before .before .before .before .before .before .before .before .before .before .before .before .settled2 .given in
-    finished (begin f .args .banks) (given (begin f)) (begin f .args .choices) (f .resolve .result) (f .resolve .ensures .0) (told .0 .0) (told .1) (c .before .before .before .before .before .before .before .before .before .before .before .before .before .before .before .row-start .result) (c .before .before .before .before .before .before .before .before .before .before .before .before .before .before .before .row-start .ensures .0) (old (begin f))
-    _ (c .before .before .before .before .before .before .before .build-row .result) (c .before .before .before .before .before .before .before .build-row .ensures)
+    let r = c .before .before .before .before .before .before .before in
+    let p = starting r in
+    let f = p .before .before .before .before in
+    let told = p .before .before .settled2 .given in
+    let a = begin f .args in
+    finished (a .banks) (given (begin f)) (a .choices) (f .resolve .result) (f .resolve .ensures .0) (told .0 .0) (told .1)
+    (p .row-start .result) (p .row-start .ensures .0) (old (begin f)) _ (r .build-row .result) (r .build-row .ensures)
 
 pub build-output-spec : {M : Type 1} → statement M
 build-output-spec =

@@ -33,8 +33,10 @@ mul-result c =
 
 returns-2 : tie.Need-returns-2
 returns-2 c =
-    let a = c .before .before .args in
-    (ap (λ (k : ℕ). (k - 1) * a .n) (c .before .shorter .ensures), row-ends (c .before .shorter .result) (a .rows) (a .n) (omega arith) (omega (arith, c .before .shorter .ensures)))
+    let a = c .before .before .args in (
+      ap (λ (k : ℕ). (k - 1) * a .n) (c .before .shorter .ensures),
+      row-ends (c .before .shorter .result) (a .rows) (a .n) (omega arith) (omega (arith, c .before .shorter .ensures)),
+    )
 
 pub row-start-spec : {M : Type 1} → statement M
 row-start-spec = tie.close (tie.spec shorter-requires returns sub-result mul-result returns-2)

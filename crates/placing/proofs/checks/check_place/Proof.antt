@@ -33,7 +33,11 @@ ends-past-requires c κs = search needs
 returns-2 : tie.Need-returns-2
 unfolding checked
 returns-2 c =
-    rw (sym (c .before .before .before .uses-default .ensures) ∙ c .before .before .if1 .left, ← (c .before .before .before .before .size-of .ensures .0), sym (c .before .ends-past .ensures) ∙ c .if2 .taken)
+    rw (
+      sym (c .before .before .before .uses-default .ensures) ∙ c .before .before .if1 .left,
+      ← (c .before .before .before .before .size-of .ensures .0),
+      sym (c .before .ends-past .ensures) ∙ c .if2 .taken,
+    )
 
 written-nowhere-requires : tie.Need-written-nowhere-requires
 written-nowhere-requires c κs = search needs

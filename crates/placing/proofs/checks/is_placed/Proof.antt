@@ -29,7 +29,10 @@ returns-2 c =
 
 returns-3 : tie.Need-returns-3
 returns-3 c =
-    rw (ne-eqb (c .before .before .before .before .before .args .node .kind) 2 (c .before .before .before .if1 .left), sym (c .before .before .is-written .ensures) ∙ c .before .if2 .left)
+    rw (
+      ne-eqb (c .before .before .before .before .before .args .node .kind) 2 (c .before .before .before .if1 .left),
+      sym (c .before .before .is-written .ensures) ∙ c .before .if2 .left,
+    )
 
 pub is-placed-spec : {M : Type 1} → statement M
 is-placed-spec = tie.close (tie.spec returns is-written-requires returns-2 returns-3)
