@@ -3,15 +3,12 @@ use borrow.Author.Tests.{le-leb, lt-leb}
 use Rattle.map.proofs.entries.size_of.Statement.{statement}
 use Rattle.map.proofs.entries.size_of.Tie as tie
 
--- src/entries.rt:32:9
 returns : tie.Need-returns
 returns c = rw (lt-leb 4 (c .before .args .node .kind) (c .if1 .taken))
 
--- src/entries.rt:35:9
 returns-2 : tie.Need-returns-2
 returns-2 c = rw (le-leb 4 (c .before .before .args .node .kind) (c .before .if1 .left), lt-leb (c .before .before .args .node .kind) 7 (c .if2 .taken))
 
--- src/entries.rt:27:1
 returns-3 : tie.Need-returns-3
 returns-3 c = rw (le-leb 4 (c .before .before .args .node .kind) (c .before .if1 .left), le-leb (c .before .before .args .node .kind) 7 (c .if2 .left))
 

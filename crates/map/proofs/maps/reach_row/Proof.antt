@@ -6,30 +6,24 @@ use borrow.Author.Needs.{needs}
 use Rattle.map.proofs.maps.reach_row.Statement.{statement}
 use Rattle.map.proofs.maps.reach_row.Tie as tie
 
--- src/maps.rt:81:26
 enum-known-settled : tie.Need-enum-known-settled
 enum-known-settled c = search needs
 
--- src/maps.rt:81:34
 met-requires : tie.Need-met-requires
 met-requires c κs = subst Few (c .before .settled .given .1) (c .before .before .before .before .before .before .before .before .pre .1)
 
--- src/maps.rt:82:27
 enum-told : tie.Need-enum-told
 enum-told c = search needs
 
--- src/maps.rt:82:27
 trace-row-requires : tie.Need-trace-row-requires
 trace-row-requires c κs = search needs
 
--- src/maps.rt:63:1
 returns : tie.Need-returns
 returns c =
     let a = c .before .before .before .before .before .before .before .before .before .args in
     let p = programOf (a .banks) (a .kinds .now) (a .operands .now) (a .first .now) in
     c .met .ensures ∙ sym (ap (rowReach p (rowOf (a .numbers .now) (a .states .now)) (a .closed)) (c .before .before .settled .given .1))
 
--- src/maps.rt:63:1
 returns-2 : tie.Need-returns-2
 returns-2 c =
     let a = c .before .before .before .before .before .before .before .before .args in

@@ -8,15 +8,12 @@ use borrow.Author.Needs.{needs}
 use Rattle.map.proofs.maps.row_start.Statement.{statement}
 use Rattle.map.proofs.maps.row_start.Tie as tie
 
--- src/maps.rt:182:9
 shorter-requires : tie.Need-shorter-requires
 shorter-requires c κs = search needs
 
--- src/maps.rt:183:7
 sub-result : tie.Need-sub-result
 sub-result c = search needs
 
--- src/maps.rt:183:5
 mul-result : tie.Need-mul-result
 mul-result c =
     let a = c .before .args in
@@ -24,7 +21,6 @@ mul-result c =
     let rows-low = mul-le-mul-right (a .n) (c .before .pre .1) in
     record { fits = omega (arith, ends, rows-low, c .before .pre .2) }
 
--- src/maps.rt:177:1
 returns : tie.Need-returns
 returns c =
     let a = c .before .args in (

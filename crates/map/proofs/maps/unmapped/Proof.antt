@@ -8,11 +8,9 @@ use borrow.Author.Needs.{needs}
 use Rattle.map.proofs.maps.unmapped.Statement.{statement}
 use Rattle.map.proofs.maps.unmapped.Tie as tie
 
--- src/maps.rt:162:18
 verdict-of-requires : tie.Need-verdict-of-requires
 verdict-of-requires c κs = search needs
 
--- src/maps.rt:158:1
 returns : tie.Need-returns
 returns c = ap (λ (v : Verdict). mapBy 0 (record { verdict = v; nodes = 0; fault = None }) (replicate 16 0)) (c .verdict-of .ensures)
 

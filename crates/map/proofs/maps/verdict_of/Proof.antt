@@ -3,19 +3,15 @@ use borrow.Author.Needs.{needs}
 use Rattle.map.proofs.maps.verdict_of.Statement.{statement}
 use Rattle.map.proofs.maps.verdict_of.Tie as tie
 
--- src/maps.rt:152:26
 enum-known-settled : tie.Need-enum-known-settled
 enum-known-settled c = search needs
 
--- src/maps.rt:153:27
 enum-told : tie.Need-enum-told
 enum-told c = search needs
 
--- src/maps.rt:148:1
 returns : tie.Need-returns
 returns c = rw (c .before .settled .given .1)
 
--- src/maps.rt:148:1
 returns-2 : tie.Need-returns-2
 returns-2 c = search needs
 

@@ -7,11 +7,9 @@ use Rattle.map.specs.declared.Fault.the-variants.{At as AtNode}
 use Rattle.map.proofs.tracing.stopped.Statement.{statement}
 use Rattle.map.proofs.tracing.stopped.Tie as tie
 
--- src/tracing.rt:33:16
 add-t3 : tie.Need-add-t3
 add-t3 c = search needs
 
--- src/tracing.rt:27:1
 returns : tie.Need-returns
 returns c =
     let i = c .args .i in
