@@ -64,15 +64,15 @@ built-by room k bits spans (stops why) e = absurd (let z : _≡_ {A = ℕ} 0 1 =
 -- ---- room, by the verdict on it
 
 module _ (t u : Bool) where
-  short-by : {done : Build} (why : Refusal) → pick t (TurnedAway (TooShort 0)) (pick u (TurnedAway (TooShort 1)) Accepted) ≡ TurnedAway why
+  short-by : (done : Build) (why : Refusal) → pick t (TurnedAway (TooShort 0)) (pick u (TurnedAway (TooShort 1)) Accepted) ≡ TurnedAway why
       → pick t (Refused (TooShort 0)) (pick u (Refused (TooShort 1)) done) ≡ Refused why
   short-by = tests t u
     where
-      tests : (a b : Bool) {done : Build} (why : Refusal) → pick a (TurnedAway (TooShort 0)) (pick b (TurnedAway (TooShort 1)) Accepted) ≡ TurnedAway why
+      tests : (a b : Bool) (done : Build) (why : Refusal) → pick a (TurnedAway (TooShort 0)) (pick b (TurnedAway (TooShort 1)) Accepted) ≡ TurnedAway why
           → pick a (Refused (TooShort 0)) (pick b (Refused (TooShort 1)) done) ≡ Refused why
-      tests true b why e = cc
-      tests false true why e = cc
-      tests false false why e = absurd (let z : _≡_ {A = ℕ} 0 1 = cc in omega arith)
+      tests true b done why e = cc
+      tests false true done why e = cc
+      tests false false done why e = absurd (let z : _≡_ {A = ℕ} 0 1 = cc in omega arith)
 
   roomy-by : pick t (TurnedAway (TooShort 0)) (pick u (TurnedAway (TooShort 1)) Accepted) ≡ Accepted → (t ≡ false) × (u ≡ false)
   roomy-by = tests t u
@@ -113,7 +113,10 @@ module _ (p : Program) (row : Row) (closed : Bool) (fill k passes : ℕ) (values
       pub row-short : (why : Refusal) → v ≡ TurnedAway why → (x : Output) → x ≡ refusedAfter passes why
           → RowBuilt p row closed fill k passes values old x old
       row-short why e =
-          kept why (sym (answers ∙ short-by (ltb (8 * length (old .image)) (plan .length)) (ltb (roomOf old .spans) (plan .spans)) why (sym told ∙ e)))
+          kept why
+          (sym (answers
+          ∙ short-by (ltb (8 * length (old .image)) (plan .length)) (ltb (roomOf old .spans) (plan .spans)) (Done k (plan .length) (plan .spans)) why
+          (sym told ∙ e)))
 
       module _ (fits : v ≡ Accepted) where
         tests : (ltb (8 * length (old .image)) (plan .length) ≡ false) × (ltb (roomOf old .spans) (plan .spans) ≡ false)

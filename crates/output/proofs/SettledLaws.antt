@@ -137,7 +137,7 @@ module _ (banks : Bankdefs) (l : Lists) (m : Choices) (r : Resolution) (resolves
 
     -- each bank switch names a bank of the table
     pub settled-switches : Switches (banks .len) (l .kinds) (l .operands)
-    settled-switches = accepted-switches banks l (m .fill) (both-checks .0) checks
+    settled-switches = accepted-switches banks l (m .fill) refl (both-checks .0) refl checks
 
     pub settled-rows : Rows (length (l .kinds)) (l .rows) (l .numbers) (l .states)
     settled-rows = accepted-rows (banks .len) l (m .fill) (sym checks) refl

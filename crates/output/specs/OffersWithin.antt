@@ -49,11 +49,11 @@ never e = let z : _≡_ {A = ℕ} 0 1 = cc in omega arith
 
 -- "5: a position would pass 4,294,967,295": one that is moved to does not
 moved-within : (at : Pos) (bits : ℕ) (known : Bool) (n : ℕ) {q : Pos} → movedBy at bits known n ≡ To q → at .position + bits ≤ maxPosition
-moved-within at bits known n {q} e = leb-true (at .position + bits) maxPosition (taken (leb (at .position + bits) maxPosition) e)
+moved-within at bits known n {q} e = leb-true (at .position + bits) maxPosition (taken (leb (at .position + bits) maxPosition) _ _ e)
   where
-    taken : (b : Bool) {p : Pos} {why : Refusal} → pick b (To p) (Stopped why) ≡ To q → b ≡ true
-    taken true f = refl
-    taken false f = absurd (never f)
+    taken : (b : Bool) (p : Pos) (why : Refusal) → pick b (To p) (Stopped why) ≡ To q → b ≡ true
+    taken true p why f = refl
+    taken false p why f = absurd (never f)
 
 module _ (def : Bankdef) (n : Node) (low : 4 ≤ n .kind) (high : n .kind ≤ 7) where
   advanced-within : (p q : Pos) → advancedOf def p n ≡ To q → p .position + n .number ≤ maxPosition

@@ -1,5 +1,6 @@
 -- `offer_node` meets its contract: one law for each way that a node's offer goes.
 use mathlib.Core.Path.{_≡_, refl, sym, subst, _∙_}
+use mathlib.Core.List.{[], _∷_}
 use Prim.Native.Nat.{_≤_}
 use native.Mathlib.Omega.{arith}
 use borrow.Author.Tests.{ne-eqb}
@@ -52,7 +53,7 @@ returns-2 : tie.Need-returns-2
 returns-2 c =
     let s = c .before .before in
     let a = s .args in
-    let none : offerAt (a .node) (a .out) ≡ mathlib.Core.List.[] = rw (c .enum-told .given .1) (offers-nowhere (a .node)) in (
+    let none : offerAt (a .node) (a .out) ≡ [] = rw (c .enum-told .given .1) (offers-nowhere (a .node)) in (
       answered-none (stateIn (lentTo s)) (a .node .index) (offerAt (a .node) (a .out)) none,
       goes-none (lentTo s) (offerAt (a .node) (a .out)) (s .pre .0) none,
     )
@@ -65,7 +66,7 @@ returns-3 c =
     let other = ne-eqb (a .node .kind) 2 (c .before .before .before .before .before .if1 .left) in
     let within : Within (interval (known .0 .0) (a .node .number)) = (s .pre .1 .1 (known .0 .0) (known .1), small (c .before)) in
     let e = interval (known .0 .0) (a .node .number) in
-    let made : offerAt (a .node) (a .out) ≡ mathlib.Core.List._∷_ e mathlib.Core.List.[] = rw (known .1) (offers-one (a .node) (known .0 .0) (s .pre .1 .0) other) in (
+    let made : offerAt (a .node) (a .out) ≡ e ∷ [] = rw (known .1) (offers-one (a .node) (known .0 .0) (s .pre .1 .0) other) in (
       answered-one (stateIn (lentTo s)) e (a .node .index) (offerAt (a .node) (a .out)) made (c .offer .result .verdict) (c .offer .ensures .verdict),
       goes-offered (lentTo s) e (a .node .index) (offerAt (a .node) (a .out)) made (s .pre .0) within
           (c .offer .result .verdict) _ (c .offer .ensures),

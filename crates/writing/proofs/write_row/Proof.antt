@@ -18,11 +18,13 @@ use Rattle.writing.proofs.write_row.Statement.{statement}
 use Rattle.writing.proofs.write_row.Tie as tie
 
 abbrev Inv-loop : tie.InvT-loop
-Inv-loop kinds operands first numbers states values bits image₀ addresses₀ offsets₀ sizes₀ banks at₀ bank₀ count₀ i₀ image addresses offsets sizes at bank count i =
+Inv-loop kinds operands first numbers states values bits image₀ addresses₀ offsets₀ sizes₀ banks at₀ bank₀ count₀ i₀
+    image addresses offsets sizes at bank count i =
     Writing (programOf banks kinds operands first) (rowOf numbers states) values image₀ addresses₀ offsets₀ sizes₀ i at bank count image addresses offsets sizes
 
 abbrev μ-loop : tie.MeasureT-loop
-μ-loop kinds operands first numbers states values bits image₀ addresses₀ offsets₀ sizes₀ banks at₀ bank₀ count₀ i₀ image addresses offsets sizes at bank count i =
+μ-loop kinds operands first numbers states values bits image₀ addresses₀ offsets₀ sizes₀ banks at₀ bank₀ count₀ i₀
+    image addresses offsets sizes at bank count i =
     length kinds - i
 
 -- ---- the places, each from the next
@@ -53,6 +55,18 @@ head c = c .before .before .before
 
 abbrev banked : tie.After-see-node Inv-loop μ-loop → Banked
 banked c = c .before .before .before
+
+abbrev Spanned : Type 0
+Spanned = tie.After-put-span Inv-loop μ-loop
+
+abbrev Itemed : Type 0
+Itemed = tie.After-write-item Inv-loop μ-loop
+
+abbrev itemed : Spanned → Itemed
+itemed c = c .before .before .before .before .before .before
+
+abbrev sighted : Itemed → Sighted
+sighted c = c .before .before
 
 abbrev start : Head → Entry
 start h = entry (blanked h)
@@ -143,56 +157,65 @@ put-span-requires c κs =
     (b .before .before .loop-test .taken)
 
 mul-at : tie.Need-mul-at Inv-loop μ-loop
-mul-at c = omega (arith, listed (banked (c .before .before .before .before .before .before .before .before .before .before .before .before .before .before)))
+mul-at c = omega (arith, listed (banked (sighted (itemed (c .before .before .before .before .before .before)))))
 
 array-set-from-at : tie.Need-array-set-from-at Inv-loop μ-loop
-array-set-from-at c = omega (arith, listed (banked (c .before .before .before .before .before .before .before .before .before .before .before .before .before .before)))
+array-set-from-at c = omega (arith, listed (banked (sighted (itemed (c .before .before .before .before .before .before)))))
 
 add-i : tie.Need-add-i Inv-loop μ-loop
-add-i c = let b = banked (c .before .before .before .before .before .before .before .before .before .before .before .before .before .before) in omega (arith, b .before .before .loop-test .taken, start (head b) .good)
+add-i c =
+    let b = banked (sighted (itemed (c .before .before .before .before .before .before))) in
+    omega (arith, b .before .before .loop-test .taken, start (head b) .good)
 
 loop-less : tie.Need-loop-less Inv-loop μ-loop
-loop-less c = let b = banked (c .before .before .before .before .before .before .before .before .before .before .before .before .before .before) in omega (arith, b .before .before .loop-test .taken)
+loop-less c =
+    let b = banked (sighted (itemed (c .before .before .before .before .before .before))) in
+    omega (arith, b .before .before .loop-test .taken)
 
 loop-again : tie.Need-loop-again Inv-loop μ-loop
 loop-again c =
-    let g = c .before .before .before .before .before .before .before .before .before .before .before .before .before .before in
+    let n = c .before .before .before .before .before .before in
+    let g = sighted (itemed n) in
     let b = banked g in
     let h = head b in
     let a = start h .args in
-    let put = c .before .before .before .before .before .before .put-span .ensures in
+    let put = n .put-span .ensures in
     goes-on (given h) (row h) (a .values .now) (blank (blanked h)) (a .addresses .now) (a .offsets .now) (a .sizes .now) (h .loop .i) (h .loop .inv) (roomy h)
     (sight-is-visit (given h) (start h .pre .0) (table h) (row h) (h .loop .i) (h .loop .inv .stands) (b .before .node-at .ensures) (b .bank-after .ensures)
     _ _ _ refl (g .see-node .ensures .0))
     (b .before .before .loop-test .taken)
     (sight-next (given h) (start h .pre .0) (table h) (row h) (h .loop .i) (h .loop .inv .stands) (b .before .node-at .ensures) (b .bank-after .ensures)
     _ _ _ refl (g .see-node .ensures .0))
-    (c .before .before .before .before .before .before .before .before .before .before .before .before .write-item .ensures) (put .0) (put .1 .0) (put .1 .1 .0) (put .1 .1 .1)
+    (itemed n .write-item .ensures) (put .0) (put .1 .0) (put .1 .1 .0) (put .1 .1 .1)
 
 same-length : tie.Need-same-length Inv-loop μ-loop
 same-length c =
     let h = c .before in
     let a = start h .args in
-    same-image (given h) (row h) (a .values .now) (blank (blanked h)) (a .addresses .now) (a .offsets .now) (a .sizes .now) (h .loop .i) (h .loop .inv) (roomy h)
+    same-image (given h) (row h) (a .values .now) (blank (blanked h)) (a .addresses .now) (a .offsets .now) (a .sizes .now)
+    (h .loop .i) (h .loop .inv) (roomy h)
     ∙ same-blank (blanked h)
 
 same-length-2 : tie.Need-same-length-2 Inv-loop μ-loop
 same-length-2 c =
     let h = c .before in
     let a = start h .args in
-    same-first (given h) (row h) (a .values .now) (blank (blanked h)) (a .addresses .now) (a .offsets .now) (a .sizes .now) (h .loop .i) (h .loop .inv) (roomy h)
+    same-first (given h) (row h) (a .values .now) (blank (blanked h)) (a .addresses .now) (a .offsets .now) (a .sizes .now)
+    (h .loop .i) (h .loop .inv) (roomy h)
 
 same-length-3 : tie.Need-same-length-3 Inv-loop μ-loop
 same-length-3 c =
     let h = c .before in
     let a = start h .args in
-    same-second (given h) (row h) (a .values .now) (blank (blanked h)) (a .addresses .now) (a .offsets .now) (a .sizes .now) (h .loop .i) (h .loop .inv) (roomy h)
+    same-second (given h) (row h) (a .values .now) (blank (blanked h)) (a .addresses .now) (a .offsets .now) (a .sizes .now)
+    (h .loop .i) (h .loop .inv) (roomy h)
 
 same-length-4 : tie.Need-same-length-4 Inv-loop μ-loop
 same-length-4 c =
     let h = c .before in
     let a = start h .args in
-    same-third (given h) (row h) (a .values .now) (blank (blanked h)) (a .addresses .now) (a .offsets .now) (a .sizes .now) (h .loop .i) (h .loop .inv) (roomy h)
+    same-third (given h) (row h) (a .values .now) (blank (blanked h)) (a .addresses .now) (a .offsets .now) (a .sizes .now)
+    (h .loop .i) (h .loop .inv) (roomy h)
 
 returns : tie.Need-returns Inv-loop μ-loop
 returns c =

@@ -3,6 +3,7 @@ use mathlib.Core.Path.{_≡_, sym, ap, _∙_}
 use mathlib.Core.Bool.{Bool}
 use Prim.Native.Nat.{ℕ, min}
 use lib.ListN.{length}
+use Rattle.refusal.specs.declared.Verdict.the-variants.{Accepted}
 use Rattle.bankdef.specs.Check.{banksOf}
 use Rattle.bankdef.specs.Fill.{fillBy}
 use Rattle.lists.specs.Lists.{Row}
@@ -58,6 +59,16 @@ room-told c =
     ∙ ap (λ (n : ℕ). roomVerdict (length (s .args .image .now)) n (f .plan-row .result .length) (f .plan-row .result .spans))
     (c .before .shorter2 .ensures ∙ ap (min (length (s .args .addresses .now))) (c .before .before .shorter .ensures))
 
+-- no node is refused
+passes-nodes : (c : tie.After-room-for) → planned-at c .plan-row .result .verdict ≡ Accepted
+passes-nodes c = c .before .before .before .enum-told .given .1
+
+abbrev roomy : tie.After-enum-told2 → tie.After-room-for
+roomy c = c .before .before
+
+abbrev written : tie.After-write-row → tie.After-enum-told2
+written c = c .before .before .before .before .before
+
 fill-length-requires : tie.Need-fill-length-requires
 fill-length-requires c κs = search needs
 
@@ -65,7 +76,9 @@ closes-default-requires : tie.Need-closes-default-requires
 closes-default-requires c κs = search needs
 
 plan-row-requires : tie.Need-plan-row-requires
-plan-row-requires c κs = let s = c .before .before .before .before .before .before .before .before .before .before .before in ((c .before .fill-length .ensures .1, s .pre .0), s .pre .1 .0)
+plan-row-requires c κs =
+    let s = c .before .before .before .before .before .before .before .before .before .before .before in
+    ((c .before .fill-length .ensures .1, s .pre .0), s .pre .1 .0)
 
 enum-known-verdict : tie.Need-enum-known-verdict
 enum-known-verdict c = search needs
@@ -108,7 +121,7 @@ returns-2 c =
     let s = begin f in
     let why = c .before .before .room .given in
     row-short (given s) (row s) (closed s) (fill s) (s .args .k) (s .args .passes) (s .args .values .now) (old s) (f .plan-row .result) (planned f)
-    (c .before .before .before .before .before .before .before .enum-told .given .1) (room-told r) (why .0 .0) (why .1) (c .refused2 .result) (c .refused2 .ensures)
+    (passes-nodes r) (room-told r) (why .0 .0) (why .1) (c .refused2 .result) (c .refused2 .ensures)
 
 enum-told-2 : tie.Need-enum-told-2
 enum-told-2 c = search needs
@@ -120,7 +133,7 @@ write-row-requires c κs =
     let s = begin f in (
       s .pre .1 .0,
       has-room (given s) (row s) (closed s) (fill s) (s .args .k) (s .args .passes) (s .args .values .now) (old s) (f .plan-row .result) (planned f)
-          (c .before .before .before .before .before .before .before .before .before .enum-told .given .1) (room-told r) (c .before .before .before .before .enum-told2 .given .1) (s .pre .1 .1),
+          (passes-nodes r) (room-told r) (c .before .before .before .before .enum-told2 .given .1) (s .pre .1 .1),
     )
 
 same-length : tie.Need-same-length
@@ -138,13 +151,14 @@ same-length-4 c = search needs
 -- everything is written
 returns-3 : tie.Need-returns-3
 returns-3 c =
-    let w = c .before .before .before .before .before .before .before .before .write-row .ensures in
-    let r = c .before .before .before .before .before .before .before .before .before .before .before .before .before .before .before in
+    let w = c .before .before .before .before .before .before .before .before in
+    let e = written w in
+    let r = roomy e in
     let f = planned-at r in
     let s = begin f in
     row-done (given s) (row s) (closed s) (fill s) (s .args .k) (s .args .passes) (s .args .values .now) (old s) (f .plan-row .result) (planned f)
-    (c .before .before .before .before .before .before .before .before .before .before .before .before .before .before .before .before .before .before .enum-told .given .1) (room-told r) (c .before .before .before .before .before .before .before .before .before .before .before .before .before .enum-told2 .given .1)
-    _ _ _ _ (w .0) (w .1 .0) (w .1 .1 .0) (w .1 .1 .1)
+    (passes-nodes r) (room-told r) (e .enum-told2 .given .1)
+    _ _ _ _ (w .write-row .ensures .0) (w .write-row .ensures .1 .0) (w .write-row .ensures .1 .1 .0) (w .write-row .ensures .1 .1 .1)
 
 pub build-row-spec : {M : Type 1} → statement M
 build-row-spec =
