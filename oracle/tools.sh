@@ -109,6 +109,19 @@ has "$room/out" ' *21  instruction *1 *64 *264 *0x108  64..87 *8..10 *24' 'tools
 has "$room/out" ' *3  320..335 *40..41 *16' 'tools/map examples/banks.form'
 tools/map --svg examples/sequencer.form >"$room/drawn" || wrong=1
 same docs/sequencer.svg "$room/drawn" "docs/sequencer.svg is not what tools/map --svg draws of examples/sequencer.form"
+# what no program says is no refusal
+for said in hello 'refused 12' 'refused 20 0' 'refused 12 a b'; do
+    is 2 tools/words examples/clamp-mark-after.form "$said"
+done
+is 0 tools/words examples/clamp-mark-after.form --help
+# a pipe gives what the file gives, but for the name
+tools/map examples/clamp-mark-after.form 2>"$room/words" | tail -n +2 >"$room/drawn"
+cat examples/clamp-mark-after.form | tools/map - 2>"$room/err" | tail -n +2 >"$room/out"
+same "$room/drawn" "$room/out" "tools/map - prints another map than for the file"
+same "$room/words" "$room/err" "tools/map - has other words than for the file"
+cat examples/clamp-mark-after.form | tools/map /dev/stdin 2>"$room/err" | tail -n +2 >"$room/out"
+same "$room/drawn" "$room/out" "tools/map prints another map for a pipe than for the file"
+same "$room/words" "$room/err" "tools/map has other words for a pipe than for the file"
 # a write that fails is not an answer
 [ ! -c /dev/full ] || for tool in ihex srec layout map; do
     "tools/$tool" examples/banks.form >/dev/full 2>"$room/err"

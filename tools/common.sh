@@ -13,7 +13,7 @@ say() {
 
 # The lines at the head of the tool, at once wherever --help stands.
 usage() {
-    sed -n '2,/^[^#]/s/^# \{0,1\}//p' "$0"
+    sed -n '2,/^[^#]/s/^# \{0,1\}//p' "$0" || exit 2
     exit 0
 }
 for one in "$@"; do
@@ -106,6 +106,11 @@ take() {
         from=$room/source
     else
         readable "$from"
+        # a pipe can be read once, and a file is read by several programs
+        [ -f "$from" ] || {
+            head -c "$2" <"$from" >"$room/source" 2>/dev/null || say "$from cannot be read"
+            from=$room/source
+        }
     fi
 }
 

@@ -74,5 +74,5 @@ END {
         print_table()
     }
     if (built) print image_words() "\naccepted"
-    else print (fault >= 0 ? "refused at node " fault ", and the map ends there\n" : "") verdict
+    else print (fault >= 0 ? "refused at node " fault ", and the map ends " (fault < shown ? "there" : "before it") "\n" : "") verdict
 }

@@ -29,7 +29,7 @@ function numbers(node,   r, text) {
         text = number[0, node]
         for (r = 1; r < rows && kind[node] != 5; r++) if (number[r, node] != number[0, node]) text = text ", then " number[r, node]
     }
-    return kind[node] == 8 || kind[node] == 9 ? "to " text : text " bits"
+    return kind[node] == 8 || kind[node] == 9 ? "to " text : text (text == "1" ? " bit" : " bits")
 }
 function tell_bank(bank,   text) {
     if (bank >= banks) return "bank " bank

@@ -11,7 +11,7 @@ use Rattle.bitvec.specs.HexDigits.{digitCount, Prints}
 use Rattle.bitvec.specs.declared.Hex.{Hex}
 use Rattle.bitvec.specs.declared.Hex.the-variants.{Digits}
 
--- "How many bytes from the load address on a file may give"
+-- How many bytes from the load address on a file may give.
 abbrev pub mostBytes : ℕ
 mostBytes = 524288
 

@@ -12,7 +12,7 @@ pub record Shows (file : List ℕ) (fill : ℕ) (page : Opt) (count : ℕ) (text
   pub counted : count ≡ length (reportText file fill page)
   pub front : take count text ≡ reportText file fill page
 
--- So many bytes as the report of what was read has: of at most 65,537 bytes, which tell what is printed for the whole input
--- (report/Room.read-so-far-is-enough).
+-- So many bytes as the report of some file of at most 65,537 bytes has, which tell what is printed for the whole input
+-- (report/Room.read-so-far-is-enough). That the file is the one that was read no contract can say; `Shows` says it of the bytes at hand.
 abbrev pub Reported : ℕ → Opt → ℕ → Type 0
 Reported fill page count = (file : List ℕ) × (length file ≤ fileRoom) × (count ≡ length (reportText file fill page))

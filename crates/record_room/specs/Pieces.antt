@@ -1,5 +1,5 @@
 -- What the pieces of an image's blocks cost: at most 15 characters for a line and two for each of its bytes. A piece has fewer than 16 bytes only where its
--- block ends, or its 64 KiB line, of which an image of `length` bytes has at most one more than it is long.
+-- block ends, or its 64 KiB line, and n bytes lie on at most n / 65536 + 2 of those.
 use mathlib.Core.Path.{_≡_, refl, ap, subst, _∙_}
 use mathlib.Core.Bool.{true}
 use mathlib.Core.List.{List, [], _∷_, _++_}
