@@ -1,5 +1,6 @@
 -- The map and the build of one layout: the map is refused exactly where the build is, with the same number and place, but for 14, which is the build's alone:
--- the map lends no image. And its node at fault is the node at which the build is refused.
+-- the map lends no image. And its node at fault is the node at which the build is refused. Of a built layout it shows the build's padding, and its
+-- entries of labels and written items are the build's spans.
 use mathlib.Core.Path.{_≡_, refl, sym, ap, subst, _∙_}
 use mathlib.Core.Bool.{Bool, true, false}
 use mathlib.Core.Logic.{_⊎_, inl, inr, _↔_}
@@ -7,7 +8,7 @@ use Prim.Native.Nat.{ℕ, zero, suc, _+_, _-_, _*_, _≤_, _<_}
 use native.Mathlib.Numerals.{add-one}
 use native.Mathlib.Omega.{arith}
 use lib.Dec.{ltb}
-use lib.ListN.{length}
+use lib.ListN.{length, getD}
 use Rattle.refusal.specs.Pick.{pick}
 use Rattle.refusal.specs.Refusals.{numberOf, placeOf}
 use Rattle.refusal.specs.Told.{Told, refuses}
@@ -29,7 +30,8 @@ use Rattle.resolver.specs.declared.Settled.the-variants.{At, Refused as Unsettl
 use Rattle.output.specs.Calls as build
 use Rattle.output.specs.Calls.{build-is}
 use Rattle.visits.specs.Items.{itemsOf, lengthOf}
-use Rattle.output.specs.Output.{Input, Room, roomOf, closedOf, fillOf, visitsOf, passesOf, settledOf, placedBuild, settledBuild, toldBuild}
+use Rattle.output.specs.Output.{Input, Room, roomOf, paddingBy, closedOf, fillOf, visitsOf, passesOf, settledOf, placedBuild, settledBuild, toldBuild}
+use Rattle.placing.specs.Plan.{paddingsOf}
 use Rattle.placing.specs.Placing.{Placed, holds, stops, placedNext, placedFrom, placedAll}
 use Rattle.placing.specs.PlacingLaws.{placed-last}
 use Rattle.output.specs.RefusedAtNode.{Reaches, RefusedThere}
@@ -39,8 +41,9 @@ use Rattle.visits.specs.Visits.{visitAt, visitsTo, visits}
 use Rattle.output.specs.declared.Build.{Build}
 use Rattle.output.specs.declared.Build.the-variants.{Done, Refused as TurnedAway}
 use Rattle.visits.specs.declared.Visit.{Visit}
-use Rattle.map.specs.Calls.{Call, nodesIn, reachIn, reach-is}
-use Rattle.map.specs.Map.{wholeReach, stoppedReach, walkedAll, tracedBy, traced, settledReach, reachOf}
+use Rattle.map.specs.Calls.{Call, programIn, rowIn, nodesIn, reachIn, passes-are, reach-is, padding-is}
+use Rattle.map.specs.Map.{wholeReach, stoppedReach, walkedAll, tracedBy, traced, settledReach, reachOf, paddingsTo}
+use Rattle.map.specs.Shown.{accepted-shows-all}
 use Rattle.map.specs.TracedLaws.{stopped-at, traced-stopped}
 use Rattle.map.specs.declared.Fault.{Fault}
 use Rattle.map.specs.declared.Fault.the-variants.{None, At as AtNode}
@@ -131,6 +134,26 @@ module _ (m : Call) (c : build.Call) (one : m .given ≡ c .given) where
       to (refused w) f g = absurd (never-refused (sym e ∙ f))
       to (accepted k bits spans) f g = inl (k, bits, spans, g)
       to (short buffer) f g = inr (buffer, g)
+
+-- ---- a built layout: the same padding
+
+module _ (m : Call) (c : build.Call) (one : m .given ≡ c .given) where
+  same-passes : m .answer .passes ≡ c .answer .passes
+  same-passes = passes-are m ∙ ap passesOf one ∙ sym (build.passes-are c)
+
+  -- every node of it has an entry
+  all-shown : (k bits spans : ℕ) → c .answer .build ≡ Done k bits spans → m .answer .nodes ≡ build.nodesIn c
+  all-shown k bits spans done =
+      accepted-shows-all m (mapped-where-built m c one k bits spans done) .0 ∙ ap (λ (b : Input). length (b .lists .kinds)) one
+
+  -- Of a built layout the map tells each bank's padding as the build does.
+  pub padding-as-built : (k bits spans : ℕ) → c .answer .build ≡ Done k bits spans → m .answer .padding ≡ c .answer .padding
+  padding-as-built k bits spans done =
+      padding-is m
+      ∙ ap (paddingsTo (programIn m) (rowIn m)) (all-shown k bits spans done)
+      ∙ ap (λ (n : ℕ). paddingsTo (programIn m) (rowOfPass (m .given .lists) n) (build.nodesIn c)) same-passes
+      ∙ ap (λ (b : Input). paddingsTo (program (b .banks) (b .lists)) (rowOfPass (b .lists) (c .answer .passes)) (build.nodesIn c)) one
+      ∙ sym (build.padding-is c ∙ ap (paddingBy (paddingsOf (build.programIn c) (build.rowIn c))) done)
 
 -- ---- the node at fault
 
