@@ -3,11 +3,13 @@
 -- entries of labels and written items are the build's spans.
 use mathlib.Core.Path.{_≡_, refl, sym, ap, subst, _∙_}
 use mathlib.Core.Bool.{Bool, true, false}
-use mathlib.Core.Logic.{_⊎_, inl, inr, _↔_}
+use mathlib.Core.Logic.{_⊎_, inl, inr, ⊎-elim, _↔_}
 use Prim.Native.Nat.{ℕ, zero, suc, _+_, _-_, _*_, _≤_, _<_}
 use native.Mathlib.Numerals.{add-one}
 use native.Mathlib.Omega.{arith}
+use borrow.Author.Tests.{le-leb, lt-leb}
 use lib.Dec.{ltb}
+use lib.IntN.{ℤ, pos}
 use lib.ListN.{length, getD}
 use Rattle.refusal.specs.Pick.{pick}
 use Rattle.refusal.specs.Refusals.{numberOf, placeOf}
@@ -17,13 +19,18 @@ use Rattle.refusal.specs.declared.Refusal.{Refusal}
 use Rattle.refusal.specs.declared.Refusal.the-variants.{TooShort}
 use Rattle.refusal.specs.declared.Verdict.{Verdict}
 use Rattle.refusal.specs.declared.Verdict.the-variants.{Accepted, Refused}
+use Rattle.iter.specs.Address.{unitsFrom}
+use Rattle.iter.specs.Distance.{tellable}
 use Rattle.iter.specs.declared.Moved.the-variants.{To}
+use Rattle.iter.specs.declared.Node.{Node}
 use Rattle.iter.specs.declared.Pos.{Pos}
+use Rattle.blocks.specs.Offsets.{wordOf}
 use Rattle.overlap_checker.specs.State.{State, emptyState}
 use Rattle.resolver.specs.LastPass.{sees-in-last}
 use Rattle.lists.specs.Lists.{Row}
 use Rattle.resolver.specs.NodeOrder.{seenAt}
 use Rattle.resolver.specs.Once.{Program}
+use Rattle.resolver.specs.Padding.{sizeBy}
 use Rattle.resolver.specs.Passes.{program, rowOfPass}
 use Rattle.resolver.specs.declared.Settled.{Settled}
 use Rattle.resolver.specs.declared.Settled.the-variants.{At, Refused as Unsettled}
@@ -31,17 +38,20 @@ use Rattle.output.specs.Calls as build
 use Rattle.output.specs.Calls.{build-is}
 use Rattle.visits.specs.Items.{itemsOf, lengthOf}
 use Rattle.output.specs.Output.{Input, Room, roomOf, paddingBy, closedOf, fillOf, visitsOf, passesOf, settledOf, placedBuild, settledBuild, toldBuild}
+use Rattle.placing.specs.Kinds.{span-exactly}
 use Rattle.placing.specs.Plan.{paddingsOf}
 use Rattle.placing.specs.Placing.{Placed, holds, stops, placedNext, placedFrom, placedAll}
 use Rattle.placing.specs.PlacingLaws.{placed-last}
 use Rattle.output.specs.RefusedAtNode.{Reaches, RefusedThere}
-use Rattle.visits.specs.Spans.{spansOf}
+use Rattle.output.specs.SpanFacts.{spansAmong, span-address, span-offset, span-size-label, span-size-item}
+use Rattle.visits.specs.Spans.{isSpan, spansOf}
 use Rattle.visits.specs.VisitLaws.{visits-none, visits-next}
-use Rattle.visits.specs.Visits.{visitAt, visitsTo, visits}
+use Rattle.visits.specs.Visits.{positionOf, visitAt, visitsTo, visits}
 use Rattle.output.specs.declared.Build.{Build}
 use Rattle.output.specs.declared.Build.the-variants.{Done, Refused as TurnedAway}
 use Rattle.visits.specs.declared.Visit.{Visit}
-use Rattle.map.specs.Calls.{Call, programIn, rowIn, nodesIn, reachIn, passes-are, reach-is, padding-is}
+use Rattle.map.specs.Calls.{Call, programIn, rowIn, nodesIn, visitIn, reachIn, passes-are, reach-is, padding-is}
+use Rattle.map.specs.Entries.{entry-is-output, entry-is-size, entries-are}
 use Rattle.map.specs.Map.{wholeReach, stoppedReach, walkedAll, tracedBy, traced, settledReach, reachOf, paddingsTo}
 use Rattle.map.specs.Shown.{accepted-shows-all}
 use Rattle.map.specs.TracedLaws.{stopped-at, traced-stopped}
@@ -154,6 +164,52 @@ module _ (m : Call) (c : build.Call) (one : m .given ≡ c .given) where
       ∙ ap (λ (n : ℕ). paddingsTo (programIn m) (rowOfPass (m .given .lists) n) (build.nodesIn c)) same-passes
       ∙ ap (λ (b : Input). paddingsTo (program (b .banks) (b .lists)) (rowOfPass (b .lists) (c .answer .passes)) (build.nodesIn c)) one
       ∙ sym (build.padding-is c ∙ ap (paddingBy (paddingsOf (build.programIn c) (build.rowIn c))) done)
+
+-- ---- a built layout: the build's spans
+
+-- the map's size of a node is the build's, of a label and of a written item
+label-size : (n : Node) → n .kind ≡ 2 → sizeBy n ≡ 0
+label-size n e = rw (lt-leb 4 (n .kind) (omega arith))
+
+item-size : (n : Node) → 4 ≤ n .kind → n .kind ≤ 6 → sizeBy n ≡ n .number
+item-size n low high = rw (le-leb 4 (n .kind) low, le-leb (n .kind) 7 (omega arith))
+
+module _ (m : Call) (a : build.Accepted) (one : m .given ≡ a .call .given) where
+  same-visit : (i : ℕ) → visitIn m i ≡ build.visitIn (a .call) i
+  same-visit i =
+      ap (λ (n : ℕ). visitAt (programIn m) (rowOfPass (m .given .lists) n) i) (same-passes m (a .call) one)
+      ∙ ap (λ (b : Input). visitAt (program (b .banks) (b .lists)) (rowOfPass (b .lists) (a .call .answer .passes)) i) one
+
+  has-entry : (i : ℕ) → i < build.nodesIn (a .call) → i < m .answer .nodes
+  has-entry i h = subst (λ (n : ℕ). i < n) (sym (all-shown m (a .call) one (a .k) (a .bits) (a .spans) (a .done))) h
+
+  -- "Spans are labels (size 0) and written items in node order": the entries of node i, one of them, and its span are the same.
+  module _ (i : ℕ) (h : i < build.nodesIn (a .call)) (s : isSpan (build.visitIn (a .call) i .node) ≡ true) where
+    size-there : sizeBy (build.visitIn (a .call) i .node) ≡ getD (a .call .new .sizes) (spansAmong (a .call) i) 0
+    size-there =
+        let n = build.visitIn (a .call) i .node in
+        ⊎-elim
+        (λ (l : n .kind ≡ 2). label-size n l ∙ sym (span-size-label a i h s l))
+        (λ (w : (4 ≤ n .kind) × (n .kind ≤ 6)).
+        item-size n (w .0) (w .1) ∙ sym (span-size-item a i h s (λ e. (let low = w .0 in let b : ⊥ = omega (arith, e, low) in b))))
+        (span-exactly n .0 s)
+
+    pub entries-as-spans :
+        (getD (m .new .outputs) i 0 ≡ getD (a .call .new .offsets) (spansAmong (a .call) i) 0)
+        × (getD (m .new .sizes) i 0 ≡ getD (a .call .new .sizes) (spansAmong (a .call) i) 0)
+    entries-as-spans = (
+      entry-is-output m i (has-entry i h) ∙ ap (λ (v : Visit). wordOf (v .out)) (same-visit i) ∙ sym (span-offset a i h s),
+      entry-is-size m i (has-entry i h) ∙ ap (λ (v : Visit). sizeBy (v .node)) (same-visit i) ∙ size-there,
+    )
+
+    -- "The address is the start plus the whole units in the position", and the position is the map's, in a bank that addresses can be told of.
+    pub position-as-address : tellable (build.visitIn (a .call) i .def) ≡ true
+        → getD (a .call .new .addresses) (spansAmong (a .call) i) (pos 0)
+        ≡ unitsFrom (build.visitIn (a .call) i .def) (getD (m .new .positions) i 0)
+    position-as-address t =
+        span-address a i h s t
+        ∙ ap (unitsFrom (build.visitIn (a .call) i .def))
+        (sym (entries-are m i (has-entry i h) .1 ∙ ap (λ (v : Visit). positionOf v) (same-visit i)))
 
 -- ---- the node at fault
 
