@@ -151,7 +151,7 @@ struct dk_offer {
  * Writes the image, bits from the top of each byte, and the spans, labels and written items in the order of the nodes: span i has addresses[i],
  * offsets[i] (in bits, or DK_NO_OFFSET) and sizes[i] (in bits, 0 for a label). The shortest of the three lists counts.
  *
- * It needs less than 24 KiB of stack (22.4 KiB). */
+ * It needs less than 24 KiB of stack (19.0 KiB). */
 struct dk_layout dk_build(const uint16_t *units, size_t units_len,
                           const int64_t *starts, size_t starts_len,
                           const uint32_t *bank_sizes, size_t bank_sizes_len,
@@ -172,7 +172,7 @@ struct dk_layout dk_build(const uint16_t *units, size_t units_len,
                           uint64_t *sizes, size_t sizes_len);
 
 /* The same for a file of form 1, at most 65,000 bytes, or of form 2, at most 65,536: image and spans as above. Bank 0 is closed in form 2, open in form 1.
- * It needs less than 136 KiB of stack (129.6 KiB), most of it for the lists of the file. */
+ * It needs less than 136 KiB of stack (126.2 KiB), most of it for the lists of the file. */
 struct dk_layout dk_form(const uint8_t *file, size_t file_len, uint8_t fill,
                          uint8_t *image, size_t image_len,
                          int64_t *addresses, size_t addresses_len,
@@ -206,7 +206,7 @@ struct dk_profile dk_profile(uint32_t page,
                              uint8_t fill);
 
 /* dk_build and dk_form in the profile of a device with pages of `page` bits: what dk_profile refuses is refused so, with no pass run; everything else is as
- * without a profile. They need less than 28 KiB and 136 KiB of stack (24.7 and 129.6 KiB). */
+ * without a profile. They need less than 28 KiB and 136 KiB of stack (21.3 and 126.2 KiB). */
 struct dk_layout dk_build_paged(uint32_t page,
                                 const uint16_t *units, size_t units_len,
                                 const int64_t *starts, size_t starts_len,

@@ -7,6 +7,7 @@ use native.Mathlib.Omega.{arith}
 use lib.ListN.{length, getD, take, drop, replicate, length-set}
 use lib.Seq.{ext-getD}
 use Rattle.refusal.specs.Limits.{maxBanks, maxNodes}
+use Rattle.refusal.specs.Told.{toldVerdict}
 use Rattle.refusal.specs.declared.Refusal.{Refusal}
 use Rattle.bankdef.specs.declared.Bankdefs.{Bankdefs}
 use Rattle.bitvec.specs.Lists.{listOf, length-listOf, getD-listOf}
@@ -25,8 +26,9 @@ use Rattle.resolver.specs.declared.Resolution.{Resolution}
 use Rattle.resolver.specs.declared.Settled.{Settled}
 use Rattle.resolver.specs.declared.Settled.the-variants.{At, Refused as Unsettled}
 use Rattle.output.specs.Output.{Input, input, closedOf, visitsOf, passesOf, settledOf}
+use Rattle.placing.specs.Placing.{Placed, holds, stops, placedAll}
 use Rattle.visits.specs.Visits.{programOf, rowOf}
-use Rattle.map.specs.Map.{settledReach, reachOf, paddingsTo, mapBy, mapOf, Lent, lent}
+use Rattle.map.specs.Map.{walkedAll, tracedBy, settledReach, reachOf, paddingsTo, mapBy, mapOf, placedTold, settledTold, Lent, lent}
 use Rattle.map.specs.Map.{bankShown, positionShown, outputShown, sizeShown, shown, leftBy, Maps}
 use Rattle.map.specs.Reached.{Seen, ran-checked, none-run, shown-sees, off-listed}
 use Rattle.map.specs.Steps.{Few, rowReach, RowMapped, verdictOf, mapless}
@@ -60,6 +62,21 @@ module _ (p : Program) (row : Row) where
   left-none : (old : Lent) → leftBy p row 0 old ≡ old
   unfolding listOf
   left-none old = refl
+
+-- ---- the verdict's number and place
+
+placed-told : (walked : ℕ) (q : Placed) → toldVerdict (tracedBy walked q .verdict) ≡ placedTold q
+placed-told walked (holds stored) = refl
+placed-told walked (stops why) = refl
+
+settled-told : (b : Input) (n : ℕ) (s : Settled)
+    → toldVerdict (settledReach (closedOf b) (visitsOf b (passesOf b)) n s .verdict) ≡ settledTold b s
+settled-told b n (Unsettled why) = refl
+settled-told b n (At k) = let vs = visitsOf b (passesOf b) in placed-told (walkedAll (closedOf b) vs) (placedAll (closedOf b) vs)
+
+map-told : (b : Input) → toldVerdict (mapOf b .verdict) ≡ settledTold b (settledOf b)
+unfolding mapOf
+map-told b = settled-told b (length (b .lists .kinds)) (settledOf b)
 
 -- ---- a row's map, from its parts
 
@@ -95,6 +112,7 @@ module _ (banks : Bankdefs) (l : Lists) (m : Choices) (r : Resolution) (resolves
   contract old new x e f =
       record {
         answer = e ∙ is-map;
+        told = ap (λ (y : Map). toldVerdict (y .verdict)) (e ∙ is-map) ∙ map-told given;
         left = f ∙ ap (λ (y : Map). leftBy (program banks l) (rowOfPass l (y .passes)) (y .nodes) old) (sym e);
       }
 

@@ -9,6 +9,7 @@ use lib.ListN.{length, drop}
 use Rattle.refusal.specs.Limits.{maxBanks}
 use Rattle.refusal.specs.Pick.{pick}
 use Rattle.refusal.specs.Refusals.{numberOf, placeOf}
+use Rattle.refusal.specs.Told.{Told, gives, Nothing, nothing, toldRefusal, toldVerdict}
 use Rattle.refusal.specs.declared.Place.{Place}
 use Rattle.refusal.specs.declared.Place.the-variants.{One, Two}
 use Rattle.refusal.specs.declared.Refusal.{Refusal}
@@ -104,6 +105,17 @@ unfoldable pub mapOf : Input → Map
 mapOf b =
     mapBy (passesOf b) (reachOf b) (paddingsTo (program (b .banks) (b .lists)) (rowOfPass (b .lists) (passesOf b)) (reachOf b .nodes))
 
+-- ---- the verdict in document 01's figures: a refusal's number and place
+
+abbrev pub placedTold : Placed → Told Nothing
+placedTold (stops why) = toldRefusal why
+placedTold (holds stored) = gives nothing
+
+-- 1 to 8 are told by the passes, 9 to 13 by the first node that is refused
+abbrev pub settledTold : Input → Settled → Told Nothing
+settledTold b (Unsettled why) = toldRefusal why
+settledTold b (At k) = placedTold (placedAll (closedOf b) (visitsOf b (passesOf b)))
+
 -- ---- what is lent
 
 -- Four lists, with a place for each of 4,096 nodes.
@@ -148,4 +160,5 @@ leftBy p row n old =
 -- The call's statement: the answer, and everything lent afterwards.
 pub record Maps (b : Input) (old : Lent) (r : Map) (new : Lent) : Type 0 where
   pub answer : r ≡ mapOf b
+  pub told : toldVerdict (r .verdict) ≡ settledTold b (settledOf b)
   pub left : new ≡ leftBy (program (b .banks) (b .lists)) (rowOfPass (b .lists) (r .passes)) (r .nodes) old

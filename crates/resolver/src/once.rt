@@ -136,7 +136,7 @@ fn meet(
     }
 }
 
-// A pass over a row that the pass before reads too, or that has none before it: each label has the address of the pass before.
+// A pass over a row that the pass before reads too, where each label has the address of the pass before; or pass 1, which has none before it.
 pub fn pass_alone(
     banks: Bankdefs,
     kinds: &[u8],
