@@ -110,16 +110,26 @@ def alone():
 
 EXAMPLES = {
     "worked": ("document 01's worked example", worked_example()),
-    "clamp-mark-after": ("the March failure: a clamp force table, then a mark of zero bits on its first word, then a second table that lands inside the first", clamp(MARK_AFTER)),
+    "clamp-mark-after": (
+        "the March failure: a clamp force table, then a mark of zero bits on its first word, then a second table that lands inside the first",
+        clamp(MARK_AFTER),
+    ),
     "clamp-mark-before": ("the same lines with the mark before the table", clamp(MARK_BEFORE)),
     "clamp-apart": ("the same with the second table behind the first, as it was meant", clamp(MARK_AFTER, 128)),
-    "mark-then-table": ("a mark in the middle of the table, on a line before it: since marks count wherever they come, the table is refused, and the mark named with size 0", mark_inside(True)),
+    "mark-then-table": (
+        "a mark in the middle of the table, on a line before it: since marks count wherever they come, the table is refused, and the mark named with size 0",
+        mark_inside(True),
+    ),
     "table-then-mark": ("the same lines the other way round: the mark is refused, and the table named", mark_inside(False)),
     "banks": ("code, curves, memory without output and a stack below address 0, in four banks", several_banks()),
     "stack": ("a stack that is numbered downwards from address 0, with an alignment below zero", stack_below_zero()),
     "passes": ("a jump that turns out short, so that labels move in the second pass and stand still in the third", several_passes()),
     "past-the-end": ("a table that ends one bit past its bank", past_the_end()),
-    "sequencer": ("an image of the real size, 40,960 bits in 10-bit words: code, curves as long literals with marks between them, two filled banks, labels that move from pass to pass", sequencer()),
+    "sequencer": (
+        "an image of the real size, 40,960 bits in 10-bit words: code, curves as long literals with marks between them, two filled banks, "
+        "labels that move from pass to pass",
+        sequencer(),
+    ),
 }
 
 EXAMPLES |= {

@@ -63,7 +63,8 @@ def main():
             continue
         families = sorted({family for family, row in tally.parted})
         print(f"seen      {edit.stem}: {what}")
-        print(f"          {sum(tally.different.values())} of {len(cases)} cases, first {first[0]}: Rust {first[2][:60]}, document {first[3][:60]}; {' '.join(families)}", flush=True)
+        seen = f"first {first[0]}: Rust {first[2][:60]}, document {first[3][:60]}"
+        print(f"          {sum(tally.different.values())} of {len(cases)} cases, {seen}; {' '.join(families)}", flush=True)
     sys.exit(1 if unseen else 0)
 
 

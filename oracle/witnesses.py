@@ -122,7 +122,8 @@ class Objcopy:
         same(self.name, path, out.read_bytes(), filled(given, min(given), max(given)))
 
     def writes(self, kind, width, given):
-        # one run of bytes (--change-addresses would move the start too, and write type 03 or 05); type 02 stands where addresses pass 65,535 and stay below 2^20, S2 where they pass 65,535 unless S3 is forced
+        # one run of bytes (--change-addresses would move the start too, and write type 03 or 05); type 02 stands where addresses pass 65,535 and stay
+        # below 2^20, S2 where they pass 65,535 unless S3 is forced
         (a, n), = records.runs(given)
         if kind == "hex" and a + n > 0x10000 and a < 0x100000:
             return None

@@ -57,7 +57,8 @@ extern "C" {
         units: *const u16, units_len: usize, starts: *const i64, starts_len: usize, bank_sizes: *const u32, bank_sizes_len: usize,
         bank_offsets: *const u32, bank_offsets_len: usize, aligns: *const u32, aligns_len: usize, flags: *const u8, flags_len: usize,
         fill_bits: *const u8, fill_bits_len: usize, kinds: *const u8, kinds_len: usize, operands: *const u32, operands_len: usize,
-        numbers: *const u32, numbers_len: usize, states: *const u8, states_len: usize, rows: u64, values: *const u8, values_len: usize, limit: u8, fill: u8, closed: u8,
+        numbers: *const u32, numbers_len: usize, states: *const u8, states_len: usize, rows: u64, values: *const u8, values_len: usize,
+        limit: u8, fill: u8, closed: u8,
         image: *mut u8, image_len: usize, addresses: *mut i64, addresses_len: usize, offsets: *mut u64, offsets_len: usize,
         sizes: *mut u64, sizes_len: usize,
     ) -> DkLayout;
