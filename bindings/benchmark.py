@@ -17,7 +17,7 @@ from pathlib import Path
 
 from benchmark_calls import call_rows, ratio
 from benchmark_count import Differ, each, instructions, times, wanted
-from benchmark_layouts import LAYOUTS, SERIES, encode
+from benchmark_layouts import LAYOUTS, MARKED, SERIES, encode
 from benchmark_stack import stack_rows
 from benchmark_where import where_rows
 from generate import batched
@@ -52,7 +52,7 @@ class Sides:
 
     def timed(self, layout, costs, turns):
         file = encode(layout)
-        return times([lambda n, c=command: (c, batched([file] * n)) for command in self.commands(file)], costs, turns)
+        return times([lambda n, c=command: (c, batched([file] * n)) for command in self.commands(file)[:len(costs)]], costs, turns)
 
 
 def layout_rows(sides, turns):
@@ -60,10 +60,12 @@ def layout_rows(sides, turns):
     yield "|---|---|---|---|---|---|---|---|---|---|"
     for name, (_, make) in LAYOUTS.items():
         layout = make()
-        (ours, rust, judge), line = sides.measured(name, layout)
-        here, there, _ = sides.timed(layout, (ours, rust, judge), turns)
+        # of a layout with marks the judge says that the Rust has no say, and lays nothing out
+        (ours, rust, *judge), line = sides.measured(name, layout, 2 if name in MARKED else 3)
+        here, there, *_ = sides.timed(layout, (ours, rust, *judge), turns)
+        twice = f"{big(judge[0])} | {ratio(ours, judge[0])}" if judge else "no say |"
         said = f"`{' '.join(line.split()[:4])} ..`, {len(line):,} bytes"
-        yield (f"| {name} | {big(ours)} | {big(rust)} | {ratio(ours, rust)} | {big(judge)} | {ratio(ours, judge)} "
+        yield (f"| {name} | {big(ours)} | {big(rust)} | {ratio(ours, rust)} | {twice} "
                f"| {here:,.0f} | {there:,.0f} | {ratio(here, there)} | {said} |")
 
 

@@ -1,4 +1,4 @@
-"""The layouts that the benchmark lays out: six that stand by themselves, and series that grow in one number each."""
+"""The layouts that the benchmark lays out: some that stand by themselves, and series that grow in one number each."""
 
 import sys
 from pathlib import Path
@@ -6,6 +6,7 @@ from random import Random
 
 sys.path.insert(0, str(Path(__file__).resolve().parent.parent / "oracle"))
 
+from sequencer import sequencer
 from form1 import ALIGN, ADDR, ASSERT, CONSTANT, DATA, INSTRUCTION, LABEL, OPEN_DATA, RESERVE, SWITCH, Bank, Layout, encode
 
 RESOLVED, UNRESOLVED = 0, 2
@@ -122,7 +123,11 @@ LAYOUTS = {
     "offers": ("512 placements side by side", offers),
     "mixed A": ("4,096 nodes, two rows, five banks: longer than a file may be, so its tables are lent", mixed_a),
     "mixed A, cut": ("the same with 3,580 nodes, as many as a file of two rows has room for", lambda: mixed_a(3_580)),
-    "mixed B": ("sixteen rows and passes, four banks, an image of 16 KiB", mixed_b)}
+    "mixed B": ("sixteen rows and passes, four banks, an image of 16 KiB", mixed_b),
+    "sequencer": ("examples/sequencer.form, an image of the real size", sequencer)}
+
+# Those with placements of size 0, which are outside the domain in which the judge compares.
+MARKED = ("sequencer",)
 
 SERIES = {
     "nodes": ("labels in a row, one pass", [(f"{n:,}", wide(n)) for n in (256, 512, 1024, 2048, 4096)]),
