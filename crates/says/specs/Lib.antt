@@ -1,0 +1,4 @@
+pub mod Words
+pub mod Banks
+pub mod Ordered
+pub mod Blocks

@@ -1,0 +1,4 @@
+pub mod Build
+pub mod One
+pub mod Decides
+pub mod Example
