@@ -13,6 +13,7 @@ use lib.Seq.{getD-append-add, getD-drop}
 use borrow.Author.Tests.{lt-ltb, le-ltb, leb-true, leb-false}
 use Rattle.refusal.specs.Pick.{pick}
 use Rattle.refusal.specs.Told.{Told, gives, refuses, toldRefusal}
+use Rattle.refusal.specs.declared.Place.{Place}
 use Rattle.refusal.specs.declared.Place.the-variants.{One}
 use Rattle.refusal.specs.declared.Refusal.the-variants.{Malformed, TooShort}
 use Rattle.bitvec.specs.declared.Hex.{Hex}
@@ -161,3 +162,28 @@ hexOf-bits a b bits e k h =
     let here : 4 * (k / 4) + k % 4 ≡ k = omega arith in
     rw here at (sym (digit-own a bits (k / 4) (k % 4) (omega arith) (omega arith)) ∙ ap (λ (x : ℕ). bitOf 4 x (k % 4)) same
     ∙ digit-own b bits (k / 4) (k % 4) (omega arith) (omega arith))
+
+-- ---- a call, by its contract
+
+module _ (bytes : List ℕ) (bits : ℕ) (hex : List ℕ) (count : Hex) (after : List ℕ) (c : Prints bytes bits hex count after) where
+  -- "Each refusal .. changes nothing lent."
+  pub refused-keeps-hex : (n : ℕ) (p : Place) → toldHex count ≡ refuses n p → after ≡ hex
+  refused-keeps-hex n p e = c .digits ∙ go (endsWithin (length bytes) 0 bits) (leb (digitCount bits) (length hex)) (sym (ap toldHex (c .answer)) ∙ e)
+    where
+      go : (s t : Bool) → toldHex (pick s (pick t (Digits (digitCount bits)) (Refused (TooShort 3))) (Refused (Malformed 0))) ≡ refuses n p
+          → pick (s && t) (hexOf bytes bits ++ drop (digitCount bits) hex) hex ≡ hex
+      go true true is = let z : _≡_ {A = ℕ} 0 1 = cc in absurd (omega arith)
+      go true false is = refl
+      go false t is = refl
+
+  -- An accepted call leaves the digits, and behind them what was there.
+  pub printed-hex : (n : ℕ) → toldHex count ≡ gives n → (n ≡ digitCount bits) × (after ≡ hexOf bytes bits ++ drop (digitCount bits) hex)
+  printed-hex n e =
+      let r = go (endsWithin (length bytes) 0 bits) (leb (digitCount bits) (length hex)) (sym (ap toldHex (c .answer)) ∙ e) in
+      (r .0, c .digits ∙ r .1)
+    where
+      go : (s t : Bool) → toldHex (pick s (pick t (Digits (digitCount bits)) (Refused (TooShort 3))) (Refused (Malformed 0))) ≡ gives n
+          → (n ≡ digitCount bits) × (pick (s && t) (hexOf bytes bits ++ drop (digitCount bits) hex) hex ≡ hexOf bytes bits ++ drop (digitCount bits) hex)
+      go true true is = (cc, refl)
+      go true false is = let z : _≡_ {A = ℕ} 0 1 = cc in absurd (omega arith)
+      go false t is = let z : _≡_ {A = ℕ} 0 1 = cc in absurd (omega arith)

@@ -3,6 +3,7 @@ pub mod Bits
 pub mod Cases
 pub mod Count
 pub mod Exactly
+pub mod Joins
 pub mod Measure
 pub mod Numbered
 pub mod Offsets
@@ -12,4 +13,5 @@ pub mod Put
 pub mod Rising
 pub mod Row
 pub mod Spans
+pub mod Taken
 pub mod Walk

@@ -12,14 +12,15 @@ use Rattle.refusal.specs.Limits.{maxStored}
 use Rattle.refusal.specs.Told.{Told, gives, refuses, Nothing, toldVerdict}
 use Rattle.refusal.specs.declared.Place.the-variants.{One}
 use Rattle.refusal.specs.declared.Verdict.{Verdict}
+use Rattle.refusal.specs.declared.Verdict.the-variants.{Accepted, Refused}
 use Rattle.overlap_checker.specs.declared.Entry.{Entry}
 use Rattle.overlap_checker.specs.Entries.{entryAt}
 use Rattle.overlap_checker.specs.Interval.{end, ShareBit, Within, pastLimits}
 use Rattle.overlap_checker.specs.Stored.{atFault, firstFault, Proper}
 use Rattle.overlap_checker.specs.Marks.{markAtFault, firstMarkFault, ProperMarks}
 use Rattle.overlap_checker.specs.MarkLaws.{Resting, lies, no-mark-fault, mark-fault-le, resting, orderly, resting-proper, proper-resting}
-use Rattle.overlap_checker.specs.State.{answer, figures}
-use Rattle.overlap_checker.specs.Lent.{Lent, held, heldMarks, stateIn, Sound, callFigures, Calls}
+use Rattle.overlap_checker.specs.State.{answer, figures, after}
+use Rattle.overlap_checker.specs.Lent.{Lent, held, heldMarks, stateIn, Sound, laidInto, leaving, callFigures, Calls}
 use Rattle.overlap_checker.specs.Folds.{RefusedBy}
 use Rattle.overlap_checker.specs.Ascending.{told, lt-or-le, fault-le, not-past, within-limits, Ascending, no-fault, sits, faultless, ascending, sits-at}
 use Rattle.overlap_checker.specs.Ascending.{ends-before}
@@ -186,6 +187,20 @@ module _ (a : Lent) (wide : length (a .positions) ≡ maxStored) (long : length 
         (λ fine. absurd (h .1 (within-limits e fine)))
         (told (pastLimits e))),
   )
+
+  -- 4 has place 0.
+  pub malformed-place : RefusedBy 4 v → toldVerdict v ≡ refuses 4 (One 0)
+  malformed-place r =
+      let (sound, past) = malformed-exactly .0 r in
+      ⊎-elim (λ p. c .told ∙ checks-limits a e _ _ _ (sound-fine a sound) p) (λ f. absurd (past (within-limits e f))) (told (pastLimits e))
+
+  -- "Each refusal .. changes nothing lent. A returned state is the state given.": both counts and all three arrays, whatever the store was.
+  pub refused-leaves : (number : ℕ) → 0 < number → RefusedBy number v → b ≡ a
+  refused-leaves number some r = go v (c .left) (r .1)
+    where
+      go : (w : Verdict) → b ≡ leaving w (laidInto a (after (stateIn a) e)) a → toldVerdict w ≡ refuses number (r .0) → b ≡ a
+      go Accepted left is = let z : 0 ≡ number = ap numberIn is in absurd (omega arith)
+      go (Refused why) left is = left
 
   -- The place of 15: 512 for either count, then the first interval at fault, then the first mark at fault.
   pub count-place : maxStored < a .count → toldVerdict v ≡ refuses 15 (One maxStored)
