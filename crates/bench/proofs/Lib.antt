@@ -1,6 +1,7 @@
 pub mod BlockLaws
 pub mod CoverLaws
 pub mod RunLaws
+pub mod StretchLaws
 pub mod Filling
 pub mod WalkLaws
 pub mod Room

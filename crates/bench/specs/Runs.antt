@@ -1,7 +1,8 @@
 -- The list of the bench: "each maximal run of covered bytes, inside both images, that differ between the two", ascending.
+use mathlib.Core.Path.{_≡_}
 use mathlib.Core.Bool.{Bool, true, false, not, _&&_}
 use mathlib.Core.List.{List, [], _∷_, _++_}
-use Prim.Native.Nat.{ℕ, zero, suc, min}
+use Prim.Native.Nat.{ℕ, zero, suc, min, _+_, _≤_, _<_}
 use lib.Dec.{eqb}
 use lib.ListN.{length, getD}
 use Rattle.refusal.specs.Pick.{pick}
@@ -36,6 +37,10 @@ agree overlay released b = eqb (getD overlay b 0) (getD released b 0)
 
 abbrev pub differ : List ℕ → List ℕ → ℕ → Bool
 differ overlay released b = not (agree overlay released b)
+
+-- They agree at n bytes from `at` on.
+abbrev pub AgreeOn : List ℕ → List ℕ → ℕ → ℕ → Type 0
+AgreeOn overlay released at n = (x : ℕ) → at ≤ x → x < at + n → agree overlay released x ≡ true
 
 -- A byte that is listed: covered, and not the same in the two. "inside both images" is the length of the shorter.
 unfoldable pub listed : Trial → ℕ → Bool

@@ -2,7 +2,7 @@
 // one of the two, and the bytes at which the overlay changes something are listed.
 use refusal::Refusal;
 ghost use mathlib.Core.Path.{_≡_};
-ghost use mathlib.Core.Bool.{true, false};
+ghost use mathlib.Core.Bool.{true, false, _&&_};
 ghost use Prim.Native.Nat.{_+_, _-_, _*_, _/_, _≤_, _<_, min};
 ghost use lib.Dec.{leb, eqb};
 ghost use lib.ListN.{length, set};
@@ -10,7 +10,7 @@ ghost use Rattle.bench.specs.Cover.{coveredBit};
 ghost use Rattle.bench.specs.Order.{inOrder};
 ghost use Rattle.bench.specs.Trial.{trial};
 ghost use Rattle.bench.specs.Range.{inside, judged, Answers, Picks};
-ghost use Rattle.bench.specs.Runs.{agree, differ, lengthFrom, runsFrom, runsOf};
+ghost use Rattle.bench.specs.Runs.{agree, differ, lengthFrom, runsFrom, runsOf, AgreeOn};
 ghost use Rattle.bench.specs.Put.{kept, Put};
 ghost use Rattle.bench.specs.List.{Written, Lists};
 ghost use Rattle.bench.specs.Steps.{Finds, Chain};
@@ -212,12 +212,54 @@ pub fn pick<'a>(
     }
 }
 
+fn both(a: bool, b: bool) -> bool
+    ensures { λ r. ⌜ r ≡ (a && b) ⌝ }
+{
+    if a {
+        return b;
+    }
+    false
+}
+
+// Whether the 64 bytes from `at` on agree: no branch, so that many are compared at a time.
+fn same_stretch(overlay: &[u8], released: &[u8], at: usize) -> bool
+    requires { ⌜ (at + 64 ≤ length (now overlay)) × (at + 64 ≤ length (now released)) ⌝ }
+    ensures { λ r. ⌜ (r ≡ true → AgreeOn (now (overlay .entry)) (now (released .entry)) at 64) ⌝ }
+{
+    let mut ok = true;
+    let mut j = 0;
+    while j < 64 {
+        ok = both(ok, overlay[at + j] == released[at + j]);
+        j += 1;
+    }
+    ok
+}
+
+// As far from `at` on as whole stretches agree.
+fn skip_same(overlay: &[u8], released: &[u8], at: usize, to: usize) -> usize
+    requires { ⌜ (to ≤ length (now overlay)) × (to ≤ length (now released)) ⌝ }
+    ensures { λ r. ⌜ at + lengthFrom (agree (now (overlay .entry)) (now (released .entry))) at (to - at)
+        ≡ r + lengthFrom (agree (now (overlay .entry)) (now (released .entry))) r (to - r) ⌝ }
+{
+    let mut i = at;
+    while i < to {
+        if to - i < 64 {
+            return i;
+        }
+        if !same_stretch(overlay, released, i) {
+            return i;
+        }
+        i += 64;
+    }
+    i
+}
+
 // The first byte from `at` on at which the images differ, or `to` where none before it does.
 fn next_difference(overlay: &[u8], released: &[u8], at: usize, to: usize) -> usize
     requires { ⌜ (to ≤ length (now overlay)) × (to ≤ length (now released)) ⌝ }
     ensures { λ r. ⌜ r ≡ at + lengthFrom (agree (now (overlay .entry)) (now (released .entry))) at (to - at) ⌝ }
 {
-    let mut i = at;
+    let mut i = skip_same(overlay, released, at, to);
     while i < to {
         if overlay[i] != released[i] {
             return i;
