@@ -19,13 +19,13 @@ pub fn number(text: &[u8]) -> Opt
     let mut i = 0;
     while i < text.len() {
         let c = text[i];
-        if c < 48 {
+        if c < b'0' {
             return Opt::None;
         }
-        if 57 < c {
+        if b'9' < c {
             return Opt::None;
         }
-        let digit = c - 48;
+        let digit = c - b'0';
         value = 10 * value + digit as u64;
         if value > 4_294_967_295 {
             return Opt::None;

@@ -304,7 +304,7 @@ fn digit(n: u8) -> u8
     requires { ⌜ n < 16 ⌝ }
     ensures { λ r. ⌜ r ≡ digitOf n ⌝ }
 {
-    if n < 10 { 48 + n } else { 87 + n }
+    if n < 10 { b'0' + n } else { 87 + n }
 }
 
 // The digits of the whole bytes, two for each.

@@ -10,6 +10,13 @@ ghost use Rattle.records.specs.Pieces.{piece};
 ghost use Rattle.records.specs.Puts.{Puts};
 ghost use Rattle.ihex_line.specs.Format.{wordAt, goodLine, hexItem, recordText, upperText, hexText, endText};
 
+// "types 00, 01 and 04": data, the end, and the upper half of the addresses that follow
+const TYPE_DATA: u8 = 0;
+
+const TYPE_END: u8 = 1;
+
+const TYPE_UPPER: u8 = 4;
+
 fn wide(x: u8) -> u16
     ensures { λ r. ⌜ (r ≡ x) × (r < 256) ⌝ }
 {
@@ -41,7 +48,7 @@ fn word(line: &[u8], i: u16) -> u16
 fn is_good(line: &[u8]) -> bool
     ensures { λ r. ⌜ r ≡ goodLine (now (line .entry)) ⌝ }
 {
-    if records::char_at(line, 0) != 58 {
+    if records::char_at(line, 0) != b':' {
         return false;
     }
     let count = wide(records::pair(line, 1));
@@ -64,7 +71,7 @@ pub fn line_of(line: &[u8], state: u16) -> Line
     let count = records::pair(line, 1);
     let field = word(line, 3);
     let kind = records::pair(line, 7);
-    if kind == 0 {
+    if kind == TYPE_DATA {
         return Line {
             kind: records::DATA,
             address: 65_536 * (state as u32) + field as u32,
@@ -76,13 +83,13 @@ pub fn line_of(line: &[u8], state: u16) -> Line
     if field != 0 {
         return plain(records::BAD, state);
     }
-    if kind == 1 {
+    if kind == TYPE_END {
         if count == 0 {
             return plain(records::END, state);
         }
         return plain(records::BAD, state);
     }
-    if kind == 4 {
+    if kind == TYPE_UPPER {
         if count == 2 {
             return plain(records::PASS, word(line, 9));
         }
@@ -108,12 +115,12 @@ fn put_record(out: &mut [u8], kind: u8, field: u16, bytes: &[u8]) -> usize
     let sum = std::num::wrapping_add_u8(records::sum(&head, 4), records::sum(bytes, n));
     let check = [std::num::wrapping_sub_u8(0, sum)];
     let end = 9 + 2 * (n as u16);
-    records::put(out, 0, 58);
+    records::put(out, 0, b':');
     records::put_pairs(out, 1, &head, 4);
     records::put_pairs(out, 9, bytes, n);
     records::put_pairs(out, end, &check, 1);
     let last = (end as usize) + 2;
-    records::put(out, last, 10);
+    records::put(out, last, b'\n');
     last + 1
 }
 

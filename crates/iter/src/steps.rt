@@ -10,8 +10,20 @@ use crate::Stepped;
 use crate::Walk;
 use crate::alignment::bits_until_alignment;
 use bankdef::Bankdef;
+use refusal::ADDR;
+use refusal::ALIGN;
+use refusal::ASSERT;
+use refusal::CONSTANT;
+use refusal::DATA;
+use refusal::INSTRUCTION;
+use refusal::LABEL;
+use refusal::NOTHING;
 use refusal::Opt;
+use refusal::RESERVE;
+use refusal::RESOLVED;
 use refusal::Refusal;
+use refusal::SWITCH;
+use refusal::UNRESOLVED;
 ghost use mathlib.Core.Path.{_≡_};
 ghost use mathlib.Core.Bool.{_||_};
 ghost use Prim.Native.Nat.{_<_};
@@ -94,7 +106,7 @@ pub fn start() -> Walk
 pub fn bank_after(bank: u64, node: Node) -> u64
     ensures { λ r. ⌜ r ≡ bankAfter bank node ⌝ }
 {
-    if node.kind == 1 {
+    if node.kind == SWITCH {
         node.operand as u64
     } else {
         bank
@@ -105,7 +117,7 @@ pub fn bank_after(bank: u64, node: Node) -> u64
 fn is_symbol(kind: u8) -> bool
     ensures { λ r. ⌜ r ≡ (eqb kind 2 || eqb kind 3) ⌝ }
 {
-    kind == 2 || kind == 3
+    kind == LABEL || kind == CONSTANT
 }
 
 // "a symbol (label or constant) of depth 0"
@@ -135,17 +147,17 @@ pub fn seen(def: Bankdef, at: Pos, node: Node) -> Motion
 fn stays_known(known: bool, node: Node) -> bool
     ensures { λ r. ⌜ r ≡ staysKnown known node ⌝ }
 {
-    if node.kind == 5 {
+    if node.kind == DATA {
         return known;
     }
-    if known { node.state == 0 } else { false }
+    if known { node.state == RESOLVED } else { false }
 }
 
 // Whether a node's state is read and is none of "0 resolved, 1 stable, 2 unresolved": "0, 1 and 2 don't read the state".
 fn is_bad_state(node: Node) -> bool
     ensures { λ r. ⌜ r ≡ badState node ⌝ }
 {
-    node.kind >= 3 && node.state > 2
+    node.kind >= CONSTANT && node.state > UNRESOLVED
 }
 
 // The position after a node's own advance, and what is skipped.
@@ -159,18 +171,18 @@ pub fn advance(def: Bankdef, at: Pos, node: Node) -> Motion
     let known = stays_known(at.known, node);
     let kind = node.kind;
     match kind {
-        0..=3 => unskipped(Moved::To(at)),
-        4..=7 => unskipped(moved_by(at, node.number, known, node.index)),
-        8 => aligned_to(def, at, node.number, known, node.index),
+        NOTHING..=CONSTANT => unskipped(Moved::To(at)),
+        INSTRUCTION..=RESERVE => unskipped(moved_by(at, node.number, known, node.index)),
+        ALIGN => aligned_to(def, at, node.number, known, node.index),
         // "An `addr` that moves the position is not padding."
-        9 => skipping(
+        ADDR => skipping(
             Moved::To(Pos {
                 position: node.number,
-                known: node.state == 0,
+                known: node.state == RESOLVED,
             }),
             Skipped { bits: 0, units: 0 },
         ),
-        10 => unskipped(Moved::To(at)),
+        ASSERT => unskipped(Moved::To(at)),
         // "Any other kind number is refused."
         _ => unskipped(Moved::Refused(Refusal::Malformed(node.index))),
     }
@@ -180,7 +192,7 @@ pub fn advance(def: Bankdef, at: Pos, node: Node) -> Motion
 fn counts(node: Node, sight: Skipped, own: Skipped) -> Skipped
     ensures { λ r. ⌜ r ≡ counted node sight own ⌝ }
 {
-    if node.kind == 8 { own } else { sight }
+    if node.kind == ALIGN { own } else { sight }
 }
 
 // "the sum of bits lost", with those of one node more

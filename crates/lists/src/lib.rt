@@ -1,8 +1,17 @@
 // The lent lists: a node as a row shows it, and the list check.
 use iter::Node;
+use refusal::ASSERT;
+use refusal::CONSTANT;
+use refusal::DATA;
+use refusal::INSTRUCTION;
+use refusal::LABEL;
 use refusal::MAX_NODES;
 use refusal::MAX_ROWS;
+use refusal::NOTHING;
+use refusal::OPEN_DATA;
+use refusal::RESERVE;
 use refusal::Refusal;
+use refusal::SWITCH;
 use refusal::Verdict;
 ghost use mathlib.Core.Path.{_≡_};
 ghost use mathlib.Core.Bool.{_&&_, _||_};
@@ -40,7 +49,7 @@ pub fn node_at(
     let kind = byte_at(kinds, i);
     let operand = number_at(operands, i);
     let state = byte_at(states, i);
-    if kind == 5 {
+    if kind == DATA {
         return Node {
             index: i as u64,
             kind,
@@ -160,10 +169,28 @@ fn node_fault(
 {
     let kind = byte_at(kinds, i);
     match kind {
-        0 | 2 => false,
-        1 => banks <= wide(number_at(operands, i)),
-        4..=6 => any_row_fault(true, kinds, operands, numbers, states, rows, values, i),
-        3 | 7..=10 => any_row_fault(false, kinds, operands, numbers, states, rows, values, i),
+        NOTHING | LABEL => false,
+        SWITCH => banks <= wide(number_at(operands, i)),
+        INSTRUCTION..=OPEN_DATA => any_row_fault(
+            true,
+            kinds,
+            operands,
+            numbers,
+            states,
+            rows,
+            values,
+            i,
+        ),
+        CONSTANT | RESERVE..=ASSERT => any_row_fault(
+            false,
+            kinds,
+            operands,
+            numbers,
+            states,
+            rows,
+            values,
+            i,
+        ),
         _ => true,
     }
 }

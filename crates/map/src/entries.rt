@@ -2,6 +2,8 @@
 use bankdef::Bankdefs;
 use iter::Moved;
 use iter::Node;
+use refusal::INSTRUCTION;
+use refusal::RESERVE;
 use visits::visit_node;
 ghost use mathlib.Core.Path.{_≡_};
 ghost use Prim.Native.Nat.{_≤_};
@@ -28,10 +30,10 @@ fn size_of(node: Node) -> u32
     ensures { λ r. ⌜ r ≡ sizeBy node ⌝ }
 {
     let kind = node.kind;
-    if kind < 4 {
+    if kind < INSTRUCTION {
         return 0;
     }
-    if 7 < kind {
+    if RESERVE < kind {
         return 0;
     }
     node.number

@@ -2,8 +2,10 @@
 use bankdef::Bankdef;
 use iter::Node;
 use iter::Pos;
+use refusal::LABEL;
 use refusal::Offset;
 use refusal::Opt;
+use refusal::RESERVE;
 use refusal::Refusal;
 use refusal::Verdict;
 use visits::is_written;
@@ -17,13 +19,13 @@ ghost use Rattle.placing.specs.Placing.{isPlaced, endsPast, lacksOutput,
 pub fn is_placed(node: Node) -> bool
     ensures { λ r. ⌜ r ≡ isPlaced node ⌝ }
 {
-    if node.kind == 2 {
+    if node.kind == LABEL {
         return true;
     }
     if is_written(node) {
         return true;
     }
-    node.kind == 7
+    node.kind == RESERVE
 }
 
 fn ends_past(size: Opt, end: u64) -> bool

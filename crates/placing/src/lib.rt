@@ -12,6 +12,7 @@ use iter::bank_after;
 use iter::lost_after;
 use lists::node_at;
 use overlap_checker::Offered;
+use refusal::LABEL;
 use refusal::Offset;
 use refusal::Refusal;
 use refusal::Verdict;
@@ -65,7 +66,7 @@ fn offer_node(
             marks: mark_count,
         },
         Offset::At(o) => {
-            if node.kind == 2 {
+            if node.kind == LABEL {
                 return Offered {
                     verdict: Verdict::Accepted,
                     count,

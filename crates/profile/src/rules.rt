@@ -3,6 +3,7 @@ use bankdef::Bankdef;
 use bankdef::Bankdefs;
 use refusal::Opt;
 use refusal::Refusal;
+use refusal::SWITCH;
 use refusal::Verdict;
 ghost use mathlib.Core.Path.{_≡_};
 ghost use mathlib.Core.List.{[]};
@@ -201,7 +202,7 @@ fn check_aligns(kinds: &[u8], numbers: &[u32], rows: u64) -> Verdict
 fn bank_next(kind: u8, operand: u32, bank: u32) -> u32
     ensures { λ r. ⌜ r ≡ pick (eqb kind 1) operand bank ⌝ }
 {
-    if kind == 1 { operand } else { bank }
+    if kind == SWITCH { operand } else { bank }
 }
 
 // Rule 6 over the nodes, ascending: `addr` in every row, each in the bank in force there, which is carried along.

@@ -39,26 +39,26 @@ fn letter(n: u8) -> u8
     ensures { λ r. ⌜ r ≡ letterOf (n % 16) ⌝ }
 {
     let d = n % 16;
-    if d < 10 { 48 + d } else { 55 + d }
+    if d < 10 { b'0' + d } else { 55 + d }
 }
 
 // What a character stands for, in either case; 16 is no digit.
 fn value(c: u8) -> u8
     ensures { λ r. ⌜ (r ≡ valueOf c) × (r < 17) ⌝ }
 {
-    if c < 48 {
+    if c < b'0' {
         return 16;
     }
     if c < 58 {
-        return c - 48;
+        return c - b'0';
     }
-    if c < 65 {
+    if c < b'A' {
         return 16;
     }
     if c < 71 {
         return c - 55;
     }
-    if c < 97 {
+    if c < b'a' {
         return 16;
     }
     if c < 103 {
@@ -174,14 +174,14 @@ fn is_cr_lf(text: &[u8], i: usize) -> bool
     requires { ⌜ i < length (now text) ⌝ }
     ensures { λ r. ⌜ r ≡ (isCr (getD (now (text .entry)) i 0) && lfNext (drop (i + 1) (now (text .entry)))) ⌝ }
 {
-    if text[i] != 13 {
+    if text[i] != b'\r' {
         return false;
     }
     let next = i + 1;
     if text.len() <= next {
         return false;
     }
-    text[next] == 10
+    text[next] == b'\n'
 }
 
 // The line that begins at a place: "LF or CR LF" ends it, or the end of the text.
@@ -190,7 +190,7 @@ pub fn line_from(text: &[u8], at: usize) -> Cut
 {
     let mut i = at;
     while i < text.len() {
-        if text[i] == 10 {
+        if text[i] == b'\n' {
             return Cut {
                 stop: i,
                 next: i + 1,

@@ -19,6 +19,37 @@ pub const MAX_ROWS: u64 = 16;
 
 pub const MAX_STORED: u64 = 512;
 
+// "Kinds: 0 nothing, 1 bank switch, 2 label, 3 constant, 4 instruction, 5 data of declared size, 6 data of open size, 7 reserve, 8 align, 9 addr,
+// 10 assert."
+pub const NOTHING: u8 = 0;
+
+pub const SWITCH: u8 = 1;
+
+pub const LABEL: u8 = 2;
+
+pub const CONSTANT: u8 = 3;
+
+pub const INSTRUCTION: u8 = 4;
+
+pub const DATA: u8 = 5;
+
+pub const OPEN_DATA: u8 = 6;
+
+pub const RESERVE: u8 = 7;
+
+pub const ALIGN: u8 = 8;
+
+pub const ADDR: u8 = 9;
+
+pub const ASSERT: u8 = 10;
+
+// "a state (0 resolved, 1 stable, 2 unresolved)"
+pub const RESOLVED: u8 = 0;
+
+pub const STABLE: u8 = 1;
+
+pub const UNRESOLVED: u8 = 2;
+
 // A bank's number that may be absent: the Rust's `Option<usize>` in a bank.
 pub enum Opt {
     None,

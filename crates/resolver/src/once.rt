@@ -9,9 +9,15 @@ use iter::bank_after;
 use iter::cross;
 use iter::on_boundary;
 use lists::node_at;
+use refusal::LABEL;
 use refusal::MAX_BANKS;
+use refusal::NOTHING;
 use refusal::Opt;
+use refusal::RESOLVED;
 use refusal::Refusal;
+use refusal::STABLE;
+use refusal::SWITCH;
+use refusal::UNRESOLVED;
 ghost use mathlib.Core.Path.{_≡_};
 ghost use mathlib.Core.Bool.{false};
 ghost use Rattle.bankdef.specs.Check.{noBank};
@@ -66,21 +72,21 @@ fn label_state(def: Bankdef, now: Pos, before: Moved, is_first: bool) -> u8
 {
     if now.known {
         if on_boundary(def, now.position) {
-            return 0;
+            return RESOLVED;
         }
     }
     if is_first {
-        return 2;
+        return UNRESOLVED;
     }
     match before {
         Moved::To(b) => {
             if whole_units(def, now.position) == whole_units(def, b.position) {
-                1
+                STABLE
             } else {
-                2
+                UNRESOLVED
             }
         }
-        Moved::Refused(_) => 2,
+        Moved::Refused(_) => UNRESOLVED,
     }
 }
 
@@ -90,8 +96,8 @@ fn node_state(def: Bankdef, node: Node, now: Pos, before: Moved, is_first: bool)
 {
     let kind = node.kind;
     match kind {
-        0 | 1 => 0,
-        2 => label_state(def, now, before, is_first),
+        NOTHING | SWITCH => RESOLVED,
+        LABEL => label_state(def, now, before, is_first),
         _ => node.state,
     }
 }
@@ -101,7 +107,7 @@ fn off_boundary(def: Bankdef, node: Node, now: Pos, is_last: bool) -> bool
     ensures { λ r. ⌜ r ≡ offBoundary def node now «is_last» ⌝ }
 {
     if is_last {
-        if node.kind == 2 {
+        if node.kind == LABEL {
             return !on_boundary(def, now.position);
         }
     }

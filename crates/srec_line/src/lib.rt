@@ -17,10 +17,10 @@ ghost use Rattle.srec_line.specs.Srec.{headOf, widthOf, partsOf, endedLi
 fn is_s(c: u8) -> bool
     ensures { λ r. ⌜ r ≡ isS c ⌝ }
 {
-    if c == 83 {
+    if c == b'S' {
         return true;
     }
-    c == 115
+    c == b's'
 }
 
 fn byte(line: &[u8], i: u32) -> u32
@@ -153,11 +153,11 @@ fn typed_line(line: &[u8], digit: u8, state: u16) -> Line
     ensures { λ r. ⌜ Says (now (line .entry)) state (firstFor digit) r (typed digit state (now (line .entry))) ⌝ }
 {
     match digit {
-        48 => header_line(line, state),
-        49 => data_line(line, 2, state),
-        51 => data_line(line, 4, state),
-        55 => end_line(line, 4, state),
-        57 => end_line(line, 2, state),
+        b'0' => header_line(line, state),
+        b'1' => data_line(line, 2, state),
+        b'3' => data_line(line, 4, state),
+        b'7' => end_line(line, 4, state),
+        b'9' => end_line(line, 2, state),
         _ => plain(records::BAD, state),
     }
 }
@@ -226,12 +226,12 @@ fn put_parts(out: &mut [u8], digit: u8, head: &[u8], h: u8, bytes: &[u8], n: u8,
     let end = middle + 2 * (n as u16);
     let last = (end as usize) + 2;
     let sum = [check];
-    records::put(out, 0, 83);
+    records::put(out, 0, b'S');
     records::put(out, 1, digit);
     records::put_pairs(out, 2, head, h);
     records::put_pairs(out, middle, bytes, n);
     records::put_pairs(out, end, &sum, 1);
-    records::put(out, last, 10);
+    records::put(out, last, b'\n');
     last + 1
 }
 
@@ -253,9 +253,9 @@ pub fn put_piece(out: &mut [u8], width: u16, address: u32, bytes: &[u8]) -> usiz
     ensures { λ r. ⌜ r ≤ 522 ⌝ }
 {
     if width == 2 {
-        return put_line(out, 49, width, address, bytes);
+        return put_line(out, b'1', width, address, bytes);
     }
-    put_line(out, 51, width, address, bytes)
+    put_line(out, b'3', width, address, bytes)
 }
 
 // The end record's line at the front of the part: S9 for width 2, S7 otherwise.
@@ -265,7 +265,7 @@ pub fn put_end(out: &mut [u8], width: u16) -> usize
 {
     let none = [0u8; 1];
     if width == 2 {
-        return put_line(out, 57, width, 0, &none[0..0]);
+        return put_line(out, b'9', width, 0, &none[0..0]);
     }
-    put_line(out, 55, width, 0, &none[0..0])
+    put_line(out, b'7', width, 0, &none[0..0])
 }

@@ -49,7 +49,7 @@ fn ascii(d: u64) -> u8
     requires { ⌜ d < 10 ⌝ }
     ensures { λ r. ⌜ r ≡ digit d ⌝ }
 {
-    48 + d as u8
+    b'0' + d as u8
 }
 
 // Writes bytes that are known to fit, and answers the place behind them.

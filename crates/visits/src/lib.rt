@@ -5,6 +5,9 @@ use iter::Moved;
 use iter::Node;
 use iter::Pos;
 use iter::Walk;
+use refusal::INSTRUCTION;
+use refusal::LABEL;
+use refusal::OPEN_DATA;
 use refusal::Offset;
 ghost use mathlib.Core.Path.{_≡_};
 ghost use Prim.Native.Nat.{ℕ, _≤_};
@@ -115,14 +118,14 @@ pub fn is_written(node: Node) -> bool
     ensures { λ r. ⌜ r ≡ isWritten node ⌝ }
 {
     let kind = node.kind;
-    4 <= kind && kind <= 6
+    INSTRUCTION <= kind && kind <= OPEN_DATA
 }
 
 // "Spans are labels (size 0) and written items"
 pub fn is_span(node: Node) -> bool
     ensures { λ r. ⌜ r ≡ isSpan node ⌝ }
 {
-    if node.kind == 2 {
+    if node.kind == LABEL {
         return true;
     }
     is_written(node)
@@ -133,7 +136,7 @@ pub fn size_of(node: Node) -> u64
     ensures { λ r. ⌜ r ≡ sizeOf node ⌝ }
     ensures { λ r. ⌜ r ≤ 4294967295 ⌝ }
 {
-    if node.kind == 2 {
+    if node.kind == LABEL {
         0
     } else {
         node.number as u64
