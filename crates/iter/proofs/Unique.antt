@@ -12,8 +12,8 @@ use Rattle.iter.proofs.places.get_output_position.Kinds as get-output-p
 use Rattle.iter.proofs.places.get_output_position.Reads as get-output-position-reads
 use Rattle.iter.proofs.places.on_boundary.Kinds as on-boundary-kinds
 use Rattle.iter.proofs.places.on_boundary.Reads as on-boundary-reads
-use Rattle.iter.proofs.steps.advance.Kinds as advance-kinds
-use Rattle.iter.proofs.steps.advance.Reads as advance-reads
+use Rattle.iter.proofs.steps.advance_address.Kinds as advance-kinds
+use Rattle.iter.proofs.steps.advance_address.Reads as advance-reads
 use Rattle.iter.proofs.steps.bank_after.Kinds as bank-after-kinds
 use Rattle.iter.proofs.steps.bank_after.Reads as bank-after-reads
 use Rattle.iter.proofs.steps.cross.Kinds as cross-kinds

@@ -9,7 +9,7 @@ pub use places::get_address;
 pub use places::get_output_position;
 pub use places::on_boundary;
 use refusal::Refusal;
-pub use steps::advance;
+pub use steps::advance_address;
 pub use steps::bank_after;
 pub use steps::cross;
 pub use steps::lost_after;

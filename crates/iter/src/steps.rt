@@ -161,7 +161,7 @@ fn is_bad_state(node: Node) -> bool
 }
 
 // The position after a node's own advance, and what is skipped.
-pub fn advance(def: Bankdef, at: Pos, node: Node) -> Motion
+pub fn advance_address(def: Bankdef, at: Pos, node: Node) -> Motion
     ensures { λ r. ⌜ r ≡ advanceMotion def at node ⌝ }
     ensures told { λ r. ⌜ AdvanceTold def at node r ⌝ }
 {
@@ -230,7 +230,7 @@ pub fn cross(def: Bankdef, at: Pos, node: Node) -> Crossing
     let found = sight.to;
     match found {
         Moved::To(p) => {
-            let own = advance(def, p, node);
+            let own = advance_address(def, p, node);
             let went = own.to;
             match went {
                 Moved::To(q) => Crossing {

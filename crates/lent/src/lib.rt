@@ -4,7 +4,7 @@ use iter::Moved;
 use iter::Node;
 use iter::Pos;
 use iter::Skipped;
-use iter::advance;
+use iter::advance_address;
 use refusal::Verdict;
 ghost use mathlib.Core.Path.{_≡_};
 ghost use Rattle.iter.specs.Step.{advanceMotion};
@@ -26,7 +26,7 @@ struct Left {
 fn advanced(def: Bankdef, at: Pos, node: Node) -> Left
     ensures { λ r. ⌜ r ≡ lentOf at (advanceMotion def at node) ⌝ }
 {
-    let motion = advance(def, at, node);
+    let motion = advance_address(def, at, node);
     let skipped = motion.skipped;
     let to = motion.to;
     match to {

@@ -56,7 +56,7 @@ pub fn closes_default(banks: u64, alone: bool) -> bool
     true
 }
 
-fn uses_default(closed: bool, bank: u64) -> bool
+fn check_bank_usage(closed: bool, bank: u64) -> bool
     ensures { λ r. ⌜ r ≡ usesDefault closed bank ⌝ }
 {
     if bank == 0 {
@@ -88,7 +88,7 @@ pub fn check_place(
 {
     let size = def.size;
     let end = (at.position as u64) + size_of(node);
-    if uses_default(closed, bank) {
+    if check_bank_usage(closed, bank) {
         return Verdict::Refused(Refusal::DefaultBank(node.index));
     }
     if ends_past(size, end) {

@@ -41,7 +41,7 @@ seen-requires c κs = search needs
 enum-known-found : tie.Need-enum-known-found
 enum-known-found c = search needs
 
-advance-requires : tie.Need-advance-requires
+advance-requires : tie.Need-advance-address-requires
 advance-requires c κs = search needs
 
 enum-known-went : tie.Need-enum-known-went
@@ -70,12 +70,12 @@ returns-2 c =
     let s = f .before .before in
     let b = s .before in
     let a = b .before .before .args in
-    let sum = counts-is (a .node) (s .seen .result .skipped) (v .advance .result .skipped) (c .counts .ensures) (skips (s .seen .ensures .0))
-    (skips (v .advance .ensures .0)) in
+    let sum = counts-is (a .node) (s .seen .result .skipped) (v .advance-address .result .skipped) (c .counts .ensures) (skips (s .seen .ensures .0))
+    (skips (v .advance-address .ensures .0)) in
     rw sum
     (sym (cross-moves _ _ _ (sound b) _ _
     (sym (leads (s .seen .ensures .0)) ∙ f .found .given .1)
-    (sym (leads (v .advance .ensures .0)) ∙ w .went .given .1)))
+    (sym (leads (v .advance-address .ensures .0)) ∙ w .went .given .1)))
 
 returns-3 : tie.Need-returns-3
 returns-3 c =
@@ -86,7 +86,7 @@ returns-3 c =
     c .refused-crossing2 .ensures
     ∙ sym (cross-stuck _ _ _ (sound (s .before)) _ _
     (sym (leads (s .seen .ensures .0)) ∙ f .found .given .1)
-    (sym (leads (v .advance .ensures .0)) ∙ w .went2 .given .1))
+    (sym (leads (v .advance-address .ensures .0)) ∙ w .went2 .given .1))
 
 returns-4 : tie.Need-returns-4
 returns-4 c =

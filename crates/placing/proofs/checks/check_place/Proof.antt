@@ -8,7 +8,7 @@ use Rattle.placing.proofs.checks.check_place.Reads as reads
 use Rattle.placing.proofs.checks.check_place.Lts as lts
 use Rattle.placing.proofs.checks.ends_past.Reads as ends-past-reads
 use Rattle.visits.proofs.size_of.Reads as size-of-reads
-use Rattle.placing.proofs.checks.uses_default.Reads as uses-default-reads
+use Rattle.placing.proofs.checks.check_bank_usage.Reads as uses-default-reads
 use Rattle.placing.proofs.checks.written_nowhere.Reads as written-nowhere-reads
 
 cast-end : tie.Need-cast-end
@@ -20,12 +20,12 @@ size-of-requires c κs = search needs
 add-end : tie.Need-add-end
 add-end c = search needs
 
-uses-default-requires : tie.Need-uses-default-requires
+uses-default-requires : tie.Need-check-bank-usage-requires
 uses-default-requires c κs = search needs
 
 returns : tie.Need-returns
 unfolding checked
-returns c = rw (sym (c .before .uses-default .ensures) ∙ c .if1 .taken)
+returns c = rw (sym (c .before .check-bank-usage .ensures) ∙ c .if1 .taken)
 
 ends-past-requires : tie.Need-ends-past-requires
 ends-past-requires c κs = search needs
@@ -34,7 +34,7 @@ returns-2 : tie.Need-returns-2
 unfolding checked
 returns-2 c =
     rw (
-      sym (c .before .before .before .uses-default .ensures) ∙ c .before .before .if1 .left,
+      sym (c .before .before .before .check-bank-usage .ensures) ∙ c .before .before .if1 .left,
       ← (c .before .before .before .before .size-of .ensures .0),
       sym (c .before .ends-past .ensures) ∙ c .if2 .taken,
     )
@@ -46,7 +46,7 @@ returns-3 : tie.Need-returns-3
 unfolding checked
 returns-3 c =
     rw (
-      sym (c .before .before .before .before .before .uses-default .ensures) ∙ c .before .before .before .before .if1 .left,
+      sym (c .before .before .before .before .before .check-bank-usage .ensures) ∙ c .before .before .before .before .if1 .left,
       ← (c .before .before .before .before .before .before .size-of .ensures .0),
       sym (c .before .before .before .ends-past .ensures) ∙ c .before .before .if2 .left,
       sym (c .before .written-nowhere .ensures) ∙ c .if3 .taken,
@@ -56,7 +56,7 @@ returns-4 : tie.Need-returns-4
 unfolding checked
 returns-4 c =
     rw (
-      sym (c .before .before .before .before .before .uses-default .ensures) ∙ c .before .before .before .before .if1 .left,
+      sym (c .before .before .before .before .before .check-bank-usage .ensures) ∙ c .before .before .before .before .if1 .left,
       ← (c .before .before .before .before .before .before .size-of .ensures .0),
       sym (c .before .before .before .ends-past .ensures) ∙ c .before .before .if2 .left,
       sym (c .before .written-nowhere .ensures) ∙ c .if3 .left,

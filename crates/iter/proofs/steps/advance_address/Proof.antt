@@ -10,8 +10,8 @@ use Rattle.iter.specs.ToldFacts.{advance-answers}
 use Rattle.iter.specs.declared.Motion.{Motion}
 use Rattle.iter.specs.declared.Moved.{Moved}
 use Rattle.iter.proofs.Advanced.{advance-stopped, advance-still, advance-aligned}
-use Rattle.iter.proofs.steps.advance.Statement.{statement}
-use Rattle.iter.proofs.steps.advance.Tie as tie
+use Rattle.iter.proofs.steps.advance_address.Statement.{statement}
+use Rattle.iter.proofs.steps.advance_address.Tie as tie
 
 past-ten : (k : ℕ) → 8 ≤ k → (k ≡ 8 → ⊥) → (k ≡ 9 → ⊥) → (k ≡ 10 → ⊥) → 10 < k
 past-ten k h not8 not9 not10 = omega (arith, not8, not9, not10)
@@ -107,8 +107,8 @@ returns-7 c =
     let over : 10 < _ = past-ten _ (t .if3 .left) (rest .0 .0 .1) (rest .0 .1) (rest .1) in
     plain (t .before .before .before .before) (other _ _ _ over) (above _ 8 (omega arith)) (c .unskipped5 .ensures)
 
-pub advance-spec : {M : Type 1} → statement M
-advance-spec =
+pub advance-address-spec : {M : Type 1} → statement M
+advance-address-spec =
     tie.close
     (tie.spec
     is-bad-state-requires
