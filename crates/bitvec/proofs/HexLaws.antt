@@ -9,11 +9,15 @@ use borrow.Author.Tests.{le-leb, lt-leb}
 use Rattle.refusal.specs.declared.Refusal.the-variants.{Malformed, TooShort}
 use Rattle.bitvec.specs.declared.Hex.the-variants.{Digits, Refused}
 use Rattle.bitvec.specs.Within.{endsWithin}
-use Rattle.bitvec.specs.Lists.{listOf, listOf-more}
-use Rattle.bitvec.specs.Numeral.{numeral, numeral-cong, numeral-high, numeral-low, numeral-cleared}
-use Rattle.bitvec.specs.Bits.{bitAt, Bytes, bitAt-lt, byte-numeral}
-use Rattle.bitvec.specs.HexDigits.{digitOf, paddedBit, digitValue, digitAt, digitCount, hexOf, hexAnswer, Prints, hex-told, paddedBit-lt, paddedBit-own}
-use Rattle.bitvec.specs.HexDigits.{paddedBit-past}
+use Rattle.bitvec.specs.Lists.{listOf}
+use Rattle.bitvec.specs.Laws.Lists.{listOf-more}
+use Rattle.bitvec.specs.Numeral.{numeral}
+use Rattle.bitvec.specs.Laws.Numeral.{numeral-cong, numeral-high, numeral-low, numeral-cleared}
+use Rattle.bitvec.specs.Bits.{bitAt, Bytes}
+use Rattle.bitvec.specs.Laws.Bits.{bitAt-lt, byte-numeral}
+use Rattle.bitvec.specs.HexDigits.{digitOf, paddedBit, digitValue, digitAt, digitCount, hexOf, hexAnswer, Prints}
+use Rattle.bitvec.specs.Theorems.HexDigits.{hex-told, paddedBit-lt, paddedBit-own}
+use Rattle.bitvec.specs.Theorems.HexDigits.{paddedBit-past}
 
 module _ (bytes : List ℕ) (bits : ℕ) where
   -- the eight bits that are printed of byte j

@@ -8,10 +8,13 @@ use native.Mathlib.Omega.{arith}
 use lib.ListN.{length, getD, set, length-set}
 use lib.Seq.{getD-set-same, getD-set-other}
 use Rattle.refusal.specs.Pick.{pick}
-use Rattle.bitvec.specs.Numeral.{numeral, bitOf, pick-lt, bitOf-numeral}
+use Rattle.bitvec.specs.Numeral.{numeral, bitOf}
+use Rattle.bitvec.specs.Laws.Numeral.{pick-lt, bitOf-numeral}
 use Rattle.bitvec.specs.Bits.{bitAt, Bytes}
-use Rattle.bitvec.specs.Within.{covers, covers-inside, covers-not}
-use Rattle.bitvec.specs.Ones.{withOnes, length-ones, bytes-ones, only-ones, ones-runs}
+use Rattle.bitvec.specs.Within.{covers}
+use Rattle.bitvec.specs.Laws.Within.{covers-inside, covers-not}
+use Rattle.bitvec.specs.Ones.{withOnes}
+use Rattle.bitvec.specs.Theorems.Ones.{length-ones, bytes-ones, only-ones, ones-runs}
 use Rattle.bitvec.specs.Steps.{spliced}
 
 -- n ones are one less than a power of 2

@@ -11,13 +11,19 @@ use lib.Seq.{ext-getD, getD-set-same, getD-set-other}
 use Rattle.refusal.specs.Pick.{pick}
 use Rattle.refusal.specs.declared.Refusal.the-variants.{Malformed}
 use Rattle.refusal.specs.declared.Verdict.the-variants.{Accepted, Refused}
-use Rattle.bitvec.specs.Numeral.{numeral, bitOf, Bits, pick-lt, numeral-cong, numeral-lt, numeral-add, numeral-field, numeral-spliced, numeral-shifted}
-use Rattle.bitvec.specs.Numeral.{bitOf-numeral, numeral-bitOf}
-use Rattle.bitvec.specs.Bits.{bitAt, Bytes, bitAt-lt, bitAt-byte, byte-numeral, getD-ofBits, same-bits}
-use Rattle.bitvec.specs.Within.{endsWithin, covers, covers-before, covers-inside, covers-after, covers-not}
+use Rattle.bitvec.specs.Numeral.{numeral, bitOf, Bits}
+use Rattle.bitvec.specs.Laws.Numeral.{pick-lt, numeral-cong, numeral-lt, numeral-add, numeral-field, numeral-spliced, numeral-shifted}
+use Rattle.bitvec.specs.Laws.Numeral.{bitOf-numeral, numeral-bitOf}
+use Rattle.bitvec.specs.Bits.{bitAt, Bytes}
+use Rattle.bitvec.specs.Laws.Bits.{bitAt-lt, bitAt-byte, byte-numeral}
+use Rattle.bitvec.specs.Theorems.Bits.{getD-ofBits, same-bits}
+use Rattle.bitvec.specs.Within.{endsWithin, covers}
+use Rattle.bitvec.specs.Laws.Within.{covers-before, covers-inside, covers-after, covers-not}
 use Rattle.bitvec.specs.Steps.{spliced}
-use Rattle.bitvec.specs.Written.{Writes, write-told, isWritten, written, writtenBit, length-written, bytes-written, bitAt-written, writtenBit-inside}
-use Rattle.bitvec.specs.Written.{writtenBit-outside, written-other}
+use Rattle.bitvec.specs.Written.{Writes, isWritten, written, writtenBit}
+use Rattle.bitvec.specs.Laws.Written.{write-told}
+use Rattle.bitvec.specs.Theorems.Written.{length-written, bytes-written, bitAt-written, writtenBit-inside}
+use Rattle.bitvec.specs.Theorems.Written.{writtenBit-outside, written-other}
 
 -- A store of byte j writes an item that lies in that byte, where the byte has the bits that the image is to have there.
 pub stored : (image : List ℕ) (position : ℕ) (values : List ℕ) (start size j v : ℕ) → Bytes image → j < length image

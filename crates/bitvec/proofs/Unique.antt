@@ -1,8 +1,8 @@
 -- Uniqueness: the contract of each public function has one outcome, over its own clause: the answer, and all that is lent afterwards.
 use Prim.Native.Nat.{ℕ}
 use mathlib.Core.List.{List}
-use Rattle.refusal.specs.Outcome.{OneOutcome, OneView}
-use Rattle.refusal.specs.Pick.{determined, paired}
+use Rattle.refusal.specs.Laws.Outcome.{OneOutcome, OneView}
+use Rattle.refusal.specs.Laws.Pick.{determined, paired}
 use Rattle.refusal.specs.declared.Verdict.{Verdict}
 use Rattle.bitvec.specs.declared.Hex.{Hex}
 use Rattle.bitvec.proofs.clear.Kinds as clear-kinds

@@ -15,7 +15,7 @@ use Rattle.refusal.specs.declared.Offset.the-variants.{None, At}
 use Rattle.refusal.specs.Limits.{maxNodes, maxOffer, maxPosition}
 use Rattle.refusal.specs.Pick.{pick}
 use Rattle.blocks.specs.declared.Block.{Block}
-use Rattle.blocks.specs.Acceptable.{acceptable-parts as parts}
+use Rattle.blocks.specs.Theorems.Acceptable.{acceptable-parts as parts}
 use Rattle.blocks.specs.Offsets.{noOffset, offsetOf}
 use Rattle.blocks.specs.Put.{Put}
 use Rattle.blocks.specs.Spans.{span, within, offsetWithin, spansOf, allWithin, acceptable}

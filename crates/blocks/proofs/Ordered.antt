@@ -13,16 +13,19 @@ use lib.Seq.{drop-cons, take-at, length-take-le}
 use Rattle.refusal.specs.declared.Offset.the-variants.{At}
 use Rattle.refusal.specs.declared.Verdict.{Verdict}
 use Rattle.refusal.specs.Limits.{maxNodes}
-use Rattle.refusal.specs.Pick.{pick-true}
-use Rattle.sort.specs.Agree.{all-at, sorted-map}
+use Rattle.refusal.specs.Laws.Pick.{pick-true}
+use Rattle.sort.specs.Laws.Agree.{all-at, sorted-map}
 use Rattle.sort.specs.Numbers.{numbersFrom, numbersOf, keyAt, order}
-use Rattle.sort.specs.OrderFacts.{order-length, order-below}
+use Rattle.sort.specs.Theorems.OrderFacts.{order-length, order-below}
 use Rattle.sort.specs.Outcome as sorting
-use Rattle.sort.specs.Sorted.{sortedBy, le-or-lt}
-use Rattle.blocks.specs.Acceptable.{each-within}
+use Rattle.sort.specs.Laws.Outcome as sorting-laws
+use Rattle.sort.specs.Sorted.{sortedBy}
+use Rattle.sort.specs.Laws.Sorted.{le-or-lt}
+use Rattle.blocks.specs.Laws.Acceptable.{each-within}
 use Rattle.blocks.specs.Numbered.{spanAt, numberedBlocks, Walkable}
-use Rattle.blocks.specs.Offsets.{offsetOf, wordOf, word-of-offset}
-use Rattle.blocks.specs.Passed.{same-blocks}
+use Rattle.blocks.specs.Offsets.{offsetOf, wordOf}
+use Rattle.blocks.specs.Laws.Offsets.{word-of-offset}
+use Rattle.blocks.specs.Laws.Passed.{same-blocks}
 use Rattle.blocks.specs.Spans.{Span, span, within, spansOf, allWithin, rankOf}
 use Rattle.blocks.specs.Walk.{block, blocksFrom, blocksOf}
 
@@ -90,7 +93,7 @@ module _ (words room after : List ℕ) (r : Verdict) (fits : length words ≤ le
   sorted-front =
       sorted .kept
       ∙ pick-true (order words) (take (length words) room)
-      (sorting.is-sortable words (take (length words) room) (sym (length-take-le (length words) room fits)) few)
+      (sorting-laws.is-sortable words (take (length words) room) (sym (length-take-le (length words) room fits)) few)
 
   pub front-is : take (length words) (after ++ drop (length words) room) ≡ order words
   front-is = take-at after (drop (length words) room) (length words) (ap length sorted-front ∙ order-length words) ∙ sorted-front

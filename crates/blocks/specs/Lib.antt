@@ -1,9 +1,5 @@
 pub mod Acceptable
 pub mod Bits
-pub mod Cases
-pub mod Count
-pub mod Exactly
-pub mod Joins
 pub mod Measure
 pub mod Numbered
 pub mod Offsets
@@ -11,7 +7,7 @@ pub mod Outcome
 pub mod Passed
 pub mod Put
 pub mod Rising
-pub mod Row
 pub mod Spans
-pub mod Taken
 pub mod Walk
+pub mod Theorems
+pub mod Laws

@@ -1,9 +1,6 @@
 -- A span's offset as one word, the way in which spans are lent: the largest word stands for none.
-use mathlib.Core.Path.{_≡_, refl, sym}
-use mathlib.Core.Bool.{Bool, true, false}
-use Prim.Native.Nat.{ℕ, _<_}
-use native.Mathlib.Omega.{arith}
-use borrow.Author.Tests.{eqb-true, ne-eqb}
+use mathlib.Core.Path.{_≡_}
+use Prim.Native.Nat.{ℕ}
 use lib.Dec.{eqb}
 use Rattle.refusal.specs.declared.Offset.{Offset}
 use Rattle.refusal.specs.declared.Offset.the-variants.{None, At}
@@ -25,17 +22,3 @@ OffsetIs word r = r ≡ offsetOf word
 
 abbrev pub WordIs : Offset → ℕ → Type 0
 WordIs offset r = r ≡ wordOf offset
-
--- A word comes back from its offset, and an offset within the limits from its word.
-pub word-of-offset : (word : ℕ) → wordOf (offsetOf word) ≡ word
-word-of-offset word = go (eqb word noOffset) refl
-  where
-    go : (t : Bool) → eqb word noOffset ≡ t → wordOf (pick t None (At word)) ≡ word
-    go true e = sym (eqb-true word noOffset e)
-    go false e = refl
-
-pub none-of-word : offsetOf (wordOf None) ≡ None
-none-of-word = refl
-
-pub at-of-word : (o : ℕ) → o < noOffset → offsetOf (wordOf (At o)) ≡ At o
-at-of-word o h = rw (ne-eqb o noOffset (λ e. omega arith))

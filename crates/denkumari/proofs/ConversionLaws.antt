@@ -3,14 +3,14 @@ use mathlib.Core.Path.{_≡_, ap, _∙_}
 use mathlib.Core.Bool.{Bool}
 use mathlib.Core.List.{List}
 use Prim.Native.Nat.{ℕ}
-use Rattle.form.specs.Contents.{Contents, written}
-use Rattle.form.specs.Whole.{contentsIn}
-use Rattle.form.specs.declared.Kind.{Kind}
-use Rattle.convert.specs.Convert.{outAfter, Converts}
-use Rattle.convert.specs.declared.Conversion.{Conversion}
+use Rattle.form_fields.specs.Contents.{Contents, written}
+use Rattle.form_fields.specs.Whole.{contentsIn}
+use Rattle.form_fields.specs.declared.Kind.{Kind}
+use Rattle.form_convert.specs.Convert.{outAfter, Converts}
+use Rattle.form_convert.specs.declared.Conversion.{Conversion}
 use Rattle.denkumari.specs.Conversions.{WayTold}
-use Rattle.told.specs.Counts.{conversionCount}
-use Rattle.told.specs.declared.DkCount.{DkCount}
+use Rattle.c_answers.specs.Counts.{conversionCount}
+use Rattle.c_answers.specs.declared.DkCount.{DkCount}
 
 pub way-told : {from to : Kind} {turn : Contents → Contents} {drops : Contents → Bool} {file old new : List ℕ} {r : Conversion} {t : DkCount}
     → t ≡ conversionCount r → Converts from to turn drops file old r new → WayTold from to turn drops file old t new

@@ -1,10 +1,10 @@
 -- Uniqueness of the ways between the forms, over their contracts' own clauses: the answer, and every byte of the lent buffer.
 use mathlib.Core.List.{List}
 use Prim.Native.Nat.{ℕ}
-use Rattle.refusal.specs.Outcome.{OneView}
-use Rattle.refusal.specs.Pick.{paired}
-use Rattle.denkumari.specs.Conversions.{one-way}
-use Rattle.told.specs.declared.DkCount.{DkCount}
+use Rattle.refusal.specs.Laws.Outcome.{OneView}
+use Rattle.refusal.specs.Laws.Pick.{paired}
+use Rattle.denkumari.specs.Theorems.Conversions.{one-way}
+use Rattle.c_answers.specs.declared.DkCount.{DkCount}
 use Rattle.denkumari.proofs.conversions.dk_to_form2.Kinds as to-kinds
 use Rattle.denkumari.proofs.conversions.dk_to_form2.Reads as to-reads
 use Rattle.denkumari.proofs.conversions.dk_to_form1.Kinds as back-kinds

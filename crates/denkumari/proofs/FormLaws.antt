@@ -5,9 +5,9 @@ use Prim.Native.Nat.{ℕ}
 use Rattle.refusal.specs.declared.Opt.{Opt}
 use Rattle.output.specs.Output.{Lent}
 use Rattle.output.specs.declared.Output.{Output}
-use Rattle.filed.specs.Filed.{FileBuilt}
-use Rattle.told.specs.Told.{layoutTold}
-use Rattle.told.specs.declared.DkLayout.{DkLayout}
+use Rattle.form_build.specs.Filed.{FileBuilt}
+use Rattle.c_answers.specs.Told.{layoutTold}
+use Rattle.c_answers.specs.declared.DkLayout.{DkLayout}
 use Rattle.denkumari.specs.Forms.{FormTold}
 
 pub form-told : {file : List ℕ} {fill : ℕ} {page : Opt} {old new : Lent} {r : Output} {t : DkLayout} → t ≡ layoutTold r

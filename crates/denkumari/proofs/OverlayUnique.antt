@@ -4,8 +4,8 @@ use mathlib.Core.Path.{_≡_}
 use borrow.Fn.Kinds.{Dens, resT, endedOf}
 use contract.Lifetimes.{Lfts}
 use denote.Triple.Clauses.{AtExit}
-use Rattle.refusal.specs.Outcome.{OneOutcome}
-use Rattle.refusal.specs.Pick.{determined}
+use Rattle.refusal.specs.Laws.Outcome.{OneOutcome}
+use Rattle.refusal.specs.Laws.Pick.{determined}
 use Rattle.denkumari.proofs.overlays.dk_overlay_range.Kinds as range-kinds
 use Rattle.denkumari.proofs.overlays.dk_overlay_range.Reads as range-reads
 use Rattle.denkumari.proofs.overlays.dk_overlay_runs.Kinds as runs-kinds

@@ -5,16 +5,16 @@ use Rattle.refusal.specs.declared.Opt.the-variants.{Some}
 use Rattle.bankdef.specs.declared.Bankdefs.{Bankdefs}
 use Rattle.lists.specs.Lists.{Lists}
 use Rattle.resolver.specs.declared.Choices.{Choices}
-use Rattle.profile.specs.Profile.{profileOf}
-use Rattle.profile.specs.Told.{Answers}
-use Rattle.profile.specs.declared.Paged.{Paged}
+use Rattle.build_profile.specs.Profile.{profileOf}
+use Rattle.build_profile.specs.Told.{Answers}
+use Rattle.build_profile.specs.declared.Paged.{Paged}
 use Rattle.output.specs.Output.{input, Lent, roomOf}
 use Rattle.output.specs.declared.Output.{Output}
-use Rattle.filed.specs.Paged.{outputIn, BuiltIn}
-use Rattle.told.specs.Told.{layoutTold, profileTold}
+use Rattle.form_build.specs.Paged.{outputIn, BuiltIn}
+use Rattle.c_answers.specs.Told.{layoutTold, profileTold}
 use Rattle.denkumari.specs.Profiles.{ProfileSaid, PagedTold}
-use Rattle.told.specs.declared.DkLayout.{DkLayout}
-use Rattle.told.specs.declared.DkProfile.{DkProfile}
+use Rattle.c_answers.specs.declared.DkLayout.{DkLayout}
+use Rattle.c_answers.specs.declared.DkProfile.{DkProfile}
 
 pub profile-said : {banks table : Bankdefs} {l : Lists} {chosen choices : Choices} {page : ℕ} {p : Paged} {t : DkProfile} → banks ≡ table
     → chosen ≡ choices → t ≡ profileTold p → Answers banks l (chosen .fill) page p → ProfileSaid table l (choices .fill) page t

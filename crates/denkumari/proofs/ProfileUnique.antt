@@ -2,12 +2,12 @@
 use borrow.Fn.Kinds.{endedOf}
 use contract.Lifetimes.{Lfts}
 use denote.Triple.Clauses.{AtExit}
-use Rattle.refusal.specs.Outcome.{OneOutcome, OneView}
-use Rattle.refusal.specs.Pick.{determined, paired}
+use Rattle.refusal.specs.Laws.Outcome.{OneOutcome, OneView}
+use Rattle.refusal.specs.Laws.Pick.{determined, paired}
 use Rattle.output.specs.Output.{Lent, lent}
-use Rattle.denkumari.specs.Profiles.{one-paged}
-use Rattle.denkumari.specs.Unique.{one-form}
-use Rattle.told.specs.declared.DkLayout.{DkLayout}
+use Rattle.denkumari.specs.Theorems.Profiles.{one-paged}
+use Rattle.denkumari.specs.Theorems.Unique.{one-form}
+use Rattle.c_answers.specs.declared.DkLayout.{DkLayout}
 use Rattle.denkumari.proofs.forms.dk_form_paged.Kinds as form-kinds
 use Rattle.denkumari.proofs.forms.dk_form_paged.Reads as form-reads
 use Rattle.denkumari.proofs.profiles.dk_profile.Kinds as profile-kinds

@@ -4,11 +4,11 @@ use Prim.Native.Nat.{ℕ}
 use borrow.Fn.Kinds.{endedOf}
 use contract.Lifetimes.{Lfts}
 use denote.Triple.Clauses.{AtExit}
-use Rattle.refusal.specs.Outcome.{OneOutcome, OneView}
-use Rattle.refusal.specs.Pick.{determined, paired}
-use Rattle.record_fill.specs.Outcome.{Lent, lent}
-use Rattle.denkumari.specs.RecordFiles.{one-write, one-read}
-use Rattle.told.specs.declared.DkCount.{DkCount}
+use Rattle.refusal.specs.Laws.Outcome.{OneOutcome, OneView}
+use Rattle.refusal.specs.Laws.Pick.{determined, paired}
+use Rattle.record_fault.specs.Outcome.{Lent, lent}
+use Rattle.denkumari.specs.Theorems.RecordFiles.{one-write, one-read}
+use Rattle.c_answers.specs.declared.DkCount.{DkCount}
 use Rattle.denkumari.proofs.record_files.dk_write_hex.Kinds as hex-kinds
 use Rattle.denkumari.proofs.record_files.dk_write_hex.Reads as hex-reads
 use Rattle.denkumari.proofs.record_files.dk_write_srec.Kinds as srec-kinds

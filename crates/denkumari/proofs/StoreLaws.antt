@@ -8,8 +8,8 @@ use Rattle.overlap_checker.specs.declared.Entry.{Entry}
 use Rattle.overlap_checker.specs.State.{after}
 use Rattle.overlap_checker.specs.Lent.{Lent, lent, stateIn, laidInto, leaving, callFigures, Calls}
 use Rattle.denkumari.specs.Stores.{OfferTold}
-use Rattle.told.specs.Stores.{inFigures}
-use Rattle.told.specs.declared.DkOffer.{DkOffer}
+use Rattle.c_answers.specs.Stores.{inFigures}
+use Rattle.c_answers.specs.declared.DkOffer.{DkOffer}
 
 counts-told : (t : Told Nothing) (k j : ℕ) → (inFigures t k j .count ≡ k) × (inFigures t k j .marks ≡ j)
 counts-told (gives x) k j = (refl, refl)

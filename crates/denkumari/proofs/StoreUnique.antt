@@ -5,7 +5,7 @@ use contract.Lifetimes.{Lfts}
 use borrow.Fn.Kinds.{Dens, resT, endedOf}
 use denote.Triple.Clauses.{AtExit}
 use Rattle.overlap_checker.specs.Lent.{Lent}
-use Rattle.denkumari.specs.Stores.{one-offer}
+use Rattle.denkumari.specs.Theorems.Stores.{one-offer}
 use Rattle.denkumari.proofs.stores.dk_offer.Kinds as offer-kinds
 use Rattle.denkumari.proofs.stores.dk_offer.Reads as offer-reads
 

@@ -5,8 +5,8 @@ use Rattle.lists.specs.Lists.{Lists}
 use Rattle.resolver.specs.declared.Choices.{Choices}
 use Rattle.output.specs.Output.{input, Lent, Builds}
 use Rattle.output.specs.declared.Output.{Output}
-use Rattle.told.specs.Told.{layoutTold}
-use Rattle.told.specs.declared.DkLayout.{DkLayout}
+use Rattle.c_answers.specs.Told.{layoutTold}
+use Rattle.c_answers.specs.declared.DkLayout.{DkLayout}
 use Rattle.denkumari.specs.Tables.{TablesTold}
 
 pub tables-told : {banks table : Bankdefs} {l : Lists} {chosen choices : Choices} {old new : Lent} {r : Output} {t : DkLayout} → banks ≡ table

@@ -4,12 +4,13 @@ use Prim.Native.Nat.{ℕ}
 use borrow.Fn.Kinds.{endedOf}
 use contract.Lifetimes.{Lfts}
 use denote.Triple.Clauses.{AtExit}
-use Rattle.refusal.specs.Outcome.{OneOutcome, OneView}
-use Rattle.refusal.specs.Pick.{paired}
-use Rattle.told.specs.declared.DkCount.{DkCount}
-use Rattle.told.specs.declared.DkLayout.{DkLayout}
+use Rattle.refusal.specs.Laws.Outcome.{OneOutcome, OneView}
+use Rattle.refusal.specs.Laws.Pick.{paired}
+use Rattle.c_answers.specs.declared.DkCount.{DkCount}
+use Rattle.c_answers.specs.declared.DkLayout.{DkLayout}
 use Rattle.output.specs.Output.{Lent, lent}
-use Rattle.denkumari.specs.Unique.{one-form, one-build, one-blocks, one-hex, one-part}
+use Rattle.denkumari.specs.Theorems.Unique.{one-form, one-build}
+use Rattle.denkumari.specs.Laws.Unique.{one-blocks, one-hex, one-part}
 use Rattle.denkumari.proofs.forms.dk_form.Kinds as form-kinds
 use Rattle.denkumari.proofs.forms.dk_form.Reads as form-reads
 use Rattle.denkumari.proofs.builds.dk_build.Kinds as build-kinds

@@ -4,9 +4,9 @@ use mathlib.Core.List.{List}
 use Prim.Native.Nat.{ℕ}
 use Rattle.refusal.specs.declared.Opt.{Opt}
 use Rattle.output.specs.Output.{Lent, roomOf}
-use Rattle.filed.specs.Filed.{fileOutput, FileBuilt}
-use Rattle.told.specs.Told.{layoutTold}
-use Rattle.told.specs.declared.DkLayout.{DkLayout}
+use Rattle.form_build.specs.Filed.{fileOutput, FileBuilt}
+use Rattle.c_answers.specs.Told.{layoutTold}
+use Rattle.c_answers.specs.declared.DkLayout.{DkLayout}
 
 -- What `dk_form` and `dk_form_paged` promise: that build, told in numbers.
 pub record FormTold (file : List ℕ) (fill : ℕ) (page : Opt) (old : Lent) (r : DkLayout) (new : Lent) : Type 0 where

@@ -6,4 +6,5 @@ pub mod Profiles
 pub mod RecordFiles
 pub mod Stores
 pub mod Tables
-pub mod Unique
+pub mod Theorems
+pub mod Laws

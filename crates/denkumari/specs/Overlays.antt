@@ -2,13 +2,13 @@
 use mathlib.Core.Path.{_≡_}
 use mathlib.Core.List.{List}
 use Prim.Native.Nat.{ℕ}
-use Rattle.bench.specs.Trial.{Trial}
-use Rattle.bench.specs.Range.{sourceOf}
-use Rattle.bench.specs.List.{listAnswer, firstsAfter, countsAfter}
-use Rattle.told.specs.Counts.{listedCount}
-use Rattle.told.specs.Parts.{overlayBy}
-use Rattle.told.specs.declared.DkCount.{DkCount}
-use Rattle.told.specs.declared.DkOverlay.{DkOverlay}
+use Rattle.overlay.specs.Trial.{Trial}
+use Rattle.overlay.specs.Range.{sourceOf}
+use Rattle.overlay.specs.List.{listAnswer, firstsAfter, countsAfter}
+use Rattle.c_answers.specs.Counts.{listedCount}
+use Rattle.c_answers.specs.Parts.{overlayBy}
+use Rattle.c_answers.specs.declared.DkCount.{DkCount}
+use Rattle.c_answers.specs.declared.DkOverlay.{DkOverlay}
 
 -- What `dk_overlay_range` promises: "which of the two, or why none".
 pub record RangeTold (t : Trial) (first count : ℕ) (r : DkOverlay) : Type 0 where

@@ -11,10 +11,10 @@ use Rattle.blocks.specs.Walk.{blocksOf}
 use Rattle.blocks.specs.Outcome.{answerOf, originsAfter, sizesAfter}
 use Rattle.blocks.specs.declared.Blocks.{Blocks}
 use Rattle.blocks.specs.declared.Blocks.the-variants.{Refused}
-use Rattle.told.specs.Counts.{blocksCount, hexCount}
-use Rattle.told.specs.Parts.{partBy}
-use Rattle.told.specs.declared.DkCount.{DkCount}
-use Rattle.told.specs.declared.DkPart.{DkPart}
+use Rattle.c_answers.specs.Counts.{blocksCount, hexCount}
+use Rattle.c_answers.specs.Parts.{partBy}
+use Rattle.c_answers.specs.declared.DkCount.{DkCount}
+use Rattle.c_answers.specs.declared.DkPart.{DkPart}
 
 -- "Block and hex calls try 4 .., then 14"
 abbrev pub blocksAnswer : List ℕ → List ℕ → List ℕ → List ℕ → Blocks

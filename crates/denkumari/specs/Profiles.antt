@@ -1,16 +1,15 @@
 -- The profile of a device with pages, and a build in it, as a caller in another language is told of them.
 use mathlib.Core.Path.{_≡_}
 use Prim.Native.Nat.{ℕ}
-use Rattle.refusal.specs.Pick.{determined}
 use Rattle.refusal.specs.declared.Opt.the-variants.{Some}
 use Rattle.bankdef.specs.declared.Bankdefs.{Bankdefs}
 use Rattle.lists.specs.Lists.{Lists}
-use Rattle.profile.specs.Profile.{profileOf}
+use Rattle.build_profile.specs.Profile.{profileOf}
 use Rattle.output.specs.Output.{Input, Lent, roomOf}
-use Rattle.filed.specs.Paged.{outputIn, BuiltIn}
-use Rattle.told.specs.Told.{layoutTold, profileTold}
-use Rattle.told.specs.declared.DkLayout.{DkLayout}
-use Rattle.told.specs.declared.DkProfile.{DkProfile}
+use Rattle.form_build.specs.Paged.{outputIn, BuiltIn}
+use Rattle.c_answers.specs.Told.{layoutTold, profileTold}
+use Rattle.c_answers.specs.declared.DkLayout.{DkLayout}
+use Rattle.c_answers.specs.declared.DkProfile.{DkProfile}
 
 -- What `dk_profile` promises.
 pub record ProfileSaid (banks : Bankdefs) (l : Lists) (fill page : ℕ) (r : DkProfile) : Type 0 where
@@ -20,7 +19,3 @@ pub record ProfileSaid (banks : Bankdefs) (l : Lists) (fill page : ℕ) (r : DkP
 pub record PagedTold (page : ℕ) (b : Input) (old : Lent) (r : DkLayout) (new : Lent) : Type 0 where
   pub answer : r ≡ layoutTold (outputIn (Some page) b (roomOf old))
   pub built : BuiltIn (Some page) b old (outputIn (Some page) b (roomOf old)) new
-
--- It has one outcome.
-pub one-paged : {page : ℕ} {b : Input} {old x y : Lent} {r s : DkLayout} → PagedTold page b old r x → PagedTold page b old s y → (r ≡ s) × (x ≡ y)
-one-paged c d = (determined (c .answer) (d .answer), determined (c .built .left) (d .built .left))

@@ -1,12 +1,12 @@
 // A layout whose tables are lent as lists of numbers, laid out in one call.
-use tables::choose;
-use tables::make_banks;
-use told::DkLayout;
-use told::tell_layout;
+use c_answers::DkLayout;
+use c_answers::tell_layout;
+use c_tables::choose;
+use c_tables::make_banks;
 ghost use mathlib.Core.Path.{_≡_};
 ghost use Rattle.lists.specs.Lists.{lists};
 ghost use Rattle.output.specs.Output.{input, lent};
-ghost use Rattle.tables.specs.Tables.{given, tableOf, choicesBy};
+ghost use Rattle.c_tables.specs.Tables.{given, tableOf, choicesBy};
 ghost use Rattle.denkumari.specs.Tables.{TablesTold};
 
 // Lays tables out: the image, and the spans in three lists. A refused call changes nothing that is lent.

@@ -1,7 +1,7 @@
 // A layout file, laid out in one call.
+use c_answers::DkLayout;
+use c_answers::tell_layout;
 use refusal::Opt;
-use told::DkLayout;
-use told::tell_layout;
 ghost use mathlib.Core.Path.{_≡_};
 ghost use Rattle.refusal.specs.declared.Opt.the-variants.{None, Some};
 ghost use Rattle.output.specs.Output.{lent};
@@ -23,7 +23,7 @@ pub extern "C" fn dk_form(
         (lent (now (image .exit)) (now (addresses .exit)) (now (offsets .exit)) (now (sizes .exit)))
         ⌝ }
 {
-    tell_layout(filed::build_file(file, fill, Opt::None, image, addresses, offsets, sizes))
+    tell_layout(form_build::build_file(file, fill, Opt::None, image, addresses, offsets, sizes))
 }
 
 // The same in the profile of a device with pages of `page` bits: the image, and the spans in three lists. A refused call changes nothing that is lent.
@@ -43,7 +43,7 @@ pub extern "C" fn dk_form_paged(
         (lent (now (image .exit)) (now (addresses .exit)) (now (offsets .exit)) (now (sizes .exit)))
         ⌝ }
 {
-    tell_layout(filed::build_file(
+    tell_layout(form_build::build_file(
         file,
         fill,
         Opt::Some(page),

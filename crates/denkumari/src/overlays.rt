@@ -1,10 +1,10 @@
 // The bench: a range from the released image or the overlay, and where the two differ.
-use told::DkCount;
-use told::DkOverlay;
-use told::tell_listed;
-use told::tell_source;
+use c_answers::DkCount;
+use c_answers::DkOverlay;
+use c_answers::tell_listed;
+use c_answers::tell_source;
 ghost use mathlib.Core.Path.{_≡_};
-ghost use Rattle.bench.specs.Trial.{trial};
+ghost use Rattle.overlay.specs.Trial.{trial};
 ghost use Rattle.denkumari.specs.Overlays.{RangeTold, RunsTold};
 
 // Which of the two images the `count` bytes from byte `first` on come from.
@@ -20,7 +20,7 @@ pub extern "C" fn dk_overlay_range(
     ensures { λ r. ⌜ RangeTold (trial (now (overlay .entry)) (now (released .entry)) (now (offsets .entry)) (now (sizes .entry)))
         first count r ⌝ }
 {
-    let source = bench::which(overlay, released, offsets, sizes, first, count);
+    let source = overlay::which(overlay, released, offsets, sizes, first, count);
     tell_source(source, first, count)
 }
 
@@ -37,5 +37,5 @@ pub extern "C" fn dk_overlay_runs(
     ensures { λ r. ⌜ RunsTold (trial (now (overlay .entry)) (now (released .entry)) (now (offsets .entry)) (now (sizes .entry)))
         (now (firsts .entry)) (now (counts .entry)) r (now (firsts .exit)) (now (counts .exit)) ⌝ }
 {
-    tell_listed(bench::differences(overlay, released, offsets, sizes, firsts, counts))
+    tell_listed(overlay::differences(overlay, released, offsets, sizes, firsts, counts))
 }

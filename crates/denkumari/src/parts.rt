@@ -1,9 +1,9 @@
 // Blocks, hex and parts of an image.
-use told::DkCount;
-use told::DkPart;
-use told::tell_blocks;
-use told::tell_hex;
-use told::tell_part;
+use c_answers::DkCount;
+use c_answers::DkPart;
+use c_answers::tell_blocks;
+use c_answers::tell_hex;
+use c_answers::tell_part;
 ghost use mathlib.Core.Path.{_≡_};
 ghost use Rattle.denkumari.specs.Parts.{BlocksTold, HexTold, PartTold};
 

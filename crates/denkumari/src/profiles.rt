@@ -1,15 +1,15 @@
 // The profile of a device with pages, and a build in it, of tables that are lent as lists of numbers.
+use c_answers::DkLayout;
+use c_answers::DkProfile;
+use c_answers::tell_layout;
+use c_answers::tell_paged;
+use c_tables::choose;
+use c_tables::make_banks;
 use refusal::Opt;
-use tables::choose;
-use tables::make_banks;
-use told::DkLayout;
-use told::DkProfile;
-use told::tell_layout;
-use told::tell_paged;
 ghost use mathlib.Core.Path.{_≡_};
 ghost use Rattle.lists.specs.Lists.{lists};
 ghost use Rattle.output.specs.Output.{input, lent};
-ghost use Rattle.tables.specs.Tables.{given, tableOf, choicesBy};
+ghost use Rattle.c_tables.specs.Tables.{given, tableOf, choicesBy};
 ghost use Rattle.denkumari.specs.Profiles.{ProfileSaid, PagedTold};
 
 // Whether tables keep the profile of a device with pages of `page` bits.
@@ -49,7 +49,7 @@ pub extern "C" fn dk_profile(
         fill_bits,
     );
     let choices = choose(0, fill, 0);
-    tell_paged(profile::check_profile(
+    tell_paged(build_profile::check_profile(
         banks,
         kinds,
         operands,
@@ -108,7 +108,7 @@ pub extern "C" fn dk_build_paged(
         fill_bits,
     );
     let choices = choose(limit, fill, closed);
-    tell_layout(filed::build_with(
+    tell_layout(form_build::build_with(
         Opt::Some(page),
         banks,
         kinds,

@@ -1,14 +1,14 @@
 // Files of Intel HEX and of S-records: the blocks of an image written, and a file read into bytes and blocks.
-use told::DkCount;
-use told::DkFault;
-use told::tell_blocks;
-use told::tell_fault;
-use told::tell_written;
+use c_answers::DkCount;
+use c_answers::DkFault;
+use c_answers::tell_blocks;
+use c_answers::tell_fault;
+use c_answers::tell_written;
 ghost use mathlib.Core.Path.{_≡_};
 ghost use Rattle.record_write.specs.Outcome.{input, answerOf, textAfter};
-ghost use Rattle.srec.specs.Writing.{answerSrec, lentSrec};
-ghost use Rattle.record_read.specs.Reading.{readText};
-ghost use Rattle.record_fill.specs.Outcome.{lent};
+ghost use Rattle.record_srec.specs.Writing.{answerSrec, lentSrec};
+ghost use Rattle.record_fault.specs.Reading.{readText};
+ghost use Rattle.record_fault.specs.Outcome.{lent};
 ghost use Rattle.denkumari.specs.RecordFiles.{WriteTold, ReadTold, FaultTold};
 
 // The blocks of an image as Intel HEX from a load address on.
@@ -27,7 +27,7 @@ pub extern "C" fn dk_write_hex(
         r (now (text .exit))
         ⌝ }
 {
-    tell_written(ihex::write_ihex(image, offsets, sizes, load, text))
+    tell_written(record_ihex::write_ihex(image, offsets, sizes, load, text))
 }
 
 // The blocks of an image as S-records from a load address on, with addresses of `width` bytes: 2 or 4.
@@ -47,7 +47,7 @@ pub extern "C" fn dk_write_srec(
         r (now (text .exit))
         ⌝ }
 {
-    tell_written(srec::write_srec(image, offsets, sizes, load, width, text))
+    tell_written(record_srec::write_srec(image, offsets, sizes, load, width, text))
 }
 
 // A file's bytes and blocks, from a load address on. Format 0 is Intel HEX, every other number S-records.
@@ -66,7 +66,7 @@ pub extern "C" fn dk_read_records(
         (lent (now (bytes .exit)) (now (offsets .exit)) (now (sizes .exit)))
         ⌝ }
 {
-    tell_blocks(record_fill::read(format, text, load, bytes, offsets, sizes))
+    tell_blocks(record_read::read(format, text, load, bytes, offsets, sizes))
 }
 
 // The line at which a file that is read so is at fault.
@@ -74,5 +74,5 @@ pub extern "C" fn dk_read_records(
 pub extern "C" fn dk_record_fault(format: u8, text: &[u8], load: u32) -> DkFault
     ensures { λ r. ⌜ FaultTold (readText format load (now (text .entry))) r ⌝ }
 {
-    tell_fault(record_read::line_at_fault(format, text, load))
+    tell_fault(record_fault::line_at_fault(format, text, load))
 }

@@ -1,6 +1,6 @@
 // The store of placed intervals and marks, in three arrays and two counts that the caller keeps between calls.
-use told::DkOffer;
-use told::tell_offer;
+use c_answers::DkOffer;
+use c_answers::tell_offer;
 ghost use mathlib.Core.Path.{_≡_};
 ghost use Rattle.overlap_checker.specs.Interval.{interval};
 ghost use Rattle.overlap_checker.specs.Lent.{lent};

@@ -2,10 +2,10 @@
 use Prim.Native.Nat.{ℕ}
 use mathlib.Core.List.{List}
 use mathlib.Core.Path.{_≡_, sym, ap, _∙_}
-use Rattle.refusal.specs.Outcome.{OneOutcome, OneView}
-use Rattle.refusal.specs.Pick.{determined, paired}
+use Rattle.refusal.specs.Laws.Outcome.{OneOutcome, OneView}
+use Rattle.refusal.specs.Laws.Pick.{determined, paired}
 use Rattle.refusal.specs.declared.Verdict.{Verdict}
-use Rattle.form.specs.Lists.{kindsOf, operandsOf, numbersOf, statesOf, listAfter}
+use Rattle.form_fields.specs.Lists.{kindsOf, operandsOf, numbersOf, statesOf, listAfter}
 use Rattle.form_lists.proofs.read_banks.Kinds as read-banks-kinds
 use Rattle.form_lists.proofs.read_banks.Reads as read-banks-reads
 use Rattle.form_lists.proofs.read_lists.Kinds as read-lists-kinds

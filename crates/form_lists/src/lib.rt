@@ -1,15 +1,15 @@
 // The banks, the value bytes and the lists of a layout file, read: into a table, as a part of the file, into lent lists.
 use bankdef::Bankdef;
 use bankdef::Bankdefs;
-use form::Form;
-use form::Kind;
-use form::Shape;
-use form::count_run;
-use form::kind_of;
-use form::read_shape;
-use form::read16;
-use form::read32;
-use form::read64;
+use form_fields::Form;
+use form_fields::Kind;
+use form_fields::Shape;
+use form_fields::count_run;
+use form_fields::kind_of;
+use form_fields::read_shape;
+use form_fields::read16;
+use form_fields::read32;
+use form_fields::read64;
 use refusal::MAX_BANKS;
 use refusal::Opt;
 use refusal::Refusal;
@@ -21,14 +21,14 @@ ghost use lib.ListN.{length, drop, replicate};
 ghost use lib.Seq.{paste};
 ghost use mir.Syntax.{w64};
 ghost use mir.Val.{toZ};
-ghost use Rattle.form.specs.declared.Form.the-variants.{Sound};
-ghost use Rattle.form.specs.Banks.{isSet, optOf, fillBitAt, bankAt, banksIn, noBank, TableIs};
-ghost use Rattle.form.specs.Columns.{column};
-ghost use Rattle.form.specs.Lists.{ValuesAre, cells, Lists};
-ghost use Rattle.form.specs.Words.{byte, word32};
-ghost use Rattle.form.specs.Kind.{Known};
-ghost use Rattle.form.specs.Shape.{formOf, nodesStart};
-ghost use Rattle.form.specs.Told.{ListsAre};
+ghost use Rattle.form_fields.specs.declared.Form.the-variants.{Sound};
+ghost use Rattle.form_fields.specs.Banks.{isSet, optOf, fillBitAt, bankAt, banksIn, noBank, TableIs};
+ghost use Rattle.form_fields.specs.Columns.{column};
+ghost use Rattle.form_fields.specs.Lists.{ValuesAre, cells, Lists};
+ghost use Rattle.form_fields.specs.Words.{byte, word32};
+ghost use Rattle.form_fields.specs.Kind.{Known};
+ghost use Rattle.form_fields.specs.Shape.{formOf, nodesStart};
+ghost use Rattle.form_fields.specs.Told.{ListsAre};
 
 // Eight bytes as two's complement.
 fn signed(w: u64) -> i64

@@ -4,14 +4,14 @@ use mathlib.Core.Path.{_≡_, sym}
 use mathlib.Core.Bool.{Bool, true, false}
 use native.Mathlib.Omega.{arith}
 use borrow.Author.Tests.{le-leb, lt-leb, eq-eqb, ne-eqb}
-use Rattle.refusal.specs.Bools.{either}
-use Rattle.refusal.specs.Pick.{pick-true, pick-false}
+use Rattle.refusal.specs.Laws.Bools.{either}
+use Rattle.refusal.specs.Laws.Pick.{pick-true, pick-false}
 use Rattle.refusal.specs.declared.Refusal.{Refusal}
 use Rattle.refusal.specs.declared.Opt.the-variants.{None, Some}
 use Rattle.bankdef.specs.declared.Bankdef.{Bankdef}
 use Rattle.iter.specs.Step.{alignedTo, outermostSymbol, seenOf, advancedOf, still, alignedMotion, seenSkips, seenMotion, advanceSkips}
 use Rattle.iter.specs.Step.{advanceMotion, maxSum, lostAfter}
-use Rattle.iter.specs.ToldFacts.{none-skipped}
+use Rattle.iter.specs.Laws.ToldFacts.{none-skipped}
 use Rattle.iter.specs.declared.Moved.{Moved}
 use Rattle.iter.specs.declared.Moved.the-variants.{To, Refused}
 use Rattle.iter.specs.declared.Pos.{Pos}

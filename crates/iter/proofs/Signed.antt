@@ -12,10 +12,11 @@ use mir.Syntax.{w64}
 use mir.Val.{SFits}
 use borrow.Author.Tests.{ltb-true, leb-true, lt-ltb, le-ltb}
 use Rattle.refusal.specs.Limits.{maxStart}
-use Rattle.bankdef.specs.Bools.{both}
+use Rattle.refusal.specs.Laws.Bools.{both}
 use Rattle.bankdef.specs.declared.Bankdef.{Bankdef}
 use Rattle.iter.specs.Distance.{sizeOf, tellable}
-use Rattle.iter.specs.Signs.{size-natAbs, inBits, neg-plus}
+use Rattle.iter.specs.Laws.Signs.{size-natAbs, neg-plus}
+use Rattle.iter.specs.Signs.{inBits}
 use Rattle.iter.specs.declared.alignment.InBits.the-variants.{Below, At}
 
 -- a negative start, before 0 in bits

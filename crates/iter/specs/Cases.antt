@@ -1,11 +1,10 @@
 -- Document 01's P cases of the distance, and document 02's below zero and in units, as one statement.
 use Prim.Native.Nat.{ℕ}
-use mathlib.Core.Path.{_≡_, refl}
+use mathlib.Core.Path.{_≡_}
 use mathlib.Core.Bool.{true, false}
 use lib.IntN.{pos, negsuc}
 use Rattle.refusal.specs.declared.Opt.the-variants.{None}
 use Rattle.bankdef.specs.declared.Bankdef.{Bankdef}
-use Rattle.iter.specs.Aligned.{to-none}
 use Rattle.iter.specs.Distance.{tellable, addressInBits, remainder, noSkip, distanceOf}
 use Rattle.iter.specs.declared.Distance.the-variants.{Skips}
 
@@ -33,25 +32,3 @@ pub record DistanceCases : Type 0 where
   pub three : (node : ℕ) → distanceOf belowZero 0 8 node ≡ Skips (record { bits = 3; units = 3 })
   -- document 02, Ticket 2: unit 8, position 4, alignment 16: 12 bits, which are 1 whole unit
   pub twelve : (node : ℕ) → distanceOf unitEight 4 16 node ≡ Skips (record { bits = 12; units = 1 })
-
-at-none : (def : Bankdef) (position node : ℕ) → tellable def ≡ true → distanceOf def position 0 node ≡ Skips noSkip
-at-none def position node e = to-none def position 0 node e refl
-
-at-six : (node : ℕ) → distanceOf unitTen 10 16 node ≡ Skips (record { bits = 6; units = 0 })
-unfolding distanceOf
-at-six node = refl
-
-at-there : (node : ℕ) → distanceOf unitTen 16 16 node ≡ Skips noSkip
-unfolding distanceOf
-at-there node = refl
-
-at-three : (node : ℕ) → distanceOf belowZero 0 8 node ≡ Skips (record { bits = 3; units = 3 })
-unfolding distanceOf
-at-three node = refl
-
-at-twelve : (node : ℕ) → distanceOf unitEight 4 16 node ≡ Skips (record { bits = 12; units = 1 })
-unfolding distanceOf
-at-twelve node = refl
-
-pub distance-cases : DistanceCases
-distance-cases = record { none = at-none; six = at-six; there = at-there; remains = refl; three = at-three; twelve = at-twelve }

@@ -1,7 +1,5 @@
 pub mod Address
-pub mod Advance
 pub mod AdvanceFacts
-pub mod Agrees
 pub mod Aligned
 pub mod Cases
 pub mod Crossing
@@ -12,8 +10,7 @@ pub mod Padding
 pub mod Signs
 pub mod Step
 pub mod StepCases
-pub mod StepFacts
 pub mod StepFigures
-pub mod Told
-pub mod ToldFacts
 pub mod WithinLimit
+pub mod Theorems
+pub mod Laws

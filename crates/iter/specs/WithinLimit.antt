@@ -1,119 +1,24 @@
 -- Positions never pass 4,294,967,295: not in a step, and not over any list of nodes.
-use Prim.Native.Nat.{ℕ, zero, suc, _+_, _≤_, zero-le}
-use mathlib.Core.Path.{_≡_, refl, subst}
-use mathlib.Core.Bool.{Bool, true, false, _&&_}
+use Prim.Native.Nat.{ℕ, _≤_}
 use mathlib.Core.List.{List, [], _∷_}
-use lib.Dec.{eqb, leb}
-use lib.ListN.{getD, set, replicate}
-use borrow.Author.Tests.{leb-true}
-use Rattle.refusal.specs.Limits.{maxBanks, maxPosition}
-use Rattle.refusal.specs.Pick.{pick}
-use Rattle.refusal.specs.declared.Opt.{Opt}
-use Rattle.refusal.specs.declared.Opt.the-variants.{None, Some}
+use lib.ListN.{getD}
+use Rattle.refusal.specs.Limits.{maxPosition}
 use Rattle.bankdef.specs.declared.Bankdef.{Bankdef}
-use Rattle.iter.specs.Distance.{distanceOf}
-use Rattle.iter.specs.Step.{origin, startOf, movedBy, movedByDistance, alignedTo, outermostSymbol, labelAligned, seenOf, resolved, badState}
-use Rattle.iter.specs.Step.{movedOn, advancedOf, bankAfter, stepOf}
-use Rattle.iter.specs.StepCases.{standing, step-cases}
-use Rattle.iter.specs.declared.Distance.{Distance}
-use Rattle.iter.specs.declared.Distance.the-variants.{Skips, Refused as NoDistance}
+use Rattle.iter.specs.Step.{origin}
+use Rattle.iter.specs.Step.{bankAfter, stepOf}
 use Rattle.iter.specs.declared.Pos.{Pos}
 use Rattle.iter.specs.declared.Node.{Node}
 use Rattle.iter.specs.declared.Walk.{Walk}
-use Rattle.iter.specs.declared.Stepped.{Stepped}
-use Rattle.iter.specs.declared.Moved.{Moved}
-use Rattle.iter.specs.declared.Moved.the-variants.{To, Refused}
 
 -- "position: 0 to 4,294,967,295"
 abbrev pub Small : Pos → Type 0
 Small p = p .position ≤ maxPosition
 
--- a position that is seen or moved to is within the limit
-abbrev pub Within : Moved → Type 0
-Within (To p) = Small p
-Within (Refused why) = Unit
-
 -- every bank's position is within the limit
 abbrev pub AllSmall : Walk → Type 0
 AllSmall walk = (j : ℕ) → Small (getD (walk .at) j origin)
-
-either : (P : Moved → Type 0) (b : Bool) (x y : Moved) → (b ≡ true → P x) → (b ≡ false → P y) → P (pick b x y)
-either P true x y f g = f refl
-either P false x y f g = g refl
-
-moved-within : (at : Pos) (bits : ℕ) (known : Bool) (node : ℕ) → Within (movedBy at bits known node)
-moved-within at bits known node =
-    either Within (leb (at .position + bits) maxPosition) _ _ (leb-true (at .position + bits) maxPosition) (λ e. tt)
-
-by-distance : (at : Pos) (x : Distance) (known : Bool) (node : ℕ) → Within (movedByDistance at x known node)
-by-distance at (Skips s) known node = moved-within at (s .bits) known node
-by-distance at (NoDistance why) known node = tt
-
-aligned-within : (def : Bankdef) (at : Pos) (a : ℕ) (known : Bool) (node : ℕ) → Within (alignedTo def at a known node)
-aligned-within def at a known node = by-distance at (distanceOf def (at .position) a node) known node
-
-label-within : (def : Bankdef) (o : Opt) (at : Pos) (node : ℕ) → Small at → Within (labelAligned def o at node)
-label-within def None at node h = h
-label-within def (Some a) at node h = aligned-within def at a (at .known) node
-
-module _ (def : Bankdef) (at : Pos) (node : Node) (small : Small at) where
-  -- What a node sees is within the limit.
-  pub seen-within : Within (seenOf def at node)
-  unfolding seenOf
-  seen-within = either Within (outermostSymbol node) _ _ (λ e. label-within def (def .align) at (node .index) small) (λ e. small)
-
-  -- A node's own advance stays within the limit. (That the row's number is within it is its type's.)
-  pub advanced-within : node .number ≤ maxPosition → Within (advancedOf def at node)
-  unfolding advancedOf movedOn
-  advanced-within h =
-      let known = at .known && resolved node in
-      either Within (badState node) _ _ (λ e. tt)
-      (λ e. either Within (eqb (node .kind) 5) _ _ (λ e. moved-within at (node .number) (at .known) (node .index))
-      (λ e. either Within (leb 4 (node .kind) && leb (node .kind) 7) _ _ (λ e. moved-within at (node .number) known (node .index))
-      (λ e. either Within (eqb (node .kind) 8) _ _ (λ e. aligned-within def at (node .number) known (node .index))
-      (λ e. either Within (eqb (node .kind) 9) _ _ (λ e. h)
-      (λ e. either Within (leb (node .kind) 10) _ _ (λ e. small) (λ e. tt))))))
-
--- what holds of each element of a list, and of one that is put in, holds of each element afterwards
-set-all : {A : Type 0} (P : A → Type 0) (l : List A) (i : ℕ) (q d : A) → P q → ((j : ℕ) → P (getD l j d)) → (j : ℕ) → P (getD (set l i q) j d)
-set-all P [] i q d hq h j = h j
-set-all P (x ∷ l) zero q d hq h zero = hq
-set-all P (x ∷ l) zero q d hq h (suc j) = h (suc j)
-set-all P (x ∷ l) (suc i) q d hq h zero = h zero
-set-all P (x ∷ l) (suc i) q d hq h (suc j) = set-all P l i q d hq (λ k. h (suc k)) j
-
--- A step keeps every position within the limit.
-pub step-within : (def : Bankdef) (walk : Walk) (node : Node) → node .number ≤ maxPosition → AllSmall walk → AllSmall (stepOf def walk node .walk)
-step-within def walk node h all =
-    step-cases def walk node (λ (s : Stepped). AllSmall (s .walk)) (λ why. all)
-    (λ p q s a.
-    let seen : Small p = subst Within s (seen-within def (standing walk node) node (all (bankAfter (walk .bank) node))) in
-    let moved : Small q = subst Within a (advanced-within def p node seen h) in
-    set-all Small (walk .at) (bankAfter (walk .bank) node) q origin moved all)
 
 -- the walk after a list of nodes, each a step in its bank's record
 abbrev pub walkedOver : (ℕ → Bankdef) → Walk → List Node → Walk
 walkedOver defs walk [] = walk
 walkedOver defs walk (node ∷ nodes) = walkedOver defs (stepOf (defs (bankAfter (walk .bank) node)) walk node .walk) nodes
-
--- each number of a row is within its type's range
-abbrev pub Numbers : List Node → Type 0
-Numbers [] = Unit
-Numbers (node ∷ nodes) = (node .number ≤ maxPosition) × Numbers nodes
-
--- Over any list of nodes, from any walk within the limit, positions stay within it.
-pub walk-within : (defs : ℕ → Bankdef) (walk : Walk) (nodes : List Node) → Numbers nodes → AllSmall walk → AllSmall (walkedOver defs walk nodes)
-walk-within defs walk [] fit all = all
-walk-within defs walk (node ∷ nodes) fit all =
-    walk-within defs (stepOf (defs (bankAfter (walk .bank) node)) walk node .walk) nodes (fit .1)
-    (step-within (defs (bankAfter (walk .bank) node)) walk node (fit .0) all)
-
-origins : (n j : ℕ) → Small (getD (replicate n origin) j origin)
-origins zero j = zero-le
-origins (suc n) zero = zero-le
-origins (suc n) (suc j) = origins n j
-
--- "Each bank's position starts at 0": so no position of a walk ever passes 4,294,967,295.
-pub never-past : (defs : ℕ → Bankdef) (nodes : List Node) → Numbers nodes → AllSmall (walkedOver defs startOf nodes)
-unfolding startOf
-never-past defs nodes fit = walk-within defs startOf nodes fit (origins maxBanks)

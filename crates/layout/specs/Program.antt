@@ -4,8 +4,8 @@ use mathlib.Core.Path.{_≡_}
 use Prim.Native.Nat.{ℕ, _≤_}
 use lib.ListN.{length, take}
 use Rattle.refusal.specs.declared.Opt.{Opt}
-use Rattle.report.specs.Report.{reportText}
-use Rattle.report.specs.Room.{fileRoom}
+use Rattle.print_report.specs.Report.{reportText}
+use Rattle.print_report.specs.Room.{fileRoom}
 
 -- The first `count` bytes of a text are the report of a file, and all of it.
 pub record Shows (file : List ℕ) (fill : ℕ) (page : Opt) (count : ℕ) (text : List ℕ) : Type 0 where

@@ -3,12 +3,12 @@
 //     layout [FILL [PAGE]]    FILL is the fill's choice, 0 where it is not given; PAGE the page size in bits of a device with pages
 //
 // It writes nothing where an argument is no decimal number, or where there are more.
+use print_text::Written;
 use refusal::Opt;
-use text::Written;
 ghost use mathlib.Core.Path.{_≡_};
 ghost use Prim.Native.Nat.{_≤_, min};
 ghost use lib.ListN.{length};
-ghost use Rattle.report.specs.Room.{reportRoom};
+ghost use Rattle.print_report.specs.Room.{reportRoom};
 ghost use Rattle.layout.specs.Program.{Shows, Reported};
 
 // Room for the longest file and a byte more, so that none is cut to a sound one.
@@ -22,10 +22,10 @@ fn write(file: &[u8], fill: u8, page: Opt, text: &mut [u8]) -> usize
     requires { ⌜ reportRoom ≤ length (now text) ⌝ }
     ensures { λ r. ⌜ Shows (now (file .entry)) fill page r (now (text .exit)) ⌝ }
 {
-    let Written::To(end) = report::report(file, fill, page, text) else {
+    let Written::To(end) = print_report::report(file, fill, page, text) else {
         return 0;
     };
-    args::print(text, end as u64)
+    prog_args::print(text, end as u64)
 }
 
 // A choice that no byte holds is as unknown as 255.
@@ -54,14 +54,14 @@ fn main() {
         run(0, Opt::None);
         return;
     }
-    let Opt::Some(fill) = args::number_at(1) else {
+    let Opt::Some(fill) = prog_args::number_at(1) else {
         return;
     };
     if count < 3 {
         run(choice(fill), Opt::None);
         return;
     }
-    let page = args::number_at(2);
+    let page = prog_args::number_at(2);
     if let Opt::Some(_) = page {
         run(choice(fill), page);
     }

@@ -5,7 +5,7 @@ use mathlib.Core.List.{List}
 use lib.ListN.{getD, take, drop, length}
 use Rattle.iter.specs.declared.Node.{Node}
 use Rattle.lists.specs.Lists.{Row, rowWith, nodeAt, nodeOf, numberAt}
-use Rattle.lists.specs.RowParts.{first-part, row-part}
+use Rattle.lists.specs.Laws.RowParts.{first-part, row-part}
 use borrow.Author.Tests.{eq-eqb, ne-eqb}
 
 module _ (kinds operands first : List ℕ) (row : Row) (i : ℕ) {kind operand number state : ℕ} (k : kind ≡ getD kinds i 0)

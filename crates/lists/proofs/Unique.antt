@@ -1,7 +1,7 @@
 -- Uniqueness: each public function's own contract has one outcome. What is read here is the `ensures` itself, so that a looser clause breaks its
 -- line. Nothing is lent to be changed, so the outcome is the answer.
-use Rattle.refusal.specs.Pick.{determined}
-use Rattle.refusal.specs.Outcome.{OneOutcome}
+use Rattle.refusal.specs.Laws.Pick.{determined}
+use Rattle.refusal.specs.Laws.Outcome.{OneOutcome}
 use Rattle.lists.proofs.node_at.Kinds as node-at-kinds
 use Rattle.lists.proofs.node_at.Reads as node-at-reads
 use Rattle.lists.proofs.check_lists.Kinds as check-lists-kinds

@@ -1,5 +1,5 @@
-pub mod Counts
 pub mod FaultExactly
 pub mod Lists
-pub mod RowParts
 pub mod Sound
+pub mod Theorems
+pub mod Laws

@@ -10,7 +10,8 @@ use borrow.Author.Tests.{ltb-false, le-ltb, lt-ltb}
 use lib.Dec.{ltb}
 use lib.IntN.{ℤ}
 use lib.ListN.{length}
-use Rattle.refusal.specs.Pick.{pick, pick-false}
+use Rattle.refusal.specs.Pick.{pick}
+use Rattle.refusal.specs.Laws.Pick.{pick-false}
 use Rattle.refusal.specs.declared.Refusal.{Refusal}
 use Rattle.refusal.specs.declared.Refusal.the-variants.{TooShort}
 use Rattle.refusal.specs.declared.Verdict.{Verdict}
@@ -18,18 +19,18 @@ use Rattle.refusal.specs.declared.Verdict.the-variants.{Accepted, Refused as Tu
 use Rattle.bankdef.specs.Check.{banksOf}
 use Rattle.lists.specs.Lists.{Row}
 use Rattle.resolver.specs.Once.{Program}
-use Rattle.overlap_checker.specs.Ascending.{lt-or-le}
-use Rattle.visits.specs.Visits.{visits}
-use Rattle.visits.specs.Items.{itemsOf, lengthOf, imageOf}
-use Rattle.writing.specs.Blank.{blankOf}
-use Rattle.visits.specs.ItemLaws.{end-within}
-use Rattle.placing.specs.Placing.{Placed, holds, stops, placedAll}
-use Rattle.visits.specs.Spans.{spansOf, over, addresses, words, sizes}
+use Rattle.overlap_checker.specs.Laws.Ascending.{lt-or-le}
+use Rattle.build_sights.specs.Visits.{visits}
+use Rattle.build_sights.specs.Items.{itemsOf, lengthOf, imageOf}
+use Rattle.build_write.specs.Blank.{blankOf}
+use Rattle.build_sights.specs.Laws.ItemLaws.{end-within}
+use Rattle.build_plan.specs.Placing.{Placed, holds, stops, placedAll}
+use Rattle.build_sights.specs.Spans.{spansOf, over, addresses, words, sizes}
 use Rattle.output.specs.Output.{Lent, lent, Room, roomOf, roomFor, outputOf, refusedAfter, placedBuild, buildRow, leftBy}
-use Rattle.placing.specs.Plan.{Planned, verdictPlaced}
+use Rattle.build_plan.specs.Laws.Plan.{Planned, verdictPlaced}
 use Rattle.output.specs.Steps.{InValues, roomVerdict, RowBuilt}
-use Rattle.writing.specs.Writes.{HasRoom}
-use Rattle.placing.specs.declared.Plan.{Plan}
+use Rattle.build_write.specs.Writes.{HasRoom}
+use Rattle.build_plan.specs.declared.Plan.{Plan}
 use Rattle.output.specs.declared.Build.{Build}
 use Rattle.output.specs.declared.Output.{Output}
 use Rattle.output.specs.declared.Build.the-variants.{Done, Refused}

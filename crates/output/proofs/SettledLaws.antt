@@ -27,26 +27,27 @@ use Rattle.lists.specs.Lists.{Lists, Row, Rows, rowAt, isItem, pastEnd, rowFaul
 use Rattle.resolver.specs.Once.{Program, node}
 use Rattle.resolver.specs.Passes.{program, rowOfPass, resolutionOf}
 use Rattle.resolver.specs.Layout.{unless, layoutOf}
-use Rattle.lists.specs.Sound.{accepted-row, accepted-rows}
+use Rattle.lists.specs.Theorems.Sound.{accepted-row, accepted-rows}
 use Rattle.resolver.specs.declared.Choices.{Choices}
 use Rattle.resolver.specs.declared.Resolution.{Resolution}
 use Rattle.resolver.specs.declared.Settled.{Settled}
 use Rattle.resolver.specs.declared.Settled.the-variants.{At, Refused as Unsettled}
-use Rattle.resolver.specs.Switches.{Switches, accepted-switches}
-use Rattle.lists.specs.Counts.{too-many-nodes}
-use Rattle.lists.specs.RowParts.{first-part, row-part}
-use Rattle.overlap_checker.specs.Ascending.{lt-or-le}
-use Rattle.visits.specs.Visits.{visits}
-use Rattle.visits.specs.VisitLaws.{each-from, member-visit}
-use Rattle.visits.specs.Items.{isWritten, standing, itemOf, itemsOf}
-use Rattle.placing.specs.Placing.{Placed, holds, stops, placedAll}
-use Rattle.placing.specs.PlacingLaws.{picked-some}
+use Rattle.resolver.specs.Switches.{Switches}
+use Rattle.resolver.specs.Theorems.Switches.{accepted-switches}
+use Rattle.lists.specs.Laws.Counts.{too-many-nodes}
+use Rattle.lists.specs.Laws.RowParts.{first-part, row-part}
+use Rattle.overlap_checker.specs.Laws.Ascending.{lt-or-le}
+use Rattle.build_sights.specs.Visits.{visits}
+use Rattle.build_sights.specs.Laws.VisitLaws.{each-from, member-visit}
+use Rattle.build_sights.specs.Items.{isWritten, standing, itemOf, itemsOf}
+use Rattle.build_plan.specs.Placing.{Placed, holds, stops, placedAll}
+use Rattle.build_plan.specs.Laws.PlacingLaws.{picked-some}
 use Rattle.output.specs.Output.{Input, input, closedOf, Lent, Room, roomOf, roomFor, outputOf, refusedAfter, placedBuild, settledBuild}
 use Rattle.output.specs.Output.{buildOf, visitsOf, passesOf, settledOf}
 use Rattle.output.specs.Output.{toldBuild, roomTold, placedTold, settledTold, leftBy, Builds}
-use Rattle.visits.specs.Visits.{programOf, rowOf}
+use Rattle.build_sights.specs.Visits.{programOf, rowOf}
 use Rattle.output.specs.Steps.{InValues, RowBuilt}
-use Rattle.visits.specs.declared.Visit.{Visit}
+use Rattle.build_sights.specs.declared.Visit.{Visit}
 use Rattle.output.specs.declared.Build.{Build}
 use Rattle.output.specs.declared.Build.the-variants.{Done, Refused}
 use Rattle.output.specs.declared.Output.{Output}

@@ -3,10 +3,10 @@ use mathlib.Core.Path.{_≡_}
 use borrow.Fn.Kinds.{endedOf}
 use contract.Lifetimes.{Lfts}
 use denote.Triple.Clauses.{AtExit}
-use Rattle.refusal.specs.Outcome.{OneView}
-use Rattle.refusal.specs.Pick.{paired}
+use Rattle.refusal.specs.Laws.Outcome.{OneView}
+use Rattle.refusal.specs.Laws.Pick.{paired}
 use Rattle.output.specs.Output.{Lent, lent}
-use Rattle.output.specs.Unique.{build-unique}
+use Rattle.output.specs.Theorems.Unique.{build-unique}
 use Rattle.output.specs.declared.Output.{Output}
 use Rattle.output.proofs.builds.build_output.Kinds as build-output-kinds
 use Rattle.output.proofs.builds.build_output.Reads as build-output-reads

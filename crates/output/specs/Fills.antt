@@ -1,51 +1,17 @@
 -- Ticket 8, "Fill must reach the end": what the choice of the fill gives a build. The image's bits are told once, over its length, for both
 -- choices (ItemBits, Gaps); here is which length each choice fills to, the one-bit lock bank that the inherited fill leaves out, and that the
 -- choice changes the length alone.
-use mathlib.Core.Path.{_≡_, refl, sym, ap, _∙_}
-use mathlib.Core.Bool.{Bool, true, false}
-use mathlib.Core.List.{List, [], _∷_}
-use Prim.Native.Nat.{ℕ, _*_, _≤_, _<_}
-use native.Mathlib.Omega.{arith}
-use borrow.Author.Tests.{lt-ltb, le-ltb}
+use mathlib.Core.Bool.{true, false}
+use mathlib.Core.List.{[], _∷_}
+use Prim.Native.Nat.{ℕ}
 use lib.IntN.{pos}
-use lib.ListN.{length, replicate}
-use Rattle.refusal.specs.Pick.{pick-true, pick-false}
+use lib.ListN.{replicate}
 use Rattle.refusal.specs.declared.Opt.the-variants.{None, Some}
-use Rattle.bankdef.specs.Check.{noBank, banksOf, firstPair}
-use Rattle.bankdef.specs.Fill.{fillFrom, fillLength, fullLength, fillBy}
-use Rattle.bankdef.specs.FillBits.{onesIn, fillBitAt}
-use Rattle.bankdef.specs.FullFill.{inherited-within-full}
-use Rattle.bankdef.specs.Search.{firstWhere}
+use Rattle.bankdef.specs.Check.{noBank}
 use Rattle.bankdef.specs.declared.Bankdef.{Bankdef}
 use Rattle.bankdef.specs.declared.Bankdefs.{Bankdefs}
-use Rattle.bitvec.specs.Bits.{bitAt, ofBits}
-use Rattle.bitvec.specs.Lists.{listOf}
-use Rattle.bitvec.specs.Numeral.{numeral}
-use Rattle.resolver.specs.Chosen.{same-for-fills}
-use Rattle.resolver.specs.Layout.{layoutOf}
-use Rattle.lists.specs.Lists.{Lists, lists, nodesTo, listsOf}
-use Rattle.resolver.specs.Once.{passTo}
-use Rattle.resolver.specs.Passes.{program, rowOfPass, first, settledBy}
-use Rattle.resolver.specs.declared.Resolution.{Resolution}
-use Rattle.visits.specs.Visits.{visitsTo, visits, each}
-use Rattle.visits.specs.Items.{Item, itemsOf, lengthOf, imageOf}
-use Rattle.visits.specs.ItemLaws.{length-grows, image-agrees}
-use Rattle.writing.specs.Blank.{blankOf, blank-length, blank-bit}
-use Rattle.output.specs.ItemBits.{fillIn, length-fits, image-is}
-use Rattle.placing.specs.Placing.{placedFrom}
-use Rattle.output.specs.Output.{Input, input, fillOf, Lent, Room, roomOf, roomFor, visitsOf, buildOf, leftBy, Builds}
-use Rattle.output.specs.Calls.{Accepted, programIn, rowIn, itemsIn, valuesIn, passes-are, fine, blankIn}
-use Rattle.output.specs.declared.Build.{Build}
-use Rattle.output.specs.declared.Build.the-variants.{Done, Refused}
-use Rattle.output.specs.declared.Output.{Output}
-
--- "inherited fill, the default and the one that demand 2 compares": as document 01 has it
-pub inherited-fills-as-before : (b : Input) → b .choices .fill ≡ 0 → fillOf b ≡ fillLength (banksOf (b .banks))
-inherited-fills-as-before b e = ap (λ (choice : ℕ). fillBy choice (banksOf (b .banks))) e
-
--- "or full fill, where the fill's length is the largest offset + size among banks with fill, size and offset, or 0"
-pub full-fills-all : (b : Input) → b .choices .fill ≡ 1 → fillOf b ≡ fullLength (banksOf (b .banks))
-full-fills-all b e = ap (λ (choice : ℕ). fillBy choice (banksOf (b .banks))) e
+use Rattle.lists.specs.Lists.{lists}
+use Rattle.output.specs.Output.{Input, input}
 
 -- ---- "A one-bit lock bank at offset 8 after a filled byte"
 
@@ -64,103 +30,3 @@ lockBanks bit =
 -- the build of these banks, with no nodes, by their fill bit and by the choice of the fill
 abbrev pub lockBuild : ℕ → ℕ → Input
 lockBuild bit choice = input (lockBanks bit) (lists [] [] [] [] 1 []) (record { limit = 1; fill = choice; «default_bank» = true })
-
-module _ (room : Room) (wide : 2 ≤ room .image) where
-  enough : (bits : ℕ) → bits ≤ 9 → roomFor room 1 bits 0 ≡ Done 1 bits 0
-  enough bits low =
-      pick-false _ _ (le-ltb (8 * room .image) bits (omega arith)) ∙ pick-false _ _ (le-ltb (room .spans) 0 (omega arith))
-
-  inherited-lock : (buildOf (lockBuild 0 0) room .build ≡ Done 1 8 0) × (buildOf (lockBuild 1 0) room .build ≡ Done 1 8 0)
-  unfolding buildOf layoutOf listsOf nodesTo settledBy first passTo firstWhere firstPair fillFrom lengthOf placedFrom visitsTo each
-  inherited-lock = (enough 8 (omega arith), enough 8 (omega arith))
-
-  full-lock : (buildOf (lockBuild 0 1) room .build ≡ Done 1 9 0) × (buildOf (lockBuild 1 1) room .build ≡ Done 1 9 0)
-  unfolding buildOf layoutOf listsOf nodesTo settledBy first passTo firstWhere firstPair fullLength lengthOf placedFrom visitsTo each
-  full-lock = (enough 9 (omega arith), enough 9 (omega arith))
-
-built : {b : Input} {old : Lent} {r : Output} {new : Lent} {x : Build} → Builds b old r new → buildOf b (roomOf old) .build ≡ x → r .build ≡ x
-built p e = ap (λ (o : Output). o .build) (p .answer) ∙ e
-
-module _ (old : Lent) (wide : 2 ≤ length (old .image)) {r : Output} {new : Lent} where
-  -- "is missing from the image, because the inherited rule does nothing when the length equals the bank's last bit"
-  pub lock-bank-missing : Builds (lockBuild 0 0) old r new → r .build ≡ Done 1 8 0
-  lock-bank-missing p = built p (inherited-lock (roomOf old) wide .0)
-
-  -- with full fill it is there
-  pub lock-bank-there : Builds (lockBuild 0 1) old r new → r .build ≡ Done 1 9 0
-  lock-bank-there p = built p (full-lock (roomOf old) wide .0)
-
--- With fill bits of one (Ticket 6) the lock bit reads as erased flash does, where it is in the image: two bytes are lent.
-module _ (old : Lent) (two : length (old .image) ≡ 2) {r : Output} {new : Lent} where
-  lock-image : (choice bits : ℕ) → Builds (lockBuild 1 choice) old r new → r .build ≡ Done 1 bits 0 → new .image ≡ blankOf (banksOf (lockBanks 1)) bits 2
-  unfolding visitsTo each imageOf
-  lock-image choice bits p e =
-      ap (λ (l : Lent). l .image) (p .left ∙ ap (leftBy (lockBanks 1) (visitsOf (lockBuild 1 choice) (r .passes)) [] old) e)
-      ∙ ap (λ (n : ℕ). blankOf (banksOf (lockBanks 1)) bits n) two
-
-  pub lock-bit-erased : Builds (lockBuild 1 1) old r new → new .image ≡ 255 ∷ 128 ∷ []
-  unfolding blankOf ofBits listOf numeral onesIn
-  lock-bit-erased p = lock-image 1 9 p (built p (full-lock (roomOf old) (omega arith) .1))
-
-  pub lock-bit-left-out : Builds (lockBuild 1 0) old r new → new .image ≡ 255 ∷ 0 ∷ []
-  unfolding blankOf ofBits listOf numeral onesIn
-  lock-bit-left-out p = lock-image 0 8 p (built p (inherited-lock (roomOf old) (omega arith) .1))
-
--- ---- both choices
-
--- A build with inherited fill and one with full fill, over the same banks and lists and with one limit, both accepted.
-module _ (a b : Accepted) (banks : a .call .given .banks ≡ b .call .given .banks) (given : a .call .given .lists ≡ b .call .given .lists)
-    (limit : a .call .given .choices .limit ≡ b .call .given .choices .limit)
-    (inherited : a .call .given .choices .fill ≡ 0) (full : b .call .given .choices .fill ≡ 1) where
-  same-layout : layoutOf (a .call .given .banks) (a .call .given .lists) (a .call .given .choices)
-      ≡ layoutOf (b .call .given .banks) (b .call .given .lists) (b .call .given .choices)
-  same-layout =
-      ap (λ (d : Bankdefs). layoutOf d (a .call .given .lists) (a .call .given .choices)) banks
-      ∙ ap (λ (l : Lists). layoutOf (b .call .given .banks) l (a .call .given .choices)) given
-      ∙ same-for-fills (b .call .given .banks) (b .call .given .lists) (a .call .given .choices) (b .call .given .choices) limit
-      (omega (arith, inherited)) (omega (arith, full))
-
-  -- They run the same passes, and write the same items.
-  pub fills-same-passes : a .call .answer .passes ≡ b .call .answer .passes
-  fills-same-passes = passes-are (a .call) ∙ ap (λ (r : Resolution). r .passes) same-layout ∙ sym (passes-are (b .call))
-
-  pub fills-same-items : itemsIn (a .call) ≡ itemsIn (b .call)
-  fills-same-items =
-      ap (λ (d : Bankdefs). itemsOf (visits (program d (a .call .given .lists)) (rowIn (a .call)))) banks
-      ∙ ap (λ (l : Lists). itemsOf (visits (program (b .call .given .banks) l) (rowOfPass l (a .call .answer .passes)))) given
-      ∙ ap (λ (n : ℕ). itemsOf (visits (programIn (b .call)) (rowOfPass (b .call .given .lists) n))) fills-same-passes
-
-  fill-a : fillIn (a .call) ≡ fillLength (banksOf (b .call .given .banks))
-  fill-a = inherited-fills-as-before (a .call .given) inherited ∙ ap (λ (d : Bankdefs). fillLength (banksOf d)) banks
-
-  length-a : a .bits ≡ lengthOf (fillLength (banksOf (b .call .given .banks))) (itemsIn (b .call))
-  length-a =
-      fine a .reach ∙ ap (λ (n : ℕ). lengthOf n (itemsIn (a .call))) fill-a
-      ∙ ap (lengthOf (fillLength (banksOf (b .call .given .banks)))) fills-same-items
-
-  length-b : b .bits ≡ lengthOf (fullLength (banksOf (b .call .given .banks))) (itemsIn (b .call))
-  length-b = fine b .reach ∙ ap (λ (n : ℕ). lengthOf n (itemsIn (b .call))) (full-fills-all (b .call .given) full)
-
-  -- The full image is never the shorter one,
-  pub full-not-shorter : a .bits ≤ b .bits
-  full-not-shorter =
-      rw (length-a, length-b) (length-grows (itemsIn (b .call)) (inherited-within-full (banksOf (b .call .given .banks))))
-
-  -- and every bit of the inherited image is the same in it.
-  pub fills-same-bits : (bit : ℕ) → bit < a .bits → bitAt (a .call .new .image) bit ≡ bitAt (b .call .new .image) bit
-  fills-same-bits bit h =
-      let more = full-not-shorter in
-      let fits-a = length-fits a in
-      let fits-b = length-fits b in
-      ap (λ (l : List ℕ). bitAt l bit) (image-is a)
-      ∙ ap (λ (l : List Item). bitAt (imageOf (valuesIn (a .call)) (blankIn a) l) bit) fills-same-items
-      ∙ ap (λ (l : Lists). bitAt (imageOf (l .values) (blankIn a) (itemsIn (b .call))) bit) given
-      ∙ image-agrees (valuesIn (b .call)) (blankIn a) (blankIn b) (itemsIn (b .call)) bit
-      (rw (blank-length (banksOf (a .call .given .banks)) (a .bits) (length (a .call .old .image))) (omega arith))
-      (rw (blank-length (banksOf (b .call .given .banks)) (b .bits) (length (b .call .old .image))) (omega arith))
-      (blank-bit (banksOf (a .call .given .banks)) (a .bits) (length (a .call .old .image)) fits-a bit
-      ∙ pick-true _ _ (lt-ltb bit (a .bits) h)
-      ∙ ap (λ (d : Bankdefs). fillBitAt (banksOf d) bit) banks
-      ∙ sym (blank-bit (banksOf (b .call .given .banks)) (b .bits) (length (b .call .old .image)) fits-b bit
-      ∙ pick-true _ _ (lt-ltb bit (b .bits) (omega arith))))
-      ∙ sym (ap (λ (l : List ℕ). bitAt l bit) (image-is b))

@@ -8,11 +8,10 @@ pub mod OffersWithin
 pub mod Output
 pub mod Padding
 pub mod RaisedLimit
-pub mod Reached
 pub mod RefusedAtNode
-pub mod ReorderLaws
 pub mod Reordered
 pub mod Rooms
 pub mod SpanFacts
 pub mod Steps
-pub mod Unique
+pub mod Theorems
+pub mod Laws

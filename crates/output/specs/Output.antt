@@ -22,13 +22,13 @@ use Rattle.resolver.specs.Layout.{layoutOf}
 use Rattle.resolver.specs.declared.Choices.{Choices}
 use Rattle.resolver.specs.declared.Settled.{Settled}
 use Rattle.resolver.specs.declared.Settled.the-variants.{At, Refused as Unsettled}
-use Rattle.visits.specs.Visits.{visits}
-use Rattle.visits.specs.Items.{Item, itemsOf, lengthOf, imageOf}
-use Rattle.writing.specs.Blank.{blankOf}
-use Rattle.placing.specs.Placing.{closesDefault, Placed, holds, stops, placedAll}
-use Rattle.placing.specs.Plan.{paddingsOf}
-use Rattle.visits.specs.Spans.{spansOf, over, addresses, words, sizes}
-use Rattle.visits.specs.declared.Visit.{Visit}
+use Rattle.build_sights.specs.Visits.{visits}
+use Rattle.build_sights.specs.Items.{itemsOf, lengthOf, imageOf}
+use Rattle.build_write.specs.Blank.{blankOf}
+use Rattle.build_plan.specs.Placing.{closesDefault, Placed, holds, stops, placedAll}
+use Rattle.build_plan.specs.Plan.{paddingsOf}
+use Rattle.build_sights.specs.Spans.{spansOf, over, addresses, words, sizes}
+use Rattle.build_sights.specs.declared.Visit.{Visit}
 use Rattle.output.specs.declared.Build.{Build}
 use Rattle.output.specs.declared.Build.the-variants.{Done, Refused}
 use Rattle.output.specs.declared.Output.{Output}

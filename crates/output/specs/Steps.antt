@@ -10,8 +10,8 @@ use Rattle.refusal.specs.declared.Verdict.{Verdict}
 use Rattle.refusal.specs.declared.Verdict.the-variants.{Accepted, Refused}
 use Rattle.lists.specs.Lists.{Row}
 use Rattle.resolver.specs.Once.{Program}
-use Rattle.visits.specs.Visits.{visits}
-use Rattle.visits.specs.Items.{Item}
+use Rattle.build_sights.specs.Visits.{visits}
+use Rattle.build_sights.specs.Items.{Item}
 use Rattle.output.specs.Output.{Lent, roomOf, outputOf, buildRow, leftBy}
 use Rattle.output.specs.declared.Output.{Output}
 

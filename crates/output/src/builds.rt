@@ -2,13 +2,13 @@
 use crate::Build;
 use crate::Output;
 use bankdef::Bankdefs;
-use placing::closes_default;
-use placing::plan_row;
+use build_plan::closes_default;
+use build_plan::plan_row;
+use build_write::write_row;
 use refusal::Refusal;
 use refusal::Verdict;
 use resolver::Choices;
 use resolver::Settled;
-use writing::write_row;
 ghost use mathlib.Core.Path.{_≡_};
 ghost use mathlib.Core.Bool.{true};
 ghost use Prim.Native.Nat.{ℕ, _+_, _*_, _-_, _≤_, _<_, min};
@@ -19,12 +19,12 @@ ghost use Rattle.bankdef.specs.Check.{banksOf};
 ghost use Rattle.bankdef.specs.Fill.{fillBy};
 ghost use Rattle.lists.specs.Lists.{lists};
 ghost use Rattle.resolver.specs.Switches.{Switches};
-ghost use Rattle.visits.specs.Visits.{visits};
-ghost use Rattle.visits.specs.Items.{itemsOf};
-ghost use Rattle.placing.specs.Placing.{closesDefault};
+ghost use Rattle.build_sights.specs.Visits.{visits};
+ghost use Rattle.build_sights.specs.Items.{itemsOf};
+ghost use Rattle.build_plan.specs.Placing.{closesDefault};
 ghost use Rattle.output.specs.Output.{input, lent, refusedAfter, Builds};
-ghost use Rattle.visits.specs.Visits.{programOf, rowOf};
-ghost use Rattle.placing.specs.Plan.{maxEnd};
+ghost use Rattle.build_sights.specs.Visits.{programOf, rowOf};
+ghost use Rattle.build_plan.specs.Plan.{maxEnd};
 ghost use Rattle.output.specs.Steps.{InValues, roomVerdict, RowBuilt};
 
 // Whether an image of so many bytes has fewer bits. Whole bytes are compared, so that no product can wrap.

@@ -9,7 +9,7 @@ use denote.Triple.Clauses.{AtExit}
 use Rattle.refusal.specs.declared.Verdict.{Verdict}
 use Rattle.overlap_checker.specs.declared.Offered.{Offered}
 use Rattle.overlap_checker.specs.Lent.{Lent, lent}
-use Rattle.overlap_checker.specs.Unique.{offers-unique, calls-unique}
+use Rattle.overlap_checker.specs.Laws.Unique.{offers-unique, calls-unique}
 use Rattle.overlap_checker.proofs.offer.Kinds as offer-kinds
 use Rattle.overlap_checker.proofs.offer.Reads as offer-reads
 use Rattle.overlap_checker.proofs.check_and_insert.Kinds as call-kinds

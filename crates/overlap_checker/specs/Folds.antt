@@ -53,10 +53,6 @@ SharesBitWith e fs = (f : Entry) × (bit : ℕ) × List·Memᴰ f fs × Covers e
 abbrev pub CoversMark : Entry → List Entry → Type 0
 CoversMark e fs = (f : Entry) × List·Memᴰ f fs × (f .size ≡ 0) × StrictlyInside (f .position) e
 
--- one of some positions is strictly inside an interval
-abbrev pub HasInside : Entry → List ℕ → Type 0
-HasInside e ms = (m : ℕ) × List·Memᴰ m ms × StrictlyInside m e
-
 -- a position is strictly inside an interval of the list
 abbrev pub InsideOf : ℕ → List Entry → Type 0
 InsideOf m l = (f : Entry) × List·Memᴰ f l × StrictlyInside m f

@@ -95,10 +95,6 @@ starts l = map (λ (e : Entry). e .position) l
 abbrev pub lengths : List Entry → List ℕ
 lengths l = map (λ (e : Entry). e .size) l
 
--- the two arrays with intervals laid into them
-abbrev pub laidSpans : Spans → List Entry → Spans
-laidSpans a l = spans (laid (starts l) (a .positions)) (laid (lengths l) (a .sizes)) (length l)
-
 -- the three arrays with a state laid into them: "Marks past their count stay."
 abbrev pub laidInto : Lent → State → Lent
 laidInto a s =

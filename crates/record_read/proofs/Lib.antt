@@ -1,3 +1,7 @@
-pub mod Laws
+pub mod Fills
+pub mod LineLaws
 pub mod Loops
+pub mod Lower
+pub mod Room
+pub mod Walks
 pub mod Unique

@@ -1,57 +1,11 @@
--- Uniqueness over each public function's own contract: two answers that meet it for the same file are equal.
-use mathlib.Core.Path.{_≡_, refl, sym, ap, ap₂, subst, _∙_}
-use mathlib.Core.Bool.{Bool}
-use mathlib.Core.List.{List}
-use Prim.Native.Nat.{ℕ, suc}
-use native.Mathlib.Omega.{arith}
-use Rattle.refusal.specs.Pick.{determined}
-use Rattle.refusal.specs.Outcome.{OneOutcome}
-use Rattle.records.specs.declared.Line.{Line}
-use Rattle.records.specs.Items.{one-line}
-use Rattle.records.specs.Pieces.{Piece}
-use Rattle.record_read.specs.Reading.{Read, sound, faulty, readText}
-use Rattle.record_read.specs.Steps.{highest, rises, Stepped, ScanIs, Scanned}
-use Rattle.record_read.specs.Trail.{trail}
-use Rattle.record_read.specs.declared.Step.{Step}
-use Rattle.record_read.specs.declared.Scan.{Scan}
-use Rattle.record_read.specs.declared.Scan.the-variants.{Whole, Broken}
-use Rattle.record_read.proofs.line_at_fault.Kinds as line-at-fault-kinds
-use Rattle.record_read.proofs.line_at_fault.Reads as line-at-fault-reads
-use Rattle.record_read.proofs.scan_lines.Kinds as scan-lines-kinds
-use Rattle.record_read.proofs.scan_lines.Reads as scan-lines-reads
-use Rattle.record_read.proofs.take_line.Kinds as take-line-kinds
-use Rattle.record_read.proofs.take_line.Reads as take-line-reads
+-- Uniqueness over the public function's own contract: the answer, and all that is lent afterwards.
+use Rattle.refusal.specs.Laws.Outcome.{OneView}
+use Rattle.refusal.specs.Laws.Pick.{determined, paired}
+use Rattle.blocks.specs.declared.Blocks.{Blocks}
+use Rattle.record_fault.specs.Outcome.{Lent, lent}
+use Rattle.record_fault.proofs.read.Kinds as read-kinds
+use Rattle.record_fault.proofs.read.Reads as read-reads
 
-pub line-at-fault-unique : OneOutcome 1 line-at-fault-kinds.ps line-at-fault-kinds.r line-at-fault-reads.Learnt
-line-at-fault-unique κs a x y e f p q = determined p q
-
-one-step : {format : ℕ} {text : List ℕ} {at state : ℕ} (r s : Step) → Stepped format text at state r → Stepped format text at state s → r ≡ s
-one-step r s p q =
-    let lines = one-line (p .says) (q .says) in
-    let stops = determined (p .stop) (q .stop) in
-    let nexts = determined (p .next) (q .next) in
-    ap₂ (λ (l : Line) (n : ℕ). record { line = l; stop = r .stop; next = n }) lines nexts
-    ∙ ap (λ (m : ℕ). record { line = s .line; stop = m; next = s .next }) stops
-
-pub take-line-unique : OneOutcome 1 take-line-kinds.ps take-line-kinds.r take-line-reads.Learnt
-take-line-unique κs a x y e f p q = one-step x y p q
-
-module _ (format load : ℕ) (text : List ℕ) where
-  sound-or-faulty : {l : List Piece} {n : ℕ} → readText format load text ≡ sound l → readText format load text ≡ faulty n → ⊥
-  sound-or-faulty p q = let e = sym p ∙ q in let z : _≡_ {A = ℕ} 0 1 = cc in omega arith
-
-  one-whole : (n m h k : ℕ) (a b : Bool) → Scanned format load text n h a → Scanned format load text m k b → Whole n h a ≡ Whole m k b
-  one-whole n m h k a b p q =
-      let lines : n ≡ m = omega (arith, p .all, q .all) in
-      let tops : h ≡ k = p .top ∙ ap (λ (j : ℕ). highest (trail format text j .given)) lines ∙ sym (q .top) in
-      let orders : a ≡ b = p .order ∙ ap (rises format text) lines ∙ sym (q .order) in
-      ap₂ (λ (j : ℕ) (i : ℕ). Whole j i a) lines tops ∙ ap (Whole m k) orders
-
-  one-scan : (r s : Scan) → ScanIs format load text r → ScanIs format load text s → r ≡ s
-  one-scan (Whole n h a) (Whole m k b) p q = one-whole n m h k a b p q
-  one-scan (Whole n h a) (Broken m) p q = absurd (sound-or-faulty (p .reads) q)
-  one-scan (Broken n) (Whole m k b) p q = absurd (sound-or-faulty (q .reads) p)
-  one-scan (Broken n) (Broken m) p q = let e = sym p ∙ q in let same : n ≡ m = cc in ap Broken same
-
-pub scan-lines-unique : OneOutcome 1 scan-lines-kinds.ps scan-lines-kinds.r scan-lines-reads.Learnt
-scan-lines-unique κs a x y e f p q = one-scan (a .0) (a .1 .1 .0) (a .1 .0 .now) x y p q
+pub read-unique : OneView 4 read-kinds.ps read-kinds.r read-reads.Learnt (Blocks × Lent)
+    (λ κs x e. (x, lent (e .1 .1 .1 .0 .now) (e .1 .1 .1 .1 .0 .now) (e .1 .1 .1 .1 .1 .0 .now)))
+read-unique κs a x y e f p q = paired (determined (p .answer) (q .answer)) (determined (p .after) (q .after))

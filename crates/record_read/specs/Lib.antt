@@ -1,6 +1,8 @@
+pub mod Facts
+pub mod Given
 pub mod Outcome
-pub mod Reading
-pub mod Sound
+pub mod RunLaws
+pub mod Runs
 pub mod Steps
-pub mod Trail
-pub mod TrailLaws
+pub mod Theorems
+pub mod Laws

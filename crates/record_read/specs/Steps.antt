@@ -1,92 +1,46 @@
--- What the steps of reading owe each other.
+-- What the private steps of reading owe each other.
 use mathlib.Core.Path.{_≡_}
 use mathlib.Core.Bool.{Bool, true, false, _&&_, _||_}
 use mathlib.Core.List.{List, [], _∷_}
-use Prim.Native.Nat.{ℕ, zero, suc, _+_, _-_, _<_, _≤_, max}
-use lib.Dec.{ltb, leb, eqb}
-use lib.ListN.{length, take, drop}
+use Prim.Native.Nat.{ℕ, _+_, _-_, _≤_, _<_}
+use lib.Dec.{leb, ltb, eqb}
 use Rattle.refusal.specs.Pick.{pick}
-use Rattle.records.specs.Items.{Says}
-use Rattle.records.specs.Lines.{linesOf}
-use Rattle.records.specs.Pieces.{Piece, endOf}
-use Rattle.records.specs.declared.Line.{Line}
-use Rattle.srec_line.specs.Srec.{firstOf}
-use Rattle.record_read.specs.Reading.{Read, sound, faulty, newPieces, isNew, readText}
-use Rattle.record_read.specs.Trail.{Trail, trail, lineAt, itemAt, nextOf}
-use Rattle.record_read.specs.declared.Step.{Step}
-use Rattle.record_read.specs.declared.Admit.{Admit}
-use Rattle.record_read.specs.declared.Admit.the-variants.{No, High}
-use Rattle.record_read.specs.declared.Scan.{Scan}
-use Rattle.record_read.specs.declared.Scan.the-variants.{Whole, Broken}
+use Rattle.blocks.specs.declared.Block.{Block}
+use Rattle.blocks.specs.Walk.{block}
+use Rattle.record_read.specs.declared.Run.{Run}
 
--- Where in a line its data's first digit stands.
-abbrev pub firstBy : ℕ → List ℕ → ℕ
-firstBy format line = pick (eqb format 0) 9 (firstOf line)
+abbrev pub run : ℕ → ℕ → Run
+run first end = record { first = first; end = end }
 
--- One line.
-pub record Stepped (format : ℕ) (text : List ℕ) (at state : ℕ) (r : Step) : Type 0 where
-  pub says : Says (lineAt text at) state (firstBy format (lineAt text at)) (r .line) (itemAt format text at state)
-  pub stop : r .stop ≡ at + length (lineAt text at)
-  pub start : at ≤ r .stop
-  pub within : at ≤ length text → r .stop ≤ length text
-  pub part : take (r .stop - at) (drop at text) ≡ lineAt text at
-  pub next : r .next ≡ nextOf text at
-  pub inside : at ≤ length text → r .next ≤ length text
-  pub onward : at < length text → at < r .next
+abbrev pub inRun : Run → ℕ → Bool
+inRun r x = leb (r .first) x && ltb x (r .end)
 
--- A line that was read, by its kind, address and count, gives no byte from `first` on and below `end`.
-abbrev pub leavesBy : ℕ → ℕ → ℕ → ℕ → ℕ → Bool
-leavesBy kind address count first end = pick (eqb kind 1) (pick (eqb count 0) true (leb (address + count) first || leb end address)) true
+-- The bytes of a line, counted from the load address.
+abbrev pub extentOf : ℕ → ℕ → ℕ → Run
+extentOf address count load = run (address - load) (address + count - load)
 
-abbrev pub leavesOf : Line → ℕ → ℕ → Bool
-leavesOf r first end = leavesBy (r .kind) (r .address) (r .count) first end
+-- A run is kept unless it is empty.
+abbrev pub keptRun : Run → List Block
+keptRun r = pick (ltb (r .first) (r .end)) (block (r .first) (r .end - r .first) ∷ []) []
 
--- It may stand behind the pieces given.
-abbrev pub admitsBy : ℕ → List Piece → ℕ → ℕ → ℕ → Bool
-admitsBy load given kind address count =
-    pick (eqb kind 2) true
-    (pick (eqb kind 1)
-    (pick (eqb count 0) true (leb load address && leb (address + count) 4294967296 && isNew given address (address + count)))
-    false)
+-- A run that comes next closes the one before it unless it touches that; and the run that goes on behind it.
+abbrev pub closedBy : Run → Run → List Block
+closedBy r next = pick (ltb (next .first) (next .end)) (pick (eqb (next .first) (r .end)) [] (keptRun r)) []
 
-abbrev pub admits : ℕ → List Piece → Line → Bool
-admits load given r = admitsBy load given (r .kind) (r .address) (r .count)
+abbrev pub joinedBy : Run → Run → Run
+joinedBy r next = pick (ltb (next .first) (next .end)) (pick (eqb (next .first) (r .end)) (run (r .first) (next .end)) next) r
 
--- The highest end of the pieces given, and with a line's.
-unfoldable pub highest : List Piece → ℕ
-highest [] = 0
-highest (p ∷ l) = max (endOf p) (highest l)
+-- Every end, counted in bytes, is far below what a number holds.
+abbrev pub Small : Run → Type 0
+Small r = r .end ≤ 8589934592
 
-abbrev pub highBy : ℕ → ℕ → ℕ → ℕ → ℕ
-highBy kind address count high = pick (eqb kind 1) (pick (eqb count 0) high (max high (address + count))) high
+-- The lowest stretch from a byte on: what a test holds for, with nothing before it.
+pub record Lowest (test : ℕ → Bool) (from : ℕ) (r : Run) : Type 0 where
+  pub behind : r .first < r .end → from ≤ r .first
+  pub inside : (x : ℕ) → r .first ≤ x → x < r .end → test x ≡ true
+  pub clear : (x : ℕ) → from ≤ x → (r .first < r .end → x < r .first) → test x ≡ false
 
-abbrev pub highAfter : Line → ℕ → ℕ
-highAfter r high = highBy (r .kind) (r .address) (r .count) high
-
-abbrev pub admitBy : ℕ → List Piece → ℕ → ℕ → ℕ → ℕ → Admit
-admitBy load given kind address count high = pick (admitsBy load given kind address count) (High (highBy kind address count high)) No
-
-abbrev pub admitOf : ℕ → List Piece → Line → ℕ → Admit
-admitOf load given r high = admitBy load given (r .kind) (r .address) (r .count) high
-
--- Records ascend: every byte of a line lies at or above the highest end of those given before it.
-unfoldable pub rises : ℕ → List ℕ → ℕ → Bool
-rises format text zero = true
-rises format text (suc n) =
-    let t = trail format text n in
-    rises format text n && isNew (newPieces (itemAt format text (t .at) (t .state))) 0 (highest (t .given))
-
--- The end record, with `next` the place behind it.
-abbrev pub closingOf : ℕ → ℕ → Bool → ℕ → ℕ → Scan
-closingOf n high ascend next len = pick (ltb next len) (Broken (n + 1)) (Whole n high ascend)
-
--- All lines up to the end record.
-pub record Scanned (format load : ℕ) (text : List ℕ) (lines high : ℕ) (ascend : Bool) : Type 0 where
-  pub reads : readText format load text ≡ sound (trail format text lines .given)
-  pub top : high ≡ highest (trail format text lines .given)
-  pub order : ascend ≡ rises format text lines
-  pub all : suc lines ≡ length (linesOf text)
-
-abbrev pub ScanIs : ℕ → ℕ → List ℕ → Scan → Type 0
-ScanIs format load text (Whole lines high ascend) = Scanned format load text lines high ascend
-ScanIs format load text (Broken line) = readText format load text ≡ faulty line
+-- A step of looking for it: whatever the test was for which it was the lowest, with another run's bytes.
+pub record Betters (from : ℕ) (best next r : Run) : Type 0 where
+  pub goes : (test : ℕ → Bool) → Lowest test from best → Lowest (λ x. test x || inRun next x) from r
+  pub small : Small best → Small next → Small r

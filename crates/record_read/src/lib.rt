@@ -1,126 +1,140 @@
-// A file of records, read: which line is at fault. The loops stand here once for every format.
-use records::Line;
+// A file of records, read into lent bytes and blocks. Document 02, Tickets 1 and 12: "It fills lent bytes and blocks, counted from that address."
+use blocks::Blocks;
+use record_fault::Scan;
+use refusal::Refusal;
 ghost use mathlib.Core.Path.{_≡_};
-ghost use mathlib.Core.Bool.{_&&_};
-ghost use Prim.Native.Nat.{_+_, _*_, _≤_, _<_, max, min};
-ghost use lib.ListN.{length};
-ghost use Rattle.records.specs.Items.{Says};
-ghost use Rattle.record_read.specs.Reading.{formatBy, isNew, readText};
-ghost use Rattle.record_read.specs.Trail.{trail};
-ghost use Rattle.record_read.specs.Steps.{firstBy, Stepped, leavesBy, highest, rises, admitBy, closingOf, ScanIs};
-ghost use Rattle.record_read.specs.Outcome.{faultOf};
+ghost use mathlib.Core.Bool.{true};
+ghost use mathlib.Core.List.{[], _∷_, map};
+ghost use Prim.Native.Nat.{_+_, _-_, _*_, _≤_, _<_, max};
+ghost use lib.Dec.{ltb};
+ghost use lib.ListN.{length, set};
+ghost use Rattle.refusal.specs.Pick.{pick};
+ghost use Rattle.blocks.specs.Put.{Put};
+ghost use Rattle.record_lines.specs.Digits.{bytesAt};
+ghost use Rattle.record_lines.specs.Pieces.{piece};
+ghost use Rattle.record_fault.specs.Reading.{readText, sound};
+ghost use Rattle.record_fault.specs.Trail.{trail};
+ghost use Rattle.record_fault.specs.Steps.{highest, rises};
+ghost use Rattle.record_fault.specs.Given.{filled};
+ghost use Rattle.record_fault.specs.Runs.{isGiven, reach, inBits, runsGiven, blocksGiven};
+ghost use Rattle.record_fault.specs.Outcome.{lent, Reads};
+ghost use Rattle.record_fault.specs.Steps.{extentOf, keptRun, closedBy, joinedBy, Small, Lowest, Betters};
 
-// A line that was read, where its characters end, and where the next one begins.
-pub struct Step {
-    pub line: Line,
-    pub stop: usize,
-    pub next: usize,
+// Bytes from `first` on and before `end`, counted from the load address; none where `end` is not above `first`.
+pub struct Run {
+    pub first: u64,
+    pub end: u64,
 }
 
-// Whether a line may stand where it does: the highest end of the bytes given behind it.
-pub enum Admit {
-    No,
-    High(u64),
-}
+// The bytes' and the blocks' numbers among the lent outputs.
+const BYTES: u64 = 0;
 
-// How many lines stand before the end record of a sound file, the highest end of its bytes, and whether its records ascend; or the line at fault.
-pub enum Scan {
-    Whole(usize, u64, bool),
-    Broken(usize),
-}
+const BLOCKS: u64 = 2;
 
-// Whether a file is good, or its first line at which no good file can go on, from 0.
-pub enum Fault {
-    Good,
-    At(u64),
-}
-
-// What a line says in a format: 0 is Intel HEX, every other number S-records.
-fn line_in(format: u8, line: &[u8], state: u16) -> Line
-    ensures { λ r. ⌜ Says (now (line .entry)) state (firstBy format (now (line .entry))) r (formatBy format state (now (line .entry))) ⌝ }
+// An address, counted from the load address; 0 for one below it.
+fn above(address: u64, load: u32) -> u64
+    ensures { λ r. ⌜ (r ≡ address - load) × (r ≤ address) ⌝ }
 {
-    if format == 0 {
-        return ihex_line::line_of(line, state);
+    let base = load as u64;
+    if address < base {
+        return 0;
     }
-    srec_line::line_of(line, state)
+    address - base
 }
 
-fn least(a: usize, b: usize) -> usize
-    ensures { λ r. ⌜ r ≡ min a b ⌝ }
+// The bytes of a line. (Only lines with bytes have a count.)
+fn extent(address: u32, count: u8, load: u32) -> Run
+    ensures { λ r. ⌜ (r ≡ extentOf address count load) × Small r ⌝ }
 {
-    if a < b { a } else { b }
+    let first = address as u64;
+    let end = first + count as u64;
+    Run {
+        first: above(first, load),
+        end: above(end, load),
+    }
 }
 
-// The line that begins at a place; behind the text it is empty.
-pub fn take_line(format: u8, text: &[u8], at: usize, state: u16) -> Step
-    ensures { λ r. ⌜ Stepped format (now (text .entry)) at state r ⌝ }
+// Stores a number at a place, if there is one.
+fn put(column: &mut [u64], at: u64, value: u64)
+    ensures { λ _. ⌜ now (column .exit) ≡ set (now (column .entry)) at value ⌝ }
 {
-    let cut = records::line_from(text, at);
-    let stop = cut.stop;
-    let end = least(stop, text.len());
-    let start = least(at, end);
-    let line = line_in(format, &text[start..end], state);
-    Step {
-        line,
-        stop,
-        next: cut.next,
+    if at < column.len() as u64 {
+        column[at as usize] = value;
     }
 }
 
-// Whether a line gives no byte from `first` on and below `end`.
-fn leaves(kind: u8, address: u32, count: u8, first: u64, end: u64) -> bool
-    ensures { λ r. ⌜ r ≡ leavesBy kind address count first end ⌝ }
+// Writes a run behind the blocks that are written, unless it is empty, and counts it.
+fn push(run: Run, count: u64, offsets: &mut [u64], sizes: &mut [u64]) -> u64
+    requires { ⌜ (count ≤ run .first) × Small run ⌝ }
+    ensures { λ r. ⌜ Put (map inBits (keptRun run)) count (now (offsets .entry)) (now (sizes .entry)) r (now (offsets .exit)) (now (sizes .exit)) ⌝ }
 {
-    if kind != records::DATA {
-        return true;
+    if run.end <= run.first {
+        return count;
     }
-    if count == 0 {
-        return true;
-    }
-    let start = address as u64;
-    if start + (count as u64) <= first {
-        return true;
-    }
-    end <= start
+    put(offsets, count, 8 * run.first);
+    put(sizes, count, 8 * (run.end - run.first));
+    count + 1
 }
 
-fn both(a: bool, b: bool) -> bool
-    ensures { λ r. ⌜ r ≡ (a && b) ⌝ }
+// Writes a run if the next one does not touch it.
+fn close(run: Run, next: Run, count: u64, offsets: &mut [u64], sizes: &mut [u64]) -> u64
+    requires { ⌜ (count ≤ run .first) × Small run ⌝ }
+    ensures { λ r. ⌜ Put (map inBits (closedBy run next)) count (now (offsets .entry)) (now (sizes .entry)) r (now (offsets .exit)) (now (sizes .exit)) ⌝ }
 {
-    if a {
-        return b;
+    if next.end <= next.first {
+        return count;
     }
-    false
+    if run.end == next.first {
+        return count;
+    }
+    push(run, count, offsets, sizes)
 }
 
-// Whether no byte from `first` on and below `end` is among those that the first n lines give.
-fn is_new(format: u8, text: &[u8], n: usize, first: u64, end: u64) -> bool
-    ensures { λ r. ⌜ r ≡ isNew (trail format (now (text .entry)) n .given) first end ⌝ }
+// The run that goes on behind the next one.
+fn join(run: Run, next: Run) -> Run
+    ensures { λ r. ⌜ r ≡ joinedBy run next ⌝ }
+{
+    if next.end <= next.first {
+        return run;
+    }
+    if next.first == run.end {
+        return Run {
+            first: run.first,
+            end: next.end,
+        };
+    }
+    next
+}
+
+// The blocks of a file whose records ascend, written as far as the lent slices go, in one pass. Counts all of them.
+fn walk_up(
+    format: u8,
+    text: &[u8],
+    n: usize,
+    load: u32,
+    offsets: &mut [u64],
+    sizes: &mut [u64],
+) -> u64
+    requires { ⌜ rises format (now text) n ≡ true ⌝ }
+    ensures { λ r. ⌜ Put (blocksGiven load (trail format (now (text .entry)) n .given)) 0
+        (now (offsets .entry)) (now (sizes .entry)) r (now (offsets .exit)) (now (sizes .exit)) ⌝ }
 {
     let mut at = 0usize;
     let mut state = 0u16;
-    let mut ok = true;
+    let mut run = Run { first: 0, end: 0 };
+    let mut count = 0u64;
     let mut k = 0usize;
     while k < n {
-        let s = take_line(format, text, at, state);
+        let s = record_fault::take_line(format, text, at, state);
         let line = s.line;
-        ok = both(ok, leaves(line.kind, line.address, line.count, first, end));
+        let next = extent(line.address, line.count, load);
+        count = close(run, next, count, offsets, sizes);
+        run = join(run, next);
         at = s.next;
         state = line.state;
         k += 1;
     }
-    ok
-}
-
-// The same, where the highest end of those bytes is known: "while records ascend, nothing need be held against anything".
-fn is_fresh(format: u8, text: &[u8], n: usize, first: u64, end: u64, high: u64) -> bool
-    requires { ⌜ high ≡ highest (trail format (now text) n .given) ⌝ }
-    ensures { λ r. ⌜ r ≡ isNew (trail format (now (text .entry)) n .given) first end ⌝ }
-{
-    if high <= first {
-        return true;
-    }
-    is_new(format, text, n, first, end)
+    push(run, count, offsets, sizes)
 }
 
 fn larger(a: u64, b: u64) -> u64
@@ -129,97 +143,219 @@ fn larger(a: u64, b: u64) -> u64
     if a < b { b } else { a }
 }
 
-// Whether line n may stand where it does.
-fn may_stand(
+// The lower of two stretches from a byte on, or both where the second touches the first's end.
+fn better(best: Run, next: Run, from: u64) -> Run
+    ensures { λ r. ⌜ Betters from best next r ⌝ }
+{
+    let first = larger(next.first, from);
+    let end = next.end;
+    if end <= first {
+        return best;
+    }
+    if best.end <= best.first {
+        return Run { first, end };
+    }
+    if first < best.first {
+        return Run { first, end };
+    }
+    if first == best.end {
+        return Run {
+            first: best.first,
+            end,
+        };
+    }
+    best
+}
+
+// The lowest stretch of bytes from a byte on, whatever the order of the records; none where nothing is given there.
+fn lowest(format: u8, text: &[u8], n: usize, load: u32, from: u64) -> Run
+    ensures { λ r. ⌜ Lowest (isGiven load (trail format (now (text .entry)) n .given)) from r × Small r ⌝ }
+{
+    let mut at = 0usize;
+    let mut state = 0u16;
+    let mut best = Run { first: 0, end: 0 };
+    let mut k = 0usize;
+    while k < n {
+        let s = record_fault::take_line(format, text, at, state);
+        let line = s.line;
+        best = better(best, extent(line.address, line.count, load), from);
+        at = s.next;
+        state = line.state;
+        k += 1;
+    }
+    best
+}
+
+// Where to look on behind a stretch: at its end, or at the end of all where there was none.
+fn behind(next: Run, end: u64) -> u64
+    ensures { λ r. ⌜ r ≡ pick (ltb (next .first) (next .end)) (next .end) end ⌝ }
+{
+    if next.first < next.end {
+        return next.end;
+    }
+    end
+}
+
+// The blocks of a file whose records stand in any order: the lowest stretch is looked for again and again.
+fn walk_any(
     format: u8,
     text: &[u8],
     n: usize,
     load: u32,
-    kind: u8,
-    address: u32,
-    count: u8,
-    high: u64,
-) -> Admit
-    requires { ⌜ high ≡ highest (trail format (now text) n .given) ⌝ }
-    ensures { λ r. ⌜ r ≡ admitBy load (trail format (now (text .entry)) n .given) kind address count high ⌝ }
+    end: u64,
+    offsets: &mut [u64],
+    sizes: &mut [u64],
+) -> u64
+    requires { ⌜ end ≡ reach load (trail format (now text) n .given) ⌝ }
+    ensures { λ r. ⌜ Put (blocksGiven load (trail format (now (text .entry)) n .given)) 0
+        (now (offsets .entry)) (now (sizes .entry)) r (now (offsets .exit)) (now (sizes .exit)) ⌝ }
 {
-    if kind == records::PASS {
-        return Admit::High(high);
+    let mut from = 0u64;
+    let mut run = Run { first: 0, end: 0 };
+    let mut count = 0u64;
+    while from < end {
+        let next = lowest(format, text, n, load, from);
+        count = close(run, next, count, offsets, sizes);
+        run = join(run, next);
+        from = behind(next, end);
     }
-    if kind != records::DATA {
-        return Admit::No;
-    }
-    if count == 0 {
-        return Admit::High(high);
-    }
-    let first = address as u64;
-    let end = first + count as u64;
-    if first < load as u64 {
-        return Admit::No;
-    }
-    if end > 4_294_967_296 {
-        return Admit::No;
-    }
-    if !is_fresh(format, text, n, first, end, high) {
-        return Admit::No;
-    }
-    Admit::High(larger(high, end))
+    push(run, count, offsets, sizes)
 }
 
-// The end record: nothing stands behind it.
-fn closing(n: usize, high: u64, ascend: bool, next: usize, len: usize) -> Scan
-    requires { ⌜ n < len ⌝ }
-    ensures { λ r. ⌜ r ≡ closingOf n high ascend next len ⌝ }
+fn walk(
+    format: u8,
+    text: &[u8],
+    n: usize,
+    load: u32,
+    end: u64,
+    ascend: bool,
+    offsets: &mut [u64],
+    sizes: &mut [u64],
+) -> u64
+    requires { ⌜ (end ≡ reach load (trail format (now text) n .given)) × (ascend ≡ rises format (now text) n) ⌝ }
+    ensures { λ r. ⌜ Put (blocksGiven load (trail format (now (text .entry)) n .given)) 0
+        (now (offsets .entry)) (now (sizes .entry)) r (now (offsets .exit)) (now (sizes .exit)) ⌝ }
 {
-    if next < len {
-        return Scan::Broken(n + 1);
+    if ascend {
+        return walk_up(format, text, n, load, offsets, sizes);
     }
-    Scan::Whole(n, high, ascend)
+    walk_any(format, text, n, load, end, offsets, sizes)
 }
 
-// Reads the lines up to the end record, or to the first at fault.
-pub fn scan_lines(format: u8, text: &[u8], load: u32) -> Scan
-    ensures { λ r. ⌜ ScanIs format load (now (text .entry)) r ⌝ }
+// Stores the byte of an address, if there is room for it.
+fn put_byte(bytes: &mut [u8], address: u64, load: u32, value: u8)
+    ensures { λ _. ⌜ now (bytes .exit) ≡ filled load (piece address (value ∷ []) ∷ []) (now (bytes .entry)) ⌝ }
+{
+    let base = load as u64;
+    if address < base {
+        return;
+    }
+    let at = address - base;
+    if at < bytes.len() as u64 {
+        bytes[at as usize] = value;
+    }
+}
+
+// Stores the bytes of a line.
+fn fill_line(line: &[u8], first: u16, count: u8, address: u32, load: u32, bytes: &mut [u8])
+    ensures { λ _. ⌜ now (bytes .exit) ≡ filled load (piece address (bytesAt (now (line .entry)) first count) ∷ []) (now (bytes .entry)) ⌝ }
+{
+    let start = first as u32;
+    let base = address as u64;
+    let n = count as u32;
+    let mut j = 0u32;
+    while j < n {
+        put_byte(
+            bytes,
+            base + j as u64,
+            load,
+            record_lines::pair(line, start + 2 * j),
+        );
+        j += 1;
+    }
+}
+
+// Stores the bytes of the first n lines.
+fn fill(format: u8, text: &[u8], n: usize, load: u32, bytes: &mut [u8])
+    ensures { λ _. ⌜ now (bytes .exit) ≡ filled load (trail format (now (text .entry)) n .given) (now (bytes .entry)) ⌝ }
 {
     let mut at = 0usize;
     let mut state = 0u16;
-    let mut high = 0u64;
-    let mut ascend = true;
-    let mut n = 0usize;
-    while at < text.len() {
-        let s = take_line(format, text, at, state);
+    let mut k = 0usize;
+    while k < n {
+        let s = record_fault::take_line(format, text, at, state);
         let line = s.line;
-        if line.kind == records::END {
-            return closing(n, high, ascend, s.next, text.len());
-        }
-        let Admit::High(h) = may_stand(
-            format,
-            text,
-            n,
-            load,
-            line.kind,
-            line.address,
+        let stop = s.stop;
+        fill_line(
+            &text[at..stop],
+            line.first,
             line.count,
-            high,
-        ) else {
-            return Scan::Broken(n);
-        };
-        // all of its bytes lie at or above the highest end
-        ascend = both(ascend, leaves(line.kind, line.address, line.count, 0, high));
-        high = h;
+            line.address,
+            load,
+            bytes,
+        );
         at = s.next;
         state = line.state;
-        n += 1;
+        k += 1;
     }
-    Scan::Broken(n)
 }
 
-// The line at fault of a file that is read from a load address on.
-pub fn line_at_fault(format: u8, text: &[u8], load: u32) -> Fault
-    ensures { λ r. ⌜ r ≡ faultOf (readText format load (now (text .entry))) ⌝ }
+// A sound file's bytes and blocks, if there is room for both: a walk that is lent no room counts the blocks first.
+fn take(
+    format: u8,
+    text: &[u8],
+    n: usize,
+    load: u32,
+    end: u64,
+    ascend: bool,
+    bytes: &mut [u8],
+    offsets: &mut [u64],
+    sizes: &mut [u64],
+) -> Blocks
+    requires { ⌜ (end ≡ reach load (trail format (now text) n .given)) × (ascend ≡ rises format (now text) n) ⌝ }
+    ensures { λ r. ⌜ Reads load (sound (trail format (now (text .entry)) n .given)) (lent (now (bytes .entry)) (now (offsets .entry)) (now (sizes .entry))) r
+        (lent (now (bytes .exit)) (now (offsets .exit)) (now (sizes .exit))) ⌝ }
 {
-    match scan_lines(format, text, load) {
-        Scan::Whole(_, _, _) => Fault::Good,
-        Scan::Broken(line) => Fault::At(line as u64),
+    if (bytes.len() as u64) < end {
+        return Blocks::Refused(Refusal::TooShort(BYTES));
     }
+    let count = walk(
+        format,
+        text,
+        n,
+        load,
+        end,
+        ascend,
+        &mut offsets[..0],
+        &mut sizes[..0],
+    );
+    if (offsets.len() as u64) < count {
+        return Blocks::Refused(Refusal::TooShort(BLOCKS));
+    }
+    if (sizes.len() as u64) < count {
+        return Blocks::Refused(Refusal::TooShort(BLOCKS));
+    }
+    walk(format, text, n, load, end, ascend, offsets, sizes);
+    fill(format, text, n, load, bytes);
+    Blocks::Found(count)
+}
+
+// Reads a file of records, format 0 Intel HEX, every other number S-records, from a load address on: its bytes and its blocks, in bits, counted from that
+// address; how many blocks there are, or 4, then 14 with place 0 for the bytes and 2 for the blocks, and everything lent as it was.
+pub fn read(
+    format: u8,
+    text: &[u8],
+    load: u32,
+    bytes: &mut [u8],
+    offsets: &mut [u64],
+    sizes: &mut [u64],
+) -> Blocks
+    ensures { λ r. ⌜ Reads load (readText format load (now (text .entry))) (lent (now (bytes .entry)) (now (offsets .entry)) (now (sizes .entry))) r
+        (lent (now (bytes .exit)) (now (offsets .exit)) (now (sizes .exit))) ⌝ }
+{
+    let Scan::Whole(n, high, ascend) = record_fault::scan_lines(format, text, load) else {
+        return Blocks::Refused(Refusal::Malformed(0));
+    };
+    let end = above(high, load);
+    take(format, text, n, load, end, ascend, bytes, offsets, sizes)
 }

@@ -9,13 +9,15 @@ use lib.Dec.{leb}
 use lib.ListN.{length, take, drop, getD}
 use Rattle.blocks.specs.declared.Block.{Block}
 use Rattle.blocks.specs.Walk.{block, endOf}
-use Rattle.bitvec.specs.Part.{isPart, isPart-true}
-use Rattle.records.specs.Puts.{Puts}
+use Rattle.bitvec.specs.Part.{isPart}
+use Rattle.bitvec.specs.Theorems.Part.{isPart-true}
+use Rattle.record_lines.specs.Puts.{Puts}
 use Rattle.record_write.specs.declared.Place.{Place}
 use Rattle.record_write.specs.Checks.{allParts, startsBehind, placed, allPlaced}
 use Rattle.record_write.specs.Cut.{cut, blocksIn, bytesIn, piecesOf}
 use Rattle.record_write.specs.Going.{Writing, Adds, BlockWritten, Ready}
-use Rattle.record_write.specs.Text.{endBy, linesFrom, stateFrom, textOf, lines-append}
+use Rattle.record_write.specs.Text.{endBy, linesFrom, stateFrom, textOf}
+use Rattle.record_write.specs.Laws.Text.{lines-append}
 use Rattle.record_write.proofs.BlockList.{left, behind, here, blocks-at, blocks-none}
 use Rattle.record_write.proofs.BlockTurns.{writing-on}
 

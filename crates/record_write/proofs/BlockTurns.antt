@@ -7,9 +7,11 @@ use native.Mathlib.Omega.{arith}
 use borrow.Rule.Slice.PartMut.{same-len-mid}
 use lib.ListN.{length, take, drop, length-take, length-drop}
 use lib.Seq.{take-take, take-all, take-nil, drop-drop, drop-nil}
-use Rattle.records.specs.Pieces.{Piece, piece}
-use Rattle.records.specs.Puts.{Puts, puts-rest, puts-long}
-use Rattle.record_write.specs.Cut.{pieceLength, cutIn, cut, cut-first}
+use Rattle.record_lines.specs.Pieces.{Piece, piece}
+use Rattle.record_lines.specs.Puts.{Puts}
+use Rattle.record_lines.specs.Laws.Puts.{puts-rest, puts-long}
+use Rattle.record_write.specs.Cut.{pieceLength, cutIn, cut}
+use Rattle.record_write.specs.Theorems.Cut.{cut-first}
 use Rattle.record_write.specs.Text.{textBy, linesFrom, stateFrom}
 use Rattle.record_write.specs.Going.{Writing, Adds, BlockWritten}
 

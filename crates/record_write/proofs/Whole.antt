@@ -9,7 +9,8 @@ use lib.Dec.{eqb}
 use lib.ListN.{length, take, drop}
 use lib.Seq.{sets, sets-eq}
 use Rattle.refusal.specs.declared.Refusal.the-variants.{Malformed, TooShort, BadPart}
-use Rattle.records.specs.Puts.{Puts, sets-none}
+use Rattle.record_lines.specs.Puts.{Puts}
+use Rattle.record_lines.specs.Laws.Puts.{sets-none}
 use Rattle.record_write.specs.declared.Written.the-variants.{Length, Refused}
 use Rattle.record_write.specs.Checks.{allParts, allPlaced}
 use Rattle.record_write.specs.Going.{Ready}

@@ -4,7 +4,7 @@ use mathlib.Core.Bool.{true}
 use mathlib.Core.List.{List, _++_}
 use Prim.Native.Nat.{ℕ}
 use lib.ListN.{length}
-use Rattle.records.specs.Puts.{Puts}
+use Rattle.record_lines.specs.Puts.{Puts}
 use Rattle.record_write.specs.Text.{linesFrom, stateFrom}
 use Rattle.record_write.specs.Checks.{allParts, allPlaced}
 use Rattle.record_write.specs.Cut.{cut, blocksIn}

@@ -4,7 +4,7 @@ pub mod Cut
 pub mod Exactly
 pub mod Going
 pub mod Outcome
-pub mod Rising
-pub mod Said
 pub mod Shape
 pub mod Text
+pub mod Theorems
+pub mod Laws

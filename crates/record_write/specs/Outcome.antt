@@ -5,11 +5,10 @@ use mathlib.Core.List.{List, _++_}
 use Prim.Native.Nat.{ℕ}
 use lib.Dec.{leb, eqb}
 use lib.ListN.{length, drop}
-use Rattle.refusal.specs.Pick.{pick, determined}
+use Rattle.refusal.specs.Pick.{pick}
 use Rattle.refusal.specs.Told.{Told, gives, toldRefusal}
-use Rattle.refusal.specs.declared.Refusal.{Refusal}
 use Rattle.refusal.specs.declared.Refusal.the-variants.{Malformed, TooShort, BadPart}
-use Rattle.records.specs.Puts.{Puts}
+use Rattle.record_lines.specs.Puts.{Puts}
 use Rattle.record_write.specs.declared.Written.{Written}
 use Rattle.record_write.specs.declared.Written.the-variants.{Length, Refused}
 use Rattle.record_write.specs.Cut.{blocksIn}
@@ -60,7 +59,3 @@ toldWritten (Refused r) = toldRefusal r
 pub record Writes (i : Input) (old : List ℕ) (r : Written) (new : List ℕ) : Type 0 where
   pub answer : r ≡ answerOf i old
   pub lent : new ≡ textAfter i old
-
--- One answer, and one text.
-pub one-write : {i : Input} {old a b : List ℕ} {r s : Written} → Writes i old r a → Writes i old s b → (r ≡ s) × (a ≡ b)
-one-write p q = (determined (p .answer) (q .answer), determined (p .lent) (q .lent))

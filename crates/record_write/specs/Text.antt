@@ -1,15 +1,14 @@
 -- The text of pieces, in a format: 0 is Intel HEX, 2 and 4 are S-records with addresses of so many bytes.
-use mathlib.Core.Path.{_≡_, refl, ap, _∙_}
 use mathlib.Core.Bool.{Bool, _||_}
-use mathlib.Core.List.{List, [], _∷_, _++_, append-assoc}
+use mathlib.Core.List.{List, [], _∷_, _++_}
 use Prim.Native.Nat.{ℕ}
 use lib.Dec.{eqb}
 use lib.ListN.{take}
 use Rattle.refusal.specs.Pick.{pick}
 use Rattle.blocks.specs.declared.Block.{Block}
-use Rattle.records.specs.Pieces.{Piece, piece}
-use Rattle.ihex_line.specs.Format.{hexText, hexAfter, endText}
-use Rattle.srec_line.specs.Srec.{srecText, srecEnd}
+use Rattle.record_lines.specs.Pieces.{Piece, piece}
+use Rattle.record_ihex_line.specs.Format.{hexText, hexAfter, endText}
+use Rattle.record_srec_line.specs.Srec.{srecText, srecEnd}
 use Rattle.record_write.specs.Cut.{piecesOf}
 
 -- The formats that are known.
@@ -39,16 +38,3 @@ stateFrom format state (p ∷ l) = stateFrom format (afterBy format state p) l
 -- The text of an image's blocks: at first the state is 0, and the end record comes last.
 abbrev pub textOf : ℕ → ℕ → List ℕ → List Block → List ℕ
 textOf format load image blocks = linesFrom format 0 (piecesOf load image blocks) ++ endBy format
-
-pub lines-append : (format state : ℕ) (a b : List Piece)
-    → linesFrom format state (a ++ b) ≡ linesFrom format state a ++ linesFrom format (stateFrom format state a) b
-unfolding linesFrom stateFrom
-lines-append format state [] b = refl
-lines-append format state (p ∷ a) b =
-    ap (λ (l : List ℕ). textBy format state p ++ l) (lines-append format (afterBy format state p) a b)
-    ∙ rw append-assoc
-
-pub state-append : (format state : ℕ) (a b : List Piece) → stateFrom format state (a ++ b) ≡ stateFrom format (stateFrom format state a) b
-unfolding stateFrom
-state-append format state [] b = refl
-state-append format state (p ∷ a) b = state-append format (afterBy format state p) a b

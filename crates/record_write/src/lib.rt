@@ -6,8 +6,8 @@ ghost use mathlib.Core.Bool.{true, _&&_};
 ghost use Prim.Native.Nat.{_+_, _-_, _*_, _/_, _≤_, _<_, min};
 ghost use lib.Dec.{leb, eqb};
 ghost use lib.ListN.{length, take, drop};
-ghost use Rattle.records.specs.Pieces.{piece};
-ghost use Rattle.records.specs.Puts.{Puts};
+ghost use Rattle.record_lines.specs.Pieces.{piece};
+ghost use Rattle.record_lines.specs.Puts.{Puts};
 ghost use Rattle.record_write.specs.Cut.{pieceLength, blocksIn};
 ghost use Rattle.record_write.specs.Text.{known, textBy, endBy};
 ghost use Rattle.record_write.specs.Checks.{allParts, endsFree, allPlaced};
@@ -48,9 +48,9 @@ fn put_piece(format: u8, out: &mut [u8], state: u16, address: u32, bytes: &[u8])
     ensures { λ r. ⌜ r ≤ 1044 ⌝ }
 {
     if format == 0 {
-        return ihex_line::put_piece(out, state, address, bytes);
+        return record_ihex_line::put_piece(out, state, address, bytes);
     }
-    srec_line::put_piece(out, format as u16, address, bytes)
+    record_srec_line::put_piece(out, format as u16, address, bytes)
 }
 
 // The end record's line.
@@ -59,9 +59,9 @@ fn put_end(format: u8, out: &mut [u8]) -> usize
     ensures { λ r. ⌜ r ≤ 1044 ⌝ }
 {
     if format == 0 {
-        return ihex_line::put_end(out);
+        return record_ihex_line::put_end(out);
     }
-    srec_line::put_end(out, format as u16)
+    record_srec_line::put_end(out, format as u16)
 }
 
 // The bytes of the image from `start` to `end` as pieces from an address on. (1,044 characters a byte is more than any format takes.)

@@ -1,6 +1,6 @@
 -- Uniqueness: the contract of each public function has one outcome, over its own clause.
-use Rattle.refusal.specs.Outcome.{OneOutcome}
-use Rattle.refusal.specs.Pick.{determined}
+use Rattle.refusal.specs.Laws.Outcome.{OneOutcome}
+use Rattle.refusal.specs.Laws.Pick.{determined}
 use Rattle.refusal.proofs.number.Kinds as number-kinds
 use Rattle.refusal.proofs.number.Reads as number-reads
 use Rattle.refusal.proofs.place_of.Kinds as place-of-kinds

@@ -1,6 +1,6 @@
-pub mod Bools
 pub mod Limits
-pub mod Outcome
 pub mod Pick
 pub mod Refusals
 pub mod Told
+pub mod Theorems
+pub mod Laws

@@ -11,7 +11,7 @@ use Rattle.bankdef.specs.declared.Bankdefs.{Bankdefs}
 use Rattle.lists.specs.Lists.{Row, lists, rowWith}
 use Rattle.resolver.specs.Once.{programWith, passOf}
 use Rattle.resolver.specs.Passes.{passAt}
-pub use Rattle.lists.specs.RowParts.{row-ends, first-part, row-part}
+pub use Rattle.lists.specs.Laws.RowParts.{row-ends, first-part, row-part}
 use Rattle.resolver.specs.declared.Pass.{Pass}
 
 -- the part of a list that is lent, from a to e

@@ -8,8 +8,9 @@ use native.Mathlib.Omega.{arith}
 use borrow.Author.Tests.{eq-eqb, ne-eqb, lt-ltb, le-ltb}
 use Rattle.refusal.specs.declared.Refusal.{Refusal}
 use Rattle.resolver.specs.Passes.{passK, lastOf, settledBy}
-use Rattle.resolver.specs.Ends.{Unsettled, settles, unsettled-below, K-at}
-use Rattle.resolver.specs.Least.{or-past, first-from}
+use Rattle.resolver.specs.Ends.{Unsettled}
+use Rattle.resolver.specs.Laws.Ends.{settles, unsettled-below, K-at}
+use Rattle.resolver.specs.Laws.Least.{or-past, first-from}
 use Rattle.resolver.specs.declared.Pass.{Pass}
 use Rattle.resolver.specs.declared.Pass.the-variants.{State, Refused as Failed}
 use Rattle.resolver.specs.declared.Settled.the-variants.{Refused}

@@ -1,19 +1,15 @@
 -- Document 01's case "all resolved: limits 0, 1, 2 give K 0, 1, 1 and run 1, 1, 2", of a layout: one bank, no nodes and one row, so that every
 -- pass is resolved.
 use Prim.Native.Nat.{ℕ}
-use mathlib.Core.Path.{_≡_, refl}
 use mathlib.Core.Bool.{false}
 use mathlib.Core.List.{[], _∷_}
 use lib.IntN.{pos}
 use lib.ListN.{replicate}
 use Rattle.refusal.specs.declared.Opt.the-variants.{None}
-use Rattle.bankdef.specs.Check.{noBank, firstPair}
-use Rattle.bankdef.specs.Search.{firstWhere}
+use Rattle.bankdef.specs.Check.{noBank}
 use Rattle.bankdef.specs.declared.Bankdefs.{Bankdefs}
 use Rattle.resolver.specs.Layout.{byDefault, layoutOf}
-use Rattle.lists.specs.Lists.{lists, nodesTo, listsOf}
-use Rattle.resolver.specs.Once.{passTo}
-use Rattle.resolver.specs.Passes.{first, settledBy}
+use Rattle.lists.specs.Lists.{lists}
 use Rattle.resolver.specs.declared.Settled.the-variants.{At}
 use Rattle.resolver.specs.declared.Resolution.{Resolution}
 
@@ -31,8 +27,3 @@ answerFor m = layoutOf oneBank (lists [] [] [] [] 1 []) (byDefault m)
 -- K, and the passes run
 abbrev pub settledAt : ℕ → ℕ → Resolution
 settledAt k run = record { settled = At k; passes = run }
-
--- "all resolved: limits 0, 1, 2 give K 0, 1, 1 and run 1, 1, 2"
-pub resolver-cases : (answerFor 0 ≡ settledAt 0 1) × (answerFor 1 ≡ settledAt 1 1) × (answerFor 2 ≡ settledAt 1 2)
-unfolding layoutOf listsOf nodesTo settledBy first passTo firstWhere firstPair
-resolver-cases = (refl, refl, refl)

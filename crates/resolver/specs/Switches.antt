@@ -1,50 +1,12 @@
 -- What the two checks have shown of the banks before a pass is run: every node stands in a bank that the table lists.
 use Prim.Native.Nat.{ℕ, _<_, _≤_}
-use mathlib.Core.Path.{_≡_, sym, _∙_}
-use mathlib.Core.Bool.{false, _&&_}
+use mathlib.Core.Path.{_≡_}
 use mathlib.Core.List.{List}
-use mathlib.Core.Logic.{⊎-elim}
-use native.Mathlib.Omega.{arith}
-use lib.Dec.{eqb, ltb, leb}
-use lib.ListN.{getD, length, List·getD-eq-default}
-use borrow.Author.Tests.{leb-false, eq-eqb}
-use Rattle.refusal.specs.Bools.{neither}
+use lib.ListN.{getD}
 use Rattle.refusal.specs.Limits.{maxBanks}
-use Rattle.refusal.specs.declared.Verdict.{Verdict}
-use Rattle.refusal.specs.declared.Verdict.the-variants.{Accepted}
-use Rattle.bankdef.specs.Check.{checkOf}
-use Rattle.bankdef.specs.Refused.{accepted}
-use Rattle.bankdef.specs.declared.Bankdefs.{Bankdefs}
-use Rattle.resolver.specs.Least.{or-past}
-use Rattle.lists.specs.Lists.{Lists, nodeOf, headFault, anyRowFault, listsOf}
-use Rattle.lists.specs.Sound.{accepted-node, accepted-lists}
 
 -- "banks, bank 0 included: 1 to 16", and each bank switch names one of them
 pub record Switches (banks : ℕ) (kinds operands : List ℕ) : Type 0 where
   pub some : 1 ≤ banks
   pub few : banks ≤ maxBanks
   pub named : (i : ℕ) → getD kinds i 0 ≡ 1 → getD operands i 0 < banks
-
-module _ (banks : Bankdefs) (l : Lists) (fill : ℕ) where
-  -- "The operand is a bank for 1": a switch that the check has gone past
-  switch-named : listsOf (banks .len) l fill ≡ Accepted → (i : ℕ) → i < length (l .kinds) → getD (l .kinds) i 0 ≡ 1 → getD (l .operands) i 0 < banks .len
-  switch-named e i h k =
-      let n = nodeOf (l .kinds) (l .operands) (l .numbers) (l .states) 0 i in
-      let none = accepted-node (banks .len) l (length (l .kinds)) (accepted-lists (banks .len) l fill e .nodes) i h in
-      let head = neither (headFault (banks .len) n) (anyRowFault l i (l .rows)) none .0 in
-      let named = neither (ltb 10 (n .kind)) (eqb (n .kind) 1 && leb (banks .len) (n .operand)) head .1 in
-      let past : leb (banks .len) (n .operand) ≡ false = rw (eq-eqb (getD (l .kinds) i 0) 1 k) at named in
-      leb-false (banks .len) (n .operand) past
-
-  pub accepted-switches : {u v : Verdict} → u ≡ checkOf banks → u ≡ Accepted → v ≡ listsOf (banks .len) l fill → v ≡ Accepted
-      → Switches (banks .len) (l .kinds) (l .operands)
-  accepted-switches t f e g =
-      let table = accepted banks (sym t ∙ f) in
-      record {
-        some = table .least;
-        few = table .most;
-        named = λ i k.
-            ⊎-elim (λ (h : length (l .kinds) ≤ i). absurd (let z = sym (List·getD-eq-default (l .kinds) 0 h) ∙ k in omega arith))
-            (λ (h : i < length (l .kinds)). switch-named (sym e ∙ g) i h k)
-            (or-past (length (l .kinds)) i);
-      }

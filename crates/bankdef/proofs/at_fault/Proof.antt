@@ -12,7 +12,8 @@ use mir.ValLaws.{toZ-ofZ}
 use lib.Dec.{ltb}
 use lib.IntN.{natAbs}
 use Rattle.refusal.specs.Limits.{maxStart}
-use Rattle.bankdef.specs.Numbers.{isZero, fillBit, bankFault, start-by-magnitude}
+use Rattle.bankdef.specs.Numbers.{isZero, fillBit, bankFault}
+use Rattle.bankdef.specs.Theorems.Numbers.{start-by-magnitude}
 use Rattle.bankdef.proofs.at_fault.Statement.{statement}
 use Rattle.bankdef.proofs.at_fault.Tie as tie
 

@@ -10,7 +10,8 @@ use Rattle.refusal.specs.Told.{toldVerdict}
 use Rattle.refusal.specs.declared.Verdict.{Verdict}
 use Rattle.bankdef.specs.declared.Bankdefs.{Bankdefs}
 use Rattle.bankdef.specs.Check.{countSound, banksOf, firstFault, someFault, checkOf}
-use Rattle.bankdef.specs.Told.{Checks, check-told}
+use Rattle.bankdef.specs.Told.{Checks}
+use Rattle.bankdef.specs.Theorems.Told.{check-told}
 use Rattle.bankdef.proofs.Walk.{within}
 use Rattle.bankdef.proofs.check.Statement.{statement}
 use Rattle.bankdef.proofs.check.Tie as tie

@@ -6,7 +6,7 @@ use borrow.Author.Tests.{lt-ltb, le-ltb}
 use native.Mathlib.Omega.{arith}
 use Rattle.bankdef.specs.Fill.{raisedTo}
 use Rattle.bankdef.specs.FillFacts.{afterBank}
-use Rattle.bankdef.specs.FullFill.{filled-by-end}
+use Rattle.bankdef.specs.Laws.FullFill.{filled-by-end}
 use Rattle.bankdef.proofs.filled.Statement.{statement}
 use Rattle.bankdef.proofs.filled.Tie as tie
 

@@ -8,7 +8,7 @@ use lib.Signed.{mag, ltZ}
 use mir.Syntax.{w64}
 use mir.Val.{ofZ, toZ}
 use mir.ValLaws.{toZ-ofZ}
-use Rattle.bankdef.specs.Integers.{turned, abs-negative, nonnegative, abs-nonnegative}
+use Rattle.bankdef.specs.Laws.Integers.{turned, abs-negative, nonnegative, abs-nonnegative}
 use Rattle.bankdef.proofs.magnitude.Statement.{statement}
 use Rattle.bankdef.proofs.magnitude.Tie as tie
 

@@ -3,7 +3,8 @@ use Prim.Native.Nat.{ℕ, _-_, _*_, _≤_}
 use mathlib.Core.Path.{_≡_, refl, ap, _∙_}
 use native.Mathlib.Omega.{arith}
 use lib.ListN.{length, length-set}
-use Rattle.bitvec.specs.Ones.{withOnes, ones-none}
+use Rattle.bitvec.specs.Ones.{withOnes}
+use Rattle.bitvec.specs.Theorems.Ones.{ones-none}
 use Rattle.bitvec.proofs.OnesLaws.{ones-more}
 use Rattle.bitvec.proofs.fill_bytes.Statement.{statement}
 use Rattle.bitvec.proofs.fill_bytes.Tie as tie

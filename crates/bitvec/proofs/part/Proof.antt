@@ -4,7 +4,7 @@ use mathlib.Core.Path.{_≡_, sym, _∙_}
 use lib.ListN.{length}
 use native.Mathlib.Omega.{arith}
 use borrow.Author.Needs.{needs}
-use Rattle.bitvec.specs.Part.{isPart-true}
+use Rattle.bitvec.specs.Theorems.Part.{isPart-true}
 use Rattle.bitvec.proofs.part.Statement.{statement}
 use Rattle.bitvec.proofs.part.Tie as tie
 

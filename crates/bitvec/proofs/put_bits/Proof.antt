@@ -2,8 +2,8 @@
 use Prim.Native.Nat.{_+_, _*_}
 use mathlib.Core.Path.{sym}
 use native.Mathlib.Omega.{arith}
-use Rattle.bitvec.specs.Numeral.{numeral-lt}
-use Rattle.bitvec.specs.Bits.{bitAt-lt}
+use Rattle.bitvec.specs.Laws.Numeral.{numeral-lt}
+use Rattle.bitvec.specs.Laws.Bits.{bitAt-lt}
 use Rattle.bitvec.proofs.Pieces.{written-none, stored-piece}
 use borrow.Author.Needs.{needs}
 use Rattle.bitvec.proofs.put_bits.Statement.{statement}

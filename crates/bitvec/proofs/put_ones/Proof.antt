@@ -2,7 +2,7 @@
 use Prim.Native.Nat.{_+_, _-_, _*_}
 use mathlib.Core.Path.{sym}
 use native.Mathlib.Omega.{arith}
-use Rattle.bitvec.specs.Ones.{ones-none}
+use Rattle.bitvec.specs.Theorems.Ones.{ones-none}
 use Rattle.bitvec.proofs.OnesLaws.{spliced-ones}
 use borrow.Author.Needs.{needs}
 use Rattle.bitvec.proofs.put_ones.Statement.{statement}

@@ -3,7 +3,7 @@ use Prim.Native.Nat.{_*_, min}
 use mathlib.Core.Path.{refl, _∙_}
 use native.Mathlib.Omega.{arith}
 use lib.ListN.{length}
-use Rattle.bitvec.specs.Ones.{ones-none, ones-cut}
+use Rattle.bitvec.specs.Theorems.Ones.{ones-none, ones-cut}
 use Rattle.bitvec.proofs.OnesLaws.{same-range}
 use borrow.Author.Needs.{needs}
 use Rattle.bitvec.proofs.set_ones.Statement.{statement}

@@ -3,8 +3,8 @@ use Prim.Native.Nat.{ℕ, _+_, _-_, _*_, _≤_}
 use mathlib.Core.Path.{_≡_, refl, sym, ap, _∙_}
 use native.Mathlib.Omega.{arith}
 use lib.ListN.{length, length-set}
-use Rattle.bitvec.specs.Numeral.{numeral-lt}
-use Rattle.bitvec.specs.Bits.{bitAt-lt}
+use Rattle.bitvec.specs.Laws.Numeral.{numeral-lt}
+use Rattle.bitvec.specs.Laws.Bits.{bitAt-lt}
 use Rattle.bitvec.specs.Written.{written}
 use Rattle.bitvec.proofs.Pieces.{written-none, stored-more, pair-shifted}
 use Rattle.bitvec.proofs.shift_bytes.Statement.{statement}

@@ -3,7 +3,7 @@ use borrow.Author.Needs.{needs}
 use mathlib.Core.Path.{_≡_, sym, _∙_}
 use mathlib.Core.Bool.{true}
 use borrow.Author.Tests.{not-true, not-false}
-use Rattle.blocks.specs.Acceptable.{acceptable-parts}
+use Rattle.blocks.specs.Theorems.Acceptable.{acceptable-parts}
 use Rattle.blocks.specs.Spans.{acceptable}
 use Rattle.blocks.proofs.Room.{malformed, well-formed}
 use Rattle.blocks.proofs.get_blocks.Statement.{statement}

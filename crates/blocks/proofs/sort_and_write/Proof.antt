@@ -8,9 +8,9 @@ use lib.ListN.{length, take, drop}
 use lib.Seq.{length-take-le}
 use Rattle.refusal.specs.Limits.{maxNodes}
 use Rattle.sort.specs.Numbers.{order}
-use Rattle.sort.specs.OrderFacts.{order-length}
+use Rattle.sort.specs.Theorems.OrderFacts.{order-length}
 use Rattle.blocks.specs.declared.Block.{Block}
-use Rattle.blocks.specs.Acceptable.{acceptable-parts}
+use Rattle.blocks.specs.Theorems.Acceptable.{acceptable-parts}
 use Rattle.blocks.specs.Numbered.{numberedBlocks}
 use Rattle.blocks.specs.Outcome.{Written}
 use Rattle.blocks.specs.Spans.{spansOf, allWithin}

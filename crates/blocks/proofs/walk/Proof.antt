@@ -8,7 +8,7 @@ use lib.ListN.{length, getD}
 use Rattle.refusal.specs.Limits.{maxPosition}
 use Rattle.blocks.specs.Offsets.{offsetOf}
 use Rattle.blocks.specs.Spans.{offsetWithin}
-use Rattle.blocks.specs.Acceptable.{within-parts}
+use Rattle.blocks.specs.Laws.Acceptable.{within-parts}
 use Rattle.blocks.proofs.Laws.{at-most}
 use Rattle.blocks.proofs.Walking.{Walking, walking-starts, walking-past, walking-on, walking-ends}
 use Rattle.blocks.proofs.walk.Statement.{statement}

@@ -1,7 +1,7 @@
 -- `form_lists::fill_lists` meets its contract: each test refuses, and what is written is what the definitions name.
 use borrow.Author.Needs.{needs}
 use native.Mathlib.Omega.{arith}
-use Rattle.form.specs.Filled.{places, lists-kinds, lists-operands, lists-numbers, lists-states, lists-read}
+use Rattle.form_fields.specs.Theorems.Filled.{places, lists-kinds, lists-operands, lists-numbers, lists-states, lists-read}
 use Rattle.form_lists.proofs.fill_lists.Statement.{statement}
 use Rattle.form_lists.proofs.fill_lists.Tie as tie
 

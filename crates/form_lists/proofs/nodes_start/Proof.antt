@@ -3,9 +3,11 @@ use Prim.Native.Nat.{_+_, _*_, _≤_}
 use mathlib.Core.Path.{sym, ap, subst, _∙_}
 use borrow.Author.Needs.{needs}
 use native.Mathlib.Omega.{arith}
-use Rattle.form.specs.declared.Kind.{Kind}
-use Rattle.form.specs.Kind.{Known, kind-known, known-bank}
-use Rattle.form.specs.Filled.{places}
+use Rattle.form_fields.specs.declared.Kind.{Kind}
+use Rattle.form_fields.specs.Kind.{Known}
+use Rattle.form_fields.specs.Theorems.Kind.{kind-known}
+use Rattle.form_fields.specs.Laws.Kind.{known-bank}
+use Rattle.form_fields.specs.Theorems.Filled.{places}
 use Rattle.form_lists.proofs.nodes_start.Statement.{statement}
 use Rattle.form_lists.proofs.nodes_start.Tie as tie
 

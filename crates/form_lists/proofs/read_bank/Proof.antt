@@ -2,11 +2,11 @@
 use borrow.Author.Needs.{needs}
 use mathlib.Core.Path.{ap, _∙_}
 use Prim.Native.Nat.{_+_}
-use Rattle.form.specs.Words.{byte}
+use Rattle.form_fields.specs.Words.{byte}
 use mir.Syntax.{w64}
 use mir.Val.{toZ}
 use mir.ValLaws.{toZ-ofZ}
-use Rattle.form.specs.Banks.{optOf, bankAt}
+use Rattle.form_fields.specs.Banks.{optOf, bankAt}
 use Rattle.form_lists.proofs.read_bank.Statement.{statement}
 use Rattle.form_lists.proofs.read_bank.Tie as tie
 

@@ -7,11 +7,13 @@ use borrow.Author.Needs.{needs}
 use native.Mathlib.Nat.{mul-le-mul-right}
 use native.Mathlib.Omega.{arith}
 use lib.ListN.{length, replicate}
-use Rattle.form.specs.declared.Kind.{Kind}
-use Rattle.form.specs.Banks.{banksIn, noBank}
-use Rattle.form.specs.Kind.{Known, kindOf, kind-known, kind-headed, known-heads}
-use Rattle.form.specs.Shape.{bankCountIn, nodesStartIn}
-use Rattle.form.specs.Within.{nodes-within}
+use Rattle.form_fields.specs.declared.Kind.{Kind}
+use Rattle.form_fields.specs.Banks.{banksIn, noBank}
+use Rattle.form_fields.specs.Kind.{Known, kindOf}
+use Rattle.form_fields.specs.Theorems.Kind.{kind-known, kind-headed}
+use Rattle.form_fields.specs.Laws.Kind.{known-heads}
+use Rattle.form_fields.specs.Shape.{bankCountIn, nodesStartIn}
+use Rattle.form_fields.specs.Laws.Within.{nodes-within}
 use Rattle.form_lists.proofs.read_banks.Statement.{statement}
 use Rattle.form_lists.proofs.read_banks.Tie as tie
 

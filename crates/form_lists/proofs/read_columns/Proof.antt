@@ -6,9 +6,9 @@ use native.Mathlib.Nat.{mul-le-mul-right}
 use native.Mathlib.Omega.{arith}
 use lib.ListN.{length, length-set}
 use lib.Seq.{paste, paste-zero}
-use Rattle.form.specs.Columns.{column}
-use Rattle.form.specs.Words.{byte, word32}
-use Rattle.form.specs.Columns.{column-turn}
+use Rattle.form_fields.specs.Columns.{column}
+use Rattle.form_fields.specs.Words.{byte, word32}
+use Rattle.form_fields.specs.Laws.Columns.{column-turn}
 use Rattle.form_lists.proofs.read_columns.Statement.{statement}
 use Rattle.form_lists.proofs.read_columns.Tie as tie
 

@@ -5,9 +5,9 @@ use mathlib.Core.List.{_++_}
 use native.Mathlib.Nat.{mul-le-mul-right, zero-mul}
 use native.Mathlib.Omega.{arith}
 use lib.ListN.{length, drop}
-use Rattle.form.specs.Lists.{cells}
-use Rattle.form.specs.Words.{byte, word32}
-use Rattle.form.specs.Cells.{cells-turn}
+use Rattle.form_fields.specs.Lists.{cells}
+use Rattle.form_fields.specs.Words.{byte, word32}
+use Rattle.form_fields.specs.Laws.Cells.{cells-turn}
 use Rattle.form_lists.proofs.read_rows.Statement.{statement}
 use Rattle.form_lists.proofs.read_rows.Tie as tie
 

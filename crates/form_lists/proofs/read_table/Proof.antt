@@ -5,10 +5,11 @@ use mathlib.Core.List.{List, _++_}
 use native.Mathlib.Nat.{mul-le-mul-right}
 use native.Mathlib.Omega.{arith}
 use lib.ListN.{set, replicate}
-use Rattle.form.specs.declared.Kind.{Kind}
-use Rattle.form.specs.Banks.{bankAt, banksIn, noBank}
-use Rattle.form.specs.Columns.{column, column-set}
-use Rattle.form.specs.Kind.{known-heads, known-bank}
+use Rattle.form_fields.specs.declared.Kind.{Kind}
+use Rattle.form_fields.specs.Banks.{bankAt, banksIn, noBank}
+use Rattle.form_fields.specs.Columns.{column}
+use Rattle.form_fields.specs.Laws.Columns.{column-set}
+use Rattle.form_fields.specs.Laws.Kind.{known-heads, known-bank}
 use Rattle.form_lists.proofs.read_table.Statement.{statement}
 use Rattle.form_lists.proofs.read_table.Tie as tie
 

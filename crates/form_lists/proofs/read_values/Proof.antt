@@ -5,11 +5,11 @@ use mathlib.Core.List.{List}
 use borrow.Author.Needs.{needs}
 use native.Mathlib.Omega.{arith}
 use lib.ListN.{length, take, drop}
-use Rattle.form.specs.declared.Kind.{Kind}
-use Rattle.form.specs.declared.Shape.{Shape}
-use Rattle.form.specs.Lists.{valuesBy}
-use Rattle.form.specs.Shape.{shapeIn, limitStartIn}
-use Rattle.form.specs.Rest.{SoundFile, sound-file}
+use Rattle.form_fields.specs.declared.Kind.{Kind}
+use Rattle.form_fields.specs.declared.Shape.{Shape}
+use Rattle.form_fields.specs.Lists.{valuesBy}
+use Rattle.form_fields.specs.Shape.{shapeIn, limitStartIn}
+use Rattle.form_fields.specs.Laws.Rest.{SoundFile, sound-file}
 use Rattle.form_lists.proofs.read_values.Statement.{statement}
 use Rattle.form_lists.proofs.read_values.Tie as tie
 

@@ -5,9 +5,9 @@ use Prim.Native.Nat.{ℕ, _≤_, _<_}
 use native.Mathlib.Omega.{arith}
 use lib.ListN.{length, getD, take, drop}
 use lib.Seq.{take-at}
-use Rattle.text.specs.declared.Written.the-variants.{To, TooShort}
-use Rattle.report.specs.Report.{reportText}
-use Rattle.report.specs.Room.{every-report-fits, report-answers-length, report-stands-first}
+use Rattle.print_text.specs.declared.Written.the-variants.{To, TooShort}
+use Rattle.print_report.specs.Report.{reportText}
+use Rattle.print_report.specs.Theorems.Room.{every-report-fits, report-answers-length, report-stands-first}
 use borrow.Author.Needs.{needs}
 use Rattle.layout.proofs.write.Statement.{statement}
 use Rattle.layout.proofs.write.Tie as tie

@@ -3,8 +3,8 @@ use mathlib.Core.Path.{_∙_}
 use native.Mathlib.Nat.{mul-le-mul}
 use native.Mathlib.Omega.{arith}
 use Rattle.lists.specs.Lists.{Lists, lists}
-use Rattle.lists.specs.Counts.{too-many-nodes, other-operands, no-rows, too-many-rows, other-numbers, other-states, unknown-choice, sound-counts}
-use Rattle.lists.specs.Sound.{lists-told}
+use Rattle.lists.specs.Laws.Counts.{too-many-nodes, other-operands, no-rows, too-many-rows, other-numbers, other-states, unknown-choice, sound-counts}
+use Rattle.lists.specs.Theorems.Sound.{lists-told}
 use borrow.Author.Needs.{needs}
 use Rattle.lists.proofs.check_lists.Statement.{statement}
 use Rattle.lists.proofs.check_lists.Tie as tie

@@ -2,7 +2,7 @@
 use Prim.Native.Nat.{_+_, _*_, _≤_}
 use native.Mathlib.Omega.{arith}
 use lib.ListN.{length}
-use Rattle.lists.specs.RowParts.{row-ends}
+use Rattle.lists.specs.Laws.RowParts.{row-ends}
 use Rattle.lists.proofs.Nodes.{part-node}
 use borrow.Author.Needs.{needs}
 use Rattle.lists.proofs.row_node.Statement.{statement}

@@ -3,7 +3,7 @@ use mathlib.Core.Path.{_≡_, refl, sym, ap, _∙_}
 use Prim.Native.Nat.{_+_, _-_, _*_, _/_}
 use native.Mathlib.Omega.{arith}
 use lib.ListN.{length, getD}
-use Rattle.records.specs.Puts.{puts-long}
+use Rattle.record_lines.specs.Laws.Puts.{puts-long}
 use Rattle.record_write.proofs.AllBlocks.{AllGoing, all-first, now-fits, now-few, all-on, last-few, all-done}
 use borrow.Author.Needs.{needs}
 use Rattle.record_write.proofs.write_blocks.Statement.{statement}

@@ -1,6 +1,6 @@
 -- `dk_overlay_range` meets its contract: the answer, told in numbers.
 use mathlib.Core.Path.{ap, _∙_}
-use Rattle.told.specs.Parts.{overlayBy}
+use Rattle.c_answers.specs.Parts.{overlayBy}
 use borrow.Author.Needs.{needs}
 use Rattle.denkumari.proofs.overlays.dk_overlay_range.Statement.{statement}
 use Rattle.denkumari.proofs.overlays.dk_overlay_range.Tie as tie

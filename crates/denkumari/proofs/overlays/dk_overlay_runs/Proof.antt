@@ -1,6 +1,6 @@
 -- `dk_overlay_runs` meets its contract: the answer, told in numbers.
 use mathlib.Core.Path.{ap, _∙_}
-use Rattle.told.specs.Counts.{listedCount}
+use Rattle.c_answers.specs.Counts.{listedCount}
 use borrow.Author.Needs.{needs}
 use Rattle.denkumari.proofs.overlays.dk_overlay_runs.Statement.{statement}
 use Rattle.denkumari.proofs.overlays.dk_overlay_runs.Tie as tie

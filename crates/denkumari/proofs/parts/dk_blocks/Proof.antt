@@ -1,6 +1,6 @@
 -- `dk_blocks` meets its contract: the answer, told in numbers.
 use mathlib.Core.Path.{ap, _∙_}
-use Rattle.told.specs.Counts.{blocksCount}
+use Rattle.c_answers.specs.Counts.{blocksCount}
 use borrow.Author.Needs.{needs}
 use Rattle.denkumari.proofs.parts.dk_blocks.Statement.{statement}
 use Rattle.denkumari.proofs.parts.dk_blocks.Tie as tie

@@ -1,6 +1,6 @@
 -- `dk_hex` meets its contract: the answer, told in numbers.
 use mathlib.Core.Path.{ap, _∙_}
-use Rattle.told.specs.Counts.{hexCount}
+use Rattle.c_answers.specs.Counts.{hexCount}
 use borrow.Author.Needs.{needs}
 use Rattle.denkumari.proofs.parts.dk_hex.Statement.{statement}
 use Rattle.denkumari.proofs.parts.dk_hex.Tie as tie

@@ -1,6 +1,6 @@
 -- `dk_part` meets its contract: the verdict, told in numbers.
 use mathlib.Core.Path.{ap, _∙_}
-use Rattle.told.specs.Parts.{partBy}
+use Rattle.c_answers.specs.Parts.{partBy}
 use borrow.Author.Needs.{needs}
 use Rattle.denkumari.proofs.parts.dk_part.Statement.{statement}
 use Rattle.denkumari.proofs.parts.dk_part.Tie as tie

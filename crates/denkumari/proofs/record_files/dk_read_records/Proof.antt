@@ -1,6 +1,6 @@
 -- `dk_read_records` meets its contract: the answer, told in numbers.
 use mathlib.Core.Path.{ap, _∙_}
-use Rattle.told.specs.Counts.{blocksCount}
+use Rattle.c_answers.specs.Counts.{blocksCount}
 use borrow.Author.Needs.{needs}
 use Rattle.denkumari.proofs.record_files.dk_read_records.Statement.{statement}
 use Rattle.denkumari.proofs.record_files.dk_read_records.Tie as tie

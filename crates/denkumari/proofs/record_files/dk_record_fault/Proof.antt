@@ -1,6 +1,6 @@
 -- `dk_record_fault` meets its contract: the answer, told in numbers.
 use mathlib.Core.Path.{ap, _∙_}
-use Rattle.told.specs.Parts.{lineTold}
+use Rattle.c_answers.specs.Parts.{lineTold}
 use borrow.Author.Needs.{needs}
 use Rattle.denkumari.proofs.record_files.dk_record_fault.Statement.{statement}
 use Rattle.denkumari.proofs.record_files.dk_record_fault.Tie as tie

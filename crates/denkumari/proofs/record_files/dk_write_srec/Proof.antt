@@ -1,6 +1,6 @@
 -- `dk_write_srec` meets its contract: the answer, told in numbers.
 use mathlib.Core.Path.{ap, _∙_}
-use Rattle.told.specs.Counts.{writtenCount}
+use Rattle.c_answers.specs.Counts.{writtenCount}
 use borrow.Author.Needs.{needs}
 use Rattle.denkumari.proofs.record_files.dk_write_srec.Statement.{statement}
 use Rattle.denkumari.proofs.record_files.dk_write_srec.Tie as tie

@@ -5,9 +5,10 @@ use mathlib.Core.Path.{_≡_, _∙_, sym, ap}
 use mathlib.Core.Bool.{true}
 use borrow.Author.Tests.{not-true, not-false}
 use Rattle.iter.specs.Distance.{tellable, addressInBits, gap, remainder, skipsOf}
-use Rattle.iter.specs.Aligned.{four-when, to-none, to-some}
-use Rattle.iter.specs.Signs.{remainderOf, remainder-of}
-use Rattle.iter.specs.ToldFacts.{distance-answers}
+use Rattle.iter.specs.Theorems.Aligned.{four-when, to-none, to-some}
+use Rattle.iter.specs.Signs.{remainderOf}
+use Rattle.iter.specs.Laws.Signs.{remainder-of}
+use Rattle.iter.specs.Theorems.ToldFacts.{distance-answers}
 use Rattle.iter.specs.declared.alignment.InBits.{InBits}
 use Rattle.iter.specs.declared.Distance.the-variants.{Skips}
 use Rattle.iter.specs.declared.Skipped.{Skipped}

@@ -1,6 +1,6 @@
 -- The whole units in a distance: a bank whose addresses can be told has a unit.
 use borrow.Author.Needs.{needs}
-use Rattle.iter.specs.ToldFacts.{has-unit}
+use Rattle.iter.specs.Laws.ToldFacts.{has-unit}
 use Rattle.iter.proofs.alignment.in_units.Statement.{statement}
 use Rattle.iter.proofs.alignment.in_units.Tie as tie
 

@@ -6,7 +6,7 @@ use mir.Syntax.{w64}
 use mir.Val.{SFits}
 use mir.Facts.{toZ-ofZ}
 use borrow.Author.Tests.{eq-eqb, ne-eqb}
-use Rattle.iter.specs.Signs.{size-natAbs}
+use Rattle.iter.specs.Laws.Signs.{size-natAbs}
 use Rattle.iter.proofs.alignment.is_tellable.Statement.{statement}
 use Rattle.iter.proofs.alignment.is_tellable.Tie as tie
 

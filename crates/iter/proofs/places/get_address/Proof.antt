@@ -10,7 +10,8 @@ use mir.Syntax.{w64}
 use mir.Val.{toZ, ofZ, SFits, hbits}
 use mir.Facts.{toZ-ofZ, toZ-pos}
 use Rattle.iter.specs.Distance.{tellable}
-use Rattle.iter.specs.ToldFacts.{has-unit, address-when, address-four, address-answers}
+use Rattle.iter.specs.Laws.ToldFacts.{has-unit}
+use Rattle.iter.specs.Theorems.ToldFacts.{address-when, address-four, address-answers}
 use Rattle.iter.proofs.Signed.{start-within, sum-fits}
 use Rattle.iter.proofs.places.get_address.Statement.{statement}
 use Rattle.iter.proofs.places.get_address.Tie as tie

@@ -4,9 +4,9 @@ use Prim.Native.Nat.{ℕ, _≤_, _<_}
 use native.Mathlib.Omega.{arith}
 use mathlib.Core.Path.{_≡_, refl, sym, _∙_}
 use Rattle.iter.specs.Step.{movedOn, advancedOf, still, advanceMotion}
-use Rattle.iter.specs.Advance.{bad-state, sound-state, early, item, aligning, setting, asserting, other}
+use Rattle.iter.specs.Theorems.Advance.{bad-state, sound-state, early, item, aligning, setting, asserting, other}
 use Rattle.iter.specs.Figures.{AdvanceTold}
-use Rattle.iter.specs.ToldFacts.{advance-answers}
+use Rattle.iter.specs.Theorems.ToldFacts.{advance-answers}
 use Rattle.iter.specs.declared.Motion.{Motion}
 use Rattle.iter.specs.declared.Moved.{Moved}
 use Rattle.iter.proofs.Advanced.{advance-stopped, advance-still, advance-aligned}

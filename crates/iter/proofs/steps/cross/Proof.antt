@@ -3,7 +3,7 @@ use borrow.Author.Needs.{needs}
 use mathlib.Core.Path.{_≡_, _∙_, sym, ap}
 use mathlib.Core.Bool.{false}
 use Rattle.iter.specs.Step.{counted, badState}
-use Rattle.iter.specs.Crossing.{cross-malformed, cross-blind, cross-stuck, cross-moves}
+use Rattle.iter.specs.Laws.Crossing.{cross-malformed, cross-blind, cross-stuck, cross-moves}
 use Rattle.iter.specs.declared.Motion.{Motion}
 use Rattle.iter.specs.declared.Node.{Node}
 use Rattle.iter.specs.declared.Skipped.{Skipped}

@@ -4,7 +4,7 @@ use mathlib.Core.Path.{_≡_, _∙_, sym}
 use mathlib.Core.Bool.{true}
 use borrow.Author.Tests.{not-true, not-false}
 use Rattle.iter.specs.Step.{outermostSymbol}
-use Rattle.iter.specs.ToldFacts.{sight-answers}
+use Rattle.iter.specs.Theorems.ToldFacts.{sight-answers}
 use Rattle.iter.proofs.Advanced.{sight-plain, sight-unaligned, sight-aligned}
 use Rattle.iter.proofs.steps.seen.Statement.{statement}
 use Rattle.iter.proofs.steps.seen.Tie as tie

@@ -5,8 +5,10 @@ use Prim.Native.Nat.{_<_}
 use native.Mathlib.Omega.{arith}
 use lib.ListN.{getD, length, length-map}
 use Rattle.iter.specs.Step.{origin}
-use Rattle.iter.specs.StepFigures.{step-answers}
-use Rattle.iter.specs.Crossing.{crossingOf, no-bank, crossing-refused, crossing-made, any-default}
+use Rattle.iter.specs.Theorems.StepFigures.{step-answers}
+use Rattle.iter.specs.Crossing.{crossingOf}
+use Rattle.iter.specs.Theorems.Crossing.{no-bank, crossing-refused, crossing-made}
+use Rattle.iter.specs.Laws.Crossing.{any-default}
 use Rattle.iter.specs.declared.Pos.{Pos}
 use Rattle.iter.proofs.steps.step.Statement.{statement}
 use Rattle.iter.proofs.steps.step.Tie as tie

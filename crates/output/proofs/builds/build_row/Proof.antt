@@ -8,9 +8,10 @@ use Rattle.bankdef.specs.Check.{banksOf}
 use Rattle.bankdef.specs.Fill.{fillBy}
 use Rattle.lists.specs.Lists.{Row}
 use Rattle.resolver.specs.Once.{Program}
-use Rattle.visits.specs.Visits.{programOf, rowOf}
-use Rattle.placing.specs.Placing.{closesDefault}
-use Rattle.placing.specs.Plan.{Planned, planOf, plan-parts}
+use Rattle.build_sights.specs.Visits.{programOf, rowOf}
+use Rattle.build_plan.specs.Placing.{closesDefault}
+use Rattle.build_plan.specs.Laws.Plan.{Planned, plan-parts}
+use Rattle.build_plan.specs.Plan.{planOf}
 use Rattle.output.specs.Output.{Lent, lent, roomOf}
 use Rattle.output.specs.Steps.{roomVerdict}
 use Rattle.output.proofs.BuildLaws.{row-stopped, row-short, row-done, has-room}

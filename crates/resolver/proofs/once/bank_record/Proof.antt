@@ -3,7 +3,7 @@ use mathlib.Core.Path.{_≡_, sym, _∙_}
 use borrow.Author.Needs.{needs}
 use native.Mathlib.Omega.{arith}
 use lib.ListN.{length, length-map}
-use Rattle.resolver.specs.Listed.{listed-bank, unlisted-bank, past-records}
+use Rattle.resolver.specs.Theorems.Listed.{listed-bank, unlisted-bank, past-records}
 use Rattle.resolver.proofs.once.bank_record.Statement.{statement}
 use Rattle.resolver.proofs.once.bank_record.Tie as tie
 

@@ -2,7 +2,7 @@
 use Rattle.lists.specs.Lists.{Lists, lists}
 use Rattle.resolver.proofs.Accepted.{accepted-rows, banks-refused, lists-refused, both-accepted, layout-told}
 use borrow.Author.Needs.{needs}
-use Rattle.resolver.specs.Switches.{accepted-switches}
+use Rattle.resolver.specs.Theorems.Switches.{accepted-switches}
 use Rattle.resolver.proofs.passes.resolve.Statement.{statement}
 use Rattle.resolver.proofs.passes.resolve.Tie as tie
 

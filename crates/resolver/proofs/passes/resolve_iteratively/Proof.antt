@@ -7,7 +7,7 @@ use borrow.Author.Needs.{needs}
 use Rattle.resolver.specs.Ends.{Unsettled}
 use Rattle.lists.specs.Lists.{Lists, lists}
 use Rattle.resolver.specs.Passes.{passAt}
-use Rattle.resolver.specs.Repeats.{repeats}
+use Rattle.resolver.specs.Laws.Repeats.{repeats}
 use Rattle.resolver.specs.declared.Pass.{Pass}
 use Rattle.resolver.proofs.Settling.{none-yet, nor-this, no-limit, refused-pass, settled-pass, limit-pass}
 use Rattle.resolver.proofs.passes.resolve_iteratively.Statement.{statement}

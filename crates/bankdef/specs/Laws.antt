@@ -1,0 +1,11 @@
+pub mod Bools
+pub mod FillBits
+pub mod FillFacts
+pub mod FullFill
+pub mod Integers
+pub mod Numbers
+pub mod Pairs
+pub mod Refused
+pub mod Search
+pub mod SharedBit
+pub mod Told

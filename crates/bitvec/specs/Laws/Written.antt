@@ -1,0 +1,38 @@
+-- Laws that Theorems/Written rests on.
+use mathlib.Core.Path.{_≡_, refl, sym, subst}
+use mathlib.Core.Bool.{Bool, true, false, _&&_}
+use mathlib.Core.List.{List}
+use Prim.Native.Nat.{ℕ, _+_, _*_}
+use native.Mathlib.Omega.{arith}
+use lib.ListN.{length}
+use borrow.Author.Tests.{leb-true, leb-false}
+use Rattle.refusal.specs.Pick.{pick}
+use Rattle.refusal.specs.Told.{toldVerdict}
+use Rattle.refusal.specs.declared.Refusal.{Refusal}
+use Rattle.refusal.specs.declared.Refusal.the-variants.{Malformed}
+use Rattle.refusal.specs.declared.Verdict.{Verdict}
+use Rattle.refusal.specs.declared.Verdict.the-variants.{Accepted, Refused}
+use Rattle.bitvec.specs.Within.{endsWithin}
+use Rattle.bitvec.specs.Written.{WriteTold, both-within, isWritten, past-image, past-values}
+
+module _ (image : List ℕ) (position : ℕ) (values : List ℕ) (start size : ℕ) where
+  by-tests : (p v : Bool) → endsWithin (length image) position size ≡ p → endsWithin (length values) start size ≡ v
+      → WriteTold image position values start size (toldVerdict (pick (p && v) Accepted (Refused (Malformed 0))))
+  by-tests true true e f = both-within (leb-true (position + size) (8 * length image) e) (leb-true (start + size) (8 * length values) f)
+  by-tests true false e f = past-values (leb-false (start + size) (8 * length values) f)
+  by-tests false v e f = past-image (leb-false (position + size) (8 * length image) e)
+
+  pub write-told : {verdict : Verdict} → verdict ≡ pick (isWritten image position values start size) Accepted (Refused (Malformed 0))
+      → WriteTold image position values start size (toldVerdict verdict)
+  write-told e =
+      subst (λ (v : Verdict). WriteTold image position values start size (toldVerdict v)) (sym e)
+      (by-tests (endsWithin (length image) position size) (endsWithin (length values) start size) refl refl)
+
+-- A test whose outcome a verdict tells.
+pub accepted-test : (b : Bool) (r : Refusal) → Accepted ≡ pick b Accepted (Refused r) → b ≡ true
+accepted-test true r e = refl
+accepted-test false r e = let z : _≡_ {A = ℕ} 0 1 = cc in absurd (omega arith)
+
+pub refused-test : (b : Bool) (q r : Refusal) → Refused q ≡ pick b Accepted (Refused r) → b ≡ false
+refused-test true q r e = let z : _≡_ {A = ℕ} 0 1 = cc in absurd (omega arith)
+refused-test false q r e = refl

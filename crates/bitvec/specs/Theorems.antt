@@ -1,0 +1,6 @@
+pub mod Bits
+pub mod Clear
+pub mod HexDigits
+pub mod Ones
+pub mod Part
+pub mod Written

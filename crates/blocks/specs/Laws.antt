@@ -1,0 +1,11 @@
+pub mod Acceptable
+pub mod Bits
+pub mod Count
+pub mod Exactly
+pub mod Joins
+pub mod Measure
+pub mod Offsets
+pub mod Passed
+pub mod Rising
+pub mod Row
+pub mod Taken

@@ -1,0 +1,9 @@
+pub mod Acceptable
+pub mod Bits
+pub mod Cases
+pub mod Count
+pub mod Exactly
+pub mod Measure
+pub mod Passed
+pub mod Rising
+pub mod Row

@@ -1,0 +1,36 @@
+-- `reach_row` meets its contract: the passes were refused, or the row is traced.
+use mathlib.Core.Path.{sym, ap, subst, _∙_}
+use Rattle.build_sights.specs.Visits.{programOf, rowOf}
+use Rattle.build_map.specs.Steps.{Few, rowReach}
+use borrow.Author.Needs.{needs}
+use Rattle.build_map.proofs.maps.reach_row.Statement.{statement}
+use Rattle.build_map.proofs.maps.reach_row.Tie as tie
+
+enum-known-settled : tie.Need-enum-known-settled
+enum-known-settled c = search needs
+
+met-requires : tie.Need-met-requires
+met-requires c κs = subst Few (c .before .settled .given .1) (c .before .before .before .before .before .before .before .before .pre .1)
+
+enum-told : tie.Need-enum-told
+enum-told c = search needs
+
+trace-row-requires : tie.Need-trace-row-requires
+trace-row-requires c κs = search needs
+
+returns : tie.Need-returns
+returns c =
+    let a = c .before .before .before .before .before .before .before .before .before .args in
+    let p = programOf (a .banks) (a .kinds .now) (a .operands .now) (a .first .now) in
+    c .met .ensures ∙ sym (ap (rowReach p (rowOf (a .numbers .now) (a .states .now)) (a .closed)) (c .before .before .settled .given .1))
+
+returns-2 : tie.Need-returns-2
+returns-2 c =
+    let a = c .before .before .before .before .before .before .before .before .args in
+    let p = programOf (a .banks) (a .kinds .now) (a .operands .now) (a .first .now) in
+    c .trace-row .ensures ∙ sym (ap (rowReach p (rowOf (a .numbers .now) (a .states .now)) (a .closed)) (c .before .enum-told .given .1))
+
+pub reach-row-spec : {M : Type 1} → statement M
+reach-row-spec =
+    tie.close
+    (tie.spec enum-known-settled met-requires enum-told trace-row-requires returns returns-2)

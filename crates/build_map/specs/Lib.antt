@@ -1,0 +1,6 @@
+pub mod AsBuilt
+pub mod Calls
+pub mod Map
+pub mod Steps
+pub mod Theorems
+pub mod Laws

@@ -1,0 +1,250 @@
+// The map: the passes, then how far the row of the last one goes, then the entries.
+use crate::Fault;
+use crate::Map;
+use crate::Reach;
+use crate::entries::write_entries;
+use crate::tracing::trace_row;
+use bankdef::Bankdefs;
+use refusal::Place;
+use refusal::Refusal;
+use refusal::Verdict;
+use resolver::Choices;
+use resolver::Settled;
+ghost use mathlib.Core.Path.{_≡_};
+ghost use Prim.Native.Nat.{ℕ, _+_, _*_, _-_, _≤_, _<_, min};
+ghost use lib.ListN.{length, replicate};
+ghost use Rattle.refusal.specs.Limits.{maxNodes, maxRows};
+ghost use Rattle.refusal.specs.Refusals.{numberOf};
+ghost use Rattle.lists.specs.Lists.{lists};
+ghost use Rattle.build_sights.specs.Visits.{programOf, rowOf};
+ghost use Rattle.output.specs.Output.{input};
+ghost use Rattle.build_map.specs.Map.{nodeOf, metReach, firstIn, lent, Maps};
+ghost use Rattle.build_map.specs.Steps.{Few, rowReach, RowMapped, verdictOf, mapless};
+
+fn first_in(place: Place) -> u64
+    ensures { λ r. ⌜ r ≡ firstIn place ⌝ }
+{
+    match place {
+        Place::One(p) => p,
+        Place::Two(p, _) => p,
+    }
+}
+
+fn reach(why: Refusal, nodes: u64, fault: Fault) -> Reach
+    ensures { λ r. ⌜ r ≡ record { verdict = Verdict.Refused why; nodes = nodes; fault = fault } ⌝ }
+{
+    Reach {
+        verdict: Verdict::Refused(why),
+        nodes,
+        fault,
+    }
+}
+
+// How far n nodes go where the passes are refused.
+fn met(why: Refusal, n: u64) -> Reach
+    requires { ⌜ (numberOf why ≡ 7 → nodeOf why < maxNodes) ⌝ }
+    ensures { λ r. ⌜ r ≡ metReach n why ⌝ }
+{
+    let number = refusal::number(why);
+    let node = first_in(refusal::place_of(why));
+    if number == 5 {
+        return reach(why, node, Fault::At(node));
+    }
+    if number == 7 {
+        return reach(why, node + 1, Fault::At(node));
+    }
+    if number == 8 {
+        return reach(why, n, Fault::None);
+    }
+    reach(why, 0, Fault::None)
+}
+
+// How far the nodes of the last row go.
+fn reach_row(
+    banks: Bankdefs,
+    kinds: &[u8],
+    operands: &[u32],
+    first: &[u32],
+    numbers: &[u32],
+    states: &[u8],
+    closed: bool,
+    settled: Settled,
+) -> Reach
+    requires { ⌜ length (now kinds) ≤ maxNodes ⌝ }
+    requires { ⌜ Few settled ⌝ }
+    ensures { λ r. ⌜
+        r ≡ rowReach (programOf banks (now (kinds .entry)) (now (operands .entry)) (now (first .entry)))
+        (rowOf (now (numbers .entry)) (now (states .entry))) closed settled
+        ⌝ }
+{
+    match settled {
+        Settled::Refused(why) => met(why, kinds.len() as u64),
+        Settled::At(_) => trace_row(banks, kinds, operands, first, numbers, states, closed),
+    }
+}
+
+// The map over the row of the last pass.
+fn map_row(
+    banks: Bankdefs,
+    kinds: &[u8],
+    operands: &[u32],
+    first: &[u32],
+    numbers: &[u32],
+    states: &[u8],
+    closed: bool,
+    settled: Settled,
+    passes: u64,
+    banks_of: &mut [u64],
+    positions: &mut [u32],
+    outputs: &mut [u64],
+    sizes: &mut [u32],
+) -> Map
+    requires { ⌜ length (now kinds) ≤ maxNodes ⌝ }
+    requires { ⌜ Few settled ⌝ }
+    requires { ⌜
+        (length (now «banks_of») ≡ maxNodes) × (length (now positions) ≡ maxNodes) × (length (now outputs) ≡ maxNodes)
+        × (length (now sizes) ≡ maxNodes)
+        ⌝ }
+    requires { ⌜
+        rowReach (programOf banks (now kinds) (now operands) (now first)) (rowOf (now numbers) (now states)) closed settled .nodes ≤ maxNodes
+        ⌝ }
+    ensures { λ r. ⌜
+        RowMapped (programOf banks (now (kinds .entry)) (now (operands .entry)) (now (first .entry)))
+        (rowOf (now (numbers .entry)) (now (states .entry))) closed settled passes
+        (lent (now («banks_of» .entry)) (now (positions .entry)) (now (outputs .entry)) (now (sizes .entry))) r
+        (lent (now («banks_of» .exit)) (now (positions .exit)) (now (outputs .exit)) (now (sizes .exit)))
+        ⌝ }
+{
+    let reach = reach_row(
+        banks,
+        kinds,
+        operands,
+        first,
+        numbers,
+        states,
+        closed,
+        settled,
+    );
+    let verdict = reach.verdict;
+    let nodes = reach.nodes;
+    let fault = reach.fault;
+    let padding = write_entries(
+        banks,
+        kinds,
+        operands,
+        first,
+        numbers,
+        states,
+        nodes as usize,
+        banks_of,
+        positions,
+        outputs,
+        sizes,
+    );
+    Map {
+        verdict,
+        passes,
+        nodes,
+        fault,
+        padding,
+    }
+}
+
+fn verdict_of(settled: Settled) -> Verdict
+    ensures { λ r. ⌜ r ≡ verdictOf settled ⌝ }
+{
+    match settled {
+        Settled::Refused(why) => Verdict::Refused(why),
+        Settled::At(_) => Verdict::Accepted,
+    }
+}
+
+// Where no pass was run: nothing is shown.
+fn unmapped(settled: Settled) -> Map
+    ensures { λ r. ⌜ r ≡ mapless settled ⌝ }
+{
+    Map {
+        verdict: verdict_of(settled),
+        passes: 0,
+        nodes: 0,
+        fault: Fault::None,
+        padding: [0u64; 16],
+    }
+}
+
+fn shorter(a: u64, b: u64) -> u64
+    ensures { λ r. ⌜ r ≡ min a b ⌝ }
+{
+    if a < b { a } else { b }
+}
+
+// Where the row of a pass begins in the lists. "Pass n reads row n, or the last row if there are fewer." Rows are counted from 0.
+fn row_start(rows: u64, passes: u64, n: usize) -> usize
+    requires { ⌜ (1 ≤ rows) × (rows ≤ maxRows) × (n ≤ maxNodes) × (1 ≤ passes) ⌝ }
+    ensures { λ r. ⌜ r ≡ (min passes rows - 1) * n ⌝ }
+    ensures { λ r. ⌜ r + n ≤ rows * n ⌝ }
+{
+    let last = shorter(passes, rows);
+    ((last - 1) as usize) * n
+}
+
+// The map of a layout. The lists have a place for each node that a layout can have. What is refused before any pass, 1 to 4, changes nothing that is lent;
+// for any other refusal the map is the answer, and the verdict a part of it.
+pub fn map_nodes(
+    banks: Bankdefs,
+    kinds: &[u8],
+    operands: &[u32],
+    numbers: &[u32],
+    states: &[u8],
+    rows: u64,
+    values: &[u8],
+    choices: Choices,
+    banks_of: &mut [u64; 4096],
+    positions: &mut [u32; 4096],
+    outputs: &mut [u64; 4096],
+    sizes: &mut [u32; 4096],
+) -> Map
+    ensures { λ r. ⌜
+        Maps
+        (input banks
+        (lists (now (kinds .entry)) (now (operands .entry)) (now (numbers .entry)) (now (states .entry)) rows (now (values .entry)))
+        choices)
+        (lent (now («banks_of» .entry)) (now (positions .entry)) (now (outputs .entry)) (now (sizes .entry))) r
+        (lent (now («banks_of» .exit)) (now (positions .exit)) (now (outputs .exit)) (now (sizes .exit)))
+        ⌝ }
+{
+    let resolution = resolver::resolve(
+        banks,
+        kinds,
+        operands,
+        numbers,
+        states,
+        rows,
+        values,
+        choices,
+    );
+    let settled = resolution.settled;
+    let passes = resolution.passes;
+    if passes == 0 {
+        return unmapped(settled);
+    }
+    let n = kinds.len();
+    let a = row_start(rows, passes, n);
+    let e = a + n;
+    let closed = build_plan::closes_default(banks.len, choices.default_bank);
+    map_row(
+        banks,
+        kinds,
+        operands,
+        &numbers[0..n],
+        &numbers[a..e],
+        &states[a..e],
+        closed,
+        settled,
+        passes,
+        banks_of,
+        positions,
+        outputs,
+        sizes,
+    )
+}

@@ -1,0 +1,5 @@
+pub mod InProfile
+pub mod Nineteen
+pub mod Pages
+pub mod Ragged
+pub mod Same

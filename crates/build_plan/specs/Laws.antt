@@ -1,0 +1,3 @@
+pub mod Kinds
+pub mod PlacingLaws
+pub mod Plan

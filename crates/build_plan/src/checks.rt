@@ -1,0 +1,101 @@
+// Refusals 9, 10 and 11 at a node.
+use bankdef::Bankdef;
+use build_sights::is_written;
+use build_sights::size_of;
+use iter::Node;
+use iter::Pos;
+use refusal::LABEL;
+use refusal::Offset;
+use refusal::Opt;
+use refusal::RESERVE;
+use refusal::Refusal;
+use refusal::Verdict;
+ghost use mathlib.Core.Path.{_≡_};
+ghost use mathlib.Core.Bool.{_&&_};
+ghost use Rattle.build_sights.specs.Items.{isWritten};
+ghost use Rattle.build_plan.specs.Placing.{isPlaced, endsPast, lacksOutput, closesDefault, usesDefault, checked};
+
+// "labels (size 0), written items (4, 5, 6) and reserves"
+pub fn is_placed(node: Node) -> bool
+    ensures { λ r. ⌜ r ≡ isPlaced node ⌝ }
+{
+    if node.kind == LABEL {
+        return true;
+    }
+    if is_written(node) {
+        return true;
+    }
+    node.kind == RESERVE
+}
+
+fn ends_past(size: Opt, end: u64) -> bool
+    ensures { λ r. ⌜ r ≡ endsPast size end ⌝ }
+{
+    match size {
+        Opt::None => false,
+        Opt::Some(s) => (s as u64) < end,
+    }
+}
+
+fn lacks_output(out: Offset) -> bool
+    ensures { λ r. ⌜ r ≡ lacksOutput out ⌝ }
+{
+    match out {
+        Offset::None => true,
+        Offset::At(_) => false,
+    }
+}
+
+// "9: bank 0 is used while other banks exist", "even when it is alone" where it may not be used alone: whether bank 0 is closed.
+pub fn closes_default(banks: u64, alone: bool) -> bool
+    ensures { λ r. ⌜ r ≡ closesDefault banks alone ⌝ }
+{
+    if alone {
+        return 1 < banks;
+    }
+    true
+}
+
+fn check_bank_usage(closed: bool, bank: u64) -> bool
+    ensures { λ r. ⌜ r ≡ usesDefault closed bank ⌝ }
+{
+    if bank == 0 {
+        return closed;
+    }
+    false
+}
+
+// "11: an item is written in a bank without output offset"
+fn written_nowhere(node: Node, out: Offset) -> bool
+    ensures { λ r. ⌜ r ≡ isWritten node && lacksOutput out ⌝ }
+{
+    if is_written(node) {
+        return lacks_output(out);
+    }
+    false
+}
+
+// 9, 10 and 11, in this order.
+pub fn check_place(
+    closed: bool,
+    bank: u64,
+    def: Bankdef,
+    node: Node,
+    at: Pos,
+    out: Offset,
+) -> Verdict
+    ensures { λ r. ⌜ r ≡ checked closed bank def node at out ⌝ }
+{
+    let size = def.size;
+    let end = (at.position as u64) + size_of(node);
+    if check_bank_usage(closed, bank) {
+        return Verdict::Refused(Refusal::DefaultBank(node.index));
+    }
+    if ends_past(size, end) {
+        return Verdict::Refused(Refusal::PastBank(node.index));
+    }
+    if written_nowhere(node, out) {
+        return Verdict::Refused(Refusal::NoOutput(node.index));
+    }
+    Verdict::Accepted
+}

@@ -1,0 +1,301 @@
+// The first walk over a row, which decides everything and writes nothing: refusals 9 to 13, the image's length, the spans and the padding.
+mod checks;
+
+use crate::checks::check_place;
+use crate::checks::is_placed;
+use bankdef::Bankdef;
+use bankdef::Bankdefs;
+use build_sights::is_span;
+use build_sights::is_written;
+use build_sights::origins;
+use build_sights::see_node;
+pub use checks::closes_default;
+use iter::Moved;
+use iter::Node;
+use iter::bank_after;
+use iter::lost_after;
+use lists::node_at;
+use overlap_checker::Offered;
+use refusal::LABEL;
+use refusal::Offset;
+use refusal::Refusal;
+use refusal::Verdict;
+ghost use mathlib.Core.Path.{_≡_};
+ghost use mathlib.Core.Bool.{true};
+ghost use Prim.Native.Nat.{ℕ, _+_, _≤_};
+ghost use lib.ListN.{length};
+ghost use Rattle.refusal.specs.Limits.{maxOffer, maxNodes};
+ghost use Rattle.refusal.specs.Pick.{pick};
+ghost use Rattle.refusal.specs.declared.Offset.the-variants.{At as Out};
+ghost use Rattle.refusal.specs.declared.Verdict.the-variants.{Accepted};
+ghost use Rattle.resolver.specs.Switches.{Switches};
+ghost use Rattle.overlap_checker.specs.Lent.{lent as store, stateIn, Sound};
+ghost use Rattle.build_sights.specs.Items.{itemAt, lengthOf};
+ghost use Rattle.build_sights.specs.Spans.{isSpan};
+ghost use Rattle.build_sights.specs.Visits.{programOf, rowOf};
+ghost use Rattle.build_plan.specs.Placing.{isPlaced, offerAt, answered, verdictSeen};
+ghost use Rattle.build_plan.specs.Plan.{maxEnd, planRefused, planAccepted, planOf};
+ghost use Rattle.build_plan.specs.Steps.{Goes};
+
+// The offer of a node that is placed: a label makes none, and neither does what stands nowhere in the output.
+fn offer_node(
+    node: Node,
+    out: Offset,
+    positions: &mut [u64; 512],
+    sizes: &mut [u64; 512],
+    count: usize,
+    marks: &mut [u64; 512],
+    mark_count: usize,
+) -> Offered
+    requires { ⌜ Sound (store (now positions) (now sizes) count (now marks) «mark_count») ⌝ }
+    requires { ⌜ isPlaced node ≡ true ⌝ }
+    requires { ⌜ ((o : ℕ) → out ≡ Out o → o ≤ maxOffer) ⌝ }
+    ensures { λ r. ⌜
+        r .verdict ≡ answered (stateIn (store (now (positions .entry)) (now (sizes .entry)) count (now (marks .entry)) «mark_count»))
+        (node .index) (offerAt node out)
+        ⌝ }
+    ensures { λ r. ⌜
+        Goes (store (now (positions .entry)) (now (sizes .entry)) count (now (marks .entry)) «mark_count») (offerAt node out) (r .verdict)
+        (store (now (positions .exit)) (now (sizes .exit)) (r .count) (now (marks .exit)) (r .marks))
+        ⌝ }
+{
+    match out {
+        Offset::None => Offered {
+            verdict: Verdict::Accepted,
+            count,
+            marks: mark_count,
+        },
+        Offset::At(o) => {
+            if node.kind == LABEL {
+                return Offered {
+                    verdict: Verdict::Accepted,
+                    count,
+                    marks: mark_count,
+                };
+            }
+            overlap_checker::offer(
+                positions,
+                sizes,
+                count,
+                marks,
+                mark_count,
+                o,
+                node.number as u64,
+                node.index,
+            )
+        }
+    }
+}
+
+// The verdict on a node by the position that it sees: 5 where the walk stops there, then 9 to 13. And how many intervals and marks are stored then.
+pub fn place(
+    closed: bool,
+    bank: u64,
+    def: Bankdef,
+    node: Node,
+    seen: Moved,
+    out: Offset,
+    positions: &mut [u64; 512],
+    sizes: &mut [u64; 512],
+    count: usize,
+    marks: &mut [u64; 512],
+    mark_count: usize,
+) -> Offered
+    requires { ⌜ Sound (store (now positions) (now sizes) count (now marks) «mark_count») ⌝ }
+    requires { ⌜ ((o : ℕ) → out ≡ Out o → o ≤ maxOffer) ⌝ }
+    ensures { λ r. ⌜
+        r .verdict ≡ verdictSeen closed bank def
+        (stateIn (store (now (positions .entry)) (now (sizes .entry)) count (now (marks .entry)) «mark_count»)) node out seen
+        ⌝ }
+    ensures { λ r. ⌜
+        Goes (store (now (positions .entry)) (now (sizes .entry)) count (now (marks .entry)) «mark_count») (offerAt node out) (r .verdict)
+        (store (now (positions .exit)) (now (sizes .exit)) (r .count) (now (marks .exit)) (r .marks))
+        ⌝ }
+{
+    match seen {
+        Moved::Refused(why) => Offered {
+            verdict: Verdict::Refused(why),
+            count,
+            marks: mark_count,
+        },
+        Moved::To(at) => {
+            if !is_placed(node) {
+                return Offered {
+                    verdict: Verdict::Accepted,
+                    count,
+                    marks: mark_count,
+                };
+            }
+            let checked = check_place(closed, bank, def, node, at, out);
+            match checked {
+                Verdict::Refused(why) => Offered {
+                    verdict: Verdict::Refused(why),
+                    count,
+                    marks: mark_count,
+                },
+                Verdict::Accepted => {
+                    offer_node(node, out, positions, sizes, count, marks, mark_count)
+                }
+            }
+        }
+    }
+}
+
+// "Image length is the larger of the fill's and the furthest end of a written item": the length after a node.
+fn length_after(node: Node, out: Offset, length: u64) -> u64
+    requires { ⌜ ((o : ℕ) → out ≡ Out o → o ≤ maxOffer) ⌝ }
+    requires { ⌜ length ≤ maxEnd ⌝ }
+    ensures { λ r. ⌜ r ≡ lengthOf length (itemAt node out) ⌝ }
+    ensures { λ r. ⌜ r ≤ maxEnd ⌝ }
+{
+    if !is_written(node) {
+        return length;
+    }
+    match out {
+        Offset::None => length,
+        Offset::At(o) => {
+            let end = o + (node.number as u64);
+            if length < end {
+                return end;
+            }
+            length
+        }
+    }
+}
+
+fn spans_after(node: Node, spans: u64) -> u64
+    requires { ⌜ spans ≤ maxNodes ⌝ }
+    ensures { λ r. ⌜ r ≡ pick (isSpan node) (spans + 1) spans ⌝ }
+{
+    if is_span(node) { spans + 1 } else { spans }
+}
+
+// The image's length and the number of spans, so far.
+pub struct Sums {
+    pub length: u64,
+    pub spans: u64,
+}
+
+// "Image length is the larger of the fill's and ..": before the first node.
+fn no_sums(fill: u64) -> Sums
+    ensures { λ r. ⌜ r ≡ record { length = fill; spans = 0 } ⌝ }
+{
+    Sums {
+        length: fill,
+        spans: 0,
+    }
+}
+
+fn sums_after(node: Node, out: Offset, sums: Sums) -> Sums
+    requires { ⌜ ((o : ℕ) → out ≡ Out o → o ≤ maxOffer) ⌝ }
+    requires { ⌜ (sums .length ≤ maxEnd) × (sums .spans ≤ maxNodes) ⌝ }
+    ensures { λ r. ⌜ r .length ≡ lengthOf (sums .length) (itemAt node out) ⌝ }
+    ensures { λ r. ⌜ r .length ≤ maxEnd ⌝ }
+    ensures { λ r. ⌜ r .spans ≡ pick (isSpan node) (sums .spans + 1) (sums .spans) ⌝ }
+{
+    Sums {
+        length: length_after(node, out, sums.length),
+        spans: spans_after(node, sums.spans),
+    }
+}
+
+// What the first walk finds: the verdict on all nodes, and the image's length, the number of spans and each bank's padding. Refused, zeros.
+pub struct Plan {
+    pub verdict: Verdict,
+    pub length: u64,
+    pub spans: u64,
+    pub padding: [u64; 16],
+}
+
+fn refused_plan(why: Refusal) -> Plan
+    ensures { λ r. ⌜ r ≡ planRefused why ⌝ }
+{
+    Plan {
+        verdict: Verdict::Refused(why),
+        length: 0,
+        spans: 0,
+        padding: [0u64; 16],
+    }
+}
+
+fn accepted_plan(sums: Sums, padding: [u64; 16]) -> Plan
+    ensures { λ r. ⌜ r ≡ planAccepted (sums .length) (sums .spans) padding ⌝ }
+{
+    Plan {
+        verdict: Verdict::Accepted,
+        length: sums.length,
+        spans: sums.spans,
+        padding,
+    }
+}
+
+// An empty store.
+fn none_stored() -> Offered
+    ensures { λ r. ⌜ r ≡ record { verdict = Accepted; count = 0; marks = 0 } ⌝ }
+{
+    Offered {
+        verdict: Verdict::Accepted,
+        count: 0,
+        marks: 0,
+    }
+}
+
+// The first walk over the row of the last pass. It decides everything and writes nothing that is lent.
+pub fn plan_row(
+    banks: Bankdefs,
+    kinds: &[u8],
+    operands: &[u32],
+    first: &[u32],
+    numbers: &[u32],
+    states: &[u8],
+    closed: bool,
+    fill: u64,
+) -> Plan
+    requires { ⌜ (fill ≤ maxOffer) × (length (now kinds) ≤ maxNodes) ⌝ }
+    requires { ⌜ Switches (banks .len) (now kinds) (now operands) ⌝ }
+    ensures { λ r. ⌜
+        r ≡ planOf (programOf banks (now (kinds .entry)) (now (operands .entry)) (now (first .entry)))
+        (rowOf (now (numbers .entry)) (now (states .entry))) closed fill
+        ⌝ }
+    ensures { λ r. ⌜ r .length ≤ maxEnd ⌝ }
+{
+    let mut positions = [0u64; 512];
+    let mut sizes = [0u64; 512];
+    let mut marks = [0u64; 512];
+    let mut stored = none_stored();
+    let mut at = origins();
+    let mut lost = [0u64; 16];
+    let mut bank: u64 = 0;
+    let mut sums = no_sums(fill);
+    let mut i = 0;
+    while i < kinds.len() {
+        let node = node_at(kinds, operands, first, numbers, states, i);
+        bank = bank_after(bank, node);
+        let sight = see_node(banks.defs[bank as usize], at[bank as usize], node);
+        let seen = sight.seen;
+        let out = sight.out;
+        stored = place(
+            closed,
+            bank,
+            banks.defs[bank as usize],
+            node,
+            seen,
+            out,
+            &mut positions,
+            &mut sizes,
+            stored.count,
+            &mut marks,
+            stored.marks,
+        );
+        let verdict = stored.verdict;
+        if let Verdict::Refused(why) = verdict {
+            return refused_plan(why);
+        }
+        sums = sums_after(node, out, sums);
+        let after = sight.after;
+        at[bank as usize] = after;
+        lost[bank as usize] = lost_after(lost[bank as usize], sight.bits);
+        i += 1;
+    }
+    accepted_plan(sums, lost)
+}

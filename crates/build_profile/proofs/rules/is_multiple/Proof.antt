@@ -1,0 +1,17 @@
+-- The remainder by 0 is the number itself.
+use native.Mathlib.Nat.{mod-zero}
+use borrow.Author.Needs.{needs}
+use Rattle.build_profile.proofs.rules.is_multiple.Statement.{statement}
+use Rattle.build_profile.proofs.rules.is_multiple.Tie as tie
+
+returns : tie.Need-returns
+returns c = rw (c .if1 .taken, mod-zero (c .before .args .x))
+
+rem-result : tie.Need-rem-result
+rem-result c = search needs
+
+returns-2 : tie.Need-returns-2
+returns-2 c = search needs
+
+pub is-multiple-spec : {M : Type 1} → statement M
+is-multiple-spec = tie.close (tie.spec returns rem-result returns-2)

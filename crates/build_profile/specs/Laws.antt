@@ -1,0 +1,5 @@
+pub mod Exactly
+pub mod Keeping
+pub mod OneBit
+pub mod PageFacts
+pub mod RuleLaws

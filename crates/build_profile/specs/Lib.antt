@@ -1,0 +1,13 @@
+pub mod Cases
+pub mod Keeping
+pub mod Kept
+pub mod OneBit
+pub mod Pages
+pub mod Profile
+pub mod RuleLaws
+pub mod Rules
+pub mod Standing
+pub mod Steps
+pub mod Told
+pub mod Theorems
+pub mod Laws

@@ -1,0 +1,8 @@
+pub mod Cases
+pub mod Exactly
+pub mod Keeping
+pub mod Kept
+pub mod OneBit
+pub mod PageFacts
+pub mod Standing
+pub mod Told

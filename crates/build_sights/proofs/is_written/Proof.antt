@@ -1,0 +1,15 @@
+-- `is_written` meets its contract: the two tests of the definition.
+use borrow.Author.Tests.{le-leb, lt-leb}
+use Rattle.build_sights.proofs.is_written.Statement.{statement}
+use Rattle.build_sights.proofs.is_written.Tie as tie
+use Rattle.build_sights.proofs.is_written.Reads as reads
+use Rattle.build_sights.proofs.is_written.Lts as lts
+
+returns : tie.Need-returns
+returns c = rw (le-leb 4 (c .before .args .node .kind) (c .if1 .taken))
+
+returns-2 : tie.Need-returns-2
+returns-2 c = rw (lt-leb 4 (c .before .args .node .kind) (c .if1 .left))
+
+pub is-written-spec : {M : Type 1} → statement M
+is-written-spec = tie.close (tie.spec returns returns-2)

@@ -1,0 +1,49 @@
+-- `visit_node` meets its contract: its parts are what the callees answer.
+use borrow.Author.Needs.{needs}
+use Rattle.build_sights.proofs.visit_node.Statement.{statement}
+use Rattle.build_sights.proofs.visit_node.Tie as tie
+use Rattle.build_sights.proofs.visit_node.Reads as reads
+use Rattle.build_sights.proofs.visit_node.Lts as lts
+use Rattle.iter.proofs.bank_after.Reads as bank-after-reads
+use Rattle.iter.proofs.step.Reads as step-reads
+use Rattle.build_sights.proofs.out_of.Reads as out-of-reads
+use Rattle.lists.proofs.node_at.Reads as node-at-reads
+use Rattle.resolver.proofs.bank_record.Reads as bank-record-reads
+
+node-at-requires : tie.Need-node-at-requires
+node-at-requires c κs = search needs
+
+bank-after-requires : tie.Need-bank-after-requires
+bank-after-requires c κs = search needs
+
+bank-record-requires : tie.Need-bank-record-requires
+bank-record-requires c κs = search needs
+
+step-requires : tie.Need-step-requires
+step-requires c κs = search needs
+
+out-of-requires : tie.Need-out-of-requires
+out-of-requires c κs = search needs
+
+returns : tie.Need-returns
+returns c = (
+  rw (
+    c .out-of .ensures .0,
+    c .before .before .step .ensures .0,
+    c .before .before .before .bank-record .ensures,
+    c .before .before .before .before .bank-after .ensures,
+    c .before .before .before .before .before .node-at .ensures,
+  ),
+  c .out-of .ensures .1,
+)
+
+pub visit-node-spec : {M : Type 1} → statement M
+visit-node-spec =
+    tie.close
+    (tie.spec
+    node-at-requires
+    bank-after-requires
+    bank-record-requires
+    step-requires
+    out-of-requires
+    returns)

@@ -1,0 +1,3 @@
+pub mod ItemLaws
+pub mod Upto
+pub mod VisitLaws

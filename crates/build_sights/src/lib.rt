@@ -1,0 +1,144 @@
+// What the build sees of each node in turn, in the row of the last pass.
+use bankdef::Bankdef;
+use bankdef::Bankdefs;
+use iter::Moved;
+use iter::Node;
+use iter::Pos;
+use iter::Walk;
+use refusal::INSTRUCTION;
+use refusal::LABEL;
+use refusal::OPEN_DATA;
+use refusal::Offset;
+ghost use mathlib.Core.Path.{_≡_};
+ghost use Prim.Native.Nat.{ℕ, _≤_};
+ghost use lib.ListN.{replicate};
+ghost use Rattle.refusal.specs.Limits.{maxBanks, maxOffer};
+ghost use Rattle.refusal.specs.declared.Offset.the-variants.{At as Out};
+ghost use Rattle.iter.specs.Address.{outputPosition};
+ghost use Rattle.iter.specs.Step.{origin};
+ghost use Rattle.build_sights.specs.Items.{isWritten};
+ghost use Rattle.build_sights.specs.Spans.{isSpan, sizeOf};
+ghost use Rattle.build_sights.specs.Visits.{programOf, rowOf, seenPos, sightOf, visitOf};
+
+// A node, the bank that it stands in, the position that it sees, where that is in the output, and the walk after it.
+pub struct Visit {
+    pub node: Node,
+    pub bank: u64,
+    pub def: Bankdef,
+    pub seen: Moved,
+    pub out: Offset,
+    pub walk: Walk,
+}
+
+// Where a position that a node sees is in the output; a node that the walk stops at sees none, and counts as at 0.
+fn out_of(def: Bankdef, seen: Moved) -> Offset
+    ensures { λ r. ⌜ r ≡ outputPosition def (seenPos seen .position) ⌝ }
+    ensures { λ r. ⌜ ((o : ℕ) → r ≡ Out o → o ≤ maxOffer) ⌝ }
+{
+    match seen {
+        Moved::To(at) => iter::get_output_position(def, at.position),
+        Moved::Refused(_) => iter::get_output_position(def, 0),
+    }
+}
+
+// "Each bank's position starts at 0, known"
+pub fn origins() -> [Pos; 16]
+    ensures { λ r. ⌜ r ≡ replicate maxBanks origin ⌝ }
+{
+    let origin = Pos {
+        position: 0,
+        known: true,
+    };
+    [origin; 16]
+}
+
+// What a node shows in its bank alone: the position that it sees, where that is in the output, the bits that it loses there, and the bank's
+// position afterwards.
+pub struct Sight {
+    pub seen: Moved,
+    pub out: Offset,
+    pub bits: u32,
+    pub after: Pos,
+}
+
+// A node seen in the bank that it stands in, whose position is `at`.
+pub fn see_node(def: Bankdef, at: Pos, node: Node) -> Sight
+    ensures { λ r. ⌜ r ≡ sightOf def at node ⌝ }
+    ensures { λ r. ⌜ ((o : ℕ) → r .out ≡ Out o → o ≤ maxOffer) ⌝ }
+{
+    let crossing = iter::cross(def, at, node);
+    let seen = crossing.seen;
+    let skipped = crossing.skipped;
+    let out = out_of(def, seen);
+    let after = crossing.after;
+    Sight {
+        seen,
+        out,
+        bits: skipped.bits,
+        after,
+    }
+}
+
+// Node i of a row, as a walk meets it.
+pub fn visit_node(
+    banks: Bankdefs,
+    kinds: &[u8],
+    operands: &[u32],
+    first: &[u32],
+    numbers: &[u32],
+    states: &[u8],
+    walk: Walk,
+    i: usize,
+) -> Visit
+    ensures { λ r. ⌜
+        r ≡ visitOf (programOf banks (now (kinds .entry)) (now (operands .entry)) (now (first .entry)))
+        (rowOf (now (numbers .entry)) (now (states .entry))) walk i
+        ⌝ }
+    ensures { λ r. ⌜ ((o : ℕ) → r .out ≡ Out o → o ≤ maxOffer) ⌝ }
+{
+    let node = lists::node_at(kinds, operands, first, numbers, states, i);
+    let bank = iter::bank_after(walk.bank, node);
+    let def = resolver::bank_record(banks, bank);
+    let stepped = iter::step(def, walk, node);
+    let seen = stepped.seen;
+    let next = stepped.walk;
+    let out = out_of(def, seen);
+    Visit {
+        node,
+        bank,
+        def,
+        seen,
+        out,
+        walk: next,
+    }
+}
+
+// "written items (4, 5, 6)"
+pub fn is_written(node: Node) -> bool
+    ensures { λ r. ⌜ r ≡ isWritten node ⌝ }
+{
+    let kind = node.kind;
+    INSTRUCTION <= kind && kind <= OPEN_DATA
+}
+
+// "Spans are labels (size 0) and written items"
+pub fn is_span(node: Node) -> bool
+    ensures { λ r. ⌜ r ≡ isSpan node ⌝ }
+{
+    if node.kind == LABEL {
+        return true;
+    }
+    is_written(node)
+}
+
+// "labels (size 0)"
+pub fn size_of(node: Node) -> u64
+    ensures { λ r. ⌜ r ≡ sizeOf node ⌝ }
+    ensures { λ r. ⌜ r ≤ 4294967295 ⌝ }
+{
+    if node.kind == LABEL {
+        0
+    } else {
+        node.number as u64
+    }
+}

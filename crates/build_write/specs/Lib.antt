@@ -1,0 +1,4 @@
+pub mod Blank
+pub mod Steps
+pub mod Writes
+pub mod Laws

@@ -1,0 +1,159 @@
+// The second walk over a row, which writes: the image's bits and the spans, once everything is decided.
+mod blank;
+
+use crate::blank::lay_blank;
+use bankdef::Bankdef;
+use bankdef::Bankdefs;
+use build_sights::is_span;
+use build_sights::is_written;
+use build_sights::origins;
+use build_sights::see_node;
+use build_sights::size_of;
+use iter::Address;
+use iter::Moved;
+use iter::Node;
+use iter::bank_after;
+use lists::node_at;
+use refusal::Offset;
+ghost use mathlib.Core.Path.{_≡_};
+ghost use mathlib.Core.Bool.{true};
+ghost use Prim.Native.Nat.{_+_, _<_};
+ghost use lib.ListN.{length, set};
+ghost use Rattle.refusal.specs.Pick.{pick};
+ghost use Rattle.bankdef.specs.Check.{banksOf};
+ghost use Rattle.blocks.specs.Offsets.{wordOf};
+ghost use Rattle.iter.specs.Address.{addressOf};
+ghost use Rattle.resolver.specs.Switches.{Switches};
+ghost use Rattle.build_sights.specs.Items.{itemAt, itemsOf, imageOf};
+ghost use Rattle.build_sights.specs.Spans.{isSpan, sizeOf, addressTold, spansOf, over, addresses as addressesOf, words as wordsOf, sizes as sizesOf};
+ghost use Rattle.build_sights.specs.Visits.{programOf, rowOf, seenPos, visits};
+ghost use Rattle.build_write.specs.Blank.{blankOf};
+ghost use Rattle.build_write.specs.Writes.{Fit, HasRoom};
+
+// A written item's bits, at its place in the image; any other node leaves the image as it is.
+fn write_item(node: Node, out: Offset, values: &[u8], image: &mut [u8])
+    requires { ⌜ Fit (length (now values)) (length (now image)) (itemAt node out) ⌝ }
+    ensures { λ _. ⌜ now (image .exit) ≡ imageOf (now (values .entry)) (now (image .entry)) (itemAt node out) ⌝ }
+{
+    if !is_written(node) {
+        return;
+    }
+    match out {
+        Offset::None => {}
+        Offset::At(o) => {
+            bitvec::write_bits(image, o, values, node.operand as u64, node.number as u64);
+        }
+    }
+}
+
+// The position that a node sees, in bits.
+fn position_of(seen: Moved) -> u32
+    ensures { λ r. ⌜ r ≡ seenPos seen .position ⌝ }
+{
+    match seen {
+        Moved::To(at) => at.position,
+        Moved::Refused(_) => 0,
+    }
+}
+
+// The address of the position that a node sees, in whole units. A sound table has one for every bank, and an accepted walk one
+// for every node.
+fn address_of(def: Bankdef, seen: Moved, index: u64) -> i64
+    ensures { λ r. ⌜ r ≡ addressTold (addressOf def (seenPos seen .position) index) ⌝ }
+{
+    match iter::get_address(def, position_of(seen), index) {
+        Address::At(address) => address,
+        Address::Refused(_) => 0,
+    }
+}
+
+// Node's span into each of the three lists, at `count`, where the node has one. Answers how many there are then.
+fn put_span(
+    node: Node,
+    def: Bankdef,
+    seen: Moved,
+    out: Offset,
+    count: usize,
+    addresses: &mut [i64],
+    offsets: &mut [u64],
+    sizes: &mut [u64],
+) -> usize
+    requires { ⌜ (isSpan node ≡ true → (count < length (now addresses)) × (count < length (now offsets)) × (count < length (now sizes))) ⌝ }
+    ensures count { λ r. ⌜ r ≡ pick (isSpan node) (count + 1) count ⌝ }
+    ensures addresses { λ r. ⌜
+        now (addresses .exit) ≡ pick (isSpan node)
+        (set (now (addresses .entry)) count (addressTold (addressOf def (seenPos seen .position) (node .index)))) (now (addresses .entry))
+        ⌝ }
+    ensures offsets { λ r. ⌜ now (offsets .exit) ≡ pick (isSpan node) (set (now (offsets .entry)) count (wordOf out)) (now (offsets .entry)) ⌝ }
+    ensures sizes { λ r. ⌜ now (sizes .exit) ≡ pick (isSpan node) (set (now (sizes .entry)) count (sizeOf node)) (now (sizes .entry)) ⌝ }
+{
+    if !is_span(node) {
+        return count;
+    }
+    addresses[count] = address_of(def, seen, node.index);
+    offsets[count] = blocks::word_of(out);
+    sizes[count] = size_of(node);
+    count + 1
+}
+
+// What a row leaves in everything lent: the image, the blank one and each written item's bits in it; and the spans, in node order, where the lists keep
+// their old contents past them.
+pub fn write_row(
+    banks: Bankdefs,
+    kinds: &[u8],
+    operands: &[u32],
+    first: &[u32],
+    numbers: &[u32],
+    states: &[u8],
+    values: &[u8],
+    bits: u64,
+    image: &mut [u8],
+    addresses: &mut [i64],
+    offsets: &mut [u64],
+    sizes: &mut [u64],
+)
+    requires { ⌜ Switches (banks .len) (now kinds) (now operands) ⌝ }
+    requires { ⌜
+        HasRoom (visits (programOf banks (now kinds) (now operands) (now first)) (rowOf (now numbers) (now states))) (length (now values))
+        (length (now image)) (length (now addresses)) (length (now offsets)) (length (now sizes))
+        ⌝ }
+    ensures image { λ _. ⌜
+        now (image .exit) ≡ imageOf (now (values .entry)) (blankOf (banksOf banks) bits (length (now (image .entry))))
+        (itemsOf (visits (programOf banks (now (kinds .entry)) (now (operands .entry)) (now (first .entry)))
+        (rowOf (now (numbers .entry)) (now (states .entry)))))
+        ⌝ }
+    ensures addresses { λ _. ⌜
+        now (addresses .exit) ≡ over (addressesOf (spansOf (visits (programOf banks (now (kinds .entry)) (now (operands .entry)) (now (first .entry)))
+        (rowOf (now (numbers .entry)) (now (states .entry))))))
+        (now (addresses .entry))
+        ⌝ }
+    ensures offsets { λ _. ⌜
+        now (offsets .exit) ≡ over (wordsOf (spansOf (visits (programOf banks (now (kinds .entry)) (now (operands .entry)) (now (first .entry)))
+        (rowOf (now (numbers .entry)) (now (states .entry))))))
+        (now (offsets .entry))
+        ⌝ }
+    ensures sizes { λ _. ⌜
+        now (sizes .exit) ≡ over (sizesOf (spansOf (visits (programOf banks (now (kinds .entry)) (now (operands .entry)) (now (first .entry)))
+        (rowOf (now (numbers .entry)) (now (states .entry))))))
+        (now (sizes .entry))
+        ⌝ }
+{
+    lay_blank(banks, bits, image);
+    let mut at = origins();
+    let mut bank: u64 = 0;
+    let mut count = 0;
+    let mut i = 0;
+    while i < kinds.len() {
+        let node = node_at(kinds, operands, first, numbers, states, i);
+        bank = bank_after(bank, node);
+        let def = banks.defs[bank as usize];
+        let sight = see_node(def, at[bank as usize], node);
+        let seen = sight.seen;
+        let out = sight.out;
+        write_item(node, out, values, image);
+        count = put_span(node, def, seen, out, count, addresses, offsets, sizes);
+        let after = sight.after;
+        at[bank as usize] = after;
+        i += 1;
+    }
+}

@@ -1,0 +1,48 @@
+-- `tell_offer` meets its contract: the number and the place of the refusal, by the functions that tell them.
+use mathlib.Core.Path.{_∙_, ap₂}
+use Prim.Native.Nat.{ℕ}
+use borrow.Author.Needs.{needs}
+use Rattle.refusal.specs.Told.{refuses}
+use Rattle.refusal.specs.declared.Place.{Place}
+use Rattle.c_answers.specs.Stores.{inFigures}
+use Rattle.c_answers.proofs.offers.tell_offer.Statement.{statement}
+use Rattle.c_answers.proofs.offers.tell_offer.Tie as tie
+
+enum-told : tie.Need-enum-told
+enum-told c = search needs
+
+enum-known-verdict : tie.Need-enum-known-verdict
+enum-known-verdict c = search needs
+
+number-requires : tie.Need-number-requires
+number-requires c κs = search needs
+
+place-of-requires : tie.Need-place-of-requires
+place-of-requires c κs = search needs
+
+tell-place-requires : tie.Need-tell-place-requires
+tell-place-requires c κs = search needs
+
+returns : tie.Need-returns
+returns c = rw (c .enum-told .given .1)
+
+returns-2 : tie.Need-returns-2
+returns-2 c =
+    let told = c .before in
+    let s = told .before .before .before .before .before in
+    rw (told .before .before .before .verdict .given .1)
+    (c .tell-place .ensures
+    ∙ ap₂ (λ (n : ℕ) (p : Place). inFigures (refuses n p) (s .args .count) (s .args .marks))
+    (told .before .number .ensures) (told .place-of .ensures))
+
+pub tell-offer-spec : {M : Type 1} → statement M
+tell-offer-spec =
+    tie.close
+    (tie.spec
+    enum-told
+    enum-known-verdict
+    number-requires
+    place-of-requires
+    tell-place-requires
+    returns
+    returns-2)

@@ -1,0 +1,28 @@
+-- A part of an image, the image that a range comes from, and the line at which a file is at fault, in numbers.
+use Prim.Native.Nat.{ℕ, _/_}
+use Rattle.refusal.specs.Refusals.{numberOf}
+use Rattle.refusal.specs.declared.Verdict.{Verdict}
+use Rattle.refusal.specs.declared.Verdict.the-variants.{Accepted, Refused as TurnedAway}
+use Rattle.overlay.specs.declared.Source.{Source}
+use Rattle.overlay.specs.declared.Source.the-variants.{Overlay, Released, Refused}
+use Rattle.record_fault.specs.declared.Fault.{Fault}
+use Rattle.record_fault.specs.declared.Fault.the-variants.{Good, At}
+use Rattle.c_answers.specs.declared.DkFault.{DkFault}
+use Rattle.c_answers.specs.declared.DkOverlay.{DkOverlay}
+use Rattle.c_answers.specs.declared.DkPart.{DkPart}
+
+-- "For a block on byte edges the caller gets back that part of its own image": here as its start and its length in bytes.
+abbrev pub partBy : ℕ → ℕ → Verdict → DkPart
+partBy offset size Accepted = record { refusal = 0; start = offset / 8; length = size / 8 }
+partBy offset size (TurnedAway why) = record { refusal = numberOf why; start = 0; length = 0 }
+
+-- "which of the two, or why none": 1 the overlay, 2 the released image; the part as its start and its length in bytes.
+abbrev pub overlayBy : ℕ → ℕ → Source → DkOverlay
+overlayBy first count Overlay = record { refusal = 0; image = 1; start = first; length = count }
+overlayBy first count Released = record { refusal = 0; image = 2; start = first; length = count }
+overlayBy first count (Refused why) = record { refusal = numberOf why; image = 0; start = 0; length = 0 }
+
+-- "the first line at which no good file can go on, from 0"
+abbrev pub lineTold : Fault → DkFault
+lineTold Good = record { fault = 0; line = 0 }
+lineTold (At n) = record { fault = 1; line = n }

@@ -1,0 +1,47 @@
+// The answer to an offer to the store.
+use crate::DkOffer;
+use refusal::Place;
+use refusal::Verdict;
+ghost use mathlib.Core.Path.{_≡_};
+ghost use Rattle.refusal.specs.Told.{refuses, toldVerdict};
+ghost use Rattle.c_answers.specs.Stores.{inFigures};
+
+// A refusal's number and place, with the counts.
+fn tell_place(number: u64, at: Place, count: u64, marks: u64) -> DkOffer
+    ensures { λ r. ⌜ r ≡ inFigures (refuses number at) count marks ⌝ }
+{
+    match at {
+        Place::One(place) => DkOffer {
+            refusal: number,
+            place,
+            second: 0,
+            count,
+            marks,
+        },
+        Place::Two(place, second) => DkOffer {
+            refusal: number,
+            place,
+            second,
+            count,
+            marks,
+        },
+    }
+}
+
+// A verdict in document 01's figures, with the counts.
+pub fn tell_offer(verdict: Verdict, count: u64, marks: u64) -> DkOffer
+    ensures { λ r. ⌜ r ≡ inFigures (toldVerdict verdict) count marks ⌝ }
+{
+    match verdict {
+        Verdict::Accepted => DkOffer {
+            refusal: 0,
+            place: 0,
+            second: 0,
+            count,
+            marks,
+        },
+        Verdict::Refused(why) => {
+            tell_place(refusal::number(why), refusal::place_of(why), count, marks)
+        }
+    }
+}

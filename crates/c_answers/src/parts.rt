@@ -1,0 +1,62 @@
+// A part of an image, the image that a range comes from, and the line at which a file is at fault.
+use crate::DkFault;
+use crate::DkOverlay;
+use crate::DkPart;
+use overlay::Source;
+use record_fault::Fault;
+use refusal::Verdict;
+ghost use mathlib.Core.Path.{_≡_};
+ghost use Rattle.c_answers.specs.Parts.{partBy, overlayBy, lineTold};
+
+// The block of `size` bits from bit `offset` on, in bytes.
+pub fn tell_part(verdict: Verdict, offset: u64, size: u64) -> DkPart
+    ensures { λ r. ⌜ r ≡ partBy offset size verdict ⌝ }
+{
+    match verdict {
+        Verdict::Accepted => DkPart {
+            refusal: 0,
+            start: offset / 8,
+            length: size / 8,
+        },
+        Verdict::Refused(why) => DkPart {
+            refusal: refusal::number(why),
+            start: 0,
+            length: 0,
+        },
+    }
+}
+
+// The `count` bytes from byte `first` on.
+pub fn tell_source(source: Source, first: u64, count: u64) -> DkOverlay
+    ensures { λ r. ⌜ r ≡ overlayBy first count source ⌝ }
+{
+    match source {
+        Source::Overlay => DkOverlay {
+            refusal: 0,
+            image: 1,
+            start: first,
+            length: count,
+        },
+        Source::Released => DkOverlay {
+            refusal: 0,
+            image: 2,
+            start: first,
+            length: count,
+        },
+        Source::Refused(why) => DkOverlay {
+            refusal: refusal::number(why),
+            image: 0,
+            start: 0,
+            length: 0,
+        },
+    }
+}
+
+pub fn tell_fault(fault: Fault) -> DkFault
+    ensures { λ r. ⌜ r ≡ lineTold fault ⌝ }
+{
+    match fault {
+        Fault::Good => DkFault { fault: 0, line: 0 },
+        Fault::At(line) => DkFault { fault: 1, line },
+    }
+}

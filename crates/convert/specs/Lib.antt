@@ -1,2 +1,0 @@
-pub mod Convert
-pub mod Told

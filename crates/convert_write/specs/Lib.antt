@@ -1,5 +1,0 @@
-pub mod Fitting
-pub mod PartLaws
-pub mod Sizes
-pub mod Turning
-pub mod Writes

@@ -1,0 +1,5 @@
+pub mod Conversions
+pub mod Profiles
+pub mod RecordFiles
+pub mod Stores
+pub mod Unique

@@ -1,3 +1,0 @@
-pub mod Filed
-pub mod Paged
-pub mod Unique

@@ -1,0 +1,4 @@
+pub mod Convert
+pub mod Told
+pub mod Theorems
+pub mod Laws

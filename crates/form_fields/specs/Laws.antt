@@ -1,0 +1,17 @@
+pub mod Cells
+pub mod Columns
+pub mod Example
+pub mod Faults
+pub mod Fields
+pub mod Filled
+pub mod Has
+pub mod Kind
+pub mod Parts
+pub mod Rest
+pub mod RoundTrip
+pub mod Sections
+pub mod Shape
+pub mod Told
+pub mod Whole
+pub mod Within
+pub mod Written

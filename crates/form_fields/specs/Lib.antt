@@ -1,0 +1,17 @@
+pub mod Banks
+pub mod Columns
+pub mod Contents
+pub mod Example
+pub mod Faults
+pub mod Fields
+pub mod Has
+pub mod Kind
+pub mod Lists
+pub mod Sections
+pub mod Shape
+pub mod Told
+pub mod Whole
+pub mod Words
+pub mod Writer
+pub mod Theorems
+pub mod Laws

@@ -1,0 +1,4 @@
+pub mod Fitting
+pub mod PartLaws
+pub mod Sizes
+pub mod Writes

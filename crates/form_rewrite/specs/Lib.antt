@@ -1,0 +1,5 @@
+pub mod Fitting
+pub mod Turning
+pub mod Writes
+pub mod Theorems
+pub mod Laws

@@ -1,0 +1,13 @@
+pub mod Advance
+pub mod AdvanceFacts
+pub mod Agrees
+pub mod Aligned
+pub mod Cases
+pub mod Crossing
+pub mod Padding
+pub mod Signs
+pub mod StepCases
+pub mod StepFacts
+pub mod Told
+pub mod ToldFacts
+pub mod WithinLimit

@@ -1,0 +1,12 @@
+pub mod Advance
+pub mod AdvanceFacts
+pub mod Agrees
+pub mod Aligned
+pub mod Cases
+pub mod Crossing
+pub mod Padding
+pub mod StepFacts
+pub mod StepFigures
+pub mod Told
+pub mod ToldFacts
+pub mod WithinLimit

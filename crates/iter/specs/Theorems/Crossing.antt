@@ -1,0 +1,83 @@
+-- Theorems about what Crossing defines.
+use Prim.Native.Nat.{ℕ, _≤_, _<_}
+use mathlib.Core.Path.{_≡_, refl, sym, ap, _∙_}
+use lib.Dec.{leb, eqb}
+use lib.ListN.{getD, set}
+use lib.Seq.{set-getD}
+use borrow.Author.Tests.{le-leb, lt-leb, eqb-true, eqb-false}
+use Rattle.refusal.specs.Laws.Bools.{either}
+use Rattle.refusal.specs.Limits.{maxBanks}
+use Rattle.refusal.specs.Pick.{pick}
+use Rattle.refusal.specs.Laws.Pick.{pick-true, pick-false}
+use Rattle.refusal.specs.declared.Refusal.{Refusal}
+use Rattle.refusal.specs.declared.Refusal.the-variants.{Malformed}
+use Rattle.bankdef.specs.declared.Bankdef.{Bankdef}
+use Rattle.iter.specs.Step.{origin, seenOf, badState, bankAfter, kept, stopped, stepOf}
+use Rattle.iter.specs.Theorems.StepFacts.{stands-in}
+use Rattle.iter.specs.declared.Crossing.{Crossing}
+use Rattle.iter.specs.declared.Moved.{Moved}
+use Rattle.iter.specs.declared.Moved.the-variants.{To, Refused}
+use Rattle.iter.specs.declared.Node.{Node}
+use Rattle.iter.specs.declared.Pos.{Pos}
+use Rattle.iter.specs.declared.Stepped.{Stepped}
+use Rattle.iter.specs.declared.Walk.{Walk}
+use Rattle.iter.specs.Crossing.{crossingOf, putBy, putIn}
+use Rattle.iter.specs.Laws.Crossing.{halts, switch-made, tests-put}
+
+-- A step is the crossing of the node in the bank that it stands in, put into the walk, where there is such a bank.
+pub step-crosses : (def : Bankdef) (walk : Walk) (node : Node) → let bank = bankAfter (walk .bank) node in
+    stepOf def walk node
+    ≡ pick (leb maxBanks bank) (stopped walk (Malformed (node .index))) (putIn walk bank (crossingOf def (getD (walk .at) bank origin) node))
+unfolding stepOf crossingOf
+step-crosses def walk node =
+    let bank = bankAfter (walk .bank) node in
+    tests-put def walk node bank (leb maxBanks bank) (badState node) (seenOf def (getD (walk .at) bank origin) node)
+
+-- The same by its cases: no such bank, a crossing that is refused, one that is made.
+module _ (def : Bankdef) (walk : Walk) (node : Node) {bank : ℕ} (b : bank ≡ bankAfter (walk .bank) node) where
+  in-bank : stepOf def walk node
+      ≡ pick (leb maxBanks bank) (stopped walk (Malformed (node .index))) (putIn walk bank (crossingOf def (getD (walk .at) bank origin) node))
+  in-bank = rw b (step-crosses def walk node)
+
+  pub no-bank : maxBanks ≤ bank → stepOf def walk node ≡ stopped walk (Malformed (node .index))
+  no-bank h = in-bank ∙ pick-true _ _ (le-leb maxBanks bank h)
+
+  module _ (inside : bank < maxBanks) {c : Crossing} (e : c ≡ crossingOf def (getD (walk .at) bank origin) node) where
+    crossing-in : stepOf def walk node ≡ putIn walk bank c
+    crossing-in = in-bank ∙ pick-false _ _ (lt-leb maxBanks bank inside) ∙ ap (putIn walk bank) (sym e)
+
+    pub crossing-refused : {why : Refusal} → c .seen ≡ Refused why → stepOf def walk node ≡ stopped walk why
+    crossing-refused s = crossing-in ∙ ap (putBy walk bank c) s
+
+    pub crossing-made : {p : Pos} → c .seen ≡ To p
+        → stepOf def walk node ≡ record { seen = To p; skipped = c .skipped; walk = kept walk bank (c .after) (c .skipped .bits) }
+    crossing-made s = crossing-in ∙ ap (putBy walk bank c) s
+
+    -- What the node sees is what the crossing sees.
+    pub crossing-sees : stepOf def walk node .seen ≡ c .seen
+    crossing-sees = ap (λ (s : Stepped). s .seen) crossing-in ∙ put-seen (c .seen)
+      where
+        put-seen : (m : Moved) → putBy walk bank c m .seen ≡ m
+        put-seen (To p) = refl
+        put-seen (Refused why) = refl
+
+    -- The positions after a step, refused ones too: the bank's is the one after the crossing.
+    pub crossing-places : stepOf def walk node .walk .at ≡ set (walk .at) bank (c .after)
+    crossing-places = ap (λ (s : Stepped). s .walk .at) crossing-in ∙ put-places (c .seen) refl
+      where
+        put-places : (m : Moved) → c .seen ≡ m → putBy walk bank c m .walk .at ≡ set (walk .at) bank (c .after)
+        put-places (To p) f = refl
+        put-places (Refused why) f =
+            sym (set-getD (walk .at) bank origin)
+            ∙ ap (set (walk .at) bank) (sym (halts def (getD (walk .at) bank origin) node why e f))
+
+    -- And the walk goes on in the node's bank, since a switch is never refused in one of the banks.
+    pub crossing-stands : stepOf def walk node .walk .bank ≡ bank
+    crossing-stands = ap (λ (s : Stepped). s .walk .bank) crossing-in ∙ put-bank (c .seen) refl
+      where
+        put-bank : (m : Moved) → c .seen ≡ m → putBy walk bank c m .walk .bank ≡ bank
+        put-bank (To p) f = refl
+        put-bank (Refused why) f =
+            either (eqb (node .kind) 1)
+            (λ t. absurd (switch-made def (getD (walk .at) bank origin) node (eqb-true (node .kind) 1 t) why (ap (λ (x : Crossing). x .seen) (sym e) ∙ f)))
+            (λ t. sym (stands-in (walk .bank) node (eqb-false (node .kind) 1 t)) ∙ sym b)

@@ -1,0 +1,4 @@
+pub mod Counts
+pub mod FaultExactly
+pub mod RowParts
+pub mod Sound

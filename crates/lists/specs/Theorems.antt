@@ -1,0 +1,2 @@
+pub mod FaultExactly
+pub mod Sound

@@ -1,9 +1,0 @@
-pub mod AsBuilt
-pub mod Calls
-pub mod Entries
-pub mod Map
-pub mod Reached
-pub mod Shown
-pub mod Steps
-pub mod TracedLaws
-pub mod Unique

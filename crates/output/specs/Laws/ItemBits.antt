@@ -1,0 +1,71 @@
+-- Laws that Theorems/ItemBits rests on.
+use mathlib.Core.Path.{_≡_, refl, sym, subst}
+use mathlib.Core.Bool.{Bool, true, false, _&&_, _||_}
+use mathlib.Core.List.{List, [], List·Memᴰ, List·Memᴰ·head, List·Memᴰ·not-nil, List·Memᴰ·eq-of-singleton}
+use Prim.Native.Nat.{ℕ, _≤_}
+use native.Mathlib.Omega.{arith}
+use borrow.Author.Tests.{leb-true, eqb-true}
+use lib.Dec.{leb}
+use Rattle.refusal.specs.Pick.{pick}
+use Rattle.refusal.specs.Laws.Pick.{pick-true}
+use Rattle.refusal.specs.declared.Opt.{Opt}
+use Rattle.refusal.specs.declared.Opt.the-variants.{None, Some}
+use Rattle.refusal.specs.declared.Offset.{Offset}
+use Rattle.refusal.specs.declared.Offset.the-variants.{None as Nowhere, At as Out}
+use Rattle.iter.specs.Address.{outAt}
+use Rattle.iter.specs.declared.Node.{Node}
+use Rattle.blocks.specs.Bits.{NoSharedBit}
+use Rattle.overlap_checker.specs.declared.Entry.{Entry}
+use Rattle.overlap_checker.specs.Interval.{Covers}
+use Rattle.build_sights.specs.declared.Visit.{Visit}
+use Rattle.build_sights.specs.Items.{Item, InItem, isWritten, standing, itemOf}
+use Rattle.build_plan.specs.Placing.{isOffered, isReserve, lacksOutput, bitsAt, offerOf}
+use Rattle.build_plan.specs.Laws.PlacingLaws.{picked-some, apart-one}
+use Rattle.build_plan.specs.PlacingLaws.{OfferedBit}
+
+-- ---- bits of items and of reserves are offered
+
+or-first : (a b : Bool) → a ≡ true → (a || b) ≡ true
+or-first a b e = rw e
+
+pub or-last : (a b : Bool) → b ≡ true → (a || b) ≡ true
+or-last true b e = refl
+or-last false b e = e
+
+pub offered : (v : Visit) {e : Entry} → isOffered (v .node) ≡ true → List·Memᴰ e (bitsAt (v .out) (v .node)) → List·Memᴰ e (offerOf v)
+offered v {e} o m = subst (λ (l : List Entry). List·Memᴰ e l) (sym (pick-true (bitsAt (v .out) (v .node)) [] o)) m
+
+standing-bits : (out : Offset) (n : Node) (bit : ℕ) (x : Item) → List·Memᴰ x (standing out n) → InItem bit x
+    → (e : Entry) × List·Memᴰ e (bitsAt out n) × Covers e bit
+standing-bits Nowhere n bit x m i = absurd (List·Memᴰ·not-nil m)
+standing-bits (Out o) n bit x m i = (_, List·Memᴰ·head refl, subst (λ (y : Item). InItem bit y) (List·Memᴰ·eq-of-singleton m) i)
+
+pub item-offered : (bit : ℕ) (v : Visit) (x : Item) → List·Memᴰ x (itemOf v) → InItem bit x → OfferedBit bit v
+item-offered bit v x m i =
+    let w = picked-some (isWritten (v .node)) (standing (v .out) (v .node)) m in
+    let (e, me, c) = standing-bits (v .out) (v .node) bit x (w .1) i in
+    (e, offered v (or-first (isWritten (v .node)) (isReserve (v .node)) (w .0)) me, c)
+
+pub one-item : (v : Visit) → NoSharedBit InItem (itemOf v)
+one-item v = go (v .out) (isWritten (v .node))
+  where
+    go : (out : Offset) (b : Bool) → NoSharedBit InItem (pick b (standing out (v .node)) [])
+    go Nowhere true = tt
+    go Nowhere false = tt
+    go (Out o) b = apart-one InItem b _
+
+-- a written node is no reserve
+pub written-or-reserve : (n : Node) → isWritten n ≡ true → isReserve n ≡ true → ⊥
+written-or-reserve n w r =
+    let low : n .kind ≤ 6 = leb-true (n .kind) 6 (second (leb 4 (n .kind)) (leb (n .kind) 6) w) in
+    let same = eqb-true (n .kind) 7 r in
+    omega arith
+  where
+    second : (a b : Bool) → (a && b) ≡ true → b ≡ true
+    second true b h = h
+    second false b h = absurd (mathlib.Core.Bool.true≢false (sym h))
+
+-- an output position, by the bank's offset
+pub stands-at : (o : Opt) (position : ℕ) → lacksOutput (outAt o position) ≡ false → (f : ℕ) × (o ≡ Some f)
+stands-at None position e = absurd (mathlib.Core.Bool.true≢false e)
+stands-at (Some f) position e = (f, refl)

@@ -1,0 +1,136 @@
+-- Theorems about what OffersMade defines.
+use mathlib.Core.Path.{_≡_, refl, sym, ap, subst, _∙_}
+use mathlib.Core.Bool.{Bool, true, false}
+use mathlib.Core.List.{List, [], _∷_, List·Memᴰ, List·Memᴰ·head}
+use mathlib.Core.Logic.{_⊎_, inl, inr}
+use Prim.Native.Nat.{ℕ, zero, suc, _+_, _*_, _≤_, _<_}
+use native.Mathlib.Omega.{arith}
+use borrow.Author.Tests.{eq-eqb}
+use lib.Dec.{ltb}
+use lib.ListN.{length}
+use Rattle.refusal.specs.Pick.{pick}
+use Rattle.refusal.specs.Laws.Pick.{pick-true}
+use Rattle.refusal.specs.declared.Refusal.{Refusal}
+use Rattle.refusal.specs.declared.Refusal.the-variants.{TooShort}
+use Rattle.refusal.specs.declared.Verdict.{Verdict}
+use Rattle.refusal.specs.declared.Verdict.the-variants.{Accepted, Refused as TurnedAway}
+use Rattle.refusal.specs.declared.Opt.{Opt}
+use Rattle.refusal.specs.declared.Opt.the-variants.{None, Some}
+use Rattle.iter.specs.Address.{outAt}
+use Rattle.resolver.specs.declared.Settled.the-variants.{At}
+use Rattle.overlap_checker.specs.declared.Entry.{Entry}
+use Rattle.overlap_checker.specs.Interval.{interval}
+use Rattle.overlap_checker.specs.State.{State, emptyState}
+use Rattle.output.specs.declared.Build.the-variants.{Done, Refused}
+use Rattle.build_sights.specs.Visits.{positionOf}
+use Rattle.build_sights.specs.Laws.VisitLaws.{visits-none, visits-next, visit-member, each-member}
+use Rattle.build_sights.specs.Items.{itemsOf, lengthOf}
+use Rattle.build_plan.specs.Theorems.Kinds.{offered-exactly}
+use Rattle.build_sights.specs.Spans.{spansOf}
+use Rattle.build_plan.specs.Placing.{isOffered, bitsAt, offerOf, reserveOf, verdictOn}
+use Rattle.build_plan.specs.Placing.{Placed, holds, stops, placedIf, placedNext, placedFrom, placedAll}
+use Rattle.build_plan.specs.Laws.PlacingLaws.{placed-last}
+use Rattle.output.specs.Output.{roomOf, placedBuild, settledBuild, settledOf, fillOf}
+use Rattle.output.specs.Calls.{Call, nodesIn, closedIn, programIn, rowIn, visitIn, visitsIn, visitsBefore, reservesIn}
+use Rattle.output.specs.Laws.Calls.{build-is}
+use Rattle.output.specs.OffersMade.{FirstRefused}
+
+module _ (c : Call) (n : ℕ) where
+  bits-at : (offset : ℕ) → visitIn c n .def .offset ≡ Some offset
+      → bitsAt (visitIn c n .out) (visitIn c n .node) ≡ interval (offset + positionOf (visitIn c n)) (visitIn c n .node .number) ∷ []
+  bits-at offset e = ap (λ (o : Opt). bitsAt (outAt o (positionOf (visitIn c n))) (visitIn c n .node)) e
+
+  -- Kinds 4 to 7 in a bank with an offset offer their bits.
+  pub offer-made : (4 ≤ visitIn c n .node .kind) × (visitIn c n .node .kind ≤ 7) → (offset : ℕ) → visitIn c n .def .offset ≡ Some offset
+      → offerOf (visitIn c n) ≡ interval (offset + positionOf (visitIn c n)) (visitIn c n .node .number) ∷ []
+  offer-made kind offset e =
+      pick-true (bitsAt (visitIn c n .out) (visitIn c n .node)) [] (offered-exactly (visitIn c n .node) .1 kind) ∙ bits-at offset e
+
+  -- A node of a bank without offset offers nothing,
+  pub offer-none-nowhere : visitIn c n .def .offset ≡ None → offerOf (visitIn c n) ≡ []
+  offer-none-nowhere e =
+      ap (λ (o : Opt). pick (isOffered (visitIn c n .node)) (bitsAt (outAt o (positionOf (visitIn c n))) (visitIn c n .node)) []) e
+      ∙ nothing (isOffered (visitIn c n .node))
+    where
+      nothing : (b : Bool) → _≡_ {A = List Entry} (pick b [] []) []
+      nothing true = refl
+      nothing false = refl
+
+  -- and neither does one of another kind.
+  pub offer-none-other : ((4 ≤ visitIn c n .node .kind) × (visitIn c n .node .kind ≤ 7) → ⊥) → offerOf (visitIn c n) ≡ []
+  offer-none-other other = go (isOffered (visitIn c n .node)) refl
+    where
+      go : (b : Bool) → isOffered (visitIn c n .node) ≡ b → pick b (bitsAt (visitIn c n .out) (visitIn c n .node)) [] ≡ []
+      go true e = absurd (other (offered-exactly (visitIn c n .node) .0 e))
+      go false e = refl
+
+  -- Every reserve in a bank with an offset is among the reserves that an item keeps off.
+  pub reserve-node-has-bits : n < nodesIn c → visitIn c n .node .kind ≡ 7 → (offset : ℕ) → visitIn c n .def .offset ≡ Some offset
+      → List·Memᴰ (interval (offset + positionOf (visitIn c n)) (visitIn c n .node .number)) (reservesIn c)
+  reserve-node-has-bits h kind offset e =
+      each-member reserveOf (visit-member (programIn c) (rowIn c) (nodesIn c) n h)
+      (subst (λ (l : List Entry). List·Memᴰ (interval (offset + positionOf (visitIn c n)) (visitIn c n .node .number)) l)
+      (sym (pick-true (bitsAt (visitIn c n .out) (visitIn c n .node)) [] (eq-eqb (visitIn c n .node .kind) 7 kind) ∙ bits-at offset e))
+      (List·Memᴰ·head refl))
+
+module _ (c : Call) where
+  stopped : (v : Verdict) (s : State) (why : Refusal) → placedIf v s ≡ stops why → v ≡ TurnedAway why
+  stopped Accepted s why e = absurd (let z : _≡_ {A = ℕ} 0 1 = cc in omega arith)
+  stopped (TurnedAway other) s why e = cc
+
+  stops-same : {a b : Refusal} → stops a ≡ stops b → a ≡ b
+  stops-same e = cc
+
+  none-stops : (why : Refusal) → placedAll (closedIn c) (visitsBefore c 0) ≡ stops why → ⊥
+  unfolding placedFrom
+  none-stops why e =
+      let q : holds emptyState ≡ stops why = sym (ap (placedAll (closedIn c)) (visits-none (programIn c) (rowIn c))) ∙ e in
+      let z : _≡_ {A = ℕ} 0 1 = cc in omega arith
+
+  first-stop : (m : ℕ) → m ≤ nodesIn c → (why : Refusal) → placedAll (closedIn c) (visitsBefore c m) ≡ stops why → FirstRefused c why
+  first-stop zero h why e = absurd (none-stops why e)
+  first-stop (suc m) h why e =
+      go (placedAll (closedIn c) (visitsBefore c m)) refl
+      (sym (ap (placedAll (closedIn c)) (visits-next (programIn c) (rowIn c) m)
+      ∙ placed-last (closedIn c) (holds emptyState) (visitsBefore c m) (visitIn c m)) ∙ e)
+      (first-stop m (omega arith) why)
+    where
+      go : (q : Placed) → placedAll (closedIn c) (visitsBefore c m) ≡ q → placedNext (closedIn c) (visitIn c m) q ≡ stops why
+          → (placedAll (closedIn c) (visitsBefore c m) ≡ stops why → FirstRefused c why) → FirstRefused c why
+      go (stops other) is f earlier = earlier (is ∙ f)
+      go (holds s) is f earlier =
+          record { n = m; listed = h; stored = s; before = is; verdict = stopped (verdictOn (closedIn c) s (visitIn c m)) _ why f }
+
+  refused-same : {a b : Refusal} → Refused a ≡ Refused b → b ≡ a
+  refused-same e = cc
+
+  done-refused : {k bits spans : ℕ} {why : Refusal} → Done k bits spans ≡ Refused why → ⊥
+  done-refused e = let z : _≡_ {A = ℕ} 0 1 = cc in omega arith
+
+  abbrev bits : ℕ
+  bits = lengthOf (fillOf (c .given)) (itemsOf (visitsIn c))
+
+  abbrev count : ℕ
+  count = length (spansOf (visitsIn c))
+
+  abbrev ForRoom : Refusal → Type 0
+  ForRoom why = (stored : State) × (placedAll (closedIn c) (visitsIn c) ≡ holds stored) × ((why ≡ TooShort 0) ⊎ (why ≡ TooShort 1))
+
+  -- A build whose passes settled is refused at the first node that is, or else, all nodes placed, for room.
+  pub refused-where : (k : ℕ) → settledOf (c .given) ≡ At k → (why : Refusal) → c .answer .build ≡ Refused why
+      → FirstRefused c why ⊎ ForRoom why
+  refused-where k settled why e =
+      go (placedAll (closedIn c) (visitsIn c)) refl
+      (sym (build-is c ∙ ap (settledBuild (c .given) (roomOf (c .old)) (c .answer .passes)) settled) ∙ e)
+    where
+      short : (a b : Bool) → pick a (Refused (TooShort 0)) (pick b (Refused (TooShort 1)) (Done k bits count)) ≡ Refused why
+          → (why ≡ TooShort 0) ⊎ (why ≡ TooShort 1)
+      short true b f = inl (refused-same f)
+      short false true f = inr (refused-same f)
+      short false false f = absurd (done-refused f)
+
+      go : (q : Placed) → placedAll (closedIn c) (visitsIn c) ≡ q
+          → placedBuild (roomOf (c .old)) k bits count q ≡ Refused why
+          → FirstRefused c why ⊎ ForRoom why
+      go (stops other) is f = inl (first-stop (nodesIn c) (omega arith) why (is ∙ ap stops (sym (refused-same f))))
+      go (holds s) is f = inr (s, is, short (ltb (8 * roomOf (c .old) .image) bits) (ltb (roomOf (c .old) .spans) count) f)

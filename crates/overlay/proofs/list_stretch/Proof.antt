@@ -1,0 +1,114 @@
+-- `list_stretch` meets its contract: each turn takes the next run, by the laws of `Filling`.
+use borrow.Author.Needs.{needs}
+use mathlib.Core.Bool.{false}
+use Prim.Native.Nat.{_-_, _≤_}
+use native.Mathlib.Omega.{arith}
+use Rattle.overlay.specs.Runs.{agree, differ, runsFrom}
+use Rattle.overlay.specs.Put.{kept}
+use Rattle.overlay.proofs.RunLaws.{turn, turn-moves, runs-end}
+use Rattle.overlay.proofs.Filling.{Filling, kept-few, filling-starts, filling-on, filling-ends}
+use Rattle.overlay.proofs.list_stretch.Statement.{statement}
+use Rattle.overlay.proofs.list_stretch.Tie as tie
+
+abbrev Inv-loop : tie.InvT-loop
+Inv-loop overlay released from to count firsts₀ counts₀ at₀ n₀ firsts counts at n =
+    (n ≤ at)
+    × Filling (runsFrom (differ overlay released) from (to - from) false)
+    (runsFrom (differ overlay released) at (to - at) false) count n firsts₀ counts₀ firsts counts
+
+abbrev μ-loop : tie.MeasureT-loop
+μ-loop overlay released from to count firsts₀ counts₀ at₀ n₀ firsts counts at n = to - at
+
+-- the function's start, seen from the loop
+abbrev start : tie.At-loop Inv-loop μ-loop → tie.Start Inv-loop μ-loop
+start h = h .before .before .before .before .before
+
+loop-holds : tie.Need-loop-holds Inv-loop μ-loop
+loop-holds c =
+    let a = c .before .before .before .before .args in (
+      omega arith,
+      filling-starts (runsFrom (differ (a .overlay .now) (a .released .now)) (a .from) (a .to - a .from) false) (a .count) (a .firsts .now)
+          (a .counts .now),
+    )
+
+next-difference-requires : tie.Need-next-difference-requires Inv-loop μ-loop
+next-difference-requires c κs = search needs
+
+next-agreement-requires : tie.Need-next-agreement-requires Inv-loop μ-loop
+next-agreement-requires c κs = search needs
+
+push-requires : tie.Need-push-requires Inv-loop μ-loop
+push-requires c κs =
+    let g = c .before .before in
+    omega (arith, g .next-agreement .ensures, g .before .next-difference .ensures)
+
+loop-less : tie.Need-loop-less Inv-loop μ-loop
+loop-less c =
+    let p = c .before .before .before .before in
+    let g = p .before .before .before in
+    let d = g .before in
+    let h = d .before .before in
+    let a = start h .args in
+    let moves = turn-moves (agree (a .overlay .now) (a .released .now)) (h .loop .at) (a .to) (d .next-difference .result) (g .next-agreement .result)
+    (d .before .loop-test .taken) (d .next-difference .ensures) (g .next-agreement .ensures) in
+    omega (arith, d .before .loop-test .taken)
+
+loop-again : tie.Need-loop-again Inv-loop μ-loop
+loop-again c =
+    let p = c .before .before .before .before in
+    let g = p .before .before .before in
+    let d = g .before in
+    let h = d .before .before in
+    let a = start h .args in
+    let l = h .loop in
+    let t = differ (a .overlay .now) (a .released .now) in
+    let first = d .next-difference .result in
+    let end = g .next-agreement .result in (
+      omega (
+        arith,
+        l .inv .0,
+        kept-few first end
+            (omega (arith, g .next-agreement .ensures)),
+        p .push .ensures .counted,
+        d .next-difference .ensures,
+        g .next-agreement .ensures,
+      ),
+      filling-on (runsFrom t (a .from) (a .to - a .from) false) (a .count) (a .firsts .now) (a .counts .now)
+          (runsFrom t (l .at) (a .to - l .at) false) (kept first end) (runsFrom t end (a .to - end) false) (l .n) (p .push .result)
+          (l .firsts) (l .counts) (p .push .last .1 .1 .1 .0) (p .push .last .1 .1 .1 .1 .0)
+          (turn (agree (a .overlay .now) (a .released .now)) (l .at) (a .to) first end (omega (arith, d .before .loop-test .taken))
+          (d .next-difference .ensures) (g .next-agreement .ensures))
+          (l .inv .1)
+          (p .push .ensures),
+    )
+
+same-length : tie.Need-same-length Inv-loop μ-loop
+same-length c = c .before .loop .inv .1 .long
+
+same-length-2 : tie.Need-same-length-2 Inv-loop μ-loop
+same-length-2 c = c .before .loop .inv .1 .long₂
+
+returns : tie.Need-returns Inv-loop μ-loop
+returns c =
+    let h = c .before in
+    let a = start h .args in
+    let l = h .loop in
+    let t = differ (a .overlay .now) (a .released .now) in
+    filling-ends (runsFrom t (a .from) (a .to - a .from) false) (a .count) (a .firsts .now) (a .counts .now)
+    (runsFrom t (l .at) (a .to - l .at) false) (l .n) (l .firsts) (l .counts) (runs-end t (l .at) (a .to) (c .loop-test .left)) (l .inv .1)
+
+pub list-stretch-spec : {M : Type 1} → statement M
+list-stretch-spec =
+    tie.close
+    (tie.spec
+    Inv-loop
+    μ-loop
+    loop-holds
+    next-difference-requires
+    next-agreement-requires
+    push-requires
+    loop-less
+    loop-again
+    same-length
+    same-length-2
+    returns)

@@ -1,0 +1,118 @@
+-- `pick` hands out the bytes that the definition names, of the image that `which` answers; they are inside it, since the range is.
+use borrow.Author.Needs.{needs}
+use mathlib.Core.Path.{_≡_, sym, _∙_}
+use Prim.Native.Nat.{_+_, _-_}
+use native.Mathlib.Omega.{arith}
+use Rattle.overlay.specs.declared.Source.the-variants.{Overlay, Released}
+use Rattle.overlay.specs.Range.{sourceOf}
+use Rattle.overlay.specs.Trial.{Trial, trial}
+use Rattle.overlay.proofs.AnswerLaws.{overlay-inside, released-inside}
+use Rattle.overlay.proofs.pick.Statement.{statement}
+use Rattle.overlay.proofs.pick.Tie as tie
+
+-- the function's start, seen from behind `which`, and what is lent
+abbrev start : tie.After-which → tie.Start
+start w = w .before .before .before .before .before
+
+abbrev lent : tie.Start → Trial
+lent s = trial (s .args .overlay .now) (s .args .released .now) (s .args .offsets .now) (s .args .sizes .now)
+
+-- what the definition answers, in the two arms
+overlaid : (c : tie.After-enum-told) → let s = start (c .before .before) in sourceOf (lent s) (s .args .first) (s .args .count) ≡ Overlay
+overlaid c = sym (c .before .before .which .ensures .answer) ∙ c .enum-told .given .1
+
+issued : (c : tie.After-enum-told2) → let s = start (c .before .before) in sourceOf (lent s) (s .args .first) (s .args .count) ≡ Released
+issued c = sym (c .before .before .which .ensures .answer) ∙ c .enum-told2 .given .1
+
+which-requires : tie.Need-which-requires
+which-requires c κs = search needs
+
+enum-told : tie.Need-enum-told
+enum-told c = search needs
+
+add-end : tie.Need-add-end
+add-end c =
+    let s = start (c .before .before) in
+    omega (arith, overlay-inside (lent s) (s .args .first) (s .args .count) (overlaid c))
+
+sub-result : tie.Need-sub-result
+sub-result c = omega arith
+
+part-result-start : tie.Need-part-result-start
+part-result-start c = omega arith
+
+part-result-end : tie.Need-part-result-end
+part-result-end c =
+    let s = start (c .before .before) in
+    omega (arith, overlay-inside (lent s) (s .args .first) (s .args .count) (overlaid c))
+
+enum-told-2 : tie.Need-enum-told-2
+enum-told-2 c = search needs
+
+add-end-2 : tie.Need-add-end-2
+add-end-2 c =
+    let s = start (c .before .before) in
+    omega (arith, released-inside (lent s) (s .args .first) (s .args .count) (issued c))
+
+sub-result-2 : tie.Need-sub-result-2
+sub-result-2 c = omega arith
+
+part-result-start-2 : tie.Need-part-result-start-2
+part-result-start-2 c = omega arith
+
+part-result-end-2 : tie.Need-part-result-end-2
+part-result-end-2 c =
+    let s = start (c .before .before) in
+    omega (arith, released-inside (lent s) (s .args .first) (s .args .count) (issued c))
+
+enum-told-3 : tie.Need-enum-told-3
+enum-told-3 c = search needs
+
+sub-result-3 : tie.Need-sub-result-3
+sub-result-3 c = search needs
+
+part-result-start-3 : tie.Need-part-result-start-3
+part-result-start-3 c = search needs
+
+part-result-end-3 : tie.Need-part-result-end-3
+part-result-end-3 c = search needs
+
+returns : tie.Need-returns
+returns c =
+    let a = start (c .before .before .before) .args in
+    let n : a .first + a .count - a .first ≡ a .count = omega arith in
+    record { bytes = rw (n, overlaid (c .before)) }
+
+returns-2 : tie.Need-returns-2
+returns-2 c =
+    let a = start (c .before .before .before) .args in
+    let n : a .first + a .count - a .first ≡ a .count = omega arith in
+    record { bytes = rw (n, issued (c .before)) }
+
+returns-3 : tie.Need-returns-3
+returns-3 c =
+    let e = c .before in
+    record { bytes = rw (sym (e .before .before .which .ensures .answer) ∙ e .enum-told3 .given .1) }
+
+pub pick-spec : {M : Type 1} → statement M
+pick-spec =
+    tie.close
+    (tie.spec
+    which-requires
+    enum-told
+    add-end
+    sub-result
+    part-result-start
+    part-result-end
+    enum-told-2
+    add-end-2
+    sub-result-2
+    part-result-start-2
+    part-result-end-2
+    enum-told-3
+    sub-result-3
+    part-result-start-3
+    part-result-end-3
+    returns
+    returns-2
+    returns-3)

@@ -1,0 +1,12 @@
+pub mod Cover
+pub mod List
+pub mod Order
+pub mod Put
+pub mod Range
+pub mod RangeFacts
+pub mod RunFacts
+pub mod Runs
+pub mod Steps
+pub mod Trial
+pub mod Theorems
+pub mod Laws

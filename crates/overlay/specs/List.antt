@@ -1,0 +1,63 @@
+-- What a call of `differences` gives.
+use mathlib.Core.Path.{_≡_}
+use mathlib.Core.Bool.{Bool, false}
+use mathlib.Core.List.{List, _++_}
+use Prim.Native.Nat.{ℕ}
+use lib.Dec.{leb}
+use lib.ListN.{length, drop}
+use Rattle.refusal.specs.Pick.{pick}
+use Rattle.refusal.specs.Told.{Told, gives, refuses, toldRefusal}
+use Rattle.refusal.specs.declared.Place.the-variants.{One}
+use Rattle.refusal.specs.declared.Refusal.the-variants.{Malformed, TooShort}
+use Rattle.overlay.specs.declared.Listed.{Listed}
+use Rattle.overlay.specs.declared.Listed.the-variants.{Runs, Refused}
+use Rattle.overlay.specs.Order.{inOrder}
+use Rattle.overlay.specs.Put.{firsts, counts}
+use Rattle.overlay.specs.Runs.{Run, runsOf}
+use Rattle.overlay.specs.Trial.{Trial}
+
+-- What is written stands at the front; what stands past it stays.
+abbrev pub over : List ℕ → List ℕ → List ℕ
+over new old = new ++ drop (length new) old
+
+-- "14 for a short list": there is room for all runs, in both of the lent slices.
+abbrev pub roomFor : List Run → List ℕ → List ℕ → Bool
+roomFor runs firsts₀ counts₀ = pick (leb (length runs) (length firsts₀)) (leb (length runs) (length counts₀)) false
+
+pub record Written (runs : List Run) (firsts₀ counts₀ : List ℕ) (r : Listed) (firsts₁ counts₁ : List ℕ) : Type 0 where
+  pub answer : r ≡ pick (roomFor runs firsts₀ counts₀) (Runs (length runs)) (Refused (TooShort 2))
+  pub first : firsts₁ ≡ pick (roomFor runs firsts₀ counts₀) (over (firsts runs) firsts₀) firsts₀
+  pub second : counts₁ ≡ pick (roomFor runs firsts₀ counts₀) (over (counts runs) counts₀) counts₀
+
+-- An answer in the document's figures: how many runs there are, or a refusal's number and place.
+abbrev pub toldListed : Listed → Told ℕ
+toldListed (Runs n) = gives n
+toldListed (Refused r) = toldRefusal r
+
+-- "4 .., 14 for a short list", place 2: the answer, and both slices afterwards. A refusal changes nothing lent.
+abbrev pub listAnswer : Trial → List ℕ → List ℕ → Listed
+listAnswer t firsts₀ counts₀ =
+    pick (inOrder 0 (t .offsets) (t .sizes))
+    (pick (roomFor (runsOf t) firsts₀ counts₀) (Runs (length (runsOf t))) (Refused (TooShort 2)))
+    (Refused (Malformed 0))
+
+abbrev pub listFigures : Trial → List ℕ → List ℕ → Told ℕ
+listFigures t firsts₀ counts₀ =
+    pick (inOrder 0 (t .offsets) (t .sizes))
+    (pick (roomFor (runsOf t) firsts₀ counts₀) (gives (length (runsOf t))) (refuses 14 (One 2)))
+    (refuses 4 (One 0))
+
+abbrev pub firstsAfter : Trial → List ℕ → List ℕ → List ℕ
+firstsAfter t firsts₀ counts₀ =
+    pick (inOrder 0 (t .offsets) (t .sizes)) (pick (roomFor (runsOf t) firsts₀ counts₀) (over (firsts (runsOf t)) firsts₀) firsts₀) firsts₀
+
+abbrev pub countsAfter : Trial → List ℕ → List ℕ → List ℕ
+countsAfter t firsts₀ counts₀ =
+    pick (inOrder 0 (t .offsets) (t .sizes)) (pick (roomFor (runsOf t) firsts₀ counts₀) (over (counts (runsOf t)) counts₀) counts₀) counts₀
+
+-- What `differences` promises.
+pub record Lists (t : Trial) (firsts₀ counts₀ : List ℕ) (r : Listed) (firsts₁ counts₁ : List ℕ) : Type 0 where
+  pub answer : r ≡ listAnswer t firsts₀ counts₀
+  pub figures : toldListed r ≡ listFigures t firsts₀ counts₀
+  pub first : firsts₁ ≡ firstsAfter t firsts₀ counts₀
+  pub second : counts₁ ≡ countsAfter t firsts₀ counts₀

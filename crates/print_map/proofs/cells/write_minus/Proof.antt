@@ -1,0 +1,39 @@
+-- `write_minus` meets its contract: the sign, then the digits.
+use native.Mathlib.Omega.{arith}
+use Rattle.print_map.proofs.Writing.{writes-then}
+use borrow.Author.Needs.{needs}
+use Rattle.print_map.proofs.cells.write_minus.Statement.{statement}
+use Rattle.print_map.proofs.cells.write_minus.Tie as tie
+
+slice-aggregate-write-word : tie.Need-slice-aggregate-write-word
+slice-aggregate-write-word c = search needs
+
+write-word-requires : tie.Need-write-word-requires
+write-word-requires c κs = omega (arith, c .before .before .before .pre)
+
+write-number-requires : tie.Need-write-number-requires
+write-number-requires c κs =
+    let at-write-word = c .before .before .before in
+    let start = at-write-word .before .before .before .before in
+    omega (arith, start .pre, c .before .before .out .given, at-write-word .write-word .ensures .place)
+
+same-length : tie.Need-same-length
+same-length c = search needs
+
+returns : tie.Need-returns
+returns c =
+    let w = c .before .before .write-number .ensures in (
+      writes-then (c .before .before .before .before .before .before .write-word .ensures) (w .0),
+      omega
+          (arith, w .1, c .before .before .before .before .before .before .write-word .ensures .place),
+    )
+
+pub write-minus-spec : {M : Type 1} → statement M
+write-minus-spec =
+    tie.close
+    (tie.spec
+    slice-aggregate-write-word
+    write-word-requires
+    write-number-requires
+    same-length
+    returns)

@@ -1,0 +1,148 @@
+-- `write_nodes` meets its contract: the nodes passed stand in the buffer, and those left have room.
+use mathlib.Core.Path.{_≡_, sym, subst}
+use Prim.Native.Nat.{ℕ, _+_, _-_, _*_, _≤_}
+use native.Mathlib.Omega.{arith}
+use Rattle.print_text.specs.Puts.{Writes}
+use Rattle.print_map.specs.Steps.{nodesHeld}
+use Rattle.print_map.proofs.Lines.{nodes-none, nodes-next, written-as}
+use Rattle.print_map.proofs.Writing.{writes-then, writes-none, writes-long}
+use Rattle.print_map.proofs.records.write_nodes.Statement.{statement}
+use Rattle.print_map.proofs.records.write_nodes.Tie as tie
+
+abbrev Inv-loop : tie.InvT-loop
+Inv-loop out₀ at banks kinds nodes banks-of positions outputs sizes end₀ i₀ out end i =
+    (i ≤ nodes) × (end ≤ at + 160 * i) × Writes (nodesHeld banks kinds banks-of positions outputs sizes i) out₀ at end out
+
+abbrev μ-loop : tie.MeasureT-loop
+μ-loop out₀ at banks kinds nodes banks-of positions outputs sizes end₀ i₀ out end i = nodes - i
+
+loop-holds : tie.Need-loop-holds Inv-loop μ-loop
+loop-holds c =
+    let a = c .before .before .before .before .before .before .args in (
+      omega arith,
+      omega arith,
+      written-as
+          (sym (nodes-none (a .banks) (a .kinds .now) (a .banks-of .now) (a .positions .now) (a .outputs .now) (a .sizes .now)))
+          (writes-none (a .out .now) (a .at)),
+    )
+
+shared-slice-read-write-node : tie.Need-shared-slice-read-write-node Inv-loop μ-loop
+shared-slice-read-write-node c =
+    let start = c .before .before .before .before .before .before .before .before .before .before in
+    omega (arith, c .before .before .loop-test .taken, start .pre .0 .1)
+
+mul-write-node : tie.Need-mul-write-node Inv-loop μ-loop
+mul-write-node c =
+    let start = c .before .before .before .before .before .before .before .before .before .before in
+    record { fits = omega (arith, c .before .before .loop-test .taken, start .pre .0 .0) }
+
+shared-slice-read-write-node-2 : tie.Need-shared-slice-read-write-node-2 Inv-loop μ-loop
+shared-slice-read-write-node-2 c =
+    let at-in-loop = c .before .before .before in
+    let start = at-in-loop .before .before .before .before .before .before .before .before in
+    omega (arith, at-in-loop .loop-test .taken, start .pre .1 .0 .0)
+
+mul-write-node-2 : tie.Need-mul-write-node-2 Inv-loop μ-loop
+mul-write-node-2 c =
+    let at-in-loop = c .before .before .before in
+    let start = at-in-loop .before .before .before .before .before .before .before .before in
+    record { fits = omega (arith, at-in-loop .loop-test .taken, start .pre .0 .0) }
+
+shared-slice-read-write-node-3 : tie.Need-shared-slice-read-write-node-3 Inv-loop μ-loop
+shared-slice-read-write-node-3 c =
+    let at-in-loop = c .before .before .before .before in
+    let start = at-in-loop .before .before .before .before .before .before .before .before in
+    omega (arith, at-in-loop .loop-test .taken, start .pre .1 .0 .1)
+
+mul-write-node-3 : tie.Need-mul-write-node-3 Inv-loop μ-loop
+mul-write-node-3 c =
+    let at-in-loop = c .before .before .before .before in
+    let start = at-in-loop .before .before .before .before .before .before .before .before in
+    record { fits = omega (arith, at-in-loop .loop-test .taken, start .pre .0 .0) }
+
+shared-slice-read-write-node-4 : tie.Need-shared-slice-read-write-node-4 Inv-loop μ-loop
+shared-slice-read-write-node-4 c =
+    let at-in-loop = c .before .before .before .before .before in
+    let start = at-in-loop .before .before .before .before .before .before .before .before in
+    omega (arith, at-in-loop .loop-test .taken, start .pre .1 .0 .2)
+
+mul-write-node-4 : tie.Need-mul-write-node-4 Inv-loop μ-loop
+mul-write-node-4 c =
+    let at-in-loop = c .before .before .before .before .before in
+    let start = at-in-loop .before .before .before .before .before .before .before .before in
+    record { fits = omega (arith, at-in-loop .loop-test .taken, start .pre .0 .0) }
+
+shared-slice-read-write-node-5 : tie.Need-shared-slice-read-write-node-5 Inv-loop μ-loop
+shared-slice-read-write-node-5 c =
+    let at-in-loop = c .before .before .before .before .before .before in
+    let start = at-in-loop .before .before .before .before .before .before .before .before in
+    omega (arith, at-in-loop .loop-test .taken, start .pre .1 .0 .3)
+
+write-node-requires : tie.Need-write-node-requires Inv-loop μ-loop
+write-node-requires c κs =
+    let at-in-loop = c .before .before .before .before .before .before in
+    let at-loop = at-in-loop .before in
+    let start = at-loop .before .before .before .before .before .before .before in
+    let l = at-loop .loop in
+    omega (arith, l .inv .1, at-in-loop .loop-test .taken, start .pre .1 .1, writes-long (l .inv .2))
+
+add-i : tie.Need-add-i Inv-loop μ-loop
+add-i c =
+    let at-in-loop = c .before .before .before .before .before .before .before .before .before in
+    let start = at-in-loop .before .before .before .before .before .before .before .before in
+    record { fits = omega (arith, at-in-loop .loop-test .taken, start .pre .0 .0) }
+
+loop-less : tie.Need-loop-less Inv-loop μ-loop
+loop-less c =
+    let at-in-loop = c .before .before .before .before .before .before .before .before .before in
+    omega (arith, at-in-loop .loop-test .taken)
+
+loop-again : tie.Need-loop-again Inv-loop μ-loop
+loop-again c =
+    let at-in-loop = c .before .before .before .before .before .before .before .before .before in
+    let at-loop = at-in-loop .before in
+    let start = at-loop .before .before .before .before .before .before .before in
+    let a = start .args in
+    let l = at-loop .loop in
+    let w = c .before .before .write-node .ensures in (
+      omega (arith, at-in-loop .loop-test .taken),
+      omega (arith, l .inv .1, w .1),
+      written-as (sym (nodes-next (a .banks) (a .kinds .now) (a .banks-of .now) (a .positions .now) (a .outputs .now) (a .sizes .now) (l .i)))
+          (writes-then (l .inv .2) (w .0)),
+    )
+
+same-length : tie.Need-same-length Inv-loop μ-loop
+same-length c = writes-long (c .before .loop .inv .2)
+
+returns : tie.Need-returns Inv-loop μ-loop
+returns c =
+    let a = c .before .before .before .before .before .before .before .before .args in
+    let l = c .before .loop in
+    let all : l .i ≡ a .nodes = omega (arith, l .inv .0, c .loop-test .left) in (
+      subst (λ (k : ℕ). Writes (nodesHeld (a .banks) (a .kinds .now) (a .banks-of .now) (a .positions .now) (a .outputs .now) (a .sizes .now) k)
+          (a .out .now) (a .at) (l .end) (l .out)) all (l .inv .2),
+      omega (arith, l .inv .1, all),
+    )
+
+pub write-nodes-spec : {M : Type 1} → statement M
+write-nodes-spec =
+    tie.close
+    (tie.spec
+    Inv-loop
+    μ-loop
+    loop-holds
+    shared-slice-read-write-node
+    mul-write-node
+    shared-slice-read-write-node-2
+    mul-write-node-2
+    shared-slice-read-write-node-3
+    mul-write-node-3
+    shared-slice-read-write-node-4
+    mul-write-node-4
+    shared-slice-read-write-node-5
+    write-node-requires
+    add-i
+    loop-less
+    loop-again
+    same-length
+    returns)

@@ -1,0 +1,6 @@
+pub mod Cells
+pub mod Marks
+pub mod Steps
+pub mod Text
+pub mod Theorems
+pub mod Laws

@@ -1,0 +1,176 @@
+// The text of a file: its lists are read, its layout is mapped, and the records are written one behind the other.
+use crate::cells::write_line;
+use crate::records::write_banks;
+use crate::records::write_fault;
+use crate::records::write_nodes;
+use crate::records::write_refused;
+use crate::records::write_verdict;
+use bankdef::Bankdefs;
+use build_map::Map;
+use form_fields::Form;
+use form_fields::Shape;
+use resolver::Choices;
+ghost use mathlib.Core.Path.{_≡_};
+ghost use mathlib.Core.List.{_++_};
+ghost use Prim.Native.Nat.{_+_, _≤_};
+ghost use lib.ListN.{length};
+ghost use Rattle.refusal.specs.Limits.{maxNodes};
+ghost use Rattle.print_text.specs.Puts.{Writes};
+ghost use Rattle.form_build.specs.Filed.{choicesOf, HeldIn};
+ghost use Rattle.print_map.specs.Steps.{textHeld};
+ghost use Rattle.print_map.specs.Text.{fileLine, mapText, mapRoom};
+
+// Room for the lists of any sound file. A node takes 8 of its 65,536 bytes, and 5 more in each row.
+const ROOM: usize = 8_192;
+
+const CELLS: usize = 13_107;
+
+// What a file chooses, with the fill's choice, which no form carries.
+fn chosen(shape: Shape, fill: u8) -> Choices
+    ensures { λ r. ⌜ r ≡ choicesOf shape fill ⌝ }
+{
+    Choices {
+        limit: shape.limit,
+        fill,
+        default_bank: shape.form == 1,
+    }
+}
+
+fn write_file(out: &mut [u8], shape: Shape, passes: u64) -> usize
+    requires { ⌜ 120 ≤ length (now out) ⌝ }
+    ensures { λ r. ⌜ Writes (fileLine shape passes) (now (out .entry)) 0 r (now (out .exit)) ⌝ }
+    ensures { λ r. ⌜ r ≤ 120 ⌝ }
+{
+    let marks = [0u8, 0, 0, 0, 0];
+    let numbers = [
+        shape.form as u64,
+        shape.limit as u64,
+        shape.rows,
+        passes,
+        shape.nodes,
+    ];
+    write_line(out, 0, b"file", &marks, &numbers)
+}
+
+// All records of a map, from the lists that it has filled.
+fn write_all(
+    out: &mut [u8],
+    shape: Shape,
+    banks: Bankdefs,
+    kinds: &[u8],
+    map: Map,
+    banks_of: &[u64],
+    positions: &[u32],
+    outputs: &[u64],
+    sizes: &[u32],
+) -> usize
+    requires { ⌜ mapRoom ≤ length (now out) ⌝ }
+    requires { ⌜ (map .nodes ≤ maxNodes) × (map .nodes ≤ length (now kinds)) ⌝ }
+    requires { ⌜
+        (map .nodes ≤ length (now «banks_of»)) × (map .nodes ≤ length (now positions)) × (map .nodes ≤ length (now outputs))
+        × (map .nodes ≤ length (now sizes))
+        ⌝ }
+    ensures { λ r. ⌜
+        Writes
+        (textHeld shape banks map (now (kinds .entry)) (now («banks_of» .entry)) (now (positions .entry)) (now (outputs .entry)) (now (sizes .entry)))
+        (now (out .entry)) 0 r (now (out .exit))
+        ⌝ }
+    ensures { λ r. ⌜ r ≤ mapRoom ⌝ }
+{
+    let padding = map.padding;
+    let fault = map.fault;
+    let verdict = map.verdict;
+    let a = write_file(out, shape, map.passes);
+    let b = write_banks(out, a, banks, padding);
+    let c = write_nodes(
+        out,
+        b,
+        banks,
+        kinds,
+        map.nodes as usize,
+        banks_of,
+        positions,
+        outputs,
+        sizes,
+    );
+    let d = write_fault(out, c, fault);
+    write_verdict(out, d, verdict)
+}
+
+// The text of a sound file, whose lists stand in the front of those lent.
+fn map_read(
+    file: &[u8],
+    shape: Shape,
+    fill: u8,
+    kinds: &[u8],
+    operands: &[u32],
+    numbers: &[u32],
+    states: &[u8],
+    out: &mut [u8],
+) -> usize
+    requires { ⌜ HeldIn (now file) shape (now kinds) (now operands) (now numbers) (now states) ⌝ }
+    requires { ⌜ mapRoom ≤ length (now out) ⌝ }
+    ensures { λ r. ⌜ Writes (mapText (now (file .entry)) fill) (now (out .entry)) 0 r (now (out .exit)) ⌝ }
+    ensures { λ r. ⌜ r ≤ mapRoom ⌝ }
+{
+    let choices = chosen(shape, fill);
+    let nodes = shape.nodes as usize;
+    let cells = shape.rows as usize * nodes;
+    let banks = form_lists::read_banks(file);
+    let mut banks_of = [0u64; 4096];
+    let mut positions = [0u32; 4096];
+    let mut outputs = [0u64; 4096];
+    let mut sizes = [0u32; 4096];
+    let map = build_map::map_nodes(
+        banks,
+        &kinds[..nodes],
+        &operands[..nodes],
+        &numbers[..cells],
+        &states[..cells],
+        shape.rows,
+        form_lists::read_values(file),
+        choices,
+        &mut banks_of,
+        &mut positions,
+        &mut outputs,
+        &mut sizes,
+    );
+    write_all(
+        out,
+        shape,
+        banks,
+        &kinds[..nodes],
+        map,
+        &banks_of,
+        &positions,
+        &outputs,
+        &sizes,
+    )
+}
+
+// The text of a file: its lists are read into arrays that are large enough for any file.
+fn map_file(file: &[u8], fill: u8, out: &mut [u8]) -> usize
+    requires { ⌜ mapRoom ≤ length (now out) ⌝ }
+    ensures { λ r. ⌜ Writes (mapText (now (file .entry)) fill) (now (out .entry)) 0 r (now (out .exit)) ⌝ }
+    ensures { λ r. ⌜ r ≤ mapRoom ⌝ }
+{
+    match form_fields::read_shape(file) {
+        Form::Broken(why) => write_refused(out, 0, why),
+        Form::Sound(shape) => {
+            let mut kinds = [0u8; ROOM];
+            let mut operands = [0u32; ROOM];
+            let mut numbers = [0u32; CELLS];
+            let mut states = [0u8; CELLS];
+            form_lists::read_lists(file, &mut kinds, &mut operands, &mut numbers, &mut states);
+            map_read(file, shape, fill, &kinds, &operands, &numbers, &states, out)
+        }
+    }
+}
+
+// The map's text of a file of either form and a fill's choice, at the front of `out`, which has room for any.
+pub fn write_map(file: &[u8], fill: u8, out: &mut [u8; 663552]) -> usize
+    ensures { λ r. ⌜ Writes (mapText (now (file .entry)) fill) (now (out .entry)) 0 r (now (out .exit)) ⌝ }
+    ensures { λ r. ⌜ r ≤ mapRoom ⌝ }
+{
+    map_file(file, fill, out)
+}

@@ -1,0 +1,7 @@
+pub mod Blocks
+pub mod Places
+pub mod Report
+pub mod Room
+pub mod Steps
+pub mod Theorems
+pub mod Laws

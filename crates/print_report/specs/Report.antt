@@ -1,0 +1,53 @@
+-- What the program prints for a file's bytes (document 01: "The program `layout` reads form 1 .. and lends 16,384 image bytes, 4,096 spans and
+-- 4,096 blocks"; document 02: "The program reads either").
+use mathlib.Core.List.{List}
+use Prim.Native.Nat.{ℕ}
+use lib.ListN.{length}
+use Rattle.refusal.specs.declared.Opt.{Opt}
+use Rattle.bankdef.specs.Check.{banksOf}
+use Rattle.bankdef.specs.declared.Bankdefs.{Bankdefs}
+use Rattle.bitvec.specs.HexDigits.{hexOf}
+use Rattle.blocks.specs.Spans.{spansOf}
+use Rattle.blocks.specs.Walk.{blocksOf}
+use Rattle.blocks.specs.Outcome.{origins, sizes}
+use Rattle.build_write.specs.Blank.{blankOf}
+use Rattle.build_sights.specs.Items.{itemsOf, imageOf}
+use Rattle.build_sights.specs.Spans.{spansOf as spansIn, words, sizes as spanSizes}
+use Rattle.output.specs.Output.{Room}
+use Rattle.build_sights.specs.declared.Visit.{Visit}
+use Rattle.output.specs.declared.Build.{Build}
+use Rattle.output.specs.declared.Build.the-variants.{Done, Refused}
+use Rattle.output.specs.declared.Output.{Output}
+use Rattle.form_fields.specs.Banks.{tableOf}
+use Rattle.form_build.specs.Filed.{listsIn, fileOutput, fileVisits}
+use Rattle.print_text.specs.Lines.{refusalText, layoutText}
+
+-- "lends 16,384 image bytes, 4,096 spans"
+abbrev pub imageRoom : ℕ
+imageRoom = 16384
+
+abbrev pub spanRoom : ℕ
+spanRoom = 4096
+
+abbrev pub lentRoom : Room
+lentRoom = record { image = imageRoom; spans = spanRoom }
+
+-- "Output: passes 1, block 0 10, block 20 10, image ffc002a800": K, the blocks of the spans, the image's bits in hex. There is room for
+-- 4,096 blocks and for every digit, and spans of a file's layout are within an offer's limits, so neither call is refused.
+abbrev pub doneText : ℕ → ℕ → List ℕ → List ℕ → List ℕ → List ℕ
+doneText k bits offsets sized image =
+    layoutText k (length (blocksOf (spansOf offsets sized))) (origins (blocksOf (spansOf offsets sized)))
+    (sizes (blocksOf (spansOf offsets sized))) (hexOf image bits)
+
+-- the text of a build over the visits of its last pass. "A refusal prints `refused`, number and place, one space between."
+abbrev pub answerText : Bankdefs → List Visit → List ℕ → Build → List ℕ
+answerText banks vs values (Refused why) = refusalText why
+answerText banks vs values (Done k bits spans) =
+    doneText k bits (words (spansIn vs)) (spanSizes (spansIn vs)) (imageOf values (blankOf (banksOf banks) bits imageRoom) (itemsOf vs))
+
+-- The program's whole output for a file, a fill and a page size, if there is one: of its build, in the room that the program lends.
+abbrev pub builtText : List ℕ → Output → List ℕ
+builtText file answer = answerText (tableOf file) (fileVisits file (answer .passes)) (listsIn file .values) (answer .build)
+
+unfoldable pub reportText : List ℕ → ℕ → Opt → List ℕ
+reportText file fill page = builtText file (fileOutput file fill page lentRoom)

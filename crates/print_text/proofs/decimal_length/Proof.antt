@@ -1,0 +1,39 @@
+-- `text::decimal_length` counts the digits: what is counted and the digits of what is left are one more than those of the number.
+use Prim.Native.Nat.{_+_, _≤_}
+use mathlib.Core.Path.{_≡_}
+use native.Mathlib.Omega.{arith}
+use lib.ListN.{length}
+use Rattle.print_text.specs.Decimal.{decimal}
+use Rattle.print_text.specs.Theorems.Decimal.{decimal-length, length-more}
+use Rattle.print_text.specs.Laws.Decimal.{length-few}
+use Rattle.print_text.proofs.decimal_length.Statement.{statement}
+use Rattle.print_text.proofs.decimal_length.Tie as tie
+
+abbrev Inv-loop : tie.InvT-loop
+Inv-loop n left₀ len₀ left len = (len + length (decimal left) ≡ length (decimal n) + 1) × (len + left ≤ n + 1)
+
+abbrev μ-loop : tie.MeasureT-loop
+μ-loop n left₀ len₀ left len = left
+
+loop-holds : tie.Need-loop-holds Inv-loop μ-loop
+loop-holds c = omega arith
+
+add-len : tie.Need-add-len Inv-loop μ-loop
+add-len c = omega arith
+
+loop-less : tie.Need-loop-less Inv-loop μ-loop
+loop-less c = omega arith
+
+loop-again : tie.Need-loop-again Inv-loop μ-loop
+loop-again c = omega (arith, length-more (c .before .loop .left) (c .loop-test .taken))
+
+returns : tie.Need-returns Inv-loop μ-loop
+returns c =
+    let n = c .before .before .args .n in
+    let few = length-few (c .before .loop .left) (omega arith) in
+    let small = decimal-length 19 n (omega arith) in
+    (omega arith, omega arith)
+
+pub decimal-length-spec : {M : Type 1} → statement M
+decimal-length-spec =
+    tie.close (tie.spec Inv-loop μ-loop loop-holds add-len loop-less loop-again returns)

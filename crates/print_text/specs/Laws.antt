@@ -1,0 +1,4 @@
+pub mod Decimal
+pub mod Ends
+pub mod Example
+pub mod Lengths

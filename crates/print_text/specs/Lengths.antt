@@ -1,0 +1,11 @@
+-- How long the lines are, and how long they can be: a number below 100,000,000,000 has at most eleven digits, and a space before it.
+use mathlib.Core.List.{List, [], _∷_}
+use Prim.Native.Nat.{ℕ, _<_}
+
+-- at most eleven digits
+abbrev pub Few : ℕ → Type 0
+Few n = n < 100000000000
+
+abbrev pub AllFew : List ℕ → Type 0
+AllFew [] = Unit {0}
+AllFew (n ∷ ns) = Few n × AllFew ns

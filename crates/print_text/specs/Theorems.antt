@@ -1,0 +1,4 @@
+pub mod Decimal
+pub mod Example
+pub mod Lengths
+pub mod Unique

@@ -1,0 +1,88 @@
+// What the programs share: numbers on the command line, and what they print.
+use refusal::Opt;
+use refusal::Refusal;
+ghost use mathlib.Core.Path.{_≡_};
+ghost use Prim.Native.Nat.{min};
+ghost use lib.ListN.{length};
+ghost use Rattle.io.specs.Counts.{Counts};
+ghost use Rattle.refusal.specs.Refusals.{numberOf};
+ghost use Rattle.prog_args.specs.Number.{numberIn, Spelled};
+
+// The number that a text spells in decimal digits, up to 4,294,967,295; none for any other text, the empty one too.
+pub fn number(text: &[u8]) -> Opt
+    ensures { λ r. ⌜ r ≡ numberIn (now (text .entry)) ⌝ }
+{
+    if text.len() == 0 {
+        return Opt::None;
+    }
+    let mut value: u64 = 0;
+    let mut i = 0;
+    while i < text.len() {
+        let c = text[i];
+        if c < b'0' {
+            return Opt::None;
+        }
+        if b'9' < c {
+            return Opt::None;
+        }
+        let digit = c - b'0';
+        value = 10 * value + digit as u64;
+        if value > 4_294_967_295 {
+            return Opt::None;
+        }
+        i += 1;
+    }
+    Opt::Some(value as u32)
+}
+
+// The number that argument i spells; none where it is missing. No contract can say which text the argument is.
+pub fn number_at(i: usize) -> Opt
+    ensures { λ r. ⌜ Spelled r ⌝ }
+{
+    let mut word = [0u8; 16];
+    let n = os::arg(i, &mut word);
+    number(&word[..n])
+}
+
+// How many of a list's elements a count stands for: never more than there are, so that the front of the list can be taken.
+pub fn within(count: u64, list: &[u64]) -> usize
+    ensures { λ r. ⌜ r ≡ min count (length (now (list .entry))) ⌝ }
+    ensures { λ r. ⌜ Counts r (now (list .entry)) ⌝ }
+{
+    if count < list.len() as u64 {
+        return count as usize;
+    }
+    list.len()
+}
+
+// The same of bytes.
+fn bytes_within(count: u64, text: &[u8]) -> usize
+    ensures { λ r. ⌜ r ≡ min count (length (now (text .entry))) ⌝ }
+    ensures { λ r. ⌜ Counts r (now (text .entry)) ⌝ }
+{
+    if count < text.len() as u64 {
+        return count as usize;
+    }
+    text.len()
+}
+
+// Hands the first bytes of a text to standard output, and answers how many.
+pub fn print(text: &[u8], count: u64) -> usize
+    ensures { λ r. ⌜ r ≡ min count (length (now (text .entry))) ⌝ }
+{
+    let n = bytes_within(count, text);
+    io::write_all(1, &text[..n]);
+    n
+}
+
+// Hands a refusal's line to standard output, and answers its number.
+pub fn refuse(why: Refusal) -> u64
+    ensures { λ r. ⌜ r ≡ numberOf why ⌝ }
+{
+    let mut line = [0u8; 128];
+    let text: &mut [u8] = &mut line;
+    if let print_text::Written::To(end) = print_text::put_refusal(text, 0, why) {
+        print(text, end as u64);
+    }
+    refusal::number(why)
+}

@@ -1,0 +1,234 @@
+-- Laws of lines, trails and reading, on plain values.
+use mathlib.Core.Path.{_≡_, refl, sym, ap, ap₂, subst, _∙_}
+use mathlib.Core.Bool.{Bool, true, false, _&&_, _||_}
+use mathlib.Core.List.{List, [], _∷_, _++_, append-nil}
+use Prim.Native.Nat.{ℕ, zero, suc, _+_, _-_, _*_, _<_, _≤_, max, min}
+use native.Mathlib.Numerals.{add-one}
+use native.Mathlib.Omega.{arith}
+use native.Mathlib.Decide.{decLt}
+use lib.Dec.{ltb, leb, eqb}
+use lib.ListN.{length, take, drop, length-take, length-drop, drop-of-length-le}
+use lib.Seq.{drop-drop}
+use borrow.Author.Tests.{lt-ltb, le-ltb, le-leb, lt-leb, eq-eqb, ne-eqb}
+use Rattle.refusal.specs.Pick.{pick}
+use Rattle.record_lines.specs.Items.{Item, gives, passes, ends, bad, Format, asLine, itemOf, Says}
+use Rattle.record_lines.specs.Lines.{isLf, isCr, lfNext, linesOf, firstLine, taken}
+use Rattle.record_lines.specs.Theorems.Lines.{lines-first}
+use Rattle.record_lines.specs.Laws.Lines.{first-is-front}
+use Rattle.record_lines.specs.Pieces.{Piece, piece, endOf}
+use Rattle.record_lines.specs.declared.Line.{Line}
+use Rattle.record_fault.specs.Reading.{formatBy, Read, sound, faulty, later, newPieces, stateAfter, isNew, fine, isNone, goOn, readFrom, readText}
+use Rattle.record_fault.specs.Trail.{Trail, trail, lineAt, itemAt, nextOf}
+use Rattle.record_ihex_line.specs.Format.{hexItem}
+use Rattle.record_srec_line.specs.Srec.{srecItem, firstOf}
+use Rattle.record_fault.specs.Laws.TrailLaws.{high-append}
+use Rattle.record_fault.specs.Steps.{firstBy, highest, admitBy, closingOf, Scanned, ScanIs}
+use Rattle.record_fault.specs.Laws.Steps.{leavesOf, admits, highAfter}
+use Rattle.record_fault.specs.declared.Admit.the-variants.{No, High}
+use Rattle.record_fault.specs.declared.Scan.the-variants.{Whole, Broken}
+
+-- ---- lines
+
+pick-le : (e : Bool) (x y n : ℕ) → x ≤ n → y ≤ n → pick e x y ≤ n
+pick-le true x y n p q = p
+pick-le false x y n p q = q
+
+pick-more : (e : Bool) (x y n : ℕ) → n < x → n < y → n < pick e x y
+pick-more true x y n p q = p
+pick-more false x y n p q = q
+
+and-false : (b : Bool) → b && false ≡ false
+and-false true = refl
+and-false false = refl
+
+pub taken-le : (t : List ℕ) → taken t ≤ length t
+unfolding taken
+taken-le [] = omega arith
+taken-le (c ∷ []) = pick-le (isLf c) 1 _ 1 (omega arith) (rw (and-false (isCr c)) (omega arith))
+taken-le (c ∷ d ∷ t) =
+    pick-le (isLf c) 1 _ (suc (suc (length t))) (omega arith)
+    (pick-le (isCr c && isLf d) 2 _ (suc (suc (length t))) (omega arith) (omega (arith, taken-le (d ∷ t))))
+
+pub taken-some : (t : List ℕ) → 0 < length t → 0 < taken t
+unfolding taken
+taken-some [] h = absurd (omega arith)
+taken-some (c ∷ t) h = pick-more (isLf c) 1 _ 0 (omega arith) (pick-more (isCr c && lfNext t) 2 _ 0 (omega arith) (omega arith))
+
+pub first-le : (t : List ℕ) → length (firstLine t) ≤ length t
+first-le t = omega (arith, ap length (first-is-front t), length-take (length (firstLine t)) t)
+
+module _ (text : List ℕ) (at : ℕ) where
+  pub stop-inside : at ≤ length text → at + length (lineAt text at) ≤ length text
+  stop-inside h = omega (arith, first-le (drop at text), length-drop at text)
+
+  pub next-inside : at ≤ length text → nextOf text at ≤ length text
+  next-inside h = omega (arith, taken-le (drop at text), length-drop at text)
+
+  pub next-onward : at < length text → at < nextOf text at
+  next-onward h = let some : 0 < taken (drop at text) = taken-some (drop at text) (omega (arith, length-drop at text)) in omega arith
+
+  pub line-part : (stop : ℕ) → stop ≡ at + length (lineAt text at) → take (stop - at) (drop at text) ≡ lineAt text at
+  line-part stop e =
+      let left : stop - at ≡ length (lineAt text at) = omega arith in
+      ap (λ (n : ℕ). take n (drop at text)) left ∙ first-is-front (drop at text)
+
+  none-left : length text < at → lineAt text at ≡ []
+  unfolding firstLine
+  none-left h = ap firstLine (drop-of-length-le text {i = at} (omega arith))
+
+  -- The part that is cut out, behind the text too.
+  pub line-cut : (stop end start : ℕ) → stop ≡ at + length (lineAt text at) → end ≡ min stop (length text) → start ≡ min at end
+      → take (end - start) (drop start text) ≡ lineAt text at
+  line-cut stop end start e f g =
+      elim (decLt (length text) at) [
+        | yes p ↦
+            let none : end - start ≡ 0 = omega (arith, ap length (none-left p)) in
+            ap (λ (n : ℕ). take n (drop start text)) none ∙ sym (none-left p)
+        | no p ↦
+            let within = stop-inside (omega arith) in
+            let same-end : end ≡ stop = omega arith in
+            let same-start : start ≡ at = omega arith in
+            ap₂ (λ (m n : ℕ). take (m - n) (drop n text)) same-end same-start ∙ line-part stop e
+      ]
+
+lines-some : (t : List ℕ) → 0 < length t → linesOf t ≡ firstLine t ∷ linesOf (drop (taken t) t)
+lines-some [] h = absurd (omega arith)
+lines-some (c ∷ t) h = lines-first c t
+
+pub lines-at : (text : List ℕ) (at : ℕ) → at < length text → linesOf (drop at text) ≡ lineAt text at ∷ linesOf (drop (nextOf text at) text)
+lines-at text at h =
+    lines-some (drop at text) (omega (arith, length-drop at text)) ∙ ap (λ (l : List ℕ). lineAt text at ∷ linesOf l) (drop-drop (taken (drop at text)) at text)
+
+lines-none : (t : List ℕ) → length t ≡ 0 → linesOf t ≡ []
+unfolding linesOf
+lines-none [] h = refl
+lines-none (c ∷ t) h = absurd (omega arith)
+
+pub lines-past : (text : List ℕ) (at : ℕ) → length text ≤ at → linesOf (drop at text) ≡ []
+lines-past text at h = lines-none (drop at text) (omega (arith, length-drop at text))
+
+-- ---- the formats
+
+module _ (format : ℕ) {l : List ℕ} {s : ℕ} {r : Line} where
+  pub in-hex : format ≡ 0 → Says l s 9 r (hexItem s l) → Says l s (firstBy format l) r (formatBy format s l)
+  in-hex e p = rw (eq-eqb format 0 e) p
+
+  pub in-srec : (format ≡ 0 → ⊥) → Says l s (firstOf l) r (srecItem s l) → Says l s (firstBy format l) r (formatBy format s l)
+  in-srec e p = rw (ne-eqb format 0 e) p
+
+-- ---- a line that was read
+
+and-true : (b : Bool) → b && true ≡ b
+and-true true = refl
+and-true false = refl
+
+leaves-new′ : (s f first end : ℕ) (i : Item) → leavesOf (asLine s f i) first end ≡ isNew (newPieces i) first end
+unfolding isNew
+leaves-new′ s f first end (gives a [] t) = refl
+leaves-new′ s f first end (gives a (b ∷ l) t) =
+    rw (ne-eqb (suc (length l)) 0 (λ e. omega arith)) (sym (and-true (leb (a + suc (length l)) first || leb end a)))
+leaves-new′ s f first end (passes t) = refl
+leaves-new′ s f first end ends = refl
+leaves-new′ s f first end bad = refl
+
+pub leaves-new : {l : List ℕ} {s f : ℕ} {r : Line} {i : Item} (first end : ℕ) → Says l s f r i → leavesOf r first end ≡ isNew (newPieces i) first end
+leaves-new {l} {s} {f} {r} {i} first end p = ap (λ (x : Line). leavesOf x first end) (p .answer) ∙ leaves-new′ s f first end i
+
+and-assoc : (a b c : Bool) → (a && b) && c ≡ a && (b && c)
+and-assoc true b c = refl
+and-assoc false b c = refl
+
+pub new-append : (a b : List Piece) (first end : ℕ) → isNew (a ++ b) first end ≡ (isNew a first end && isNew b first end)
+unfolding isNew
+new-append [] b first end = refl
+new-append (p ∷ a) b first end =
+    ap (λ (x : Bool). (leb (endOf p) first || leb end (p .address)) && x) (new-append a b first end)
+    ∙ sym (and-assoc (leb (endOf p) first || leb end (p .address)) (isNew a first end) (isNew b first end))
+
+high-new′ : (s f high : ℕ) (i : Item) → highAfter (asLine s f i) high ≡ max high (highest (newPieces i))
+unfolding highest
+high-new′ s f high (gives a [] t) = omega arith
+high-new′ s f high (gives a (b ∷ l) t) = rw (ne-eqb (suc (length l)) 0 (λ e. omega arith)) (omega arith)
+high-new′ s f high (passes t) = omega arith
+high-new′ s f high ends = omega arith
+high-new′ s f high bad = omega arith
+
+pub high-new : {l : List ℕ} {s f : ℕ} {r : Line} {i : Item} (given : List Piece) (high : ℕ) → Says l s f r i → high ≡ highest given
+    → highAfter r high ≡ highest (given ++ newPieces i)
+high-new {l} {s} {f} {r} {i} given high p e =
+    ap (λ (x : Line). highAfter x high) (p .answer) ∙ high-new′ s f high i ∙ ap (λ (h : ℕ). max h (highest (newPieces i))) e ∙ sym
+    (high-append given (newPieces i))
+
+-- ---- each answer of the test
+
+module _ (load : ℕ) (given : List Piece) (kind address count high : ℕ) where
+  pub admit-pass : kind ≡ 2 → High high ≡ admitBy load given kind address count high
+  admit-pass e = rw e
+
+  pub admit-other : (kind ≡ 2 → ⊥) → (kind ≡ 1 → ⊥) → No ≡ admitBy load given kind address count high
+  admit-other e f = rw (ne-eqb kind 2 e, ne-eqb kind 1 f)
+
+  module _ (bytes : kind ≡ 1) where
+    pub admit-empty : count ≡ 0 → High high ≡ admitBy load given kind address count high
+    admit-empty e = rw (bytes, e)
+
+    module _ (some : count ≡ 0 → ⊥) where
+      pub admit-below : address < load → No ≡ admitBy load given kind address count high
+      admit-below h = rw (bytes, ne-eqb count 0 some, lt-leb load address h)
+
+      module _ (above : load ≤ address) where
+        pub admit-past : 4294967296 < address + count → No ≡ admitBy load given kind address count high
+        admit-past h = rw (bytes, ne-eqb count 0 some, le-leb load address above, lt-leb (address + count) 4294967296 h)
+
+        module _ (within : address + count ≤ 4294967296) where
+          pub admit-twice : isNew given address (address + count) ≡ false → No ≡ admitBy load given kind address count high
+          admit-twice h = rw (bytes, ne-eqb count 0 some, le-leb load address above, le-leb (address + count) 4294967296 within, h)
+
+          pub admit-fine : isNew given address (address + count) ≡ true → High (max high (address + count)) ≡ admitBy load given kind address count high
+          admit-fine h = rw (bytes, ne-eqb count 0 some, le-leb load address above, le-leb (address + count) 4294967296 within, h)
+
+-- ---- one more line
+
+pub trail-next : (format : ℕ) (text : List ℕ) (k : ℕ) → trail format text (k + 1) ≡ trail format text (suc k)
+trail-next format text k = ap (trail format text) (add-one k)
+
+module _ (load s f : ℕ) (given : List Piece) (last : Bool) (rest : ℕ → List Piece → Read) where
+  pub on′ : (i : Item) → admits load given (asLine s f i) ≡ true → goOn load given last rest i ≡ later (rest (stateAfter s i) (given ++ newPieces i))
+  on′ (gives a [] t) e = refl
+  on′ (gives a (b ∷ l) t) e =
+      let fit : fine load given (piece a (b ∷ l) ∷ []) ≡ true = rw (ne-eqb (suc (length l)) 0 (λ z. omega arith)) at e in
+      rw fit
+  on′ (passes t) e = ap (λ (g : List Piece). later (rest t g)) (sym (append-nil given))
+  on′ ends e = let z : _≡_ {A = ℕ} 0 1 = cc in absurd (omega arith)
+  on′ bad e = let z : _≡_ {A = ℕ} 0 1 = cc in absurd (omega arith)
+
+  pub off′ : (i : Item) → admits load given (asLine s f i) ≡ false → ((asLine s f i) .kind ≡ 3 → ⊥) → goOn load given last rest i ≡ faulty 0
+  off′ (gives a [] t) e k = let z : _≡_ {A = ℕ} 0 1 = cc in absurd (omega arith)
+  off′ (gives a (b ∷ l) t) e k =
+      let fit : fine load given (piece a (b ∷ l) ∷ []) ≡ false = rw (ne-eqb (suc (length l)) 0 (λ z. omega arith)) at e in
+      rw fit
+  off′ (passes t) e k = let z : _≡_ {A = ℕ} 0 1 = cc in absurd (omega arith)
+  off′ ends e k = absurd (k refl)
+  off′ bad e k = refl
+
+  pub end′ : (i : Item) → (asLine s f i) .kind ≡ 3 → goOn load given last rest i ≡ pick last (sound given) (faulty 1)
+  end′ (gives a l t) e = absurd (omega arith)
+  end′ (passes t) e = absurd (omega arith)
+  end′ ends e = refl
+  end′ bad e = absurd (omega arith)
+
+-- ---- many lines
+
+unfoldable pub laters : ℕ → Read → Read
+laters zero r = r
+laters (suc n) r = laters n (later r)
+
+pub laters-faulty : (n k : ℕ) → laters n (faulty k) ≡ faulty (n + k)
+unfolding laters
+laters-faulty zero k = ap faulty (omega arith)
+laters-faulty (suc n) k = laters-faulty n (suc k) ∙ ap faulty (omega arith)
+
+pub laters-sound : (n : ℕ) (l : List Piece) → laters n (sound l) ≡ sound l
+unfolding laters
+laters-sound zero l = refl
+laters-sound (suc n) l = laters-sound n l

@@ -1,0 +1,211 @@
+-- The two loops over a file's lines: what is known before each turn, and a law for each way on.
+use mathlib.Core.Path.{_≡_, refl, sym, ap, subst, _∙_}
+use mathlib.Core.Bool.{Bool, true, false, _&&_}
+use mathlib.Core.List.{List, [], _∷_, _++_}
+use Prim.Native.Nat.{ℕ, zero, suc, _+_, _<_, _≤_}
+use native.Mathlib.Nat.{le-antisymm}
+use native.Mathlib.Numerals.{add-one}
+use native.Mathlib.Omega.{arith}
+use native.Mathlib.Decide.{decLt}
+use lib.Dec.{ltb}
+use lib.ListN.{length, drop}
+use borrow.Author.Tests.{lt-ltb, le-ltb}
+use Rattle.refusal.specs.Pick.{pick}
+use Rattle.refusal.specs.Laws.Pick.{pick-true, pick-false}
+use Rattle.record_lines.specs.Items.{Item, Format, asLine, Says}
+use Rattle.record_lines.specs.Lines.{linesOf}
+use Rattle.record_lines.specs.Pieces.{Piece}
+use Rattle.record_lines.specs.declared.Line.{Line}
+use Rattle.record_fault.specs.Outcome.{faultOf}
+use Rattle.record_fault.specs.declared.Fault.the-variants.{Good, At}
+use Rattle.record_fault.specs.Reading.{formatBy, Read, sound, faulty, later, newPieces, stateAfter, isNew, isNone, goOn, readFrom, readText}
+use Rattle.record_fault.specs.Trail.{Trail, trail, lineAt, itemAt, nextOf}
+use Rattle.record_fault.specs.Laws.TrailLaws.{said, moved, next-at, next-state, next-given}
+use Rattle.record_fault.specs.Steps.{firstBy, Stepped, highest, rises, closingOf, Scanned, ScanIs}
+use Rattle.record_fault.specs.Laws.Steps.{leavesOf, admits, highAfter, admitOf}
+use Rattle.record_fault.specs.declared.Step.{Step}
+use Rattle.record_fault.specs.declared.Admit.{Admit}
+use Rattle.record_fault.specs.declared.Admit.the-variants.{No, High}
+use Rattle.record_fault.specs.declared.Scan.{Scan}
+use Rattle.record_fault.specs.declared.Scan.the-variants.{Whole, Broken}
+use Rattle.record_fault.proofs.Laws.{lines-at, lines-past, leaves-new, new-append, high-new, on′, off′, end′, laters, laters-faulty, laters-sound}
+
+-- ---- whether bytes are new
+
+pub record Looking (format : ℕ) (text : List ℕ) (n first end at state : ℕ) (ok : Bool) (k : ℕ) : Type 0 where
+  pub few : k ≤ n
+  pub place : at ≡ trail format text k .at
+  pub force : state ≡ trail format text k .state
+  pub kept : ok ≡ isNew (trail format text k .given) first end
+  pub inside : at ≤ length text
+
+module _ (format : ℕ) (text : List ℕ) (n first end : ℕ) where
+  pub looking-starts : Looking format text n first end 0 0 true 0
+  unfolding trail isNew
+  looking-starts = record { few = omega arith; place = refl; force = refl; kept = refl; inside = omega arith }
+
+  module _ {at state : ℕ} {ok : Bool} {k : ℕ} (w : Looking format text n first end at state ok k) where
+    pub looking-on : k < n → {r : Step} {found next : Bool} → Stepped format text at state r → found ≡ leavesOf (r .line) first end → next ≡ (ok && found)
+        → Looking format text n first end (r .next) (r .line .state) next (k + 1)
+    looking-on h {r} {found} {next} s e b =
+        let t = moved format text k r at state (w .place) (w .force) s in
+        record {
+          few = omega arith;
+          place = next-at format text k r t;
+          force = next-state format text k r t;
+          kept =
+              b ∙ ap (λ (x : Bool). ok && x) (e ∙ leaves-new first end (t .says))
+              ∙ ap (λ (x : Bool). x && isNew (newPieces (said format text k r)) first end) (w .kept)
+              ∙ sym (new-append (trail format text k .given) (newPieces (said format text k r)) first end)
+              ∙ ap (λ (l : List Piece). isNew l first end) (next-given format text k r);
+          inside = s .inside (w .inside);
+        }
+
+    pub looking-ends : n ≤ k → ok ≡ isNew (trail format text n .given) first end
+    looking-ends h = w .kept ∙ ap (λ (j : ℕ). isNew (trail format text j .given) first end) (le-antisymm (w .few) h)
+
+-- ---- the scan
+
+-- the lines behind the first n
+abbrev reading : ℕ → ℕ → List ℕ → ℕ → Read
+reading format load text n =
+    laters n (readFrom (formatBy format) load (linesOf (drop (trail format text n .at) text)) (trail format text n .state) (trail format text n .given))
+
+pub record Scanning (format load : ℕ) (text : List ℕ) (at state high : ℕ) (ascend : Bool) (n : ℕ) : Type 0 where
+  pub few : n ≤ at
+  pub inside : at ≤ length text
+  pub place : at ≡ trail format text n .at
+  pub force : state ≡ trail format text n .state
+  pub top : high ≡ highest (trail format text n .given)
+  pub order : ascend ≡ rises format text n
+  pub left : n + length (linesOf (drop at text)) ≡ length (linesOf text)
+  pub reads : readText format load text ≡ reading format load text n
+
+read-step : (f : Format) (load : ℕ) (text : List ℕ) (at state : ℕ) (given : List Piece) → at < length text
+    → readFrom f load (linesOf (drop at text)) state given
+    ≡ goOn load given (isNone (linesOf (drop (nextOf text at) text))) (readFrom f load (linesOf (drop (nextOf text at) text))) (f state (lineAt text at))
+unfolding readFrom
+read-step f load text at state given h = ap (λ (ls : List (List ℕ)). readFrom f load ls state given) (lines-at text at h)
+
+high-of : (b : Bool) (x h : ℕ) → pick b (High x) No ≡ High h → (b ≡ true) × (x ≡ h)
+high-of true x h e = (refl, cc)
+high-of false x h e = let z : _≡_ {A = ℕ} 0 1 = cc in absurd (omega arith)
+
+no-of : (b : Bool) (x : ℕ) → pick b (High x) No ≡ No → b ≡ false
+no-of true x e = let z : _≡_ {A = ℕ} 0 1 = cc in absurd (omega arith)
+no-of false x e = refl
+
+module _ (format load : ℕ) (text : List ℕ) where
+  pub scanning-starts : Scanning format load text 0 0 0 true 0
+  unfolding trail laters highest rises
+  scanning-starts = record { few = omega arith; inside = omega arith; place = refl; force = refl; top = refl; order = refl; left = omega arith; reads = refl }
+
+  module _ {at state high : ℕ} {ascend : Bool} {n : ℕ} (w : Scanning format load text at state high ascend n) where
+    abbrev now : Trail
+    now = trail format text n
+
+    abbrev behind : List (List ℕ)
+    behind = linesOf (drop (nextOf text (now .at)) text)
+
+    -- the file, by the line that is next
+    turn : at < length text → readText format load text
+        ≡ laters n (goOn load (now .given) (isNone behind) (readFrom (formatBy format) load behind) (itemAt format text (now .at) (now .state)))
+    turn h = w .reads ∙ ap (laters n)
+        (read-step (formatBy format) load text (now .at) (now .state) (now .given) (subst (λ (x : ℕ). x < length text) (w .place) h))
+
+    module _ (h : at < length text) {r : Step} (s : Stepped format text at state r) where
+      abbrev item : Item
+      item = itemAt format text (now .at) (now .state)
+
+      stepped : Stepped format text (now .at) (now .state) r
+      stepped = moved format text n r at state (w .place) (w .force) s
+
+      abbrev first : ℕ
+      first = firstBy format (lineAt text (now .at))
+
+      -- whether records ascend, this line's too
+      still : {found up : Bool} → found ≡ leavesOf (r .line) 0 high → up ≡ (ascend && found) → up ≡ rises format text (n + 1)
+      unfolding rises
+      still {found} {up} f u =
+          u ∙ ap (λ (x : Bool). x && found) (w .order)
+          ∙ ap (λ (x : Bool). rises format text n && x) (f ∙ leaves-new 0 high (stepped .says) ∙ ap (isNew (newPieces item) 0) (w .top))
+          ∙ ap (rises format text) (sym (add-one n))
+
+      pub scanning-on : (top : ℕ) → admitOf load (now .given) (r .line) high ≡ High top → {found up : Bool} → found ≡ leavesOf (r .line) 0 high
+          → up ≡ (ascend && found) → Scanning format load text (r .next) (r .line .state) top up (n + 1)
+      unfolding laters trail
+      scanning-on top e f u =
+          let both = high-of (admits load (now .given) (r .line)) (highAfter (r .line) high) top e in
+          let allowed : admits load (now .given) (asLine (now .state) first item) ≡ true = ap (admits load (now .given)) (sym (stepped .says .answer))
+          ∙ both .0 in
+          let ahead : readText format load text ≡ laters (suc n)
+          (readFrom (formatBy format) load behind (stateAfter (now .state) item) (now .given ++ newPieces item)) =
+          turn h ∙ ap (laters n) (on′ load (now .state) first (now .given) (isNone behind) (readFrom (formatBy format) load behind) item allowed) in
+          record {
+            few = omega (arith, s .onward h, w .few);
+            inside = s .inside (w .inside);
+            place = next-at format text n r stepped;
+            force = next-state format text n r stepped;
+            top = sym (both .1) ∙ high-new (now .given) high (stepped .says) (w .top) ∙ ap highest (next-given format text n r);
+            order = still f u;
+            left =
+                omega (arith, w .left, ap length (lines-at text at h), ap (λ (x : ℕ). length (linesOf (drop x text))) (s .next));
+            reads = ahead ∙ ap (reading format load text) (sym (add-one n));
+          }
+
+      pub scanning-off : admitOf load (now .given) (r .line) high ≡ No → (r .line .kind ≡ 3 → ⊥) → readText format load text ≡ faulty n
+      scanning-off e k =
+          let barred : admits load (now .given) (asLine (now .state) first item) ≡ false =
+          ap (admits load (now .given)) (sym (stepped .says .answer)) ∙ no-of (admits load (now .given) (r .line)) (highAfter (r .line) high) e in
+          let other : (asLine (now .state) first item) .kind ≡ 3 → ⊥ = λ z. k (ap (λ (x : Line). x .kind) (stepped .says .answer) ∙ z) in
+          turn h ∙ ap (laters n) (off′ load (now .state) first (now .given) (isNone behind) (readFrom (formatBy format) load behind) item barred other)
+          ∙ laters-faulty n 0 ∙ ap faulty (omega arith)
+
+      closed : r .line .kind ≡ 3 → readText format load text ≡ laters n (pick (isNone behind) (sound (now .given)) (faulty 1))
+      closed k =
+          turn h
+          ∙ ap (laters n)
+          (end′ load (now .state) first (now .given) (isNone behind) (readFrom (formatBy format) load behind) item
+          (ap (λ (x : Line). x .kind) (sym (stepped .says .answer)) ∙ k))
+
+      pub scanning-closes : r .line .kind ≡ 3 → ScanIs format load text (closingOf n high ascend (r .next) (length text))
+      scanning-closes k =
+          elim (decLt (r .next) (length text)) [
+            | yes p ↦
+                subst (ScanIs format load text) (sym (pick-true (Broken (n + 1)) (Whole n high ascend) (lt-ltb (r .next) (length text) p)))
+                (closed k
+                ∙ ap (λ (ls : List (List ℕ)). laters n (pick (isNone ls) (sound (now .given)) (faulty 1)))
+                (lines-at text (nextOf text (now .at)) (subst (λ (x : ℕ). x < length text) (stepped .next) p))
+                ∙ laters-faulty n 1)
+            | no p ↦
+                subst (ScanIs format load text) (sym (pick-false (Broken (n + 1)) (Whole n high ascend) (le-ltb (r .next) (length text) (omega arith))))
+                (record {
+                  reads =
+                      closed k
+                      ∙ ap (λ (ls : List (List ℕ)). laters n (pick (isNone ls) (sound (now .given)) (faulty 1)))
+                      (lines-past text (nextOf text (now .at)) (subst (λ (x : ℕ). length text ≤ x) (stepped .next) (omega arith)))
+                      ∙ laters-sound n (now .given);
+                  top = w .top;
+                  order = w .order;
+                  all =
+                      omega
+                      (arith, w .left, ap length (lines-at text at h), ap length (lines-past text (nextOf text at) (omega (arith, p, s .next))));
+                })
+          ]
+
+    pub scanning-ends : length text ≤ at → readText format load text ≡ faulty n
+    unfolding readFrom
+    scanning-ends h =
+        w .reads
+        ∙ ap (λ (ls : List (List ℕ)). laters n (readFrom (formatBy format) load ls (now .state) (now .given)))
+        (lines-past text (now .at) (subst (λ (x : ℕ). length text ≤ x) (w .place) h))
+        ∙ laters-faulty n 0 ∙ ap faulty (omega arith)
+
+-- ---- what is answered
+
+module _ (format load : ℕ) (text : List ℕ) (r : Scan) (p : ScanIs format load text r) where
+  pub fault-none : (lines high : ℕ) (ascend : Bool) → r ≡ Whole lines high ascend → Good ≡ faultOf (readText format load text)
+  fault-none lines high ascend e = let w : Scanned format load text lines high ascend = subst (ScanIs format load text) e p in sym (ap faultOf (w .reads))
+
+  pub fault-some : (line : ℕ) → r ≡ Broken line → At line ≡ faultOf (readText format load text)
+  fault-some line e = let w : readText format load text ≡ faulty line = subst (ScanIs format load text) e p in sym (ap faultOf w)

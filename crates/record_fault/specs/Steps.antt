@@ -1,0 +1,79 @@
+-- What the steps of reading owe each other.
+use mathlib.Core.Path.{_≡_}
+use mathlib.Core.Bool.{Bool, true, false, _&&_, _||_}
+use mathlib.Core.List.{List, [], _∷_}
+use Prim.Native.Nat.{ℕ, zero, suc, _+_, _-_, _<_, _≤_, max}
+use lib.Dec.{ltb, leb, eqb}
+use lib.ListN.{length, take, drop}
+use Rattle.refusal.specs.Pick.{pick}
+use Rattle.record_lines.specs.Items.{Says}
+use Rattle.record_lines.specs.Lines.{linesOf}
+use Rattle.record_lines.specs.Pieces.{Piece, endOf}
+use Rattle.record_srec_line.specs.Srec.{firstOf}
+use Rattle.record_fault.specs.Reading.{sound, faulty, newPieces, isNew, readText}
+use Rattle.record_fault.specs.Trail.{trail, lineAt, itemAt, nextOf}
+use Rattle.record_fault.specs.declared.Step.{Step}
+use Rattle.record_fault.specs.declared.Admit.{Admit}
+use Rattle.record_fault.specs.declared.Admit.the-variants.{No, High}
+use Rattle.record_fault.specs.declared.Scan.{Scan}
+use Rattle.record_fault.specs.declared.Scan.the-variants.{Whole, Broken}
+
+-- Where in a line its data's first digit stands.
+abbrev pub firstBy : ℕ → List ℕ → ℕ
+firstBy format line = pick (eqb format 0) 9 (firstOf line)
+
+-- One line.
+pub record Stepped (format : ℕ) (text : List ℕ) (at state : ℕ) (r : Step) : Type 0 where
+  pub says : Says (lineAt text at) state (firstBy format (lineAt text at)) (r .line) (itemAt format text at state)
+  pub stop : r .stop ≡ at + length (lineAt text at)
+  pub start : at ≤ r .stop
+  pub within : at ≤ length text → r .stop ≤ length text
+  pub part : take (r .stop - at) (drop at text) ≡ lineAt text at
+  pub next : r .next ≡ nextOf text at
+  pub inside : at ≤ length text → r .next ≤ length text
+  pub onward : at < length text → at < r .next
+
+-- A line that was read, by its kind, address and count, gives no byte from `first` on and below `end`.
+abbrev pub leavesBy : ℕ → ℕ → ℕ → ℕ → ℕ → Bool
+leavesBy kind address count first end = pick (eqb kind 1) (pick (eqb count 0) true (leb (address + count) first || leb end address)) true
+
+-- It may stand behind the pieces given.
+abbrev pub admitsBy : ℕ → List Piece → ℕ → ℕ → ℕ → Bool
+admitsBy load given kind address count =
+    pick (eqb kind 2) true
+    (pick (eqb kind 1)
+    (pick (eqb count 0) true (leb load address && leb (address + count) 4294967296 && isNew given address (address + count)))
+    false)
+
+-- The highest end of the pieces given, and with a line's.
+unfoldable pub highest : List Piece → ℕ
+highest [] = 0
+highest (p ∷ l) = max (endOf p) (highest l)
+
+abbrev pub highBy : ℕ → ℕ → ℕ → ℕ → ℕ
+highBy kind address count high = pick (eqb kind 1) (pick (eqb count 0) high (max high (address + count))) high
+
+abbrev pub admitBy : ℕ → List Piece → ℕ → ℕ → ℕ → ℕ → Admit
+admitBy load given kind address count high = pick (admitsBy load given kind address count) (High (highBy kind address count high)) No
+
+-- Records ascend: every byte of a line lies at or above the highest end of those given before it.
+unfoldable pub rises : ℕ → List ℕ → ℕ → Bool
+rises format text zero = true
+rises format text (suc n) =
+    let t = trail format text n in
+    rises format text n && isNew (newPieces (itemAt format text (t .at) (t .state))) 0 (highest (t .given))
+
+-- The end record, with `next` the place behind it.
+abbrev pub closingOf : ℕ → ℕ → Bool → ℕ → ℕ → Scan
+closingOf n high ascend next len = pick (ltb next len) (Broken (n + 1)) (Whole n high ascend)
+
+-- All lines up to the end record.
+pub record Scanned (format load : ℕ) (text : List ℕ) (lines high : ℕ) (ascend : Bool) : Type 0 where
+  pub reads : readText format load text ≡ sound (trail format text lines .given)
+  pub top : high ≡ highest (trail format text lines .given)
+  pub order : ascend ≡ rises format text lines
+  pub all : suc lines ≡ length (linesOf text)
+
+abbrev pub ScanIs : ℕ → ℕ → List ℕ → Scan → Type 0
+ScanIs format load text (Whole lines high ascend) = Scanned format load text lines high ascend
+ScanIs format load text (Broken line) = readText format load text ≡ faulty line

@@ -1,0 +1,225 @@
+// A file of records, read: which line is at fault. The loops stand here once for every format.
+use record_lines::Line;
+ghost use mathlib.Core.Path.{_≡_};
+ghost use mathlib.Core.Bool.{_&&_};
+ghost use Prim.Native.Nat.{_+_, _*_, _≤_, _<_, max, min};
+ghost use lib.ListN.{length};
+ghost use Rattle.record_lines.specs.Items.{Says};
+ghost use Rattle.record_fault.specs.Reading.{formatBy, isNew, readText};
+ghost use Rattle.record_fault.specs.Trail.{trail};
+ghost use Rattle.record_fault.specs.Steps.{firstBy, Stepped, leavesBy, highest, rises, admitBy, closingOf, ScanIs};
+ghost use Rattle.record_fault.specs.Outcome.{faultOf};
+
+// A line that was read, where its characters end, and where the next one begins.
+pub struct Step {
+    pub line: Line,
+    pub stop: usize,
+    pub next: usize,
+}
+
+// Whether a line may stand where it does: the highest end of the bytes given behind it.
+pub enum Admit {
+    No,
+    High(u64),
+}
+
+// How many lines stand before the end record of a sound file, the highest end of its bytes, and whether its records ascend; or the line at fault.
+pub enum Scan {
+    Whole(usize, u64, bool),
+    Broken(usize),
+}
+
+// Whether a file is good, or its first line at which no good file can go on, from 0.
+pub enum Fault {
+    Good,
+    At(u64),
+}
+
+// What a line says in a format: 0 is Intel HEX, every other number S-records.
+fn line_in(format: u8, line: &[u8], state: u16) -> Line
+    ensures { λ r. ⌜ Says (now (line .entry)) state (firstBy format (now (line .entry))) r (formatBy format state (now (line .entry))) ⌝ }
+{
+    if format == 0 {
+        return record_ihex_line::line_of(line, state);
+    }
+    record_srec_line::line_of(line, state)
+}
+
+fn least(a: usize, b: usize) -> usize
+    ensures { λ r. ⌜ r ≡ min a b ⌝ }
+{
+    if a < b { a } else { b }
+}
+
+// The line that begins at a place; behind the text it is empty.
+pub fn take_line(format: u8, text: &[u8], at: usize, state: u16) -> Step
+    ensures { λ r. ⌜ Stepped format (now (text .entry)) at state r ⌝ }
+{
+    let cut = record_lines::line_from(text, at);
+    let stop = cut.stop;
+    let end = least(stop, text.len());
+    let start = least(at, end);
+    let line = line_in(format, &text[start..end], state);
+    Step {
+        line,
+        stop,
+        next: cut.next,
+    }
+}
+
+// Whether a line gives no byte from `first` on and below `end`.
+fn leaves(kind: u8, address: u32, count: u8, first: u64, end: u64) -> bool
+    ensures { λ r. ⌜ r ≡ leavesBy kind address count first end ⌝ }
+{
+    if kind != record_lines::DATA {
+        return true;
+    }
+    if count == 0 {
+        return true;
+    }
+    let start = address as u64;
+    if start + (count as u64) <= first {
+        return true;
+    }
+    end <= start
+}
+
+fn both(a: bool, b: bool) -> bool
+    ensures { λ r. ⌜ r ≡ (a && b) ⌝ }
+{
+    if a {
+        return b;
+    }
+    false
+}
+
+// Whether no byte from `first` on and below `end` is among those that the first n lines give.
+fn is_new(format: u8, text: &[u8], n: usize, first: u64, end: u64) -> bool
+    ensures { λ r. ⌜ r ≡ isNew (trail format (now (text .entry)) n .given) first end ⌝ }
+{
+    let mut at = 0usize;
+    let mut state = 0u16;
+    let mut ok = true;
+    let mut k = 0usize;
+    while k < n {
+        let s = take_line(format, text, at, state);
+        let line = s.line;
+        ok = both(ok, leaves(line.kind, line.address, line.count, first, end));
+        at = s.next;
+        state = line.state;
+        k += 1;
+    }
+    ok
+}
+
+// The same, where the highest end of those bytes is known: "while records ascend, nothing need be held against anything".
+fn is_fresh(format: u8, text: &[u8], n: usize, first: u64, end: u64, high: u64) -> bool
+    requires { ⌜ high ≡ highest (trail format (now text) n .given) ⌝ }
+    ensures { λ r. ⌜ r ≡ isNew (trail format (now (text .entry)) n .given) first end ⌝ }
+{
+    if high <= first {
+        return true;
+    }
+    is_new(format, text, n, first, end)
+}
+
+fn larger(a: u64, b: u64) -> u64
+    ensures { λ r. ⌜ r ≡ max a b ⌝ }
+{
+    if a < b { b } else { a }
+}
+
+// Whether line n may stand where it does.
+fn may_stand(
+    format: u8,
+    text: &[u8],
+    n: usize,
+    load: u32,
+    kind: u8,
+    address: u32,
+    count: u8,
+    high: u64,
+) -> Admit
+    requires { ⌜ high ≡ highest (trail format (now text) n .given) ⌝ }
+    ensures { λ r. ⌜ r ≡ admitBy load (trail format (now (text .entry)) n .given) kind address count high ⌝ }
+{
+    if kind == record_lines::PASS {
+        return Admit::High(high);
+    }
+    if kind != record_lines::DATA {
+        return Admit::No;
+    }
+    if count == 0 {
+        return Admit::High(high);
+    }
+    let first = address as u64;
+    let end = first + count as u64;
+    if first < load as u64 {
+        return Admit::No;
+    }
+    if end > 4_294_967_296 {
+        return Admit::No;
+    }
+    if !is_fresh(format, text, n, first, end, high) {
+        return Admit::No;
+    }
+    Admit::High(larger(high, end))
+}
+
+// The end record: nothing stands behind it.
+fn closing(n: usize, high: u64, ascend: bool, next: usize, len: usize) -> Scan
+    requires { ⌜ n < len ⌝ }
+    ensures { λ r. ⌜ r ≡ closingOf n high ascend next len ⌝ }
+{
+    if next < len {
+        return Scan::Broken(n + 1);
+    }
+    Scan::Whole(n, high, ascend)
+}
+
+// Reads the lines up to the end record, or to the first at fault.
+pub fn scan_lines(format: u8, text: &[u8], load: u32) -> Scan
+    ensures { λ r. ⌜ ScanIs format load (now (text .entry)) r ⌝ }
+{
+    let mut at = 0usize;
+    let mut state = 0u16;
+    let mut high = 0u64;
+    let mut ascend = true;
+    let mut n = 0usize;
+    while at < text.len() {
+        let s = take_line(format, text, at, state);
+        let line = s.line;
+        if line.kind == record_lines::END {
+            return closing(n, high, ascend, s.next, text.len());
+        }
+        let Admit::High(h) = may_stand(
+            format,
+            text,
+            n,
+            load,
+            line.kind,
+            line.address,
+            line.count,
+            high,
+        ) else {
+            return Scan::Broken(n);
+        };
+        // all of its bytes lie at or above the highest end
+        ascend = both(ascend, leaves(line.kind, line.address, line.count, 0, high));
+        high = h;
+        at = s.next;
+        state = line.state;
+        n += 1;
+    }
+    Scan::Broken(n)
+}
+
+// The line at fault of a file that is read from a load address on.
+pub fn line_at_fault(format: u8, text: &[u8], load: u32) -> Fault
+    ensures { λ r. ⌜ r ≡ faultOf (readText format load (now (text .entry))) ⌝ }
+{
+    match scan_lines(format, text, load) {
+        Scan::Whole(_, _, _) => Fault::Good,
+        Scan::Broken(line) => Fault::At(line as u64),
+    }
+}

@@ -1,7 +1,0 @@
-pub mod Fills
-pub mod LineLaws
-pub mod Loops
-pub mod Lower
-pub mod Room
-pub mod Walks
-pub mod Unique

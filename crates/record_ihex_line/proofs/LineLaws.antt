@@ -1,0 +1,143 @@
+-- What a line says, by the tests on the way to each return.
+use mathlib.Core.Path.{_≡_, refl, sym, ap, _∙_}
+use mathlib.Core.Bool.{true, false, _&&_, and-eq-true-iff}
+use mathlib.Core.List.{List}
+use Prim.Native.Nat.{ℕ, _+_, _*_, _%_, _≤_}
+use native.Mathlib.Omega.{arith}
+use borrow.Author.Tests.{eq-eqb, ne-eqb, eqb-true}
+use lib.Dec.{eqb}
+use lib.ListN.{length, drop, getD}
+use Rattle.bitvec.specs.Laws.Lists.{length-listOf}
+use Rattle.record_lines.specs.declared.Line.{Line}
+use Rattle.record_lines.specs.Digits.{allDigits, bytesAt}
+use Rattle.record_lines.specs.Items.{Item, gives, passes, ends, bad, plainLine, Says}
+use Rattle.record_lines.specs.Sums.{sumOf}
+use Rattle.record_ihex_line.specs.Format.{wordAt, countOf, fieldOf, typeOf, goodLine, byType, hexItem}
+
+module _ (line : List ℕ) where
+  pub no-colon : (x : ℕ) → x ≡ getD line 0 0 → (x ≡ 58 → ⊥) → false ≡ goodLine line
+  unfolding goodLine
+  no-colon x e h = rw (ne-eqb (getD line 0 0) 58 (λ f. h (e ∙ f)))
+
+  module _ (x k : ℕ) (ex : x ≡ getD line 0 0) (colon : x ≡ 58) (ek : k ≡ countOf line) where
+    pub wrong-length : (length line ≡ 11 + 2 * k → ⊥) → false ≡ goodLine line
+    unfolding goodLine
+    wrong-length h =
+        rw (eq-eqb (getD line 0 0) 58 (sym ex ∙ colon), ne-eqb (length line) (11 + 2 * countOf line) (λ f. h (f ∙ ap (λ (n : ℕ). 11 + 2 * n) (sym ek))))
+
+    module _ (long : length line ≡ 11 + 2 * k) where
+      same-long : length line ≡ 11 + 2 * countOf line
+      same-long = long ∙ ap (λ (n : ℕ). 11 + 2 * n) ek
+
+      pub no-digits : allDigits (drop 1 line) ≡ false → false ≡ goodLine line
+      unfolding goodLine
+      no-digits d = rw (eq-eqb (getD line 0 0) 58 (sym ex ∙ colon), eq-eqb (length line) (11 + 2 * countOf line) same-long, d)
+
+      pub by-sum : (s : ℕ) → allDigits (drop 1 line) ≡ true → s ≡ sumOf (bytesAt line 1 (5 + k)) % 256 → eqb s 0 ≡ goodLine line
+      unfolding goodLine
+      by-sum s d e =
+          rw (eq-eqb (getD line 0 0) 58 (sym ex ∙ colon), eq-eqb (length line) (11 + 2 * countOf line) same-long, d)
+          (ap (λ (n : ℕ). eqb n 0) (e ∙ ap (λ (n : ℕ). sumOf (bytesAt line 1 (5 + n)) % 256) ek))
+
+  -- a good line is as long as its count says
+  pub good-long : goodLine line ≡ true → length line ≡ 11 + 2 * countOf line
+  unfolding goodLine
+  good-long g =
+      let a = eqb (getD line 0 0) 58 in
+      let b = eqb (length line) (11 + 2 * countOf line) in
+      let d = allDigits (drop 1 line) in
+      let four = and-eq-true-iff (a && b && d) (eqb (sumOf (bytesAt line 1 (5 + countOf line)) % 256) 0) .0 g in
+      let three = and-eq-true-iff (a && b) d .0 (four .0) in
+      eqb-true (length line) (11 + 2 * countOf line) (and-eq-true-iff a b .0 (three .0) .1)
+
+  module _ (upper : ℕ) where
+    pub bad-line : goodLine line ≡ false → hexItem upper line ≡ bad
+    unfolding hexItem
+    bad-line g = rw g
+
+    module _ (g : goodLine line ≡ true) (t f n : ℕ) (et : t ≡ typeOf line) (ef : f ≡ fieldOf line) (en : n ≡ countOf line) where
+      pub data-line : t ≡ 0 → hexItem upper line ≡ gives (65536 * upper + f) (bytesAt line 9 n) upper
+      unfolding hexItem byType
+      data-line z = rw (g, eq-eqb (typeOf line) 0 (sym et ∙ z), ef, en)
+
+      pub field-bad : (t ≡ 0 → ⊥) → (f ≡ 0 → ⊥) → hexItem upper line ≡ bad
+      unfolding hexItem byType
+      field-bad z w = rw (g, ne-eqb (typeOf line) 0 (λ e. z (et ∙ e)), ne-eqb (fieldOf line) 0 (λ e. w (ef ∙ e)))
+
+      pub end-line : t ≡ 1 → f ≡ 0 → n ≡ 0 → hexItem upper line ≡ ends
+      unfolding hexItem byType
+      end-line z w v =
+          rw (
+            g,
+            ne-eqb (typeOf line) 0 (λ e. omega (arith, sym et ∙ z)),
+            eq-eqb (fieldOf line) 0 (sym ef ∙ w),
+            eq-eqb (typeOf line) 1 (sym et ∙ z),
+            eq-eqb (countOf line) 0 (sym en ∙ v),
+          )
+
+      pub end-bad : t ≡ 1 → f ≡ 0 → (n ≡ 0 → ⊥) → hexItem upper line ≡ bad
+      unfolding hexItem byType
+      end-bad z w v =
+          rw (
+            g,
+            ne-eqb (typeOf line) 0 (λ e. omega (arith, sym et ∙ z)),
+            eq-eqb (fieldOf line) 0 (sym ef ∙ w),
+            eq-eqb (typeOf line) 1 (sym et ∙ z),
+            ne-eqb (countOf line) 0 (λ e. v (en ∙ e)),
+          )
+
+      pub upper-line : t ≡ 4 → f ≡ 0 → n ≡ 2 → hexItem upper line ≡ passes (wordAt line 9)
+      unfolding hexItem byType
+      upper-line z w v =
+          rw (
+            g,
+            ne-eqb (typeOf line) 0 (λ e. omega (arith, sym et ∙ z)),
+            eq-eqb (fieldOf line) 0 (sym ef ∙ w),
+            ne-eqb (typeOf line) 1 (λ e. omega (arith, sym et ∙ z)),
+            eq-eqb (typeOf line) 4 (sym et ∙ z),
+            eq-eqb (countOf line) 2 (sym en ∙ v),
+          )
+
+      pub upper-bad : t ≡ 4 → f ≡ 0 → (n ≡ 2 → ⊥) → hexItem upper line ≡ bad
+      unfolding hexItem byType
+      upper-bad z w v =
+          rw (
+            g,
+            ne-eqb (typeOf line) 0 (λ e. omega (arith, sym et ∙ z)),
+            eq-eqb (fieldOf line) 0 (sym ef ∙ w),
+            ne-eqb (typeOf line) 1 (λ e. omega (arith, sym et ∙ z)),
+            eq-eqb (typeOf line) 4 (sym et ∙ z),
+            ne-eqb (countOf line) 2 (λ e. v (en ∙ e)),
+          )
+
+      pub other-bad : (t ≡ 0 → ⊥) → (t ≡ 1 → ⊥) → (t ≡ 4 → ⊥) → f ≡ 0 → hexItem upper line ≡ bad
+      unfolding hexItem byType
+      other-bad z y x w =
+          rw (
+            g,
+            ne-eqb (typeOf line) 0 (λ e. z (et ∙ e)),
+            eq-eqb (fieldOf line) 0 (sym ef ∙ w),
+            ne-eqb (typeOf line) 1 (λ e. y (et ∙ e)),
+            ne-eqb (typeOf line) 4 (λ e. x (et ∙ e)),
+          )
+
+-- The line that is handed on.
+module _ (line : List ℕ) (state : ℕ) {r : Line} {item : Item} where
+  pub says-bad : r ≡ plainLine 0 state → item ≡ bad → Says line state 9 r item
+  says-bad e i = rw (e, i) (record { answer = refl; says = refl; room = omega arith })
+
+  pub says-end : r ≡ plainLine 3 state → item ≡ ends → Says line state 9 r item
+  says-end e i = rw (e, i) (record { answer = refl; says = refl; room = omega arith })
+
+  pub says-pass : (s t : ℕ) → s ≡ t → r ≡ plainLine 2 s → item ≡ passes t → Says line state 9 r item
+  says-pass s t h e i = rw (e, i, h) (record { answer = refl; says = refl; room = omega arith })
+
+pub says-data : (line : List ℕ) (state address count : ℕ) {item : Item} → item ≡ gives address (bytesAt line 9 count) state → 9 + 2 * count ≤ length line
+    → Says line state 9 (record { kind = 1; address = address; first = 9; count = count; state = state }) item
+says-data line state address count i h =
+    rw i
+    (record {
+      answer = ap (λ (n : ℕ). record { kind = 1; address = address; first = 9; count = n; state = state }) (sym (length-listOf count _));
+      says = refl;
+      room = h;
+    })

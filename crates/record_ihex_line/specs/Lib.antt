@@ -1,0 +1,4 @@
+pub mod Format
+pub mod ReadBack
+pub mod Theorems
+pub mod Laws

@@ -1,0 +1,51 @@
+-- Uniqueness: the contract of each public function has one outcome, over its own clause: the answer, and the lent part afterwards. `Learnt` is what
+-- the check reads off a function's `ensures`.
+use mathlib.Core.Path.{_≡_, ap₂}
+use mathlib.Core.List.{List}
+use Prim.Native.Nat.{ℕ}
+use Rattle.refusal.specs.Laws.Outcome.{OneOutcome, OneView}
+use Rattle.refusal.specs.Laws.Pick.{determined}
+use Rattle.record_lines.specs.declared.Cut.{Cut}
+use Rattle.record_lines.proofs.char_at.Kinds as char-at-kinds
+use Rattle.record_lines.proofs.char_at.Reads as char-at-reads
+use Rattle.record_lines.proofs.pair.Kinds as pair-kinds
+use Rattle.record_lines.proofs.pair.Reads as pair-reads
+use Rattle.record_lines.proofs.all_digits.Kinds as all-digits-kinds
+use Rattle.record_lines.proofs.all_digits.Reads as all-digits-reads
+use Rattle.record_lines.proofs.sum_pairs.Kinds as sum-pairs-kinds
+use Rattle.record_lines.proofs.sum_pairs.Reads as sum-pairs-reads
+use Rattle.record_lines.proofs.sum.Kinds as sum-kinds
+use Rattle.record_lines.proofs.sum.Reads as sum-reads
+use Rattle.record_lines.proofs.put.Kinds as put-kinds
+use Rattle.record_lines.proofs.put.Reads as put-reads
+use Rattle.record_lines.proofs.put_pairs.Kinds as put-pairs-kinds
+use Rattle.record_lines.proofs.put_pairs.Reads as put-pairs-reads
+use Rattle.record_lines.proofs.line_from.Kinds as line-from-kinds
+use Rattle.record_lines.proofs.line_from.Reads as line-from-reads
+
+pub char-at-unique : OneOutcome 1 char-at-kinds.ps char-at-kinds.r char-at-reads.Learnt
+char-at-unique κs a x y e f p q = determined p q
+
+pub pair-unique : OneOutcome 1 pair-kinds.ps pair-kinds.r pair-reads.Learnt
+pair-unique κs a x y e f p q = determined p q
+
+pub all-digits-unique : OneOutcome 1 all-digits-kinds.ps all-digits-kinds.r all-digits-reads.Learnt
+all-digits-unique κs a x y e f p q = determined p q
+
+pub sum-pairs-unique : OneOutcome 1 sum-pairs-kinds.ps sum-pairs-kinds.r sum-pairs-reads.Learnt
+sum-pairs-unique κs a x y e f p q = determined p q
+
+pub sum-unique : OneOutcome 1 sum-kinds.ps sum-kinds.r sum-reads.Learnt
+sum-unique κs a x y e f p q = determined p q
+
+-- the part afterwards
+pub put-unique : OneView 1 put-kinds.ps put-kinds.r put-reads.Learnt (List ℕ) (λ κs x e. e .0 .now)
+put-unique κs a x y e f p q = determined p q
+
+pub put-pairs-unique : OneView 2 put-pairs-kinds.ps put-pairs-kinds.r put-pairs-reads.Learnt (List ℕ) (λ κs x e. e .0 .now)
+put-pairs-unique κs a x y e f p q = determined p q
+
+-- where the line ends, and where the next one begins
+pub line-from-unique : OneOutcome 1 line-from-kinds.ps line-from-kinds.r line-from-reads.Learnt
+line-from-unique κs a x y e f p q =
+    ap₂ (λ (stop next : ℕ). record { stop = stop; next = next }) (determined (p .stop) (q .stop)) (determined (p .next) (q .next))

@@ -1,0 +1,9 @@
+pub mod DigitLaws
+pub mod Items
+pub mod Lines
+pub mod Pieces
+pub mod Puts
+pub mod Spelled
+pub mod Sums
+pub mod Telling
+pub mod Uppers

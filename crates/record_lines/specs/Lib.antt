@@ -1,0 +1,11 @@
+pub mod Cuts
+pub mod Digits
+pub mod Items
+pub mod Lines
+pub mod Pieces
+pub mod Puts
+pub mod Sums
+pub mod Telling
+pub mod Uppers
+pub mod Theorems
+pub mod Laws

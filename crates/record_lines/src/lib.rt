@@ -1,0 +1,208 @@
+// What Intel HEX and S-records have in common: hex digits, lines, sums of bytes, and what a line of a file says.
+ghost use mathlib.Core.Path.{_≡_};
+ghost use Prim.Native.Nat.{_+_, _*_, _%_, _≤_, _<_};
+ghost use lib.ListN.{length, take, drop, getD, set};
+ghost use lib.Seq.{sets};
+ghost use Rattle.record_lines.specs.Digits.{letterOf, valueOf, allDigits, byteText, bytesText, pairAt, bytesAt};
+ghost use Rattle.record_lines.specs.Sums.{sumOf};
+ghost use mathlib.Core.Bool.{_&&_};
+ghost use Rattle.record_lines.specs.Lines.{isCr, lfNext};
+ghost use Rattle.record_lines.specs.Cuts.{CutIs};
+
+// What a line is: bad, with bytes, good without bytes, or the end record.
+pub const BAD: u8 = 0;
+
+pub const DATA: u8 = 1;
+
+pub const PASS: u8 = 2;
+
+pub const END: u8 = 3;
+
+// A line that was read: its kind, the address of its first byte, where in the line its bytes are spelled, how many they are, and the
+// state that is in force behind it.
+pub struct Line {
+    pub kind: u8,
+    pub address: u32,
+    pub first: u16,
+    pub count: u8,
+    pub state: u16,
+}
+
+// Where a line's characters end, and where the next line begins.
+pub struct Cut {
+    pub stop: usize,
+    pub next: usize,
+}
+
+// The letter of a number below 16; of a larger one, that of its remainder by 16.
+fn letter(n: u8) -> u8
+    ensures { λ r. ⌜ r ≡ letterOf (n % 16) ⌝ }
+{
+    let d = n % 16;
+    if d < 10 { b'0' + d } else { 55 + d }
+}
+
+// What a character stands for, in either case; 16 is no digit.
+fn value(c: u8) -> u8
+    ensures { λ r. ⌜ (r ≡ valueOf c) × (r < 17) ⌝ }
+{
+    if c < b'0' {
+        return 16;
+    }
+    if c < 58 {
+        return c - b'0';
+    }
+    if c < b'A' {
+        return 16;
+    }
+    if c < 71 {
+        return c - 55;
+    }
+    if c < b'a' {
+        return 16;
+    }
+    if c < 103 {
+        return c - 87;
+    }
+    16
+}
+
+// The character at a place of a line; 0, which is no digit, past its end.
+pub fn char_at(line: &[u8], i: u64) -> u8
+    ensures { λ r. ⌜ r ≡ getD (now (line .entry)) i 0 ⌝ }
+{
+    if i < line.len() as u64 {
+        line[i as usize]
+    } else {
+        0
+    }
+}
+
+// The byte that the characters at i and behind it spell.
+pub fn pair(line: &[u8], i: u32) -> u8
+    ensures { λ r. ⌜ r ≡ pairAt (now (line .entry)) i ⌝ }
+{
+    let at = i as u64;
+    let high = value(char_at(line, at));
+    let low = value(char_at(line, at + 1));
+    16 * (high % 16) + low % 16
+}
+
+// Whether all characters from a place on are digits.
+pub fn all_digits(line: &[u8], from: usize) -> bool
+    ensures { λ r. ⌜ r ≡ allDigits (drop from (now (line .entry))) ⌝ }
+{
+    let mut i = from;
+    while i < line.len() {
+        if value(line[i]) == 16 {
+            return false;
+        }
+        i += 1;
+    }
+    true
+}
+
+// "Bytes of a record, checksum included, sum to zero and wrap at 256": the wrapping sum of the n bytes that a line spells from a place on.
+pub fn sum_pairs(line: &[u8], from: u16, n: u16) -> u8
+    ensures { λ r. ⌜ r ≡ sumOf (bytesAt (now (line .entry)) from n) % 256 ⌝ }
+{
+    let start = from as u32;
+    let count = n as u32;
+    let mut sum = 0u8;
+    let mut j = 0u32;
+    while j < count {
+        sum = std::num::wrapping_add_u8(sum, pair(line, start + 2 * j));
+        j += 1;
+    }
+    sum
+}
+
+// The same sum, of bytes that are to be written: the first n.
+pub fn sum(bytes: &[u8], n: u8) -> u8
+    ensures { λ r. ⌜ r ≡ sumOf (take n (now (bytes .entry))) % 256 ⌝ }
+{
+    let count = n as usize;
+    let mut sum = 0u8;
+    let mut i = 0;
+    while i < count {
+        if bytes.len() <= i {
+            return sum;
+        }
+        sum = std::num::wrapping_add_u8(sum, bytes[i]);
+        i += 1;
+    }
+    sum
+}
+
+// Stores a character; past the end of the part it is left out.
+pub fn put(out: &mut [u8], at: usize, c: u8)
+    ensures { λ _. ⌜ now (out .exit) ≡ set (now (out .entry)) at c ⌝ }
+{
+    if at < out.len() {
+        out[at] = c;
+    }
+}
+
+// Two digits.
+fn put_pair(out: &mut [u8], at: u32, b: u8)
+    ensures { λ _. ⌜ now (out .exit) ≡ sets (now (out .entry)) at (byteText b) ⌝ }
+{
+    let place = at as usize;
+    put(out, place, letter(b / 16));
+    put(out, place + 1, letter(b % 16));
+}
+
+// The digits of the first n bytes, from a place on.
+pub fn put_pairs(out: &mut [u8], at: u16, bytes: &[u8], n: u8)
+    ensures { λ _. ⌜ now (out .exit) ≡ sets (now (out .entry)) at (bytesText (take n (now (bytes .entry)))) ⌝ }
+{
+    let start = at as u32;
+    let count = n as u32;
+    let mut i = 0u32;
+    while i < count {
+        let k = i as usize;
+        if bytes.len() <= k {
+            return;
+        }
+        put_pair(out, start + 2 * i, bytes[k]);
+        i += 1;
+    }
+}
+
+// Whether CR LF stands at a place.
+fn is_cr_lf(text: &[u8], i: usize) -> bool
+    requires { ⌜ i < length (now text) ⌝ }
+    ensures { λ r. ⌜ r ≡ (isCr (getD (now (text .entry)) i 0) && lfNext (drop (i + 1) (now (text .entry)))) ⌝ }
+{
+    if text[i] != b'\r' {
+        return false;
+    }
+    let next = i + 1;
+    if text.len() <= next {
+        return false;
+    }
+    text[next] == b'\n'
+}
+
+// The line that begins at a place: "LF or CR LF" ends it, or the end of the text.
+pub fn line_from(text: &[u8], at: usize) -> Cut
+    ensures { λ r. ⌜ CutIs (now (text .entry)) at r ⌝ }
+{
+    let mut i = at;
+    while i < text.len() {
+        if text[i] == b'\n' {
+            return Cut {
+                stop: i,
+                next: i + 1,
+            };
+        }
+        if is_cr_lf(text, i) {
+            return Cut {
+                stop: i,
+                next: i + 2,
+            };
+        }
+        i += 1;
+    }
+    Cut { stop: i, next: i }
+}

@@ -1,0 +1,103 @@
+-- Whether there is room, and what is written.
+use mathlib.Core.Path.{_≡_, refl, sym, ap, ap₂, subst, _∙_}
+use mathlib.Core.Bool.{Bool, true, false}
+use mathlib.Core.List.{List, [], _++_}
+use Prim.Native.Nat.{ℕ, _-_, _≤_, _<_}
+use native.Mathlib.Nat.{zero-add}
+use borrow.Author.Tests.{le-leb, lt-leb}
+use lib.Dec.{leb}
+use lib.ListN.{length, length-map}
+use lib.Seq.{sets, sets-eq}
+use Rattle.refusal.specs.declared.Refusal.the-variants.{Malformed, TooShort}
+use Rattle.blocks.specs.declared.Block.{Block}
+use Rattle.blocks.specs.declared.Blocks.{Blocks}
+use Rattle.blocks.specs.declared.Blocks.the-variants.{Found, Refused}
+use Rattle.blocks.specs.Outcome.{origins, sizes, over}
+use Rattle.blocks.specs.Put.{Put}
+use Rattle.record_lines.specs.Pieces.{Piece}
+use Rattle.record_lines.specs.Laws.Puts.{sets-none}
+use Rattle.record_fault.specs.Reading.{Read, sound, faulty, readText}
+use Rattle.record_fault.specs.Trail.{trail}
+use Rattle.record_fault.specs.Steps.{rises, Scanned, ScanIs}
+use Rattle.record_fault.specs.declared.Scan.{Scan}
+use Rattle.record_fault.specs.declared.Scan.the-variants.{Whole, Broken}
+use Rattle.record_fault.specs.Given.{filled}
+use Rattle.record_fault.specs.Runs.{reach, blocksGiven}
+use Rattle.record_fault.specs.Outcome.{Lent, lent, Reads}
+
+-- What is stored from the start on.
+sets-over : (l v : List ℕ) → length v ≤ length l → sets l 0 v ≡ over v l
+sets-over l v h = sets-eq v l 0 (rw zero-add h) ∙ rw zero-add
+
+pub reads-bad : (load : ℕ) (read : Read) (old : Lent) (line : ℕ) → read ≡ faulty line → Reads load read old (Refused (Malformed 0)) old
+reads-bad load read old line e = rw e (record { answer = refl; figures = refl; after = refl })
+
+module _ (load : ℕ) (pieces : List Piece) (bytes os ss : List ℕ) (end : ℕ) (is : end ≡ reach load pieces) where
+  abbrev blocks : List Block
+  blocks = blocksGiven load pieces
+
+  pub reads-short : length bytes < end → Reads load (sound pieces) (lent bytes os ss) (Refused (TooShort 0)) (lent bytes os ss)
+  reads-short h =
+      let e : leb (reach load pieces) (length bytes) ≡ false = lt-leb (reach load pieces) (length bytes) (rw is at h) in
+      record { answer = rw e; figures = rw e; after = rw e }
+
+  -- There is room for the bytes; a walk that is lent no room counts the blocks and writes nothing.
+  module _ (room : end ≤ length bytes) (count : ℕ) (os₁ ss₁ : List ℕ) (counted : Put blocks 0 [] [] count os₁ ss₁) where
+    e : leb (reach load pieces) (length bytes) ≡ true
+    e = le-leb (reach load pieces) (length bytes) (rw is at room)
+
+    is-all : count ≡ length blocks
+    is-all = counted .counted ∙ zero-add (length blocks)
+
+    os-kept : os₁ ++ os ≡ os
+    os-kept = rw (counted .first ∙ sets-none (origins blocks) 0)
+
+    ss-kept : ss₁ ++ ss ≡ ss
+    ss-kept = rw (counted .second ∙ sets-none (sizes blocks) 0)
+
+    kept : lent bytes (os₁ ++ os) (ss₁ ++ ss) ≡ lent bytes os ss
+    kept = ap₂ (lent bytes) os-kept ss-kept
+
+    pub reads-short-first : length (os₁ ++ os) < count
+        → Reads load (sound pieces) (lent bytes os ss) (Refused (TooShort 2)) (lent bytes (os₁ ++ os) (ss₁ ++ ss))
+    reads-short-first h =
+        let f : leb (length blocks) (length os) ≡ false = lt-leb (length blocks) (length os) (rw (os-kept, is-all) at h) in
+        record { answer = rw (e, f); figures = rw (e, f); after = kept ∙ rw (e, f) }
+
+    module _ (first : count ≤ length (os₁ ++ os)) where
+      f : leb (length blocks) (length os) ≡ true
+      f = le-leb (length blocks) (length os) (rw (os-kept, is-all) at first)
+
+      pub reads-short-second : length (ss₁ ++ ss) < count
+          → Reads load (sound pieces) (lent bytes os ss) (Refused (TooShort 2)) (lent bytes (os₁ ++ os) (ss₁ ++ ss))
+      reads-short-second h =
+          let g : leb (length blocks) (length ss) ≡ false = lt-leb (length blocks) (length ss) (rw (ss-kept, is-all) at h) in
+          record { answer = rw (e, f, g); figures = rw (e, f, g); after = kept ∙ rw (e, f, g) }
+
+      -- A second walk, over what is lent, and the bytes.
+      pub reads-all : count ≤ length (ss₁ ++ ss) → {r : ℕ} {os₂ ss₂ new : List ℕ} → Put blocks 0 (os₁ ++ os) (ss₁ ++ ss) r os₂ ss₂
+          → new ≡ filled load pieces bytes → Reads load (sound pieces) (lent bytes os ss) (Found count) (lent new os₂ ss₂)
+      reads-all h {r} {os₂} {ss₂} {new} p n =
+          let k : length blocks ≤ length ss = rw (ss-kept, is-all) at h in
+          let g : leb (length blocks) (length ss) ≡ true = le-leb (length blocks) (length ss) k in
+          let o : os₂ ≡ over (origins blocks) os = p .first ∙ rw os-kept (sets-over os (origins blocks) (rw length-map (rw (os-kept, is-all) at first))) in
+          let s : ss₂ ≡ over (sizes blocks) ss = p .second ∙ rw ss-kept (sets-over ss (sizes blocks) (rw length-map k)) in
+          record { answer = rw (e, f, g, is-all); figures = rw (e, f, g, is-all); after = rw (e, f, g, n, o, s) }
+
+-- ---- what the scan found
+
+module _ (format load : ℕ) (text : List ℕ) (r : Scan) (p : ScanIs format load text r) where
+  pub scan-bad : (line : ℕ) → r ≡ Broken line → readText format load text ≡ faulty line
+  scan-bad line e = subst (ScanIs format load text) e p
+
+  pub scan-whole : (lines high : ℕ) (ascend : Bool) → r ≡ Whole lines high ascend → Scanned format load text lines high ascend
+  scan-whole lines high ascend e = subst (ScanIs format load text) e p
+
+module _ {format load : ℕ} {text : List ℕ} {lines high : ℕ} {ascend : Bool} (s : Scanned format load text lines high ascend) where
+  pub scanned-ready : {end : ℕ} → end ≡ high - load
+      → (end ≡ reach load (trail format text lines .given)) × (ascend ≡ rises format text lines)
+  scanned-ready e = (e ∙ ap (λ (h : ℕ). h - load) (s .top), s .order)
+
+  pub scanned-reads : {old new : Lent} {r : Blocks} → Reads load (sound (trail format text lines .given)) old r new
+      → Reads load (readText format load text) old r new
+  scanned-reads {old} {new} {r} w = subst (λ (x : Read). Reads load x old r new) (sym (s .reads)) w

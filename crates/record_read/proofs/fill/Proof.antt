@@ -1,0 +1,76 @@
+-- `record_fill::fill`: after k lines the bytes that they give are stored.
+use Prim.Native.Nat.{_-_}
+use Rattle.record_fault.proofs.Fills.{Filling, filling-starts, filling-on, filling-long, filling-ends}
+use borrow.Author.Needs.{needs}
+use Rattle.record_fault.proofs.fill.Statement.{statement}
+use Rattle.record_fault.proofs.fill.Tie as tie
+
+abbrev Inv-loop : tie.InvT-loop
+Inv-loop format text n load bytes₀ at₀ state₀ k₀ bytes at state k = Filling format text n load bytes₀ at state bytes k
+
+abbrev μ-loop : tie.MeasureT-loop
+μ-loop format text n load bytes₀ at₀ state₀ k₀ bytes at state k = n - k
+
+loop-holds : tie.Need-loop-holds Inv-loop μ-loop
+loop-holds c = let a = c .before .before .args in filling-starts (a .format) (a .text .now) (a .n) (a .load) (a .bytes .now)
+
+take-line-requires : tie.Need-take-line-requires Inv-loop μ-loop
+take-line-requires c κs = search needs
+
+sub-fill-line : tie.Need-sub-fill-line Inv-loop μ-loop
+sub-fill-line c = c .before .take-line .ensures .start
+
+part-fill-line-start : tie.Need-part-fill-line-start Inv-loop μ-loop
+part-fill-line-start c = c .before .take-line .ensures .start
+
+part-fill-line-end : tie.Need-part-fill-line-end Inv-loop μ-loop
+part-fill-line-end c = c .before .take-line .ensures .within (c .before .before .before .loop .inv .inside)
+
+fill-line-requires : tie.Need-fill-line-requires Inv-loop μ-loop
+fill-line-requires c κs = search needs
+
+add-k : tie.Need-add-k Inv-loop μ-loop
+add-k c = search needs
+
+loop-less : tie.Need-loop-less Inv-loop μ-loop
+loop-less c = search needs
+
+loop-again : tie.Need-loop-again Inv-loop μ-loop
+loop-again c =
+    let f = c .before .before in
+    let t = f .before .before .before .before in
+    let i = t .before in
+    let l = i .before in
+    let a = l .before .before .before .args in
+    filling-on (a .format) (a .text .now) (a .n) (a .load) (a .bytes .now) (l .loop .inv) (i .loop-test .taken) (t .take-line .ensures)
+    (t .take-line .ensures .part) (f .fill-line .ensures)
+
+same-length : tie.Need-same-length Inv-loop μ-loop
+same-length c =
+    let l = c .before in
+    let a = l .before .before .before .args in
+    filling-long (a .format) (a .text .now) (a .n) (a .load) (a .bytes .now) (l .loop .inv)
+
+returns : tie.Need-returns Inv-loop μ-loop
+returns c =
+    let l = c .before in
+    let a = l .before .before .before .args in
+    filling-ends (a .format) (a .text .now) (a .n) (a .load) (a .bytes .now) (l .loop .inv) (c .loop-test .left)
+
+pub fill-spec : {M : Type 1} → statement M
+fill-spec =
+    tie.close
+    (tie.spec
+    Inv-loop
+    μ-loop
+    loop-holds
+    take-line-requires
+    sub-fill-line
+    part-fill-line-start
+    part-fill-line-end
+    fill-line-requires
+    add-k
+    loop-less
+    loop-again
+    same-length
+    returns)

@@ -1,0 +1,61 @@
+-- `record_fill::lowest`: after k lines it is the lowest stretch of what they give.
+use Prim.Native.Nat.{_-_}
+use Rattle.record_fault.proofs.Loops.{Looking, looking-starts, looking-on, looking-ends}
+use borrow.Author.Needs.{needs}
+use Rattle.record_fault.proofs.lowest.Statement.{statement}
+use Rattle.record_fault.proofs.lowest.Tie as tie
+
+abbrev Inv-loop : tie.InvT-loop
+Inv-loop format text n load from at₀ state₀ best₀ k₀ at state best k = Looking format text n load from at state best k
+
+abbrev μ-loop : tie.MeasureT-loop
+μ-loop format text n load from at₀ state₀ best₀ k₀ at state best k = n - k
+
+loop-holds : tie.Need-loop-holds Inv-loop μ-loop
+loop-holds c = let a = c .before .args in looking-starts (a .format) (a .text .now) (a .n) (a .load) (a .from)
+
+take-line-requires : tie.Need-take-line-requires Inv-loop μ-loop
+take-line-requires c κs = search needs
+
+extent-requires : tie.Need-extent-requires Inv-loop μ-loop
+extent-requires c κs = search needs
+
+better-requires : tie.Need-better-requires Inv-loop μ-loop
+better-requires c κs = search needs
+
+add-k : tie.Need-add-k Inv-loop μ-loop
+add-k c = search needs
+
+loop-less : tie.Need-loop-less Inv-loop μ-loop
+loop-less c = search needs
+
+loop-again : tie.Need-loop-again Inv-loop μ-loop
+loop-again c =
+    let x = c .before in
+    let t = x .before .before in
+    let i = t .before in
+    let l = i .before in
+    let a = l .before .before .args in
+    looking-on (a .format) (a .text .now) (a .n) (a .load) (a .from) (l .loop .inv) (i .loop-test .taken) (t .take-line .ensures) (x .extent .ensures)
+    (c .better .ensures)
+
+returns : tie.Need-returns Inv-loop μ-loop
+returns c =
+    let l = c .before in
+    let a = l .before .before .args in
+    looking-ends (a .format) (a .text .now) (a .n) (a .load) (a .from) (l .loop .inv) (c .loop-test .left)
+
+pub lowest-spec : {M : Type 1} → statement M
+lowest-spec =
+    tie.close
+    (tie.spec
+    Inv-loop
+    μ-loop
+    loop-holds
+    take-line-requires
+    extent-requires
+    better-requires
+    add-k
+    loop-less
+    loop-again
+    returns)

@@ -1,0 +1,30 @@
+-- `record_fill::put_byte`: a byte that has no place changes nothing.
+use mathlib.Core.Logic.{inl, inr}
+use Rattle.record_fault.proofs.Fills.{byte-out, byte-set}
+use borrow.Author.Needs.{needs}
+use Rattle.record_fault.proofs.put_byte.Statement.{statement}
+use Rattle.record_fault.proofs.put_byte.Tie as tie
+
+returns : tie.Need-returns
+returns c =
+    let a = c .before .args in
+    byte-out (a .load) (a .address) (a .value) (a .bytes .now) (inl (c .if1 .taken))
+
+slice-write-bytes : tie.Need-slice-write-bytes
+slice-write-bytes c = search needs
+
+same-length : tie.Need-same-length
+same-length c = search needs
+
+returns-2 : tie.Need-returns-2
+returns-2 c =
+    let a = c .before .before .args in
+    byte-set (a .load) (a .address) (a .value) (a .bytes .now) (c .before .if1 .left) (c .if2 .taken)
+
+returns-3 : tie.Need-returns-3
+returns-3 c =
+    let a = c .before .before .args in
+    byte-out (a .load) (a .address) (a .value) (a .bytes .now) (inr (c .if2 .left))
+
+pub put-byte-spec : {M : Type 1} → statement M
+put-byte-spec = tie.close (tie.spec returns slice-write-bytes same-length returns-2 returns-3)

@@ -1,0 +1,25 @@
+-- `srec::write_srec` is the writing of records, for the width's format.
+use borrow.Author.Needs.{needs}
+use Rattle.record_srec.proofs.Figures.{in-figures}
+use Rattle.record_srec.proofs.write_srec.Statement.{statement}
+use Rattle.record_srec.proofs.write_srec.Tie as tie
+
+format-for-requires : tie.Need-format-for-requires
+format-for-requires c κs = search needs
+
+write-requires : tie.Need-write-requires
+write-requires c κs = search needs
+
+same-length : tie.Need-same-length
+same-length c = search needs
+
+returns : tie.Need-returns
+returns c =
+    let w = c .before .before in
+    let f = w .before .before in
+    let a = f .before .before .before .before .before .args in
+    in-figures (a .image .now) (a .offsets .now) (a .sizes .now) (a .load) (a .width) (a .text .now) (f .format-for .result) (f .format-for .ensures)
+    (w .write .ensures)
+
+pub write-srec-spec : {M : Type 1} → statement M
+write-srec-spec = tie.close (tie.spec format-for-requires write-requires same-length returns)

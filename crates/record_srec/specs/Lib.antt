@@ -1,0 +1,4 @@
+pub mod Exactly
+pub mod Writing
+pub mod Theorems
+pub mod Laws

@@ -1,0 +1,3 @@
+pub mod Exactly
+pub mod File
+pub mod Refusals

@@ -1,0 +1,4 @@
+pub mod ReadBack
+pub mod Srec
+pub mod Theorems
+pub mod Laws

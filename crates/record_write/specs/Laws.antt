@@ -1,0 +1,8 @@
+pub mod Bytes
+pub mod Cut
+pub mod Exactly
+pub mod Outcome
+pub mod Rising
+pub mod Said
+pub mod Shape
+pub mod Text

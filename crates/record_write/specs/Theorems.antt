@@ -1,0 +1,6 @@
+pub mod Bytes
+pub mod Cut
+pub mod Exactly
+pub mod Rising
+pub mod Said
+pub mod Shape

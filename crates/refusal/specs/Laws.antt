@@ -1,0 +1,4 @@
+pub mod Bools
+pub mod Outcome
+pub mod Pick
+pub mod Told

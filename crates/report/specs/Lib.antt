@@ -1,9 +1,0 @@
-pub mod Accepted
-pub mod Blocks
-pub mod Fitting
-pub mod Places
-pub mod Report
-pub mod Room
-pub mod Steps
-pub mod Table
-pub mod Unique

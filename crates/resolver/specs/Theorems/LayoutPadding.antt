@@ -1,0 +1,77 @@
+-- Theorems about what LayoutPadding defines.
+use Prim.Native.Nat.{ℕ, _+_, _*_, _<_, _≤_}
+use mathlib.Core.Path.{_≡_, refl, ap}
+use mathlib.Core.Bool.{false}
+use native.Mathlib.Omega.{arith}
+use lib.ListN.{getD, length}
+use borrow.Author.Tests.{ne-eqb}
+use Rattle.refusal.specs.Limits.{maxNodes, maxPosition}
+use Rattle.bankdef.specs.declared.Bankdefs.{Bankdefs}
+use Rattle.iter.specs.Distance.{distanceOf}
+use Rattle.iter.specs.Step.{origin, startOf, outermostSymbol, seenOf, movedOn, advancedOf, seenSkips, advanceSkips, stepOf}
+use Rattle.resolver.specs.Cases.{oneBank}
+use Rattle.resolver.specs.KnownInPass.{bankAt}
+use Rattle.resolver.specs.LastPass.{lastRow}
+use Rattle.resolver.specs.Theorems.LastPass.{accepted-checked, sees-in-last}
+use Rattle.resolver.specs.Layout.{withLimit, layoutOf}
+use Rattle.lists.specs.Lists.{Lists, Row, lists}
+use Rattle.resolver.specs.Once.{Program, node, walkTo}
+use Rattle.resolver.specs.Padding.{lostAt, sumIn, paddingOf}
+use Rattle.resolver.specs.Laws.Padding.{sizesTo}
+use Rattle.resolver.specs.Theorems.Padding.{padding-bounded, walk-carries-padding, ends-at-sizes-and-padding}
+use Rattle.resolver.specs.Passes.{program, rowOfPass}
+use Rattle.resolver.specs.Theorems.RaisedLimit.{same-row-above}
+use Rattle.lists.specs.Theorems.Sound.{accepted-lists}
+use Rattle.resolver.specs.declared.Choices.{Choices}
+use Rattle.resolver.specs.declared.Settled.the-variants.{At}
+use Rattle.resolver.specs.LayoutPadding.{backAgain}
+
+module _ (banks : Bankdefs) (l : Lists) (choices : Choices) (k : ℕ) (accepted : layoutOf banks l choices .settled ≡ At k) where
+  -- no more nodes than the limit
+  pub accepted-few : length (l .kinds) ≤ maxNodes
+  accepted-few = accepted-lists (banks .len) l (choices .fill) (accepted-checked banks l choices k accepted .lists) .few
+
+  -- "each bank should carry the sum of bits lost to `align` and to label alignment in the last pass"
+  pub last-pass-carries-padding : (bank : ℕ) →
+      getD (walkTo (program banks l) (lastRow banks l choices) (length (l .kinds)) .lost) bank 0 ≡
+      paddingOf (program banks l) (lastRow banks l choices) bank
+  last-pass-carries-padding bank =
+      walk-carries-padding (program banks l) (lastRow banks l choices) (length (l .kinds)) bank accepted-few (sees-in-last banks l choices k accepted)
+
+  -- The sum stays far within 64 bits.
+  pub layout-padding-bounded : (bank : ℕ) → paddingOf (program banks l) (lastRow banks l choices) bank ≤ maxNodes * maxPosition
+  layout-padding-bounded bank =
+      within accepted-few
+      (padding-bounded (program banks l) (lastRow banks l choices) (length (l .kinds)) bank (sees-in-last banks l choices k accepted))
+    where
+      within : {x n : ℕ} → n ≤ maxNodes → x ≤ n * maxPosition → x ≤ maxNodes * maxPosition
+      within h g = omega arith
+
+  -- A bank that no `addr` touches ends at the bits of its items and reserves and its padding.
+  pub layout-ends-at-sizes-and-padding : (bank : ℕ) →
+      ((j : ℕ) → j < length (l .kinds) → bankAt (program banks l) (lastRow banks l choices) j ≡ bank → getD (l .kinds) j 0 ≡ 9 → ⊥) →
+      getD (walkTo (program banks l) (lastRow banks l choices) (length (l .kinds)) .at) bank origin .position ≡
+      sizesTo (program banks l) (lastRow banks l choices) bank (length (l .kinds)) + paddingOf (program banks l) (lastRow banks l choices) bank
+  layout-ends-at-sizes-and-padding bank none =
+      ends-at-sizes-and-padding (program banks l) (lastRow banks l choices) (length (l .kinds)) bank (sees-in-last banks l choices k accepted) none
+
+  -- Every limit above K gives the same padding (document 02, Ticket 14), where K is below the limit.
+  pub same-padding-above : k < choices .limit → (n : ℕ) → k < n → (bank : ℕ) →
+      paddingOf (program banks l) (lastRow banks l (withLimit choices n)) bank ≡ paddingOf (program banks l) (lastRow banks l choices) bank
+  same-padding-above below n more bank =
+      ap (λ (row : Row). paddingOf (program banks l) row bank) (same-row-above banks l choices k accepted below n more)
+
+-- ---- what counts
+
+module _ (p : Program) (row : Row) (i : ℕ) where
+  -- "An `addr` that moves the position is not padding."
+  pub addr-is-no-padding : getD (p .kinds) i 0 ≡ 9 → lostAt p row i ≡ 0
+  addr-is-no-padding k = rw k
+
+  -- Nor is any other node that is no `align` and no symbol of depth 0.
+  pub others-are-no-padding : (getD (p .kinds) i 0 ≡ 8 → ⊥) → outermostSymbol (node p row i) ≡ false → lostAt p row i ≡ 0
+  others-are-no-padding k t = rw (ne-eqb (getD (p .kinds) i 0) 8 k, t)
+
+pub back-again-case : paddingOf (program oneBank backAgain) (rowOfPass backAgain 1) 0 ≡ 8589934588
+unfolding walkTo sumIn startOf seenOf movedOn advancedOf seenSkips advanceSkips stepOf distanceOf
+back-again-case = refl

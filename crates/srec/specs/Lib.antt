@@ -1,4 +1,0 @@
-pub mod Exactly
-pub mod File
-pub mod Refusals
-pub mod Writing

@@ -1,0 +1,93 @@
+-- Padding in the two layouts: "Bank 1 has bank 0's padding, bank 0 none", nor has any other bank.
+use Prim.Native.Nat.{ℕ, zero, suc, _+_}
+use mathlib.Core.Path.{_≡_, refl, sym, ap, _∙_, fun-ext}
+use mathlib.Core.Bool.{Bool, true, false}
+use mathlib.Core.List.{_∷_}
+use lib.Dec.{eqb}
+use lib.ListN.{getD, length, replicate}
+use Rattle.refusal.specs.Limits.{maxBanks}
+use Rattle.refusal.specs.Pick.{pick}
+use Rattle.bankdef.specs.declared.Bankdef.{Bankdef}
+use Rattle.bankdef.specs.declared.Bankdefs.{Bankdefs}
+use Rattle.bitvec.specs.Lists.{listOf}
+use Rattle.iter.specs.Step.{origin, startOf}
+use Rattle.iter.specs.StepCases.{standing}
+use Rattle.iter.specs.declared.Node.{Node}
+use Rattle.iter.specs.declared.Walk.{Walk}
+use Rattle.resolver.specs.KnownInPass.{bankAt}
+use Rattle.lists.specs.Lists.{Row}
+use Rattle.resolver.specs.NodeOrder.{defAt}
+use Rattle.resolver.specs.Once.{Program, node, walkTo}
+use Rattle.resolver.specs.Padding.{distanceIn, labelLoses, lostBy, standsAt, lostAt, sumIn, paddingTo}
+use Rattle.build_plan.specs.Plan.{paddingsOf}
+use Rattle.thm_conversions.specs.Steps.{up}
+use Rattle.thm_conversions.specs.Laws.Steps.{symbol-alike, inFirst, inSecond}
+use Rattle.thm_conversions.specs.Cells.{zeroed}
+use Rattle.thm_conversions.specs.Laws.Walks.{leading, Leads, bank-here, bank-there, standing as stand}
+use Rattle.thm_conversions.specs.Laws.Visits.{like}
+
+lost-alike : (def : Bankdef) (position : ℕ) (n : Node) → lostBy def position (up n) ≡ lostBy def position n
+lost-alike def position n =
+    ap (λ (t : Bool). pick (eqb (n .kind) 8) (distanceIn def position (n .number)) (pick t (labelLoses def (def .align) position) 0)) (symbol-alike n)
+
+module _ (p : Program) (table : Bankdefs) (leads : Leads p table) (row : Row) where
+  abbrev there : Program
+  there = leading table p
+
+  stands-here : (i : ℕ) → standsAt p row i ≡ stand p table leads row i .at .position
+  stands-here i =
+      let s = stand p table leads row i in
+      ap (λ (w : Walk). standing w (node p row i) .position) (s .first)
+      ∙ ap (λ (k : ℕ). getD (inFirst (s .at) (s .lost) .at) k origin .position) (bank-here p table leads row i)
+
+  stands-there : (i : ℕ) → standsAt there (zeroed row) (suc i) ≡ stand p table leads row i .at .position
+  stands-there i =
+      let s = stand p table leads row i in
+      ap (λ (w : Walk). standing w (node there (zeroed row) (suc i)) .position) (s .second)
+      ∙ ap (λ (k : ℕ). getD (inSecond (s .at) (s .lost) .at) k origin .position) (bank-there p table leads row i)
+
+  loses-alike : (i : ℕ) → lostAt there (zeroed row) (suc i) ≡ lostAt p row i
+  loses-alike i =
+      law (like p table leads row i .def) (stands-there i ∙ sym (stands-here i)) (leads .nodes row i)
+      ∙ lost-alike (defAt p row i) (standsAt p row i) (node p row i)
+    where
+      law : {d e : Bankdef} {x y : ℕ} {n m : Node} → d ≡ e → x ≡ y → n ≡ m → lostBy d x n ≡ lostBy e y m
+      law e f g = rw (e, f, g)
+
+  add : (t : Bool) (a b : ℕ) → pick t a 0 + pick t b 0 ≡ pick t (a + b) 0
+  add true a b = refl
+  add false a b = refl
+
+  first-sum : (bank : ℕ) → paddingTo there (zeroed row) bank 1 ≡ pick (eqb 1 bank) (paddingTo p row 0 0) 0
+  unfolding sumIn walkTo startOf
+  first-sum bank = go (eqb 1 bank)
+    where
+      go : (t : Bool) → 0 + pick t 0 0 ≡ pick t 0 0
+      go true = refl
+      go false = refl
+
+  next : (i : ℕ) → paddingTo p row 0 (suc i) ≡ paddingTo p row 0 i + pick (eqb (bankAt p row i) 0) (lostAt p row i) 0
+  unfolding sumIn
+  next i = refl
+
+  next-there : (bank i : ℕ) → paddingTo there (zeroed row) bank (suc (suc i))
+      ≡ paddingTo there (zeroed row) bank (suc i) + pick (eqb (bankAt there (zeroed row) (suc i)) bank) (lostAt there (zeroed row) (suc i)) 0
+  unfolding sumIn
+  next-there bank i = refl
+
+  sums : (bank i : ℕ) → paddingTo there (zeroed row) bank (suc i) ≡ pick (eqb 1 bank) (paddingTo p row 0 i) 0
+  sums bank zero = first-sum bank
+  sums bank (suc i) =
+      next-there bank i
+      ∙ law (sums bank i) (like p table leads row i .second) (loses-alike i)
+      ∙ add (eqb 1 bank) (paddingTo p row 0 i) (lostAt p row i)
+      ∙ ap (λ (n : ℕ). pick (eqb 1 bank) n 0)
+      (sym (next i ∙ ap (λ (k : ℕ). paddingTo p row 0 i + pick (eqb k 0) (lostAt p row i) 0) (like p table leads row i .first)))
+    where
+      law : {a b c d x : ℕ} → a ≡ b → c ≡ 1 → d ≡ x → a + pick (eqb c bank) d 0 ≡ b + pick (eqb 1 bank) x 0
+      law e f g = rw (e, f, g)
+
+  -- Sixteen sums: bank 1 has what bank 0 has in the one layout, every other bank none.
+  pub paddings : paddingsOf there (zeroed row) ≡ 0 ∷ getD (paddingsOf p row) 0 0 ∷ replicate 14 0
+  unfolding listOf
+  paddings = ap (listOf maxBanks) (fun-ext (λ bank. sums bank (length (p .kinds))))

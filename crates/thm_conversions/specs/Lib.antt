@@ -1,0 +1,17 @@
+pub mod Alone
+pub mod Builds
+pub mod Cells
+pub mod Conversions
+pub mod DefaultBankCases
+pub mod DefaultBankSame
+pub mod DefaultProfileCases
+pub mod DefaultProfileSame
+pub mod Exactly
+pub mod OneBank
+pub mod Places
+pub mod Raised
+pub mod Says
+pub mod Steps
+pub mod Widened
+pub mod Theorems
+pub mod Laws

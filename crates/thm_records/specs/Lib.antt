@@ -1,0 +1,5 @@
+pub mod AsBlocks
+pub mod Joined
+pub mod Trip
+pub mod Theorems
+pub mod Laws

@@ -1,0 +1,21 @@
+-- "Reading back our own file gives the same bytes at the same addresses, touching blocks joined."
+use mathlib.Core.Path.{_≡_}
+use mathlib.Core.List.{List}
+use Prim.Native.Nat.{ℕ, _<_}
+use lib.ListN.{length, getD}
+use Rattle.refusal.specs.Told.{gives}
+use Rattle.blocks.specs.declared.Block.{Block}
+use Rattle.blocks.specs.declared.Blocks.{Blocks}
+use Rattle.blocks.specs.Outcome.{origins, sizes, over, toldBy}
+use Rattle.record_read.specs.Outcome.{Lent}
+use Rattle.thm_records.specs.Joined.{joined, InSome}
+
+-- What comes back of an image's blocks, in everything that was lent: the number of blocks, with touching ones joined; each byte of a block where it was in the
+-- image; every other byte as it was; and the blocks, with those past them as they were.
+pub record Back (image : List ℕ) (blocks : List Block) (old : Lent) (r : Blocks) (new : Lent) : Type 0 where
+  pub told : toldBy r ≡ gives (length (joined blocks))
+  pub same : (j : ℕ) → InSome blocks j → getD (new .bytes) j 0 ≡ getD image j 0
+  pub kept : (j : ℕ) → j < length (old .bytes) → (InSome blocks j → ⊥) → getD (new .bytes) j 0 ≡ getD (old .bytes) j 0
+  pub long : length (new .bytes) ≡ length (old .bytes)
+  pub offsets : new .offsets ≡ over (origins (joined blocks)) (old .offsets)
+  pub sizes : new .sizes ≡ over (sizes (joined blocks)) (old .sizes)

@@ -1,3 +1,0 @@
-pub mod Blank
-pub mod Steps
-pub mod Writes
