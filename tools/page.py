@@ -1,0 +1,692 @@
+"""docs/STATEMENTS.md from docs/statements/*.rows and the sources; tools/page runs it and says how it is called.
+
+A file of rows is Markdown, with blocks of these kinds between the paragraphs, each a head line and lines `  KEY: TEXT` behind it (a longer TEXT goes on in
+lines that are indented by four):
+
+    row NAME             a sentence of the documents
+      says: the sentence, quoted, or what is proved in words
+      theorem: the names of theorems in backquotes, with remarks; each statement is quoted below the row. Or `none: why`
+      where: names of definitions that the statement needs to be read; each is quoted whole
+      contract: crate::function, ..; what it ensures is quoted
+      only: said where uniqueness is the only theorem: what then says the sentence
+      definition: names, not quoted;   function:, edit:, note: as they are
+    function crate::name
+      not: answers that its contract rules out
+      one: the theorem that its contract leaves one outcome; quoted, and the contract too
+    edit crate!label
+      changes: what it changes
+      refused: the fact at which the check refuses it
+    together crate
+      change: what was changed in definition and code together, or why nothing was
+      stopped: the theorem that no longer held, or what would stop such a change
+"""
+import glob
+import hashlib
+import os
+import random
+import re
+import sys
+
+ROOT = os.path.dirname(os.path.dirname(os.path.abspath(__file__)))
+PAGE = 'docs/STATEMENTS.md'
+ROWS = 'docs/statements'
+KEYS = {
+    'row': ['says', 'theorem', 'where', 'contract', 'only', 'definition', 'function', 'edit', 'note'],
+    'function': ['not', 'one', 'note'],
+    'edit': ['changes', 'refused'],
+    'together': ['change', 'stopped'],
+}
+CITED = re.compile(r'`([a-z_0-9]+)(/|::|!)([^` ]+)`')
+# a theorem that two outcomes are one: by its file, or by its name
+UNIQUE_FILE = re.compile(r'Unique$')
+UNIQUE_NAME = re.compile(r'(-unique|-ensures|-decides)$|^one-(outcome|writing|paged|write|read|way|offer|build|file-build|built-in)$')
+MODIFIERS = ('pub', 'abbrev', 'unfoldable')
+LONGEST = 40
+ROOM = 24
+
+faults = []
+
+
+def fault(text):
+    if text not in faults:
+        faults.append(text)
+
+
+def read(path):
+    with open(os.path.join(ROOT, path), encoding='utf-8') as f:
+        return f.read()
+
+
+def indent(line):
+    return len(line) - len(line.lstrip(' '))
+
+
+def block(lines, i):
+    """The line i and those behind it that are indented deeper; blank lines and comments at the end left out."""
+    d, j, end = indent(lines[i]), i + 1, i + 1
+    while j < len(lines):
+        text = lines[j].strip()
+        if text and indent(lines[j]) <= d:
+            break
+        if text:
+            end = j + 1
+        j += 1
+    while end > i + 1 and lines[end - 1].strip().startswith('--'):
+        end -= 1
+    return lines[i:end], end
+
+
+class Declared:
+    """A name of a file: where it is declared, under which modules, its signature, and all of it."""
+
+    def __init__(self, path, around, signature, whole, definition):
+        self.path, self.around, self.signature, self.whole, self.definition = path, around, signature, whole, definition
+
+
+def declared_in(path):
+    lines = [l.rstrip() for l in read(path).split('\n')]
+    names, around, i, last = {}, [], 0, None
+    while i < len(lines):
+        text = lines[i].strip()
+        if not text or text.startswith('--'):
+            i += 1
+            continue
+        d = indent(lines[i])
+        around = [a for a in around if a[0] < d]
+        words = text.split()
+        k = 0
+        while k < len(words) and words[k] in MODIFIERS:
+            k += 1
+        first = words[k] if k < len(words) else ''
+        context = [a[1] for a in around]
+        if first == 'module':
+            head = [lines[i]]
+            while not head[-1].endswith(' where') and i + 1 < len(lines):
+                i += 1
+                head.append(lines[i])
+            around.append((d, head))
+            last = None
+            i += 1
+        elif first in ('record', 'data') and k + 1 < len(words):
+            whole, end = block(lines, i)
+            names.setdefault(words[k + 1], Declared(path, context, whole, whole, True))
+            head = [whole[0]]
+            n = 1
+            while not head[-1].endswith(' where') and n < len(whole):
+                head.append(whole[n])
+                n += 1
+            # fields and constructors
+            while n < len(whole):
+                member = whole[n].strip()
+                if member and not member.startswith('--'):
+                    part, _ = block(whole, n)
+                    before = member.split(' : ')[0].split()
+                    for name in before:
+                        if name not in MODIFIERS and re.fullmatch(r'[^\s(){}:=]+', name):
+                            names.setdefault(name, Declared(path, context + [head], part, part, True))
+                    n += len(part)
+                else:
+                    n += 1
+            i, last = end, None
+        elif first in ('use', 'mod', '') or (first == 'unfolding'):
+            part, end = block(lines, i)
+            if first == 'unfolding' and last:
+                last.whole += part
+            i = end
+        else:
+            part, end = block(lines, i)
+            named = re.match(r'^(?:(?:pub|abbrev|unfoldable) )*([^\s(){}:=]+)(?: (?:[({].*)?| ):? ?', text) if ' : ' in text or text.endswith(' :') else None
+            after = words[k + 1] if k + 1 < len(words) else ''
+            if named and (after == ':' or after[:1] in '({') and not re.match(r'^[^:]* = ', ' '.join(words[k:])):
+                last = Declared(path, context, part, list(part), any(w in ('abbrev', 'unfoldable') for w in words[:k]))
+                last.name = first
+                names.setdefault(first, last)
+            elif last and first == last.name:
+                last.whole += part
+            else:
+                last = last if last and any(w == last.name for w in words) else None
+                if last:
+                    last.whole += part
+            i = end
+    return names
+
+
+parsed = {}
+
+
+def names_of(path):
+    if path not in parsed:
+        parsed[path] = declared_in(path)
+    return parsed[path]
+
+
+def places(crate, file):
+    for part in ('specs', 'specs/Theorems', 'specs/Laws', 'proofs'):
+        path = f'crates/{crate}/{part}/{file}.antt'
+        if os.path.isfile(os.path.join(ROOT, path)):
+            yield path
+
+
+def find(crate, rest, where):
+    """The declaration of crate/File.name, or None and a fault."""
+    file, _, name = rest.partition('.')
+    for path in places(crate, file):
+        if name in names_of(path):
+            return names_of(path)[name]
+    elsewhere = sorted(
+        os.path.relpath(p, ROOT)
+        for p in glob.glob(os.path.join(ROOT, f'crates/{crate}/specs/**/*.antt'), recursive=True)
+        + glob.glob(os.path.join(ROOT, f'crates/{crate}/proofs/*.antt'))
+        if name in names_of(os.path.relpath(p, ROOT)))
+    hint = f'; it is now in {", ".join(elsewhere)}' if elsewhere else ''
+    fault(f'{where}: cited and not there: {crate}/{rest}{hint}')
+    return None
+
+
+USED = re.compile(r'^use Rattle·([a-z_0-9]+)(?:·specs)?\.specs\.((?:Theorems\.|Laws\.)?[A-Z]\w*)\.\{([^}]*)\}', re.M)
+imports = {}
+
+
+def imports_of(path):
+    """name: (crate, File, name there), of what a file takes from specs/ of the repository."""
+    if path not in imports:
+        found = {}
+        for crate, file, names in USED.findall(read(path)):
+            for name in names.split(','):
+                there, _, here = name.strip().partition(' as ')
+                found[(here or there).strip()] = (crate, file.split('.')[-1], there.strip())
+        imports[path] = found
+    return imports[path]
+
+
+def is_word(d):
+    """Whether a declaration is the name of a fact or of a thing: a record, a family, or a definition that answers a type."""
+    head = ' '.join(d.signature)
+    return d.definition and bool(re.match(r'^\s*(pub )?(record|data) ', head) or re.search(r'Type 0\s*$', head))
+
+
+def is_fact(d):
+    """Of these, the facts: they are said of something."""
+    head = ' '.join(d.signature[:2])
+    return is_word(d) and not re.match(r'^\s*(pub )?(record|data) \S+ : Type 0', head) and not re.match(r'^\s*(abbrev |unfoldable |pub )*\S+ : Type 0', head)
+
+
+def words(d, text, taken):
+    """The words of the repository in a text of the file of d: declarations, each with its path and name; and limits."""
+    found, limits = [], []
+    for name in re.findall(r'[A-Za-z][\w₀₁₂·-]*', text):
+        there = None
+        if name in names_of(d.path):
+            there, key = names_of(d.path)[name], name
+        elif name in imports_of(d.path):
+            crate, file, key = imports_of(d.path)[name]
+            there = next((names_of(p)[key] for p in places(crate, file) if key in names_of(p)), None)
+        if there is None or there is d or (there.path, key) in taken:
+            continue
+        if there.path.endswith('/Limits.antt') and len(there.whole) == 2:
+            limits.append(there.whole[1].strip())
+            taken.add((there.path, key))
+        elif is_word(there) and (there.path != d.path or there.around == d.around[:len(there.around)] or True):
+            found.append((key, there))
+            taken.add((there.path, key))
+    return found, limits
+
+
+def laid(declarations, whole):
+    """Fenced quotes, those of one file and one module together."""
+    out, path, around = [], None, []
+    for d in declarations:
+        lines = d.whole if whole or d.definition else d.signature
+        if len(lines) > LONGEST:
+            lines = d.signature if len(d.signature) < len(d.whole) else lines[:LONGEST] + ['    ..']
+        if d.path != path:
+            if out:
+                out.append('```')
+            out += ['```', f'-- {d.path}']
+            path, around = d.path, []
+        for n, head in enumerate(d.around):
+            if n >= len(around) or around[n] != head:
+                out += head
+        around = d.around
+        out += lines
+    if out:
+        out.append('```')
+    return out
+
+
+glossary = {}
+
+
+def word_anchor(key, d):
+    crate = d.path.split('/')[1]
+    file = os.path.basename(d.path)[:-5]
+    return f'{crate}/{file}.{key}'
+
+
+def spoken_of(cited, where, room):
+    """What statements speak of: quotes of the facts in them, links to the other words, and limits."""
+    taken, facts, others, limits = set(), [], [], []
+    given = []
+    for crate, rest in cited:
+        d = find(crate, rest, where)
+        if d:
+            given.append(d)
+            taken.add((d.path, rest.partition('.')[2]))
+    for d in given:
+        found, numbers = words(d, ' '.join(d.whole if d.definition else d.signature), taken)
+        limits += [n for n in numbers if n not in limits]
+        for key, there in found:
+            if is_fact(there) and len(there.whole) <= room:
+                room -= len(there.whole)
+                facts.append(there)
+            else:
+                others.append((key, there))
+    for d in given + list(facts):
+        found, numbers = words(d, ' '.join([l for head in d.around for l in head] + (d.whole if d in facts else [])), taken)
+        limits += [n for n in numbers if n not in limits]
+        others += found
+    for key, there in others:
+        glossary[word_anchor(key, there)] = (key, there)
+    return facts, others, limits
+
+
+functions = {}
+
+
+def functions_of(crate):
+    """name: (path, is public, its head: the signature with requires and ensures)."""
+    if crate not in functions:
+        found = {}
+        for path in sorted(glob.glob(os.path.join(ROOT, f'crates/{crate}/src/**/*.rt'), recursive=True)):
+            lines = open(path, encoding='utf-8').read().split('\n')
+            for i, line in enumerate(lines):
+                m = re.match(r'^\s*(?:#\[[^]]*\]\s*)?(pub )?(?:extern "C" )?fn ([A-Za-z0-9_]+)', line)
+                if not m:
+                    continue
+                head = []
+                for l in lines[i:]:
+                    if l.strip() == '{':
+                        break
+                    head.append(l.rstrip())
+                    if l.rstrip().endswith('{') and '⌜' not in l and 'ensures' not in l:
+                        head[-1] = l.rstrip()[:-1].rstrip()
+                        break
+                d = indent(head[0])
+                head = [l[d:] if l[:d].strip() == '' else l for l in head if not l.strip().startswith('//')]
+                if m.group(2) not in found:
+                    found[m.group(2)] = (os.path.relpath(path, ROOT), bool(m.group(1)) and os.path.basename(path) != 'main.rt', head)
+        functions[crate] = found
+    return functions[crate]
+
+
+def is_there(kind, crate, rest, where):
+    if kind == '/' and not rest[:1].isupper():
+        return
+    if not os.path.isdir(os.path.join(ROOT, 'crates', crate)):
+        fault(f'{where}: there is no crate {crate}: {crate}{kind}{rest}')
+    elif kind == '::':
+        name = rest.split('::')[-1]
+        if name[:1].isupper():
+            if not any(re.search(rf'(struct|enum) {re.escape(name)}\b', open(p, encoding='utf-8').read())
+                       for p in glob.glob(os.path.join(ROOT, f'crates/{crate}/src/**/*.rt'), recursive=True)):
+                fault(f'{where}: cited and not there: {crate}::{rest}')
+        elif name not in functions_of(crate):
+            fault(f'{where}: cited and not there: {crate}::{rest}')
+    elif kind == '!':
+        if not os.path.isfile(os.path.join(ROOT, f'crates/{crate}/must-fail/{rest}.edit')):
+            fault(f'{where}: cited and not there: {crate}!{rest}')
+    elif re.match(r'[A-Z][A-Za-z0-9]*\.', rest):
+        find(crate, rest, where)
+    elif re.fullmatch(r'[A-Z][A-Za-z0-9]*', rest):
+        if not list(places(crate, rest)):
+            fault(f'{where}: cited and not there: {crate}/{rest}')
+
+
+def statements(text):
+    """crate/File.name cited in a text, in their order, each once."""
+    found = []
+    for crate, kind, rest in CITED.findall(text):
+        if kind == '/' and re.match(r'[A-Z][A-Za-z0-9]*\.', rest) and (crate, rest) not in found:
+            found.append((crate, rest))
+    return found
+
+
+def is_unique(crate, rest):
+    file, _, name = rest.partition('.')
+    return bool(UNIQUE_FILE.search(file) or UNIQUE_NAME.search(name))
+
+
+def quote(cited, whole, where):
+    return laid([d for d in (find(c, r, where) for c, r in cited) if d], whole)
+
+
+def digest(crate, rest, where):
+    """Eight digits that change with a statement."""
+    d = find(crate, rest, where)
+    text = '\n'.join(l for part in (d.around if d else []) for l in part) + '\n'.join(d.signature if d else [])
+    return hashlib.sha256(text.encode()).hexdigest()[:8]
+
+
+def contracts(text, where):
+    out = []
+    for crate, kind, rest in CITED.findall(text):
+        if kind == '::' and rest in functions_of(crate):
+            path, _, head = functions_of(crate)[rest]
+            out += ['```', f'// {path}'] + head + ['```']
+    return out
+
+
+class Block:
+    def __init__(self, kind, name, where):
+        self.kind, self.name, self.where, self.text = kind, name, where, {}
+
+    def __getitem__(self, key):
+        return self.text.get(key, '')
+
+
+def counted(text, where):
+    """`{lines PATH}`: how many lines a file has; `{lines PATH WORD}`: how many of them have the word as a field."""
+    def count(m):
+        path, word = m.group(1), m.group(2)
+        if not os.path.isfile(os.path.join(ROOT, path)):
+            fault(f'{where}: there is no {path}')
+            return '0'
+        lines = read(path).splitlines()
+        return f'{sum(1 for l in lines if not word or word in l.split(chr(9))):,}'
+    return re.sub(r'\{lines (\S+?)(?: (\w+))?\}', count, text)
+
+
+def rows():
+    """The parts of the page in their order: ('text', lines) and blocks."""
+    parts = []
+    for file in sorted(glob.glob(os.path.join(ROOT, ROWS, '*.rows'))):
+        here = os.path.relpath(file, ROOT)
+        current, key, prose = None, None, []
+        for n, line in enumerate(open(file, encoding='utf-8').read().split('\n'), 1):
+            head = re.match(r'^(row|function|edit|together) (\S+)$', line)
+            if head:
+                if prose:
+                    parts.append(('text', prose))
+                    prose = []
+                current, key = Block(head.group(1), head.group(2), f'{here}:{n}'), None
+                parts.append((head.group(1), current))
+            elif current and re.match(r'^  [a-z]+:', line):
+                key, _, text = line.strip().partition(':')
+                if key not in KEYS[current.kind]:
+                    fault(f'{here}:{n}: {current.kind} {current.name} has no key {key}')
+                if key in current.text:
+                    fault(f'{here}:{n}: {current.kind} {current.name} has {key} twice')
+                current.text[key] = text.strip()
+            elif current and key and line.startswith('    '):
+                current.text[key] += ' ' + line.strip()
+            elif not line.strip() and current:
+                current = None
+            elif current:
+                fault(f'{here}:{n}: in {current.kind} {current.name}: a line that is neither a key nor the rest of one')
+            else:
+                prose.append(line)
+            if len(line) > 160:
+                fault(f'{here}:{n}: longer than 160 characters')
+        if prose:
+            parts.append(('text', prose))
+    for kind, b in parts:
+        if kind != 'text':
+            b.text = {k: counted(v, b.where) for k, v in b.text.items()}
+    return parts
+
+
+def anchor(heading):
+    return re.sub(r'[^\w\- ]', '', heading.lower()).strip().replace(' ', '-')
+
+
+def write_row(b):
+    out = [f'#### {b.name}', '', f'> {b["says"]}', '']
+    theorem, cited = b['theorem'], statements(b['theorem'])
+    if not b['says']:
+        fault(f'{b.where}: row {b.name} has no sentence')
+    if not theorem:
+        fault(f'{b.where}: row {b.name} says neither a theorem nor why there is none')
+    elif theorem.startswith('none'):
+        out += ['No theorem' + (theorem[4:] or '.'), '']
+    elif not cited:
+        fault(f'{b.where}: row {b.name} cites no theorem, and does not begin with "none"')
+    else:
+        only = all(is_unique(*c) for c in cited)
+        if only and not b['only']:
+            fault(f'{b.where}: uniqueness is the only theorem of row {b.name}, and it does not say so')
+        if b['only'] and not only:
+            fault(f'{b.where}: row {b.name} says that uniqueness is its only theorem, and it is not')
+        if only and b['only']:
+            out += [f'**Uniqueness alone.** {b["only"]}', '']
+        out += [f'Theorem: {theorem}', '']
+    quoted = quote(cited, False, b.where)
+    if quoted:
+        out += quoted + ['']
+    shown = [c for c in statements(b['where']) if c not in cited]
+    if b['where']:
+        out += [f'With {b["where"]}', ''] + quote(shown, True, b.where) + ['']
+    if not all(is_unique(*c) for c in cited):
+        facts, others, limits = spoken_of(cited + shown, b.where, 0 if shown else ROOM)
+        if facts:
+            out += ['in these words'] + laid(facts, True) + ['']
+        if limits:
+            out += ['Limits: ' + ', '.join(f'`{l}`' for l in limits) + '.', '']
+        if others:
+            out += ['Words: ' + ', '.join(f'[`{k}`](#{anchor(word_anchor(k, t))})' for k, t in others) + '.', '']
+    if b['contract']:
+        out += contracts(b['contract'], b.where) + ['']
+    foot = [f'{key.capitalize()}: {b[key]}.' for key in ('definition', 'function', 'edit') if b[key]]
+    if foot:
+        out += [' '.join(foot), '']
+    if b['note']:
+        out += [b['note'], '']
+    return out
+
+
+def write_function(b):
+    out = [f'**`{b.name}`** not: {b["not"]}', '']
+    crate, _, name = b.name.partition('::')
+    out += contracts(f'`{b.name}`', b.where)
+    if not b['not'] or not b['one']:
+        fault(f'{b.where}: function {b.name} has not both of not and one')
+    if not statements(b['one']):
+        fault(f'{b.where}: function {b.name} names no theorem of its outcome')
+    out += [f'One outcome: {b["one"]} (statement ' + ', '.join(digest(c, r, b.where) for c, r in statements(b['one'])) + ')', '']
+    if b['note']:
+        out += [b['note'], '']
+    return out
+
+
+def cell(text):
+    return text.replace('|', '\\|')
+
+
+def page():
+    parts = rows()
+    body, index, table, crate = [], [], None, None
+    seen, on_page, changed = {}, set(), set()
+
+    def close():
+        nonlocal table
+        if table:
+            body.append('')
+        table = None
+
+    for kind, b in parts:
+        if kind == 'text':
+            close()
+            for line in b:
+                m = re.match(r'^(#{2,3}) (.*)$', line)
+                if m:
+                    index.append((len(m.group(1)), m.group(2), []))
+                body.append(line)
+            crate = None
+            for line in b:
+                for c in CITED.findall(line):
+                    is_there(c[1], c[0], c[2], f'{ROWS}, a paragraph')
+                    if c[1] == '::':
+                        on_page.add((c[1], c[0], c[2]))
+            continue
+        if (kind, b.name) in seen and kind != 'together':
+            fault(f'{b.where}: {kind} {b.name} is there twice, first in {seen[kind, b.name]}')
+        seen[kind, b.name] = b.where
+        for text in list(b.text.values()) + ([f'`{b.name}`'] if kind in ('function', 'edit') else []):
+            for c in CITED.findall(text):
+                is_there(c[1], c[0], c[2], b.where)
+                if c[1] == '::':
+                    on_page.add((c[1], c[0], c[2]))
+        if kind == 'row':
+            close()
+            if not re.fullmatch(r'[a-z0-9]+(-[a-z0-9]+)*', b.name):
+                fault(f'{b.where}: no short name: {b.name}')
+            if index:
+                index[-1][2].append(b.name)
+            body += write_row(b)
+        elif kind == 'function':
+            close()
+            c = b.name.split('::')[0]
+            on_page.add(('::', c, b.name.split('::')[1]))
+            if c != crate:
+                crate = c
+                body += [f'### {c}', '']
+            body += write_function(b)
+        elif kind == 'edit':
+            c, _, label = b.name.partition('!')
+            on_page.add(('!', c, label))
+            if table != kind:
+                close()
+                table = kind
+                body += ['| Edit | What it changes | Turned away at |', '|---|---|---|']
+            body.append(f'| `{b.name}` | {cell(b["changes"])} | {cell(b["refused"])} |')
+            if not b['changes'] or not b['refused']:
+                fault(f'{b.where}: edit {b.name} has not both of changes and refused')
+        else:
+            changed.add(b.name)
+            if table != kind:
+                close()
+                table = kind
+                body += ['| Crate | Changed together | What stops it |', '|---|---|---|']
+            body.append(f'| `{b.name}` | {cell(b["change"])} | {cell(b["stopped"])} |')
+            if not b['change'] or not b['stopped']:
+                fault(f'{b.where}: together {b.name} has not both of change and stopped')
+    close()
+    index.append((2, 'Words of the statements', []))
+    body += ['', '## Words of the statements', '', 'What the statements above speak of and do not quote, each once.', '']
+    for name in sorted(glossary):
+        body += [f'#### {name}', ''] + laid([glossary[name][1]], True) + ['']
+    # the index goes behind the first paragraphs, in the place of its line
+    lines = []
+    for level, heading, names in index:
+        lines.append(f'{"  " * (level - 2)}- [{heading}](#{anchor(heading)})' + (': ' if names else '') + ', '.join(f'[{n}](#{n})' for n in names))
+    out = []
+    for line in body:
+        out += lines if line == '{index}' else [line]
+    text = re.sub(r'\n{3,}', '\n\n', '\n'.join(out)).rstrip('\n') + '\n'
+    # what the repository has and the page must name
+    crates = sorted(os.path.basename(os.path.dirname(p)) for p in glob.glob(os.path.join(ROOT, 'crates/*/src')))
+    for c in crates:
+        for name, (path, public, _) in sorted(functions_of(c).items()):
+            if public and ('::', c, name) not in on_page:
+                fault(f'a public function that is not on the page: {c}::{name}')
+        for path in sorted(glob.glob(os.path.join(ROOT, f'crates/{c}/must-fail/*.edit'))):
+            label = os.path.basename(path)[:-5]
+            if ('!', c, label) not in on_page:
+                fault(f'an edit that is not on the page: {c}!{label}')
+        if c not in changed:
+            fault(f'no row says what stops a change of definition and code together in {c}')
+    for c in changed:
+        if c not in crates:
+            fault(f'together {c}: there is no such crate')
+    named = {n for k, n in seen if k == 'row'}
+    for pattern in ('antt', 'edit'):
+        for path in sorted(glob.glob(os.path.join(ROOT, f'crates/**/*.{pattern}'), recursive=True)):
+            for n in re.findall(r'\[row ([a-z0-9-]+)\]', open(path, encoding='utf-8').read()):
+                if n not in named:
+                    fault(f'{os.path.relpath(path, ROOT)} cites a row that is not on the page: {n}')
+    return text
+
+
+TOPS = ('crates', 'docs', 'tools', 'oracle', 'bindings', 'examples', 'include', '.ci')
+PATH = re.compile(r'(?<![\w/.\-])((?:' + '|'.join(map(re.escape, TOPS)) + r')/[\w./*\-]*[\w*/])')
+
+
+def documents():
+    """Paths and names of the repository that documents cite, and the versions."""
+    texts = sorted(glob.glob(os.path.join(ROOT, 'docs/*.md'))) + [os.path.join(ROOT, n) for n in ('README.md', 'NOTICE')]
+    for file in texts:
+        here = os.path.relpath(file, ROOT)
+        if not os.path.isfile(file) or here == PAGE:
+            continue
+        for n, line in enumerate(open(file, encoding='utf-8').read().split('\n'), 1):
+            for path in PATH.findall(line):
+                path = path.rstrip('.')
+                if re.search(r'(^|/)[A-Z]{2,}(/|\.edit|$)', path) and not os.path.exists(os.path.join(ROOT, path)):
+                    continue  # a placeholder: crates/NAME/must-fail/LABEL.edit
+                if not glob.glob(os.path.join(ROOT, path)) and not glob.glob(os.path.join(ROOT, path + '.antt')):
+                    fault(f'{here}:{n}: there is no {path}')
+            if here != 'docs/CHANGES.md':
+                for crate, kind, rest in CITED.findall(line):
+                    if os.path.isdir(os.path.join(ROOT, 'crates', crate)):
+                        is_there(kind, crate, rest, f'{here}:{n}')
+    said = {}
+    header = read('include/denkumari.h')
+    m = re.search(r'\b(\d+\.\d+\.\d+)\b', header)
+    said['include/denkumari.h'] = m.group(1) if m else 'none'
+    m = re.search(r'^version = "([^"]+)"', read('bindings/rust/Cargo.toml'), re.M)
+    said['bindings/rust/Cargo.toml'] = m.group(1) if m else 'none'
+    for file in texts:
+        here = os.path.relpath(file, ROOT)
+        for m in re.finditer(r'\bDenkumari (\d+\.\d+\.\d+)', read(here) if os.path.isfile(file) else ''):
+            said[here] = m.group(1)
+    if len(set(said.values())) > 1:
+        fault('the versions differ: ' + ', '.join(f'{k} {v}' for k, v in sorted(said.items())))
+
+
+def rename(old, new):
+    touched = 0
+    files = glob.glob(os.path.join(ROOT, ROWS, '*.rows')) + glob.glob(os.path.join(ROOT, 'docs/*.md')) + [os.path.join(ROOT, n) for n in ('README.md', 'NOTICE')]
+    for file in files:
+        if os.path.relpath(file, ROOT) == PAGE:
+            continue
+        text = open(file, encoding='utf-8').read()
+        changed = re.sub(rf'`{old}(?=/[A-Z]|::|!|`)', f'`{new}', text)
+        changed = re.sub(rf'crates/{old}(?![\w-])', f'crates/{new}', changed)
+        changed = re.sub(rf'^((?:function|edit|together) ){old}(?=::|!|$)', rf'\g<1>{new}', changed, flags=re.M)
+        if changed != text:
+            open(file, 'w', encoding='utf-8').write(changed)
+            touched += 1
+    print(f'{old} is {new} in {touched} files')
+
+
+def draw(count):
+    text = read(PAGE)
+    found = re.split(r'(?m)^(?=#{2,4} )', text)
+    found = [f for f in found if f.startswith('#### ') and '\n> ' in f]
+    for one in random.sample(found, min(count, len(found))):
+        print(one)
+
+
+def main(arguments):
+    if arguments[:1] == ['--rename'] and len(arguments) == 3:
+        rename(*arguments[1:])
+        arguments = []
+    if arguments[:1] == ['--draw'] and len(arguments) == 2:
+        draw(int(arguments[1]))
+        return 0
+    if arguments not in ([], ['--check']):
+        print('tools/page: --help says how to call it', file=sys.stderr)
+        return 2
+    text = page()
+    if not arguments:
+        with open(os.path.join(ROOT, PAGE), 'w', encoding='utf-8') as f:
+            f.write(text)
+    else:
+        documents()
+        if not os.path.isfile(os.path.join(ROOT, PAGE)) or read(PAGE) != text:
+            fault(f'{PAGE} is not what {ROWS} and the sources make: run tools/page and read what changed')
+    for f in faults:
+        print(f, file=sys.stderr)
+    return 1 if faults else 0
+
+
+sys.exit(main(sys.argv[1:]))
