@@ -26,6 +26,7 @@ import os
 import random
 import re
 import sys
+import textwrap
 
 ROOT = os.path.dirname(os.path.dirname(os.path.abspath(__file__)))
 PAGE = 'docs/STATEMENTS.md'
@@ -435,19 +436,24 @@ def rows():
     return parts
 
 
+def wrapped(text, first='', rest=''):
+    """A paragraph in lines of the documents' width."""
+    return textwrap.wrap(text, width=156, initial_indent=first, subsequent_indent=rest, break_long_words=False, break_on_hyphens=False)
+
+
 def anchor(heading):
     return re.sub(r'[^\w\- ]', '', heading.lower()).strip().replace(' ', '-')
 
 
 def write_row(b):
-    out = [f'#### {b.name}', '', f'> {b["says"]}', '']
+    out = [f'#### {b.name}', ''] + wrapped(b['says'], '> ', '> ') + ['']
     theorem, cited = b['theorem'], statements(b['theorem'])
     if not b['says']:
         fault(f'{b.where}: row {b.name} has no sentence')
     if not theorem:
         fault(f'{b.where}: row {b.name} says neither a theorem nor why there is none')
     elif theorem.startswith('none'):
-        out += ['No theorem' + (theorem[4:] or '.'), '']
+        out += wrapped('**No theorem**' + (theorem[4:] or '.')) + ['']
     elif not cited:
         fault(f'{b.where}: row {b.name} cites no theorem, and does not begin with "none"')
     else:
@@ -457,41 +463,42 @@ def write_row(b):
         if b['only'] and not only:
             fault(f'{b.where}: row {b.name} says that uniqueness is its only theorem, and it is not')
         if only and b['only']:
-            out += [f'**Uniqueness alone.** {b["only"]}', '']
-        out += [f'Theorem: {theorem}', '']
+            out += wrapped(f'**Uniqueness alone.** {b["only"]}') + ['']
+        out += wrapped(f'Theorem: {theorem}') + ['']
     quoted = quote(cited, False, b.where)
     if quoted:
         out += quoted + ['']
     shown = [c for c in statements(b['where']) if c not in cited]
     if b['where']:
-        out += [f'With {b["where"]}', ''] + quote(shown, True, b.where) + ['']
+        out += wrapped(f'With {b["where"]}') + [''] + quote(shown, True, b.where) + ['']
     if not all(is_unique(*c) for c in cited):
         facts, others, limits = spoken_of(cited + shown, b.where, 0 if shown else ROOM)
         if facts:
-            out += ['in these words'] + laid(facts, True) + ['']
+            out += ['in these words', ''] + laid(facts, True) + ['']
         if limits:
-            out += ['Limits: ' + ', '.join(f'`{l}`' for l in limits) + '.', '']
+            out += wrapped('Limits: ' + ', '.join(f'`{l}`' for l in limits) + '.') + ['']
         if others:
-            out += ['Words: ' + ', '.join(f'[`{k}`](#{anchor(word_anchor(k, t))})' for k, t in others) + '.', '']
+            out += wrapped('Words: ' + ', '.join(f'[`{k}`](#{anchor(word_anchor(k, t))})' for k, t in others) + '.') + ['']
     if b['contract']:
         out += contracts(b['contract'], b.where) + ['']
     foot = [f'{key.capitalize()}: {b[key]}.' for key in ('definition', 'function', 'edit') if b[key]]
     if foot:
-        out += [' '.join(foot), '']
+        out += wrapped(' '.join(foot)) + ['']
     if b['note']:
-        out += [b['note'], '']
+        out += wrapped(b['note']) + ['']
     return out
 
 
 def write_function(b):
-    out = [f'**`{b.name}`** not: {b["not"]}', '']
+    out = wrapped(f'**`{b.name}`** not: {b["not"]}') + ['']
     crate, _, name = b.name.partition('::')
     out += contracts(f'`{b.name}`', b.where)
     if not b['not'] or not b['one']:
         fault(f'{b.where}: function {b.name} has not both of not and one')
     if not statements(b['one']):
         fault(f'{b.where}: function {b.name} names no theorem of its outcome')
-    out += [f'One outcome: {b["one"]} (statement ' + ', '.join(digest(c, r, b.where) for c, r in statements(b['one'])) + ')', '']
+    digits = ', '.join(digest(c, r, b.where) for c, r in statements(b['one']))
+    out += wrapped(f'One outcome: {b["one"]} (statement {digits})') + ['']
     if b['note']:
         out += [b['note'], '']
     return out
@@ -577,7 +584,8 @@ def page():
     # the index goes behind the first paragraphs, in the place of its line
     lines = []
     for level, heading, names in index:
-        lines.append(f'{"  " * (level - 2)}- [{heading}](#{anchor(heading)})' + (': ' if names else '') + ', '.join(f'[{n}](#{n})' for n in names))
+        text = f'[{heading}](#{anchor(heading)})' + (': ' if names else '') + ', '.join(f'[{n}](#{n})' for n in names)
+        lines += wrapped(text, '  ' * (level - 2) + '- ', '  ' * (level - 1))
     out = []
     for line in body:
         out += lines if line == '{index}' else [line]
