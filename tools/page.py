@@ -20,6 +20,7 @@ lines that are indented by four):
       change: what was changed in definition and code together, or why nothing was
       stopped: the theorem that no longer held, or what would stop such a change
 """
+import difflib
 import glob
 import hashlib
 import os
@@ -67,7 +68,7 @@ def block(lines, i):
     d, j, end = indent(lines[i]), i + 1, i + 1
     while j < len(lines):
         text = lines[j].strip()
-        if text and indent(lines[j]) <= d:
+        if text and indent(lines[j]) <= d and not (indent(lines[j]) == d and text[0] in '})]'):
             break
         if text:
             end = j + 1
@@ -227,7 +228,7 @@ def words(d, text, taken):
         if there.path.endswith('/Limits.antt') and len(there.whole) == 2:
             limits.append(there.whole[1].strip())
             taken.add((there.path, key))
-        elif is_word(there) and (there.path != d.path or there.around == d.around[:len(there.around)] or True):
+        elif is_word(there):
             found.append((key, there))
             taken.add((there.path, key))
     return found, limits
@@ -666,6 +667,36 @@ def rename(old, new):
     print(f'{old} is {new} in {touched} files')
 
 
+def follow():
+    """Names that stand in another file of their crate, or in the file of that name of another crate, and in one only: the rows cite them there."""
+    everywhere = {}
+    for path in glob.glob(os.path.join(ROOT, 'crates/*/specs/**/*.antt'), recursive=True) + glob.glob(os.path.join(ROOT, 'crates/*/proofs/*.antt')):
+        path = os.path.relpath(path, ROOT)
+        for name in names_of(path):
+            everywhere.setdefault(name, []).append((path.split('/')[1], os.path.basename(path)[:-5]))
+    moved = 0
+
+    def now(m):
+        nonlocal moved
+        crate, rest = m.group(1), m.group(2)
+        file, _, name = rest.partition('.')
+        if any(name in names_of(p) for p in places(crate, file)):
+            return m.group(0)
+        found = everywhere.get(name, [])
+        there = [f for f in found if f[0] == crate] or [f for f in found if f[1] == file]
+        if len(set(there)) != 1:
+            return m.group(0)
+        moved += 1
+        return f'`{there[0][0]}/{there[0][1]}.{name}`'
+
+    for file in glob.glob(os.path.join(ROOT, ROWS, '*.rows')):
+        text = open(file, encoding='utf-8').read()
+        changed = re.sub(r'`([a-z_0-9]+)/([A-Z]\w*\.[^` ]+)`', now, text)
+        if changed != text:
+            open(file, 'w', encoding='utf-8').write(changed)
+    print(f'{moved} names followed')
+
+
 def draw(count):
     text = read(PAGE)
     found = re.split(r'(?m)^(?=#{2,4} )', text)
@@ -677,6 +708,9 @@ def draw(count):
 def main(arguments):
     if arguments[:1] == ['--rename'] and len(arguments) == 3:
         rename(*arguments[1:])
+        arguments = []
+    if arguments == ['--follow']:
+        follow()
         arguments = []
     if arguments[:1] == ['--draw'] and len(arguments) == 2:
         draw(int(arguments[1]))
@@ -692,6 +726,10 @@ def main(arguments):
         documents()
         if not os.path.isfile(os.path.join(ROOT, PAGE)) or read(PAGE) != text:
             fault(f'{PAGE} is not what {ROWS} and the sources make: run tools/page and read what changed')
+            old = read(PAGE).split('\n') if os.path.isfile(os.path.join(ROOT, PAGE)) else []
+            changed = [l for l in difflib.unified_diff(old, text.split('\n'), lineterm='', n=0) if not l.startswith(('---', '+++', '@@'))]
+            for l in changed[:8]:
+                fault('    ' + l[:150])
     for f in faults:
         print(f, file=sys.stderr)
     return 1 if faults else 0
