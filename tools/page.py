@@ -86,8 +86,16 @@ class Declared:
 
 
 def declared_in(path):
+    """The names of a file. Of two that are alike a public one counts, then one that is no field and no constructor, then the first."""
     lines = [l.rstrip() for l in read(path).split('\n')]
     names, around, i, last = {}, [], 0, None
+
+    def put(name, declared, public, member):
+        rank = (not public, member)
+        if name not in names or rank < names[name].rank:
+            names[name] = declared
+            declared.rank = rank
+
     while i < len(lines):
         text = lines[i].strip()
         if not text or text.startswith('--'):
@@ -111,7 +119,7 @@ def declared_in(path):
             i += 1
         elif first in ('record', 'data') and k + 1 < len(words):
             whole, end = block(lines, i)
-            names.setdefault(words[k + 1], Declared(path, context, whole, whole, True))
+            put(words[k + 1], Declared(path, context, whole, whole, True), 'pub' in words[:k], False)
             head = [whole[0]]
             n = 1
             while not head[-1].endswith(' where') and n < len(whole):
@@ -125,24 +133,24 @@ def declared_in(path):
                     before = member.split(' : ')[0].split()
                     for name in before:
                         if name not in MODIFIERS and re.fullmatch(r'[^\s(){}:=]+', name):
-                            names.setdefault(name, Declared(path, context + [head], part, part, True))
+                            put(name, Declared(path, context + [head], part, part, True), False, True)
                     n += len(part)
                 else:
                     n += 1
             i, last = end, None
-        elif first in ('use', 'mod', '') or (first == 'unfolding'):
+        elif first in ('use', 'mod', '', 'unfolding'):
             part, end = block(lines, i)
             if first == 'unfolding' and last:
                 last.whole += part
             i = end
         else:
             part, end = block(lines, i)
-            named = re.match(r'^(?:(?:pub|abbrev|unfoldable) )*([^\s(){}:=]+)(?: (?:[({].*)?| ):? ?', text) if ' : ' in text or text.endswith(' :') else None
             after = words[k + 1] if k + 1 < len(words) else ''
-            if named and (after == ':' or after[:1] in '({') and not re.match(r'^[^:]* = ', ' '.join(words[k:])):
+            signed = ' : ' in text or text.endswith(' :')
+            if signed and (after == ':' or after[:1] in ('(', '{')) and not re.match(r'^[^:]* = ', ' '.join(words[k:])):
                 last = Declared(path, context, part, list(part), any(w in ('abbrev', 'unfoldable') for w in words[:k]))
                 last.name = first
-                names.setdefault(first, last)
+                put(first, last, 'pub' in words[:k], False)
             elif last and first == last.name:
                 last.whole += part
             else:
@@ -210,7 +218,7 @@ def is_word(d):
 def is_fact(d):
     """Of these, the facts: they are said of something."""
     head = ' '.join(d.signature[:2])
-    return is_word(d) and not re.match(r'^\s*(pub )?(record|data) \S+ : Type 0', head) and not re.match(r'^\s*(abbrev |unfoldable |pub )*\S+ : Type 0', head)
+    return is_word(d) and not re.match(r'^\s*(abbrev |unfoldable |pub |record |data )*\S+ : Type 0', head)
 
 
 def words(d, text, taken):
@@ -315,8 +323,9 @@ def functions_of(crate):
                         break
                 d = indent(head[0])
                 head = [l[d:] if l[:d].strip() == '' else l for l in head if not l.strip().startswith('//')]
-                if m.group(2) not in found:
-                    found[m.group(2)] = (os.path.relpath(path, ROOT), bool(m.group(1)) and os.path.basename(path) != 'main.rt', head)
+                public = bool(m.group(1)) and os.path.basename(path) != 'main.rt'
+                if m.group(2) not in found or public and not found[m.group(2)][1]:
+                    found[m.group(2)] = (os.path.relpath(path, ROOT), public, head)
         functions[crate] = found
     return functions[crate]
 
@@ -638,11 +647,12 @@ def documents():
                     if os.path.isdir(os.path.join(ROOT, 'crates', crate)):
                         is_there(kind, crate, rest, f'{here}:{n}')
     said = {}
-    header = read('include/denkumari.h')
-    m = re.search(r'\b(\d+\.\d+\.\d+)\b', header)
+    m = re.search(r'DENKUMARI_VERSION "([^"]+)"', read('include/denkumari.h'))
     said['include/denkumari.h'] = m.group(1) if m else 'none'
     m = re.search(r'^version = "([^"]+)"', read('bindings/rust/Cargo.toml'), re.M)
     said['bindings/rust/Cargo.toml'] = m.group(1) if m else 'none'
+    m = re.search(r'name = "denkumari"\nversion = "([^"]+)"', read('bindings/rust/Cargo.lock'))
+    said['bindings/rust/Cargo.lock'] = m.group(1) if m else 'none'
     for file in texts:
         here = os.path.relpath(file, ROOT)
         for m in re.finditer(r'\bDenkumari (\d+\.\d+\.\d+)', read(here) if os.path.isfile(file) else ''):
@@ -653,7 +663,9 @@ def documents():
 
 def rename(old, new):
     touched = 0
-    files = glob.glob(os.path.join(ROOT, ROWS, '*.rows')) + glob.glob(os.path.join(ROOT, 'docs/*.md')) + [os.path.join(ROOT, n) for n in ('README.md', 'NOTICE')]
+    files = [os.path.join(ROOT, n) for n in ('README.md', 'NOTICE')]
+    for pattern in (ROWS + '/*.rows', 'docs/*.md'):
+        files += glob.glob(os.path.join(ROOT, pattern))
     for file in files:
         if os.path.relpath(file, ROOT) == PAGE:
             continue
