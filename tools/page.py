@@ -367,8 +367,22 @@ def is_unique(crate, rest):
     return bool(UNIQUE_FILE.search(file) or UNIQUE_NAME.search(name))
 
 
+def with_locals(declarations):
+    """Before each statement the short abbreviations of its own module that it uses."""
+    out, seen = [], set()
+    for d in declarations:
+        for name in re.findall(r'[A-Za-z][\w₀₁₂′·-]*', ' '.join(d.signature)):
+            local = names_of(d.path).get(name)
+            if (local and local is not d and local not in declarations and id(local) not in seen and local.definition and local.around
+                    and local.around == d.around[:len(local.around)] and len(local.whole) <= 4 and not is_fact(local)):
+                seen.add(id(local))
+                out.append(local)
+        out.append(d)
+    return out
+
+
 def quote(cited, whole, where):
-    return laid([d for d in (find(c, r, where) for c, r in cited) if d], whole)
+    return laid(with_locals([d for d in (find(c, r, where) for c, r in cited) if d]), whole)
 
 
 def digest(crate, rest, where):
