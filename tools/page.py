@@ -83,12 +83,20 @@ class Declared:
 
     def __init__(self, path, around, signature, whole, definition):
         self.path, self.around, self.signature, self.whole, self.definition = path, around, signature, whole, definition
+        self.comment = []
 
 
 def declared_in(path):
     """The names of a file. Of two that are alike a public one counts, then one that is no field and no constructor, then the first."""
     lines = [l.rstrip() for l in read(path).split('\n')]
     names, around, i, last = {}, [], 0, None
+
+    def above(i):
+        """The comment right above a line, as far as it is indented alike; a heading of a file's part is none."""
+        j = i
+        while j > 0 and lines[j - 1].strip().startswith('-- ') and indent(lines[j - 1]) == indent(lines[i]) and not lines[j - 1].strip().startswith('-- ----'):
+            j -= 1
+        return lines[j:i]
 
     def put(name, declared, public, member):
         rank = (not public, member)
@@ -120,6 +128,7 @@ def declared_in(path):
         elif first in ('record', 'data') and k + 1 < len(words):
             whole, end = block(lines, i)
             put(words[k + 1], Declared(path, context, whole, whole, True), 'pub' in words[:k], False)
+            names[words[k + 1]].comment = names[words[k + 1]].comment or above(i)
             head = [whole[0]]
             n = 1
             while not head[-1].endswith(' where') and n < len(whole):
@@ -149,7 +158,7 @@ def declared_in(path):
             signed = ' : ' in text or text.endswith(' :')
             if signed and (after == ':' or after[:1] in ('(', '{')) and not re.match(r'^[^:]* = ', ' '.join(words[k:])):
                 last = Declared(path, context, part, list(part), any(w in ('abbrev', 'unfoldable') for w in words[:k]))
-                last.name = first
+                last.name, last.comment = first, above(i)
                 put(first, last, 'pub' in words[:k], False)
             elif last and first == last.name:
                 last.whole += part
@@ -258,7 +267,7 @@ def laid(declarations, whole):
             if n >= len(around) or around[n] != head:
                 out += head
         around = d.around
-        out += lines
+        out += (d.comment if d.definition else []) + lines
     if out:
         out.append('```')
     return out
