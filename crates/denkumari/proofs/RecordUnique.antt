@@ -6,7 +6,7 @@ use contract.Lifetimes.{Lfts}
 use denote.Triple.Clauses.{AtExit}
 use Rattle.refusal.specs.Laws.Outcome.{OneOutcome, OneView}
 use Rattle.refusal.specs.Laws.Pick.{determined, paired}
-use Rattle.record_fault.specs.Outcome.{Lent, lent}
+use Rattle.record_read.specs.Outcome.{Lent, lent}
 use Rattle.denkumari.specs.Theorems.RecordFiles.{one-write, one-read}
 use Rattle.c_answers.specs.declared.DkCount.{DkCount}
 use Rattle.denkumari.proofs.record_files.dk_write_hex.Kinds as hex-kinds

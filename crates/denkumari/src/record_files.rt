@@ -8,7 +8,7 @@ ghost use mathlib.Core.Path.{_≡_};
 ghost use Rattle.record_write.specs.Outcome.{input, answerOf, textAfter};
 ghost use Rattle.record_srec.specs.Writing.{answerSrec, lentSrec};
 ghost use Rattle.record_fault.specs.Reading.{readText};
-ghost use Rattle.record_fault.specs.Outcome.{lent};
+ghost use Rattle.record_read.specs.Outcome.{lent};
 ghost use Rattle.denkumari.specs.RecordFiles.{WriteTold, ReadTold, FaultTold};
 
 // The blocks of an image as Intel HEX from a load address on.

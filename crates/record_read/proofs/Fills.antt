@@ -18,10 +18,10 @@ use Rattle.record_fault.specs.Trail.{trail, lineAt}
 use Rattle.record_fault.specs.Laws.TrailLaws.{said, moved, next-at, next-state, next-given}
 use Rattle.record_fault.specs.Steps.{Stepped}
 use Rattle.record_fault.specs.declared.Step.{Step}
-use Rattle.record_fault.specs.Given.{filled}
-use Rattle.record_fault.specs.Theorems.GivenLaws.{filled-long, filled-is, filled-none, filled-append, filled-split}
-use Rattle.record_fault.specs.Laws.GivenLaws.{byte-in, byte-before, byte-behind}
-use Rattle.record_fault.proofs.LineLaws.{line-fills}
+use Rattle.record_read.specs.Given.{filled}
+use Rattle.record_read.specs.Theorems.GivenLaws.{filled-long, filled-is, filled-none, filled-append, filled-split}
+use Rattle.record_read.specs.Laws.GivenLaws.{byte-in, byte-before, byte-behind}
+use Rattle.record_read.proofs.LineLaws.{line-fills}
 
 -- ---- one byte
 

@@ -16,11 +16,11 @@ use Rattle.record_lines.specs.Pieces.{Piece, piece}
 use Rattle.record_lines.specs.declared.Line.{Line}
 use Rattle.record_fault.specs.Reading.{newPieces, isNew}
 use Rattle.record_fault.specs.Steps.{highest}
-use Rattle.record_fault.specs.Given.{given, filled}
-use Rattle.record_fault.specs.Laws.GivenLaws.{given-append, byte-behind, byte-before}
-use Rattle.record_fault.specs.Theorems.GivenLaws.{filled-is, filled-none}
-use Rattle.record_fault.specs.Runs.{isGiven}
-use Rattle.record_fault.specs.Steps.{inRun, extentOf}
+use Rattle.record_read.specs.Given.{given, filled}
+use Rattle.record_read.specs.Laws.GivenLaws.{given-append, byte-behind, byte-before}
+use Rattle.record_read.specs.Theorems.GivenLaws.{filled-is, filled-none}
+use Rattle.record_read.specs.Runs.{isGiven}
+use Rattle.record_read.specs.Steps.{inRun, extentOf}
 
 or-false : (b : Bool) → (b || false) ≡ b
 or-false true = refl

@@ -18,14 +18,14 @@ use Rattle.record_fault.specs.Trail.{trail, itemAt}
 use Rattle.record_fault.specs.Laws.TrailLaws.{said, moved, next-at, next-state, next-given, high-append}
 use Rattle.record_fault.specs.Steps.{Stepped, highest, rises}
 use Rattle.record_fault.specs.declared.Step.{Step}
-use Rattle.record_fault.specs.Given.{given}
-use Rattle.record_fault.specs.Laws.BlockFacts.{none-above, all-below}
-use Rattle.record_fault.specs.Runs.{isGiven, reach, inBits, runsGiven, blocksGiven}
-use Rattle.record_fault.specs.Steps.{run, inRun, extentOf, keptRun, closedBy, joinedBy, Small, Lowest, Betters}
-use Rattle.record_fault.specs.declared.Run.{Run}
-use Rattle.record_fault.proofs.LineLaws.{line-high, line-none, line-above, given-more}
-use Rattle.record_fault.proofs.Walks.{closed-idle, closed-touching, closed-apart, Listed, listed-starts, listed-on, listed-idle, listed-past, listed-all}
-use Rattle.record_fault.proofs.Walks.{listed-agree}
+use Rattle.record_read.specs.Given.{given}
+use Rattle.record_read.specs.Laws.BlockFacts.{none-above, all-below}
+use Rattle.record_read.specs.Runs.{isGiven, reach, inBits, runsGiven, blocksGiven}
+use Rattle.record_read.specs.Steps.{run, inRun, extentOf, keptRun, closedBy, joinedBy, Small, Lowest, Betters}
+use Rattle.record_read.specs.declared.Run.{Run}
+use Rattle.record_read.proofs.LineLaws.{line-high, line-none, line-above, given-more}
+use Rattle.record_read.proofs.Walks.{closed-idle, closed-touching, closed-apart, Listed, listed-starts, listed-on, listed-idle, listed-past, listed-all}
+use Rattle.record_read.proofs.Walks.{listed-agree}
 
 -- ---- runs by their bytes
 

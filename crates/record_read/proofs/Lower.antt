@@ -4,9 +4,9 @@ use mathlib.Core.Bool.{Bool, true, false, _||_}
 use Prim.Native.Nat.{ℕ, _≤_, _<_, max}
 use native.Mathlib.Decide.{decLt}
 use native.Mathlib.Omega.{arith}
-use Rattle.record_fault.specs.Steps.{run, inRun, Betters}
-use Rattle.record_fault.specs.declared.Run.{Run}
-use Rattle.record_fault.proofs.Loops.{in-run, before-run, behind-run}
+use Rattle.record_read.specs.Steps.{run, inRun, Betters}
+use Rattle.record_read.specs.declared.Run.{Run}
+use Rattle.record_read.proofs.Loops.{in-run, before-run, behind-run}
 
 or-none : {a b : Bool} → a ≡ false → b ≡ false → (a || b) ≡ false
 or-none p q = rw (p, q)

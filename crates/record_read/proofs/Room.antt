@@ -21,9 +21,9 @@ use Rattle.record_fault.specs.Trail.{trail}
 use Rattle.record_fault.specs.Steps.{rises, Scanned, ScanIs}
 use Rattle.record_fault.specs.declared.Scan.{Scan}
 use Rattle.record_fault.specs.declared.Scan.the-variants.{Whole, Broken}
-use Rattle.record_fault.specs.Given.{filled}
-use Rattle.record_fault.specs.Runs.{reach, blocksGiven}
-use Rattle.record_fault.specs.Outcome.{Lent, lent, Reads}
+use Rattle.record_read.specs.Given.{filled}
+use Rattle.record_read.specs.Runs.{reach, blocksGiven}
+use Rattle.record_read.specs.Outcome.{Lent, lent, Reads}
 
 -- What is stored from the start on.
 sets-over : (l v : List ℕ) → length v ≤ length l → sets l 0 v ≡ over v l

@@ -2,9 +2,9 @@
 use Rattle.refusal.specs.Laws.Outcome.{OneView}
 use Rattle.refusal.specs.Laws.Pick.{determined, paired}
 use Rattle.blocks.specs.declared.Blocks.{Blocks}
-use Rattle.record_fault.specs.Outcome.{Lent, lent}
-use Rattle.record_fault.proofs.read.Kinds as read-kinds
-use Rattle.record_fault.proofs.read.Reads as read-reads
+use Rattle.record_read.specs.Outcome.{Lent, lent}
+use Rattle.record_read.proofs.read.Kinds as read-kinds
+use Rattle.record_read.proofs.read.Reads as read-reads
 
 pub read-unique : OneView 4 read-kinds.ps read-kinds.r read-reads.Learnt (Blocks × Lent)
     (λ κs x e. (x, lent (e .1 .1 .1 .0 .now) (e .1 .1 .1 .1 .0 .now) (e .1 .1 .1 .1 .1 .0 .now)))

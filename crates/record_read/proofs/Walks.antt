@@ -17,12 +17,12 @@ use Rattle.blocks.specs.Walk.{block}
 use Rattle.blocks.specs.Outcome.{origins, sizes}
 use Rattle.blocks.specs.Put.{Put}
 use Rattle.record_lines.specs.Laws.Puts.{sets-behind}
-use Rattle.record_fault.specs.Runs.{runs, inBits}
-use Rattle.record_fault.specs.RunLaws.{Clear, Holds, AreRuns}
-use Rattle.record_fault.specs.Theorems.RunLaws.{runs-are, one-list, runs-more}
-use Rattle.record_fault.specs.Laws.RunLaws.{runs-agree}
-use Rattle.record_fault.specs.Steps.{run, keptRun, closedBy, joinedBy, Small}
-use Rattle.record_fault.specs.declared.Run.{Run}
+use Rattle.record_read.specs.Runs.{runs, inBits}
+use Rattle.record_read.specs.RunLaws.{Clear, Holds, AreRuns}
+use Rattle.record_read.specs.Theorems.RunLaws.{runs-are, one-list, runs-more}
+use Rattle.record_read.specs.Laws.RunLaws.{runs-agree}
+use Rattle.record_read.specs.Steps.{run, keptRun, closedBy, joinedBy, Small}
+use Rattle.record_read.specs.declared.Run.{Run}
 
 -- ---- runs
 

@@ -15,10 +15,10 @@ ghost use Rattle.record_lines.specs.Pieces.{piece};
 ghost use Rattle.record_fault.specs.Reading.{readText, sound};
 ghost use Rattle.record_fault.specs.Trail.{trail};
 ghost use Rattle.record_fault.specs.Steps.{highest, rises};
-ghost use Rattle.record_fault.specs.Given.{filled};
-ghost use Rattle.record_fault.specs.Runs.{isGiven, reach, inBits, runsGiven, blocksGiven};
-ghost use Rattle.record_fault.specs.Outcome.{lent, Reads};
-ghost use Rattle.record_fault.specs.Steps.{extentOf, keptRun, closedBy, joinedBy, Small, Lowest, Betters};
+ghost use Rattle.record_read.specs.Given.{filled};
+ghost use Rattle.record_read.specs.Runs.{isGiven, reach, inBits, runsGiven, blocksGiven};
+ghost use Rattle.record_read.specs.Outcome.{lent, Reads};
+ghost use Rattle.record_read.specs.Steps.{extentOf, keptRun, closedBy, joinedBy, Small, Lowest, Betters};
 
 // Bytes from `first` on and before `end`, counted from the load address; none where `end` is not above `first`.
 pub struct Run {

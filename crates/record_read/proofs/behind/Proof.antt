@@ -1,7 +1,7 @@
 -- `record_fill::behind`: the definition's test.
 use borrow.Author.Tests.{lt-ltb, le-ltb}
-use Rattle.record_fault.proofs.behind.Statement.{statement}
-use Rattle.record_fault.proofs.behind.Tie as tie
+use Rattle.record_read.proofs.behind.Statement.{statement}
+use Rattle.record_read.proofs.behind.Tie as tie
 
 returns : tie.Need-returns
 returns c = let n = c .before .before .args .next in rw (lt-ltb (n .first) (n .end) (c .if1 .taken))

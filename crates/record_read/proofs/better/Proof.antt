@@ -1,9 +1,9 @@
 -- `record_fill::better`: a law for each return.
 use native.Mathlib.Omega.{arith}
-use Rattle.record_fault.proofs.Lower.{better-none, better-lower, better-joined, better-kept}
+use Rattle.record_read.proofs.Lower.{better-none, better-lower, better-joined, better-kept}
 use borrow.Author.Needs.{needs}
-use Rattle.record_fault.proofs.better.Statement.{statement}
-use Rattle.record_fault.proofs.better.Tie as tie
+use Rattle.record_read.proofs.better.Statement.{statement}
+use Rattle.record_read.proofs.better.Tie as tie
 
 larger-requires : tie.Need-larger-requires
 larger-requires c κs = search needs

@@ -1,9 +1,9 @@
 -- `record_fill::close`: a run that touches the next one, or before none, closes nothing.
 use mathlib.Core.Path.{sym}
-use Rattle.record_fault.proofs.Walks.{close-none, close-kept, closed-idle, closed-touching, closed-apart}
+use Rattle.record_read.proofs.Walks.{close-none, close-kept, closed-idle, closed-touching, closed-apart}
 use borrow.Author.Needs.{needs}
-use Rattle.record_fault.proofs.close.Statement.{statement}
-use Rattle.record_fault.proofs.close.Tie as tie
+use Rattle.record_read.proofs.close.Statement.{statement}
+use Rattle.record_read.proofs.close.Tie as tie
 
 returns : tie.Need-returns
 returns c =

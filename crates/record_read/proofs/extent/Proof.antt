@@ -1,9 +1,9 @@
 -- `record_fill::extent`: both ends, counted from the load address.
 use mathlib.Core.Path.{ap₂}
 use borrow.Author.Needs.{needs}
-use Rattle.record_fault.specs.Steps.{run}
-use Rattle.record_fault.proofs.extent.Statement.{statement}
-use Rattle.record_fault.proofs.extent.Tie as tie
+use Rattle.record_read.specs.Steps.{run}
+use Rattle.record_read.proofs.extent.Statement.{statement}
+use Rattle.record_read.proofs.extent.Tie as tie
 
 add-end : tie.Need-add-end
 add-end c = search needs

@@ -1,9 +1,9 @@
 -- `record_fill::fill`: after k lines the bytes that they give are stored.
 use Prim.Native.Nat.{_-_}
-use Rattle.record_fault.proofs.Fills.{Filling, filling-starts, filling-on, filling-long, filling-ends}
+use Rattle.record_read.proofs.Fills.{Filling, filling-starts, filling-on, filling-long, filling-ends}
 use borrow.Author.Needs.{needs}
-use Rattle.record_fault.proofs.fill.Statement.{statement}
-use Rattle.record_fault.proofs.fill.Tie as tie
+use Rattle.record_read.proofs.fill.Statement.{statement}
+use Rattle.record_read.proofs.fill.Tie as tie
 
 abbrev Inv-loop : tie.InvT-loop
 Inv-loop format text n load bytes₀ at₀ state₀ k₀ bytes at state k = Filling format text n load bytes₀ at state bytes k

@@ -6,12 +6,12 @@ use lib.ListN.{length}
 use mathlib.Core.List.{[], _∷_}
 use Rattle.record_lines.specs.Digits.{bytesAt}
 use Rattle.record_lines.specs.Pieces.{piece}
-use Rattle.record_fault.specs.Given.{filled}
-use Rattle.record_fault.specs.Theorems.GivenLaws.{filled-long}
-use Rattle.record_fault.proofs.Fills.{spelled-none, spelled-more}
+use Rattle.record_read.specs.Given.{filled}
+use Rattle.record_read.specs.Theorems.GivenLaws.{filled-long}
+use Rattle.record_read.proofs.Fills.{spelled-none, spelled-more}
 use borrow.Author.Needs.{needs}
-use Rattle.record_fault.proofs.fill_line.Statement.{statement}
-use Rattle.record_fault.proofs.fill_line.Tie as tie
+use Rattle.record_read.proofs.fill_line.Statement.{statement}
+use Rattle.record_read.proofs.fill_line.Tie as tie
 
 abbrev Inv-loop : tie.InvT-loop
 Inv-loop line first count address load bytes₀ start base n j₀ bytes j =

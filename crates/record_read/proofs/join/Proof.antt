@@ -1,8 +1,8 @@
 -- `record_fill::join`: the definition's tests.
 use mathlib.Core.Path.{sym}
-use Rattle.record_fault.proofs.Walks.{closed-idle, closed-touching, closed-apart}
-use Rattle.record_fault.proofs.join.Statement.{statement}
-use Rattle.record_fault.proofs.join.Tie as tie
+use Rattle.record_read.proofs.Walks.{closed-idle, closed-touching, closed-apart}
+use Rattle.record_read.proofs.join.Statement.{statement}
+use Rattle.record_read.proofs.join.Tie as tie
 
 returns : tie.Need-returns
 returns c = let a = c .before .before .args in sym (closed-idle (a .run) (a .next) (c .if1 .taken) .1)

@@ -1,9 +1,9 @@
 -- `record_fill::lowest`: after k lines it is the lowest stretch of what they give.
 use Prim.Native.Nat.{_-_}
-use Rattle.record_fault.proofs.Loops.{Looking, looking-starts, looking-on, looking-ends}
+use Rattle.record_read.proofs.Loops.{Looking, looking-starts, looking-on, looking-ends}
 use borrow.Author.Needs.{needs}
-use Rattle.record_fault.proofs.lowest.Statement.{statement}
-use Rattle.record_fault.proofs.lowest.Tie as tie
+use Rattle.record_read.proofs.lowest.Statement.{statement}
+use Rattle.record_read.proofs.lowest.Tie as tie
 
 abbrev Inv-loop : tie.InvT-loop
 Inv-loop format text n load from at₀ state₀ best₀ k₀ at state best k = Looking format text n load from at state best k

@@ -1,8 +1,8 @@
 -- `record_fill::push`: an empty run is dropped, another takes the next place.
-use Rattle.record_fault.proofs.Walks.{push-none, push-some}
+use Rattle.record_read.proofs.Walks.{push-none, push-some}
 use borrow.Author.Needs.{needs}
-use Rattle.record_fault.proofs.push.Statement.{statement}
-use Rattle.record_fault.proofs.push.Tie as tie
+use Rattle.record_read.proofs.push.Statement.{statement}
+use Rattle.record_read.proofs.push.Tie as tie
 
 returns : tie.Need-returns
 returns c =

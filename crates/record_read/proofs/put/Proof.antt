@@ -2,8 +2,8 @@
 use mathlib.Core.Path.{sym}
 use lib.Seq.{set-out}
 use borrow.Author.Needs.{needs}
-use Rattle.record_fault.proofs.put.Statement.{statement}
-use Rattle.record_fault.proofs.put.Tie as tie
+use Rattle.record_read.proofs.put.Statement.{statement}
+use Rattle.record_read.proofs.put.Tie as tie
 
 mul-column : tie.Need-mul-column
 mul-column c = search needs

@@ -1,9 +1,9 @@
 -- `record_fill::put_byte`: a byte that has no place changes nothing.
 use mathlib.Core.Logic.{inl, inr}
-use Rattle.record_fault.proofs.Fills.{byte-out, byte-set}
+use Rattle.record_read.proofs.Fills.{byte-out, byte-set}
 use borrow.Author.Needs.{needs}
-use Rattle.record_fault.proofs.put_byte.Statement.{statement}
-use Rattle.record_fault.proofs.put_byte.Tie as tie
+use Rattle.record_read.proofs.put_byte.Statement.{statement}
+use Rattle.record_read.proofs.put_byte.Tie as tie
 
 returns : tie.Need-returns
 returns c =

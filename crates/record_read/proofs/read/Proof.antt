@@ -1,10 +1,10 @@
 -- `record_fill::read`: a bad file is refused, and of a sound one its bytes and blocks are taken.
-use Rattle.record_fault.specs.Outcome.{lent}
+use Rattle.record_read.specs.Outcome.{lent}
 use Rattle.record_fault.specs.Reading.{readText}
-use Rattle.record_fault.proofs.Room.{reads-bad, scan-bad, scan-whole, scanned-ready, scanned-reads}
+use Rattle.record_read.proofs.Room.{reads-bad, scan-bad, scan-whole, scanned-ready, scanned-reads}
 use borrow.Author.Needs.{needs}
-use Rattle.record_fault.proofs.read.Statement.{statement}
-use Rattle.record_fault.proofs.read.Tie as tie
+use Rattle.record_read.proofs.read.Statement.{statement}
+use Rattle.record_read.proofs.read.Tie as tie
 
 scan-lines-requires : tie.Need-scan-lines-requires
 scan-lines-requires c κs = search needs

@@ -2,10 +2,10 @@
 use Rattle.record_lines.specs.Pieces.{Piece}
 use mathlib.Core.List.{List}
 use Rattle.record_fault.specs.Trail.{trail}
-use Rattle.record_fault.proofs.Room.{reads-short, reads-short-first, reads-short-second, reads-all}
+use Rattle.record_read.proofs.Room.{reads-short, reads-short-first, reads-short-second, reads-all}
 use borrow.Author.Needs.{needs}
-use Rattle.record_fault.proofs.take.Statement.{statement}
-use Rattle.record_fault.proofs.take.Tie as tie
+use Rattle.record_read.proofs.take.Statement.{statement}
+use Rattle.record_read.proofs.take.Tie as tie
 
 abbrev pieces : tie.Start → List Piece
 pieces s = trail (s .args .format) (s .args .text .now) (s .args .n) .given

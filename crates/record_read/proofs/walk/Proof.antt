@@ -1,8 +1,8 @@
 -- `record_fill::walk`: one pass where records ascend.
 use mathlib.Core.Path.{sym, _∙_}
-use Rattle.record_fault.proofs.Walks.{put-long}
-use Rattle.record_fault.proofs.walk.Statement.{statement}
-use Rattle.record_fault.proofs.walk.Tie as tie
+use Rattle.record_read.proofs.Walks.{put-long}
+use Rattle.record_read.proofs.walk.Statement.{statement}
+use Rattle.record_read.proofs.walk.Tie as tie
 
 walk-up-requires : tie.Need-walk-up-requires
 walk-up-requires c κs =

@@ -2,13 +2,13 @@
 use Prim.Native.Nat.{_-_}
 use mathlib.Core.Path.{_∙_}
 use native.Mathlib.Omega.{arith}
-use Rattle.record_fault.specs.Runs.{isGiven}
+use Rattle.record_read.specs.Runs.{isGiven}
 use Rattle.record_fault.specs.Trail.{trail}
-use Rattle.record_fault.proofs.Loops.{finding-on, finding-ends, finding-less}
-use Rattle.record_fault.proofs.Walks.{Listed, listed-starts, listed-few, listed-long, put-long}
+use Rattle.record_read.proofs.Loops.{finding-on, finding-ends, finding-less}
+use Rattle.record_read.proofs.Walks.{Listed, listed-starts, listed-few, listed-long, put-long}
 use borrow.Author.Needs.{needs}
-use Rattle.record_fault.proofs.walk_any.Statement.{statement}
-use Rattle.record_fault.proofs.walk_any.Tie as tie
+use Rattle.record_read.proofs.walk_any.Statement.{statement}
+use Rattle.record_read.proofs.walk_any.Tie as tie
 
 abbrev Inv-loop : tie.InvT-loop
 Inv-loop format text n load end offsets₀ sizes₀ from₀ run₀ count₀ offsets sizes from run count =

@@ -1,13 +1,13 @@
 -- `record_fill::walk_up`: after k lines the blocks of what they give are written, but for the one that goes on.
 use Prim.Native.Nat.{_-_}
 use mathlib.Core.Path.{_∙_}
-use Rattle.record_fault.specs.Runs.{isGiven}
+use Rattle.record_read.specs.Runs.{isGiven}
 use Rattle.record_fault.specs.Trail.{trail}
-use Rattle.record_fault.proofs.Loops.{Rising, rising-starts, rising-on, rising-ends}
-use Rattle.record_fault.proofs.Walks.{listed-few, listed-long, put-long}
+use Rattle.record_read.proofs.Loops.{Rising, rising-starts, rising-on, rising-ends}
+use Rattle.record_read.proofs.Walks.{listed-few, listed-long, put-long}
 use borrow.Author.Needs.{needs}
-use Rattle.record_fault.proofs.walk_up.Statement.{statement}
-use Rattle.record_fault.proofs.walk_up.Tie as tie
+use Rattle.record_read.proofs.walk_up.Statement.{statement}
+use Rattle.record_read.proofs.walk_up.Tie as tie
 
 abbrev Inv-loop : tie.InvT-loop
 Inv-loop format text n load offsets₀ sizes₀ at₀ state₀ run₀ count₀ k₀ offsets sizes at state run count k =
