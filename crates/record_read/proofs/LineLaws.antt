@@ -57,7 +57,7 @@ above′ s f h (gives a [] t) e k = absurd (omega arith)
 above′ s f h (gives a (b ∷ l) t) e k =
     let none : leb (a + suc (length l)) 0 ≡ false = lt-leb (a + suc (length l)) 0 (omega arith) in
     let some : (leb h a && true) ≡ true = rw none at e in
-    either (leb h a) (λ p. leb-true h a p) (λ p. let z : _≡_ {A = Bool} false true = rw p at some in absurd (Rattle.refusal.specs.Bools.clash z refl))
+    either (leb h a) (λ p. leb-true h a p) (λ p. let z : _≡_ {A = Bool} false true = rw p at some in absurd (Rattle.refusal.specs.Laws.Bools.clash z refl))
 above′ s f h (passes t) e k = absurd (omega arith)
 above′ s f h ends e k = absurd (omega arith)
 above′ s f h bad e k = absurd (omega arith)

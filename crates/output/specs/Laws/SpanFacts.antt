@@ -41,7 +41,7 @@ module _ (c : Call) where
   more false l x = ap length (mathlib.Core.List.append-nil l)
 
   pub spans-counted : (n : ℕ) → length (spansOf (visitsBefore c n)) ≡ spansAmong c n
-  unfolding spansAmong visitsTo Rattle.visits.specs.Visits.each
+  unfolding spansAmong visitsTo Rattle.build_sights.specs.Visits.each
   spans-counted zero = refl
   spans-counted (suc i) =
       ap length (each-next (programIn c) (rowIn c) spanOf i)

@@ -28,8 +28,8 @@ module _ (c : Call) (all : AllPlaced c) where
       ∙ ap (settledTold (c .given) (roomOf (c .old))) (all .settled)
       ∙ ap
       (λ (n : ℕ). placedTold (roomOf (c .old)) (all .k)
-      (lengthOf (fillOf (c .given)) (Rattle.visits.specs.Items.itemsOf (visitsOf (c .given) n)))
-      (length (Rattle.visits.specs.Spans.spansOf (visitsOf (c .given) n)))
+      (lengthOf (fillOf (c .given)) (Rattle.build_sights.specs.Items.itemsOf (visitsOf (c .given) n)))
+      (length (Rattle.build_sights.specs.Spans.spansOf (visitsOf (c .given) n)))
       (placedAll (closedIn c) (visitsOf (c .given) n)))
       (sym (passes-are c))
       ∙ ap (placedTold (roomOf (c .old)) (all .k) (lengthIn c) (spanCount c)) (all .placed)
