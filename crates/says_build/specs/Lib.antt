@@ -1,4 +1,3 @@
 pub mod Build
-pub mod One
-pub mod Decides
-pub mod Example
+pub mod Theorems
+pub mod Laws
