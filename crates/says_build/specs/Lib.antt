@@ -1,3 +1,4 @@
 pub mod Build
+pub mod Typed
 pub mod Theorems
 pub mod Laws

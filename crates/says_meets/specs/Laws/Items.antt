@@ -16,7 +16,7 @@ use Rattle.build_sights.specs.Laws.VisitLaws.{each-member, each-from, visit-mem
 use Rattle.build_sights.specs.Visits.{positionOf, visitsTo}
 use Rattle.build_sights.specs.declared.Visit.{Visit}
 use Rattle.says_build.specs.Build as says
-use Rattle.says_build.specs.Build.{Given, nodes, kind, operand, Offset, Written, Offer}
+use Rattle.says_build.specs.Build.{Given, nodes, kind, operand, Offset, IsWritten, Offer}
 use Rattle.says_build.specs.Laws.One.{number-one, sees-one}
 use Rattle.says_meets.specs.Laws.Shown.{Shown, Tells, listed, walked, rowNo, number-is}
 use Rattle.says_meets.specs.Laws.Walk.{Goes, tells-here}
@@ -33,13 +33,13 @@ module _ (g : Given) (tab : Bankdefs) (shown : Shown g tab) (c : Checked tab (li
     tells : Tells g (v .bank) (v .def)
     tells = tells-here g tab shown c r i h (λ j k. all j (omega arith))
 
-    item-there : (o : ℕ) → v .def .offset ≡ Some o → Written g i → itemOf v ≡ itemAt (o + positionOf v) (v .node .number) (operand g i) ∷ []
+    item-there : (o : ℕ) → v .def .offset ≡ Some o → IsWritten g i → itemOf v ≡ itemAt (o + positionOf v) (v .node .number) (operand g i) ∷ []
     item-there o e w =
         ap (λ (t : Bool). pick t (standing (v .out) (v .node)) []) (written-exactly (v .node) .1 w)
         ∙ ap (λ (x : Opt). standing (outAt x (positionOf v)) (v .node)) e
 
     -- A written item by the sentences is written so,
-    pub item-when : {x m : ℕ} → Written g i → Offer g r i x m → itemOf v ≡ itemAt x m (operand g i) ∷ []
+    pub item-when : {x m : ℕ} → IsWritten g i → Offer g r i x m → itemOf v ≡ itemAt x m (operand g i) ∷ []
     item-when w (says.offer {o = o} listed-i k l sight offset number) =
         let same = sees-one g sight (sees-visited g tab shown c r all i h) in
         let o-is = tells .has-offset o (subst (λ (y : ℕ). Offset g y o) (same .0) offset) in
@@ -50,13 +50,13 @@ module _ (g : Given) (tab : Bankdefs) (shown : Shown g tab) (c : Checked tab (li
 
     -- what is written of node i, by the sentences
     abbrev pub ItemIs : Item → Type 0
-    ItemIs x = Written g i × Offer g r i (x .at) (x .size) × (x .from ≡ operand g i)
+    ItemIs x = IsWritten g i × Offer g r i (x .at) (x .size) × (x .from ≡ operand g i)
 
     -- and what is written is one.
     pub item-only : (x : Item) → List·Memᴰ x (itemOf v) → ItemIs x
     item-only x m = by-kind (isWritten (v .node)) refl m
       where
-        made : (k : Written g i) (o : Opt) → v .def .offset ≡ o → List·Memᴰ x (standing (outAt o (positionOf v)) (v .node)) → ItemIs x
+        made : (k : IsWritten g i) (o : Opt) → v .def .offset ≡ o → List·Memᴰ x (standing (outAt o (positionOf v)) (v .node)) → ItemIs x
         made k None q m = absurd (List·Memᴰ·not-nil m)
         made k (Some o) q m =
             subst ItemIs (sym (List·Memᴰ·eq-of-singleton m))
@@ -70,7 +70,7 @@ module _ (g : Given) (tab : Bankdefs) (shown : Shown g tab) (c : Checked tab (li
   items = itemsOf (visitsTo (walked g tab) (rowNo g tab r) (nodes g))
 
   -- the same of the whole row
-  pub item-member : {i x m : ℕ} → i < nodes g → Written g i → Offer g r i x m → List·Memᴰ (itemAt x m (operand g i)) items
+  pub item-member : {i x m : ℕ} → i < nodes g → IsWritten g i → Offer g r i x m → List·Memᴰ (itemAt x m (operand g i)) items
   item-member {i} {x} {m} h w o =
       each-member itemOf (visit-member (walked g tab) (rowNo g tab r) (nodes g) i h)
       (subst (List·Memᴰ (itemAt x m (operand g i))) (sym (item-when i h w o)) (List·Memᴰ·head refl))

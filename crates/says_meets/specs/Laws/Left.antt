@@ -45,10 +45,12 @@ use Rattle.build_sights.specs.Visits.{positionOf}
 use Rattle.build_sights.specs.declared.Visit.{Visit}
 use Rattle.build_write.specs.Laws.Blank.{blank-length, blank-bytes}
 use Rattle.says_build.specs.Build as says
-use Rattle.says_build.specs.Build.{Given, Not, banks, nodes, kind, unit, start, flag, fillBit, Offset, Written, Offer, Sees, Number, Spans, SpanAt, OffsetWord}
+use Rattle.says_build.specs.Build.{Given, Not, banks, nodes, kind, unit, start, flag, fillBit, Offset, IsWritten, Offer, Sees, Number, Spans}
+use Rattle.says_build.specs.Build.{SpanAt, OffsetWord}
 use Rattle.says_build.specs.Build.{Extent, IsSpan, OfItem, Fills, Left}
 use Rattle.says_meets.specs.Laws.Shown.{Shown, Tells, listed, number-is}
-use Rattle.says_meets.specs.Laws.Table.{Typed, table}
+use Rattle.says_build.specs.Typed.{Typed}
+use Rattle.says_meets.specs.Laws.Table.{table}
 use Rattle.says_meets.specs.Laws.Walk.{Goes, tells-here}
 use Rattle.says_meets.specs.Laws.Contract.{lentSo, inputOf}
 use Rattle.says_meets.specs.Laws.AtNode.{call, rowHere}
@@ -92,7 +94,8 @@ node-of c zero at h = absurd (let b : ⊥ = omega arith in b)
 node-of c (suc n) at h = node-by c n at (node-of c n at) (isSpan (visitIn c n .node)) refl h
 
 module _ (g : Given) (typed : Typed g) (shown : Shown g (table g)) (ck : Checked (table g) (listed g) (g .fill)) (old : out.Lent) (answer : Output)
-    (new : out.Lent) (meets : Builds (inputOf g typed) old answer new) (all : Goes g (table g) shown ck (rowHere g typed shown ck old answer new meets) (nodes g))
+    (new : out.Lent) (meets : Builds (inputOf g typed) old answer new)
+    (all : Goes g (table g) shown ck (rowHere g typed shown ck old answer new meets) (nodes g))
     (k bits spans : ℕ) (done : answer .build ≡ Done k bits spans) where
   abbrev a : Accepted
   a = record { call = call g typed shown ck old answer new meets; k = k; bits = bits; spans = spans; done = done }
@@ -135,7 +138,7 @@ module _ (g : Given) (typed : Typed g) (shown : Shown g (table g)) (ck : Checked
   offered-listed : {i x m : ℕ} → Offer g r i x m → i < nodes g
   offered-listed (says.offer h k l s f n) = h
 
-  item-bits : (i x m bit : ℕ) → Written g i → Offer g r i x m → bit < m → bitAt (new .image) (x + bit) ≡ bitAt (g .values) (says.operand g i + bit)
+  item-bits : (i x m bit : ℕ) → IsWritten g i → Offer g r i x m → bit < m → bitAt (new .image) (x + bit) ≡ bitAt (g .values) (says.operand g i + bit)
   item-bits i x m bit w o h =
       item-own-bit a (itemAt x m (says.operand g i)) (item-member g (table g) shown ck r all (offered-listed o) w o) bit h
 
@@ -194,7 +197,7 @@ module _ (g : Given) (typed : Typed g) (shown : Shown g (table g)) (ck : Checked
         ∙ ap (λ (u : ℕ). start g (v .bank) +ℤ pos (positionOf v / u)) (here .of-unit)
 
     word-by : (o : Opt) → v .def .offset ≡ o → OffsetWord g (v .bank) (positionOf v) (wordOf (outAt o (positionOf v)))
-    word-by None e = says.none (λ f. apart (sym e ∙ here .has-offset (getD (g .bankOffsets) (v .bank) 0) (f, refl)))
+    word-by None e = says.nowhere (λ f. apart (sym e ∙ here .has-offset (getD (g .bankOffsets) (v .bank) 0) (f, refl)))
       where
         apart : {n : ℕ} → None ≡ Some n → ⊥
         apart e = let z : _≡_ {A = ℕ} 0 1 = cc in omega arith
@@ -217,7 +220,8 @@ module _ (g : Given) (typed : Typed g) (shown : Shown g (table g)) (ck : Checked
     span-is : SpanAt g r (spansAmong (a .call) i) (getD (new .addresses) (spansAmong (a .call) i) (pos 0)) (getD (new .offsets) (spansAmong (a .call) i) 0)
         (getD (new .sizes) (spansAmong (a .call) i) 0)
     span-is =
-        subst (λ (z : ℤ). SpanAt g r (spansAmong (a .call) i) z (getD (new .offsets) (spansAmong (a .call) i) 0) (getD (new .sizes) (spansAmong (a .call) i) 0))
+        subst (λ (z : ℤ). SpanAt g r (spansAmong (a .call) i) z (getD (new .offsets) (spansAmong (a .call) i) 0)
+        (getD (new .sizes) (spansAmong (a .call) i) 0))
         (sym address-is)
         (says.span h (span-exactly (v .node) .0 s) counted (sees-visited g (table g) shown ck r all i h) size-is word-is)
 

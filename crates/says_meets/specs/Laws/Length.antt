@@ -30,7 +30,7 @@ use Rattle.build_sights.specs.Laws.ItemLaws.{fill-within, end-within}
 use Rattle.build_sights.specs.Theorems.ItemLaws.{length-is-one}
 use Rattle.build_sights.specs.Items.{Item, endOf, lengthOf}
 use Rattle.says_build.specs.Build as says
-use Rattle.says_build.specs.Build.{Given, banks, nodes, Filled, Size, Offset, Inherited, Ends, Fill, Reaches, Length, Written, Offer}
+use Rattle.says_build.specs.Build.{Given, banks, nodes, Filled, Size, Offset, Inherited, Ends, Fill, Reaches, Length, IsWritten, Offer}
 use Rattle.says_build.specs.Laws.One.{fill-one}
 use Rattle.says_meets.specs.Laws.Shown.{Shown, Tells, listed}
 use Rattle.says_meets.specs.Laws.Table.{table}
@@ -91,7 +91,7 @@ module _ (g : Given) (shown : Shown g (table g)) (ck : Checked (table g) (listed
   one-bank n b = refl
 
   inherited-to : (b : ℕ) → b ≤ banks g → Inherited g b (fillFrom 0 (take b l))
-  inherited-to zero h = subst (Inherited g 0) (sym no-bank) says.none
+  inherited-to zero h = subst (Inherited g 0) (sym no-bank) says.no-bank-yet
   inherited-to (suc b) h =
       let before = fillFrom 0 (take b l) in
       let next : fillFrom 0 (take (suc b) l) ≡ afterBank (getD l b noBank) before = ap (fillFrom 0) (take-suc l b noBank (omega (arith, listed-banks)))
@@ -124,7 +124,8 @@ module _ (g : Given) (shown : Shown g (table g)) (ck : Checked (table g) (listed
     where
       whole : Inherited g (banks g) (fillLength l)
       whole =
-          subst (λ (x : List Bankdef). Inherited g (banks g) (fillFrom 0 x)) (take-all (banks g) l (omega (arith, listed-banks))) (inherited-to (banks g) (omega arith))
+          subst (λ (x : List Bankdef). Inherited g (banks g) (fillFrom 0 x)) (take-all (banks g) l (omega (arith, listed-banks)))
+          (inherited-to (banks g) (omega arith))
 
   module _ (r : ℕ) (all : Goes g (table g) shown ck r (nodes g)) where
     abbrev pub imageBits : ℕ

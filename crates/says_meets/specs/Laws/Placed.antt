@@ -33,7 +33,8 @@ use Rattle.says.specs.Words.{Tries, refused, passed}
 use Rattle.says_build.specs.Build as says
 use Rattle.says_build.specs.Build.{Given, nodes, Outcome, Reads, Offer, Refuses, Spans, Accepts, Built, BuildSays}
 use Rattle.says_meets.specs.Laws.Shown.{Shown, listed}
-use Rattle.says_meets.specs.Laws.Table.{Typed, table}
+use Rattle.says_build.specs.Typed.{Typed}
+use Rattle.says_meets.specs.Laws.Table.{table}
 use Rattle.says_meets.specs.Laws.Checks.{answered}
 use Rattle.says_meets.specs.Laws.Contract.{lentSo, inputOf, outcome, refused-outcome}
 use Rattle.says_meets.specs.Laws.AtNode.{call, rowHere}
@@ -107,7 +108,10 @@ module _ (g : Given) where
         subst (λ (x : DkLayout). Accepts g (lentSo old) row k n bits count (record { answer = x; lent = lentSo new })) (sym told)
         (subst
         (λ (p : ℕ). Accepts g (lentSo old) row k p bits count
-        (record { answer = record { refusal = 0; place = 0; second = 0; passes = given .passes; k = k; length = bits; spans = count; padding = sums }; lent = lentSo new }))
+        (record {
+          answer = record { refusal = 0; place = 0; second = 0; passes = given .passes; k = k; length = bits; spans = count; padding = sums };
+          lent = lentSo new;
+        }))
         passes-of
         (says.accepts (padding-meets g (table g) is ck row (goes-all g typed old r new answer built k settled)) left))
 

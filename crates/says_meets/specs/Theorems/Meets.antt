@@ -10,7 +10,7 @@ use Rattle.output.specs.Output.{input, lent}
 use Rattle.c_tables.specs.Tables.{given, tableOf, choicesBy}
 use Rattle.c_answers.specs.declared.DkLayout.{DkLayout}
 use Rattle.says_build.specs.Build.{Given, Lent, BuildSays}
-use Rattle.says_meets.specs.Laws.Table.{Typed}
+use Rattle.says_build.specs.Typed.{Typed}
 use Rattle.says_meets.specs.Laws.Contract.{inputOf, refused-meets}
 use Rattle.says_meets.specs.Laws.Placed.{settled-meets}
 

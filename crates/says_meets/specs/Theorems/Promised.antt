@@ -19,7 +19,7 @@ use Rattle.c_answers.specs.Told.{layoutTold}
 use Rattle.c_answers.specs.declared.DkLayout.{DkLayout}
 use Rattle.says_build.specs.Build.{Given, Lent, Outcome, BuildSays}
 use Rattle.says_build.specs.Theorems.Decides.{build-decides}
-use Rattle.says_meets.specs.Laws.Table.{Typed}
+use Rattle.says_build.specs.Typed.{Typed}
 use Rattle.says_meets.specs.Laws.Contract.{lentSo, inputOf}
 use Rattle.says_meets.specs.Theorems.Meets.{lentOf, Contract, build-meets}
 
@@ -60,7 +60,8 @@ module _ (g : Given) (typed : Typed g) (old : Lent) where
             (buildOf (inputOf g typed) (roomOf (lentOf old)) .build));
       }
 
-  figures-are : toldBuild (buildOf (inputOf g typed) (roomOf (lentOf old)) .build) ≡ settledTold (inputOf g typed) (roomOf (lentOf old)) (settledOf (inputOf g typed))
+  figures-are : toldBuild (buildOf (inputOf g typed) (roomOf (lentOf old)) .build)
+      ≡ settledTold (inputOf g typed) (roomOf (lentOf old)) (settledOf (inputOf g typed))
   unfolding buildOf
   figures-are = settled-told (inputOf g typed) (roomOf (lentOf old)) (settledOf (inputOf g typed))
 
