@@ -1,2 +1,3 @@
 pub mod One
 pub mod First
+pub mod Largest

@@ -1,3 +1,4 @@
 pub mod Decides
 pub mod Outcomes
+pub mod Image
 pub mod Example
