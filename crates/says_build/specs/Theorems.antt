@@ -1,4 +1,5 @@
 pub mod Decides
 pub mod Outcomes
 pub mod Image
+pub mod Padding
 pub mod Example
