@@ -2,4 +2,5 @@ pub mod Decides
 pub mod Outcomes
 pub mod Image
 pub mod Padding
+pub mod Cases
 pub mod Example
