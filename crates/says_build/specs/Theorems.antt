@@ -3,4 +3,4 @@ pub mod Outcomes
 pub mod Image
 pub mod Padding
 pub mod Cases
-pub mod Example
+pub mod Edges
