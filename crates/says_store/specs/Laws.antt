@@ -1,1 +1,6 @@
 pub mod Firsts
+pub mod Members
+pub mod Puts
+pub mod Held
+pub mod Faults
+pub mod Call

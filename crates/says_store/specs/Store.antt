@@ -21,6 +21,12 @@ pub record Store : Type 0 where
   pub marks : List ℕ
   pub markCount : ℕ
 
+-- Its arrays are of the type `[u64; 512]`, whatever the counts.
+pub record Arrays (s : Store) : Type 0 where
+  pub positions : length (s .positions) ≡ 512
+  pub sizes : length (s .sizes) ≡ 512
+  pub marks : length (s .marks) ≡ 512
+
 -- ---- what a call gives: its answer (number and place of a refusal or zeros, and the two counts), and the three arrays afterwards
 pub record Outcome : Type 0 where
   pub answer : DkOffer

@@ -1,5 +1,5 @@
 -- Where there is no first number that is so, none is.
-use Prim.Native.Nat.{ℕ, zero, suc, _≤_, _<_}
+use Prim.Native.Nat.{ℕ, zero, suc, _<_}
 use mathlib.Core.Logic.{⊎-elim}
 use native.Mathlib.Omega.{arith}
 use Rattle.sort.specs.Laws.Sorted.{le-or-lt}

@@ -1,16 +1,16 @@
 -- The sentences leave one outcome, from the sentences alone.
 use mathlib.Core.Path.{_≡_, refl, sym, ap, ap₂, _∙_}
 use mathlib.Core.List.{List}
-use mathlib.Core.Logic.{_⊎_, inl, inr, ⊎-elim}
+use mathlib.Core.Logic.{_⊎_, ⊎-elim}
 use Prim.Native.Nat.{ℕ, zero, suc, _+_, _-_, _≤_, _<_}
 use native.Mathlib.Omega.{arith}
-use lib.ListN.{length, getD}
+use lib.ListN.{getD}
 use lib.Seq.{ext-getD}
 use Rattle.sort.specs.Laws.Sorted.{le-or-lt}
 use Rattle.overlap_checker.specs.declared.Entry.{Entry}
 use Rattle.says.specs.Words.{OneOnly, Tries, refused, passed, tries-one, First, first-one}
 use Rattle.says_store.specs.Store as w
-use Rattle.says_store.specs.Store.{Store, Outcome, Put, InOrder, start, size, mark, TooMany, BadEntry, BadMark, PastLimits, Clash, Crossed, Names}
+use Rattle.says_store.specs.Store.{Store, Put, InOrder, start, size, TooMany, BadEntry, BadMark, PastLimits, Clash, Names}
 use Rattle.says_store.specs.Store.{refusal, accepted, Answers, OfferSays}
 use Rattle.says_store.specs.Laws.Firsts.{none-so}
 
@@ -53,7 +53,8 @@ module _ (s : Store) (e : Entry) where
         (λ gt. absurd (sound i (w.not-ascending h gt (omega arith))))
         (le-or-lt i j)
 
-    same-entry : {i j : ℕ} → i < s .count → j < s .count → start s i ≡ start s j → refusal s e 12 (start s i) (size s i) ≡ refusal s e 12 (start s j) (size s j)
+    same-entry : {i j : ℕ} → i < s .count → j < s .count → start s i ≡ start s j
+        → refusal s e 12 (start s i) (size s i) ≡ refusal s e 12 (start s j) (size s j)
     same-entry h k same = ap (λ (i : ℕ). refusal s e 12 (start s i) (size s i)) (start-one h k same)
 
     names-one : {y n z m : ℕ} → Names s e y n → Names s e z m → refusal s e 12 y n ≡ refusal s e 12 z m
