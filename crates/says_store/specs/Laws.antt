@@ -4,3 +4,4 @@ pub mod Puts
 pub mod Held
 pub mod Faults
 pub mod Call
+pub mod Turns

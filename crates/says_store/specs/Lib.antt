@@ -1,3 +1,4 @@
 pub mod Store
+pub mod Calls
 pub mod Laws
 pub mod Theorems

@@ -1,2 +1,5 @@
 pub mod Decides
 pub mod Meets
+pub mod Refused
+pub mod Demand3
+pub mod Marks
