@@ -1,11 +1,5 @@
 pub mod Records
 pub mod Write
 pub mod Read
-pub mod One
-pub mod FaultDecides
-pub mod WriteDecides
-pub mod ReadDecides
-pub mod WriteMeets
-pub mod ReadMeets
-pub mod NoGoodFile
-pub mod FaultMeets
+pub mod Laws
+pub mod Theorems

@@ -1,0 +1,5 @@
+pub mod WriteDecides
+pub mod ReadDecides
+pub mod FaultDecides
+pub mod WriteMeets
+pub mod FaultMeets
