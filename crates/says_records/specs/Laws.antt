@@ -6,3 +6,6 @@ pub mod Faults
 pub mod Sits
 pub mod Told
 pub mod Formats
+pub mod WrittenText
+pub mod Cut
+pub mod Places
