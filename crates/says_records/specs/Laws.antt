@@ -9,3 +9,6 @@ pub mod Formats
 pub mod WrittenText
 pub mod Cut
 pub mod Places
+pub mod Front
+pub mod GivenBytes
+pub mod BlocksRead

@@ -3,3 +3,4 @@ pub mod ReadDecides
 pub mod FaultDecides
 pub mod WriteMeets
 pub mod FaultMeets
+pub mod ReadMeets
