@@ -12,3 +12,4 @@ pub mod Places
 pub mod Front
 pub mod GivenBytes
 pub mod BlocksRead
+pub mod OwnFile

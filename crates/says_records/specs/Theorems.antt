@@ -4,3 +4,5 @@ pub mod FaultDecides
 pub mod WriteMeets
 pub mod FaultMeets
 pub mod ReadMeets
+pub mod Checksums
+pub mod Cases

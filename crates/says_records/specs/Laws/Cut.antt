@@ -50,10 +50,12 @@ module _ (g : Given) where
       (subst (λ (a : ℕ). Cut g (at + n) (at + suc m) (cut a (bytesFrom (suc m - n) (at + n)))) start
       (subst (λ (e : ℕ). Cut g (at + n) e (cut (g .load + (at + n)) (bytesFrom (suc m - n) (at + n)))) end next)) in
       subst (λ (x : List Piece). Cut g at (at + suc m) x) (sym (cut-first (g .load + at) l (omega arith)))
-      (w.next {n = n} {p = piece (g .load + at) (take n l)} (omega arith) (omega arith, omega arith, omega arith) (λ m′ a. omega (arith, a .0, a .1, a .2)) refl
+      (w.next {n = n} {p = piece (g .load + at) (take n l)} (omega arith) (omega arith, omega arith, omega arith)
+      (λ m′ a. omega (arith, a .0, a .1, a .2)) refl
       (take-take n (suc m) (drop at (g .image)) le) there)
 
-  pub cuts-meets : (os ss : List ℕ) → length os ≡ length ss → AllParts (length (g .image)) os ss → Cuts g os ss (piecesOf (g .load) (g .image) (blocksIn os ss))
+  pub cuts-meets : (os ss : List ℕ) → length os ≡ length ss → AllParts (length (g .image)) os ss
+      → Cuts g os ss (piecesOf (g .load) (g .image) (blocksIn os ss))
   unfolding blocksIn piecesOf
   cuts-meets [] [] e h = w.none
   cuts-meets [] (s ∷ ss) e h = absurd (omega arith)
@@ -62,5 +64,6 @@ module _ (g : Given) where
       let part = h 0 (omega arith) (omega arith) in
       let inside : o / 8 + s / 8 ≤ length (g .image) = omega (arith, part .inside) in
       let end : o / 8 + s / 8 ≡ (o + s) / 8 = omega (arith, part .starts) in
-      w.block (subst (λ (x : ℕ). Cut g (o / 8) x (cut (g .load + o / 8) (bytesFrom (s / 8) (o / 8)))) end (cut-meets (s / 8) (s / 8) (o / 8) (omega arith) inside))
+      w.block (subst (λ (x : ℕ). Cut g (o / 8) x (cut (g .load + o / 8) (bytesFrom (s / 8) (o / 8)))) end
+      (cut-meets (s / 8) (s / 8) (o / 8) (omega arith) inside))
       (cuts-meets os ss (omega arith) (λ k a b. h (suc k) (omega arith) (omega arith)))

@@ -50,7 +50,7 @@ spelled-above : {t bs : List ℕ} → Spells r.either t bs → Above t
 spelled-above r.none = tt
 spelled-above (r.byte p q e x) = (digit-above p, (digit-above q, spelled-above x))
 
-hex-above : {l b : List ℕ} {t f : ℕ} → Hex r.either l t f b → Above l
+pub hex-above : {l b : List ℕ} {t f : ℕ} → Hex r.either l t f b → Above l
 hex-above x = subst Above (sym (x .colon)) (omega arith, spelled-above (x .spelled))
 
 no-lf : {c : ℕ} → 13 < c → c ≡ 10 → ⊥
@@ -59,7 +59,7 @@ no-lf h e = omega arith
 no-cr : {c d : ℕ} → 13 < c → (c ≡ 13) × (d ≡ 10) → ⊥
 no-cr h e = omega (arith, e .0)
 
-line-ended : (l t : List ℕ) (ls : List (List ℕ)) → Above l → Lines t ls → Lines (l ++ (10 ∷ t)) (l ∷ ls)
+pub line-ended : (l t : List ℕ) (ls : List (List ℕ)) → Above l → Lines t ls → Lines (l ++ (10 ∷ t)) (l ∷ ls)
 line-ended [] t ls a x = r.lf refl x
 line-ended (c ∷ []) t ls a x = r.more (no-lf (a .0)) (no-cr (a .0)) (r.lf refl x)
 line-ended (c ∷ d ∷ l) t ls a x = r.more (no-lf (a .0)) (no-cr (a .0)) (line-ended (d ∷ l) t ls (a .1) x)
@@ -123,7 +123,7 @@ letter-above : {c : ℕ} → IsS r.either c → 13 < c
 letter-above (r.capital e) = omega arith
 letter-above (r.small k e) = omega arith
 
-srec-above : {l b : List ℕ} {kind w a : ℕ} → 13 < kind → Srec r.either l kind w a b → Above l
+pub srec-above : {l b : List ℕ} {kind w a : ℕ} → 13 < kind → Srec r.either l kind w a b → Above l
 srec-above h x = subst Above (sym (x .front)) (letter-above (x .letter), (h, spelled-above (x .spelled)))
 
 data-above : {w : ℕ} → back.Width w → 13 < dataDigit w

@@ -55,7 +55,8 @@ gives-at ps i a b (s.gives {p = q} {k = k} at h e f) =
     record { from = q; among = mem-of ps i q at (omega arith); index = k; inside = h; place = sym e; byte = sym f }
 
 at-gives : (ps : List Piece) (a b : ℕ) → GivesAt (solid ps) a b → GivenTo ps a
-at-gives ps a b g = let k = of-mem ps (g .from) (g .among) in (k .0, b, s.gives {p = g .from} {k = g .index} (k .1) (g .inside) (sym (g .place)) (sym (g .byte)))
+at-gives ps a b g = let k = of-mem ps (g .from) (g .among) in
+    (k .0, b, s.gives {p = g .from} {k = g .index} (k .1) (g .inside) (sym (g .place)) (sym (g .byte)))
 
 pub given-to : (ps : List Piece) (a : ℕ) → given (solid ps) a ≡ true → GivenTo ps a
 given-to ps a e = let g = given-gives (solid ps) a e in at-gives ps a (g .0) (g .1)

@@ -59,7 +59,8 @@ module _ (g : Given) where
 
   abbrev Misplaced : List ℕ → List ℕ → ℕ → Type 0
   Misplaced os ss k = (k < length os) × (k < length ss) × (
-      ((suc k < length os) × (suc k < length ss) × (getD os (suc k) 0 < getD os k 0 + getD ss k 0)) ⊎ (4294967296 < g .load + getD os k 0 / 8 + getD ss k 0 / 8)
+      ((suc k < length os) × (suc k < length ss) × (getD os (suc k) 0 < getD os k 0 + getD ss k 0))
+      ⊎ (4294967296 < g .load + getD os k 0 / 8 + getD ss k 0 / 8)
       )
 
   misplaced-at : (os ss : List ℕ) → length os ≡ length ss → allPlaced (g .load) (blocksIn os ss) ≡ false → (k : ℕ) × Misplaced os ss k

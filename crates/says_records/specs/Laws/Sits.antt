@@ -73,7 +73,8 @@ module _ (load : ℕ) where
         (getD (p .bytes) (q .address - p .address) 0),
         head-gives p ps (q .address) le gt,
       )))
-      (λ less. absurd (c .1 (p .address) (omega arith) lt (0, (getD (p .bytes) (p .address - p .address) 0), head-gives p ps (p .address) (omega arith) (omega arith))))
+      (λ less. absurd (c .1 (p .address) (omega arith) lt
+      (0, (getD (p .bytes) (p .address - p .address) 0), head-gives p ps (p .address) (omega arith) (omega arith))))
       (le-or-lt (p .address) (q .address)))
       (le-or-lt (endOf p) (q .address)))
       (le-or-lt (endOf q) (p .address))

@@ -31,7 +31,8 @@ total-is [] = refl
 total-is (b ∷ l) = ap (λ (n : ℕ). b + n) (total-is l)
 
 -- ---- lines
-module _ (c d : ℕ) (t : List ℕ) (ls : List (List ℕ)) (first : ls ≡ firstLine (d ∷ t) ∷ linesOf (Rattle.records.specs.Lines.behind (d ∷ t))) (later : Lines (d ∷ t) ls) where
+module _ (c d : ℕ) (t : List ℕ) (ls : List (List ℕ)) (first : ls ≡ firstLine (d ∷ t) ∷ linesOf (Rattle.records.specs.Lines.behind (d ∷ t)))
+    (later : Lines (d ∷ t) ls) where
   goes-on : isLf c ≡ false → ((c ≡ 13) × (d ≡ 10) → ⊥) → Lines (c ∷ d ∷ t) (inFront c ls)
   goes-on e n = rw first (r.more (eqb-false c 10 e) n (rw first at later))
 
@@ -102,7 +103,8 @@ pairs-of (r.byte p q e s) (suc j) h =
     let b : 2 * suc j + 1 ≡ suc (suc (2 * j + 1)) = omega arith in
     rw (b, a) (pairs-of s j (omega arith))
 
-pub spelled-by : (n : ℕ) (t : List ℕ) (f : ℕ → ℕ) → allDigits t ≡ true → length t ≡ 2 * n → ((j : ℕ) → j < n → f j ≡ pairAt t (2 * j)) → Spells r.either t (listOf n f)
+pub spelled-by : (n : ℕ) (t : List ℕ) (f : ℕ → ℕ) → allDigits t ≡ true → length t ≡ 2 * n → ((j : ℕ) → j < n → f j ≡ pairAt t (2 * j))
+    → Spells r.either t (listOf n f)
 unfolding allDigits listOf
 spelled-by zero [] f e h same = r.none
 spelled-by zero (c ∷ t) f e h same = absurd (omega arith)

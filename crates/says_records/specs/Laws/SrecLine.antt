@@ -178,7 +178,8 @@ module _ {line b : List ℕ} {kind w a : ℕ} (x : Srec r.either line kind w a b
       let digits : allDigits (drop 2 line) ≡ true = ap (λ (l : List ℕ). allDigits (drop 2 l)) (x .front) ∙ digits-of (x .spelled) in
       let joined : body ++ x .check ∷ [] ≡ bs = append-assoc (x .count ∷ x .field) b (x .check ∷ []) in
       let sum : sumOf (bytesAt line 2 (countOf line + 1)) % 256 ≡ 255 =
-      ap (λ (l : List ℕ). sumOf l % 256) (whole-back ∙ sym joined) ∙ ap (λ (k : ℕ). k % 256) (sym (total-is (body ++ x .check ∷ [])) ∙ total-last body (x .check))
+      ap (λ (l : List ℕ). sumOf l % 256) (whole-back ∙ sym joined)
+      ∙ ap (λ (k : ℕ). k % 256) (sym (total-is (body ++ x .check ∷ [])) ∙ total-last body (x .check))
       ∙ ap (λ (k : ℕ). (total body + k) % 256) (x .sum) ∙ sums-up (total body) in
       rw (
         le-leb 4 (length line) (omega arith),
@@ -230,7 +231,8 @@ unfolding srecItem typed
 item-data back.two st x own fit = rw (srec-sound x, kind-back x) (data-line x st own fit)
 item-data back.four st x own fit = rw (srec-sound x, kind-back x) (data-line x st own fit)
 
-pub item-end : {w : ℕ} → back.Width w → (st : ℕ) {line : List ℕ} {a : ℕ} → Srec r.either line (endDigit w) w a [] → agrees st w ≡ true → srecItem st line ≡ ends
+pub item-end : {w : ℕ} → back.Width w → (st : ℕ) {line : List ℕ} {a : ℕ} → Srec r.either line (endDigit w) w a [] → agrees st w ≡ true
+    → srecItem st line ≡ ends
 unfolding srecItem typed
 item-end back.two st x own = rw (srec-sound x, kind-back x) (end-line x st own refl)
 item-end back.four st x own = rw (srec-sound x, kind-back x) (end-line x st own refl)

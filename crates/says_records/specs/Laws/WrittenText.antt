@@ -36,7 +36,8 @@ module _ (p : Piece) (from : ℕ) (s : Sits 4294967296 from p) where
   half-low = let b = s .below in let some = s .some in omega arith
 
   piece-text : (state : ℕ) (ls : List (List ℕ)) (l : List Piece) → HexText half l (ended ls) → (t : Bool) → eqb half state ≡ t → HexText state (p ∷ l)
-      (ended (pick t (lineOf 0 (p .address % 65536) (p .bytes) ∷ ls) (lineOf 4 0 (half / 256 ∷ half % 256 ∷ []) ∷ lineOf 0 (p .address % 65536) (p .bytes) ∷ ls)))
+      (ended (pick t (lineOf 0 (p .address % 65536) (p .bytes) ∷ ls)
+      (lineOf 4 0 (half / 256 ∷ half % 256 ∷ []) ∷ lineOf 0 (p .address % 65536) (p .bytes) ∷ ls)))
   unfolding ended
   piece-text state ls l x true e =
       let same : half ≡ state = eqb-true half state e in
@@ -60,7 +61,8 @@ some-address : {w : ℕ} → back.Width w → 0 < 256 ^ w
 some-address back.two = omega arith
 some-address back.four = omega arith
 
-pub srec-text-meets : {w : ℕ} → back.Width w → (from : ℕ) (l : List Piece) → Rises (256 ^ w) from l → SrecText (dataDigit w) (endDigit w) w l (ended (srecLines w l))
+pub srec-text-meets : {w : ℕ} → back.Width w → (from : ℕ) (l : List Piece) → Rises (256 ^ w) from l
+    → SrecText (dataDigit w) (endDigit w) w l (ended (srecLines w l))
 unfolding srecLines ended
 srec-text-meets {w} v from [] rise = say.end (srec-written v (endDigit w) 0 [] bytes-none (omega (arith, width-few v)) (some-address v))
 srec-text-meets {w} v from (p ∷ l) rise =

@@ -32,7 +32,8 @@ module _ (format load : ℕ) (text : List ℕ) where
   -- "some good file goes on before it"
   goes-before : (i : ℕ) → readText format load text ≡ faulty i → GoesOn format load text i
   goes-before i e =
-      let m = fault-told (formatBy format) load (Comes format) (closing format) (given-on format) (passed-on format) (linesOf text) 0 i [] (comes-first format) e in
+      let m = fault-told (formatBy format) load (Comes format) (closing format) (given-on format) (passed-on format) (linesOf text) 0 i []
+      (comes-first format) e in
       let lines = lines-ended (m .0) (all-above format (m .2)) in
       s.goes-on (good-of format load lines (m .2) (m .3)) (lines-meet text) lines (m .4)
 

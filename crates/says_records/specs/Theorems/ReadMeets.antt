@@ -93,7 +93,8 @@ module _ (format load : ℕ) (text : List ℕ) (old : Lent) where
 
     tried : (a b : Bool) → bytesFit load out before ≡ a → blocksFit load out before ≡ b
         → Tries (λ (x : ℕ). GivenTo ps x × (length (old .bytes) ≤ x - load)) (λ _. refusal format load text old 14 0)
-        (Tries (λ (_ : Unit {0}). (length (old .offsets) < length (origins made)) ⊎ (length (old .sizes) < length (origins made))) (λ _. refusal format load text old 14 2)
+        (Tries (λ (_ : Unit {0}). (length (old .offsets) < length (origins made)) ⊎ (length (old .sizes) < length (origins made)))
+        (λ _. refusal format load text old 14 2)
         (Accepts format load text old ps (origins made) (sizes made)))
         (record {
           answer = blocksCount (pick a (pick b (Found (length made)) (Refused (TooShort 2))) (Refused (TooShort 0)));
@@ -144,7 +145,9 @@ module _ (format load : ℕ) (text : List ℕ) (old : Lent) where
       → ReadTold load (readText format load text) (lent (old .bytes) (old .offsets) (old .sizes)) r (lent (new .bytes) (new .offsets) (new .sizes))
       → ReadSays format load text old (record { answer = r; lent = new })
   read-meets r new c =
-      let same : new ≡ outcome (readText format load text) .lent = ap (λ (l : fill.Lent). record { bytes = l .bytes; offsets = l .offsets; sizes = l .sizes }) (c .left) in
+      let same : new ≡ outcome (readText format load text) .lent = ap
+      (λ (l : fill.Lent). record { bytes = l .bytes; offsets = l .offsets; sizes = l .sizes }) (c .left) in
       subst (λ (y : DkCount). ReadSays format load text old (record { answer = y; lent = new })) (sym (c .answer))
-      (subst (λ (y : Lent). ReadSays format load text old (record { answer = blocksCount (answerOf load before (readText format load text)); lent = y })) (sym same)
+      (subst (λ (y : Lent). ReadSays format load text old
+      (record { answer = blocksCount (answerOf load before (readText format load text)); lent = y })) (sym same)
       (read-says (readText format load text) refl))
