@@ -13,3 +13,5 @@ pub mod Front
 pub mod GivenBytes
 pub mod BlocksRead
 pub mod OwnFile
+pub mod Has
+pub mod CutBytes

@@ -6,3 +6,4 @@ pub mod FaultMeets
 pub mod ReadMeets
 pub mod Checksums
 pub mod Cases
+pub mod SameReading
