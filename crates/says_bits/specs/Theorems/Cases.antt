@@ -1,11 +1,10 @@
 -- Document 01's case of hex, over the sentences: "ten ones in hex: `ffc`".
-use mathlib.Core.Path.{_≡_, refl, sym, ap, _∙_}
+use mathlib.Core.Path.{_≡_, refl, _∙_}
 use mathlib.Core.List.{List}
 use Prim.Native.Nat.{ℕ, _+_, _*_, _≤_, _<_}
 use native.Mathlib.Omega.{arith}
 use lib.ListN.{length, getD}
 use Rattle.bitvec.specs.Bits.{bitAt}
-use Rattle.c_answers.specs.declared.DkCount.{DkCount}
 use Rattle.says.specs.Words.{refused, passed}
 use Rattle.says_bits.specs.Hex as says
 use Rattle.says_bits.specs.Hex.{Outcome, Digit, Bit, Prints, HexSays}

@@ -1,5 +1,5 @@
 -- `dk_hex`: by its contract it says the sentences (`hex-meets`), and they leave one outcome (`hex-decides`).
-use mathlib.Core.Path.{_≡_, refl, sym, ap, subst, _∙_}
+use mathlib.Core.Path.{_≡_, refl, ap, subst, _∙_}
 use mathlib.Core.Bool.{Bool, true, false, _&&_}
 use mathlib.Core.List.{List, _++_}
 use mathlib.Core.Logic.{⊎-elim}
@@ -12,7 +12,6 @@ use lib.Seq.{ext-getD}
 use Rattle.refusal.specs.Laws.Bools.{either}
 use Rattle.refusal.specs.Pick.{pick}
 use Rattle.refusal.specs.declared.Refusal.the-variants.{Malformed, TooShort}
-use Rattle.bitvec.specs.Bits.{bitAt}
 use Rattle.bitvec.specs.HexDigits.{digitOf, paddedBit, digitValue, digitCount, hexOf}
 use Rattle.bitvec.specs.Theorems.HexDigits.{paddedBit-own, paddedBit-past, length-hexOf, hexOf-digit, digitValue-lt, hex-kept}
 use Rattle.bitvec.specs.Numeral.{numeral}
@@ -22,9 +21,9 @@ use Rattle.denkumari.specs.Parts.{HexTold}
 use Rattle.c_answers.specs.Counts.{hexCount}
 use Rattle.c_answers.specs.declared.DkCount.{DkCount}
 use Rattle.sort.specs.Laws.Sorted.{le-or-lt}
-use Rattle.says.specs.Words.{OneOnly, Tries, refused, passed, tries-one, Begins, begins-one}
+use Rattle.says.specs.Words.{OneOnly, refused, passed, tries-one, Begins, begins-one}
 use Rattle.says_bits.specs.Hex as says
-use Rattle.says_bits.specs.Hex.{Outcome, Digit, Bit, Prints, Text, Accepts, Printed, HexSays}
+use Rattle.says_bits.specs.Hex.{Digit, Bit, Prints, Text, Accepts, Printed, HexSays}
 
 -- ---- they leave one outcome
 

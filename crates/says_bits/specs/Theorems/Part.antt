@@ -1,28 +1,24 @@
 -- `dk_part`, `bitvec::part` and `bitvec::part_verdict`: by their contracts they say the sentences (`part-meets`, `bytes-meet`, `verdict-meets`), which
 -- leave one outcome (`part-decides`, `bytes-decide`, `verdict-decides`). What `dk_part` tells is where `bitvec::part`'s bytes stand (`part-is-there`).
-use mathlib.Core.Path.{_≡_, refl, sym, ap, subst, _∙_}
+use mathlib.Core.Path.{_≡_, refl, sym, ap, _∙_}
 use mathlib.Core.Bool.{Bool, true, false}
 use mathlib.Core.List.{List, []}
-use Prim.Native.Nat.{ℕ, _+_, _*_, _/_, _%_, _≤_, _<_}
+use Prim.Native.Nat.{ℕ, _+_, _/_, _%_, _<_}
 use native.Mathlib.Omega.{arith}
 use borrow.Author.Tests.{eqb-true, eqb-false}
 use lib.Dec.{eqb}
 use lib.ListN.{length, getD}
 use lib.Seq.{ext-getD}
 use Rattle.refusal.specs.Laws.Bools.{either}
-use Rattle.refusal.specs.Pick.{pick}
 use Rattle.refusal.specs.Told.{gives, refuses, nothing, toldVerdict}
 use Rattle.refusal.specs.declared.Place.the-variants.{One}
-use Rattle.refusal.specs.declared.Refusal.the-variants.{BadPart}
 use Rattle.refusal.specs.declared.Verdict.{Verdict}
-use Rattle.refusal.specs.declared.Verdict.the-variants.{Accepted, Refused}
 use Rattle.bitvec.specs.Part as part
 use Rattle.bitvec.specs.Part.{isPart, IsPart, Parts, Judges}
 use Rattle.bitvec.specs.Theorems.Part.{isPart-true, sixteen-exactly, part-none, part-length, part-byte}
 use Rattle.denkumari.specs.Parts.{PartTold}
-use Rattle.c_answers.specs.Parts.{partBy}
 use Rattle.c_answers.specs.declared.DkPart.{DkPart}
-use Rattle.says.specs.Words.{OneOnly, Tries, refused, passed, tries-one, is, is-one}
+use Rattle.says.specs.Words.{OneOnly, refused, passed, tries-one, is, is-one}
 use Rattle.says_bits.specs.Part as says
 use Rattle.says_bits.specs.Part.{Unfit, Located, PartSays, Own, BytesSay, VerdictSays}
 

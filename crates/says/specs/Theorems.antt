@@ -1,0 +1,3 @@
+pub mod Banks
+pub mod Ordered
+pub mod Blocks
