@@ -1,0 +1,4 @@
+pub mod Distance
+pub mod Step
+pub mod Lists
+pub mod Cases
