@@ -1,0 +1,4 @@
+pub mod Profile
+pub mod Paged
+pub mod Laws
+pub mod Theorems
