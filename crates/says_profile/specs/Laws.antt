@@ -1,1 +1,5 @@
 pub mod Tried
+pub mod Sound
+pub mod Ruled
+pub mod Verdicts
+pub mod Paging

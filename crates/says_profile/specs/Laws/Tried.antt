@@ -1,7 +1,10 @@
 -- Refusals 1 to 4, and the rules, as tries one after another: that they leave one outcome where what comes then does, what stands behind a passed try, and
 -- the same tries told as another outcome.
 use mathlib.Core.Path.{_≡_, refl, sym, ap, subst}
-use Prim.Native.Nat.{ℕ, _<_}
+use mathlib.Core.Logic.{⊎-elim}
+use Prim.Native.Nat.{ℕ, zero, suc, _<_}
+use native.Mathlib.Omega.{arith}
+use Rattle.sort.specs.Laws.Sorted.{le-or-lt}
 use Rattle.says.specs.Words.{OneOnly, Tries, refused, passed, First, first-one, FirstPair, first-pair-one}
 use Rattle.says_build.specs.Build.{Given, Not, banks, NoBanks, BadBank, Overlap, nodes, BadField, BadNode}
 use Rattle.says_profile.specs.Profile.{OneBit, FirstBank, FirstNode, Checks, BadLabel, BadAlign, BadOffset, BadSize, BadUnit, BadAddr, Rules}
@@ -20,6 +23,16 @@ lowest-then : {Y : Type 0} (So : ℕ → Type 0) (refusal : ℕ → Y) (Then : Y
     → OneOnly (Tries (First So) refusal Then)
 lowest-then So refusal Then rest = tries-then (First So) refusal Then (λ i j f h. ap refusal (first-one So i j f h)) rest
 
+-- Where no number is the lowest that is so, none is so.
+module _ (So : ℕ → Type 0) (none : (i : ℕ) → First So i → ⊥) where
+  none-to : (n i : ℕ) → i < n → So i → ⊥
+  none-to zero i h s = omega arith
+  none-to (suc n) i h s =
+      none i (record { so = s; none-below = λ k x. ⊎-elim (λ le. le) (λ lt. absurd (none-to n k (omega arith) x)) (le-or-lt i k) })
+
+  pub none-so : (i : ℕ) → So i → ⊥
+  none-so i s = none-to (suc i) i (omega arith) s
+
 -- Tries told as another outcome: what was met is met.
 pub tries-map : {X Y Z : Type 0} {Met : X → Type 0} {old : X → Y} {new : X → Z} {Then : Y → Type 0} {After : Z → Type 0} (f : Y → Z)
     → ((x : X) → f (old x) ≡ new x) → (y : Y) → (((x : X) → Met x → ⊥) → Then y → After (f y)) → Tries Met old Then y → Tries Met new After (f y)
@@ -32,6 +45,11 @@ pub tries-all : {X Y : Type 0} {Met : X → Type 0} {refusal : X → Y} {Then : 
 tries-all So each y then (refused x m) = each x
 tries-all So each y then (passed none t) = then t
 
+-- Where nothing meets the refusal, what comes then is so.
+went : {X Y : Type 0} {Met : X → Type 0} {refusal : X → Y} {Then : Y → Type 0} → ((x : X) → Met x → ⊥) → (y : Y) → Tries Met refusal Then y → Then y
+went none y (refused x m) = absurd (none x m)
+went none y (passed never t) = t
+
 module _ (g : Given) where
   -- ---- none of 1 to 4 is met
   pub record Clear : Type 0 where
@@ -43,6 +61,10 @@ module _ (g : Given) where
 
   pub through : {Y : Type 0} (refusal : (number place second : ℕ) → Y) {Then : Y → Type 0} {y : Y} → Clear → Then y → Checks g refusal Then y
   through refusal c t = passed (c .counted) (passed (c .banked) (passed (c .apart) (passed (c .fielded) (passed (c .noded) t))))
+
+  pub cleared : {Y : Type 0} (refusal : (number place second : ℕ) → Y) {Then : Y → Type 0} {y : Y} → Clear → Checks g refusal Then y → Then y
+  cleared refusal {y = y} c t =
+      went (c .noded) y (went (c .fielded) y (went (c .apart) y (went (c .banked) y (went (c .counted) y t))))
 
   module _ {Y : Type 0} (refusal : (number place second : ℕ) → Y) (Then : Y → Type 0) where
     pub checks-one : (Clear → OneOnly Then) → OneOnly (Checks g refusal Then)

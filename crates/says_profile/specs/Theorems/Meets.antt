@@ -1,0 +1,110 @@
+-- `dk_profile` by its contract says what the sentences say. Of `dk_build_paged`: refusals 1 to 4 and 19 are the sentences', before the first pass; after a yes
+-- its contract is that of `dk_build`, so what is shown of that build is shown of this one.
+use mathlib.Core.Path.{_≡_, refl, sym, ap, subst, _∙_}
+use mathlib.Core.List.{[]}
+use Prim.Native.Nat.{ℕ}
+use lib.ListN.{replicate}
+use Rattle.refusal.specs.declared.Verdict.{Verdict}
+use Rattle.refusal.specs.declared.Verdict.the-variants.{Accepted, Refused}
+use Rattle.form_build.specs.Paged.{afterSaid}
+use Rattle.output.proofs.SettledLaws.{contract}
+use Rattle.output.specs.Output as out
+use Rattle.output.specs.Output.{Input, roomOf, buildOf}
+use Rattle.resolver.specs.Layout.{layoutOf}
+use Rattle.build_profile.specs.Pages.{pagesOf}
+use Rattle.build_profile.specs.Profile.{verdictOf, pagedBy}
+use Rattle.build_paged.specs.InProfile.{leaves, saidOf}
+use Rattle.c_answers.specs.Told.{profileTold, layoutTold}
+use Rattle.c_answers.specs.declared.DkLayout.{DkLayout}
+use Rattle.c_answers.specs.declared.DkProfile.{DkProfile}
+use Rattle.denkumari.specs.Profiles.{ProfileSaid, PagedTold}
+use Rattle.denkumari.specs.Tables.{TablesTold}
+use Rattle.says_build.specs.Build.{Given, Lent, Outcome, Laid, BuildSays, refusal}
+use Rattle.says_meets.specs.Laws.Contract.{lentSo, inputOf}
+use Rattle.says_meets.specs.Laws.Shown.{listed}
+use Rattle.says_meets.specs.Table.{Typed}
+use Rattle.says_meets.specs.Laws.Table.{table}
+use Rattle.says_profile.specs.Profile.{Yes, ProfileSays, refused}
+use Rattle.says_profile.specs.Paged.{PagedSays}
+use Rattle.says_profile.specs.Laws.Paging.{says-yes}
+use Rattle.says_profile.specs.Laws.Sound.{clear}
+use Rattle.says_profile.specs.Laws.Tried.{cleared}
+use Rattle.says_profile.specs.Laws.Verdicts.{toldAs, verdict-says}
+
+-- an answer of the profile by what a build would tell: its refusal and place
+abbrev profiled : Outcome → DkProfile
+profiled y = record { refusal = y .answer .refusal; place = y .answer .place; second = y .answer .second; pages = replicate 16 0 }
+
+abbrev nothing : Lent
+nothing = record { image = []; addresses = []; offsets = []; sizes = [] }
+
+module _ (g : Given) (typed : Typed g) (page : ℕ) where
+  abbrev answers : Verdict → DkProfile
+  answers = toldAs g nothing typed (refused g page) profiled (λ number place second. refl)
+      (record { refusal = 0; place = 0; second = 0; pages = pagesOf page (table g) })
+
+  as-told : (v : Verdict) → answers v ≡ profileTold (pagedBy v page (table g))
+  as-told Accepted = refl
+  as-told (Refused why) = refl
+
+  -- What the contract of `dk_profile` says of an answer, the sentences say.
+  pub profile-meets : (r : DkProfile) → ProfileSaid (table g) (listed g) (g .fill) page r → ProfileSays g page r
+  profile-meets r s =
+      subst (ProfileSays g page) (as-told (verdictOf (table g) (listed g) (g .fill) page) ∙ sym (s .answer))
+      (verdict-says g nothing typed (refused g page) profiled (λ number place second. refl)
+      (record { refusal = 0; place = 0; second = 0; pages = pagesOf page (table g) }) page (Yes g page) (λ c k. says-yes g typed page c k))
+
+-- ---- a build in the profile
+
+module _ (g : Given) (typed : Typed g) (page : ℕ) (old : out.Lent) where
+  abbrev b : Input
+  b = inputOf g typed
+
+  -- an outcome of the call
+  abbrev pub outcomeOf : DkLayout → out.Lent → Outcome
+  outcomeOf r new = record { answer = r; lent = lentSo new }
+
+  -- the ordinary build's
+  abbrev ordinary : Outcome
+  ordinary = outcomeOf (layoutTold (buildOf b (roomOf old))) (leaves b old (buildOf b (roomOf old)))
+
+  abbrev turned : (number place second : ℕ) → Outcome
+  turned number place second = refusal g (lentSo old) number place second 0
+
+  abbrev comesTo : Verdict → Outcome
+  comesTo = toldAs g (lentSo old) typed turned (λ y. y) (λ number place second. refl) ordinary
+
+  as-built : (v : Verdict) → comesTo v ≡ outcomeOf (layoutTold (afterSaid v (buildOf b (roomOf old)))) (leaves b old (afterSaid v (buildOf b (roomOf old))))
+  as-built Accepted = refl
+  as-built (Refused why) = refl
+
+  comes-to : (r : DkLayout) (new : out.Lent) → PagedTold page b old r new → outcomeOf r new ≡ comesTo (saidOf page b)
+  comes-to r new t =
+      ap (λ (x : DkLayout). outcomeOf x new) (t .answer)
+      ∙ ap (λ (x : out.Lent). outcomeOf (layoutTold (afterSaid (saidOf page b) (buildOf b (roomOf old)))) x) (t .built .left)
+      ∙ sym (as-built (saidOf page b))
+
+  -- the contract of `dk_build` holds of what the definitions say
+  by-definition : TablesTold b old (layoutTold (buildOf b (roomOf old))) (leaves b old (buildOf b (roomOf old)))
+  unfolding buildOf
+  by-definition = record {
+    answer = refl;
+    built = contract b (layoutOf (b .banks) (b .lists) (b .choices)) refl old (leaves b old (buildOf b (roomOf old))) (buildOf b (roomOf old)) refl refl;
+  }
+
+  -- "A build in the profile is the ordinary build after a yes": the contract of `dk_build_paged` is then that of `dk_build`.
+  pub paged-is-build : (r : DkLayout) (new : out.Lent) → PagedTold page b old r new → saidOf page b ≡ Accepted → TablesTold b old r new
+  paged-is-build r new t e =
+      let answer : r ≡ layoutTold (buildOf b (roomOf old)) = t .answer ∙ ap (λ (v : Verdict). layoutTold (afterSaid v (buildOf b (roomOf old)))) e in
+      let left : new ≡ leaves b old (buildOf b (roomOf old)) = t .built .left ∙ ap (λ (v : Verdict). leaves b old (afterSaid v (buildOf b (roomOf old)))) e in
+      rw (answer, left) by-definition
+
+  -- Where what the contract of `dk_build` says of an outcome is said by its sentences, what the contract of `dk_build_paged` says is said by its own: refusals
+  -- 1 to 4 and 19 without that.
+  pub paged-meets-by : (build-meets : (r : DkLayout) (new : out.Lent) → TablesTold b old r new → BuildSays g (lentSo old) (outcomeOf r new))
+      → (r : DkLayout) (new : out.Lent) → PagedTold page b old r new → PagedSays g page (lentSo old) (outcomeOf r new)
+  paged-meets-by build-meets r new t =
+      subst (PagedSays g page (lentSo old)) (sym (comes-to r new t))
+      (verdict-says g (lentSo old) typed turned (λ y. y) (λ number place second. refl) ordinary page (Laid g (lentSo old))
+      (λ c k. cleared g turned (clear g typed c)
+      (build-meets (layoutTold (buildOf b (roomOf old))) (leaves b old (buildOf b (roomOf old))) by-definition)))
