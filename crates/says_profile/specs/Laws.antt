@@ -3,3 +3,5 @@ pub mod Sound
 pub mod Ruled
 pub mod Verdicts
 pub mod Paging
+pub mod Ways
+pub mod Answers

@@ -1,4 +1,5 @@
 pub mod Profile
 pub mod Paged
+pub mod Ticket9
 pub mod Laws
 pub mod Theorems

@@ -1,2 +1,3 @@
 pub mod Decides
 pub mod Meets
+pub mod Ticket9

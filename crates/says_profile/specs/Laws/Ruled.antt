@@ -69,7 +69,7 @@ either-false : (a b : Bool) → (a || b) ≡ false → (a ≡ false) × (b ≡ f
 either-false true b e = (e, cc)
 either-false false b e = (refl, e)
 
-not-one : (n : ℕ) → oneBit n ≡ false → OneBit n → ⊥
+pub not-one : (n : ℕ) → oneBit n ≡ false → OneBit n → ⊥
 not-one n e h = clash (one-bit-power n .1 h) e
 
 aligned-false : (a : ℕ) → aligned a ≡ false → (0 < a) × (OneBit a → ⊥)
@@ -82,13 +82,13 @@ aligned-true a e h =
     let some : eqb a 0 ≡ false = ne-eqb a 0 (λ z. omega arith) in
     one-bit-power a .0 (let f : false || oneBit a ≡ true = rw some at e in f)
 
-whole-when : (m x : ℕ) → multiple x m ≡ true → Whole m x
+pub whole-when : (m x : ℕ) → multiple x m ≡ true → Whole m x
 whole-when m x e = (x / m, let q = div-add-mod' x m in omega (arith, q, eqb-true (x % m) 0 e))
 
 whole-only : (m x : ℕ) → Whole m x → multiple x m ≡ true
 whole-only m x w = eq-eqb (x % m) 0 (ap (λ (y : ℕ). y % m) (w .1) ∙ mul-mod-left (w .0) m)
 
-not-whole : (m x : ℕ) → multiple x m ≡ false → Whole m x → ⊥
+pub not-whole : (m x : ℕ) → multiple x m ≡ false → Whole m x → ⊥
 not-whole m x e w = clash (whole-only m x w) e
 
 -- ---- banks
@@ -204,19 +204,19 @@ module _ (g : Given) where
         let same : numberIn (listed g) r i ≡ n = number-one g (number-is g (table g) r i h) num in
         off (subst OneBit same (aligned-true (numberIn (listed g) r i) (rows-good i 8 aligned e k r rn) (omega arith)))
 
+  -- a node stands in a bank of the table
+  pub in-table : ((i : ℕ) → i < nodes g → BadNode g i → ⊥) → 0 < banks g → {i b : ℕ} → In g i b → i < nodes g → b < banks g
+  in-table fine some (says.switched {i} k) h =
+      ⊎-elim (λ past. absurd (fine i h (says.no-bank k past))) (λ lt. lt) (le-or-lt (banks g) (operand g i))
+  in-table fine some (says.first k) h = some
+  in-table fine some (says.same k x) h = in-table fine some x (omega arith)
+
   module _ (typed : Typed g) (c : Checked (table g) (listed g) (g .fill)) where
     abbrev is : Shown g (table g)
     is = shown g typed (c .table)
 
     some-bank : 0 < banks g
     some-bank = omega (arith, is .count, accepted (table g) (c .table) .least)
-
-    -- a node stands in a bank of the table
-    in-table : {i b : ℕ} → In g i b → i < nodes g → b < banks g
-    in-table (says.switched {i} k) h =
-        ⊎-elim (λ past. absurd (no-node-bad g typed c i h (says.no-bank k past))) (λ lt. lt) (le-or-lt (banks g) (operand g i))
-    in-table (says.first k) h = some-bank
-    in-table (says.same k x) h = in-table x (omega arith)
 
     module _ (i : ℕ) (h : i < nodes g) where
       abbrev here : ℕ
@@ -226,7 +226,7 @@ module _ (g : Given) where
       unitHere = bankRecord (table g) here .unit
 
       unit-here : unitHere ≡ unit g here
-      unit-here = is .tells here (omega (arith, in-table (in-force i) h, is .count)) .of-unit
+      unit-here = is .tells here (omega (arith, in-table (no-node-bad g typed c) some-bank (in-force i) h, is .count)) .of-unit
 
       addr-bad : addrsKept (table g) (listed g) i ≡ false → BadAddr g i
       addr-bad e =

@@ -1,8 +1,8 @@
 -- Refusals 1 to 4, and the rules, as tries one after another: that they leave one outcome where what comes then does, what stands behind a passed try, and
 -- the same tries told as another outcome.
 use mathlib.Core.Path.{_≡_, refl, sym, ap, subst}
-use mathlib.Core.Logic.{⊎-elim}
-use Prim.Native.Nat.{ℕ, zero, suc, _<_}
+use mathlib.Core.Logic.{inl, inr, ⊎-elim}
+use Prim.Native.Nat.{ℕ, zero, suc, _≤_, _<_}
 use native.Mathlib.Omega.{arith}
 use Rattle.sort.specs.Laws.Sorted.{le-or-lt}
 use Rattle.says.specs.Words.{OneOnly, Tries, refused, passed, First, first-one, FirstPair, first-pair-one}
@@ -32,6 +32,29 @@ module _ (So : ℕ → Type 0) (none : (i : ℕ) → First So i → ⊥) where
 
   pub none-so : (i : ℕ) → So i → ⊥
   none-so i s = none-to (suc i) i (omega arith) s
+
+-- Where no pair is the first that is so, none is so.
+module _ (So : ℕ → ℕ → Type 0) (none : (i j : ℕ) → FirstPair So i j → ⊥) where
+  pair-to : (n i : ℕ) → ((c d : ℕ) → c < i → So c d → ⊥) → (j : ℕ) → j < n → So i j → ⊥
+  pair-to zero i before j h s = omega arith
+  pair-to (suc n) i before j h s =
+      let here : (c d : ℕ) → c ≡ i → So c d → j ≤ d =
+      λ c d e x. ⊎-elim (λ le. le) (λ lt. absurd (pair-to n i before d (omega arith) (rw e at x))) (le-or-lt j d) in
+      none i j (record {
+        so = s;
+        none-before = λ c d x.
+            ⊎-elim
+            (λ le. ⊎-elim (λ ge. inr (omega arith, here c d (omega arith) x)) (λ lt. inl lt) (le-or-lt c i))
+            (λ lt. absurd (before c d lt x))
+            (le-or-lt i c);
+      })
+
+  pairs-to : (n i : ℕ) → i < n → (j : ℕ) → So i j → ⊥
+  pairs-to zero i h j s = omega arith
+  pairs-to (suc n) i h j s = pair-to (suc j) i (λ c d lt x. pairs-to n c (omega arith) d x) j (omega arith) s
+
+  pub none-pair : (i j : ℕ) → So i j → ⊥
+  none-pair i j s = pairs-to (suc i) i (omega arith) j s
 
 -- Tries told as another outcome: what was met is met.
 pub tries-map : {X Y Z : Type 0} {Met : X → Type 0} {old : X → Y} {new : X → Z} {Then : Y → Type 0} {After : Z → Type 0} (f : Y → Z)
@@ -112,3 +135,14 @@ module _ (g : Given) where
         lowest-then (λ b. (b < banks g) × BadSize g page b) (λ b. broken 4 b) _ (λ n5.
         lowest-then (λ b. (b < banks g) × BadUnit g b) (λ b. broken 5 b) _ (λ n6.
         lowest-then (λ i. (i < nodes g) × BadAddr g i) (λ i. broken 6 i) _ (λ n7. rest)))))))
+
+    pub rules-map : {Y Z : Type 0} (broken : (rule at : ℕ) → Y) {named : (rule at : ℕ) → Z} {Then : Y → Type 0} {After : Z → Type 0} (f : Y → Z)
+        → ((rule at : ℕ) → f (broken rule at) ≡ named rule at) → (y : Y) → (Then y → After (f y)) → Rules g page broken Then y → Rules g page named After (f y)
+    rules-map broken f same y then =
+        tries-map f (λ x. same 1 0) y (λ n1.
+        tries-map f (λ b. same 2 b) y (λ n2.
+        tries-map f (λ i. same 2 i) y (λ n3.
+        tries-map f (λ b. same 3 b) y (λ n4.
+        tries-map f (λ b. same 4 b) y (λ n5.
+        tries-map f (λ b. same 5 b) y (λ n6.
+        tries-map f (λ i. same 6 i) y (λ n7. then)))))))
