@@ -1,3 +1,4 @@
 pub mod Decides
 pub mod Meets
 pub mod Ticket9
+pub mod Cases
