@@ -7,7 +7,8 @@ use Prim.Native.Nat.{ℕ, _*_, _<_, _/_, _^_}
 use lib.ListN.{length, getD, replicate}
 use Rattle.c_answers.specs.declared.DkProfile.{DkProfile}
 use Rattle.says.specs.Words.{Tries, First, FirstPair}
-use Rattle.says_build.specs.Build.{Given, Not, banks, unit, Size, Offset, Align, Unsized, NoBanks, BadBank, Overlap, nodes, kind, Number, BadField, BadNode, In}
+use Rattle.says_build.specs.Build.{Given, Not, banks, unit, Size, Offset, Align, Unsized, NoBanks, BadBank, Overlap}
+use Rattle.says_build.specs.Build.{nodes, kind, Number, BadField, BadNode, In}
 
 -- "exactly one bit set": a power of two
 abbrev pub OneBit : ℕ → Type 0

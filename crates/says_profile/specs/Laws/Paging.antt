@@ -1,6 +1,6 @@
 -- Each bank's pages, as the library answers them after a yes, are those that the sentences say.
 use mathlib.Core.Path.{_≡_, refl, sym, ap, subst, _∙_}
-use mathlib.Core.List.{List, map}
+use mathlib.Core.List.{map}
 use mathlib.Core.Logic.{⊎-elim}
 use Prim.Native.Nat.{ℕ, _-_, _≤_, _<_}
 use native.Mathlib.Omega.{arith}
@@ -59,7 +59,8 @@ module _ (g : Given) (typed : Typed g) (page : ℕ) (c : Checked (table g) (list
     in-table : b < banks g → Pages g page b (pagesIn page (bankRecord (table g) b))
     in-table there =
         let def = bankRecord (table g) b in
-        by-record g page b there def (is .tells b (omega (arith, is .count))) (λ bad. none-so (λ b. (b < banks g) × BadSize g page b) (k .sizes) b (there, bad))
+        by-record g page b there def (is .tells b (omega (arith, is .count)))
+        (λ bad. none-so (λ b. (b < banks g) × BadSize g page b) (k .sizes) b (there, bad))
         (def .offset) (def .size) refl refl
 
   pub says-yes : Keeps g page → Yes g page (record { refusal = 0; place = 0; second = 0; pages = pagesOf page (table g) })

@@ -1,16 +1,14 @@
--- The library's six rules are the sentences' rules: what a test refuses breaks the rule, what it passes does not, and the first that is refused is the first
--- that is named.
+-- The library's six rules are the sentences' rules: what a test refuses breaks the rule, what it passes does not, and the first that is refused is
+-- the first that is named.
 use mathlib.Core.Path.{_≡_, refl, sym, ap, subst, _∙_}
 use mathlib.Core.Bool.{Bool, true, false, not, _||_}
-use mathlib.Core.Logic.{_⊎_, inl, inr, ⊎-elim, _↔_}
-use Prim.Native.Nat.{ℕ, zero, suc, _+_, _*_, _/_, _%_, _≤_, _<_}
+use mathlib.Core.Logic.{⊎-elim}
+use Prim.Native.Nat.{ℕ, zero, suc, _/_, _%_, _<_}
 use native.Mathlib.Nat.{div-add-mod', mul-mod-left}
 use native.Mathlib.Omega.{arith}
 use lib.Dec.{eqb, leb}
-use lib.ListN.{length, getD}
 use borrow.Author.Tests.{eqb-true, eqb-false, eq-eqb, ne-eqb, leb-true, leb-false, not-false}
 use Rattle.refusal.specs.Laws.Bools.{either, clash}
-use Rattle.refusal.specs.Pick.{pick}
 use Rattle.refusal.specs.declared.Opt.{Opt}
 use Rattle.refusal.specs.declared.Opt.the-variants.{None, Some}
 use Rattle.refusal.specs.declared.Refusal.the-variants.{OffProfile}
@@ -25,17 +23,18 @@ use Rattle.sort.specs.Laws.Sorted.{le-or-lt}
 use Rattle.build_profile.specs.OneBit.{oneBit}
 use Rattle.build_profile.specs.Theorems.OneBit.{one-bit-power}
 use Rattle.build_profile.specs.Laws.RuleLaws.{kept-all, first-of, rule-kept, rule-broken}
-use Rattle.build_profile.specs.Rules.{aligned, bankAligned, multiple, onPage, wholePages, unitKept, firstBroken, all, ruled, numberIn, alignsKept, addrsKept, rulesOf}
+use Rattle.build_profile.specs.Rules.{aligned, bankAligned, multiple, onPage, wholePages, unitKept, firstBroken, all, ruled, numberIn}
+use Rattle.build_profile.specs.Rules.{alignsKept, addrsKept, rulesOf}
 use Rattle.build_profile.specs.Standing.{bankBefore, bankOfNode}
 use Rattle.says.specs.Words.{Tries, refused, passed, First}
 use Rattle.says_build.specs.Build as says
-use Rattle.says_build.specs.Build.{Given, Not, banks, unit, nodes, kind, operand, Number, BadNode, In}
+use Rattle.says_build.specs.Build.{Given, Not, banks, unit, nodes, kind, operand, BadNode, In}
 use Rattle.says_build.specs.Laws.One.{in-one, number-one}
 use Rattle.says_meets.specs.Laws.Shown.{Shown, Tells, listed, number-is}
 use Rattle.says_meets.specs.Table.{Typed}
 use Rattle.says_meets.specs.Laws.Table.{table, shown}
 use Rattle.says_profile.specs.Profile as p
-use Rattle.says_profile.specs.Profile.{OneBit, Whole, FirstBank, FirstNode, BadLabel, BadAlign, BadOffset, BadSize, BadUnit, BadAddr, Rules}
+use Rattle.says_profile.specs.Profile.{OneBit, Whole, FirstNode, BadLabel, BadAlign, BadOffset, BadSize, BadUnit, BadAddr, Rules}
 use Rattle.says_profile.specs.Laws.Sound.{no-node-bad}
 use Rattle.says_profile.specs.Laws.Tried.{Keeps}
 
@@ -143,7 +142,8 @@ module _ (g : Given) (b : ℕ) (def : Bankdef) (t : Tells g b def) where
         go None r f = yes-no (sym f)
         go (Some m) r f = none m (t .sized m r)
     size-good e (p.ragged {o} {m} at sized off) =
-        off (whole-when page m (sym (ap (wholePages page (Some o)) (t .has-size m sized)) ∙ sym (ap (λ (x : Opt). wholePages page x (def .size)) (t .has-offset o at)) ∙ e))
+        off (whole-when page m (sym (ap (wholePages page (Some o)) (t .has-size m sized))
+        ∙ sym (ap (λ (x : Opt). wholePages page x (def .size)) (t .has-offset o at)) ∙ e))
 
   unit-bad : unitKept (def .unit) ≡ false → BadUnit g b
   unit-bad e =
@@ -232,7 +232,8 @@ module _ (g : Given) where
       addr-bad e =
           let x = rows-bad i 9 (λ y. multiple y unitHere) e in
           p.addr (x .is-kind) (in-force i) (x .listed-row) (number-is g (table g) (x .row) i h)
-          (λ w. not-whole unitHere (numberIn (listed g) (x .row) i) (x .fails) (subst (λ (u : ℕ). Whole u (numberIn (listed g) (x .row) i)) (sym unit-here) w))
+          (λ w. not-whole unitHere (numberIn (listed g) (x .row) i) (x .fails)
+          (subst (λ (u : ℕ). Whole u (numberIn (listed g) (x .row) i)) (sym unit-here) w))
 
       addr-good : addrsKept (table g) (listed g) i ≡ true → BadAddr g i → ⊥
       addr-good e (p.addr {b} {r} {n} k at rn num off) =

@@ -1,13 +1,12 @@
 -- Where the library's checks of the table and of the lists accept, none of refusals 1 to 4 of the sentences is met.
-use mathlib.Core.Path.{_≡_, sym, ap, subst, _∙_}
-use mathlib.Core.Bool.{Bool, true, false}
-use Prim.Native.Nat.{ℕ, _+_, _<_, _≤_}
+use mathlib.Core.Path.{_≡_, ap, _∙_}
+use mathlib.Core.Bool.{true}
+use Prim.Native.Nat.{ℕ, _<_}
 use native.Mathlib.Omega.{arith}
-use lib.ListN.{length, getD}
 use Rattle.refusal.specs.Laws.Bools.{clash}
 use Rattle.refusal.specs.declared.Verdict.{Verdict}
 use Rattle.refusal.specs.declared.Verdict.the-variants.{Accepted}
-use Rattle.bankdef.specs.Check.{banksOf, countSound, checkOf}
+use Rattle.bankdef.specs.Check.{banksOf, countSound}
 use Rattle.bankdef.specs.Numbers.{faultAt}
 use Rattle.bankdef.specs.Theorems.Numbers.{fault-exactly}
 use Rattle.bankdef.specs.Pairs.{OverlapAt}
@@ -25,7 +24,7 @@ use Rattle.says_build.specs.Build.{Given, banks, nodes, BadBank, BadField, BadN
 use Rattle.says_build.specs.Laws.One.{number-one}
 use Rattle.says_meets.specs.Laws.Shown.{listed, number-is, state-is}
 use Rattle.says_meets.specs.Table.{Typed}
-use Rattle.says_meets.specs.Laws.Table.{table, recordOf, no-banks-only, as-many, long, record-of, faulty-of, overlap-at, shown}
+use Rattle.says_meets.specs.Laws.Table.{table, recordOf, no-banks-only, as-many, long, record-of, faulty-of, overlap-at}
 use Rattle.says_profile.specs.Laws.Tried.{Clear}
 
 module _ (g : Given) (typed : Typed g) (c : Checked (table g) (listed g) (g .fill)) where
@@ -73,7 +72,8 @@ module _ (g : Given) (typed : Typed g) (c : Checked (table g) (listed g) (g .fil
 
   pub no-node-bad : (i : ℕ) → i < nodes g → BadNode g i → ⊥
   no-node-bad i h bad =
-      clash (faults-theorems.fault-exactly (table g .len) (listed g) i .1 (fault-of i h bad)) (accepted-node (table g .len) (listed g) (nodes g) (lists-sound .nodes) i h)
+      clash (faults-theorems.fault-exactly (table g .len) (listed g) i .1 (fault-of i h bad))
+      (accepted-node (table g .len) (listed g) (nodes g) (lists-sound .nodes) i h)
 
   pub clear : Clear g
   clear = record {

@@ -137,7 +137,8 @@ module _ (g : Given) where
         lowest-then (λ i. (i < nodes g) × BadAddr g i) (λ i. broken 6 i) _ (λ n7. rest)))))))
 
     pub rules-map : {Y Z : Type 0} (broken : (rule at : ℕ) → Y) {named : (rule at : ℕ) → Z} {Then : Y → Type 0} {After : Z → Type 0} (f : Y → Z)
-        → ((rule at : ℕ) → f (broken rule at) ≡ named rule at) → (y : Y) → (Then y → After (f y)) → Rules g page broken Then y → Rules g page named After (f y)
+        → ((rule at : ℕ) → f (broken rule at) ≡ named rule at) → (y : Y) → (Then y → After (f y)) → Rules g page broken Then y
+        → Rules g page named After (f y)
     rules-map broken f same y then =
         tries-map f (λ x. same 1 0) y (λ n1.
         tries-map f (λ b. same 2 b) y (λ n2.

@@ -1,5 +1,5 @@
 -- The verdict of the profile, as the two calls tell it: 1 to 4 as the build's sentences have them, then the rules, then what comes after a yes.
-use mathlib.Core.Path.{_≡_, refl, sym, ap, subst, _∙_}
+use mathlib.Core.Path.{_≡_, refl, ap, subst}
 use Prim.Native.Nat.{ℕ, _≤_}
 use native.Mathlib.Omega.{arith}
 use Rattle.refusal.specs.Refusals.{numberOf, placeOf}
@@ -18,7 +18,7 @@ use Rattle.c_tables.specs.Tables.{choicesBy}
 use Rattle.c_answers.specs.Told as told
 use Rattle.says.specs.Words as w
 use Rattle.says_build.specs.Build as b
-use Rattle.says_build.specs.Build.{Given, Lent, Outcome, Last, Accepts, AtNode, Built, Laid, BuildSays, refusal}
+use Rattle.says_build.specs.Build.{Given, Lent, Outcome, Last, Accepts, Built, Laid, BuildSays, refusal}
 use Rattle.says_meets.specs.Laws.Shown.{listed}
 use Rattle.says_meets.specs.Table.{Typed}
 use Rattle.says_meets.specs.Laws.Table.{table}
@@ -57,7 +57,8 @@ module _ (g : Given) (old : Lent) where
   module _ (typed : Typed g) where
     -- ---- 1 to 4
 
-    refused-first : (why : Refusal) → layoutOf (table g) (listed g) (choicesBy (g .limit) (g .fill) (g .closed)) ≡ record { settled = Unsettled why; passes = 0 }
+    refused-first : (why : Refusal)
+        → layoutOf (table g) (listed g) (choicesBy (g .limit) (g .fill) (g .closed)) ≡ record { settled = Unsettled why; passes = 0 }
         → BuildSays g old (answered g typed old why 0)
     refused-first why e =
         subst (λ (n : ℕ). BuildSays g old (answered g typed old why n)) (ap (λ (r : Resolution). r .passes) e)
@@ -81,7 +82,8 @@ module _ (g : Given) (old : Lent) where
       -- ---- the whole
 
       module _ (page : ℕ) (Then : Z → Type 0) (then : Checked (table g) (listed g) (g .fill) → Keeps g page → Then yes) where
-        rules-next : Checked (table g) (listed g) (g .fill) → Checks g refusing (Rules g page (refusing 19) Then) (toldAs (rulesOf (table g) (listed g) page))
+        rules-next : Checked (table g) (listed g) (g .fill)
+            → Checks g refusing (Rules g page (refusing 19) Then) (toldAs (rulesOf (table g) (listed g) page))
         rules-next c = through g refusing (clear g typed c) (rules-say g typed c page toldAs Then (then c))
 
         lists-next-say : checkOf (table g) ≡ Accepted → (v : Verdict) → listsOf (table g .len) (listed g) (g .fill) ≡ v

@@ -2,7 +2,7 @@
 -- breaks: the rules as tries, and as Ticket 9 says them.
 use mathlib.Core.Path.{_≡_, refl}
 use mathlib.Core.Logic.{_⊎_, inl, inr, ⊎-elim}
-use Prim.Native.Nat.{ℕ, suc, _*_, _%_, _≤_, _<_}
+use Prim.Native.Nat.{ℕ, _%_, _≤_, _<_}
 use native.Mathlib.Omega.{arith}
 use lib.Dec.{eqb}
 use lib.ListN.{getD}
@@ -12,7 +12,7 @@ use Rattle.sort.specs.Laws.Sorted.{le-or-lt}
 use Rattle.build_profile.specs.OneBit.{oneBit}
 use Rattle.build_profile.specs.Theorems.OneBit.{one-bit-power}
 use Rattle.build_profile.specs.Rules.{multiple}
-use Rattle.says.specs.Words.{Tries, refused, passed, First, FirstPair}
+use Rattle.says.specs.Words.{Tries, refused, passed}
 use Rattle.says_build.specs.Build.{Given, Not, banks, unit, flag, Size, Offset, nodes, BadBank, Overlap, BadField, BadNode}
 use Rattle.says_profile.specs.Profile as p
 use Rattle.says_profile.specs.Profile.{OneBit, Whole, FirstBank, FirstNode, Checks, Rules, BadLabel, BadAlign, BadOffset, BadSize, BadUnit, BadAddr}

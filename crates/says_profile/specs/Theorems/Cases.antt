@@ -1,6 +1,6 @@
 -- Cases of Ticket 9: answers of `dk_profile`, by its contract, for layouts written out; each is what the sentences say. Proved together.
 use mathlib.Core.Path.{_≡_, refl}
-use mathlib.Core.Bool.{Bool, true, false, _&&_}
+use mathlib.Core.Bool.{Bool, true, _&&_}
 use mathlib.Core.List.{List, [], _∷_}
 use Prim.Native.Nat.{ℕ, zero, suc, _≤_}
 use native.Mathlib.Omega.{arith}

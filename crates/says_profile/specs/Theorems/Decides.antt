@@ -1,16 +1,13 @@
 -- The sentences of `dk_profile` and of `dk_build_paged` leave one outcome each: the answer and everything lent. From the sentences alone.
 use mathlib.Core.Path.{_≡_, refl, sym, ap, _∙_}
-use mathlib.Core.List.{List}
-use Prim.Native.Nat.{ℕ, _<_, _/_}
+use Prim.Native.Nat.{ℕ, _/_}
 use native.Mathlib.Omega.{arith}
-use lib.ListN.{length, getD}
 use lib.Seq.{ext-getD}
-use Rattle.c_answers.specs.declared.DkProfile.{DkProfile}
 use Rattle.says.specs.Words.{OneOnly}
 use Rattle.says_build.specs.Build.{Given, Lent, Outcome, Laid, refusal}
 use Rattle.says_build.specs.Theorems.Decides.{build-decides}
 use Rattle.says_profile.specs.Profile as p
-use Rattle.says_profile.specs.Profile.{Rules, Pages, Yes, ProfileSays, refused}
+use Rattle.says_profile.specs.Profile.{Pages, Yes, ProfileSays, refused}
 use Rattle.says_profile.specs.Paged.{PagedSays}
 use Rattle.says_profile.specs.Laws.Tried.{Clear, through, checks-one, rules-one}
 

@@ -1,5 +1,5 @@
--- `dk_profile` by its contract says what the sentences say. Of `dk_build_paged`: refusals 1 to 4 and 19 are the sentences', before the first pass; after a yes
--- its contract is that of `dk_build`, so what is shown of that build is shown of this one.
+-- `dk_profile` by its contract says what the sentences say. Of `dk_build_paged`: refusals 1 to 4 and 19 are the sentences', before the first pass;
+-- after a yes its contract is that of `dk_build`, so what is shown of that build is shown of this one.
 use mathlib.Core.Path.{_≡_, refl, sym, ap, subst, _∙_}
 use mathlib.Core.List.{[]}
 use Prim.Native.Nat.{ℕ}
@@ -96,11 +96,12 @@ module _ (g : Given) (typed : Typed g) (page : ℕ) (old : out.Lent) where
   pub paged-is-build : (r : DkLayout) (new : out.Lent) → PagedTold page b old r new → saidOf page b ≡ Accepted → TablesTold b old r new
   paged-is-build r new t e =
       let answer : r ≡ layoutTold (buildOf b (roomOf old)) = t .answer ∙ ap (λ (v : Verdict). layoutTold (afterSaid v (buildOf b (roomOf old)))) e in
-      let left : new ≡ leaves b old (buildOf b (roomOf old)) = t .built .left ∙ ap (λ (v : Verdict). leaves b old (afterSaid v (buildOf b (roomOf old)))) e in
+      let left : new ≡ leaves b old (buildOf b (roomOf old)) =
+      t .built .left ∙ ap (λ (v : Verdict). leaves b old (afterSaid v (buildOf b (roomOf old)))) e in
       rw (answer, left) by-definition
 
-  -- Where what the contract of `dk_build` says of an outcome is said by its sentences, what the contract of `dk_build_paged` says is said by its own: refusals
-  -- 1 to 4 and 19 without that.
+  -- Where what the contract of `dk_build` says of an outcome is said by its sentences, what the contract of `dk_build_paged` says is said by its own:
+  -- that is used after a yes alone, not for refusals 1 to 4 and 19.
   pub paged-meets-by : (build-meets : (r : DkLayout) (new : out.Lent) → TablesTold b old r new → BuildSays g (lentSo old) (outcomeOf r new))
       → (r : DkLayout) (new : out.Lent) → PagedTold page b old r new → PagedSays g page (lentSo old) (outcomeOf r new)
   paged-meets-by build-meets r new t =

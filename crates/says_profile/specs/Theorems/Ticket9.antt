@@ -1,19 +1,25 @@
 -- Ticket 9 of what `dk_profile` and `dk_build_paged` say, from their sentences alone: with `profile-meets` and `paged-meets` it holds of every call.
-use mathlib.Core.Path.{_≡_, refl}
+use mathlib.Core.Path.{_≡_, refl, ap, _∙_}
 use mathlib.Core.Logic.{⊎-elim, _↔_}
-use Prim.Native.Nat.{ℕ, _+_, _≤_, _<_}
+use Prim.Native.Nat.{ℕ, _+_, _/_, _%_, _≤_, _<_}
+use native.Mathlib.Nat.{zero-div}
 use native.Mathlib.Omega.{arith}
 use lib.ListN.{replicate}
+use Rattle.build_profile.specs.Theorems.OneBit.{zero-has-none}
 use Rattle.c_answers.specs.declared.DkProfile.{DkProfile}
-use Rattle.says_build.specs.Build.{Given, Lent, Outcome, Not, In, Written, Reads, Offer, Laid, BuildSays, refusal}
-use Rattle.says_profile.specs.Profile.{Rules, Yes, ProfileSays, refused}
+use Rattle.says.specs.Words.{refused as broken}
+use Rattle.says_build.specs.Build.{Given, Lent, Outcome, Not, banks, flag, Size, Offset, Align, Unsized, In, Written, Reads}
+use Rattle.says_build.specs.Build.{Offer, Laid, BuildSays, refusal}
+use Rattle.says_profile.specs.Profile as p
+use Rattle.says_profile.specs.Profile.{BadLabel, BadSize, Rules, Pages, Yes, ProfileSays, refused}
 use Rattle.says_profile.specs.Paged.{PagedSays}
 use Rattle.says_profile.specs.Ticket9.{Sound, Holds, Names, InPages}
 use Rattle.says_profile.specs.Laws.Answers as a
 use Rattle.says_profile.specs.Laws.Answers.{Answers, answers, yes-zero, turned, Comes, comes, laid-later, fine, in-pages}
-use Rattle.says_profile.specs.Laws.Tried.{kept, checks-map, rules-map}
-use Rattle.says_profile.specs.Laws.Ways.{rules-way, holds-keeps, breaks-not}
-use Rattle.says_profile.specs.Theorems.Decides.{paged-decides}
+use Rattle.says_profile.specs.Laws.Ruled.{not-one}
+use Rattle.says_profile.specs.Laws.Tried.{through, kept, checks-map, rules-map}
+use Rattle.says_profile.specs.Laws.Ways.{rules-way, sound-clear, holds-keeps, breaks-not}
+use Rattle.says_profile.specs.Theorems.Decides.{profile-decides, paged-decides}
 
 module _ (g : Given) (page : ℕ) where
   -- ---- the profile
@@ -71,6 +77,29 @@ module _ (g : Given) (page : ℕ) where
       from (a.early lo hi n) e = absurd (omega arith)
       from (a.names c n) e = n
       from (a.keeps c h y) e = absurd (let z = yes-zero g page y in omega arith)
+
+  -- ---- the edges, for every layout
+
+  -- "Alignment 0 or flag clear is fine."
+  pub alignment-0-fine : (b : ℕ) → Align g b 0 → Not (BadLabel g b)
+  alignment-0-fine b al (p.label {a} other some off) = omega (arith, al .1, other .1)
+
+  pub alignment-clear-fine : (b : ℕ) → Not (flag g b / 4 % 2 ≡ 1) → Not (BadLabel g b)
+  alignment-clear-fine b clear (p.label al some off) = clear (al .0)
+
+  -- "Size 0 with an offset is 0 pages; no size with an offset breaks rule 4."
+  pub size-0-fine : (b : ℕ) → Size g b 0 → Not (BadSize g page b)
+  size-0-fine b s (p.no-size at none) = none 0 s
+  size-0-fine b s (p.ragged {m = m} at other off) = off (0, omega (arith, s .1, other .1))
+
+  pub size-0-pages : (b o n : ℕ) → b < banks g → Offset g b o → Size g b 0 → Pages g page b n → n ≡ 0
+  size-0-pages b o n there at s (p.pages {m = m} h q other) =
+      let zero : m ≡ 0 = omega (arith, s .1, other .1) in
+      ap (λ (x : ℕ). x / page) zero ∙ zero-div page
+  size-0-pages b o n there at s (p.none never) = absurd (never o there at)
+
+  pub no-size-breaks-4 : (b o : ℕ) → Offset g b o → Unsized g b → BadSize g page b
+  no-size-breaks-4 b o at none = p.no-size at none
 
   -- ---- a build in the profile
 
@@ -137,3 +166,8 @@ module _ (g : Given) (page : ℕ) where
         from (a.laid c h t) e =
             let f = fine g page old t e in
             (f .row, f .reads, λ i at x m bit v k o lo hi. in-pages g page old c h (f .row) (f .clear) v k o lo hi)
+
+-- "Page size 0 breaks rule 1."
+pub page-0-breaks-1 : (g : Given) → Sound g → (r : DkProfile) → ProfileSays g 0 r → r ≡ refused g 0 19 1 0
+page-0-breaks-1 g c r s =
+    profile-decides g 0 r (refused g 0 19 1 0) s (through g (refused g 0) (sound-clear g c) (broken tt (not-one 0 zero-has-none)))
