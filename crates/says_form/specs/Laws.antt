@@ -1,0 +1,5 @@
+pub mod Breaks
+pub mod Numbers
+pub mod OneLayout
+pub mod Read
+pub mod Written

@@ -1,0 +1,4 @@
+pub mod Files
+pub mod Form
+pub mod Laws
+pub mod Theorems
