@@ -1,1 +1,2 @@
 pub mod FormDecides
+pub mod FormMeets

@@ -1,8 +1,7 @@
 -- Where a file breaks: the fields that the definitions count are those with which a file may begin, and no more.
 use mathlib.Core.Path.{_≡_, refl, sym, ap, ap₂, subst, _∙_}
-use mathlib.Core.Bool.{Bool, true, false, not, _&&_}
-use mathlib.Core.List.{List, [], _∷_, _++_}
-use mathlib.Core.Logic.{_⊎_, inl, inr, ⊎-elim}
+use mathlib.Core.Bool.{true, false, not, _&&_}
+use mathlib.Core.List.{List}
 use Prim.Native.Nat.{ℕ, zero, suc, _+_, _*_, _-_, _≤_, _<_}
 use native.Mathlib.Decide.{decLe}
 use native.Mathlib.Omega.{arith}
@@ -16,18 +15,17 @@ use Rattle.refusal.specs.declared.Refusal.the-variants.{Malformed}
 use Rattle.form_fields.specs.declared.Form.the-variants.{Sound as SoundForm, Broken as BrokenForm}
 use Rattle.form_fields.specs.declared.Kind.{Kind}
 use Rattle.form_fields.specs.declared.Shape.{Shape}
-use Rattle.form_fields.specs.Kind.{Known, is1, is2, form1, form2, headed, begins2}
-use Rattle.form_fields.specs.Fields.{fieldAt, soundAt, endsWell, run}
+use Rattle.form_fields.specs.Kind.{form2, headed, begins2}
+use Rattle.form_fields.specs.Fields.{fieldAt, soundAt, run}
 use Rattle.form_fields.specs.Laws.Fields.{field-ends, field-tag, field-len, sound-field, by-test}
 use Rattle.form_fields.specs.Theorems.Fields.{run-stop, run-more}
 use Rattle.form_fields.specs.Laws.Rest as rest
 use Rattle.form_fields.specs.Shape.{bankCountIn, nodesStartIn, nodeCountIn, rowsStartIn, rowCountIn, valuesStartIn, valuesSizeIn, limitStartIn, fieldsBeforeIn, formIn}
 use Rattle.form_fields.specs.Words.{byte, word16}
-use Rattle.form_fields.specs.Writer.{shapeFor}
 use Rattle.says.specs.Words.{First}
 use Rattle.says_form.specs.Files as files
 use Rattle.says_form.specs.Files.{Form, form-1, form-2, longest, Held, Sound, Whole, Begins, Good, Broken}
-use Rattle.says_form.specs.Laws.Written.{kind, contents, longest-same, sound-form}
+use Rattle.says_form.specs.Laws.Written.{kind, longest-same, sound-form}
 
 module _ (file : List ℕ) where
   -- ---- a whole field

@@ -1,11 +1,11 @@
 -- Numbers in a payload and in the file that it stands in; two's complement; what stands at a place of a column or of the cells of rows.
 use mathlib.Core.Path.{_≡_, refl, sym, ap, ap₂, subst, _∙_}
-use mathlib.Core.Bool.{Bool, true, false}
+use mathlib.Core.Bool.{true, false}
 use mathlib.Core.List.{List, [], _∷_, _++_}
 use Prim.Native.Nat.{ℕ, zero, suc, _+_, _*_, _-_, _≤_, _<_}
 use native.Mathlib.Omega.{arith}
 use lib.Dec.{ltb}
-use lib.IntN.{ℤ, pos, negsuc, _-ℤ_}
+use lib.IntN.{pos, negsuc, _-ℤ_}
 use lib.ListN.{length, getD, List·getD-append}
 use lib.Seq.{getD-append-add}
 use mir.Syntax.{w64}
@@ -89,3 +89,24 @@ cells-at read nodes (suc rows) at (suc r) i p q =
     ∙ getD-append-add col (cells read nodes next rows) (r * nodes + i) 0
     ∙ cells-at read nodes rows next r i (omega arith) q
     ∙ ap read {x = next + r * (3 + 5 * nodes) + i * 5} {y = at + suc r * (3 + 5 * nodes) + i * 5} (omega arith)
+
+-- ---- numbers no larger than those that are read
+
+small-append : (most : ℕ) (l m : List ℕ) → ((i : ℕ) → getD l i 0 ≤ most) → ((i : ℕ) → getD m i 0 ≤ most) → (i : ℕ) → getD (l ++ m) i 0 ≤ most
+small-append most [] m p q i = q i
+small-append most (x ∷ l) m p q zero = p 0
+small-append most (x ∷ l) m p q (suc i) = small-append most l m (λ j. p (suc j)) q i
+
+module _ (read : ℕ → ℕ) (most : ℕ) (few : (at : ℕ) → read at ≤ most) where
+  pub small-column : (step at n i : ℕ) → getD (column read step at n) i 0 ≤ most
+  unfolding column
+  small-column step at zero i = omega arith
+  small-column step at (suc n) zero = few at
+  small-column step at (suc n) (suc i) = small-column step (at + step) n i
+
+  pub small-cells : (nodes rows at i : ℕ) → getD (cells read nodes at rows) i 0 ≤ most
+  unfolding cells
+  small-cells nodes zero at i = omega arith
+  small-cells nodes (suc rows) at i =
+      small-append most (column read 5 at nodes) (cells read nodes (at + (3 + 5 * nodes)) rows) (small-column 5 at nodes)
+      (small-cells nodes rows (at + (3 + 5 * nodes))) i

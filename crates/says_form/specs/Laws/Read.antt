@@ -1,13 +1,13 @@
 -- The layout of a sound file: what the definitions read of it is what the sentences say of it, number by number, and the build of the file is the build
 -- of that layout.
 use mathlib.Core.Path.{_≡_, refl, sym, ap, ap₂, subst, _∙_}
-use mathlib.Core.Bool.{Bool, true, false}
-use mathlib.Core.List.{List, [], _∷_, _++_}
-use Prim.Native.Nat.{ℕ, zero, suc, _+_, _*_, _-_, _≤_, _<_, min}
+use mathlib.Core.Bool.{Bool}
+use mathlib.Core.List.{List, [], _++_}
+use Prim.Native.Nat.{ℕ, _+_, _*_, _-_, _≤_, _<_, min}
 use native.Mathlib.Omega.{arith}
 use lib.Dec.{eqb}
-use lib.IntN.{ℤ, pos}
-use lib.ListN.{length, getD, take, drop, replicate}
+use lib.IntN.{pos}
+use lib.ListN.{length, getD, drop, replicate}
 use lib.Seq.{getD-take, getD-drop}
 use mir.Syntax.{w64}
 use mir.Val.{toZ}
@@ -25,8 +25,7 @@ use Rattle.form_fields.specs.Columns.{column}
 use Rattle.form_fields.specs.Laws.Columns.{column-length}
 use Rattle.form_fields.specs.Laws.Cells.{cells-length}
 use Rattle.form_fields.specs.Lists.{cells, kindsIn, operandsIn, numbersIn, statesIn, valuesBy}
-use Rattle.form_fields.specs.Laws.Rest.{sound-file}
-use Rattle.form_fields.specs.Shape.{bankCountIn, nodesStartIn, nodeCountIn, rowsStartIn, rowCountIn, valuesStartIn, valuesSizeIn, limitStartIn, shapeIn, formIn}
+use Rattle.form_fields.specs.Shape.{bankCountIn, nodesStartIn, nodeCountIn, rowsStartIn, rowCountIn, limitStartIn, shapeIn}
 use Rattle.form_fields.specs.Whole.{Bytes, part, contentsIn}
 use Rattle.form_fields.specs.Words.{byte, word16, word32, word64}
 use Rattle.form_build.specs.Filed.{choicesOf}
@@ -35,10 +34,11 @@ use Rattle.output.specs.Output.{Input, input}
 use Rattle.c_tables.specs.Tables.{given, bankIn, agree, countOf, tableOf, choicesBy}
 use Rattle.c_tables.specs.Tables as tables
 use Rattle.says_build.specs.Build.{Given}
+use Rattle.says_build.specs.Typed.{Typed}
 use Rattle.says_form.specs.Files.{Form, form-1, form-2, Held, Sound, Bank, of-1, of-2}
 use Rattle.says_form.specs.Form.{two, four, eight, Signed, fillBit, closes, Column, Cells, Layout}
-use Rattle.says_form.specs.Laws.Numbers.{Stands, two-at, four-at, eight-at, signed-is, column-from, columns-same, cells-at}
-use Rattle.says_form.specs.Laws.Written.{kind, held, form-sound}
+use Rattle.says_form.specs.Laws.Numbers.{Stands, two-at, four-at, eight-at, signed-is, column-from, columns-same, cells-at, small-column, small-cells}
+use Rattle.says_form.specs.Laws.Written.{kind, held}
 
 part-stands : (file : List ℕ) (len at : ℕ) → Stands file at len (part file len at)
 part-stands file len at i less = getD-take len (drop at file) i 0 less ∙ getD-drop at file i 0
@@ -288,3 +288,55 @@ module _ (f : Form) (file : List ℕ) (fill : ℕ) where
       ap (λ (l : List Bankdef). record { defs = l ++ replicate (maxBanks - min count maxBanks) noBank; len = count })
       (sym (same (min count maxBanks) (omega arith)))
       ∙ ap (λ (n : ℕ). record { defs = column (bankIn lent) 1 0 (min n maxBanks) ++ replicate (maxBanks - min n maxBanks) noBank; len = n }) (sym count-is)
+
+  -- ---- the build of the file is the build of what is given
+
+  -- what a sound file of the kind gives the build
+  abbrev pub inputIn : Kind → Shape → Input
+  inputIn q s =
+      input (tableIn q)
+      (lists (kindsIn q file) (operandsIn q file) (numbersIn q file) (statesIn q file) (rowCountIn q file) (valuesBy file (SoundForm s))) (choicesOf s fill)
+
+  -- and what `dk_build` takes
+  abbrev pub inputOf : Input
+  inputOf =
+      input (tableOf lent)
+      (lists (givenBy .kinds) (givenBy .operands) (givenBy .numbers) (givenBy .states) (givenBy .rows) (givenBy .values))
+      (choicesBy (givenBy .limit) fill (closes f))
+
+  flags-few : (s : Sound f file h) (b : ℕ) → b < count → byte file (base + b * step + 25) ≤ 15
+  flags-few s b less =
+      let few = go f (getD (h .banks) b []) (s .banks b (omega (arith, banks-many))) in
+      let same = bank-stands b less 22 (omega (arith, long-bank)) ∙ ap (byte file) {x = base + b * step + 3 + 22} {y = base + b * step + 25} (omega arith) in
+      omega (arith, few, same)
+    where
+      go : (f : Form) (p : List ℕ) → Bank p f → getD p 22 0 ≤ 15
+      go form-1 p (of-1 e l) = l
+      go form-2 p (of-2 e l m) = l
+
+  pub input-is : Sound f file h → inputIn k (shapeIn k file) ≡ inputOf
+  unfolding shapeIn
+  input-is sound =
+      ap (λ (t : Bankdefs). input t
+      (lists (givenBy .kinds) (givenBy .operands) (givenBy .numbers) (givenBy .states) (givenBy .rows) (givenBy .values))
+      (choicesOf (shapeIn k file) fill)) (table-is (flags-few sound))
+      ∙ ap (λ (t : Bool). input (tableOf lent)
+      (lists (givenBy .kinds) (givenBy .operands) (givenBy .numbers) (givenBy .states) (givenBy .rows) (givenBy .values))
+      (record { limit = givenBy .limit; fill = fill; «default_bank» = t })) (closed-is f)
+    where
+      closed-is : (f : Form) → eqb (kind f .form) 1 ≡ eqb (closes f) 0
+      closed-is form-1 = refl
+      closed-is form-2 = refl
+
+  -- Its numbers are within the types of `dk_build`.
+  pub typed : Bytes file → Typed givenBy
+  typed small =
+      let word : (at : ℕ) → word32 file at ≤ 4294967295 = λ at. omega (arith, word32-small file small at) in
+      record {
+        units = small-column (word16 file) 65535 (λ at. omega (arith, word16-small file small at)) step (base + 3) count;
+        sizes = small-column (word32 file) 4294967295 word step (base + 13) count;
+        offsets = small-column (word32 file) 4294967295 word step (base + 17) count;
+        aligns = small-column (word32 file) 4294967295 word step (base + 21) count;
+        numbers = λ j. small-cells (word32 file) 4294967295 word nodes (rowCountIn k file) (rowsStartIn k file + 3) j;
+        limit = omega (arith, small (limitStartIn k file + 3));
+      }

@@ -1,8 +1,7 @@
 -- A sound file, in the sentences and in the definitions: the same bytes of the same contents.
-use mathlib.Core.Path.{_≡_, refl, sym, ap, subst, _∙_}
-use mathlib.Core.Bool.{Bool, true, false, _&&_}
+use mathlib.Core.Path.{_≡_, refl, sym, ap, _∙_}
 use mathlib.Core.List.{List, [], _∷_, _++_}
-use Prim.Native.Nat.{ℕ, zero, suc, _+_, _*_, _≤_, _<_}
+use Prim.Native.Nat.{ℕ, zero, suc, _+_, _*_, _<_}
 use native.Mathlib.Omega.{arith}
 use lib.Dec.{leb}
 use lib.ListN.{length, getD}
@@ -21,7 +20,6 @@ use Rattle.form_fields.specs.Whole.{Bytes, contentsIn}
 use Rattle.form_fields.specs.Laws.Whole.{contents-fit, file-is-written}
 use Rattle.form_fields.specs.Theorems.Whole.{contents-back}
 use Rattle.form_fields.specs.Writer.{shapeFor}
-use Rattle.says_form.specs.Files as files
 use Rattle.says_form.specs.Files.{field, fields, Held, Form, form-1, form-2, longest, bytes, Bank, of-1, of-2, Sound}
 
 abbrev pub kind : Form → Kind

@@ -1,13 +1,13 @@
 -- What `dk_form` says of a file leaves one outcome: the bytes leave one layout or one broken field, and a layout leaves one outcome (`build-decides`).
-use mathlib.Core.Path.{_≡_, refl, sym, ap, subst, _∙_}
+use mathlib.Core.Path.{_≡_, ap, subst}
 use mathlib.Core.List.{List}
 use Prim.Native.Nat.{ℕ}
 use Rattle.says.specs.Words as words
-use Rattle.says.specs.Words.{OneOnly, is-one}
-use Rattle.says_build.specs.Build.{Given, Lent, Outcome, BuildSays}
+use Rattle.says.specs.Words.{OneOnly}
+use Rattle.says_build.specs.Build.{Given, Lent, BuildSays}
 use Rattle.says_build.specs.Theorems.Decides.{build-decides}
 use Rattle.says_form.specs.Files.{Form, Held, Sound, Broken}
-use Rattle.says_form.specs.Form.{Layout, OfForm, brokenAt, FormSays, broken, laid}
+use Rattle.says_form.specs.Form.{Layout, brokenAt, FormSays, broken, laid}
 use Rattle.says_form.specs.Laws.OneLayout.{layout-one, broken-one, not-both, form-one}
 use Rattle.says_form.specs.Laws.Written.{sound-one}
 
