@@ -1,2 +1,3 @@
 pub mod FormDecides
 pub mod FormMeets
+pub mod Forms

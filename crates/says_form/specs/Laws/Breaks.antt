@@ -20,7 +20,8 @@ use Rattle.form_fields.specs.Fields.{fieldAt, soundAt, run}
 use Rattle.form_fields.specs.Laws.Fields.{field-ends, field-tag, field-len, sound-field, by-test}
 use Rattle.form_fields.specs.Theorems.Fields.{run-stop, run-more}
 use Rattle.form_fields.specs.Laws.Rest as rest
-use Rattle.form_fields.specs.Shape.{bankCountIn, nodesStartIn, nodeCountIn, rowsStartIn, rowCountIn, valuesStartIn, valuesSizeIn, limitStartIn, fieldsBeforeIn, formIn}
+use Rattle.form_fields.specs.Shape.{bankCountIn, nodesStartIn, nodeCountIn, rowsStartIn, rowCountIn, valuesStartIn}
+use Rattle.form_fields.specs.Shape.{valuesSizeIn, limitStartIn, fieldsBeforeIn, formIn}
 use Rattle.form_fields.specs.Words.{byte, word16}
 use Rattle.says.specs.Words.{First}
 use Rattle.says_form.specs.Files as files
@@ -118,7 +119,8 @@ module _ (file : List ℕ) where
 
   -- ---- the fields that are counted
 
-  moved : {f : Form} {c c′ at at′ b b′ n n′ r r′ : ℕ} → c ≡ c′ → at ≡ at′ → b ≡ b′ → n ≡ n′ → r ≡ r′ → Begins file f c at b n r → Begins file f c′ at′ b′ n′ r′
+  moved : {f : Form} {c c′ at at′ b b′ n n′ r r′ : ℕ} → c ≡ c′ → at ≡ at′ → b ≡ b′ → n ≡ n′ → r ≡ r′ → Begins file f c at b n r
+      → Begins file f c′ at′ b′ n′ r′
   moved {f} {c} {c′} {at} {at′} {b} {b′} {n} {n′} {r} {r′} p q u v w g =
       subst (λ (z : ℕ). Begins file f c′ at′ b′ n′ z) w
       (subst (λ (z : ℕ). Begins file f c′ at′ b′ z r) v

@@ -32,7 +32,8 @@ module _ (file : List ℕ) (at len : ℕ) (p : List ℕ) (stands : Stands file a
   pub four-at : (o : ℕ) → o + 3 < len → four p o ≡ word32 file (at + o)
   unfolding word32
   four-at o less =
-      ap₂ (λ (a b : ℕ). a * 65536 + b) (two-at o (omega arith)) (two-at (o + 2) (omega arith) ∙ ap (word16 file) {x = at + (o + 2)} {y = at + o + 2} (omega arith))
+      ap₂ (λ (a b : ℕ). a * 65536 + b) (two-at o (omega arith))
+      (two-at (o + 2) (omega arith) ∙ ap (word16 file) {x = at + (o + 2)} {y = at + o + 2} (omega arith))
 
   pub eight-at : (o : ℕ) → o + 7 < len → eight p o ≡ word64 file (at + o)
   unfolding word64
@@ -60,8 +61,10 @@ signed-is n h =
 
 -- ---- columns and cells
 
-pub column-from : {A : Type 0} (read : ℕ → A) (step base off n : ℕ) (d : A) (i : ℕ) → i < n → getD (column read step (base + off) n) i d ≡ read (base + i * step + off)
-column-from read step base off n d i less = column-at read step d (base + off) n i less ∙ ap read {x = base + off + i * step} {y = base + i * step + off} (omega arith)
+pub column-from : {A : Type 0} (read : ℕ → A) (step base off n : ℕ) (d : A) (i : ℕ) → i < n
+    → getD (column read step (base + off) n) i d ≡ read (base + i * step + off)
+column-from read step base off n d i less =
+    column-at read step d (base + off) n i less ∙ ap read {x = base + off + i * step} {y = base + i * step + off} (omega arith)
 
 pub columns-same : {A : Type 0} (f g : ℕ → A) (s t a b n : ℕ) → ((i : ℕ) → i < n → f (a + i * s) ≡ g (b + i * t)) → column f s a n ≡ column g t b n
 unfolding column

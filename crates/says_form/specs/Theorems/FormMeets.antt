@@ -49,7 +49,8 @@ use Rattle.says_form.specs.Laws.Written.{kind, form-sound}
 abbrev lentSo : out.Lent → Lent
 lentSo l = record { image = l .image; addresses = l .addresses; offsets = l .offsets; sizes = l .sizes }
 
-module _ (file : List ℕ) (small : Bytes file) (fill : ℕ) (old : Lent) (r : DkLayout) (new : Lent) (told : FormTold file fill None (lentOf old) r (lentOf new)) where
+module _ (file : List ℕ) (small : Bytes file) (fill : ℕ) (old : Lent) (r : DkLayout) (new : Lent)
+    (told : FormTold file fill None (lentOf old) r (lentOf new)) where
   abbrev outcome : Outcome
   outcome = record { answer = r; lent = new }
 
