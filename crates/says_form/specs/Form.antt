@@ -7,17 +7,7 @@ use lib.IntN.{ℤ, pos, _-ℤ_}
 use lib.ListN.{length, getD, replicate}
 use Rattle.says.specs.Words.{Is}
 use Rattle.says_build.specs.Build.{Given, Lent, Outcome, BuildSays}
-use Rattle.says_form.specs.Files.{Held, Form, form-1, form-2, Sound, Broken}
-
--- "big-endian throughout": two, four and eight bytes of a payload, from byte `at` on
-abbrev pub two : List ℕ → ℕ → ℕ
-two p at = getD p at 0 * 256 + getD p (at + 1) 0
-
-abbrev pub four : List ℕ → ℕ → ℕ
-four p at = two p at * 65536 + two p (at + 2)
-
-abbrev pub eight : List ℕ → ℕ → ℕ
-eight p at = four p at * 4294967296 + four p (at + 4)
+use Rattle.says_form.specs.Files.{two, four, eight, Held, Form, form-1, form-2, Sound, Broken}
 
 -- "signed start 8": two's complement
 pub data Signed (n : ℕ) : ℤ → Type 0 where

@@ -25,7 +25,7 @@ use Rattle.form_fields.specs.Shape.{valuesSizeIn, limitStartIn, fieldsBeforeIn,
 use Rattle.form_fields.specs.Words.{byte, word16}
 use Rattle.says.specs.Words.{First}
 use Rattle.says_form.specs.Files as files
-use Rattle.says_form.specs.Files.{Form, form-1, form-2, longest, Held, Sound, Whole, Begins, Good, Broken}
+use Rattle.says_form.specs.Files.{Form, form-1, form-2, longest, Held, Sound, Whole, Front, Good, Broken}
 use Rattle.says_form.specs.Laws.Written.{kind, longest-same, sound-form}
 
 module _ (file : List ℕ) where
@@ -119,20 +119,20 @@ module _ (file : List ℕ) where
 
   -- ---- the fields that are counted
 
-  moved : {f : Form} {c c′ at at′ b b′ n n′ r r′ : ℕ} → c ≡ c′ → at ≡ at′ → b ≡ b′ → n ≡ n′ → r ≡ r′ → Begins file f c at b n r
-      → Begins file f c′ at′ b′ n′ r′
+  moved : {f : Form} {c c′ at at′ b b′ n n′ r r′ : ℕ} → c ≡ c′ → at ≡ at′ → b ≡ b′ → n ≡ n′ → r ≡ r′ → Front file f c at b n r
+      → Front file f c′ at′ b′ n′ r′
   moved {f} {c} {c′} {at} {at′} {b} {b′} {n} {n′} {r} {r′} p q u v w g =
-      subst (λ (z : ℕ). Begins file f c′ at′ b′ n′ z) w
-      (subst (λ (z : ℕ). Begins file f c′ at′ b′ z r) v
-      (subst (λ (z : ℕ). Begins file f c′ at′ z n r) u
-      (subst (λ (z : ℕ). Begins file f c′ z b n r) q (subst (λ (z : ℕ). Begins file f z at b n r) p g))))
+      subst (λ (z : ℕ). Front file f c′ at′ b′ n′ z) w
+      (subst (λ (z : ℕ). Front file f c′ at′ b′ z r) v
+      (subst (λ (z : ℕ). Front file f c′ at′ z n r) u
+      (subst (λ (z : ℕ). Front file f c′ z b n r) q (subst (λ (z : ℕ). Front file f z at b n r) p g))))
 
-  bank-next : (f : Form) {c at b : ℕ} → Begins file f c at b 0 0 → soundAt file (kind f .tag) (kind f .bank) at ≡ true
-      → Begins file f (suc c) (at + (3 + kind f .bank)) (suc b) 0 0
+  bank-next : (f : Form) {c at b : ℕ} → Front file f c at b 0 0 → soundAt file (kind f .tag) (kind f .bank) at ≡ true
+      → Front file f (suc c) (at + (3 + kind f .bank)) (suc b) 0 0
   bank-next form-1 {c} {at} {b} g e = let s = bank-1-of at e in files.bank-1 g (s .0) (s .1)
   bank-next form-2 {c} {at} {b} g e = let s = bank-2-of at e in files.bank-2 g (s .0) (s .1) (s .2)
 
-  first-field : (f : Form) → headed (kind f) file ≡ true → Begins file f (kind f .heads) (kind f .heads * 4) 0 0 0
+  first-field : (f : Form) → headed (kind f) file ≡ true → Front file f (kind f .heads) (kind f .heads * 4) 0 0 0
   unfolding begins2
   first-field form-1 e = files.begins-1
   first-field form-2 e =
@@ -140,7 +140,7 @@ module _ (file : List ℕ) where
       files.begins-2 (whole-of 0 16 1 (p .0)) (eqb-true (byte file 3) 2 (p .1))
 
   module _ (f : Form) (headed : headed (kind f) file ≡ true) where
-    banks-begin : (j : ℕ) → j ≤ bankCountIn (kind f) file → Begins file f (kind f .heads + j) (kind f .heads * 4 + j * (3 + kind f .bank)) j 0 0
+    banks-begin : (j : ℕ) → j ≤ bankCountIn (kind f) file → Front file f (kind f .heads + j) (kind f .heads * 4 + j * (3 + kind f .bank)) j 0 0
     unfolding bankCountIn
     banks-begin zero less = moved (omega arith) (omega arith) refl refl refl (first-field f headed)
     banks-begin (suc j) less =
@@ -149,7 +149,7 @@ module _ (file : List ℕ) where
         (bank-next f (banks-begin j (omega arith)) (run-at (k .tag) (k .bank) j (k .heads * 4) (omega arith)))
 
     nodes-begin : (j : ℕ) → j ≤ nodeCountIn (kind f) file
-        → Begins file f (kind f .heads + bankCountIn (kind f) file + j) (nodesStartIn (kind f) file + j * 8) (bankCountIn (kind f) file) j 0
+        → Front file f (kind f .heads + bankCountIn (kind f) file + j) (nodesStartIn (kind f) file + j * 8) (bankCountIn (kind f) file) j 0
     unfolding nodesStartIn nodeCountIn
     nodes-begin zero less = moved (omega arith) (omega arith) refl refl refl (banks-begin (bankCountIn (kind f) file) (omega arith))
     nodes-begin (suc j) less =
@@ -158,7 +158,7 @@ module _ (file : List ℕ) where
         (files.node (nodes-begin j (omega arith)) (whole-of (at + j * 8) 2 5 (sound-field file 2 5 (at + j * 8) (run-at 2 5 j at (omega arith)))))
 
     rows-begin : (j : ℕ) → j ≤ rowCountIn (kind f) file
-        → Begins file f (kind f .heads + bankCountIn (kind f) file + nodeCountIn (kind f) file + j)
+        → Front file f (kind f .heads + bankCountIn (kind f) file + nodeCountIn (kind f) file + j)
         (rowsStartIn (kind f) file + j * (3 + 5 * nodeCountIn (kind f) file)) (bankCountIn (kind f) file) (nodeCountIn (kind f) file) j
     unfolding rowsStartIn rowCountIn
     rows-begin zero less = moved (omega arith) (omega arith) refl refl refl (nodes-begin (nodeCountIn (kind f) file) (omega arith))
@@ -170,7 +170,7 @@ module _ (file : List ℕ) where
         (whole-of (at + j * (3 + 5 * n)) 3 (5 * n) (sound-field file 3 (5 * n) (at + j * (3 + 5 * n)) (run-at 3 (5 * n) j at (omega arith)))))
 
     -- all of them
-    pub all-begin : Begins file f (fieldsBeforeIn (kind f) file) (valuesStartIn (kind f) file) (bankCountIn (kind f) file) (nodeCountIn (kind f) file)
+    pub all-begin : Front file f (fieldsBeforeIn (kind f) file) (valuesStartIn (kind f) file) (bankCountIn (kind f) file) (nodeCountIn (kind f) file)
         (rowCountIn (kind f) file)
     unfolding fieldsBeforeIn valuesStartIn
     all-begin = rows-begin (rowCountIn (kind f) file) (omega arith)
@@ -192,7 +192,7 @@ module _ (file : List ℕ) where
     b₀ : ℕ
     n₀ : ℕ
     r₀ : ℕ
-    was : Begins file f c at₀ b₀ n₀ r₀
+    was : Front file f c at₀ b₀ n₀ r₀
     how : How f at₀ n₀ r₀
     end : at ≡ at₀ + 3 + (getD file (at₀ + 1) 0 * 256 + getD file (at₀ + 2) 0)
     of-b : b ≡ b₀ + (one-if (getD file at₀ 0) 1 + one-if (getD file at₀ 0) 17)
@@ -203,7 +203,7 @@ module _ (file : List ℕ) where
     first : f ≡ form-2 → c ≡ 0 → at ≡ 4 → b ≡ 0 → n ≡ 0 → r ≡ 0 → Came f c at b n r
     later : From f c at b n r → Came f c at b n r
 
-  came : {f : Form} {d at b n r : ℕ} → Begins file f d at b n r → (c : ℕ) → d ≡ suc c → Came f c at b n r
+  came : {f : Form} {d at b n r : ℕ} → Front file f d at b n r → (c : ℕ) → d ≡ suc c → Came f c at b n r
   came files.begins-1 c e = absurd (omega (arith, e))
   came (files.begins-2 w x) c e = first refl (omega (arith, e)) refl refl refl refl
   came (files.bank-1 {c = d} {at} {b} g w l) c e =
@@ -260,7 +260,7 @@ module _ (file : List ℕ) where
       })
 
   -- a file of form 2 begins with its head
-  some : {f : Form} {c at b n r : ℕ} → Begins file f c at b n r → f ≡ form-2 → 0 < c
+  some : {f : Form} {c at b n r : ℕ} → Front file f c at b n r → f ≡ form-2 → 0 < c
   some files.begins-1 e = absurd (let z : _≡_ {A = ℕ} 0 1 = cc in omega arith)
   some (files.begins-2 w x) e = omega arith
   some (files.bank-1 g w l) e = omega arith
@@ -268,7 +268,7 @@ module _ (file : List ℕ) where
   some (files.node g w) e = omega arith
   some (files.row g w) e = omega arith
 
-  none : {f : Form} {c at b n r : ℕ} → Begins file f c at b n r → c ≡ 0 → (at ≡ 0) × (b ≡ 0) × (n ≡ 0) × (r ≡ 0)
+  none : {f : Form} {c at b n r : ℕ} → Front file f c at b n r → c ≡ 0 → (at ≡ 0) × (b ≡ 0) × (n ≡ 0) × (r ≡ 0)
   none files.begins-1 e = (refl, refl, refl, refl)
   none (files.begins-2 w x) e = absurd (omega (arith, e))
   none (files.bank-1 g w l) e = absurd (omega (arith, e))
@@ -283,9 +283,9 @@ module _ (file : List ℕ) where
     r-same : r ≡ r′
 
   abbrev Before : Form → ℕ → Type 0
-  Before f c = (at b n r at′ b′ n′ r′ : ℕ) → Begins file f c at b n r → Begins file f c at′ b′ n′ r′ → Same at b n r at′ b′ n′ r′
+  Before f c = (at b n r at′ b′ n′ r′ : ℕ) → Front file f c at b n r → Front file f c at′ b′ n′ r′ → Same at b n r at′ b′ n′ r′
 
-  state-one : (c : ℕ) {f : Form} {at b n r at′ b′ n′ r′ : ℕ} → Begins file f c at b n r → Begins file f c at′ b′ n′ r′ → Same at b n r at′ b′ n′ r′
+  state-one : (c : ℕ) {f : Form} {at b n r at′ b′ n′ r′ : ℕ} → Front file f c at b n r → Front file f c at′ b′ n′ r′ → Same at b n r at′ b′ n′ r′
   state-one zero g k =
       let p = none g refl in
       let q = none k refl in
@@ -311,7 +311,7 @@ module _ (file : List ℕ) where
   pub good-below : {f : Form} (i : ℕ) → Good f file (suc i) → Good f file i
   good-below {f} i g = by g (suc i) refl
     where
-      front-of : (j at b n r : ℕ) → Begins file f j at b n r → j ≡ suc i → Good f file i
+      front-of : (j at b n r : ℕ) → Front file f j at b n r → j ≡ suc i → Good f file i
       front-of j at b n r g e = files.front (moved e refl refl refl refl g)
 
       by : {j : ℕ} → Good f file j → (m : ℕ) → j ≡ suc i → Good f file i
@@ -347,9 +347,9 @@ module _ (file : List ℕ) where
   front-tag f at n r (of-node v e) t = omega (arith, t, field-tag file 2 5 at (sound-field file 2 5 at e))
   front-tag f at n r (of-row e) t = omega (arith, t, field-tag file 3 (5 * n) at (sound-field file 3 (5 * n) at e))
 
-  module _ (f : Form) {c at b n r : ℕ} (g : Begins file f c at b n r) where
+  module _ (f : Form) {c at b n r : ℕ} (g : Front file f c at b n r) where
     -- how a file goes on behind g
-    on-from : {at′ b′ n′ r′ : ℕ} → Begins file f (suc c) at′ b′ n′ r′ → How f at n r
+    on-from : {at′ b′ n′ r′ : ℕ} → Front file f (suc c) at′ b′ n′ r′ → How f at n r
     on-from {at′} {b′} {n′} {r′} k = go (came k c refl)
       where
         go : Came f c at′ b′ n′ r′ → How f at n r
@@ -361,21 +361,21 @@ module _ (file : List ℕ) where
 
     -- behind it stand the values: then no field of the front does
     module _ {v : ℕ} (values : Whole file at 4 v) where
-      not-on : {at′ b′ n′ r′ : ℕ} → Begins file f (suc c) at′ b′ n′ r′ → ⊥
+      not-on : {at′ b′ n′ r′ : ℕ} → Front file f (suc c) at′ b′ n′ r′ → ⊥
       not-on k = front-tag f at n r (on-from k) (values .1)
 
-      not-past : (i at′ b′ n′ r′ : ℕ) → c < i → Begins file f i at′ b′ n′ r′ → ⊥
+      not-past : (i at′ b′ n′ r′ : ℕ) → c < i → Front file f i at′ b′ n′ r′ → ⊥
       not-past i at′ b′ n′ r′ less k = go i at′ b′ n′ r′ less k (i - suc c) (omega arith)
         where
-          go : (i at′ b′ n′ r′ : ℕ) → c < i → Begins file f i at′ b′ n′ r′ → (m : ℕ) → i ≡ suc c + m → ⊥
+          go : (i at′ b′ n′ r′ : ℕ) → c < i → Front file f i at′ b′ n′ r′ → (m : ℕ) → i ≡ suc c + m → ⊥
           go i at′ b′ n′ r′ less k zero e = not-on (moved (e ∙ omega arith) refl refl refl refl k)
           go i at′ b′ n′ r′ less k (suc m) e = back (λ i at′ b′ n′ r′ less k e. go i at′ b′ n′ r′ less k m e) (came k (suc c + m) (e ∙ omega arith))
             where
-              back : ((i at′ b′ n′ r′ : ℕ) → c < i → Begins file f i at′ b′ n′ r′ → i ≡ suc c + m → ⊥) → Came f (suc c + m) at′ b′ n′ r′ → ⊥
+              back : ((i at′ b′ n′ r′ : ℕ) → c < i → Front file f i at′ b′ n′ r′ → i ≡ suc c + m → ⊥) → Came f (suc c + m) at′ b′ n′ r′ → ⊥
               back before (first x z p q u v) = omega (arith, z)
               back before (later x) = before (suc c + m) (x .at₀) (x .b₀) (x .n₀) (x .r₀) (omega arith) (x .was) refl
 
-  module _ (f : Form) {c at b n r : ℕ} (g : Begins file f c at b n r) where
+  module _ (f : Form) {c at b n r : ℕ} (g : Front file f c at b n r) where
     whole-here : {at′ v : ℕ} → at′ ≡ at → Whole file at′ 4 v → Whole file at 4 v
     whole-here {at′} {v} e w = subst (λ (m : ℕ). Whole file m 4 v) e w
 
@@ -410,7 +410,7 @@ module _ (file : List ℕ) where
 -- ---- a broken file
 
 -- a file of form 2 has its head before everything else
-headless : (file : List ℕ) (j at b n r : ℕ) → Begins file form-2 j at b n r → headed form2 file ≡ true
+headless : (file : List ℕ) (j at b n r : ℕ) → Front file form-2 j at b n r → headed form2 file ≡ true
 unfolding begins2
 headless file j at b n r (files.begins-2 w x) = rw (field-of file 0 16 1 w, eq-eqb (byte file 3) 2 x)
 headless file j at b n r (files.bank-2 {c = d} {at = p} {b = q} g w x y) = headless file d p q 0 0 g

@@ -16,7 +16,8 @@ use Rattle.form_fields.specs.Columns.{column}
 use Rattle.form_fields.specs.Laws.Columns.{column-length, column-at}
 use Rattle.form_fields.specs.Lists.{cells}
 use Rattle.form_fields.specs.Words.{byte, word16, word32, word64}
-use Rattle.says_form.specs.Form.{two, four, eight, Signed, from-0, below-0}
+use Rattle.says_form.specs.Files.{two, four, eight}
+use Rattle.says_form.specs.Form.{Signed, from-0, below-0}
 
 -- ---- a payload of so many bytes stands in the file from `at` on
 

@@ -9,8 +9,8 @@ use lib.ListN.{length, getD}
 use lib.Seq.{ext-getD}
 use Rattle.says.specs.Words.{first-one}
 use Rattle.says_build.specs.Build.{Given}
-use Rattle.says_form.specs.Files.{Form, Held, Sound, Broken, Good, long, at-field}
-use Rattle.says_form.specs.Form.{two, four, fillBit, Signed, from-0, below-0, Column, Cells, Layout, OfForm, of-1, of-2}
+use Rattle.says_form.specs.Files.{two, four, Form, Held, Sound, Broken, Good, long, at-field}
+use Rattle.says_form.specs.Form.{fillBit, Signed, from-0, below-0, Column, Cells, Layout, OfForm, of-1, of-2}
 
 column-one : (payloads : List (List ℕ)) (read : List ℕ → ℕ) (l m : List ℕ) → Column l payloads read → Column m payloads read → l ≡ m
 column-one payloads read l m p q =

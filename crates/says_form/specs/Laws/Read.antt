@@ -35,8 +35,8 @@ use Rattle.c_tables.specs.Tables.{given, bankIn, agree, countOf, tableOf, choic
 use Rattle.c_tables.specs.Tables as tables
 use Rattle.says_build.specs.Build.{Given}
 use Rattle.says_build.specs.Typed.{Typed}
-use Rattle.says_form.specs.Files.{Form, form-1, form-2, Held, Sound, Bank, of-1, of-2}
-use Rattle.says_form.specs.Form.{two, four, eight, Signed, fillBit, closes, Column, Cells, Layout}
+use Rattle.says_form.specs.Files.{two, four, eight, Form, form-1, form-2, Held, Sound, Bank, of-1, of-2}
+use Rattle.says_form.specs.Form.{Signed, fillBit, closes, Column, Cells, Layout}
 use Rattle.says_form.specs.Laws.Numbers.{Stands, two-at, four-at, eight-at, signed-is, column-from, columns-same, cells-at, small-column, small-cells}
 use Rattle.says_form.specs.Laws.Written.{kind, held}
 
@@ -306,7 +306,7 @@ module _ (f : Form) (file : List ℕ) (fill : ℕ) where
 
   flags-few : (s : Sound f file h) (b : ℕ) → b < count → byte file (base + b * step + 25) ≤ 15
   flags-few s b less =
-      let few = go f (getD (h .banks) b []) (s .banks b (omega (arith, banks-many))) in
+      let few = go f (getD (h .banks) b []) (s .fits .banks b (omega (arith, banks-many))) in
       let same = bank-stands b less 22 (omega (arith, long-bank)) ∙ ap (byte file) {x = base + b * step + 3 + 22} {y = base + b * step + 25} (omega arith) in
       omega (arith, few, same)
     where

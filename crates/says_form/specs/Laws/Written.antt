@@ -20,6 +20,7 @@ use Rattle.form_fields.specs.Whole.{Bytes, contentsIn}
 use Rattle.form_fields.specs.Laws.Whole.{contents-fit, file-is-written}
 use Rattle.form_fields.specs.Theorems.Whole.{contents-back}
 use Rattle.form_fields.specs.Writer.{shapeFor}
+use Rattle.says_form.specs.Files as files
 use Rattle.says_form.specs.Files.{field, fields, Held, Form, form-1, form-2, longest, bytes, Bank, of-1, of-2, Sound}
 
 abbrev pub kind : Form → Kind
@@ -83,13 +84,24 @@ bank-of form-2 p fits =
     let e = both (leb (getD p 22 0) 15) (leb (getD p 23 0) 1) (fits .1) in
     of-2 (fits .0) (leb-true (getD p 22 0) 15 (e .0)) (leb-true (getD p 23 0) 1 (e .1))
 
-pub sound-fits : {f : Form} {file : List ℕ} {h : Held} → Sound f file h → Fits (kind f) (contents h)
-sound-fits {f} {file} {h} s =
+pub fits-so : {f : Form} {h : Held} → files.Fits f h → Fits (kind f) (contents h)
+fits-so {f} {h} s =
     record {
       of-banks = each-of (BankFits (kind f)) (h .banks) (λ b less. bank-fits f (getD (h .banks) b []) (s .banks b less));
       of-nodes = each-of (Long 5) (h .nodes) (s .nodes);
       of-rows = each-of (Long (5 * length (h .nodes))) (h .rows) (s .rows);
     }
+
+pub so-fits : (f : Form) (c : Contents) → Fits (kind f) c → files.Fits f (held c)
+so-fits f c fits =
+    record {
+      banks = λ b less. bank-of f (getD (c .banks) b []) (of-each (BankFits (kind f)) (c .banks) (fits .of-banks) b less);
+      nodes = of-each (Long 5) (c .nodes) (fits .of-nodes);
+      rows = of-each (Long (5 * length (c .nodes))) (c .rows) (fits .of-rows);
+    }
+
+pub sound-fits : {f : Form} {file : List ℕ} {h : Held} → Sound f file h → Fits (kind f) (contents h)
+sound-fits s = fits-so (s .fits)
 
 pub sound-written : {f : Form} {file : List ℕ} {h : Held} → Sound f file h → file ≡ written (kind f) (contents h)
 sound-written {f} {file} {h} s = s .is ∙ sym (bytes-same f h)
@@ -119,7 +131,5 @@ form-sound f file small s e =
     record {
       is = sym (file-is-written file small (known f) s e) ∙ bytes-same f (held c);
       short = omega (arith, facts .short, longest-same f);
-      banks = λ b less. bank-of f (getD (c .banks) b []) (of-each (BankFits (kind f)) (c .banks) (fits .of-banks) b less);
-      nodes = of-each (Long 5) (c .nodes) (fits .of-nodes);
-      rows = of-each (Long (5 * length (c .nodes))) (c .rows) (fits .of-rows);
+      fits = so-fits f c fits;
     }
