@@ -9,7 +9,7 @@ use Rattle.sort.specs.Laws.Sorted.{le-or-lt}
 use Rattle.c_answers.specs.declared.DkProfile.{DkProfile}
 use Rattle.says.specs.Words as w
 use Rattle.says_build.specs.Build as b
-use Rattle.says_build.specs.Build.{Given, Lent, Outcome, Not, banks, In, Written, Reads, Offer, Refuses, Stops, Accepts, Built, Laid, refusal}
+use Rattle.says_build.specs.Build.{Given, Lent, Outcome, Not, banks, In, IsWritten, Reads, Offer, Refuses, Stops, Accepts, Built, Laid, refusal}
 use Rattle.says_build.specs.Laws.One.{in-one}
 use Rattle.says_profile.specs.Profile as p
 use Rattle.says_profile.specs.Profile.{Whole, Yes, ProfileSays, refused}
@@ -102,14 +102,14 @@ module _ (g : Given) (page : ℕ) where
 
     module _ (c : Sound g) (h : Holds g page) (row : ℕ) (clear : (i : ℕ) → Refuses g row i → ⊥) where
       some-bank : 0 < banks g
-      some-bank = ⊎-elim (λ le. le) (λ lt. absurd (c .counted (b.none lt))) (le-or-lt 1 (banks g))
+      some-bank = ⊎-elim (λ le. le) (λ lt. absurd (c .counted (b.too-few lt))) (le-or-lt 1 (banks g))
 
       whole-size : (m : ℕ) → Whole page m → m / page * page ≡ m
       whole-size m q =
           let none : m % page ≡ 0 = ap (λ (x : ℕ). x % page) (q .1) ∙ mul-mod-left (q .0) page in
           omega (arith, div-add-mod' m page, none)
 
-      pub in-pages : {i at x m bit : ℕ} → Written g i → In g i at → Offer g row i x m → x ≤ bit → bit < x + m → InPages g page at bit
+      pub in-pages : {i at x m bit : ℕ} → IsWritten g i → In g i at → Offer g row i x m → x ≤ bit → bit < x + m → InPages g page at bit
       in-pages {i} {at} {m = m} {bit = bit} written stands
           (b.offer {b = bank} {o = o} lt lo hi (b.sees {p = q} {lead = lead} {k = known} here own l le) offset number) from to =
           let same : bank ≡ at = in-one g own stands in

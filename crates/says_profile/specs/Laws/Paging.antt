@@ -20,7 +20,7 @@ use Rattle.build_profile.specs.Theorems.PageFacts.{pages-at}
 use Rattle.build_profile.specs.Pages.{noPages, pagesBy, pagesIn, pagesOf}
 use Rattle.says_build.specs.Build.{Given, banks}
 use Rattle.says_meets.specs.Laws.Shown.{Shown, Tells, listed}
-use Rattle.says_meets.specs.Table.{Typed}
+use Rattle.says_build.specs.Typed.{Typed}
 use Rattle.says_meets.specs.Laws.Table.{table, shown}
 use Rattle.says_profile.specs.Profile as p
 use Rattle.says_profile.specs.Profile.{BadSize, Pages, Yes}

@@ -23,7 +23,7 @@ use Rattle.says_build.specs.Build as says
 use Rattle.says_build.specs.Build.{Given, banks, nodes, BadBank, BadField, BadNode}
 use Rattle.says_build.specs.Laws.One.{number-one}
 use Rattle.says_meets.specs.Laws.Shown.{listed, number-is, state-is}
-use Rattle.says_meets.specs.Table.{Typed}
+use Rattle.says_build.specs.Typed.{Typed}
 use Rattle.says_meets.specs.Laws.Table.{table, recordOf, no-banks-only, as-many, long, record-of, faulty-of, overlap-at}
 use Rattle.says_profile.specs.Laws.Tried.{Clear}
 

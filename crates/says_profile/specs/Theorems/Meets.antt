@@ -22,7 +22,7 @@ use Rattle.denkumari.specs.Tables.{TablesTold}
 use Rattle.says_build.specs.Build.{Given, Lent, Outcome, Laid, BuildSays, refusal}
 use Rattle.says_meets.specs.Laws.Contract.{lentSo, inputOf}
 use Rattle.says_meets.specs.Laws.Shown.{listed}
-use Rattle.says_meets.specs.Table.{Typed}
+use Rattle.says_build.specs.Typed.{Typed}
 use Rattle.says_meets.specs.Laws.Table.{table}
 use Rattle.says_profile.specs.Profile.{Yes, ProfileSays, refused}
 use Rattle.says_profile.specs.Paged.{PagedSays}

@@ -8,7 +8,7 @@ use lib.ListN.{replicate}
 use Rattle.build_profile.specs.Theorems.OneBit.{zero-has-none}
 use Rattle.c_answers.specs.declared.DkProfile.{DkProfile}
 use Rattle.says.specs.Words.{refused as broken}
-use Rattle.says_build.specs.Build.{Given, Lent, Outcome, Not, banks, flag, Size, Offset, Align, Unsized, In, Written, Reads}
+use Rattle.says_build.specs.Build.{Given, Lent, Outcome, Not, banks, flag, Size, Offset, Align, Unsized, In, IsWritten, Reads}
 use Rattle.says_build.specs.Build.{Offer, Laid, BuildSays, refusal}
 use Rattle.says_profile.specs.Profile as p
 use Rattle.says_profile.specs.Profile.{BadLabel, BadSize, Rules, Pages, Yes, ProfileSays, refused}
@@ -155,12 +155,12 @@ module _ (g : Given) (page : ℕ) where
     -- Every bit of a written item of an accepted build stands in a page of the bank that the item stands in.
     pub written-in-pages : (y : Outcome) → PagedSays g page old y → y .answer .refusal ≡ 0
         → (row : ℕ) × Reads g (y .answer .passes) row
-        × ((i at x m bit : ℕ) → Written g i → In g i at → Offer g row i x m → x ≤ bit → bit < x + m → InPages g page at bit)
+        × ((i at x m bit : ℕ) → IsWritten g i → In g i at → Offer g row i x m → x ≤ bit → bit < x + m → InPages g page at bit)
     written-in-pages y s e = from (comes g page old y s) e
       where
         from : {y : Outcome} → Comes g page old y → y .answer .refusal ≡ 0
             → (row : ℕ) × Reads g (y .answer .passes) row
-            × ((i at x m bit : ℕ) → Written g i → In g i at → Offer g row i x m → x ≤ bit → bit < x + m → InPages g page at bit)
+            × ((i at x m bit : ℕ) → IsWritten g i → In g i at → Offer g row i x m → x ≤ bit → bit < x + m → InPages g page at bit)
         from (a.early lo hi n) e = absurd (omega arith)
         from (a.names c n) e = absurd (let z : _≡_ {A = ℕ} 19 0 = e in omega arith)
         from (a.laid c h t) e =

@@ -31,7 +31,7 @@ total-is [] = refl
 total-is (b ∷ l) = ap (λ (n : ℕ). b + n) (total-is l)
 
 -- ---- lines
-module _ (c d : ℕ) (t : List ℕ) (ls : List (List ℕ)) (first : ls ≡ firstLine (d ∷ t) ∷ linesOf (Rattle.records.specs.Lines.behind (d ∷ t)))
+module _ (c d : ℕ) (t : List ℕ) (ls : List (List ℕ)) (first : ls ≡ firstLine (d ∷ t) ∷ linesOf (Rattle.record_lines.specs.Lines.behind (d ∷ t)))
     (later : Lines (d ∷ t) ls) where
   goes-on : isLf c ≡ false → ((c ≡ 13) × (d ≡ 10) → ⊥) → Lines (c ∷ d ∷ t) (inFront c ls)
   goes-on e n = rw first (r.more (eqb-false c 10 e) n (rw first at later))
