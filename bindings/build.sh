@@ -1,39 +1,49 @@
 #!/bin/sh
 # Builds the proved archive and the programs over it: target/staticlib/libdenkumari.a, and in build/bindings the C programs batch, test, store, overlays,
 # records, stack and calls_time, and, where a Rust compiler has the x86-64 target, the Rust ones batch_rust, worked_rust, calls_rust, store_rust and
-# overlays_rust. Says what it skipped.
+# overlays_rust. Says what it skipped for want of something, and what it left out since this machine cannot run it.
 #
 # Not on x86-64, CC names a C compiler for it (default x86_64-linux-gnu-gcc; Debian: gcc-x86-64-linux-gnu libc6-dev-amd64-cross). RUSTC names the
 # Rust compiler.
 set -eu
-root=$(cd "$(dirname "$0")/.." && pwd)
-cd "$root"
+. "$(dirname "$(readlink -f -- "$0")")/../tools/start.sh"
+. "$home/tools/launch.sh"
+words_at_most 0 "$@"
+cd "$home"
 target=x86_64-unknown-linux-gnu
-if [ "$(uname -m)" = x86_64 ]; then cc=${CC:-cc}; else cc=${CC:-x86_64-linux-gnu-gcc}; fi
+# the archive is x86-64 code: there it can always be linked, and elsewhere only by a compiler for it
+if [ "$(uname -m)" = x86_64 ]; then
+    cc=${CC:-cc} skipped=skipped
+else
+    cc=${CC:-x86_64-linux-gnu-gcc} skipped='left out'
+fi
 rustc=${RUSTC:-rustc}
 
-rt staticlib denkumari >build.log 2>&1 || { cat build.log; rm build.log; exit 1; }
-rm build.log
-archive=target/staticlib/libdenkumari.a
 out=build/bindings
 rm -rf "$out"
 mkdir -p "$out"
+build_archive
+cp "$archive" "$out/libdenkumari.a"
 
 if ! command -v "$cc" >/dev/null; then
-    echo "skipped: the C and Rust programs, for want of a C compiler for x86-64 ($cc)"
+    echo "$skipped: the C programs, for want of a C compiler for x86-64 ($cc)"
+    echo "$skipped: the Rust programs, for want of a C compiler for x86-64 ($cc), which links them"
     exit 0
 fi
 for program in batch test store overlays stack records calls_time; do
-    "$cc" -std=c11 -O2 -Wall -Wextra -Werror -static -pthread -o "$out/$program" "bindings/c/$program.c" "$archive"
+    "$cc" -std=c11 -O2 -Wall -Wextra -Werror -static -pthread -o "$out/$program" "bindings/c/$program.c" "$out/libdenkumari.a"
 done
 echo "built: libdenkumari.a and the C programs"
 
-if ! "$rustc" --version >/dev/null 2>&1 || [ -z "$(ls "$("$rustc" --print target-libdir --target "$target" 2>/dev/null)"/libstd-*.rlib 2>/dev/null)" ]; then
-    echo "skipped: the Rust programs, for want of a Rust compiler with the target $target"
+has_target() {
+    "$rustc" --version >/dev/null 2>&1 && set -- "$("$rustc" --print target-libdir --target "$target" 2>/dev/null)"/libstd-*.rlib && [ -f "$1" ]
+}
+has_target || {
+    echo "$skipped: the Rust programs, for want of a Rust compiler with the target $target ($rustc)"
     exit 0
-fi
+}
 rust() { "$rustc" --edition 2021 -O -D warnings --target "$target" -C linker="$cc" "$@"; }
-rust --crate-type rlib --crate-name denkumari -L target/staticlib -l static=denkumari --out-dir "$out" bindings/rust/src/lib.rs
+rust --crate-type rlib --crate-name denkumari -L "$out" -l static=denkumari --out-dir "$out" bindings/rust/src/lib.rs
 for program in batch worked; do
     rust --extern "denkumari=$out/libdenkumari.rlib" -o "$out/${program}_rust" "bindings/rust/examples/$program.rs"
 done

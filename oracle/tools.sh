@@ -1,9 +1,10 @@
 #!/bin/sh
 # The tools' statuses and outputs, on files of examples/ and on what they wrote themselves: oracle/tools.sh. Programs that are not built yet are built first.
 set -u
-cd "$(dirname "$0")/.." || exit 2
-room=$(mktemp -d) || exit 2
-trap 'rm -rf "$room"' EXIT
+. "$(dirname "$(readlink -f -- "$0")")/../tools/start.sh"
+words_at_most 0 "$@"
+cd "$home" || exit 2
+make_room
 wrong=0
 # a status, and a tool's call that is to end with it; refused and failed calls say why, and print nothing
 is() {
@@ -28,10 +29,10 @@ refused() {
     shift 2
     "$@" >"$room/out" 2>"$room/err" </dev/null
     got=$?
-    [ "$got" -eq 1 ] && [ "$(tail -n 1 "$room/out")" = "$last" ] && grep -q "$said" "$room/err" || {
+    if [ "$got" -ne 1 ] || [ "$(tail -n 1 "$room/out")" != "$last" ] || ! grep -q "$said" "$room/err"; then
         echo "$*: status $got, '$(tail -n 1 "$room/out")' for '$last', '$(cat "$room/err")' for '$said'"
         wrong=1
-    }
+    fi
 }
 has() {
     grep -qx "$2" "$1" || {
@@ -116,9 +117,11 @@ done
 is 0 tools/words examples/clamp-mark-after.form --help
 # a pipe gives what the file gives, but for the name
 tools/map examples/clamp-mark-after.form 2>"$room/words" | tail -n +2 >"$room/drawn"
+# shellcheck disable=SC2002
 cat examples/clamp-mark-after.form | tools/map - 2>"$room/err" | tail -n +2 >"$room/out"
 same "$room/drawn" "$room/out" "tools/map - prints another map than for the file"
 same "$room/words" "$room/err" "tools/map - has other words than for the file"
+# shellcheck disable=SC2002
 cat examples/clamp-mark-after.form | tools/map /dev/stdin 2>"$room/err" | tail -n +2 >"$room/out"
 same "$room/drawn" "$room/out" "tools/map prints another map for a pipe than for the file"
 same "$room/words" "$room/err" "tools/map has other words for a pipe than for the file"

@@ -1,24 +1,10 @@
+# shellcheck shell=sh disable=SC2034,SC2154
 # What the tools over the programs share; they read it, nobody runs it. A tool sets `takes`, its options with a value, `flags`, those without, and `most`, how
 # many files.
-home=$(cd "$(dirname "$0")/.." && pwd) || exit 2
-tool=tools/${0##*/}
+. "$(dirname "$(readlink -f -- "$0")")/start.sh"
+. "$home/tools/launch.sh"
 load='' width='' to='' fill='' page='' address='' count='' svg=''
 file='' other='' files=0 line='' kinds='type 00, 01 or 04'
-
-# Nothing was done: status 2.
-say() {
-    echo "$tool: $1" >&2
-    exit 2
-}
-
-# The lines at the head of the tool, at once wherever --help stands.
-usage() {
-    sed -n '2,/^[^#]/s/^# \{0,1\}//p' "$0" || exit 2
-    exit 0
-}
-for one in "$@"; do
-    [ "$one" != --help ] || usage
-done
 
 # A number, decimal or in hex after 0x, as decimal.
 number() {
@@ -32,7 +18,10 @@ number() {
     *[!0-9]*) say "$1 wants a number, decimal or in hex after 0x, and not '$2'" ;;
     esac
     digits=$(printf '%s' "$digits" | sed 's/^0*//')
-    [ "${#digits}" -le 10 ] && value=$(($base${digits:-0})) && [ "$value" -le 4294967295 ] || say "$1 goes up to 4294967295, and $2 is more"
+    [ "${#digits}" -gt 10 ] || value=$(($base${digits:-0}))
+    if [ "${#digits}" -gt 10 ] || [ "$value" -gt 4294967295 ]; then
+        say "$1 goes up to 4294967295, and $2 is more"
+    fi
 }
 
 # One of some words.
@@ -89,42 +78,48 @@ options() {
     done
 }
 
-# A file that can be read; room for what programs write.
+# A file that can be read.
 readable() {
     [ -n "$1" ] || say "a file is missing (--help says how to call it)"
     [ ! -d "$1" ] || say "$1 is a folder"
     [ -r "$1" ] || say "$1 cannot be read"
 }
-room=$(mktemp -d 2>/dev/null) || say "no temporary folder can be made"
-trap 'rm -rf "$room"' EXIT
 
-# The file, or standard input for -, of which no more is read than shows that it is too long.
+# ready PROGRAM ..: the programs are built; then there is room for what they write.
+ready() {
+    for one in "$@"; do
+        build_program "$one"
+    done
+    make_room
+}
+
+# take FILE LIMIT PROGRAM ..: the file, or standard input for -, of which no more is read than shows that it is too long.
 take() {
-    from=$1
+    from=$1 limit=$2
+    shift 2
+    [ "$from" = - ] || readable "$from"
+    ready "$@"
     if [ "$from" = - ]; then
-        head -c "$2" >"$room/source" 2>/dev/null || say "standard input cannot be read"
+        held head -c "$limit" >"$room/source" 2>/dev/null || say "standard input cannot be read"
         from=$room/source
-    else
-        readable "$from"
+    elif [ ! -f "$from" ]; then
         # a pipe can be read once, and a file is read by several programs
-        [ -f "$from" ] || {
-            head -c "$2" <"$from" >"$room/source" 2>/dev/null || say "$from cannot be read"
-            from=$room/source
-        }
+        held head -c "$limit" <"$from" >"$room/source" 2>/dev/null || say "$from cannot be read"
+        from=$room/source
     fi
 }
 
 # Runs a program on the source. A refusal goes to `words`, which says it: status 1.
 ask() {
-    "$home/tools/run" "$@" <"$from" >"$room/said" || say "the program failed"
+    launch "$@" <"$from" >"$room/said" || say "the program failed"
     [ -s "$room/said" ] || say "the program gave no answer"
     case $(head -c 8 "$room/said" | tr -d '\000') in
     'refused ')
         # the line of a file that is at fault, counted from 1, where the program names one
         line=$(sed -n 's/^line //p' "$room/said")
-        set -- $(sed -n 1p "$room/said")
-        text=$(words "$2" "$3")
-        echo "$tool: refused with $2: $text" >&2
+        read -r _ number place _ <"$room/said" || say "the program gave no answer"
+        text=$(words "$number" "$place")
+        echo "$tool: refused with $number: $text" >&2
         exit 1
         ;;
     esac
@@ -133,8 +128,8 @@ ask() {
 # Whether an answer is whole: it ends as the program ends it, so one that was cut, on a full disk say, is not taken for an answer.
 whole() {
     case $1 in
-    station | rehex) tail -n 1 "$room/said" | grep -qxE ':00000001FF|S9030000FC|S70500000000FA' ;;
-    converter) [ "$(tail -c 4 "$room/said" | od -An -v -tx1 | tr -d ' ' | cut -c 1-6)" = 050001 ] ;;
+    "$crate_station" | "$crate_rehex") tail -n 1 "$room/said" | grep -qxE ':00000001FF|S9030000FC|S70500000000FA' ;;
+    "$crate_converter") [ "$(tail -c 4 "$room/said" | od -An -v -tx1 | tr -d ' ' | cut -c 1-6)" = 050001 ] ;;
     *) [ -z "$(tail -c 1 "$room/said")" ] ;;
     esac
 }

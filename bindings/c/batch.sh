@@ -1,6 +1,6 @@
 #!/bin/sh
 # Runs build/bindings/batch (bindings/build.sh makes it) on standard input, with its words: a side of oracle/compare.py. It is x86-64 code; on
-# another machine the Rattle kit's emulator runs it.
+# another machine an emulator runs it (tools/run --file).
 set -eu
-root=$(cd "$(dirname "$0")/../.." && pwd)
-exec $("$root/bindings/emulator.sh") "$root/build/bindings/batch" "$@"
+. "$(dirname "$(readlink -f -- "$0")")/../../tools/start.sh"
+exec "$home/tools/run" --file "$home/build/bindings/batch" "$@"

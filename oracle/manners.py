@@ -1,0 +1,113 @@
+#!/usr/bin/env python3
+"""How the scripts here behave at the command line: --help, options that there are not, faults said in a line, signals, and the crates' names.
+
+Other scripts read it, nobody runs it. Status 0 is done, 1 says that something differs, 2 that nothing was done, and 128 and its number that a signal came."""
+
+import argparse
+import os
+import signal
+import subprocess
+import sys
+from pathlib import Path
+
+ROOT = Path(__file__).resolve().parent.parent
+
+
+class Stop(Exception):
+    """Nothing was done, and why: status 2."""
+
+
+def parser(doc):
+    return argparse.ArgumentParser(description=doc, formatter_class=argparse.RawDescriptionHelpFormatter, allow_abbrev=False)
+
+
+def count(text):
+    """A number from 0 on, for an option."""
+    if not text.isascii() or not text.isdigit():
+        raise argparse.ArgumentTypeError(f"a number is wanted, and not '{text}'")
+    return int(text)
+
+
+def some(text):
+    """A number from 1 on."""
+    if count(text) == 0:
+        raise argparse.ArgumentTypeError("0 of them would be nothing")
+    return int(text)
+
+
+def given():
+    """Standard input, whole."""
+    if sys.stdin is None:
+        raise Stop("standard input is closed")
+    return sys.stdin.buffer.read()
+
+
+def crates():
+    """The crates that scripts name, by their part (tools/crates.sh)."""
+    lines = (ROOT / "tools" / "crates.sh").read_text().splitlines()
+    return dict(line.removeprefix("crate_").split("=", 1) for line in lines if line.startswith("crate_"))
+
+
+def command(role):
+    """The words that start a program of the repository, which is built first where it must be (tools/run)."""
+    done = subprocess.run([ROOT / "tools" / "run", "--command", crates()[role]], stdout=subprocess.PIPE, check=False)
+    if done.returncode:
+        raise Stop(f"the program {crates()[role]} was not built")
+    return done.stdout.decode().splitlines()
+
+
+def said_of(error):
+    """A fault in a line, or none where it is a fault of the script itself."""
+    if isinstance(error, BrokenPipeError):
+        return "the answer could not be written: Broken pipe"
+    if isinstance(error, OSError):
+        return f"{error.filename}: {error.strerror}" if error.filename else f"the answer could not be written: {error.strerror}"
+    if isinstance(error, subprocess.CalledProcessError):
+        words = error.cmd if isinstance(error.cmd, (list, tuple)) else [error.cmd]
+        return f"{' '.join(map(str, words))[:300]}: status {error.returncode}"
+    if isinstance(error, UnicodeDecodeError):
+        return "a file that should be text is not"
+    return str(error) if isinstance(error, Stop) else None
+
+
+def ended(status):
+    """Ends, with nothing more to write: what standard output still holds has no reader."""
+    try:
+        sys.stdout.flush()
+    except (OSError, ValueError, AttributeError):
+        os.dup2(os.open(os.devnull, os.O_WRONLY), 1)
+    sys.exit(status)
+
+
+def run(main, *words):
+    """A script's main function, with no traceback for what its caller did, and its temporary folders gone whatever ends it."""
+    def came(number, _):
+        sys.exit(128 + number)
+    for number in (signal.SIGTERM, signal.SIGHUP, signal.SIGINT):
+        if signal.getsignal(number) in (signal.SIG_DFL, signal.default_int_handler):
+            signal.signal(number, came)
+    name = os.path.relpath(os.path.realpath(sys.argv[0]), ROOT)
+    try:
+        try:
+            main(*words)
+        finally:
+            if sys.stdout is not None:
+                sys.stdout.flush()
+    except Exception as error:  # pylint: disable=broad-except
+        said = said_of(error)
+        if said is None:
+            raise
+        print(f"{name}: {said}", file=sys.stderr)
+        ended(2)
+
+
+def part(doc):
+    """For a file that other scripts read: --help, and nothing else."""
+    def main():
+        parser(doc).parse_args()
+        raise Stop("other scripts read this, nobody runs it")
+    run(main)
+
+
+if __name__ == "__main__":
+    part(__doc__)
