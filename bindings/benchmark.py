@@ -9,21 +9,22 @@ FOLDERs are where the two builds put their programs. Prints the tables machine, 
 they take the place of those in the document. Ends with 1 where two sides give different answers, where an exported call has no row, or where a stack figure of
 include/denkumari.h is not the measured one."""
 
-import argparse
 import re
 import subprocess
 import sys
 from pathlib import Path
 
 from benchmark_calls import call_rows, ratio
-from benchmark_count import Differ, each, instructions, times, wanted
-from benchmark_layouts import LAYOUTS, MARKED, SERIES, encode
+from benchmark_count import Differ, each, manners, times, wanted
+from benchmark_layouts import LAYOUTS, MARKED, SERIES
 from benchmark_stack import stack_rows
 from benchmark_where import where_rows
+from form1 import encode
 from generate import batched
 from programs_time import program_rows
 
 LONGEST = 65_000
+TABLES = ("machine", "layouts", "where", "series", "calls", "programs", "stack")
 
 
 def big(number):
@@ -107,19 +108,22 @@ def write_into(document, name, rows):
 
 
 def main():
-    parser = argparse.ArgumentParser(description=__doc__, formatter_class=argparse.RawDescriptionHelpFormatter)
-    parser.add_argument("--ours", type=Path, default=Path("build/bindings"))
-    parser.add_argument("--rust", type=Path, default=Path("build/fast"))
-    parser.add_argument("--rehex", default="target/bin/rehex")
+    parser = manners.parser(__doc__)
+    parser.add_argument("--ours", type=Path, default=manners.ROOT / "build" / "bindings")
+    parser.add_argument("--rust", type=Path, default=manners.ROOT / "build" / "fast")
+    parser.add_argument("--rehex")
     parser.add_argument("--only", nargs="+", metavar="TABLE")
-    parser.add_argument("--turns", type=int, default=5)
+    parser.add_argument("--turns", type=manners.some, default=5)
     parser.add_argument("--write")
     asked = parser.parse_args()
+    for name in set(asked.only or ()) - set(TABLES):
+        parser.error(f"there is no table {name}: {', '.join(TABLES)}")
     wanted()
     sides = Sides(asked.ours, asked.rust)
     tables = {"machine": machine_rows, "layouts": lambda: layout_rows(sides, asked.turns), "where": lambda: where_rows(asked.ours, asked.rust),
               "series": lambda: series_rows(sides), "calls": lambda: call_rows(asked.ours, asked.rust, asked.turns),
-              "programs": lambda: program_rows([asked.rehex], asked.turns), "stack": lambda: stack_rows(asked.ours)}
+              "programs": lambda: program_rows([asked.rehex] if asked.rehex else manners.command("rehex"), asked.turns),
+              "stack": lambda: stack_rows(asked.ours)}
     for name in asked.only or tables:
         rows = []
         print(f"\n<!-- {name} -->")
@@ -130,8 +134,12 @@ def main():
             write_into(asked.write, name, rows)
 
 
-if __name__ == "__main__":
+def told():
     try:
         main()
     except Differ as differ:
         sys.exit(f"benchmark.py: {differ}")
+
+
+if __name__ == "__main__":
+    manners.run(told)

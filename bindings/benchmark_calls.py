@@ -5,9 +5,10 @@ import tempfile
 from dataclasses import dataclass
 from pathlib import Path
 
-from benchmark_count import Differ, each, instructions, times
-from benchmark_layouts import Bank, DATA, SWITCH, Layout, encode, mixed_a, mixed_b, offers, wide
+from benchmark_count import Differ, each, instructions, manners, times
+from benchmark_layouts import Bank, DATA, SWITCH, Layout, mixed_a, mixed_b, offers, wide
 from benchmark_stack import promised
+from form1 import encode
 from generate import batched
 
 RUST = [f"customasm::asm::{name}" for name in ("output::check_bank_overlap", "resolver::resolve_iteratively", "output::build_output")]
@@ -159,3 +160,7 @@ def call_rows(ours, rust, turns):
             cells += [f"{other:,.0f}", ratio(cost, other)] if other else ["", ""]
             cells += [number(spent[0])] + ([number(spent[1]), ratio(*spent)] if run_other else ["", ""])
             yield f"| {' | '.join(cells)} |"
+
+
+if __name__ == "__main__":
+    manners.part(__doc__)

@@ -5,6 +5,12 @@ import re
 import resource
 import shutil
 import subprocess
+import sys
+from pathlib import Path
+
+sys.path.insert(0, str(Path(__file__).resolve().parent.parent / "oracle"))
+
+import manners  # noqa: E402
 
 TIMED = 300_000_000  # instructions that a timed run has at least, so that the clock has something to see
 
@@ -56,4 +62,8 @@ def times(runs, costs, turns):
 
 def wanted():
     if not shutil.which("valgrind"):
-        raise SystemExit("benchmark.py: instructions are counted by valgrind, which is not installed")
+        raise manners.Stop("instructions are counted by valgrind, which is not installed")
+
+
+if __name__ == "__main__":
+    manners.part(__doc__)

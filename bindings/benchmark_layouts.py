@@ -6,8 +6,10 @@ from random import Random
 
 sys.path.insert(0, str(Path(__file__).resolve().parent.parent / "oracle"))
 
-from sequencer import sequencer
-from form1 import ALIGN, ADDR, ASSERT, CONSTANT, DATA, INSTRUCTION, LABEL, OPEN_DATA, RESERVE, SWITCH, Bank, Layout, encode
+import manners  # noqa: E402
+from sequencer import sequencer  # noqa: E402
+from form1 import (  # noqa: E402
+    ALIGN, ADDR, ASSERT, CONSTANT, DATA, INSTRUCTION, LABEL, OPEN_DATA, RESERVE, SWITCH, Bank, Layout)
 
 RESOLVED, UNRESOLVED = 0, 2
 VALUES = bytes(i % 251 for i in range(16_384))
@@ -137,3 +139,7 @@ SERIES = {
     **{f"offers, {order}": (f"items in {order} order", [(str(n), ordered(n, order)) for n in (64, 128, 256, 512)])
        for order in ("rising", "falling", "shuffled")},
     "image": ("KiB of image, one item", [(str(n), large(n)) for n in (1, 2, 4, 8, 16)])}
+
+
+if __name__ == "__main__":
+    manners.part(__doc__)

@@ -5,7 +5,7 @@ import re
 import subprocess
 from pathlib import Path
 
-from benchmark_count import Differ
+from benchmark_count import Differ, manners
 
 HEADER = Path(__file__).resolve().parent.parent / "include" / "denkumari.h"
 
@@ -42,3 +42,7 @@ def stack_rows(ours):
         raise Differ(f"bindings/c/stack.c does not measure {sorted(set(header) - seen)}")
     if wrong:
         raise Differ("include/denkumari.h is to say: " + "; ".join(wrong))
+
+
+if __name__ == "__main__":
+    manners.part(__doc__)

@@ -7,8 +7,9 @@ import tempfile
 from pathlib import Path
 
 from benchmark_calls import RUST
-from benchmark_count import LOOPS
-from benchmark_layouts import LAYOUTS, encode
+from benchmark_count import LOOPS, manners
+from benchmark_layouts import LAYOUTS
+from form1 import encode
 from generate import batched
 
 SHOWN = ("wide", "deep", "large", "offers", "mixed A", "mixed B")
@@ -52,3 +53,7 @@ def where_rows(ours, rust):
                 yield f"| {name} | {cell(here, i)} | {cell(there, i)} |"
             integer = sum(cost for function, cost in there.items() if "util::bigint::" in function)
             yield f"| {name} | | | all of `util::bigint`, a stand-in | {100 * integer / sum(there.values()):.0f} % |"
+
+
+if __name__ == "__main__":
+    manners.part(__doc__)

@@ -11,6 +11,8 @@ import random
 import struct
 import sys
 
+import manners
+
 
 class Refused(Exception):
     """A refusal: its number and its place."""
@@ -150,17 +152,25 @@ def read(data):
         yield overlay, released, list(offsets), list(sizes), lengths[4], lengths[5], lengths[6:8]
 
 
-def main(arguments):
-    if arguments[:1] == ["--generate"]:
-        rng = random.Random(int(arguments[1]))
-        for _ in range(int(arguments[2])):
-            write(generate(rng), sys.stdout.buffer)
-    elif arguments == ["--expected"]:
-        for case in read(sys.stdin.buffer.read()):
+def main():
+    parser = manners.parser(__doc__)
+    what = parser.add_mutually_exclusive_group(required=True)
+    what.add_argument("--generate", nargs=2, type=manners.count, metavar=("SEED", "COUNT"))
+    what.add_argument("--expected", action="store_true")
+    asked = parser.parse_args()
+    if asked.expected:
+        try:
+            cases = list(read(manners.given()))
+        except struct.error:
+            raise manners.Stop("standard input has no whole cases") from None
+        for case in cases:
             print(line(case))
-    else:
-        sys.exit(__doc__)
+        return
+    seed, count = asked.generate
+    rng = random.Random(seed)
+    for _ in range(count):
+        write(generate(rng), sys.stdout.buffer)
 
 
 if __name__ == "__main__":
-    main(sys.argv[1:])
+    manners.run(main)

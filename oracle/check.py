@@ -7,6 +7,7 @@ import sys
 
 import compare
 import examples
+import manners
 import model
 from form1 import decode, encode, worked_example
 
@@ -36,10 +37,11 @@ def faults():
 
 
 def main():
+    manners.parser(__doc__).parse_args()
     found = list(faults())
     print("\n".join(found) or "the replay list and the examples are as model.py says")
     sys.exit(1 if found else 0)
 
 
 if __name__ == "__main__":
-    main()
+    manners.run(main)

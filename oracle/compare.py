@@ -1,7 +1,7 @@
 #!/usr/bin/env python3
 """Runs the Rust and another side on the same form 1 files, and compares every answer whole.
 
-    compare.py [--seed S] [--cases N] [--other "COMMAND"] [--spans "COMMAND"] [--judge "COMMAND"] [--batch N] [--folder DIR] [--families]
+    compare.py [--seed S] [--cases N] [--other "COMMAND"] [--spans "COMMAND"] [--judge "COMMAND"] [--batch N] [--folder DIR] [--families] [--try]
 
 Both sides are commands that read files from standard input, each behind four bytes of length, big-endian, and write a line
 for each (oracle/README.md has the lines). The judge is the Rust (oracle/build.sh makes it). The other side is
@@ -9,9 +9,8 @@ oracle/model.py unless --other names a command; then the answers in which the Ru
 --spans names a command for lists of spans, a line each, where model.py is not to cut them into blocks.
 
 The same seed gives the same files. The first difference is printed with its file, which is kept in the folder. Status 1 says
-that there was one."""
+that there was one. --try reads the words and does nothing else."""
 
-import argparse
 import shlex
 import subprocess
 import sys
@@ -20,6 +19,7 @@ from itertools import islice
 from pathlib import Path
 
 import generate
+import manners
 import model
 
 HERE = Path(__file__).resolve().parent
@@ -110,16 +110,19 @@ def span_lists_apart(judge, seed, how_many, other=None):
 
 
 def main():
-    parser = argparse.ArgumentParser(description=__doc__, formatter_class=argparse.RawDescriptionHelpFormatter)
+    parser = manners.parser(__doc__)
     parser.add_argument("--seed", default="1")
-    parser.add_argument("--cases", type=int, default=100_000)
+    parser.add_argument("--cases", type=manners.count, default=100_000)
     parser.add_argument("--other")
     parser.add_argument("--spans")
     parser.add_argument("--judge", default=shlex.quote(str(FOLDER / "judge")))
-    parser.add_argument("--batch", type=int, default=4_000)
+    parser.add_argument("--batch", type=manners.some, default=4_000)
     parser.add_argument("--folder", type=Path, default=FOLDER)
     parser.add_argument("--families", action="store_true")
+    parser.add_argument("--try", action="store_true", dest="tried")
     asked = parser.parse_args()
+    if asked.tried:
+        return
     asked.folder.mkdir(parents=True, exist_ok=True)
 
     tally = Tally()
@@ -143,4 +146,4 @@ def main():
 
 
 if __name__ == "__main__":
-    main()
+    manners.run(main)

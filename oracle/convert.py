@@ -7,10 +7,10 @@ Written from document 02, Tickets 7 and 13, and the readings settled for them (d
     convert.py --batch --to 1|2    many files, each behind four bytes of length, big-endian; a line for each: `ok HEX` or `refused NUMBER PLACE`
     convert.py --room N            so many bytes are lent for the result (the longest result if not given)"""
 
-import argparse
 import sys
 from struct import pack
 
+import manners
 import model
 from form1 import one
 from model import MAX_FILE, MAX_NODES, MAX_ROWS, SWITCH, Refused
@@ -123,12 +123,12 @@ def line(data, to, room):
 
 
 def main():
-    parser = argparse.ArgumentParser(description=__doc__, formatter_class=argparse.RawDescriptionHelpFormatter)
+    parser = manners.parser(__doc__)
     parser.add_argument("--to", type=int, choices=(1, 2), required=True)
     parser.add_argument("--batch", action="store_true")
-    parser.add_argument("--room", type=int)
+    parser.add_argument("--room", type=manners.count)
     asked = parser.parse_args()
-    data = sys.stdin.buffer.read()
+    data = manners.given()
     if asked.batch:
         sys.stdout.write("".join(line(file, asked.to, asked.room) + "\n" for file in model.batch(data)))
         return
@@ -140,4 +140,4 @@ def main():
 
 
 if __name__ == "__main__":
-    main()
+    manners.run(main)

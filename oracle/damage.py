@@ -7,12 +7,11 @@
 COMMAND reads a request a line and writes an answer a line (README.md, "Records"). --every: so many good files have every single byte changed to every
 other value (default 3); --random: so many damages drawn from the seed (100,000); --writes: so many calls that write (20,000).
 """
-import argparse
 import random
 import shlex
 import subprocess
-import sys
 
+import manners
 import records
 
 BYTES, LISTS = 64, 6
@@ -164,11 +163,11 @@ def requests(options):
 
 
 def main():
-    words = argparse.ArgumentParser(description=__doc__, formatter_class=argparse.RawDescriptionHelpFormatter)
+    words = manners.parser(__doc__)
     words.add_argument("command", nargs="?")
     words.add_argument("--requests", action="store_true")
     for name, value in (("every", 3), ("random", 100_000), ("writes", 20_000), ("seed", 1)):
-        words.add_argument("--" + name, type=int, default=value)
+        words.add_argument("--" + name, type=manners.count, default=value)
     options = words.parse_args()
     if options.requests:
         for line in requests(options):
@@ -193,4 +192,4 @@ def main():
 
 
 if __name__ == "__main__":
-    main()
+    manners.run(main)

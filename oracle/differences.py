@@ -6,13 +6,13 @@
 For each the file in hexadecimal, what the Rust does where nothing stops it (`judge --raw`), and what document 01 says.
 With --other, a side of the comparison, each is asked of it too, and status 1 says that one answer is not document 01's."""
 
-import argparse
 import shlex
 import subprocess
 import sys
 
 import compare
 import examples
+import manners
 import model
 from examples import MARK_AFTER, MARK_BEFORE
 from form1 import ADDR, ALIGN, CONSTANT, INSTRUCTION, LABEL, RESERVE, Bank, encode
@@ -94,7 +94,7 @@ def raw(judge, file):
 
 
 def main():
-    parser = argparse.ArgumentParser(description=__doc__, formatter_class=argparse.RawDescriptionHelpFormatter)
+    parser = manners.parser(__doc__)
     parser.add_argument("--judge", default=shlex.quote(str(compare.FOLDER / "judge")))
     parser.add_argument("--other")
     asked = parser.parse_args()
@@ -115,4 +115,4 @@ def main():
 
 
 if __name__ == "__main__":
-    main()
+    manners.run(main)

@@ -4,12 +4,17 @@
 EDIT has the lines `file:`, `old:` and `new:`; the old text must stand in the file exactly once, or exactly as often as a line
 `times:` says."""
 
-import sys
 from pathlib import Path
+
+import manners
 
 
 def read(edit):
-    return dict(line.split(": ", 1) for line in Path(edit).read_text().splitlines() if line and not line.startswith("#"))
+    lines = [line for line in Path(edit).read_text().splitlines() if line and not line.startswith("#")]
+    said = dict(line.split(": ", 1) for line in lines if ": " in line)
+    if not {"file", "old", "new"} <= set(said):
+        raise manners.Stop(f"{edit} has not the lines file:, old: and new:")
+    return said
 
 
 def apply(edit, folder):
@@ -22,5 +27,13 @@ def apply(edit, folder):
     path.write_text(text.replace(said["old"], said["new"]))
 
 
+def main():
+    parser = manners.parser(__doc__)
+    parser.add_argument("edit", metavar="EDIT")
+    parser.add_argument("folder", metavar="FOLDER")
+    asked = parser.parse_args()
+    apply(asked.edit, asked.folder)
+
+
 if __name__ == "__main__":
-    apply(*sys.argv[1:])
+    manners.run(main)

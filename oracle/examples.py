@@ -1,12 +1,13 @@
 #!/usr/bin/env python3
-"""Writes examples/: layout files that look like real ones, of form 1 where nothing else is said. examples.py [FOLDER]
+"""Writes examples/: layout files that look like real ones, of form 1 where nothing else is said. examples.py [--table] [FOLDER]
 
-`--table` prints what each prints, as examples/README.md has it."""
+The folder is examples/ unless one is named, and is made where there is none. `--table` writes no file and prints what each prints, as examples/README.md
+has it."""
 
-import sys
 from pathlib import Path
 from struct import pack
 
+import manners
 import model
 from form1 import (ADDR, ALIGN, ASSERT, CONSTANT, DATA, INSTRUCTION, LABEL, OPEN_DATA, RESERVE, SWITCH, Bank, Layout, encode,
                    worked_example)
@@ -164,7 +165,11 @@ def shown(lines):
 
 
 def main():
-    if "--table" in sys.argv:
+    parser = manners.parser(__doc__)
+    parser.add_argument("--table", action="store_true")
+    parser.add_argument("folder", nargs="?", type=Path, default=manners.ROOT / "examples", metavar="FOLDER")
+    asked = parser.parse_args()
+    if asked.table:
         for name, (words, layout) in EXAMPLES.items():
             print(f"`{name}.form`: {words}.\n")
             print("".join(f"    {line}\n" for line in shown(model.printed(encode(layout)).splitlines())))
@@ -173,11 +178,10 @@ def main():
                     print(f"With `{options}`:\n")
                     print("".join(f"    {line}\n" for line in shown(model.printed(encode(layout), choices).splitlines())))
         return
-    folder = Path(sys.argv[1] if len(sys.argv) > 1 else Path(__file__).resolve().parent.parent / "examples")
-    folder.mkdir(exist_ok=True)
+    asked.folder.mkdir(exist_ok=True)
     for name, (_, layout) in EXAMPLES.items():
-        (folder / f"{name}.form").write_bytes(encode(layout))
+        (asked.folder / f"{name}.form").write_bytes(encode(layout))
 
 
 if __name__ == "__main__":
-    main()
+    manners.run(main)

@@ -1,10 +1,14 @@
 """Form 1 of document 01, and form 2 of document 02: layouts as values, and to and from bytes.
 
 A layout here is what people write down, and `encode` writes any of them, wrong ones too: out-of-range numbers are the
-reader's business. `decode` is for showing sound files to people; oracle/model.py has the reader that tells faults apart."""
+reader's business. `decode` is for showing sound files to people; oracle/model.py has the reader that tells faults apart.
+
+    form1.py <FILE     shows a sound file in words"""
 
 import struct
 from dataclasses import dataclass, field
+
+import manners
 
 NOTHING, SWITCH, LABEL, CONSTANT, INSTRUCTION, DATA, OPEN_DATA, RESERVE, ALIGN, ADDR, ASSERT = range(11)
 KIND_NAMES = ("nothing", "switch", "label", "constant", "instruction", "data", "open data", "reserve", "align", "addr", "assert")
@@ -124,6 +128,16 @@ def worked_example():
         limit=10)
 
 
+def main():
+    import model
+    manners.parser(__doc__).parse_args()
+    data = manners.given()
+    try:
+        model.read_form(data)
+    except model.Refused as refused:
+        raise manners.Stop(f"standard input is no sound file: its field {refused.place[0]} is broken") from None
+    print(show(decode(data)))
+
+
 if __name__ == "__main__":
-    import sys
-    print(show(decode(sys.stdin.buffer.read())))
+    manners.run(main)

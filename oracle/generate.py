@@ -4,7 +4,7 @@
 `cases(seed, count)` gives (name, file) pairs: first the grids, which are the same for every seed and leave nothing out, then
 drawn cases of several families, each from a seed of its own, so that one can be had again by its name alone.
 
-    generate.py SEED NAME     writes one case to standard output, NAME as compare.py prints it, e.g. "near 23456"
+    generate.py SEED NAME     writes one case to standard output, NAME as compare.py prints it, e.g. "near 23458"
     generate.py SEED COUNT --batch    writes many, each behind four bytes of length, big-endian
     generate.py SEED COUNT --form-2   the same as files of form 2, with fill bits
     generate.py SEED COUNT --paged    the same of layouts for the paged device, most of them in the profile, in either form"""
@@ -13,6 +13,7 @@ import sys
 from itertools import count, product
 from random import Random
 
+import manners
 from form1 import (ADDR, ALIGN, ASSERT, CONSTANT, DATA, INSTRUCTION, LABEL, NOTHING, OPEN_DATA, RESERVE, SWITCH, Bank, Layout,
                    encode, fields, one)
 
@@ -600,21 +601,28 @@ def cases_in_pages(seed, how_many):
 
 
 def main():
-    seed = sys.argv[1]
-    made = {"--form-2": cases_of_form_2, "--paged": cases_in_pages}.get(sys.argv[3] if len(sys.argv) > 3 else "")
-    if made:
-        sys.stdout.buffer.write(batched(made(seed, int(sys.argv[2]))))
+    parser = manners.parser(__doc__)
+    parser.add_argument("seed", metavar="SEED")
+    parser.add_argument("which", metavar="COUNT|NAME")
+    kinds = parser.add_mutually_exclusive_group()
+    for kind in ("--batch", "--form-2", "--paged"):
+        kinds.add_argument(kind, action="store_true")
+    asked = parser.parse_args()
+    seed = asked.seed
+    if asked.batch or asked.form_2 or asked.paged:
+        how_many = manners.count(asked.which) if asked.which.isdigit() else parser.error(f"how many? '{asked.which}' is no number")
+        made = cases_of_form_2(seed, how_many) if asked.form_2 else cases_in_pages(seed, how_many) if asked.paged else (f for _, f in cases(seed, how_many))
+        sys.stdout.buffer.write(batched(made))
         return
-    if sys.argv[3:] == ["--batch"]:
-        sys.stdout.buffer.write(batched(file for _, file in cases(seed, int(sys.argv[2]))))
-        return
-    name, number = sys.argv[2].split()
+    name, _, number = asked.which.partition(" ")
     if name.startswith("grid"):
-        wanted = next(file for case, file in gridded() if case == sys.argv[2])
+        wanted = next((file for case, file in gridded() if case == asked.which), None)
     else:
-        _, wanted = drawn(seed, int(number))
+        wanted = drawn(seed, int(number))[1] if number.isdigit() and drawn(seed, int(number))[0] == asked.which else None
+    if wanted is None:
+        parser.error(f"there is no case '{asked.which}' of seed {seed}")
     sys.stdout.buffer.write(wanted)
 
 
 if __name__ == "__main__":
-    main()
+    manners.run(main)

@@ -17,8 +17,15 @@ class Stop(Exception):
     """Nothing was done, and why: status 2."""
 
 
+class Parser(argparse.ArgumentParser):
+    """One whose help is not lost in silence where it cannot be written."""
+
+    def _print_message(self, message, file=None):
+        (file or sys.stderr).write(message or "")
+
+
 def parser(doc):
-    return argparse.ArgumentParser(description=doc, formatter_class=argparse.RawDescriptionHelpFormatter, allow_abbrev=False)
+    return Parser(description=doc, formatter_class=argparse.RawDescriptionHelpFormatter, allow_abbrev=False)
 
 
 def count(text):

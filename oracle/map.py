@@ -8,6 +8,7 @@ the node at which one is met is known. A line for the file, for each bank and fo
 
 import sys
 
+import manners
 import model
 from model import DATA, INSTRUCTION, LABEL, OPEN_DATA, RESERVE, Refused
 
@@ -124,10 +125,11 @@ def printed(data, choices=model.Choices()):
 
 
 def main():
-    if len(sys.argv) > 2 or not all(given.isdigit() for given in sys.argv[1:]):
-        sys.exit(__doc__)
-    sys.stdout.write(printed(sys.stdin.buffer.read(), model.Choices(fill=int(sys.argv[1]) if len(sys.argv) > 1 else model.INHERITED)))
+    parser = manners.parser(__doc__)
+    parser.add_argument("fill", nargs="?", type=manners.count, default=model.INHERITED, metavar="FILL")
+    asked = parser.parse_args()
+    sys.stdout.write(printed(manners.given(), model.Choices(fill=asked.fill)))
 
 
 if __name__ == "__main__":
-    main()
+    manners.run(main)

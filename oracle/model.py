@@ -12,11 +12,12 @@ beside the Rust and beside the proved program. Each part has the document's sent
     --page N           in the profile of the paged device, with this page size in bits
     --padding          a line of the protocol has each bank's padding too, and in the profile its pages"""
 
-import argparse
 import sys
 from bisect import bisect_left, bisect_right, insort
 from collections import namedtuple
-from struct import iter_unpack, unpack, unpack_from
+from struct import error, iter_unpack, unpack, unpack_from
+
+import manners
 
 MAX_FILE = {1: 65_000, 2: 65_536}
 MAX_BANKS, MAX_NODES, MAX_ROWS, MAX_STORED = 16, 4_096, 16, 512
@@ -513,23 +514,28 @@ def batch(stream):
     """The files of a stream of the comparison."""
     at = 0
     while at < len(stream):
-        length, = unpack_from(">I", stream, at)
+        try:
+            length, = unpack_from(">I", stream, at)
+        except error:
+            length = len(stream)
+        if at + 4 + length > len(stream):
+            raise manners.Stop("standard input has no whole files, each behind its length")
         yield stream[at + 4:at + 4 + length]
         at += 4 + length
 
 
 def main():
-    parser = argparse.ArgumentParser(description=__doc__, formatter_class=argparse.RawDescriptionHelpFormatter)
+    parser = manners.parser(__doc__)
     parser.add_argument("--line", action="store_true")
     parser.add_argument("--batch", action="store_true")
     parser.add_argument("--padding", action="store_true")
-    parser.add_argument("--fill", type=int, default=INHERITED)
-    parser.add_argument("--page", type=int)
+    parser.add_argument("--fill", type=manners.count, default=INHERITED)
+    parser.add_argument("--page", type=manners.count)
     asked = parser.parse_args()
-    if not 0 <= asked.fill < 256 or asked.page is not None and not 0 <= asked.page < 2 ** 32:
+    if asked.fill > 255 or asked.page is not None and asked.page >= 2 ** 32:
         parser.error("the fill's choice is a byte, the page size a number of 32 bits")
     choices = Choices(asked.fill, asked.page)
-    data = sys.stdin.buffer.read()
+    data = manners.given()
     if asked.batch:
         sys.stdout.write("".join(line(file, choices, asked.padding) + "\n" for file in batch(data)))
     elif asked.line:
@@ -539,4 +545,4 @@ def main():
 
 
 if __name__ == "__main__":
-    main()
+    manners.run(main)

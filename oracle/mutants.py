@@ -6,12 +6,12 @@ compares each with oracle/model.py on the same files.
 
 With --replay the files are those of oracle/replay. Prints for each the first case that tells it apart. Status 1 says that one was not seen."""
 
-import argparse
 import subprocess
 import sys
 
 import compare
 import generate
+import manners
 
 FLAGS = "-C opt-level=1 -C overflow-checks=on"
 
@@ -37,13 +37,16 @@ def first_seen(judge, batches, tally):
 
 
 def main():
-    parser = argparse.ArgumentParser(description=__doc__, formatter_class=argparse.RawDescriptionHelpFormatter)
+    parser = manners.parser(__doc__)
     parser.add_argument("--seed", default="1")
-    parser.add_argument("--cases", type=int, default=40_000)
+    parser.add_argument("--cases", type=manners.some, default=40_000)
     parser.add_argument("--replay", action="store_true")
     parser.add_argument("names", nargs="*")
     asked = parser.parse_args()
 
+    there = sorted((compare.HERE / "mutants").glob("*.edit"))
+    for name in set(asked.names) - {edit.stem for edit in there}:
+        parser.error(f"there is no changed copy {name}")
     cases = list(replayed() if asked.replay else generate.cases(asked.seed, asked.cases))
     batches = []
     for at in range(0, len(cases), 4_000):
@@ -51,7 +54,7 @@ def main():
         batches.append((batch, compare.answers(compare.MODEL, [file for _, file in batch])))
 
     unseen = 0
-    for edit in sorted((compare.HERE / "mutants").glob("*.edit")):
+    for edit in there:
         if asked.names and edit.stem not in asked.names:
             continue
         tally = compare.Tally()
@@ -69,4 +72,4 @@ def main():
 
 
 if __name__ == "__main__":
-    main()
+    manners.run(main)

@@ -5,10 +5,10 @@ Holds document 02's Ticket 11 against the model's store (oracle/model.py): of ev
 reordering is accepted as a whole and leaves the same intervals and marks. Also that the definition in words says the same: an order is accepted as a whole
 exactly when no two offers share a bit, no empty one is strictly inside another, and there are no more of either kind than fit."""
 
-import argparse
 import sys
 from itertools import combinations_with_replacement, permutations
 
+import manners
 import model
 
 
@@ -36,10 +36,10 @@ def fits(offers, capacity):
 
 
 def main():
-    parser = argparse.ArgumentParser(description=__doc__, formatter_class=argparse.RawDescriptionHelpFormatter)
-    parser.add_argument("--bits", type=int, default=4)
-    parser.add_argument("--offers", type=int, default=5)
-    parser.add_argument("--capacity", type=int, default=2)
+    parser = manners.parser(__doc__)
+    parser.add_argument("--bits", type=manners.count, default=4)
+    parser.add_argument("--offers", type=manners.count, default=5)
+    parser.add_argument("--capacity", type=manners.count, default=2)
     asked = parser.parse_args()
     model.MAX_STORED = asked.capacity
     line = [(position, size) for position in range(asked.bits + 1) for size in range(asked.bits - position + 1)]
@@ -57,4 +57,4 @@ def main():
 
 
 if __name__ == "__main__":
-    main()
+    manners.run(main)

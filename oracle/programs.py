@@ -1,14 +1,12 @@
 #!/usr/bin/env python3
 """The programs over the library beside the models: what station, rehex, bencher, converter and mapper print for good, damaged and refused files.
 
-    programs.py [--cases N] [--seed N] [--run "COMMAND"] [NAME ..]
+    programs.py [--cases N] [--seed N] [NAME ..]
 
-NAME is one of the programs (all that are built unless said), which stand in target/bin; COMMAND stands before each where the machine cannot start them by
-itself (an emulator). The models are model.py, records.py, convert.py and map.py; what the bench is to print is worked out here, byte by byte.
+NAME is one of the programs, all of them unless said; one that is not built is built first (tools/run). The models are model.py, records.py, convert.py
+and map.py; what the bench is to print is worked out here, byte by byte.
 """
-import argparse
 import random
-import shlex
 import subprocess
 import sys
 import tempfile
@@ -17,11 +15,11 @@ from pathlib import Path
 import convert
 import damage
 import generate
+import manners
 import map as mapped
 import model
 import records
 
-ROOT = Path(__file__).resolve().parent.parent
 REACH, BENCH_REACH, BLOCKS, IMAGE = 1_048_576, 524_288, 4_096, 16_384
 
 
@@ -154,20 +152,21 @@ def mapper_case(rng):
 
 
 def main():
-    parser = argparse.ArgumentParser(description=__doc__, formatter_class=argparse.RawDescriptionHelpFormatter)
+    parser = manners.parser(__doc__)
     parser.add_argument("names", nargs="*", metavar="NAME")
-    parser.add_argument("--cases", type=int, default=1000)
-    parser.add_argument("--seed", type=int, default=1)
-    parser.add_argument("--run", type=shlex.split, default=[])
+    parser.add_argument("--cases", type=manners.some, default=1000)
+    parser.add_argument("--seed", type=manners.count, default=1)
     asked = parser.parse_args()
     makers = {"station": station_case, "rehex": rehex_case, "bencher": bencher_case, "converter": converter_case, "mapper": mapper_case}
+    for name in set(asked.names) - set(makers):
+        parser.error(f"there is no program {name}: {', '.join(makers)}")
     wrong = 0
     with tempfile.TemporaryDirectory() as folder:
-        for name in asked.names or [n for n in makers if (ROOT / "target/bin" / n).exists()]:
-            rng, refused = random.Random(asked.seed), 0
+        for name in asked.names or makers:
+            start, rng, refused = manners.command(name), random.Random(asked.seed), 0
             for _ in range(asked.cases):
                 arguments, given, told = makers[name](rng, Path(folder)) if name == "bencher" else makers[name](rng)
-                done = subprocess.run([*asked.run, str(ROOT / "target/bin" / name), *arguments], input=given, capture_output=True, check=False)
+                done = subprocess.run([*start, *arguments], input=given, capture_output=True, check=False)
                 refused += told.startswith(b"refused") or b"\nrefused " in told
                 if done.stdout != told:
                     wrong += 1
@@ -177,6 +176,6 @@ def main():
     sys.exit(wrong != 0)
 
 
-EXAMPLES = [path.read_bytes() for path in sorted((ROOT / "examples").glob("*.form"))]
+EXAMPLES = [path.read_bytes() for path in sorted((manners.ROOT / "examples").glob("*.form"))]
 if __name__ == "__main__":
-    main()
+    manners.run(main)

@@ -1,12 +1,11 @@
 #!/usr/bin/env python3
 """tools/rehex's program beside srec_cat and objcopy, on the same files, in one run: instructions, and processor time.
 
-    programs_time.py PROGRAM [--turns N]
+    programs_time.py [--turns N]
 
-PROGRAM is target/bin/rehex. Whole processes are counted, from start to end, S-records to Intel HEX; a time is the least of the turns, in which the three
+Whole processes are counted, from start to end, S-records to Intel HEX; a time is the least of the turns, in which the three
 alternate. What comes out is compared byte for byte, as srec_cat reads it. Debian has the tools in srecord, binutils and valgrind.
 """
-import argparse
 import random
 import subprocess
 import sys
@@ -15,7 +14,8 @@ from pathlib import Path
 
 sys.path.insert(0, str(Path(__file__).resolve().parent.parent / "bindings"))
 
-from benchmark_count import Differ, instructions, seconds
+import manners  # noqa: E402
+from benchmark_count import Differ, instructions, seconds  # noqa: E402
 
 SIZES = (16_384, 1_048_576)
 
@@ -59,13 +59,12 @@ def program_rows(program, turns):
 
 
 def main():
-    parser = argparse.ArgumentParser(description=__doc__, formatter_class=argparse.RawDescriptionHelpFormatter)
-    parser.add_argument("program")
-    parser.add_argument("--turns", type=int, default=10)
+    parser = manners.parser(__doc__)
+    parser.add_argument("--turns", type=manners.some, default=10)
     asked = parser.parse_args()
-    for row in program_rows([asked.program], asked.turns):
+    for row in program_rows(manners.command("rehex"), asked.turns):
         print(row, flush=True)
 
 
 if __name__ == "__main__":
-    main()
+    manners.run(main)

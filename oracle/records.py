@@ -8,7 +8,8 @@ which line is at fault.
 Kinds: `hex`, `s2` (S1 and S9), `s4` (S3 and S7); a reader of S-records, `srec`, finds the width itself.
 """
 import random
-import sys
+
+import manners
 
 MOST = 0xFFFF_FFFF          # the last address
 HEX_BUFFER, BYTES_BUFFER, BLOCKS_BUFFER = 3, 0, 2
@@ -353,16 +354,23 @@ def selftest_round_trips(count):
 
 
 def main():
-    if sys.argv[1:] == ["--batch"]:
-        for line in sys.stdin:
-            print(answer(line))
-    elif sys.argv[1:] == ["--selftest"]:
+    parser = manners.parser(__doc__)
+    what = parser.add_mutually_exclusive_group(required=True)
+    what.add_argument("--batch", action="store_true")
+    what.add_argument("--selftest", action="store_true")
+    asked = parser.parse_args()
+    if asked.selftest:
         selftest_vectors()
         selftest_round_trips(3000)
         print("records.py: the public descriptions' records and 3,000 round trips of each format")
-    else:
-        raise SystemExit(__doc__)
+        return
+    for number, line in enumerate(manners.given().decode().splitlines(), 1):
+        try:
+            said = answer(line)
+        except (ValueError, IndexError, KeyError):
+            raise manners.Stop(f"line {number} of standard input is no request") from None
+        print(said)
 
 
 if __name__ == "__main__":
-    main()
+    manners.run(main)

@@ -5,7 +5,6 @@ A line for each case, four columns: the file in hexadecimal; the text that `layo
 where the Rust gave the answer, or `doc` where it has no say and document 01 decides (oracle/model.py); and the whole answer,
 as a line of the comparison's protocol."""
 
-import argparse
 import shlex
 from collections import Counter
 from itertools import product
@@ -15,6 +14,7 @@ import convert
 import differences
 import examples
 import generate
+import manners
 import model
 from form1 import ADDR, ALIGN, DATA, INSTRUCTION, LABEL, RESERVE, SWITCH, Bank, Layout, encode, fields, one, worked_example
 from generate import laid
@@ -169,7 +169,7 @@ def printed(line):
 
 
 def main():
-    parser = argparse.ArgumentParser(description=__doc__, formatter_class=argparse.RawDescriptionHelpFormatter)
+    parser = manners.parser(__doc__)
     parser.add_argument("--seed", default="replay")
     parser.add_argument("--judge", default=shlex.quote(str(compare.FOLDER / "judge")))
     asked = parser.parse_args()
@@ -203,4 +203,4 @@ def main():
 
 
 if __name__ == "__main__":
-    main()
+    manners.run(main)

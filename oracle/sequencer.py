@@ -7,6 +7,7 @@ banks in the image are filled to their ends. Everything is reckoned here, nothin
 
 import sys
 
+import manners
 from form1 import ADDR, ALIGN, ASSERT, CONSTANT, DATA, INSTRUCTION, LABEL, OPEN_DATA, RESERVE, RESOLVED, SWITCH, UNRESOLVED, Bank, Layout, encode
 
 WORD = 10
@@ -96,5 +97,10 @@ def sequencer():
     return source.layout()
 
 
-if __name__ == "__main__":
+def main():
+    manners.parser(__doc__).parse_args()
     sys.stdout.buffer.write(encode(sequencer()))
+
+
+if __name__ == "__main__":
+    manners.run(main)

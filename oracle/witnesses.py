@@ -4,10 +4,9 @@ they write where it keeps to the records that document 02 takes. A tool that is 
 
     witnesses.py [COMMAND] [--cases N] [--seed N]
 
-COMMAND answers the requests of oracle/README.md, "Records" (bindings/c/records.sh over the built library); without one it is the model,
+COMMAND answers the requests of oracle/README.md, "Records" ("tools/run --file build/bindings/records" over the built library); without one it is the model,
 records.py --batch. Debian has the tools in srecord, binutils and python3-intelhex.
 """
-import argparse
 import random
 import shlex
 import shutil
@@ -16,6 +15,7 @@ import sys
 import tempfile
 from pathlib import Path
 
+import manners
 import records
 
 HERE = Path(__file__).resolve().parent
@@ -190,10 +190,10 @@ def look(tool, ours, there, cases):
 
 
 def main():
-    words = argparse.ArgumentParser(description=__doc__, formatter_class=argparse.RawDescriptionHelpFormatter)
-    words.add_argument("command", nargs="?", default=f"{sys.executable} {HERE / 'records.py'} --batch")
-    words.add_argument("--cases", type=int, default=60)
-    words.add_argument("--seed", type=int, default=1)
+    words = manners.parser(__doc__)
+    words.add_argument("command", nargs="?", default=f"{shlex.quote(sys.executable)} {shlex.quote(str(HERE / 'records.py'))} --batch")
+    words.add_argument("--cases", type=manners.some, default=60)
+    words.add_argument("--seed", type=manners.count, default=1)
     options = words.parse_args()
     ours = Ours(options.command)
     rng = random.Random(options.seed)
@@ -210,4 +210,4 @@ def main():
 
 
 if __name__ == "__main__":
-    main()
+    manners.run(main)
