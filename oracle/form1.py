@@ -1,3 +1,4 @@
+#!/usr/bin/env python3
 """Form 1 of document 01, and form 2 of document 02: layouts as values, and to and from bytes.
 
 A layout here is what people write down, and `encode` writes any of them, wrong ones too: out-of-range numbers are the

@@ -46,7 +46,10 @@ def given():
     """Standard input, whole."""
     if sys.stdin is None:
         raise Stop("standard input is closed")
-    return sys.stdin.buffer.read()
+    try:
+        return sys.stdin.buffer.read()
+    except OSError as error:
+        raise Stop(f"standard input cannot be read: {error.strerror}") from None
 
 
 def crates():

@@ -97,7 +97,11 @@ ready() {
 take() {
     from=$1 limit=$2
     shift 2
-    [ "$from" = - ] || readable "$from"
+    if [ "$from" != - ]; then
+        readable "$from"
+    elif ! (: 3<&0) 2>/dev/null; then
+        say "standard input is closed"
+    fi
     ready "$@"
     if [ "$from" = - ]; then
         held head -c "$limit" >"$room/source" 2>/dev/null || say "standard input cannot be read"

@@ -48,6 +48,13 @@ a_number() {
     esac
 }
 
+# Whether a machine runs the tests by itself, which says so by CI=true.
+in_ci() {
+    case ${CI:-} in
+    '' | 0 | false | no) return 1 ;;
+    esac
+}
+
 # The temporary folder `room`. A command that may wait for long, for its input say, is run by `held`, so that a signal ends it at once.
 room='' child=''
 leave() {
