@@ -134,7 +134,8 @@ class Trial:
 
     def run(self, words, start=None, stdin=subprocess.DEVNULL, stdout=subprocess.PIPE, closed=False):
         words = ["sh", "-c", 'exec "$@" <&-', "sh", *words] if closed else words
-        return subprocess.run(words, cwd=start or self.start, env=self.environment, stdin=stdin, stdout=stdout, stderr=subprocess.PIPE, check=False, timeout=120)
+        return subprocess.run(words, cwd=start or self.start, env=self.environment, stdin=stdin, stdout=stdout, stderr=subprocess.PIPE,
+                              check=False, timeout=120)
 
     def left(self):
         return [path.name for folder in (self.temporary, self.start) for path in folder.iterdir()]
