@@ -84,8 +84,10 @@ def ended(status):
     """Ends, with nothing more to write: what standard output still holds has no reader."""
     try:
         sys.stdout.flush()
-    except (OSError, ValueError, AttributeError):
+    except (OSError, ValueError):
         os.dup2(os.open(os.devnull, os.O_WRONLY), 1)
+    except AttributeError:
+        pass
     sys.exit(status)
 
 
@@ -98,11 +100,12 @@ def run(main, *words):
             signal.signal(number, came)
     name = os.path.relpath(os.path.realpath(sys.argv[0]), ROOT)
     try:
+        if sys.stdout is None:
+            raise Stop("standard output is closed")
         try:
             main(*words)
         finally:
-            if sys.stdout is not None:
-                sys.stdout.flush()
+            sys.stdout.flush()
     except Exception as error:  # pylint: disable=broad-except
         said = said_of(error)
         if said is None:

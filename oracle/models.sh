@@ -12,7 +12,7 @@ command -v python3 >/dev/null 2>&1 || {
 }
 cd "$home/oracle"
 python3 check.py
-python3 recorded.py
+python3 recorded.py --built
 python3 records.py --selftest
 python3 orders.py
 python3 programs.py --cases "$cases"

@@ -1,18 +1,21 @@
 #!/usr/bin/env python3
-"""The models against answers that were recorded: recorded.py [--write]
+"""The models against answers that were recorded: recorded.py [--write] [--built]
 
 oracle/replay/models.tsv has a line for each case: the model, the choices that it was given, its input in hexadecimal (of records.py the request itself)
-and its answer. oracle/replay/cases.tsv has those of model.py (check.py). With --write the list is made again from the models as they are now, for when a
-document changes what is right: oracle/programs.py and bindings/test.sh then say whether the proved programs and the library answer so too."""
+and its answer. oracle/replay/cases.tsv has those of model.py (check.py, tools/replay). With --built the proved ones are asked too: the program behind
+tools/map, and the library through the C programs of build/bindings, where bindings/build.sh has made them. With --write the list is made again from the
+models as they are now, for when a document changes what is right."""
 
 import io
 import random
+import subprocess
 import sys
 
 import bench
 import compare
 import convert
 import damage
+import generate
 import manners
 import map as mapped
 import model
@@ -86,6 +89,34 @@ def records_answer(_, given):
     return records.answer(given)
 
 
+def asked_of(start, *words, given):
+    return subprocess.run([*start, *words], input=given, stdout=subprocess.PIPE, check=True).stdout.decode()
+
+
+def of_c(program):
+    """The words that start one of the C programs, or none where it is not built."""
+    path = manners.ROOT / "build" / "bindings" / program
+    return [str(manners.ROOT / "tools" / "run"), "--file", str(path)] if path.exists() else None
+
+
+def built_convert(start, choices, cases):
+    return asked_of(start, *choices.split(), given=generate.batched(map(bytes.fromhex, cases))).splitlines()
+
+
+def built_map(start, choices, cases):
+    return [asked_of(start, choices, given=bytes.fromhex(case)).replace("\n", "\\n") for case in cases]
+
+
+def built_bench(start, _, cases):
+    return asked_of(start, "--batch", given=b"".join(map(bytes.fromhex, cases))).splitlines()
+
+
+def built_records(start, _, cases):
+    return asked_of(start, given="".join(case + "\n" for case in cases).encode()).splitlines()
+
+
+BUILT = {"convert.py": (lambda: of_c("batch"), built_convert), "map.py": (lambda: manners.command("mapper"), built_map),
+         "bench.py": (lambda: of_c("overlays"), built_bench), "records.py": (lambda: of_c("records"), built_records)}
 MODELS = {"convert.py": (convert_cases, convert_answer), "map.py": (map_cases, map_answer),
           "bench.py": (bench_cases, bench_answer), "records.py": (records_cases, records_answer)}
 
@@ -97,23 +128,44 @@ def made():
             yield "\t".join((name, choices, given or "-", answer(choices, given)))
 
 
+def recorded():
+    """By model and choices: each input with its answer."""
+    found = {}
+    for line in LIST.read_text().splitlines():
+        name, choices, given, said = line.split("\t")
+        found.setdefault((name, choices), []).append((given.removeprefix("-"), said))
+    return found
+
+
+def compared(who, name, choices, cases, got):
+    """How many answers are others than the recorded ones."""
+    wrong = [(given, said, other) for (given, said), other in zip(cases, got, strict=True) if other != said]
+    for given, said, other in wrong[:3]:
+        print(f"{who}, {name} {choices} on {given[:200]}: {other[:200]} and not {said[:200]}")
+    return len(wrong)
+
+
 def main():
     parser = manners.parser(__doc__)
     parser.add_argument("--write", action="store_true")
-    if parser.parse_args().write:
+    parser.add_argument("--built", action="store_true")
+    asked = parser.parse_args()
+    if asked.write:
         LIST.write_text("".join(line + "\n" for line in made()))
-    counted, wrong = dict.fromkeys(MODELS, 0), 0
-    for number, line in enumerate(LIST.read_text().splitlines(), 1):
-        name, choices, given, said = line.split("\t")
-        got = MODELS[name][1](choices, given.removeprefix("-"))
-        counted[name] += 1
-        if got != said:
-            wrong += 1
-            print(f"{LIST.name}, line {number}: {name} {choices} says {got[:200]} and not {said[:200]}")
+    counted, wrong, start = dict.fromkeys(MODELS, 0), 0, {}
+    if asked.built:
+        start = {name: words for name, (starts, _) in BUILT.items() if (words := starts())}
+    for (name, choices), cases in recorded().items():
+        counted[name] += len(cases)
+        wrong += compared("the model", name, choices, cases, [MODELS[name][1](choices, given) for given, _ in cases])
+        if name in start:
+            wrong += compared("the proved one", name, choices, cases, BUILT[name][1](start[name], choices, [given for given, _ in cases]))
     if wrong or not all(counted.values()):
-        print(f"{wrong} of {sum(counted.values())} recorded answers are not the models'")
+        print(f"{wrong} answers are not the recorded ones")
         sys.exit(1)
     print("recorded answers, all the models': " + ", ".join(f"{name} {n}" for name, n in counted.items()))
+    if asked.built:
+        print("recorded answers, all the proved programs' and the library's too: " + ", ".join(f"{name} {counted[name]}" for name in start))
 
 
 if __name__ == "__main__":

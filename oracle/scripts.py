@@ -70,7 +70,7 @@ tools/srec examples/banks.form
 tools/convert - --to 2
 tools/form -
 tools/words examples/worked.form refused\u00a01\u00a00
-tools/run --command layout
+tools/run --command LAYOUT
 oracle/model.py
 oracle/model.py --line
 oracle/convert.py --to 2
@@ -101,7 +101,8 @@ EVERY_SIGNAL = ("tools/layout", "oracle/programs.py")
 def calls(text, chosen, file=""):
     """The words of each call of a chosen script; a no-break space stands for a blank in a word."""
     for line in text.strip().splitlines():
-        words = [(file if word == "FILE" else word).replace("\u00a0", " ") for word in line.split(" ")]
+        named = {"FILE": file, "LAYOUT": manners.crates()["layout"]}
+        words = [named.get(word, word).replace("\u00a0", " ") for word in line.split(" ")]
         if words[0] in chosen:
             yield words
 
@@ -132,8 +133,8 @@ class Trial:
         self.start.mkdir()
         self.environment = {**os.environ, "TMPDIR": str(self.temporary), "CDPATH": f".:{ROOT}:/"}
 
-    def run(self, words, start=None, stdin=subprocess.DEVNULL, stdout=subprocess.PIPE, closed=False):
-        words = ["sh", "-c", 'exec "$@" <&-', "sh", *words] if closed else words
+    def run(self, words, start=None, stdin=subprocess.DEVNULL, stdout=subprocess.PIPE, closed=""):
+        words = ["sh", "-c", f'exec "$@" {closed}', "sh", *words] if closed else words
         return subprocess.run(words, cwd=start or self.start, env=self.environment, stdin=stdin, stdout=stdout, stderr=subprocess.PIPE,
                               check=False, timeout=120)
 
@@ -164,6 +165,9 @@ def helped(room, path):
         again = trial.run([*start_of(path), "--help"], stdout=full)
     if again.returncode != 2 or faulty(again.stderr):
         yield f"{name} --help on a full disk: status {again.returncode}, {again.stderr[-200:]!r}"
+    again = trial.run([*start_of(path), "--help"], closed=">&-")
+    if again.returncode != 2 or faulty(again.stderr):
+        yield f"{name} --help with standard output closed: status {again.returncode}, {again.stderr[-200:]!r}"
     done = trial.run([*start_of(path), "--no-such-option"])
     if done.returncode != 2 or done.stdout or not done.stderr or faulty(done.stderr) or trial.left():
         yield f"{name} --no-such-option: status {done.returncode}, {done.stdout[-200:]!r}, {done.stderr[-200:]!r}, leaves {trial.left()}"
@@ -250,7 +254,7 @@ def trials(room, names):
         for words in calls(FILES, chosen, file):
             yield lambda words=words, how=how: refused(room, words, how)
     for words in calls(STDIN, chosen):
-        yield lambda words=words: refused(room, words, "standard input closed", closed=True)
+        yield lambda words=words: refused(room, words, "standard input closed", closed="<&-")
         # a folder there stops Python itself, before any script
         if ".py" not in words[0] and words[0] != "tools/form":
             yield lambda words=words: refused(room, words, "standard input a folder", stdin=os.open(ROOT, os.O_RDONLY))
