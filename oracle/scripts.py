@@ -235,6 +235,11 @@ def with_blanks(room):
         here, there = ([trial.run([*start_of(root / words[0]), *words[1:]], start=root) for root in (ROOT, copy)])
         if (here.returncode, here.stdout, here.stderr) != (there.returncode, there.stdout, there.stderr) or here.returncode:
             yield f"{' '.join(words)} in a path with blanks: {there.returncode}, {there.stdout[-200:]!r}, {there.stderr[-300:]!r}"
+    link = trial.room / "layout of a link"
+    link.symlink_to(copy / "tools" / "layout")
+    done = trial.run([str(link), str(ROOT / FORM)], start="/")
+    if done.returncode or done.stdout != trial.run([str(ROOT / "tools" / "layout"), FORM], start=ROOT).stdout:
+        yield f"tools/layout through a symlink: {done.returncode}, {done.stderr[-300:]!r}"
     if not (copy / "target" / "staticlib").is_dir():
         print("left out: the bindings in a path with blanks, since the archive is not built (bindings/build.sh)")
     elif shutil.which("cc") and os.uname().machine == "x86_64":
