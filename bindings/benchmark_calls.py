@@ -1,7 +1,6 @@
 """A row for each exported call, beside what does the same, or something of the same size, where there is such a thing."""
 
 import subprocess
-import tempfile
 from dataclasses import dataclass
 from pathlib import Path
 
@@ -149,7 +148,7 @@ def call_rows(ours, rust, turns):
         raise Differ(f"bindings/benchmark_calls.py has no row for {sorted(missing)}")
     yield "| call | on | instructions | beside it | instructions | ratio | µs | beside it, µs | ratio |"
     yield "|---|---|---|---|---|---|---|---|---|"
-    with tempfile.TemporaryDirectory() as room:
+    with manners.room() as room:
         bench = Bench(ours, rust, room)
         for row in ROWS:
             run = bench.run(ours / "calls_time", row.call, row.layout)

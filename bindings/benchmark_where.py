@@ -3,7 +3,6 @@
 import os
 import re
 import subprocess
-import tempfile
 from pathlib import Path
 
 from benchmark_calls import RUST
@@ -18,7 +17,7 @@ MOST = 5
 
 def own(command, given, within):
     """By function: the instructions that are its own, most first."""
-    with tempfile.TemporaryDirectory() as room:
+    with manners.room() as room:
         out = Path(room) / "out"
         valgrind = ["valgrind", "--tool=callgrind", f"--callgrind-out-file={out}"] + [f"--toggle-collect={name}" for name in within]
         subprocess.run(valgrind + command, input=given, stdout=subprocess.DEVNULL, stderr=subprocess.DEVNULL, check=True, env={**os.environ, **LOOPS})
@@ -42,7 +41,7 @@ def cell(costs, i):
 
 def where_rows(ours, rust):
     yield "| layout | in dk_build | of it | in the Rust's own functions | of it |\n|---|---|---|---|---|"
-    with tempfile.TemporaryDirectory() as room:
+    with manners.room() as room:
         for name in SHOWN:
             file = encode(LAYOUTS[name][1]())
             path = Path(room) / "layout"

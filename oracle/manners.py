@@ -5,12 +5,16 @@ Other scripts read it, nobody runs it. Status 0 is done, 1 says that something d
 
 import argparse
 import os
+import shutil
 import signal
 import subprocess
 import sys
+import tempfile
+from contextlib import contextmanager
 from pathlib import Path
 
 ROOT = Path(__file__).resolve().parent.parent
+ENDING = (signal.SIGTERM, signal.SIGHUP, signal.SIGINT)
 
 
 class Stop(Exception):
@@ -50,6 +54,22 @@ def given():
         return sys.stdin.buffer.read()
     except OSError as error:
         raise Stop(f"standard input cannot be read: {error.strerror}") from None
+
+
+@contextmanager
+def room():
+    """A temporary folder. While it is made and while it goes, signals wait."""
+    folder = None
+    signal.pthread_sigmask(signal.SIG_BLOCK, ENDING)
+    try:
+        folder = tempfile.mkdtemp()
+        signal.pthread_sigmask(signal.SIG_UNBLOCK, ENDING)
+        yield Path(folder)
+    finally:
+        signal.pthread_sigmask(signal.SIG_BLOCK, ENDING)
+        if folder is not None:
+            shutil.rmtree(folder, ignore_errors=True)
+        signal.pthread_sigmask(signal.SIG_UNBLOCK, ENDING)
 
 
 def crates():
@@ -95,7 +115,7 @@ def run(main, *words):
     """A script's main function, with no traceback for what its caller did, and its temporary folders gone whatever ends it."""
     def came(number, _):
         sys.exit(128 + number)
-    for number in (signal.SIGTERM, signal.SIGHUP, signal.SIGINT):
+    for number in ENDING:
         if signal.getsignal(number) in (signal.SIG_DFL, signal.default_int_handler):
             signal.signal(number, came)
     name = os.path.relpath(os.path.realpath(sys.argv[0]), ROOT)

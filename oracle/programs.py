@@ -9,7 +9,6 @@ and map.py; what the bench is to print is worked out here, byte by byte.
 import random
 import subprocess
 import sys
-import tempfile
 from pathlib import Path
 
 import convert
@@ -161,7 +160,7 @@ def main():
     for name in set(asked.names) - set(makers):
         parser.error(f"there is no program {name}: {', '.join(makers)}")
     wrong = 0
-    with tempfile.TemporaryDirectory() as folder:
+    with manners.room() as folder:
         for name in asked.names or makers:
             start, rng, refused = manners.command(name), random.Random(asked.seed), 0
             for _ in range(asked.cases):

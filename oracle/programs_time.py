@@ -9,7 +9,6 @@ alternate. What comes out is compared byte for byte, as srec_cat reads it. Debia
 import random
 import subprocess
 import sys
-import tempfile
 from pathlib import Path
 
 sys.path.insert(0, str(Path(__file__).resolve().parent.parent / "bindings"))
@@ -48,7 +47,7 @@ def measured(program, size, turns, room):
 def program_rows(program, turns):
     yield "| bytes | rehex | srec_cat | ratio | objcopy | ratio | rehex, ms | srec_cat, ms | ratio | objcopy, ms | ratio |"
     yield "|---|---|---|---|---|---|---|---|---|---|---|"
-    with tempfile.TemporaryDirectory() as room:
+    with manners.room() as room:
         for size in SIZES:
             cells = [f"{size:,}"]
             costs, spent = measured(program, size, turns, Path(room))

@@ -281,7 +281,7 @@ def main():
         parser.error(f"there is no script {name}")
     for role in ("layout", "mapper", "station", "rehex", "converter"):
         manners.command(role)
-    with tempfile.TemporaryDirectory() as room, ThreadPoolExecutor(2) as pool:
+    with manners.room() as room, ThreadPoolExecutor(2) as pool:
         found = [wrong for each in pool.map(lambda trial: list(trial()), trials(room, asked.names)) for wrong in each]
     print("\n".join(found) or f"{len(asked.names or there)} scripts, all as they should be")
     sys.exit(1 if found else 0)

@@ -12,7 +12,6 @@ import shlex
 import shutil
 import subprocess
 import sys
-import tempfile
 from pathlib import Path
 
 import manners
@@ -198,7 +197,7 @@ def main():
     ours = Ours(options.command)
     rng = random.Random(options.seed)
     cases = [drawn(rng) for _ in range(options.cases)]
-    with tempfile.TemporaryDirectory() as folder:
+    with manners.room() as folder:
         there = Path(folder)
         for kind in (SrecCat, Objcopy, IntelHex):
             tool = kind(there)
