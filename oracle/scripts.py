@@ -197,10 +197,11 @@ def ended(room, words, number):
     running = subprocess.Popen([*start_of(ROOT / words[0]), *words[1:]], cwd=ROOT, env=trial.environment, stdin=subprocess.PIPE,
                                stdout=subprocess.DEVNULL, stderr=subprocess.PIPE, start_new_session=True,
                                preexec_fn=lambda: [signal.signal(one, signal.SIG_DFL) for one in SIGNALS])
-    until = time.monotonic() + 30
-    while not trial.left() and running.poll() is None and time.monotonic() < until:
+    until, seen = time.monotonic() + 30, []
+    while not seen and running.poll() is None and time.monotonic() < until:
         time.sleep(0.01)
-    seen = trial.left()
+        # a folder: Python tries the place with a file first
+        seen = [path.name for path in trial.temporary.iterdir() if path.is_dir()]
     running.send_signal(number)
     try:
         status = running.wait(30)
