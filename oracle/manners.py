@@ -95,6 +95,8 @@ def said_of(error):
     if isinstance(error, subprocess.CalledProcessError):
         words = error.cmd if isinstance(error.cmd, (list, tuple)) else [error.cmd]
         return f"{' '.join(map(str, words))[:300]}: status {error.returncode}"
+    if isinstance(error, subprocess.TimeoutExpired):
+        return str(error)[:300]
     if isinstance(error, UnicodeDecodeError):
         return "a file that should be text is not"
     return str(error) if isinstance(error, Stop) else None

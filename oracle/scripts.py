@@ -136,7 +136,7 @@ class Trial:
     def run(self, words, start=None, stdin=subprocess.DEVNULL, stdout=subprocess.PIPE, closed=""):
         words = ["sh", "-c", f'exec "$@" {closed}', "sh", *words] if closed else words
         return subprocess.run(words, cwd=start or self.start, env=self.environment, stdin=stdin, stdout=stdout, stderr=subprocess.PIPE,
-                              check=False, timeout=120)
+                              check=False, timeout=600)
 
     def left(self):
         return [path.name for folder in (self.temporary, self.start) for path in folder.iterdir()]
@@ -197,16 +197,16 @@ def ended(room, words, number):
     running = subprocess.Popen([*start_of(ROOT / words[0]), *words[1:]], cwd=ROOT, env=trial.environment, stdin=subprocess.PIPE,
                                stdout=subprocess.DEVNULL, stderr=subprocess.PIPE, start_new_session=True,
                                preexec_fn=lambda: [signal.signal(one, signal.SIG_DFL) for one in SIGNALS])
-    until, seen = time.monotonic() + 30, []
+    until, seen = time.monotonic() + 60, []
     while not seen and running.poll() is None and time.monotonic() < until:
         time.sleep(0.01)
         # a folder: Python tries the place with a file first
         seen = [path.name for path in trial.temporary.iterdir() if path.is_dir()]
     running.send_signal(number)
     try:
-        status = running.wait(30)
+        status = running.wait(60)
     except subprocess.TimeoutExpired:
-        yield f"{name}: goes on for 30 seconds"
+        yield f"{name}: goes on for 60 seconds"
         os.killpg(running.pid, signal.SIGKILL)
         status = running.wait()
     running.stdin.close()
