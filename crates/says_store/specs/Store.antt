@@ -1,6 +1,6 @@
 -- What `dk_offer` says, from documents 01 and 02 in their own numerals: a store of intervals and marks, an offer to it, and what comes of it, the
--- answer and everything lent afterwards. To be read instead of the definitions; that it leaves one outcome and that the call says it is proved
--- (Theorems/Meets.antt). Entries and marks are counted from 0.
+-- answer and everything lent afterwards. To be read instead of the definitions: that it leaves one outcome is proved (Theorems/Decides.antt), and that
+-- the call says it (Theorems/Meets.antt). Entries and marks are counted from 0. Where document 02 leaves room it is read as docs/DECISIONS.md says.
 use mathlib.Core.Path.{_≡_}
 use mathlib.Core.List.{List}
 use mathlib.Core.Logic.{_⊎_}
@@ -78,7 +78,7 @@ module _ (s : Store) where
     not-ascending : {j : ℕ} → i < s .count → j < i → start i ≤ start j → BadEntry i
     shares-bit : {j bit : ℕ} → i < s .count → j < i → Covers (start i) (size i) bit → Covers (start j) (size j) bit → BadEntry i
 
-  -- Ticket 10: "marks out of ascending order (equal ones are in order) or strictly inside an interval"; "A mark past 8,589,934,590 is at fault"
+  -- Ticket 10: "marks out of ascending order (equal ones are in order) or strictly inside an interval"; a mark past an offer's limit too
   pub data BadMark (i : ℕ) : Type 0 where
     mark-past : i < s .markCount → 8589934590 < mark i → BadMark i
     out-of-order : {j : ℕ} → i < s .markCount → j < i → mark i < mark j → BadMark i
@@ -105,7 +105,7 @@ module _ (s : Store) where
       block-over : {i : ℕ} → Crossed i → Overlaps
 
     -- "12 the stored start and size": "the lowest stored start at or above the offer if those two share a bit, otherwise the one below"; Ticket 10:
-    -- "naming the lowest such mark unless an interval is to be named", "with size 0".
+    -- "naming the lowest such mark unless an interval is to be named", with size 0.
     pub data Names : (position size : ℕ) → Type 0 where
       at-or-above : {i : ℕ} → e .position ≤ start i → ((j : ℕ) → j < s .count → e .position ≤ start j → start i ≤ start j) → Clash i
           → Names (start i) (size i)

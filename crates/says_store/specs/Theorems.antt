@@ -6,3 +6,5 @@ pub mod Marks
 pub mod Runs
 pub mod Order
 pub mod Cases
+pub mod Exactly
+pub mod Named
