@@ -2,5 +2,6 @@ pub mod Decides
 pub mod Outcomes
 pub mod Image
 pub mod Padding
+pub mod Walk
 pub mod Cases
 pub mod Edges

@@ -1,1 +1,1 @@
-// Sentences: what each call says, in plain facts and in the numerals of the documents, beside its definition. There is no code here.
+// The sentences of `dk_build`: what the call says, in plain facts and in the numerals of the documents, and what follows from them alone. There is no code here.

@@ -27,7 +27,11 @@ module _ (So : ℕ → ℕ → Type 0) (no-first : (i j : ℕ) → FirstPair So 
             ⊎-elim
             (λ (m : c ≤ i).
             let same : c ≡ i = omega arith in
-            inr (omega arith, ⊎-elim (λ (k : j ≤ d). k) (λ (k : d < j). absurd (beside i below n d (omega arith) (subst (λ (x : ℕ). So x d) same t))) (le-or-lt j d)))
+            inr (
+              omega arith,
+              ⊎-elim (λ (k : j ≤ d). k)
+                  (λ (k : d < j). absurd (beside i below n d (omega arith) (subst (λ (x : ℕ). So x d) same t))) (le-or-lt j d),
+            ))
             (λ (m : i < c). inl m) (le-or-lt c i))
             (λ (l : c < i). absurd (below c d l t)) (le-or-lt i c);
       })

@@ -22,7 +22,8 @@ module _ (g : Given) where
 
   -- a bank that does not count
   past : (n : ℕ) → Largest n → ((m f : ℕ) → Filled g n → Size g n m → Offset g n f → ⊥) → Largest (suc n)
-  past n (l, e, most) none = (l, e, λ c m f h x s o. ⊎-elim (λ (k : n ≤ c). absurd (here c m f (omega arith) x s o)) (λ (k : c < n). most c m f k x s o) (le-or-lt n c))
+  past n (l, e, most) none =
+      (l, e, λ c m f h x s o. ⊎-elim (λ (k : n ≤ c). absurd (here c m f (omega arith) x s o)) (λ (k : c < n). most c m f k x s o) (le-or-lt n c))
     where
       here : (c m f : ℕ) → c ≡ n → Filled g c → Size g c m → Offset g c f → ⊥
       here c m f same x s o = none m f (rw same at x) (rw same at s) (rw same at o)
@@ -32,7 +33,12 @@ module _ (g : Given) where
   over n listed (l, e, most) m f x s o =
       ⊎-elim
       (λ (h : f + m ≤ l). (l, e, λ c m′ f′ k y t p. step l c m′ f′ k y t p h most))
-      (λ (h : l < f + m). (f + m, b.bank listed x s o, λ c m′ f′ k y t p. step (f + m) c m′ f′ k y t p (omega arith) (λ d m″ f″ j z u v. omega (arith, most d m″ f″ j z u v))))
+      (λ (h : l < f + m). (
+        f + m,
+        b.bank listed x s o,
+        λ c m′ f′ k y t p. step (f + m) c m′ f′ k y t p (omega arith)
+            (λ d m″ f″ j z u v. omega (arith, most d m″ f″ j z u v)),
+      ))
       (le-or-lt (f + m) l)
     where
       here : (c m′ f′ : ℕ) → c ≡ n → Size g c m′ → Offset g c f′ → (m′ ≡ m) × (f′ ≡ f)
@@ -43,7 +49,8 @@ module _ (g : Given) where
 
       step : (l c m′ f′ : ℕ) → c < suc n → Filled g c → Size g c m′ → Offset g c f′ → f + m ≤ l → Within n l → f′ + m′ ≤ l
       step l c m′ f′ k y t p h within =
-          ⊎-elim (λ (j : n ≤ c). let same = here c m′ f′ (omega arith) t p in omega (arith, same .0, same .1)) (λ (j : c < n). within c m′ f′ j y t p) (le-or-lt n c)
+          ⊎-elim (λ (j : n ≤ c). let same = here c m′ f′ (omega arith) t p in omega (arith, same .0, same .1))
+          (λ (j : c < n). within c m′ f′ j y t p) (le-or-lt n c)
 
   largest : (n : ℕ) → n ≤ banks g → Largest n
   largest zero h = (0, b.nothing, λ c m f k x s o. absurd (omega arith))

@@ -11,7 +11,8 @@ use Rattle.sort.specs.Laws.Sorted.{le-or-lt}
 use Rattle.says.specs.Words as w
 use Rattle.says.specs.Words.{First, FirstPair, first-one, first-pair-one}
 use Rattle.says_build.specs.Build as b
-use Rattle.says_build.specs.Build.{Given, Lent, Outcome, Not, banks, start, flag, Size, Offset, Filled, Unsized, NoBanks, BadBank, Overlap, EndsAfter}
+use Rattle.says_build.specs.Build.{Given, Lent, Outcome, Not, banks, start, flag, Size, Offset, Filled, Unsized, NoBanks, BadBank, Overlap}
+use Rattle.says_build.specs.Build.{EndsAfter}
 use Rattle.says_build.specs.Build.{nodes, BadField, BadNode, Sees, Extent, Placed, Ten, Inherited, Ends, Unresolved, Last, refusal, BuildSays}
 use Rattle.says_build.specs.Laws.One.{sees-one, extent-one, inherited-one}
 use Rattle.says_build.specs.Theorems.Outcomes.{AcceptedSo}

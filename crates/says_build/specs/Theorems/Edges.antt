@@ -14,8 +14,10 @@ use Rattle.sort.specs.Laws.Sorted.{le-or-lt}
 use Rattle.says.specs.Words as w
 use Rattle.says.specs.Words.{First}
 use Rattle.says_build.specs.Build as b
-use Rattle.says_build.specs.Build.{Given, Lent, Outcome, Not, banks, unit, start, flag, fillBit, NoBanks, BadBank, Overlap, nodes, kind, operand, BadField}
-use Rattle.says_build.specs.Build.{BadNode, In, Lead, Advance, BankAt, Sees, Reads, Stops, Runs, Unresolved, Last, Offer, Refuses, Inherited, Ends, Fill}
+use Rattle.says_build.specs.Build.{Given, Lent, Outcome, Not, banks, unit, start, flag, fillBit, NoBanks, BadBank, Overlap, nodes, kind}
+use Rattle.says_build.specs.Build.{operand, BadField}
+use Rattle.says_build.specs.Build.{BadNode, In, Lead, Advance, BankAt, Sees, Reads, Stops, Runs, Unresolved, Last, Offer, Placed, Refuses}
+use Rattle.says_build.specs.Build.{Inherited, Ends, Fill}
 use Rattle.says_build.specs.Build.{Reaches, Length, Spans, Padding, Left, Accepts, Laid, refusal, BuildSays}
 use Rattle.says_build.specs.Laws.One.{in-one}
 use Rattle.says_build.specs.Theorems.Cases.{BanksPass, refused-1, refused-2, refused-4-field}
@@ -153,12 +155,12 @@ module _ (count : ℕ) (from : ℤ) (size rows limit fill closed : ℕ) where
   no-offer : {r i x m : ℕ} → Not (Offer g r i x m)
   no-offer {i = i} (b.offer h k l s o n) = omega (arith, kind-0 i)
 
-  unplaced : (i : ℕ) → Not ((kind g i ≡ 2) ⊎ ((4 ≤ kind g i) × (kind g i ≤ 7)))
-  unplaced i = ⊎-elim (λ e. omega (arith, kind-0 i)) (λ e. omega (arith, kind-0 i, e .0))
+  unplaced : (i : ℕ) → Not (Placed g i)
+  unplaced i p = ⊎-elim (λ e. omega (arith, kind-0 i)) (λ e. omega (arith, kind-0 i, e .0)) (p .1)
 
   none-refused : (r i : ℕ) → Not (Refuses g r i)
-  none-refused r i (b.nine t) = unplaced i (t .0 .1)
-  none-refused r i (b.ten t) = unplaced i (t .0 .1)
+  none-refused r i (b.nine t) = unplaced i (t .0)
+  none-refused r i (b.ten t) = unplaced i (t .0)
   none-refused r i (b.eleven t) = omega (arith, kind-0 i, t .1 .0)
   none-refused r i (b.twelve o v) = no-offer o
   none-refused r i (b.thirteen t) = no-offer (t .4)
@@ -183,7 +185,8 @@ module _ (count : ℕ) (from : ℤ) (size rows limit fill closed : ℕ) where
 
   fill-there : fill ≤ 1 → Fill g 0
   fill-there h =
-      ⊎-elim (λ (l : fill ≤ 0). b.inherited (omega arith) (no-fill (banks g))) (λ (l : 0 < fill). b.full (omega arith) b.nothing (λ e x. omega (arith, ends-0 x)))
+      ⊎-elim (λ (l : fill ≤ 0). b.inherited (omega arith) (no-fill (banks g)))
+      (λ (l : 0 < fill). b.full (omega arith) b.nothing (λ e x. omega (arith, ends-0 x)))
       (le-or-lt fill 0)
 
   reaches : {r : ℕ} (e : ℕ) → Reaches g r e → e ≤ 0
@@ -201,8 +204,8 @@ module _ (count : ℕ) (from : ℤ) (size rows limit fill closed : ℕ) where
   stands : (r i c : ℕ) → BankAt g r i c 0 true 0
   stands r zero c = b.begins
   stands r (suc i) zero =
-      b.moves {lead = 0} {l = 0} (stands r i 0) (in-0 i) (b.other (λ s. no-symbol i (s .0))) (omega arith) (b.stays (inl (omega (arith, kind-0 i)))) (omega arith)
-      (b.left (inl (omega (arith, kind-0 i)))) (b.by-lead (λ e. omega (arith, kind-0 i)))
+      b.moves {lead = 0} {l = 0} (stands r i 0) (in-0 i) (b.other (λ s. no-symbol i (s .0))) (omega arith)
+      (b.stays (inl (omega (arith, kind-0 i)))) (omega arith) (b.left (inl (omega (arith, kind-0 i)))) (b.by-lead (λ e. omega (arith, kind-0 i)))
   stands r (suc i) (suc c) = b.keeps (stands r i (suc c)) (λ x. let e = in-one g x (in-0 i) in omega arith)
 
   module _ (old : Lent) where

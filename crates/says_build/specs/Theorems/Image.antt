@@ -8,7 +8,8 @@ use native.Mathlib.Omega.{arith}
 use Rattle.sort.specs.Laws.Sorted.{le-or-lt}
 use Rattle.bitvec.specs.Bits.{bitAt}
 use Rattle.says_build.specs.Build as b
-use Rattle.says_build.specs.Build.{Given, Lent, Outcome, Not, banks, nodes, kind, operand, fillBit, Filled, Size, Offset, Offer, IsWritten, OfItem, Fills}
+use Rattle.says_build.specs.Build.{Given, Lent, Outcome, Not, banks, nodes, kind, operand, fillBit, Filled, Size, Offset, Offer, IsWritten}
+use Rattle.says_build.specs.Build.{OfItem, Fills}
 use Rattle.says_build.specs.Build.{Inherited, Fill, Refuses, Sees, Number, Ten, Placed, Extent}
 use Rattle.says_build.specs.Laws.One.{three, offer-one}
 use Rattle.says_build.specs.Laws.Largest.{fill-full}

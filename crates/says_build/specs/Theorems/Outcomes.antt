@@ -126,7 +126,8 @@ module _ (g : Given) (old : Lent) where
   outcome-told o (w.refused x m) = inl (refused-with 1 0 0 0 (omega arith) (omega arith) (λ e. omega arith) (omega arith))
   outcome-told o (w.passed a (w.refused x m)) = inl (refused-with 2 x 0 0 (omega arith) (omega arith) (λ e. omega arith) (omega arith))
   outcome-told o (w.passed a (w.passed c (w.refused x m))) = inl (refused-with 3 (x .0) (x .1) 0 (omega arith) (omega arith) (λ e. omega arith) (omega arith))
-  outcome-told o (w.passed a (w.passed c (w.passed d (w.refused x m)))) = inl (refused-with 4 x 0 0 (omega arith) (omega arith) (λ e. omega arith) (omega arith))
+  outcome-told o (w.passed a (w.passed c (w.passed d (w.refused x m)))) =
+      inl (refused-with 4 x 0 0 (omega arith) (omega arith) (λ e. omega arith) (omega arith))
   outcome-told o (w.passed a (w.passed c (w.passed d (w.passed e (w.refused x m))))) =
       inl (refused-with 4 x 0 0 (omega arith) (omega arith) (λ e. omega arith) (omega arith))
   outcome-told o (w.passed a (w.passed c (w.passed d (w.passed e (w.passed f l))))) =
