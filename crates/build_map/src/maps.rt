@@ -231,7 +231,7 @@ pub fn map_nodes(
     let n = kinds.len();
     let a = row_start(rows, passes, n);
     let e = a + n;
-    let closed = build_plan::closes_default(banks.len, choices.default_bank);
+    let closed = build_plan::closes_default(banks.len, choices.closed);
     map_row(
         banks,
         kinds,

@@ -1,5 +1,5 @@
 -- A layout in the profile whose image is not whole pages: nothing is filled. A page of 16 bits, a bank of 16 bits at offset 0, an item of 3 bits.
-use mathlib.Core.Bool.{Bool, true, false}
+use mathlib.Core.Bool.{Bool, false}
 use mathlib.Core.List.{[], _∷_}
 use lib.IntN.{pos}
 use lib.ListN.{replicate}
@@ -22,4 +22,4 @@ pagedBanks filled =
 abbrev pub threeBits : Bool → Input
 threeBits filled =
     input (pagedBanks filled) (lists (1 ∷ 4 ∷ []) (1 ∷ 0 ∷ []) (0 ∷ 3 ∷ []) (0 ∷ 0 ∷ []) 1 (224 ∷ []))
-    (record { limit = 1; fill = 1; «default_bank» = true })
+    (record { limit = 1; fill = 1; closed = false })

@@ -64,9 +64,9 @@ reservesOf vs = each reserveOf vs
 -- ---- 9, 10 and 11
 
 -- "9: bank 0 is used while other banks exist": bank 0 is closed then, to labels, written items and reserves. "Refused even when it is alone"
--- (document 02, Ticket 13), where the caller does not let it be used alone.
+-- (document 02, Ticket 13), where the caller closes it.
 abbrev pub closesDefault : ℕ → Bool → Bool
-closesDefault banks alone = not alone || ltb 1 banks
+closesDefault banks closed = closed || ltb 1 banks
 
 abbrev pub usesDefault : Bool → ℕ → Bool
 usesDefault closed bank = eqb bank 0 && closed

@@ -46,14 +46,14 @@ fn lacks_output(out: Offset) -> bool
     }
 }
 
-// "9: bank 0 is used while other banks exist", "even when it is alone" where it may not be used alone: whether bank 0 is closed.
-pub fn closes_default(banks: u64, alone: bool) -> bool
-    ensures { λ r. ⌜ r ≡ closesDefault banks alone ⌝ }
+// "9: bank 0 is used while other banks exist", and "even when it is alone" where the caller closes it.
+pub fn closes_default(banks: u64, closed: bool) -> bool
+    ensures { λ r. ⌜ r ≡ closesDefault banks closed ⌝ }
 {
-    if alone {
-        return 1 < banks;
+    if closed {
+        return true;
     }
-    true
+    1 < banks
 }
 
 fn check_bank_usage(closed: bool, bank: u64) -> bool

@@ -76,4 +76,4 @@ tableOf g =
 -- What a caller chooses in numbers: the pass limit, the fill ("Refusals: 4 for an unknown choice"), and whether bank 0 is closed where it is
 -- alone: 0 as in form 1, any other number as "from form 2 on" (document 02, Ticket 13).
 abbrev pub choicesBy : ℕ → ℕ → ℕ → Choices
-choicesBy limit fill closed = record { limit = limit; fill = fill; «default_bank» = eqb closed 0 }
+choicesBy limit fill closed = record { limit = limit; fill = fill; closed = leb 1 closed }

@@ -148,13 +148,13 @@ pub fn make_banks(
     }
 }
 
-// What a caller chooses. Bank 0 may be used alone where it is not closed.
+// What a caller chooses.
 pub fn choose(limit: u8, fill: u8, closed: u8) -> Choices
     ensures { λ r. ⌜ r ≡ choicesBy limit fill closed ⌝ }
 {
     Choices {
         limit,
         fill,
-        default_bank: closed == 0,
+        closed: 1 <= closed,
     }
 }

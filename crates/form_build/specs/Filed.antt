@@ -28,7 +28,7 @@ listsIn file =
 -- What a file chooses, with the fill's choice ("No form carries the choice"): its limit, and whether bank 0 may be used: "From form 2 on, labels, written
 -- items and reserves in bank 0 are refused even when it is alone. Form 1 files that use it are still read and compared as before."
 abbrev pub choicesOf : Shape → ℕ → Choices
-choicesOf s fill = record { limit = s .limit; fill = fill; «default_bank» = eqb (s .form) 1 }
+choicesOf s fill = record { limit = s .limit; fill = fill; closed = eqb (s .form) 2 }
 
 -- "A broken file .. is 4 with the first such field's index", and no pass runs; a sound one is built.
 abbrev pub outputBy : List ℕ → ℕ → Opt → Room → Form → Output

@@ -3,11 +3,11 @@
 use mathlib.Core.Bool.{Bool}
 use Rattle.output.specs.Output.{Input}
 
--- the same banks, lists, limit and fill, with bank 0 usable alone or not
+-- the same banks, lists, limit and fill, with bank 0 closed or not
 abbrev pub withDefault : Input → Bool → Input
-withDefault b alone =
+withDefault b closed =
     record {
       banks = b .banks;
       lists = b .lists;
-      choices = record { limit = b .choices .limit; fill = b .choices .fill; «default_bank» = alone };
+      choices = record { limit = b .choices .limit; fill = b .choices .fill; closed = closed };
     }

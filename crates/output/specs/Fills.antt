@@ -29,4 +29,4 @@ lockBanks bit =
 
 -- the build of these banks, with no nodes, by their fill bit and by the choice of the fill
 abbrev pub lockBuild : ℕ → ℕ → Input
-lockBuild bit choice = input (lockBanks bit) (lists [] [] [] [] 1 []) (record { limit = 1; fill = choice; «default_bank» = true })
+lockBuild bit choice = input (lockBanks bit) (lists [] [] [] [] 1 []) (record { limit = 1; fill = choice; closed = false })

@@ -101,7 +101,7 @@ visitsOf b passes = visits (program (b .banks) (b .lists)) (rowOfPass (b .lists)
 
 -- whether bank 0 is closed, by the banks there are and by the caller's choice
 abbrev pub closedOf : Input → Bool
-closedOf b = closesDefault (b .banks .len) (b .choices .«default_bank»)
+closedOf b = closesDefault (b .banks .len) (b .choices .closed)
 
 -- "Add a choice to the build: inherited fill .. or full fill" (document 02, Ticket 8): the fill's length, by the choice
 abbrev pub fillOf : Input → ℕ

@@ -46,7 +46,7 @@ pub record RefusedThere (c : Call) (n number : ℕ) (place : Place) : Type 0 whe
 
 -- bank 0 may not be used
 abbrev pub Closed : Input → Type 0
-Closed b = (b .choices .«default_bank» ≡ false) ⊎ (1 < b .banks .len)
+Closed b = (b .choices .closed ≡ true) ⊎ (1 < b .banks .len)
 
 -- "labels (size 0), written items (4, 5, 6) and reserves"
 abbrev pub PlacedKind : ℕ → Type 0

@@ -91,14 +91,14 @@ fn build_row(
         ⌝ }
     ensures { λ r. ⌜
         RowBuilt (programOf banks (now (kinds .entry)) (now (operands .entry)) (now (first .entry)))
-        (rowOf (now (numbers .entry)) (now (states .entry))) (closesDefault (banks .len) (choices .«default_bank»))
+        (rowOf (now (numbers .entry)) (now (states .entry))) (closesDefault (banks .len) (choices .closed))
         (fillBy (choices .fill) (banksOf banks)) k passes (now (values .entry))
         (lent (now (image .entry)) (now (addresses .entry)) (now (offsets .entry)) (now (sizes .entry))) r
         (lent (now (image .exit)) (now (addresses .exit)) (now (offsets .exit)) (now (sizes .exit)))
         ⌝ }
 {
     let fill = bankdef::fill_length(banks, choices.fill);
-    let closed = closes_default(banks.len, choices.default_bank);
+    let closed = closes_default(banks.len, choices.closed);
     let plan = plan_row(banks, kinds, operands, first, numbers, states, closed, fill);
     let verdict = plan.verdict;
     if let Verdict::Refused(why) = verdict {

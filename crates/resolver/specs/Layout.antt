@@ -1,7 +1,7 @@
 -- A layout's passes, with the refusals that come before any pass (document 01, "Numbers a caller gets back": the order).
 use Prim.Native.Nat.{ℕ}
 use mathlib.Core.Path.{_≡_}
-use mathlib.Core.Bool.{true}
+use mathlib.Core.Bool.{false}
 use Rattle.refusal.specs.declared.Verdict.{Verdict}
 use Rattle.refusal.specs.declared.Verdict.the-variants.{Accepted, Refused as TurnedAway}
 use Rattle.bankdef.specs.Check.{checkOf}
@@ -14,11 +14,11 @@ use Rattle.resolver.specs.declared.Resolution.{Resolution}
 
 -- "inherited fill, the default" (document 02, Ticket 8), and bank 0 may be used alone, with a limit
 abbrev pub byDefault : ℕ → Choices
-byDefault m = record { limit = m; fill = 0; «default_bank» = true }
+byDefault m = record { limit = m; fill = 0; closed = false }
 
 -- the same choices with another limit
 abbrev pub withLimit : Choices → ℕ → Choices
-withLimit choices m = record { limit = m; fill = choices .fill; «default_bank» = choices .«default_bank» }
+withLimit choices m = record { limit = m; fill = choices .fill; closed = choices .closed }
 
 -- refused before any pass was run
 abbrev pub unless : Verdict → Resolution → Resolution

@@ -6,11 +6,11 @@ pub use once::bank_record;
 pub use passes::resolve;
 use refusal::Refusal;
 
-// What a caller chooses, by value: the pass limit; the fill, 0 inherited and 1 full; and whether bank 0 may be used alone, which no pass reads.
+// What a caller chooses, by value: the pass limit; the fill, 0 inherited and 1 full; and whether bank 0 is closed even where it is alone, which no pass reads.
 pub struct Choices {
     pub limit: u8,
     pub fill: u8,
-    pub default_bank: bool,
+    pub closed: bool,
 }
 
 // What a pass comes to: the state that its nodes merge to (0 resolved, 1 stable, 2 unresolved), or a refusal.

@@ -1,1 +1,1 @@
-// Sentences: what each call says, in plain facts and in the numerals of the documents, beside its definition. There is no code here.
+// That every outcome of `dk_build`, by its contract, is the one that its sentences leave, and what comes of it. There is no code here.

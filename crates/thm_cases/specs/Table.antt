@@ -39,7 +39,7 @@ forty = record { unit = 10; start = pos 0; size = Some 40; offset = Some 0; alig
 abbrev tenAt : ℕ → List ℕ
 tenAt position =
     ofVerdict
-    (placing (closesDefault 2 true) 1 forty emptyState (record { index = 5; kind = 4; operand = 0; number = 10; state = 0 })
+    (placing (closesDefault 2 false) 1 forty emptyState (record { index = 5; kind = 4; operand = 0; number = 10; state = 0 })
     (record { position = position; known = true }) (outputPosition forty position))
 
 -- what the store answers to an offer after others

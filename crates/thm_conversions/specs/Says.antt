@@ -61,4 +61,4 @@ listsFor c =
 abbrev pub inputFor : Kind → Contents → ℕ → Input
 inputFor k c fill =
     input (tableFor (length (c .banks)) (map (bankOf k) (c .banks))) (listsFor c)
-    (record { limit = c .limit; fill = fill; «default_bank» = eqb (k .form) 1 })
+    (record { limit = c .limit; fill = fill; closed = eqb (k .form) 2 })

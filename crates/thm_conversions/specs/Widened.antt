@@ -61,9 +61,9 @@ withSwitch l =
       values = l .values;
     }
 
--- the same limit and fill; bank 0 is not to be used alone: "From form 2 on, labels, written items and reserves in bank 0 are refused even when it is alone."
+-- the same limit and fill; bank 0 is closed: "From form 2 on, labels, written items and reserves in bank 0 are refused even when it is alone."
 abbrev pub closing : Choices → Choices
-closing choices = record { limit = choices .limit; fill = choices .fill; «default_bank» = false }
+closing choices = record { limit = choices .limit; fill = choices .fill; closed = true }
 
 -- the layout with a bank 1, over a table that has these two banks
 abbrev pub widened : Input → Bankdefs → Input
@@ -72,13 +72,13 @@ widened b table = record { banks = table; lists = withSwitch (b .lists); choices
 abbrev pub withBank1 : Input → Input
 withBank1 b = widened b (twoBanks (onlyBank b))
 
--- Of which layouts this is said: one bank, whose fill bit is zero, as in form 1; bank 0 may be used alone; no switch to another bank; room for one
+-- Of which layouts this is said: one bank, whose fill bit is zero, as in form 1; bank 0 is not closed; no switch to another bank; room for one
 -- more node; and lists as long as their counts say, as a file's are.
 pub record OneBank (b : Input) : Type 0 where
   pub count : b .banks .len ≡ 1
   pub table : length (b .banks .defs) ≡ maxBanks
   pub bit : fillBit (onlyBank b) ≡ 0
-  pub alone : b .choices .«default_bank» ≡ true
+  pub unclosed : b .choices .closed ≡ false
   pub switches : (i : ℕ) → getD (b .lists .kinds) i 0 ≡ 1 → getD (b .lists .operands) i 0 ≡ 0
   pub room : suc (length (b .lists .kinds)) ≤ maxNodes
   pub operands : length (b .lists .operands) ≡ length (b .lists .kinds)

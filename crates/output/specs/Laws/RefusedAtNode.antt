@@ -51,17 +51,17 @@ module _ (b : Input) (v : Visit) where
 
   closed-exactly : (closedOf b ≡ true) ↔ Closed b
   closed-exactly = (
-    λ e. opens (b .choices .«default_bank») refl e,
-    ⊎-elim (λ (no-leave : b .choices .«default_bank» ≡ false). rw no-leave) (λ (others : 1 < b .banks .len). shuts (b .choices .«default_bank») others),
+    λ e. opens (b .choices .closed) refl e,
+    ⊎-elim (λ (shut : b .choices .closed ≡ true). rw shut) (λ (others : 1 < b .banks .len). shuts (b .choices .closed) others),
   )
     where
-      opens : (alone : Bool) → b .choices .«default_bank» ≡ alone → closesDefault (b .banks .len) alone ≡ true → Closed b
-      opens true is e = inr (ltb-true 1 (b .banks .len) e)
-      opens false is e = inl is
+      opens : (closed : Bool) → b .choices .closed ≡ closed → closesDefault (b .banks .len) closed ≡ true → Closed b
+      opens false is e = inr (ltb-true 1 (b .banks .len) e)
+      opens true is e = inl is
 
-      shuts : (alone : Bool) → 1 < b .banks .len → closesDefault (b .banks .len) alone ≡ true
-      shuts true others = lt-ltb 1 (b .banks .len) others
-      shuts false others = refl
+      shuts : (closed : Bool) → 1 < b .banks .len → closesDefault (b .banks .len) closed ≡ true
+      shuts false others = lt-ltb 1 (b .banks .len) others
+      shuts true others = refl
 
   pub uses-default : (usesDefault (closedOf b) (v .bank) ≡ true) ↔ ((v .bank ≡ 0) × Closed b)
   uses-default = (

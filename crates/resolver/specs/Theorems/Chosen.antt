@@ -19,7 +19,7 @@ unfolding listsOf
 same-check-for-fills banks l f g h k = rw (le-leb f 1 h, le-leb g 1 k)
 
 module _ (banks : Bankdefs) (l : Lists) (one two : Choices) (limit : one .limit ≡ two .limit) where
-  -- Choices that differ in `default_bank` alone get one answer.
+  -- Choices that differ in `closed` alone get one answer.
   pub default-bank-unread : one .fill ≡ two .fill → layoutOf banks l one ≡ layoutOf banks l two
   unfolding layoutOf
   default-bank-unread fill = rw (limit, fill)

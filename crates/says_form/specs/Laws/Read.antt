@@ -5,7 +5,7 @@ use mathlib.Core.Bool.{Bool}
 use mathlib.Core.List.{List, [], _++_}
 use Prim.Native.Nat.{ℕ, _+_, _*_, _-_, _≤_, _<_, min}
 use native.Mathlib.Omega.{arith}
-use lib.Dec.{eqb}
+use lib.Dec.{eqb, leb}
 use lib.IntN.{pos}
 use lib.ListN.{length, getD, drop, replicate}
 use lib.Seq.{getD-take, getD-drop}
@@ -322,9 +322,9 @@ module _ (f : Form) (file : List ℕ) (fill : ℕ) where
       (choicesOf (shapeIn k file) fill)) (table-is (flags-few sound))
       ∙ ap (λ (t : Bool). input (tableOf lent)
       (lists (givenBy .kinds) (givenBy .operands) (givenBy .numbers) (givenBy .states) (givenBy .rows) (givenBy .values))
-      (record { limit = givenBy .limit; fill = fill; «default_bank» = t })) (closed-is f)
+      (record { limit = givenBy .limit; fill = fill; closed = t })) (closed-is f)
     where
-      closed-is : (f : Form) → eqb (kind f .form) 1 ≡ eqb (closes f) 0
+      closed-is : (f : Form) → eqb (kind f .form) 2 ≡ leb 1 (closes f)
       closed-is form-1 = refl
       closed-is form-2 = refl
 

@@ -91,7 +91,13 @@ module _ (g : Given) (typed : Typed g) (old : Lent) (n : ℕ) (byte : n ≤ 255)
       accepted : (bits spans : ℕ) → given .build ≡ Done k bits spans → Accepted
       accepted bits spans e =
           record {
-            call = record { given = inputOf g typed; old = lentOf old; answer = given; new = lentOf (outcomeOf g typed old .lent); meets = has-outcome g typed old .built };
+            call = record {
+              given = inputOf g typed;
+              old = lentOf old;
+              answer = given;
+              new = lentOf (outcomeOf g typed old .lent);
+              meets = has-outcome g typed old .built;
+            };
             k = k;
             bits = bits;
             spans = spans;

@@ -196,7 +196,7 @@ module _ (b : List ℕ) (nodes rows : List (List ℕ)) (values : List ℕ) (limi
   table = tableFor 2 (bankOf form2 (take 10 b ++ zeros 14) ∷ bankOf form2 (b ++ zeros 1) ∷ [])
 
   same-input : (fill : ℕ) → inputFor form2 (widened c) fill ≡ widenedIn (inputFor form1 c fill) table
-  same-input fill = ap (λ (l : Lists). input table l (record { limit = limit; fill = fill; «default_bank» = false })) same-lists
+  same-input fill = ap (λ (l : Lists). input table l (record { limit = limit; fill = fill; closed = true })) same-lists
 
   two : (fill : ℕ) → TwoBanks (bankOf form1 b) table
   two fill =
@@ -213,7 +213,7 @@ module _ (b : List ℕ) (nodes rows : List (List ℕ)) (values : List ℕ) (limi
           count = refl;
           table = refl;
           bit = no-bit b;
-          alone = refl;
+          unclosed = refl;
           switches = all-to-zero nodes none;
           room = omega (arith, many, few);
           operands = length-map nodes operandOn ∙ sym many;

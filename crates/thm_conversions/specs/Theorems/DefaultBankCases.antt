@@ -1,7 +1,7 @@
 -- Theorems about what Cases defines.
 use Prim.Native.Nat.{ℕ, zero, suc}
 use mathlib.Core.Path.{_≡_, refl}
-use mathlib.Core.Bool.{false}
+use mathlib.Core.Bool.{false, true}
 use mathlib.Core.List.{[], _∷_}
 use native.Mathlib.Omega.{arith}
 use lib.IntN.{pos}
@@ -20,7 +20,7 @@ one-bank =
       count = refl;
       table = refl;
       bit = refl;
-      alone = refl;
+      unclosed = refl;
       switches = switches;
       room = omega arith;
       operands = refl;
@@ -48,5 +48,5 @@ pub becomes : withBank1 one
     })
     (lists (1 ∷ 1 ∷ 2 ∷ 4 ∷ 8 ∷ []) (1 ∷ 1 ∷ 0 ∷ 3 ∷ 0 ∷ []) (0 ∷ 5 ∷ 6 ∷ 8 ∷ 16 ∷ 0 ∷ 5 ∷ 6 ∷ 8 ∷ 32 ∷ [])
     (0 ∷ 0 ∷ 0 ∷ 2 ∷ 0 ∷ 0 ∷ 0 ∷ 0 ∷ 1 ∷ 0 ∷ []) 2 (255 ∷ 255 ∷ []))
-    (record { limit = 3; fill = 0; «default_bank» = false })
+    (record { limit = 3; fill = 0; closed = true })
 becomes = refl

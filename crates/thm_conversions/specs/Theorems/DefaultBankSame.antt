@@ -117,9 +117,9 @@ module _ (b : Input) (table : Bankdefs) (one : OneBank b) (two : TwoBanks (onlyB
       ∙ ap (fillBy (b .choices .fill)) (sym single)
 
   pub open-here : closedOf b ≡ false
-  open-here = law (one .count) (one .alone)
+  open-here = law (one .count) (one .unclosed)
     where
-      law : {n : ℕ} {t : Bool} → n ≡ 1 → t ≡ true → closesDefault n t ≡ false
+      law : {n : ℕ} {t : Bool} → n ≡ 1 → t ≡ false → closesDefault n t ≡ false
       law e f = rw (e, f)
 
   abbrev sides : Program

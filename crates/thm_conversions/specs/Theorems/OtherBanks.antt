@@ -83,7 +83,7 @@ module _ (b : Input) (leave : Bool) (room : Room) where
 module _ (c : Contents) (fits : Fits form1 c) where
   pub lengthened-input : (fill : ℕ) → inputFor form2 (lengthened c) fill ≡ withDefault (inputFor form1 c fill) false
   lengthened-input fill =
-      ap₂ (λ (n : ℕ) (l : List Bankdef). input (tableFor n l) (listsFor c) (record { limit = c .limit; fill = fill; «default_bank» = false }))
+      ap₂ (λ (n : ℕ) (l : List Bankdef). input (tableFor n l) (listsFor c) (record { limit = c .limit; fill = fill; closed = true }))
       (length-map (c .banks) (λ (b : List ℕ). b ++ zeros 1))
       (map-over (BankFits form1) (bankOf form1) (bankOf form2) (λ (b : List ℕ). b ++ zeros 1) bank-lengthened (c .banks) (fits .of-banks))
 
@@ -110,7 +110,7 @@ module _ (c : Contents) (fits : Fits form1 c) where
 module _ (c : Contents) (fits : Fits form2 c) (clear : allOf bitClear (c .banks) ≡ true) where
   pub shortened-input : (fill : ℕ) → inputFor form1 (shortened c) fill ≡ withDefault (inputFor form2 c fill) true
   shortened-input fill =
-      ap₂ (λ (n : ℕ) (l : List Bankdef). input (tableFor n l) (listsFor c) (record { limit = c .limit; fill = fill; «default_bank» = true }))
+      ap₂ (λ (n : ℕ) (l : List Bankdef). input (tableFor n l) (listsFor c) (record { limit = c .limit; fill = fill; closed = false }))
       (length-map (c .banks) (take 23))
       (map-over (λ (b : List ℕ). BankFits form2 b × (bitClear b ≡ true)) (bankOf form2) (bankOf form1) (take 23) bank-shortened (c .banks)
       (each-clear (c .banks) (fits .of-banks) clear))

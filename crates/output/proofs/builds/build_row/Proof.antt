@@ -40,7 +40,7 @@ abbrev fill : tie.Start → ℕ
 fill s = fillBy (s .args .choices .fill) (banksOf (s .args .banks))
 
 abbrev closed : tie.Start → Bool
-closed s = closesDefault (s .args .banks .len) (s .args .choices .«default_bank»)
+closed s = closesDefault (s .args .banks .len) (s .args .choices .closed)
 
 -- what the first walk found, from the fill's own length
 planned : (c : tie.After-plan-row) → Planned (given (begin c)) (row (begin c)) (closed (begin c)) (fill (begin c)) (c .plan-row .result)
