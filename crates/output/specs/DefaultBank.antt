@@ -4,8 +4,8 @@ use mathlib.Core.Bool.{Bool}
 use Rattle.output.specs.Output.{Input}
 
 -- the same banks, lists, limit and fill, with bank 0 closed or not
-abbrev pub withDefault : Input → Bool → Input
-withDefault b closed =
+abbrev pub withClosed : Input → Bool → Input
+withClosed b closed =
     record {
       banks = b .banks;
       lists = b .lists;

@@ -16,7 +16,7 @@ use Rattle.output.specs.Output.{Input, closedOf, Room, outputOf, passesO
 use Rattle.output.specs.Calls.{Call, visitIn}
 use Rattle.output.specs.RefusedAtNode.{Reaches, RefusedThere, PlacedKind}
 use Rattle.output.specs.Theorems.RefusedAtNode.{refused-9-exactly}
-use Rattle.output.specs.DefaultBank.{withDefault}
+use Rattle.output.specs.DefaultBank.{withClosed}
 
 -- Where the caller does not close it, bank 0 is closed as before: "while other banks exist".
 pub closed-as-before : (b : Input) → b .choices .closed ≡ false → closedOf b ≡ ltb 1 (b .banks .len)
@@ -54,16 +54,16 @@ module _ (b : Input) (closed : Bool) (others : 1 < b .banks .len) where
   shut false = lt-ltb 1 (b .banks .len) others
   shut true = refl
 
-  same-row : (room : Room) (passes : ℕ) (s : Settled) → settledBuild (withDefault b closed) room passes s ≡ settledBuild b room passes s
+  same-row : (room : Room) (passes : ℕ) (s : Settled) → settledBuild (withClosed b closed) room passes s ≡ settledBuild b room passes s
   same-row room passes (Unsettled why) = refl
   same-row room passes (At k) =
       ap (λ (t : Bool). buildRow t (visitsOf b passes) (fillOf b) room k) (shut closed ∙ sym (shut (b .choices .closed)))
 
-  pub same-with-other-banks : (room : Room) → buildOf (withDefault b closed) room ≡ buildOf b room
+  pub same-with-other-banks : (room : Room) → buildOf (withClosed b closed) room ≡ buildOf b room
   unfolding buildOf
   same-with-other-banks room =
-      let layouts = default-bank-unread (b .banks) (b .lists) (withDefault b closed .choices) (b .choices) refl refl in
+      let layouts = default-bank-unread (b .banks) (b .lists) (withClosed b closed .choices) (b .choices) refl refl in
       ap
       (λ (r : Resolution). outputOf (program (b .banks) (b .lists)) (rowOfPass (b .lists) (r .passes)) (r .passes)
-      (settledBuild (withDefault b closed) room (r .passes) (r .settled))) layouts
+      (settledBuild (withClosed b closed) room (r .passes) (r .settled))) layouts
       ∙ rw (same-row room (passesOf b) (settledOf b))

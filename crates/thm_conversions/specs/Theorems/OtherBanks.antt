@@ -22,7 +22,7 @@ use Rattle.resolver.specs.Layout.{layoutOf, unless}
 use Rattle.resolver.specs.declared.Choices.{Choices}
 use Rattle.resolver.specs.declared.Resolution.{Resolution}
 use Rattle.resolver.specs.declared.Settled.the-variants.{Refused as Unsettled}
-use Rattle.output.specs.DefaultBank.{withDefault}
+use Rattle.output.specs.DefaultBank.{withClosed}
 use Rattle.output.specs.Theorems.DefaultBank.{same-with-other-banks}
 use Rattle.output.specs.Output.{Input, input, Lent, Room, roomOf, outputOf, settledBuild, buildOf}
 use Rattle.output.specs.declared.Output.{Output}
@@ -42,7 +42,7 @@ use Rattle.thm_conversions.specs.Theorems.Says.{written-output, from-wri
 use Rattle.thm_conversions.specs.Theorems.Conversions.{turned-file}
 use Rattle.thm_conversions.specs.Laws.OtherBanks.{bank-lengthened, bank-shortened, each-clear, map-over, none-or-more}
 
-module _ (b : Input) (leave : Bool) (room : Room) where
+module _ (b : Input) (closed : Bool) (room : Room) where
   abbrev builtBy : Input → Resolution → Output
   builtBy x r =
       outputOf (program (x .banks) (x .lists)) (rowOfPass (x .lists) (r .passes)) (r .passes) (settledBuild x room (r .passes) (r .settled))
@@ -64,24 +64,24 @@ module _ (b : Input) (leave : Bool) (room : Room) where
       law : {n : ℕ} (v : Verdict) → n ≡ 0 → pick (countSound n) v (Turned BankCount) ≡ Turned BankCount
       law v f = rw f
 
-  none : b .banks .len ≡ 0 → buildOf (withDefault b leave) room ≡ buildOf b room
+  none : b .banks .len ≡ 0 → buildOf (withClosed b closed) room ≡ buildOf b room
   none e =
-      build-is (withDefault b leave) ∙ ap (builtBy (withDefault b leave)) (no-bank e (withDefault b leave .choices))
+      build-is (withClosed b closed) ∙ ap (builtBy (withClosed b closed)) (no-bank e (withClosed b closed .choices))
       ∙ sym (build-is b ∙ ap (builtBy b) (no-bank e (b .choices)))
 
-  pub same-unless-one : (b .banks .len ≡ 1 → ⊥) → buildOf (withDefault b leave) room ≡ buildOf b room
+  pub same-unless-one : (b .banks .len ≡ 1 → ⊥) → buildOf (withClosed b closed) room ≡ buildOf b room
   same-unless-one other =
-      ⊎-elim (λ (e : b .banks .len ≡ 0). none e) (λ (e : 1 < b .banks .len). same-with-other-banks b leave e room) (none-or-more (b .banks .len) other)
+      ⊎-elim (λ (e : b .banks .len ≡ 0). none e) (λ (e : 1 < b .banks .len). same-with-other-banks b closed e room) (none-or-more (b .banks .len) other)
 
   -- in the profile too, which does not read that choice
-  pub same-in-profile : (page : Opt) → (b .banks .len ≡ 1 → ⊥) → outputIn page (withDefault b leave) room ≡ outputIn page b room
+  pub same-in-profile : (page : Opt) → (b .banks .len ≡ 1 → ⊥) → outputIn page (withClosed b closed) room ≡ outputIn page b room
   same-in-profile None other = same-unless-one other
   same-in-profile (Some bits) other = ap (afterSaid (saidOf bits b)) (same-unless-one other)
 
 -- ---- to form 2
 
 module _ (c : Contents) (fits : Fits form1 c) where
-  pub lengthened-input : (fill : ℕ) → inputFor form2 (lengthened c) fill ≡ withDefault (inputFor form1 c fill) false
+  pub lengthened-input : (fill : ℕ) → inputFor form2 (lengthened c) fill ≡ withClosed (inputFor form1 c fill) true
   lengthened-input fill =
       ap₂ (λ (n : ℕ) (l : List Bankdef). input (tableFor n l) (listsFor c) (record { limit = c .limit; fill = fill; closed = true }))
       (length-map (c .banks) (λ (b : List ℕ). b ++ zeros 1))
@@ -93,22 +93,22 @@ module _ (c : Contents) (fits : Fits form1 c) where
     lengthened-same-answer room =
         written-output is2 (lengthened c) (lengthened-fits c fits) short2 fill page room
         ∙ ap (λ (b : Input). outputIn page b room) (lengthened-input fill)
-        ∙ same-in-profile (inputFor form1 c fill) false room page other
+        ∙ same-in-profile (inputFor form1 c fill) true room page other
         ∙ sym (written-output is1 c fits short fill page room)
 
     pub lengthened-same-build : {old new : Lent} {r : Output} → FileBuilt (written form1 c) fill page old r new
         → FileBuilt (written form2 (lengthened c)) fill page old r new
     lengthened-same-build {old} {new} {r} p =
         let q = from-written is1 c fits short p in
-        let mine : BuiltIn page (withDefault (inputFor form1 c fill) false) old r new =
-        record { answer = q .answer ∙ sym (same-in-profile (inputFor form1 c fill) false (roomOf old) page other); left = q .left } in
+        let mine : BuiltIn page (withClosed (inputFor form1 c fill) true) old r new =
+        record { answer = q .answer ∙ sym (same-in-profile (inputFor form1 c fill) true (roomOf old) page other); left = q .left } in
         to-written is2 (lengthened c) (lengthened-fits c fits) short2
         (subst (λ (b : Input). BuiltIn page b old r new) (sym (lengthened-input fill)) mine)
 
 -- ---- back to form 1
 
 module _ (c : Contents) (fits : Fits form2 c) (clear : allOf bitClear (c .banks) ≡ true) where
-  pub shortened-input : (fill : ℕ) → inputFor form1 (shortened c) fill ≡ withDefault (inputFor form2 c fill) true
+  pub shortened-input : (fill : ℕ) → inputFor form1 (shortened c) fill ≡ withClosed (inputFor form2 c fill) false
   shortened-input fill =
       ap₂ (λ (n : ℕ) (l : List Bankdef). input (tableFor n l) (listsFor c) (record { limit = c .limit; fill = fill; closed = false }))
       (length-map (c .banks) (take 23))
@@ -121,15 +121,15 @@ module _ (c : Contents) (fits : Fits form2 c) (clear : allOf bitClear (c .banks)
     shortened-same-answer room =
         written-output is1 (shortened c) (shortened-fits c fits) short1 fill page room
         ∙ ap (λ (b : Input). outputIn page b room) (shortened-input fill)
-        ∙ same-in-profile (inputFor form2 c fill) true room page other
+        ∙ same-in-profile (inputFor form2 c fill) false room page other
         ∙ sym (written-output is2 c fits short fill page room)
 
     pub shortened-same-build : {old new : Lent} {r : Output} → FileBuilt (written form2 c) fill page old r new
         → FileBuilt (written form1 (shortened c)) fill page old r new
     shortened-same-build {old} {new} {r} p =
         let q = from-written is2 c fits short p in
-        let mine : BuiltIn page (withDefault (inputFor form2 c fill) true) old r new =
-        record { answer = q .answer ∙ sym (same-in-profile (inputFor form2 c fill) true (roomOf old) page other); left = q .left } in
+        let mine : BuiltIn page (withClosed (inputFor form2 c fill) false) old r new =
+        record { answer = q .answer ∙ sym (same-in-profile (inputFor form2 c fill) false (roomOf old) page other); left = q .left } in
         to-written is1 (shortened c) (shortened-fits c fits) short1
         (subst (λ (b : Input). BuiltIn page b old r new) (sym (shortened-input fill)) mine)
 
