@@ -1,4 +1,4 @@
 pub mod Meets
 pub mod Promised
-pub mod BelowZero
+pub mod Distances
 pub mod RaisedLimit

@@ -14,6 +14,7 @@ use Rattle.says_build.specs.Build as b
 use Rattle.says_build.specs.Build.{Given, Lent, Outcome, Not, banks, start, flag, Size, Offset, Filled, Unsized, NoBanks, BadBank, Overlap}
 use Rattle.says_build.specs.Build.{EndsAfter}
 use Rattle.says_build.specs.Build.{nodes, BadField, BadNode, Sees, Extent, Placed, Ten, Inherited, Ends, Unresolved, Last, refusal, BuildSays}
+use Rattle.says_build.specs.Build.{Interval, Clash, Names, Overlaps}
 use Rattle.says_build.specs.Laws.One.{sees-one, extent-one, inherited-one}
 use Rattle.says_build.specs.Theorems.Outcomes.{AcceptedSo}
 
@@ -152,6 +153,41 @@ module _ (g : Given) where
 
     pub ends-at-41 : Sees g r i c 31 k → Ten g r i
     ends-at-41 s = (placed, (c, 31, k, 10, 40, s, item, size, omega arith))
+
+  -- ---- "P store (0, 8), (8, 8), offer (7, 1): 12, names (0, 8)": at a node before which these two, and nothing else, are stored
+
+  module _ (r i : ℕ) where
+    pub names-the-one-below : Interval g r i 0 8 → ((y n : ℕ) → Interval g r i y n → ((y ≡ 0) ⊎ (y ≡ 8)) × (n ≡ 8)) → Names g r i 7 1 0 8
+    names-the-one-below stored only =
+        b.below stored (omega arith)
+        (λ z l x h. ⊎-elim (λ (e : z ≡ 0). omega arith) (λ (e : z ≡ 8). absurd (omega arith)) (only z l x .0))
+        (b.bits (omega arith) (omega arith) (omega arith) (omega arith))
+        (λ z l x h c. apart z l (⊎-elim (λ (e : z ≡ 0). absurd (omega arith)) (λ (e : z ≡ 8). e) (only z l x .0)) c)
+      where
+        apart : (z l : ℕ) → z ≡ 8 → Clash g 7 1 z l → ⊥
+        apart z l e (b.bits a c d f) = omega arith
+        apart z l e (b.inside a c d f) = omega arith
+
+    -- "P store (0, 8), offers (0, 0) accepted,": a mark on an interval's first bit, or just past its last, is not inside
+    pub mark-on-the-first-bit : ((y n : ℕ) → Interval g r i y n → (y ≡ 0) × (n ≡ 8)) → Not (Overlaps g r i 0 0)
+    mark-on-the-first-bit only (b.stored {y} {n} x c) = apart y n (only y n x) c
+      where
+        apart : (y n : ℕ) → (y ≡ 0) × (n ≡ 8) → Clash g 0 0 y n → ⊥
+        apart y n e (b.bits a c d f) = omega arith
+        apart y n e (b.inside a c d f) = omega arith
+    mark-on-the-first-bit only (b.marked x low high) = omega arith
+
+    pub mark-just-past : ((y n : ℕ) → Interval g r i y n → (y ≡ 0) × (n ≡ 8)) → Not (Overlaps g r i 8 0)
+    mark-just-past only (b.stored {y} {n} x c) = apart y n (only y n x) c
+      where
+        apart : (y n : ℕ) → (y ≡ 0) × (n ≡ 8) → Clash g 8 0 y n → ⊥
+        apart y n e (b.bits a c d f) = omega arith
+        apart y n e (b.inside a c d f) = omega (arith, e .0, e .1)
+    mark-just-past only (b.marked x low high) = omega arith
+
+    -- "then (4, 4): 12", also where it names (0, 8)
+    pub offer-inside-an-interval : Interval g r i 0 8 → Overlaps g r i 4 4
+    offer-inside-an-interval stored = b.stored stored (b.bits (omega arith) (omega arith) (omega arith) (omega arith))
 
   -- ---- the fill
 

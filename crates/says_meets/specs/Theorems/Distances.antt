@@ -1,5 +1,5 @@
 -- Ticket 3, "Stack banks below zero": "Use the remainder from 0 to alignment - 1: address -3 in bits with alignment 8 has remainder 5 and moves 3." The
--- sentences' distance, the fewest bits to a multiple, is the one that the remainder gives, on both sides of 0.
+-- sentences' distance, the fewest bits to a multiple, is the one that the remainder gives, on both sides of 0. And document 01's worked distances.
 use mathlib.Core.Path.{_≡_, refl, sym, ap, subst, _∙_}
 use mathlib.Core.Bool.{Bool, true, false}
 use Prim.Native.Nat.{ℕ, _+_, _-_, _≤_, _<_}
@@ -60,3 +60,20 @@ module _ (g : Given) (b p : ℕ) where
   -- "address -3 in bits with alignment 8 .. moves 3"
   pub three-below-zero : {d : ℕ} → address ≡ negsuc 2 → Distance g b p 8 d → d ≡ 3
   three-below-zero e x = is-distance (omega arith) x ∙ ap (λ (z : ℤ). distanceTo z 8) e
+
+-- ---- "P alignment 0 at any address: 0. P unit 10, start 0, position 10, alignment 16: 6. P position 16: 0."
+
+pub alignment-0 : (g : Given) (b p : ℕ) {d : ℕ} → Distance g b p 0 d → d ≡ 0
+alignment-0 g b p says.to-zero = refl
+alignment-0 g b p (says.next some m least) = absurd (omega arith)
+
+module _ (g : Given) (b : ℕ) (ten : unit g b ≡ 10) (zero-start : start g b ≡ pos 0) where
+  address-is : (p : ℕ) → address g b p ≡ pos p
+  address-is p =
+      ap (λ (z : ℤ). (z *ℤ pos (unit g b)) +ℤ pos p) zero-start ∙ ap (λ (u : ℕ). (pos 0 *ℤ pos u) +ℤ pos p) ten ∙ ap pos (omega arith)
+
+  pub position-10 : {d : ℕ} → Distance g b 10 16 d → d ≡ 6
+  position-10 x = is-distance g b 10 (omega arith) x ∙ ap (λ (z : ℤ). distanceTo z 16) (address-is 10)
+
+  pub position-16 : {d : ℕ} → Distance g b 16 16 d → d ≡ 0
+  position-16 x = is-distance g b 16 (omega arith) x ∙ ap (λ (z : ℤ). distanceTo z 16) (address-is 16)
