@@ -1,3 +1,4 @@
 pub mod Banks
 pub mod Ordered
 pub mod Blocks
+pub mod Cases

@@ -161,3 +161,15 @@ module _ (keys : List ℕ) where
         subst (λ (x : ℕ). x < length keys) (any-default (order keys) i 0 k (h .0) ∙ h .1) b;
     rising = positions (order keys) (sorted-rises 0 (length keys));
   }
+
+  -- "equal ones in their order": of two numbers with equal keys the lower one is taken first.
+  pub equal-in-their-order : (l : List ℕ) → InOrder keys l → (x y : ℕ) → x < y → getD keys x 0 ≡ getD keys y 0
+      → (i j : ℕ) → At l i x → At l j y → i < j
+  equal-in-their-order l o x y lt same i j at-x at-y =
+      let is-x : getD l i 0 ≡ x = any-default l i 0 x (at-x .0) ∙ at-x .1 in
+      let is-y : getD l j 0 ≡ y = any-default l j 0 y (at-y .0) ∙ at-y .1 in
+      let not-below : j < i → ⊥ = λ below.
+      let b : Before keys y x = rw (is-y, is-x) at (o .rising j i below (at-x .0)) in
+      ⊎-elim (λ less. omega arith) (λ e. omega (arith, e .1)) b in
+      let not-same : i ≡ j → ⊥ = λ e. let f : getD l j 0 ≡ x = rw e at is-x in omega arith in
+      ⊎-elim (λ le. ⊎-elim (λ ge. absurd (not-same (omega arith))) (λ below. absurd (not-below below)) (le-or-lt i j)) (λ h. h) (le-or-lt j i)
