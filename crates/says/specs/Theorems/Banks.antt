@@ -75,7 +75,9 @@ meet o None p (Some n) e = says.second-sized (ltb-true o (p + n) e)
 meet o (Some m) p None e = says.first-sized (ltb-true p (o + m) e)
 meet o (Some m) p (Some n) e =
     let h = both (ltb p (o + m)) (ltb o (p + n)) e in
-    says.two-sized (ltb-true p (o + m) (h .0)) (ltb-true o (p + n) (h .1))
+    let first = ltb-true p (o + m) (h .0) in
+    let second = ltb-true o (p + n) (h .1) in
+    says.two-sized {o = o} {m = m} {p = p} {n = n} (omega arith) (omega arith)
 
 -- what two banks that meet have, by the definition
 abbrev Met : Opt → Opt → Opt → Opt → Type 0
@@ -85,7 +87,7 @@ met : {a m b n : Opt} → Meet a m b n → Met a m b n
 met (says.two-open {o} {p}) = (o, p, refl, refl, refl)
 met (says.first-sized {o} {m} {p} h) = (o, p, refl, refl, lt-ltb p (o + m) h)
 met (says.second-sized {o} {p} {n} h) = (o, p, refl, refl, lt-ltb o (p + n) h)
-met (says.two-sized {o} {m} {p} {n} h k) = (o, p, refl, refl, rw (lt-ltb p (o + m) h, lt-ltb o (p + n) k))
+met (says.two-sized {o} {m} {p} {n} h k) = (o, p, refl, refl, rw (lt-ltb p (o + m) (omega arith), lt-ltb o (p + n) (omega arith)))
 
 module _ (t : Bankdefs) (held : (i : ℕ) (b : Bankdef) → Bank t i b → Held b) where
   abbrev l : List Bankdef
