@@ -7,3 +7,6 @@ pub mod ReadMeets
 pub mod Checksums
 pub mod Cases
 pub mod SameReading
+pub mod ReadBack
+pub mod Rewritten
+pub mod AnyLength

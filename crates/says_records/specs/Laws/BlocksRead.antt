@@ -3,7 +3,7 @@ use mathlib.Core.Path.{_≡_, refl, sym, ap, _∙_, subst}
 use mathlib.Core.Bool.{Bool, true, false}
 use mathlib.Core.List.{List, [], _∷_, map}
 use mathlib.Core.Logic.{_⊎_, ⊎-elim}
-use Prim.Native.Nat.{ℕ, zero, suc, _+_, _-_, _*_, _≤_, _<_}
+use Prim.Native.Nat.{ℕ, zero, suc, _+_, _-_, _*_, _≤_, _<_, _/_}
 use native.Mathlib.Omega.{arith}
 use lib.ListN.{length, getD, length-map, List·getD-map}
 use Rattle.refusal.specs.Laws.Bools.{either, clash}
@@ -147,3 +147,18 @@ module _ (format load : ℕ) (text : List ℕ) (ps : List Piece) (above : (a : �
         let lt = run-rises (isGiven load out) 0 (suc (reach load out)) runs are i j h (omega (arith, many, length-map made (λ (b : Block). b .origin))) in
         omega (arith, origin-at i, origin-at j);
   }
+
+  -- the block that a given byte lies in
+  pub covering : (x : ℕ) → GivenTo ps (load + x)
+      → (i : ℕ) × (i < length (origins made)) × (getD (origins made) i 0 / 8 ≤ x) × (x < (getD (origins made) i 0 + getD (sizes made) i 0) / 8)
+  covering x g =
+      let t : isGiven load out x ≡ true = to-given ps (load + x) g in
+      let below = all-below load out x t in
+      let k = run-of (isGiven load out) 0 (suc (reach load out)) runs are x (omega arith) (omega arith) t in
+      let o = origin-at (k .0) in
+      let n = size-at (k .0) in (
+        k .0,
+        omega (arith, k .1, many, length-map made (λ (b : Block). b .origin)),
+        omega (arith, k .2),
+        omega (arith, k .3),
+      )

@@ -70,7 +70,7 @@ lines-ended [] a = r.none
 lines-ended (l ∷ ls) a = line-ended l (ended ls) ls (a .0) (lines-ended ls (a .1))
 
 -- ---- Intel HEX
-hex-lines-above : {u : ℕ} {ls : List (List ℕ)} {ps : List Piece} → HexLines u ls ps → AllAbove ls
+pub hex-lines-above : {u : ℕ} {ls : List (List ℕ)} {ps : List Piece} → HexLines u ls ps → AllAbove ls
 hex-lines-above (s.end h) = (hex-above h, tt)
 hex-lines-above (s.piece h e x) = (hex-above h, hex-lines-above x)
 hex-lines-above (s.upper h x) = (hex-above h, hex-lines-above x)
@@ -134,7 +134,7 @@ end-above : {w : ℕ} → back.Width w → 13 < endDigit w
 end-above back.two = omega arith
 end-above back.four = omega arith
 
-srec-lines-above : {w : ℕ} → back.Width w → {ls : List (List ℕ)} {ps : List Piece} → SrecLines (dataDigit w) (endDigit w) w ls ps → AllAbove ls
+pub srec-lines-above : {w : ℕ} → back.Width w → {ls : List (List ℕ)} {ps : List Piece} → SrecLines (dataDigit w) (endDigit w) w ls ps → AllAbove ls
 srec-lines-above v (s.end h) = (srec-above (end-above v) h, tt)
 srec-lines-above v (s.piece h x) = (srec-above (data-above v) h, srec-lines-above v x)
 srec-lines-above v (s.header h x) = (srec-above (omega arith) h, srec-lines-above v x)
