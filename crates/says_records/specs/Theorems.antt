@@ -10,3 +10,4 @@ pub mod SameReading
 pub mod ReadBack
 pub mod Rewritten
 pub mod AnyLength
+pub mod Calls

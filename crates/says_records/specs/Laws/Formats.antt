@@ -1,17 +1,17 @@
 -- The lines of a good file, by the sentences and by the definitions' formats: the same, for Intel HEX and for S-records.
-use mathlib.Core.Path.{_≡_, refl, sym, ap, ap₂, _∙_, subst}
-use mathlib.Core.Bool.{Bool, true, false, _||_}
+use mathlib.Core.Path.{_≡_, refl, sym, ap, _∙_, subst}
+use mathlib.Core.Bool.{true}
 use mathlib.Core.List.{List, [], _∷_, _++_}
-use mathlib.Core.Logic.{_⊎_, inl, inr, ⊎-elim}
+use mathlib.Core.Logic.{_⊎_, inl, inr}
 use Prim.Native.Nat.{ℕ, zero, suc, _+_, _*_, _-_, _≤_, _<_, _^_}
 use native.Mathlib.Omega.{arith}
 use borrow.Author.Tests.{eq-eqb, ne-eqb, eqb-true, eqb-false}
 use lib.Dec.{eqb}
 use lib.ListN.{length, getD}
 use Rattle.refusal.specs.Laws.Bools.{either, clash}
-use Rattle.record_lines.specs.Items.{Item, gives, passes, ends, bad, Format}
+use Rattle.record_lines.specs.Items.{Item, gives, passes, ends, Format}
 use Rattle.record_lines.specs.Lines.{linesOf}
-use Rattle.record_lines.specs.Pieces.{Piece, piece, endOf}
+use Rattle.record_lines.specs.Pieces.{Piece, piece}
 use Rattle.record_lines.specs.Laws.Spelled.{bytes-none}
 use Rattle.record_lines.specs.Telling.{Tells, closes, skips, tells}
 use Rattle.record_lines.specs.Uppers.{ended}
@@ -21,7 +21,7 @@ use Rattle.record_srec_line.specs.Srec.{dataDigit, endDigit, lineText, agrees, 
 use Rattle.record_srec_line.specs.ReadBack as back
 use Rattle.record_fault.specs.Reading.{formatBy}
 use Rattle.says_records.specs.Records as r
-use Rattle.says_records.specs.Records.{Lines, Digit, Spells, Hex, IsS, Number, Srec, Width}
+use Rattle.says_records.specs.Records.{Lines, Digit, Spells, Hex, IsS, Number, Srec}
 use Rattle.says_records.specs.Read as s
 use Rattle.says_records.specs.Read.{HexLines, SrecLines, Gives, Good}
 use Rattle.says_records.specs.Laws.One.{lines-one, spells-below}

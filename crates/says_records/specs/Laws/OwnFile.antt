@@ -1,22 +1,22 @@
 -- A text that was accepted for writing, by its sentences: the text that stands at the front of the lent one, its pieces, and that its lines are those of a
 -- file to be read. From the sentences alone.
-use mathlib.Core.Path.{_≡_, refl, sym, ap, _∙_, subst}
+use mathlib.Core.Path.{_≡_, refl, sym, _∙_, subst}
 use mathlib.Core.List.{List, [], _∷_, _++_}
-use Prim.Native.Nat.{ℕ, suc, _+_, _*_, _≤_, _<_}
+use Prim.Native.Nat.{ℕ, _+_, _≤_, _<_}
 use native.Mathlib.Omega.{arith}
-use lib.ListN.{length, getD, take, length-take}
+use lib.ListN.{length, take, length-take}
 use lib.Seq.{ext-getD, getD-take}
 use Rattle.sort.specs.Laws.Sorted.{le-or-lt}
 use Rattle.record_lines.specs.Pieces.{Piece}
 use Rattle.says.specs.Words as words
-use Rattle.says.specs.Words.{Tries, Begins}
+use Rattle.says.specs.Words.{Begins}
 use Rattle.says_records.specs.Records as r
-use Rattle.says_records.specs.Records.{Case, Digit, Spells, IsS, Hex, Srec, Width, Lines}
+use Rattle.says_records.specs.Records.{Digit, Spells, IsS, Hex, Srec, Width, Lines}
 use Rattle.says_records.specs.Write as w
 use Rattle.says_records.specs.Write.{Given, Outcome, HexText, SrecText, Cuts, BadPart, BadPlace, HexSays, SrecSays, Leaves}
 use Rattle.says_records.specs.Read as s
 use Rattle.says_records.specs.Read.{HexLines, SrecLines}
-use Rattle.says_records.specs.Laws.Formats.{Above, line-ended, hex-above, srec-above}
+use Rattle.says_records.specs.Laws.Formats.{line-ended, hex-above, srec-above}
 
 -- ---- upper case is either case
 digit-either : {c v : ℕ} → Digit r.upper c v → Digit r.either c v

@@ -1,8 +1,8 @@
 -- What an S-record says, by the definitions and by the sentences: the same, once over both widths.
 use mathlib.Core.Path.{_≡_, refl, sym, ap, ap₂, _∙_, subst}
-use mathlib.Core.Bool.{Bool, true, false, _&&_, _||_}
+use mathlib.Core.Bool.{true, _&&_}
 use mathlib.Core.List.{List, [], _∷_, _++_, append-assoc}
-use Prim.Native.Nat.{ℕ, zero, suc, _+_, _*_, _-_, _≤_, _<_, _/_, _%_, _^_}
+use Prim.Native.Nat.{ℕ, suc, _+_, _*_, _-_, _≤_, _<_, _/_, _%_, _^_}
 use native.Mathlib.Omega.{arith}
 use borrow.Author.Tests.{ltb-true, lt-ltb, leb-true, le-leb, eqb-true, eq-eqb}
 use lib.Dec.{leb, ltb, eqb}
@@ -20,7 +20,7 @@ use Rattle.record_lines.specs.Laws.Sums.{list-one-more}
 use Rattle.record_srec_line.specs.Srec.{addressBytes, bodyOf, checksumOf, lineText, dataDigit, endDigit, isS, numberFrom, countOf, addressOf, dataOf, isSound}
 use Rattle.record_srec_line.specs.Srec.{agrees, fits, dataLine, endLine, headerLine, typed, srecItem}
 use Rattle.record_srec_line.specs.ReadBack as back
-use Rattle.record_srec_line.specs.Laws.ReadBack.{length-address, address-bytes}
+use Rattle.record_srec_line.specs.Laws.ReadBack.{address-bytes}
 use Rattle.record_srec_line.specs.Theorems.ReadBack.{address-back}
 use Rattle.says_records.specs.Records as r
 use Rattle.says_records.specs.Records.{Case, Spells, Number, IsS, Srec, Width, total}

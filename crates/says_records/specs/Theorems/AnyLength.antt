@@ -1,9 +1,9 @@
 -- "Data records: any count 0 to 255, any order": whatever pieces there are, of any length up to what a record's count byte holds, in any order, some
 -- file gives
 -- them, and it is a good one if no byte is given twice, below the load address or past the last that fits. No record has more bytes.
-use mathlib.Core.Path.{_≡_, refl, sym, ap, _∙_, subst}
-use mathlib.Core.List.{List, [], _∷_, _++_}
-use Prim.Native.Nat.{ℕ, zero, suc, _+_, _*_, _≤_, _<_, _/_, _%_, _^_}
+use mathlib.Core.Path.{_≡_, refl}
+use mathlib.Core.List.{List, [], _∷_}
+use Prim.Native.Nat.{ℕ, _+_, _*_, _≤_, _<_, _/_, _%_, _^_}
 use native.Mathlib.Omega.{arith}
 use lib.ListN.{length}
 use Rattle.bitvec.specs.Bits.{Bytes}
@@ -16,7 +16,7 @@ use Rattle.record_ihex_line.specs.Laws.ReadBack.{upper-bytes}
 use Rattle.record_srec_line.specs.Srec.{lineText, dataDigit, endDigit}
 use Rattle.record_srec_line.specs.ReadBack as back
 use Rattle.record_srec_line.specs.Laws.ReadBack.{width-few}
-use Rattle.says_records.specs.Records.{Not, Case, Hex, Srec, Width}
+use Rattle.says_records.specs.Records.{Not, Case, Hex, Srec}
 use Rattle.says_records.specs.Read as s
 use Rattle.says_records.specs.Read.{HexLines, SrecLines, Gives, Good}
 use Rattle.says_records.specs.Laws.One.{spells-below}

@@ -1,7 +1,7 @@
 -- One record of each kind, as programmers print them, with what it says.
-use mathlib.Core.Path.{_≡_, refl}
+use mathlib.Core.Path.{refl}
 use mathlib.Core.List.{List, [], _∷_}
-use Prim.Native.Nat.{ℕ, _+_}
+use Prim.Native.Nat.{ℕ}
 use native.Mathlib.Omega.{arith}
 use Rattle.bitvec.specs.Lists.{listOf}
 use Rattle.record_lines.specs.Digits.{valueOf, allDigits}

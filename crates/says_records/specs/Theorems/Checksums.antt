@@ -1,6 +1,6 @@
 -- "Bytes of a record, checksum included, sum to zero and wrap at 256": of every Intel HEX line that is written, and of every line of a file that is read. "The
 -- checksum is the ones' complement of the low byte of the sum of count, address and data bytes": likewise of every S-record. From the sentences alone.
-use mathlib.Core.Path.{_≡_, refl, sym, ap, _∙_, subst}
+use mathlib.Core.Path.{_≡_, refl, sym, subst}
 use mathlib.Core.List.{List, [], _∷_, _++_, append-assoc}
 use Prim.Native.Nat.{ℕ, _+_, _-_, _%_}
 use lib.ListN.{length, take}
@@ -8,9 +8,9 @@ use Rattle.sort.specs.Agree.{All}
 use Rattle.record_lines.specs.Pieces.{Piece}
 use Rattle.says.specs.Words as words
 use Rattle.says_records.specs.Records as r
-use Rattle.says_records.specs.Records.{Not, Case, Lines, Spells, Hex, Srec, total}
+use Rattle.says_records.specs.Records.{Not, Lines, Spells, Hex, Srec, total}
 use Rattle.says_records.specs.Write as w
-use Rattle.says_records.specs.Write.{Given, HexText, SrecText, HexSays, SrecSays}
+use Rattle.says_records.specs.Write.{Given, HexSays, SrecSays}
 use Rattle.says_records.specs.Read as s
 use Rattle.says_records.specs.Read.{HexLines, SrecLines, Good, Lent, ReadSays}
 use Rattle.says_records.specs.Laws.OwnFile.{hex-back, srec-back, hex-filed, srec-filed}

@@ -29,7 +29,7 @@ module _ (format load : ℕ) (text : List ℕ) where
       let m = sound-told (formatBy format) load (linesOf text) 0 [] out e in
       (m .0, good-of format load (lines-meet text) (m .1) (m .2), m .3)
 
-  -- "some good file goes on before it"
+  -- up to the line at fault some good file goes on
   goes-before : (i : ℕ) → readText format load text ≡ faulty i → GoesOn format load text i
   goes-before i e =
       let m = fault-told (formatBy format) load (Comes format) (closing format) (given-on format) (passed-on format) (linesOf text) 0 i []

@@ -1,8 +1,8 @@
 -- "Reading back our own file gives the same bytes at the same addresses, touching blocks joined": of every file that `dk_write_hex` accepts, and of every one
 -- that `dk_write_srec` accepts, once over both widths; read at the same load address into lists that are long enough. From the sentences.
 use mathlib.Core.Path.{_≡_, refl, sym, ap, _∙_, subst}
-use mathlib.Core.List.{List, [], _∷_}
-use mathlib.Core.Logic.{_⊎_, inl, inr, ⊎-elim}
+use mathlib.Core.List.{List}
+use mathlib.Core.Logic.{_⊎_, ⊎-elim}
 use Prim.Native.Nat.{ℕ, zero, suc, _+_, _*_, _-_, _≤_, _<_, _/_}
 use native.Mathlib.Omega.{arith}
 use lib.ListN.{length, getD, take}
@@ -14,12 +14,12 @@ use Rattle.says.specs.Words as words
 use Rattle.says.specs.Words.{Tries, Begins}
 use Rattle.says_records.specs.Records.{Not}
 use Rattle.says_records.specs.Write as w
-use Rattle.says_records.specs.Write.{Given, Cuts, BadPart, BadPlace, HexSays, SrecSays}
+use Rattle.says_records.specs.Write.{Given, HexSays, SrecSays}
 use Rattle.says_records.specs.Read as s
 use Rattle.says_records.specs.Read.{Gives, GivenTo, Good, Block, Blocks, Lent, Outcome, Filled, Accepts, ReadSays}
 use Rattle.says_records.specs.Laws.Sits.{solid}
 use Rattle.says_records.specs.Laws.Has.{Has, gives-has, has-gives, has-given, lone-once}
-use Rattle.says_records.specs.Laws.CutBytes.{InOne, cuts-has, has-cuts, cuts-lone, inside-of, low-of, ordered-of, Ordered}
+use Rattle.says_records.specs.Laws.CutBytes.{cuts-has, has-cuts, cuts-lone, inside-of, low-of, ordered-of, Ordered}
 use Rattle.says_records.specs.Laws.OwnFile.{hex-back, srec-back, Filed, hex-filed, srec-filed}
 use Rattle.says_records.specs.Laws.BlocksRead.{blocks-are, covering}
 use Rattle.says_records.specs.Theorems.ReadDecides.{good-one, offsets-one, sizes-one}

@@ -1,26 +1,24 @@
 -- What `dk_read_records` promises says its sentences, for Intel HEX and for S-records.
 use mathlib.Core.Path.{_≡_, refl, sym, ap, _∙_, subst}
 use mathlib.Core.Bool.{Bool, true, false, _&&_}
-use mathlib.Core.List.{List, []}
+use mathlib.Core.List.{List}
 use mathlib.Core.Logic.{_⊎_, inl, inr, ⊎-elim}
-use Prim.Native.Nat.{ℕ, suc, _+_, _-_, _≤_, _<_}
+use Prim.Native.Nat.{ℕ, _+_, _-_, _≤_, _<_}
 use native.Mathlib.Omega.{arith}
 use borrow.Author.Tests.{leb-true, leb-false}
-use lib.Dec.{leb}
 use lib.ListN.{length, getD, length-map, List·getD-eq-default}
-use Rattle.refusal.specs.Laws.Bools.{either, clash}
+use Rattle.refusal.specs.Laws.Bools.{either}
 use Rattle.refusal.specs.Pick.{pick}
-use Rattle.refusal.specs.declared.Refusal.the-variants.{Malformed, TooShort}
+use Rattle.refusal.specs.declared.Refusal.the-variants.{TooShort}
 use Rattle.sort.specs.Laws.Sorted.{le-or-lt}
 use Rattle.blocks.specs.declared.Block.{Block}
 use Rattle.blocks.specs.declared.Blocks.the-variants.{Found, Refused}
 use Rattle.blocks.specs.Theorems.Exactly.{room-exactly, no-room-exactly}
-use Rattle.blocks.specs.Outcome.{origins, sizes, over, roomFor}
+use Rattle.blocks.specs.Outcome.{origins, sizes, over}
 use Rattle.record_lines.specs.Pieces.{Piece}
 use Rattle.record_fault.specs.Reading.{Read, sound, faulty, readText}
 use Rattle.record_fault.specs.Sound.{Fine}
 use Rattle.record_fault.specs.Theorems.Sound.{sound-pieces-fine}
-use Rattle.record_fault.specs.Steps.{highest}
 use Rattle.record_read.specs.Given.{given, byteAt, filled}
 use Rattle.record_read.specs.Laws.GivenLaws.{given-below}
 use Rattle.record_read.specs.Theorems.GivenLaws.{filled-at, filled-long}
@@ -34,7 +32,7 @@ use Rattle.c_answers.specs.declared.DkCount.{DkCount}
 use Rattle.denkumari.specs.RecordFiles.{ReadTold}
 use Rattle.says.specs.Words.{Tries, refused, passed, is}
 use Rattle.says_records.specs.Read as s
-use Rattle.says_records.specs.Read.{Gives, GivenTo, Good, Lent, Outcome, Filled, Accepts, ReadSays, refusal}
+use Rattle.says_records.specs.Read.{GivenTo, Good, Lent, Outcome, Filled, Accepts, ReadSays, refusal}
 use Rattle.says_records.specs.Laws.Sits.{solid}
 use Rattle.says_records.specs.Laws.Front.{begins}
 use Rattle.says_records.specs.Laws.GivenBytes.{gives-at, given-to, to-given, top-given}

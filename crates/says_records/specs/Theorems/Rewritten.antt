@@ -1,10 +1,10 @@
 -- "A file read from S-records and written as Intel HEX gives the same bytes at the same addresses": what was read, from either format, is never
 -- refused with 16
 -- or 4 when it is written as Intel HEX from the same load address, and reading the new file has the same outcome as reading the old one, whatever is lent.
-use mathlib.Core.Path.{_≡_, refl, sym, ap, _∙_, subst}
-use mathlib.Core.List.{List, [], _∷_}
+use mathlib.Core.Path.{_≡_, sym, ap, _∙_, subst}
+use mathlib.Core.List.{List}
 use mathlib.Core.Logic.{_⊎_, inl, inr, ⊎-elim}
-use Prim.Native.Nat.{ℕ, zero, suc, _+_, _*_, _-_, _≤_, _<_, _/_, _%_}
+use Prim.Native.Nat.{ℕ, suc, _+_, _*_, _-_, _≤_, _<_, _/_}
 use native.Mathlib.Omega.{arith}
 use lib.ListN.{length, getD, take}
 use Rattle.sort.specs.Laws.Sorted.{le-or-lt}

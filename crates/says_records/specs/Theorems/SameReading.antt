@@ -4,8 +4,8 @@
 -- line by itself" (`cr-lf-free`, and of the line at fault `cr-lf-fault`). From the sentences alone.
 use mathlib.Core.Path.{_≡_, refl, sym, ap, _∙_, subst}
 use mathlib.Core.List.{List, [], _∷_}
-use mathlib.Core.Logic.{_⊎_, inl, inr, ⊎-elim}
-use Prim.Native.Nat.{ℕ, zero, suc, _+_, _-_, _≤_, _<_}
+use mathlib.Core.Logic.{_⊎_}
+use Prim.Native.Nat.{ℕ, suc, _+_, _-_, _≤_, _<_}
 use native.Mathlib.Omega.{arith}
 use lib.ListN.{length, take}
 use Rattle.record_lines.specs.Pieces.{Piece}
@@ -15,7 +15,7 @@ use Rattle.says.specs.Words.{Tries}
 use Rattle.says_records.specs.Records as r
 use Rattle.says_records.specs.Records.{Not, Lines, Hex, Srec, Width}
 use Rattle.says_records.specs.Read as s
-use Rattle.says_records.specs.Read.{HexLines, SrecLines, Gives, GivenTo, Says, Good, GoesOn}
+use Rattle.says_records.specs.Read.{HexLines, SrecLines, Gives, GivenTo, Good, GoesOn}
 use Rattle.says_records.specs.Read.{FaultSays, Block, Blocks, Lent, Outcome, Filled, Accepts, ReadSays}
 use Rattle.says_records.specs.Laws.One.{lines-one, hex-one, srec-kind}
 use Rattle.says_records.specs.Laws.Has as shuffle
