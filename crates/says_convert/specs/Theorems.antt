@@ -1,2 +1,4 @@
 pub mod Decides
+pub mod Example
 pub mod Meets
+pub mod Trips

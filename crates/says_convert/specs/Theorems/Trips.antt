@@ -1,0 +1,178 @@
+-- There and back over two calls of the exported functions. "Form 1 to 2 to 1 gives the same bytes; form 2 to 1 to 2 does too, for every file that can go
+-- back" (document 02, Ticket 7), and what Ticket 13 and a full file except.
+use mathlib.Core.Path.{_≡_, refl, sym, ap, subst, _∙_}
+use mathlib.Core.Bool.{Bool, true, false}
+use mathlib.Core.List.{List, _++_}
+use Prim.Native.Nat.{ℕ, _≤_}
+use native.Mathlib.Omega.{arith}
+use lib.ListN.{length, take, drop}
+use borrow.Author.Tests.{eqb-false, eq-eqb, ne-eqb}
+use Rattle.refusal.specs.Laws.Bools.{either, clash}
+use Rattle.refusal.specs.Pick.{pick}
+use Rattle.refusal.specs.Theorems.Told.{number-some}
+use Rattle.refusal.specs.declared.Refusal.the-variants.{Malformed}
+use Rattle.form_fields.specs.declared.Kind.{Kind}
+use Rattle.form_fields.specs.Contents.{Contents, written}
+use Rattle.form_fields.specs.Kind.{form1, form2, is1, is2}
+use Rattle.form_fields.specs.Whole.{Bytes, contentsIn}
+use Rattle.form_fields.specs.Theorems.Whole.{contents-back}
+use Rattle.form_convert.specs.Convert.{Converts, outAfter, dropsNone}
+use Rattle.form_convert.specs.declared.Conversion.{Conversion}
+use Rattle.form_convert.specs.declared.Conversion.the-variants.{Converted, Refused}
+use Rattle.form_rewrite.specs.Theorems.Fitting.{lengthened-fits, form1-fits, form2-fits}
+use Rattle.form_rewrite.specs.Turning.{zeros, lengthened, alone, shaped, shortened, narrowed, toForm2, toForm1, dropsBit}
+use Rattle.thm_conversions.specs.Theorems.Conversions.{turned-file}
+use Rattle.thm_conversions.specs.Theorems.Exceptions.{one-bank-comes-back-as-shape, full-one-bank-not-again, shape-comes-back-as-one-bank}
+use Rattle.thm_conversions.specs.Theorems.ThereAndBack.{to-form2-and-back, to-form1-and-again}
+use Rattle.c_answers.specs.Counts.{conversionCount}
+use Rattle.c_answers.specs.declared.DkCount.{DkCount}
+use Rattle.denkumari.specs.Conversions.{WayTold, answerIn}
+use Rattle.says.specs.Words.{Begins}
+use Rattle.says_form.specs.Files.{Form, form-1, form-2, Held, bytes, Sound}
+use Rattle.says_form.specs.Laws.Written.{held, contents, bytes-same, sound-contents, sound-fits, form-sound}
+use Rattle.says_convert.specs.Convert as says
+use Rattle.says_convert.specs.Convert.{Becomes, ShapeOf}
+use Rattle.says_convert.specs.Laws.Answers.{begins-so}
+use Rattle.says_convert.specs.Laws.Turns.{each-so, shape-so, so-shape, so-becomes}
+
+-- the contracts of the two calls (crates/denkumari/src/conversions.rt)
+abbrev pub To2 : List ℕ → List ℕ → DkCount → List ℕ → Type 0
+To2 file old r new = WayTold form1 form2 toForm2 dropsNone file old r new
+
+abbrev pub To1 : List ℕ → List ℕ → DkCount → List ℕ → Type 0
+To1 file old r new = WayTold form2 form1 toForm1 dropsBit file old r new
+
+abbrev pub wrote : ℕ → DkCount
+wrote n = record { refusal = 0; place = 0; count = n }
+
+-- ---- a contract, as the definitions tell it
+
+module _ (from to : Kind) (turn : Contents → Contents) (drops : Contents → Bool) (file old : List ℕ) (r : DkCount) (new : List ℕ)
+    (told : WayTold from to turn drops file old r new) where
+  abbrev answer : Conversion
+  answer = answerIn from to turn drops file old
+
+  any-call : Converts from to turn drops file old answer new
+  any-call = record { is = refl; out = told .out }
+
+  not-refused : r .refusal ≡ 0 → answer ≡ Converted (r .count)
+  not-refused zero = go answer refl
+    where
+      go : (a : Conversion) → answer ≡ a → answer ≡ Converted (r .count)
+      go (Refused why) e =
+          let same = told .answer ∙ ap conversionCount e in
+          absurd (omega (arith, ap (λ (x : DkCount). x .refusal) same, zero, number-some why))
+      go (Converted n) e =
+          let same = told .answer ∙ ap conversionCount e in
+          e ∙ ap Converted (sym (ap (λ (x : DkCount). x .count) same))
+
+  converted : r .refusal ≡ 0 → Converts from to turn drops file old (Converted (r .count)) new
+  converted zero = subst (λ (a : Conversion). Converts from to turn drops file old a new) (not-refused zero) any-call
+
+-- ---- the same bytes
+
+-- "Form 1 to 2 to 1": but for a file of two banks that becomes the shape
+pub form-1-and-back : (file out mid : List ℕ) (r : DkCount) → Bytes file → To2 file out r mid → r .refusal ≡ 0
+    → ((h d e : Held) → Sound form-1 file h → (length (h .banks) ≡ 1 → ⊥) → Becomes h form-1 d → ShapeOf e d → ⊥)
+    → (old new : List ℕ) (s : DkCount) → length file ≤ length old → To1 (take (r .count) mid) old s new
+    → (s ≡ wrote (length file)) × Begins file old new
+form-1-and-back file out mid r small first zero none old new s room second =
+    let call = converted form1 form2 toForm2 dropsNone file out r mid first zero in
+    let t = turned-file is1 toForm2 dropsNone file out (r .count) mid small call in
+    let c = contentsIn form1 file in
+    let other : alone c ≡ false → shaped (lengthened c) ≡ false =
+    λ a.
+    either (shaped (lengthened c))
+    (λ b.
+    let more = eqb-false (length (c .banks)) 1 a in
+    absurd (none (held c) (held (lengthened c)) (held (narrowed (lengthened c))) (form-sound form-1 file small (t .shape) (t .sound)) more
+    (says.longer more (each-so (λ (x : List ℕ). x ++ zeros 1) c)) (shape-so (lengthened c) (lengthened-fits c (t .fits)) b)))
+    (λ b. b) in
+    let mid′ = take (r .count) mid in
+    let p = to-form2-and-back file out mid (r .count) small call other old new (answerIn form2 form1 toForm1 dropsBit mid′ old) room
+    (any-call form2 form1 toForm1 dropsBit mid′ old s new second) in (
+      second .answer ∙ ap conversionCount (p .0),
+      subst (Begins file old) (sym (p .1)) (begins-so file old room),
+    )
+
+-- "form 2 to 1 to 2 does too, for every file that can go back": but for one of one bank
+pub form-2-and-again : (file out mid : List ℕ) (r : DkCount) → Bytes file → To1 file out r mid → r .refusal ≡ 0
+    → ((h : Held) → Sound form-2 file h → length (h .banks) ≡ 1 → ⊥)
+    → (old new : List ℕ) (s : DkCount) → length file ≤ length old → To2 (take (r .count) mid) old s new
+    → (s ≡ wrote (length file)) × Begins file old new
+form-2-and-again file out mid r small first zero none old new s room second =
+    let call = converted form2 form1 toForm1 dropsBit file out r mid first zero in
+    let t = turned-file is2 toForm1 dropsBit file out (r .count) mid small call in
+    let c = contentsIn form2 file in
+    let more : alone c ≡ false = ne-eqb (length (c .banks)) 1 (none (held c) (form-sound form-2 file small (t .shape) (t .sound))) in
+    let mid′ = take (r .count) mid in
+    let p = to-form1-and-again file out mid (r .count) small call more old new (answerIn form1 form2 toForm2 dropsNone mid′ old) room
+    (any-call form1 form2 toForm2 dropsNone mid′ old s new second) in (
+      second .answer ∙ ap conversionCount (p .0),
+      subst (Begins file old) (sym (p .1)) (begins-so file old room),
+    )
+
+-- ---- the exceptions
+
+-- "a one-bank form 2 file of 4,096 nodes goes back, and coming again is refused 4"
+pub full-file-not-again : (file out mid : List ℕ) (r : DkCount) → Bytes file → To1 file out r mid → r .refusal ≡ 0
+    → (h : Held) → Sound form-2 file h → length (h .banks) ≡ 1 → length (h .nodes) ≡ 4096
+    → (old new : List ℕ) (s : DkCount) → To2 (take (r .count) mid) old s new
+    → (s ≡ record { refusal = 4; place = 0; count = 0 }) × (new ≡ old)
+full-file-not-again file out mid r small first zero h sound one full old new s second =
+    let call = converted form2 form1 toForm1 dropsBit file out r mid first zero in
+    let t = turned-file is2 toForm1 dropsBit file out (r .count) mid small call in
+    let c = contentsIn form2 file in
+    let same : c ≡ contents h = sound-contents sound in
+    let alone-is : alone c ≡ true = eq-eqb (length (c .banks)) 1 (ap (λ (x : Contents). length (x .banks)) same ∙ one) in
+    let many : length (c .nodes) ≡ 4096 = ap (λ (x : Contents). length (x .nodes)) same ∙ full in
+    let back = any-call form1 form2 toForm2 dropsNone (take (r .count) mid) old s new second in
+    let a = answerIn form1 form2 toForm2 dropsNone (take (r .count) mid) old in
+    let p = full-one-bank-not-again c (t .fits) alone-is many (t .answer .short) old new a
+    (subst (λ (x : List ℕ). Converts form1 form2 toForm2 dropsNone x old a new) (t .made) back) in
+    (second .answer ∙ ap conversionCount (p .0), p .1)
+
+-- "a one-bank form 2 file, which comes back as the shape": where both calls answer, what stands in the buffer is the file of the shape of a one-bank file
+pub one-bank-comes-as-shape : (file out mid : List ℕ) (r : DkCount) → Bytes file → To1 file out r mid → r .refusal ≡ 0
+    → (h : Held) → Sound form-2 file h → length (h .banks) ≡ 1
+    → (old new : List ℕ) (s : DkCount) → Bytes (take (r .count) mid) → To2 (take (r .count) mid) old s new → s .refusal ≡ 0
+    → (e : Held) × (d : Held) × ShapeOf e d × (take (s .count) new ≡ bytes form-2 d)
+one-bank-comes-as-shape file out mid r small first zero h sound one old new s little second nought =
+    let call = converted form2 form1 toForm1 dropsBit file out r mid first zero in
+    let t = turned-file is2 toForm1 dropsBit file out (r .count) mid small call in
+    let c = contentsIn form2 file in
+    let alone-is : alone c ≡ true = eq-eqb (length (c .banks)) 1 (ap (λ (x : Contents). length (x .banks)) (sound-contents sound) ∙ one) in
+    let mid′ = take (r .count) mid in
+    let u = turned-file is1 toForm2 dropsNone mid′ old (s .count) new little (converted form1 form2 toForm2 dropsNone mid′ old s new second nought) in
+    let back : contentsIn form1 mid′ ≡ toForm1 c = ap (contentsIn form1) (t .made) ∙ contents-back is1 (toForm1 c) (form1-fits c (t .fits)) in
+    let x = toForm2 (toForm1 c) in
+    let fits = form2-fits (toForm1 c) (form1-fits c (t .fits)) in (
+      held (narrowed x),
+      held x,
+      shape-so x fits (one-bank-comes-back-as-shape c (t .fits) alone-is),
+      u .made ∙ ap (λ (y : Contents). written form2 (toForm2 y)) back ∙ bytes-same form-2 (held x),
+    )
+
+-- "a two-bank form 1 file that already has the shape, which comes back as one bank"
+pub shape-comes-as-one-bank : (file out mid : List ℕ) (r : DkCount) → Bytes file → To2 file out r mid → r .refusal ≡ 0
+    → (h d e : Held) → Sound form-1 file h → (length (h .banks) ≡ 1 → ⊥) → Becomes h form-1 d → ShapeOf e d
+    → (old new : List ℕ) (s : DkCount) → Bytes (take (r .count) mid) → To1 (take (r .count) mid) old s new → s .refusal ≡ 0
+    → (length (e .banks) ≡ 1) × (take (s .count) new ≡ bytes form-1 e)
+shape-comes-as-one-bank file out mid r small first zero h d e sound more becomes shape old new s little second nought =
+    let call = converted form1 form2 toForm2 dropsNone file out r mid first zero in
+    let t = turned-file is1 toForm2 dropsNone file out (r .count) mid small call in
+    let c = contentsIn form1 file in
+    let same : c ≡ contents h = sound-contents sound in
+    let d-is : d ≡ held (toForm2 c) = so-becomes form-1 h d (sound-fits sound) becomes ∙ ap (λ (x : Contents). held (toForm2 x)) (sym same) in
+    let p = so-shape e d shape in
+    let shaped-is : shaped (toForm2 c) ≡ true = ap (λ (x : Held). shaped (contents x)) (sym d-is) ∙ p .0 in
+    let e-is : e ≡ held (toForm1 (toForm2 c)) =
+    p .1 ∙ ap (λ (x : Held). held (narrowed (contents x))) d-is
+    ∙ sym (ap (λ (b : Bool). held (pick b (narrowed (toForm2 c)) (shortened (toForm2 c)))) shaped-is) in
+    let mid′ = take (r .count) mid in
+    let u = turned-file is2 toForm1 dropsBit mid′ old (s .count) new little (converted form2 form1 toForm1 dropsBit mid′ old s new second nought) in
+    let back : contentsIn form2 mid′ ≡ toForm2 c = ap (contentsIn form2) (t .made) ∙ contents-back is2 (toForm2 c) (form2-fits c (t .fits)) in (
+      shape .2 .one,
+      u .made ∙ ap (λ (y : Contents). written form1 (toForm1 y)) back ∙ bytes-same form-1 (held (toForm1 (toForm2 c)))
+          ∙ ap (bytes form-1) (sym e-is),
+    )
