@@ -5,14 +5,15 @@ lines that are indented by four):
 
     row NAME             a sentence of the documents
       says: the sentence, quoted, or what is proved in words
-      theorem: the names of theorems in backquotes, with remarks; each statement is quoted below the row. Or `none: why`
-      where: names of definitions that the statement needs to be read; each is quoted whole
+      theorem: the names of theorems in backquotes, with remarks; the first statements, up to the first semicolon, are quoted below the row, the others
+        linked. Or `none: why`
+      where: names that the statement needs to be read, sentences first; each is quoted once on the page, in the first row that names it
       contract: crate::function, ..; what it ensures is quoted
       only: said where uniqueness is the only theorem: what then says the sentence
-      definition: names, not quoted;   function:, edit:, note: as they are
+      definition: names, links to file and line;   function:, edit:, note: as they are
     function crate::name
       not: answers that its contract rules out
-      one: the theorem that its contract leaves one outcome; quoted, and the contract too
+      one: the theorem that its contract leaves one outcome; digits change with it and with the contract, which is quoted of exported functions
     edit crate!label
       changes: what it changes
       refused: the fact at which the check refuses it
@@ -42,9 +43,13 @@ CITED = re.compile(r'`([a-z_0-9]+)(/|::|!)([^` ]+)`')
 # a theorem that two outcomes are one: by its file, or by its name
 UNIQUE_FILE = re.compile(r'Unique$')
 UNIQUE_NAME = re.compile(r'(-unique|-ensures|-decides)$|^one-(outcome|writing|paged|write|read|way|offer|build|file-build|built-in)$')
+# so many statements of a row are quoted, the others linked
+QUOTED = 2
+# the crate whose contracts are quoted, function by function
+EXPORTS = 'denkumari'
 MODIFIERS = ('pub', 'abbrev', 'unfoldable')
 LONGEST = 40
-ROOM = 24
+SHORT = 12
 
 faults = []
 
@@ -81,8 +86,8 @@ def block(lines, i):
 class Declared:
     """A name of a file: where it is declared, under which modules, its signature, and all of it."""
 
-    def __init__(self, path, around, signature, whole, definition):
-        self.path, self.around, self.signature, self.whole, self.definition = path, around, signature, whole, definition
+    def __init__(self, path, line, around, signature, whole, definition):
+        self.path, self.line, self.around, self.signature, self.whole, self.definition = path, line, around, signature, whole, definition
         self.comment = []
 
 
@@ -127,7 +132,7 @@ def declared_in(path):
             i += 1
         elif first in ('record', 'data') and k + 1 < len(words):
             whole, end = block(lines, i)
-            put(words[k + 1], Declared(path, context, whole, whole, True), 'pub' in words[:k], False)
+            put(words[k + 1], Declared(path, i + 1, context, whole, whole, True), 'pub' in words[:k], False)
             names[words[k + 1]].comment = names[words[k + 1]].comment or above(i)
             head = [whole[0]]
             n = 1
@@ -142,7 +147,7 @@ def declared_in(path):
                     before = member.split(' : ')[0].split()
                     for name in before:
                         if name not in MODIFIERS and re.fullmatch(r'[^\s(){}:=]+', name):
-                            put(name, Declared(path, context + [head], part, part, True), False, True)
+                            put(name, Declared(path, i + 1 + n, context + [head], part, part, True), False, True)
                     n += len(part)
                 else:
                     n += 1
@@ -157,7 +162,7 @@ def declared_in(path):
             after = words[k + 1] if k + 1 < len(words) else ''
             signed = ' : ' in text or text.endswith(' :')
             if signed and (after == ':' or after[:1] in ('(', '{')) and not re.match(r'^[^:]* = ', ' '.join(words[k:])):
-                last = Declared(path, context, part, list(part), any(w in ('abbrev', 'unfoldable') for w in words[:k]))
+                last = Declared(path, i + 1, context, part, list(part), any(w in ('abbrev', 'unfoldable') for w in words[:k]))
                 last.name, last.comment = first, above(i)
                 put(first, last, 'pub' in words[:k], False)
             elif last and first == last.name:
@@ -252,16 +257,14 @@ def words(d, text, taken):
 
 
 def laid(declarations, whole):
-    """Fenced quotes, those of one file and one module together."""
+    """A fenced quote, what is of one file and one module together."""
     out, path, around = [], None, []
     for d in declarations:
         lines = d.whole if whole or d.definition else d.signature
         if len(lines) > LONGEST:
             lines = d.signature if len(d.signature) < len(d.whole) else lines[:LONGEST] + ['    ..']
         if d.path != path:
-            if out:
-                out.append('```')
-            out += ['```', f'-- {d.path}']
+            out += ([] if out else ['```']) + [f'-- {d.path}']
             path, around = d.path, []
         for n, head in enumerate(d.around):
             if n >= len(around) or around[n] != head:
@@ -273,40 +276,47 @@ def laid(declarations, whole):
     return out
 
 
-glossary = {}
+# what the page quotes of what statements speak of, each once: name, and the first row that says `where`
+quoted_in = {}
 
 
-def word_anchor(key, d):
+def word_name(key, d):
     crate = d.path.split('/')[1]
     file = os.path.basename(d.path)[:-5]
     return f'{crate}/{file}.{key}'
 
 
-def spoken_of(cited, where, room):
-    """What statements speak of: quotes of the facts in them, links to the other words, and limits."""
-    taken, facts, others, limits = set(), [], [], []
-    given = []
+def spoken_of(cited, where):
+    """The facts of the repository that some statements name and do not quote themselves, and limits."""
+    given, taken, others, limits = [], set(), [], []
     for crate, rest in cited:
         d = find(crate, rest, where)
         if d:
             given.append(d)
             taken.add((d.path, rest.partition('.')[2]))
     for d in given:
-        found, numbers = words(d, ' '.join(d.whole if d.definition else d.signature), taken)
+        around = [l for head in d.around for l in head]
+        found, numbers = words(d, ' '.join(around + (d.whole if d.definition else d.signature)), taken)
         limits += [n for n in numbers if n not in limits]
-        for key, there in found:
-            if is_fact(there) and len(there.whole) <= room:
-                room -= len(there.whole)
-                facts.append(there)
-            else:
-                others.append((key, there))
-    for d in given + list(facts):
-        found, numbers = words(d, ' '.join([l for head in d.around for l in head] + (d.whole if d in facts else [])), taken)
-        limits += [n for n in numbers if n not in limits]
-        others += found
-    for key, there in others:
-        glossary[word_anchor(key, there)] = (key, there)
-    return facts, others, limits
+        others += [(k, there) for k, there in found if is_fact(there)]
+    return others, limits
+
+
+def word_link(key, d):
+    """A link to the row that quotes a word, or to its file and line."""
+    name = word_name(key, d)
+    return f'[`{key}`](#{quoted_in[name]})' if name in quoted_in else f'[`{key}`](../{d.path}#L{d.line})'
+
+
+def source_link(crate, rest, where):
+    d = find(crate, rest, where)
+    return f'[`{crate}/{rest}`](../{d.path}#L{d.line})' if d else f'`{crate}/{rest}`'
+
+
+def with_links(text, where):
+    """A text whose names of definitions lead to file and line."""
+    return CITED.sub(lambda m: source_link(m.group(1), m.group(3), where) if m.group(2) == '/' and re.match(r'[A-Z][A-Za-z0-9]*\.', m.group(3))
+                     else m.group(0), text)
 
 
 functions = {}
@@ -337,6 +347,10 @@ def functions_of(crate):
                     found[m.group(2)] = (os.path.relpath(path, ROOT), public, head)
         functions[crate] = found
     return functions[crate]
+
+
+def line_of(path, name):
+    return next((n for n, l in enumerate(read(path).split('\n'), 1) if re.search(rf'\bfn {name}\b', l)), 1)
 
 
 def is_there(kind, crate, rest, where):
@@ -478,15 +492,22 @@ def anchor(heading):
     return re.sub(r'[^\w\- ]', '', heading.lower()).strip().replace(' ', '-')
 
 
+def is_short(cited, where):
+    d = find(*cited, where)
+    return d is not None and len(d.whole) <= SHORT
+
+
 def write_row(b):
-    out = [f'#### {b.name}', ''] + wrapped(b['says'], '> ', '> ') + ['']
+    out = [f'#### {b.name}'] + wrapped(b['says'], '> ', '> ') + ['']
     theorem, cited = b['theorem'], statements(b['theorem'])
+    # the statements named before the first semicolon are quoted, the others linked
+    first = (statements(theorem.split('; ')[0]) or cited)[:QUOTED]
     if not b['says']:
         fault(f'{b.where}: row {b.name} has no sentence')
     if not theorem:
         fault(f'{b.where}: row {b.name} says neither a theorem nor why there is none')
     elif theorem.startswith('none'):
-        out += wrapped('**No theorem**' + (theorem[4:] or '.')) + ['']
+        out += wrapped('**No theorem**' + (theorem[4:] or '.'))
     elif not cited:
         fault(f'{b.where}: row {b.name} cites no theorem, and does not begin with "none"')
     else:
@@ -497,41 +518,57 @@ def write_row(b):
             fault(f'{b.where}: row {b.name} says that uniqueness is its only theorem, and it is not')
         if only and b['only']:
             out += wrapped(f'**Uniqueness alone.** {b["only"]}') + ['']
-        out += wrapped(f'Theorem: {theorem}') + ['']
-    quoted = quote(cited, False, b.where)
-    if quoted:
-        out += quoted + ['']
+        text = theorem
+        for c in cited:
+            if c not in first:
+                text = text.replace('`' + '/'.join(c) + '`', source_link(*c, b.where))
+        out += wrapped(f'Theorem: {text}')
+    out += quote(first, False, b.where)
     shown = [c for c in statements(b['where']) if c not in cited]
     if b['where']:
-        out += wrapped(f'With {b["where"]}') + [''] + quote(shown, True, b.where) + ['']
-    if not all(is_unique(*c) for c in cited):
-        facts, others, limits = spoken_of(cited + shown, b.where, 0 if shown else ROOM)
-        if facts:
-            out += ['in these words', ''] + laid(facts, True) + ['']
-        if limits:
-            out += wrapped('Limits: ' + ', '.join(f'`{l}`' for l in limits) + '.') + ['']
-        if others:
-            out += wrapped('Words: ' + ', '.join(f'[`{k}`](#{anchor(word_anchor(k, t))})' for k, t in others) + '.') + ['']
+        # each is quoted once on the page, in the first row that names it; beside a theorem over sentences the definitions are linked
+        said = any(c[0].startswith('says') for c in first)
+        new = [c for c in shown if '/'.join(c) not in quoted_in and (c[0].startswith('says') or not said and is_short(c, b.where))]
+        text = b['where']
+        for c in shown:
+            name = '/'.join(c)
+            if c not in new:
+                text = text.replace(f'`{name}`', f'[`{name}`](#{quoted_in[name]})' if name in quoted_in else source_link(*c, b.where))
+        for c in new:
+            quoted_in['/'.join(c)] = b.name
+        out += ([] if new or out[-1] == '```' else ['']) + wrapped(f'With {text}') + quote(new, True, b.where)
+        shown = new
     if b['contract']:
-        out += contracts(b['contract'], b.where) + ['']
-    foot = [f'{key.capitalize()}: {b[key]}.' for key in ('definition', 'function', 'edit') if b[key]]
+        out += contracts(b['contract'], b.where)
+    foot = [f'{key.capitalize()}: {with_links(b[key], b.where) if key == "definition" else b[key]}.' for key in ('definition', 'function', 'edit') if b[key]]
+    if not all(is_unique(*c) for c in cited):
+        others, limits = spoken_of(first + shown, b.where)
+        if others:
+            foot.insert(0, 'Words: ' + ', '.join(word_link(k, t) for k, t in others) + '.')
+        if limits:
+            foot.insert(0, 'Limits: ' + ', '.join(f'`{l}`' for l in limits) + '.')
     if foot:
-        out += wrapped(' '.join(foot)) + ['']
+        out += ([] if out[-1] == '```' else ['']) + wrapped(' '.join(foot))
     if b['note']:
-        out += wrapped(b['note']) + ['']
-    return out
+        out += [''] + wrapped(b['note'])
+    return out + ['']
 
 
 def write_function(b):
-    out = wrapped(f'**`{b.name}`** not: {b["not"]}') + ['']
+    out, contract = [], ''
     crate, _, name = b.name.partition('::')
-    out += contracts(f'`{b.name}`', b.where)
+    path, _, head = functions_of(crate).get(name, ('', False, []))
+    if crate == EXPORTS:
+        out = contracts(f'`{b.name}`', b.where)
+    elif head:
+        digits = hashlib.sha256('\n'.join(head).encode()).hexdigest()[:8]
+        contract = f' [Contract](../{path}#L{line_of(path, name)}) {digits}.'
     if not b['not'] or not b['one']:
         fault(f'{b.where}: function {b.name} has not both of not and one')
     if not statements(b['one']):
         fault(f'{b.where}: function {b.name} names no theorem of its outcome')
     digits = ', '.join(digest(c, r, b.where) for c, r in statements(b['one']))
-    out += wrapped(f'One outcome: {b["one"]} (statement {digits})') + ['']
+    out = wrapped(f'**`{b.name}`** not: {b["not"].rstrip(".")}.{contract} One outcome: {b["one"]} (statement {digits})') + out + ['']
     if b['note']:
         out += [b['note'], '']
     return out
@@ -610,10 +647,6 @@ def page():
             if not b['change'] or not b['stopped']:
                 fault(f'{b.where}: together {b.name} has not both of change and stopped')
     close()
-    index.append((2, 'Words of the statements', []))
-    body += ['', '## Words of the statements', '', 'What the statements above speak of and do not quote, each once.', '']
-    for name in sorted(glossary):
-        body += [f'#### {name}', ''] + laid([glossary[name][1]], True) + ['']
     # the index goes behind the first paragraphs, in the place of its line
     lines = []
     for level, heading, names in index:
