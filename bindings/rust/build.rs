@@ -5,8 +5,21 @@ use std::path::PathBuf;
 fn main() {
     let here = PathBuf::from(env::var("CARGO_MANIFEST_DIR").expect("cargo sets it"));
     let folder = env::var("DENKUMARI_LIB").map(PathBuf::from).unwrap_or_else(|_| here.join("../../target/staticlib"));
+    let archive = folder.join("libdenkumari.a");
     println!("cargo:rerun-if-env-changed=DENKUMARI_LIB");
-    println!("cargo:rerun-if-changed={}", folder.join("libdenkumari.a").display());
+    println!("cargo:rerun-if-changed={}", archive.display());
+    if !archive.is_file() {
+        // cargo stops here and shows the line, where otherwise the linker would say that it cannot find -ldenkumari
+        println!(
+            "cargo::error=there is no proved archive {}: run `rt staticlib denkumari` (or bindings/build.sh) in the repository, \
+             or set DENKUMARI_LIB to the folder of a libdenkumari.a",
+            archive.display()
+        );
+    }
+    let (arch, os) = (env::var("CARGO_CFG_TARGET_ARCH").unwrap_or_default(), env::var("CARGO_CFG_TARGET_OS").unwrap_or_default());
+    if (arch.as_str(), os.as_str()) != ("x86_64", "linux") {
+        println!("cargo::error=the proved archive is code for x86-64 Linux, and this is {arch} {os}: give --target x86_64-unknown-linux-gnu");
+    }
     println!("cargo:rustc-link-search=native={}", folder.display());
     println!("cargo:rustc-link-lib=static=denkumari");
 }

@@ -1,26 +1,61 @@
 //! From a table of banks and a list of nodes to an image, its spans and its blocks.
 //!
 //! Every answer comes from a library that is proved against the rules of the repository's `docs/`; this crate only passes slices to it and
-//! takes its numbers apart. It has no dependencies, never panics and asks for no `unsafe`; only [`Program`] allocates. The library is x86-64 Linux
-//! code. Stack: include/denkumari.h says what each call needs, 136 KiB at the most.
+//! takes its numbers apart. It has no dependencies, never panics and asks for no `unsafe`. The library is x86-64 Linux code.
+//! Stack: include/denkumari.h says what each call needs, 136 KiB at the most.
 //!
-//! The whole way, from tables to image and blocks:
+//! There are three ways in:
+//!
+//! - [`Recorder`], for an assembler: banks and nodes once, then pass by pass what is known of each node; it counts bits and cells for itself, names nodes in
+//!   what it says of a refusal, and writes the same layout as a file for `tools/layout`, for a bug report or for a replay.
+//! - [`Program`], tables that it owns.
+//! - [`build`], [`layout_form`] and the rest, over slices that the caller lends; these allocate nothing.
+//!
+//! From an assembler's two passes to the flash station's file:
+//!
+//! ```
+#![doc = include_str!("../examples/recorder.rs")]
+//! ```
+//!
+//! From lent tables to image and blocks:
 //!
 //! ```
 #![doc = include_str!("../examples/worked.rs")]
 //! ```
+//!
+//! # What moved in 0.2.0
+//!
+//! - [`Program::node`] takes a [`Kind`] in the place of a number, and the cells of [`Program::row`] have a [`State`]. The constants of [`kind`] are there
+//!   still, for the slices of [`Nodes`]; `Kind::try_from` and `State::try_from` take numbers.
+//! - A row of a wrong length, whose cells went to other nodes, is refused by [`Program::build`] as [`Refusal::RowLength`].
+//! - [`Refusal`] has that case more; it is `#[non_exhaustive]`, as it was.
+//! - Everything else is as in 0.1.0.
 
 #![deny(missing_docs)]
 
+mod fault;
 mod ffi;
+mod form;
+mod kinds;
+mod misuse;
+mod names;
 pub mod overlays;
 mod owned;
+mod recorder;
 pub mod records;
 mod store;
+mod values;
 mod words;
 
+pub use fault::{Fault, NodeAt};
+pub use form::Form;
+pub use kinds::{Kind, NoSuch, State};
+pub use misuse::Misuse;
+pub use names::{BadNames, Name, Names};
 pub use owned::{Bank, Block, Built, Program, Span};
+pub use recorder::{Node, NotBuilt, Recorder};
 pub use store::{NotStored, Store};
+pub use values::Values;
 
 /// The bank has a size.
 pub const HAS_SIZE: u8 = 1;
@@ -55,7 +90,7 @@ pub struct Choices {
     pub page: Option<u32>,
 }
 
-/// Kinds of nodes.
+/// Kinds of nodes as the numbers that [`Nodes`] lends; [`Kind`] has them by name.
 #[allow(missing_docs)]
 pub mod kind {
     pub const NOTHING: u8 = 0;
@@ -100,7 +135,7 @@ pub struct Nodes<'a> {
     pub operands: &'a [u32],
     /// Row by row.
     pub numbers: &'a [u32],
-    /// Row by row: 0 resolved, 1 stable, 2 unresolved.
+    /// Row by row: 0 resolved, 1 stable, 2 unresolved ([`State`]).
     pub states: &'a [u8],
     /// How many rows there are, 1 to 16.
     pub rows: u64,
@@ -164,6 +199,8 @@ pub enum Refusal {
     BanksOverlap { first: u64, second: u64 },
     /// 4: something given is malformed; the node, or 0, 1 for the count of nodes, of rows, 3 for an unknown fill, or the broken field of a file.
     Malformed { place: u64 },
+    /// 4, by this crate: a row of a [`Program`] has not a cell for each node. Rows count from 0.
+    RowLength { row: u64, cells: u64, nodes: u64 },
     /// 5: a position would pass 4,294,967,295.
     PositionPast { node: u64, passes: u64 },
     /// 7: a label in the last pass is between two addresses.
@@ -201,7 +238,7 @@ impl Refusal {
             Refusal::BankCount => 1,
             Refusal::BankNumber { .. } => 2,
             Refusal::BanksOverlap { .. } => 3,
-            Refusal::Malformed { .. } => 4,
+            Refusal::Malformed { .. } | Refusal::RowLength { .. } => 4,
             Refusal::PositionPast { .. } => 5,
             Refusal::LabelOffBoundary { .. } => 7,
             Refusal::Unresolved { .. } => 8,

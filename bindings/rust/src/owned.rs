@@ -1,6 +1,8 @@
 //! A layout that owns its lists, for callers who would rather not keep ten slices in step.
 
-use crate::{build, get_blocks, Banks, Buffer, Choices, Layout, Nodes, Refusal, Spans, FILL, HAS_ALIGN, HAS_OFFSET, HAS_SIZE, NO_OFFSET};
+use crate::records::{room, write_hex, write_srec, Width};
+use crate::{build, get_blocks, hex, Banks, Buffer, Choices, Kind, Layout, Nodes, Refusal, Spans, State, Values};
+use crate::{FILL, HAS_ALIGN, HAS_OFFSET, HAS_SIZE, NO_OFFSET};
 
 /// A bank.
 #[derive(Clone, Copy, Debug, PartialEq, Eq)]
@@ -27,7 +29,7 @@ impl Bank {
         Bank { unit, start: 0, size: None, offset: None, align: None, fill: false, ones: false }
     }
 
-    fn flags(&self) -> u8 {
+    pub(crate) fn flags(&self) -> u8 {
         let flag = |set: bool, flag: u8| if set { flag } else { 0 };
         flag(self.size.is_some(), HAS_SIZE)
             | flag(self.offset.is_some(), HAS_OFFSET)
@@ -69,32 +71,68 @@ pub struct Built {
     pub blocks: Vec<Block>,
 }
 
-/// Banks, nodes, rows and values, owned. A row is begun by [`Program::row`] and has a cell for each node.
+impl Built {
+    /// The image in hex, four bits a digit, the last one padded with zero bits.
+    pub fn digits(&self) -> Result<String, Refusal> {
+        let mut digits = vec![0; self.layout.length.div_ceil(4) as usize];
+        hex(&self.image, self.layout.length, &mut digits).map(str::to_string)
+    }
+
+    /// The blocks as Intel HEX, the image's first byte at address `load`. Refused 16 where a block is not on byte edges, and 4 where an address is past
+    /// 4,294,967,295; never 14, since the text is given [`room`](crate::records::room).
+    pub fn intel_hex(&self, load: u32) -> Result<String, Refusal> {
+        self.text(|starts, sizes, text| write_hex(&self.image, starts, sizes, load, text))
+    }
+
+    /// The same as S-records; 4 also where an address does not fit the width.
+    pub fn s_records(&self, load: u32, width: Width) -> Result<String, Refusal> {
+        self.text(|starts, sizes, text| write_srec(&self.image, starts, sizes, load, width, text))
+    }
+
+    /// The first block that is not on byte edges, for which records are refused 16.
+    pub fn ragged_block(&self) -> Option<Block> {
+        self.blocks.iter().copied().find(|block| block.offset % 8 != 0 || block.size % 8 != 0)
+    }
+
+    fn text(&self, write: impl FnOnce(&[u64], &[u64], &mut [u8]) -> Result<usize, Refusal>) -> Result<String, Refusal> {
+        let starts: Vec<u64> = self.blocks.iter().map(|block| block.offset).collect();
+        let sizes: Vec<u64> = self.blocks.iter().map(|block| block.size).collect();
+        let mut text = vec![0; room(self.image.len(), self.blocks.len())];
+        let count = write(&starts, &sizes, &mut text)?;
+        text.truncate(count);
+        // records are digits, letters, colons and line ends
+        Ok(String::from_utf8(text).unwrap_or_default())
+    }
+}
+
+/// Banks, nodes, rows and values, owned. A row has a cell, a number and a [`State`], for each node; one that has more or fewer is refused by
+/// [`Program::build`] with its number. Somebody who writes an assembler may like [`Recorder`](crate::Recorder) better, which counts for itself.
 ///
 /// ```
-/// use denkumari::{kind, Bank, Program};
+/// use denkumari::{records::Width, Bank, Kind, Program, State::Resolved};
 /// let mut program = Program::new(10);
 /// program.bank(Bank::new(8));
 /// program.bank(Bank { start: 64, size: Some(40), offset: Some(0), fill: true, ..Bank::new(10) });
-/// program.node(kind::SWITCH, 1).node(kind::LABEL, 0).node(kind::DATA, 0).node(kind::RESERVE, 0).node(kind::INSTRUCTION, 16);
-/// program.row(&[(0, 0), (0, 0), (10, 0), (10, 0), (10, 0)]);
+/// program.node(Kind::Switch, 1).node(Kind::Label, 0).node(Kind::Data, 0).node(Kind::Reserve, 0).node(Kind::Instruction, 16);
+/// program.row(&[(0, Resolved), (0, Resolved), (10, Resolved), (10, Resolved), (10, Resolved)]);
 /// program.values(&[0xff, 0xc0, 0x2a, 0x80]);
 /// let built = program.build(1024)?;
 /// assert_eq!(built.image, [0xff, 0xc0, 0x02, 0xa8, 0x00]);
+/// assert_eq!(built.digits()?, "ffc002a800");
 /// assert_eq!(built.blocks.len(), 2);
+/// // its blocks have ten bits each, so that no record can hold them
+/// assert_eq!(built.intel_hex(0).unwrap_err().number(), 16);
 /// # Ok::<(), denkumari::Refusal>(())
 /// ```
 #[derive(Clone, Debug, Default)]
 pub struct Program {
-    banks: Vec<Bank>,
-    kinds: Vec<u8>,
-    operands: Vec<u32>,
-    numbers: Vec<u32>,
-    states: Vec<u8>,
-    rows: u64,
-    values: Vec<u8>,
-    limit: u8,
-    choices: Choices,
+    pub(crate) banks: Vec<Bank>,
+    pub(crate) kinds: Vec<Kind>,
+    pub(crate) operands: Vec<u32>,
+    pub(crate) rows: Vec<Vec<(u32, State)>>,
+    pub(crate) values: Values,
+    pub(crate) limit: u8,
+    pub(crate) choices: Choices,
 }
 
 impl Program {
@@ -109,18 +147,16 @@ impl Program {
         self
     }
 
-    /// One node more: its kind (see [`crate::kind`]) and its operand.
-    pub fn node(&mut self, kind: u8, operand: u32) -> &mut Program {
+    /// One node more: its kind and its operand, a bank for a switch, a depth for a label or constant, a first bit in the values for a written item.
+    pub fn node(&mut self, kind: Kind, operand: u32) -> &mut Program {
         self.kinds.push(kind);
         self.operands.push(operand);
         self
     }
 
-    /// One row more: a number and a state (0 resolved, 1 stable, 2 unresolved) for each node.
-    pub fn row(&mut self, cells: &[(u32, u8)]) -> &mut Program {
-        self.numbers.extend(cells.iter().map(|cell| cell.0));
-        self.states.extend(cells.iter().map(|cell| cell.1));
-        self.rows += 1;
+    /// One row more: a number and a state for each node.
+    pub fn row(&mut self, cells: &[(u32, State)]) -> &mut Program {
+        self.rows.push(cells.to_vec());
         self
     }
 
@@ -130,14 +166,28 @@ impl Program {
         self
     }
 
+    /// The choices in force.
+    pub fn chosen(&self) -> &Choices {
+        &self.choices
+    }
+
     /// The bytes that items are taken from.
     pub fn values(&mut self, bytes: &[u8]) -> &mut Program {
-        self.values = bytes.to_vec();
+        self.values = Values::from(bytes);
         self
     }
 
-    /// Lays it out in an image of at most so many bytes; one that needs more is refused as too short.
+    /// The first `bits` bits of `from`, put behind the values that there are; answers the operand of an item that has them. See [`Values::append`].
+    pub fn append_bits(&mut self, from: &[u8], bits: u32) -> Option<u32> {
+        self.values.append(from, bits)
+    }
+
+    /// Lays it out in an image of at most so many bytes; one that needs more is refused as too short. [`Program::fault`] says more of a refusal.
     pub fn build(&self, most_bytes: usize) -> Result<Built, Refusal> {
+        let nodes = self.kinds.len();
+        if let Some((row, cells)) = self.rows.iter().enumerate().find(|(_, cells)| cells.len() != nodes) {
+            return Err(Refusal::RowLength { row: row as u64, cells: cells.len() as u64, nodes: nodes as u64 });
+        }
         let list = |of: fn(&Bank) -> Option<u32>| self.banks.iter().map(|bank| of(bank).unwrap_or(0)).collect::<Vec<u32>>();
         let banks = Banks {
             units: &self.banks.iter().map(|bank| bank.unit).collect::<Vec<_>>(),
@@ -148,13 +198,14 @@ impl Program {
             flags: &self.banks.iter().map(Bank::flags).collect::<Vec<_>>(),
             fill_bits: &self.banks.iter().map(|bank| bank.ones as u8).collect::<Vec<_>>(),
         };
+        let cells = || self.rows.iter().flatten();
         let nodes = Nodes {
-            kinds: &self.kinds,
+            kinds: &self.kinds.iter().map(|kind| *kind as u8).collect::<Vec<_>>(),
             operands: &self.operands,
-            numbers: &self.numbers,
-            states: &self.states,
-            rows: self.rows,
-            values: &self.values,
+            numbers: &cells().map(|cell| cell.0).collect::<Vec<_>>(),
+            states: &cells().map(|cell| cell.1 as u8).collect::<Vec<_>>(),
+            rows: self.rows.len() as u64,
+            values: self.values.bytes(),
             limit: self.limit,
         };
         let most = self.kinds.len();

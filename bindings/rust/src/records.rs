@@ -20,6 +20,23 @@ pub enum Width {
     Four = 4,
 }
 
+/// Characters in which every file of records fits that `blocks` blocks of an image of so many bytes make, of either format: with so much room the calls that
+/// write never answer 14. It is what the theorem `records-length` of crates/record_room/specs/Room.antt says of every file that is not refused 16 or 4:
+/// 16 times its length is at most 47 for each byte, 225 for each block, and 496 for each 64 KiB begun and one more.
+///
+/// ```
+/// use denkumari::records::room;
+/// // what the flash station's program lends is enough for all that it can write: theorem `station-files-fit`
+/// assert!(room(16_384, 4_096) <= 131_072);
+/// // and what the program lends that turns records around: theorem `turned-files-fit`
+/// assert!(room(1_048_576, 4_096) <= 3_145_728);
+/// ```
+pub fn room(image: usize, blocks: usize) -> usize {
+    let bytes = image.saturating_mul(47);
+    let lines = (image / 65_536).saturating_add(2).saturating_mul(496);
+    bytes.saturating_add(blocks.saturating_mul(225)).saturating_add(lines) / 16
+}
+
 /// Writes blocks on byte edges, lent as offsets and sizes in bits, as Intel HEX, and answers the length of the text. Refused 16 for a block that is empty,
 /// outside the image or off a byte edge, 4 for blocks that don't ascend or share a bit and for an address past 32 bits, then 14 for the text.
 pub fn write_hex(image: &[u8], offsets: &[u64], sizes: &[u64], load: u32, text: &mut [u8]) -> Result<usize, Refusal> {

@@ -22,6 +22,7 @@ impl fmt::Display for Refusal {
             Refusal::BankNumber { bank } => write!(f, "bank {bank} has a number or a fill bit beyond its limit, or is filled and has size 0"),
             Refusal::BanksOverlap { first, second } => write!(f, "banks {first} and {second} overlap in the output"),
             Refusal::Malformed { place } => write!(f, "a count, kind, bank number, state, value range, choice or file is malformed, at {place}"),
+            Refusal::RowLength { row, cells, nodes } => write!(f, "row {row}, counted from 0, has {cells} cells, and there are {nodes} nodes"),
             Refusal::PositionPast { node, .. } => write!(f, "at node {node} a position would pass 4,294,967,295"),
             Refusal::LabelOffBoundary { node, .. } => write!(f, "the label at node {node} is between two addresses"),
             Refusal::Unresolved { passes } => write!(f, "the last of {passes} passes ended unresolved"),

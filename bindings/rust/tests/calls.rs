@@ -84,7 +84,7 @@ fn blocks_hex_and_parts() {
 #[test]
 fn an_owned_program_grows_its_image() {
     let mut program = Program::new(10);
-    program.bank(Bank { offset: Some(0), ..Bank::new(8) }).node(kind::DATA, 0).row(&[(8 * 5_000, 0)]).values(&[0x5a; 5_000]);
+    program.bank(Bank { offset: Some(0), ..Bank::new(8) }).node(Kind::Data, 0).row(&[(8 * 5_000, State::Resolved)]).values(&[0x5a; 5_000]);
     let built = program.build(6_000).unwrap();
     assert_eq!((built.layout.length, built.image), (40_000, vec![0x5a; 5_000]));
     assert_eq!((built.spans[0].offset, built.blocks), (Some(0), vec![Block { offset: 0, size: 40_000 }]));
@@ -103,7 +103,8 @@ fn choices_are_passed_on() {
     program.choices(Choices { page: Some(8), ..Choices::default() });
     assert_eq!(program.build(2), Err(Refusal::OffProfile { rule: 4, at: 2 }));
     let mut alone = Program::new(10);
-    alone.bank(Bank::new(8)).node(kind::RESERVE, 0).node(kind::ALIGN, 0).node(kind::LABEL, 0).row(&[(10, 0), (16, 0), (0, 0)]);
+    alone.bank(Bank::new(8)).node(Kind::Reserve, 0).node(Kind::Align, 0).node(Kind::Label, 0);
+    alone.row(&[(10, State::Resolved), (16, State::Resolved), (0, State::Resolved)]);
     assert_eq!(alone.build(0).unwrap().layout.padding[..2], [6, 0]);
     alone.choices(Choices { closed: true, ..Choices::default() });
     assert_eq!(alone.build(0), Err(Refusal::DefaultBank { node: 0, passes: 2 }));

@@ -1,0 +1,33 @@
+use denkumari::{Bank, Form, Kind, Recorder, State};
+
+fn main() -> Result<(), Box<dyn std::error::Error>> {
+    let mut recorder = Recorder::new(10);
+    // bank 0 is there for labels and items that stand ahead of any bank; here nothing does
+    recorder.bank(Bank::new(8))?;
+    let flash = recorder.bank(Bank { size: Some(8 * 64), offset: Some(0), ..Bank::new(8) })?;
+    recorder.node(Kind::Switch, flash)?;
+    let jump = recorder.node(Kind::Instruction, 0)?;
+    let end = recorder.node(Kind::Label, 0)?;
+    let table = recorder.node(Kind::Data, 0)?;
+    recorder.name(jump, "jmp end", "main.asm:3")?;
+    recorder.name(end, "end", "main.asm:4")?;
+
+    // pass 1 guesses a long jump; pass 2 finds that a short one will do; pass 3 finds nothing new
+    for (bits, state) in [(24, State::Unresolved), (16, State::Unresolved), (16, State::Stable)] {
+        recorder.begin_pass()?;
+        recorder.tell(jump, bits, state)?;
+        recorder.tell(table, 16, State::Resolved)?;
+    }
+    recorder.value(jump, &[0xeb, 0x02], 16)?;
+    recorder.value(table, &[0xbe, 0xef], 16)?;
+
+    let built = recorder.build(1024)?;
+    println!("passes {}", built.layout.k);
+    println!("image {}", built.digits()?);
+    print!("{}", built.intel_hex(0x8000)?);
+    // the same layout for tools/layout and tools/map, and the names beside it
+    let file = recorder.to_form(Form::Two)?;
+    println!("{} bytes of form 2", file.len());
+    print!("{}", recorder.names());
+    Ok(())
+}

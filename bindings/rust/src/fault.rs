@@ -1,0 +1,142 @@
+//! A refusal with the nodes that it speaks of.
+
+use crate::{Kind, Name, Names, Program, Refusal, State};
+use std::fmt;
+
+/// A node, with what is known of it.
+#[derive(Clone, Debug, PartialEq, Eq)]
+pub struct NodeAt {
+    /// Its number, from 0.
+    pub node: usize,
+    /// What it is.
+    pub kind: Kind,
+    /// What it is called, where a [`Recorder`](crate::Recorder) was told.
+    pub name: Option<Name>,
+}
+
+/// A refusal, the node at which it was met and, of refusal 12, the node that stands where that one would. It is printed in words.
+#[derive(Clone, Debug, PartialEq, Eq)]
+pub struct Fault {
+    /// The library's refusal.
+    pub refusal: Refusal,
+    /// The node at which it was met.
+    pub node: Option<NodeAt>,
+    /// Of refusal 12: the written item or mark whose start and size the refusal names; `None` where that is a reserve.
+    pub other: Option<NodeAt>,
+    counted: Option<String>,
+}
+
+impl Program {
+    /// What a refusal of [`Program::build`] speaks of. Refusal 4 says whether its place is a count or a node; refusal 12, which names a start and a size, is
+    /// given its node: the library is asked again for the first nodes of the list, in the row of the last pass, until it refuses.
+    ///
+    /// ```
+    /// use denkumari::{Bank, Kind, Program, State::Resolved};
+    /// let mut program = Program::new(1);
+    /// program.bank(Bank { offset: Some(0), ..Bank::new(8) }).values(&[1, 2]);
+    /// program.node(Kind::Data, 0).node(Kind::Addr, 0).node(Kind::Instruction, 8);
+    /// program.row(&[(8, Resolved), (4, Resolved), (8, Resolved)]);
+    /// let fault = program.fault(program.build(16).unwrap_err());
+    /// assert_eq!(
+    ///     fault.to_string(),
+    ///     "refused 12: a placement would share a bit with what stands from bit 0 on, 8 bits: node 2 (instruction) over node 0 (data)"
+    /// );
+    /// ```
+    pub fn fault(&self, refusal: Refusal) -> Fault {
+        self.named_fault(refusal, &Names::new())
+    }
+
+    pub(crate) fn named_fault(&self, refusal: Refusal, names: &Names) -> Fault {
+        let (nodes, rows) = (self.kinds.len(), self.rows.len());
+        let at = |node: usize| self.kinds.get(node).map(|kind| NodeAt { node, kind: *kind, name: names.get(node).cloned() });
+        let mut counted = None;
+        let (node, other) = match refusal {
+            Refusal::Malformed { place: 0 } if nodes > 4096 => {
+                counted = Some(format!("{nodes} nodes, and there may be 4,096"));
+                (None, None)
+            }
+            Refusal::Malformed { place: 1 } if !(1..=16).contains(&rows) => {
+                counted = Some(format!("{rows} rows, and there are 1 to 16"));
+                (None, None)
+            }
+            Refusal::Malformed { place: node }
+            | Refusal::PositionPast { node, .. }
+            | Refusal::LabelOffBoundary { node, .. }
+            | Refusal::DefaultBank { node, .. }
+            | Refusal::PastBank { node, .. }
+            | Refusal::NoOutput { node, .. }
+            | Refusal::StoreFull { node, .. }
+            | Refusal::OffProfile { rule: 6, at: node } => (Some(node as usize), None),
+            Refusal::Overlap { start, size, passes } => self.at_overlap(start, size, passes),
+            _ => (None, None),
+        };
+        Fault { refusal, node: node.and_then(at), other: other.and_then(at), counted }
+    }
+
+    /// The first nodes of the list in the row of that pass, as a layout of one pass: everything stands where it stands in that pass.
+    fn beginning(&self, nodes: usize, pass: u64) -> Option<Program> {
+        let row = self.rows.get((pass.min(self.rows.len() as u64)).checked_sub(1)? as usize)?;
+        let first = self.rows.first()?;
+        let declared = |node: usize, cell: u32| if self.kinds.get(node) == Some(&Kind::Data) { first.get(node).map_or(cell, |c| c.0) } else { cell };
+        let cells = row.iter().enumerate().take(nodes).map(|(node, cell)| (declared(node, cell.0), State::Resolved)).collect();
+        Some(Program {
+            kinds: self.kinds.get(..nodes)?.to_vec(),
+            operands: self.operands.get(..nodes)?.to_vec(),
+            rows: vec![cells],
+            limit: 0,
+            choices: crate::Choices { page: None, ..self.choices },
+            ..self.clone()
+        })
+    }
+
+    fn at_overlap(&self, start: u64, size: u64, passes: u64) -> (Option<usize>, Option<usize>) {
+        let refused = |nodes: usize| matches!(self.beginning(nodes, passes).map(|p| p.build(0)), Some(Err(Refusal::Overlap { .. })));
+        // the least count of nodes that is refused so: what is refused stays refused with more nodes behind it
+        let (mut low, mut high) = (0, self.kinds.len());
+        if !refused(high) {
+            return (None, None);
+        }
+        while low < high {
+            let middle = low + (high - low) / 2;
+            if refused(middle) {
+                high = middle;
+            } else {
+                low = middle + 1;
+            }
+        }
+        let node = high.checked_sub(1);
+        let before = node.and_then(|node| self.beginning(node, passes)?.build(1 << 24).ok());
+        let spanned = || self.kinds.iter().enumerate().filter(|(_, kind)| **kind == Kind::Label || kind.is_written());
+        let other = before.and_then(|built| {
+            let mut spans = spanned().zip(&built.spans);
+            spans.find(|((_, kind), span)| kind.is_written() && span.offset == Some(start) && span.size == size).map(|((node, _), _)| node)
+        });
+        (node, other)
+    }
+}
+
+impl fmt::Display for NodeAt {
+    fn fmt(&self, f: &mut fmt::Formatter<'_>) -> fmt::Result {
+        write!(f, "node {} ({})", self.node, self.kind)?;
+        match &self.name {
+            Some(Name { name, place }) if place.is_empty() => write!(f, " {name}"),
+            Some(Name { name, place }) if name.is_empty() => write!(f, " at {place}"),
+            Some(Name { name, place }) => write!(f, " {name} at {place}"),
+            None => Ok(()),
+        }
+    }
+}
+
+impl fmt::Display for Fault {
+    fn fmt(&self, f: &mut fmt::Formatter<'_>) -> fmt::Result {
+        write!(f, "{}", self.refusal)?;
+        match (&self.counted, &self.node, &self.other) {
+            (Some(counted), ..) => write!(f, ": {counted}"),
+            (None, Some(node), Some(other)) => write!(f, ": {node} over {other}"),
+            (None, Some(node), None) => write!(f, ": {node}"),
+            _ => Ok(()),
+        }
+    }
+}
+
+impl std::error::Error for Fault {}

@@ -1,0 +1,310 @@
+//! The recorder against tables made by hand, its file read back against what it builds, and bad use, each with what is said of it.
+use denkumari::State::{Resolved, Stable, Unresolved};
+use denkumari::*;
+
+const WORKED: &[u8] = include_bytes!("../../../examples/worked.form");
+
+/// Document 01's worked example, by hand.
+fn by_hand() -> Program {
+    let mut program = Program::new(10);
+    program.bank(Bank::new(8)).bank(Bank { start: 64, size: Some(40), offset: Some(0), fill: true, ..Bank::new(10) });
+    program.node(Kind::Switch, 1).node(Kind::Label, 0).node(Kind::Data, 0).node(Kind::Reserve, 0).node(Kind::Instruction, 16);
+    program.row(&[(0, Resolved), (0, Resolved), (10, Resolved), (10, Resolved), (10, Resolved)]).values(&[0xff, 0xc0, 0x2a, 0x80]);
+    program
+}
+
+/// The same, recorded, and its nodes.
+fn recorded() -> (Recorder, Vec<Node>) {
+    let mut recorder = Recorder::new(10);
+    recorder.bank(Bank::new(8)).unwrap();
+    let bank = recorder.bank(Bank { start: 64, size: Some(40), offset: Some(0), fill: true, ..Bank::new(10) }).unwrap();
+    let kinds = [(Kind::Switch, bank), (Kind::Label, 0), (Kind::Data, 0), (Kind::Reserve, 0), (Kind::Instruction, 0)];
+    let nodes: Vec<Node> = kinds.iter().map(|(kind, operand)| recorder.node(*kind, *operand).unwrap()).collect();
+    recorder.begin_pass().unwrap();
+    for node in &nodes[2..] {
+        recorder.tell(*node, 10, Resolved).unwrap();
+    }
+    recorder.value(nodes[2], &[0xff, 0xc0], 10).unwrap();
+    recorder.value_number(nodes[4], 0x0aa, 10).unwrap();
+    (recorder, nodes)
+}
+
+/// What the library answers for a file.
+fn laid_out(file: &[u8], choices: Choices) -> Result<(Layout, Vec<u8>, Vec<Span>), Refusal> {
+    let (mut image, mut addresses, mut offsets, mut sizes) = (vec![0; 1 << 16], vec![0; 4096], vec![0; 4096], vec![0; 4096]);
+    let spans = Spans { addresses: &mut addresses, offsets: &mut offsets, sizes: &mut sizes };
+    let layout = layout_form(file, choices.fill, choices.page, &mut image, spans)?;
+    image.truncate(layout.length.div_ceil(8) as usize);
+    let offset = |word| if word == NO_OFFSET { None } else { Some(word) };
+    let spans = (0..layout.spans).map(|i| Span { address: addresses[i], offset: offset(offsets[i]), size: sizes[i] }).collect();
+    Ok((layout, image, spans))
+}
+
+fn parts(built: Built) -> (Layout, Vec<u8>, Vec<Span>) {
+    (built.layout, built.image, built.spans)
+}
+
+#[test]
+fn a_program_writes_the_worked_example() {
+    assert_eq!(by_hand().to_form(Form::One).unwrap(), WORKED);
+    let mut second = vec![0; 65_536];
+    let long = to_form2(WORKED, &mut second).unwrap();
+    assert_eq!(by_hand().to_form(Form::Two).unwrap(), second[..long]);
+}
+
+#[test]
+fn the_recorder_against_tables_by_hand() {
+    let (recorder, _) = recorded();
+    assert_eq!(recorder.build(64).unwrap(), by_hand().build(64).unwrap());
+    // values are packed: ten bits of each, the second from bit 10 on
+    let mut packed = by_hand();
+    packed.values(&[0xff, 0xca, 0xa0]);
+    let mut file = packed.to_form(Form::Two).unwrap();
+    let operand = 4 + 2 * 27 + 4 * 8 + 3 + 4;
+    assert_eq!(file[operand], 16);
+    file[operand] = 10;
+    assert_eq!(recorder.to_form(Form::Two).unwrap(), file);
+}
+
+#[test]
+fn passes_are_rows() {
+    let mut recorder = Recorder::new(10);
+    recorder.bank(Bank { offset: Some(0), ..Bank::new(8) }).unwrap();
+    let jump = recorder.node(Kind::Instruction, 7).unwrap();
+    recorder.node(Kind::Label, 0).unwrap();
+    let table = recorder.node(Kind::OpenData, 7).unwrap();
+    for (bits, state) in [(24, Unresolved), (16, Unresolved), (16, Stable), (16, Stable), (16, Stable)] {
+        recorder.begin_pass().unwrap();
+        recorder.tell(jump, bits, state).unwrap();
+        recorder.tell(table, 8, Resolved).unwrap();
+    }
+    recorder.value(jump, &[1, 2, 3], 24).unwrap();
+    recorder.value(jump, &[0xeb, 0x05], 16).unwrap();
+    recorder.value(table, &[0x5a], 8).unwrap();
+    let mut program = Program::new(10);
+    program.bank(Bank { offset: Some(0), ..Bank::new(8) }).node(Kind::Instruction, 0).node(Kind::Label, 0).node(Kind::OpenData, 24);
+    // the jump's value has room for the 24 bits of pass 1, and rows 4 and 5 are as row 3
+    program.values(&[0xeb, 0x05, 0, 0x5a]);
+    for (bits, state) in [(24, Unresolved), (16, Unresolved), (16, Stable)] {
+        program.row(&[(bits, state), (0, Resolved), (8, Resolved)]);
+    }
+    assert_eq!(recorder.to_form(Form::One), program.to_form(Form::One));
+    let built = recorder.build(64).unwrap();
+    assert_eq!((built.layout.k, built.digits().unwrap().as_str()), (3, "eb055a"));
+}
+
+/// Numbers from a seed, none of them worth much.
+struct Draw(u64);
+
+impl Draw {
+    fn below(&mut self, most: u32) -> u32 {
+        self.0 = self.0.wrapping_mul(6_364_136_223_846_793_005).wrapping_add(1_442_695_040_888_963_407);
+        ((self.0 >> 33) % u64::from(most)) as u32
+    }
+}
+
+fn drawn(draw: &mut Draw) -> Recorder {
+    let mut recorder = Recorder::new(draw.below(6) as u8);
+    let banks = 1 + draw.below(3);
+    for i in 0..banks {
+        let some = |draw: &mut Draw, number: u32| (draw.below(4) != 0).then_some(number);
+        let unit = [1, 8, 10, 16][draw.below(4) as usize];
+        let size = if i + 1 == banks { some(draw, 400) } else { Some(400) };
+        let (offset, align) = (some(draw, i * 400), some(draw, 8).filter(|_| draw.below(2) == 0));
+        let (fill, ones) = (size.is_some() && draw.below(2) == 0, i > 0 && draw.below(4) == 0);
+        recorder.bank(Bank { start: i64::from(draw.below(64)) - 8, size, offset, align, fill, ones, unit }).unwrap();
+    }
+    recorder.choices(Choices { closed: draw.below(2) == 0, fill: [Fill::Inherited, Fill::Full][draw.below(2) as usize], page: None });
+    let mut nodes = Vec::new();
+    if banks > 1 {
+        recorder.node(Kind::Switch, 1).unwrap();
+    }
+    for _ in 0..draw.below(8) {
+        let kind = Kind::ALL[draw.below(11) as usize];
+        let operand = if kind == Kind::Switch { draw.below(banks) } else { draw.below(2) };
+        nodes.push((kind, recorder.node(kind, operand).unwrap(), draw.below(5) * 4));
+    }
+    for pass in 0..1 + draw.below(4) {
+        recorder.begin_pass().unwrap();
+        for (kind, node, number) in &mut nodes {
+            if *kind != Kind::Data && draw.below(3) == 0 {
+                *number = if *kind == Kind::Addr { draw.below(200) } else { draw.below(5) * 4 };
+            }
+            let state = [Resolved, Resolved, Stable, if pass == 0 { Unresolved } else { Resolved }][draw.below(4) as usize];
+            recorder.tell(*node, *number, state).unwrap();
+        }
+    }
+    for (_, node, number) in nodes.into_iter().filter(|(kind, ..)| kind.is_written()) {
+        recorder.value_number(node, u64::from(draw.below(1 << 16)), number).unwrap();
+    }
+    recorder
+}
+
+#[test]
+fn a_file_read_back_is_answered_as_the_recorder_is() {
+    let mut draw = Draw(1);
+    let (mut built, mut refused, mut ones, mut twos) = (0, 0, 0, 0);
+    for _ in 0..4_000 {
+        let recorder = drawn(&mut draw);
+        let program = recorder.program().unwrap();
+        let mine = program.build(1 << 16).map(parts);
+        let choices = *program.chosen();
+        match &mine {
+            Ok(_) => built += 1,
+            Err(refusal) => {
+                refused += 1;
+                // every refusal that has a node names it
+                let fault = program.fault(*refusal);
+                let nodeless = matches!(refusal.number(), 1 | 2 | 3 | 8 | 14);
+                assert_eq!(fault.node.is_none(), nodeless, "{fault}");
+            }
+        }
+        if let Ok(file) = recorder.to_form(Form::Two) {
+            twos += 1;
+            assert_eq!(laid_out(&file, choices), mine);
+        }
+        if let Ok(file) = recorder.to_form(Form::One) {
+            ones += 1;
+            assert_eq!(laid_out(&file, choices), mine);
+        }
+    }
+    assert!(built > 500 && refused > 500 && ones > 500 && twos > 500, "{built} {refused} {ones} {twos}");
+}
+
+#[test]
+fn a_refusal_names_its_nodes() {
+    let mut recorder = Recorder::new(10);
+    recorder.bank(Bank::new(8)).unwrap();
+    recorder.bank(Bank { size: Some(64), offset: Some(0), ..Bank::new(8) }).unwrap();
+    recorder.node(Kind::Switch, 1).unwrap();
+    let table = recorder.node(Kind::Data, 0).unwrap();
+    let back = recorder.node(Kind::Addr, 0).unwrap();
+    let jump = recorder.node(Kind::Instruction, 0).unwrap();
+    recorder.name(table, "clamp", "brake.asm:7").unwrap();
+    recorder.name(jump, "jmp", "").unwrap();
+    recorder.begin_pass().unwrap();
+    recorder.tell(table, 16, Resolved).unwrap();
+    recorder.tell(back, 8, Resolved).unwrap();
+    recorder.tell(jump, 8, Stable).unwrap();
+    recorder.value(table, &[1, 2], 16).unwrap();
+    recorder.value(jump, &[3], 8).unwrap();
+    let said = recorder.build(64).unwrap_err();
+    assert_eq!(said.refusal(), Some(Refusal::Overlap { start: 0, size: 16, passes: 2 }));
+    let words = "refused 12: a placement would share a bit with what stands from bit 0 on, 16 bits: \
+                 node 3 (instruction) jmp over node 1 (data) clamp at brake.asm:7";
+    assert_eq!(said.to_string(), words);
+    assert_eq!(recorder.names().to_string(), "1\tclamp\tbrake.asm:7\n3\tjmp\t\n");
+    recorder.name(back, "a\tb", "").unwrap_err();
+    recorder.begin_pass().unwrap();
+    recorder.tell(table, 16, Resolved).unwrap();
+    recorder.tell(back, 60, Resolved).unwrap();
+    recorder.tell(jump, 8, Resolved).unwrap();
+    assert_eq!(recorder.build(64).unwrap_err().to_string(), "refused 10: node 3 ends past its bank's size: node 3 (instruction) jmp");
+}
+
+#[test]
+fn bad_use_is_turned_away() {
+    let says = |misuse: Misuse, words: &str| assert_eq!(misuse.to_string(), words);
+    let (mut recorder, nodes) = recorded();
+    says(recorder.tell(nodes[3], 1, Resolved).unwrap_err(), "pass 1 says something of node 3 twice");
+    says(recorder.bank(Bank::new(8)).unwrap_err(), "banks and nodes are told before the first pass begins");
+    says(recorder.node(Kind::Label, 0).unwrap_err(), "banks and nodes are told before the first pass begins");
+    says(recorder.value(nodes[3], &[0], 8).unwrap_err(), "node 3 (reserve) takes no value");
+    says(recorder.value(nodes[2], &[0], 9).unwrap_err(), "the value of node 2 is to have 9 bits, and 1 bytes are given");
+    says(recorder.value_number(nodes[2], 0, 65).unwrap_err(), "the value of node 2 is to have 65 bits, and 8 bytes are given");
+    recorder.begin_pass().unwrap();
+    says(recorder.tell(nodes[2], 11, Resolved).unwrap_err(), "pass 2 gives node 2, data of declared size, 11 bits, and pass 1 gave it 10");
+    recorder.tell(nodes[2], 10, Resolved).unwrap();
+    recorder.tell(nodes[4], 12, Resolved).unwrap();
+    says(recorder.begin_pass().unwrap_err(), "pass 2 says nothing of node 3 (reserve)");
+    assert_eq!(recorder.build(64), Err(NotBuilt::Misuse(Misuse::NodeMissing { pass: 2, node: 3, kind: Kind::Reserve })));
+    recorder.tell(nodes[3], 10, Resolved).unwrap();
+    says(recorder.to_form(Form::One).unwrap_err(), "the last pass gives node 4 12 bits, and its value has 10");
+
+    let mut other = Recorder::new(1);
+    assert_eq!(other.build(0).unwrap_err().to_string(), "no pass has begun");
+    says(other.name(nodes[0], "", "").unwrap_err(), "there is no node 0");
+    says(other.node(Kind::Switch, 0).unwrap_err(), "there is no bank 0");
+    for _ in 0..16 {
+        other.bank(Bank::new(8)).unwrap();
+    }
+    says(other.bank(Bank::new(8)).unwrap_err(), "there are 16 banks already");
+    let gaps: Vec<Node> = (0..4096).map(|_| other.node(Kind::Align, 0).unwrap()).collect();
+    says(other.node(Kind::Align, 0).unwrap_err(), "there are 4,096 nodes already");
+    says(other.tell(gaps[0], 0, Resolved).unwrap_err(), "no pass has begun");
+    for pass in 0..17 {
+        other.begin_pass().unwrap();
+        gaps.iter().for_each(|node| other.tell(*node, pass, Resolved).unwrap());
+    }
+    says(other.to_form(Form::Two).unwrap_err(), "17 passes differ from the one before, and a layout has at most 16 rows");
+}
+
+#[test]
+fn a_row_of_a_wrong_length_is_refused() {
+    let mut program = by_hand();
+    program.row(&[(0, Resolved), (10, Resolved), (10, Resolved), (10, Resolved)]);
+    let refusal = program.build(64).unwrap_err();
+    assert_eq!(refusal, Refusal::RowLength { row: 1, cells: 4, nodes: 5 });
+    assert_eq!((refusal.number(), refusal.to_string().as_str()), (4, "refused 4: row 1, counted from 0, has 4 cells, and there are 5 nodes"));
+    assert_eq!(program.to_form(Form::One), Err(Misuse::RowLength { row: 1, cells: 4, nodes: 5 }));
+    // a row short by one and the next long by one have as many cells as two good ones
+    let mut shifted = by_hand();
+    shifted.node(Kind::Label, 0).row(&[(0, Resolved); 7]);
+    assert_eq!(shifted.build(64), Err(Refusal::RowLength { row: 0, cells: 5, nodes: 6 }));
+}
+
+#[test]
+fn counts_and_forms() {
+    let mut program = by_hand();
+    for _ in 0..16 {
+        program.row(&[(0, Resolved); 5]);
+    }
+    assert_eq!(program.fault(program.build(64).unwrap_err()).to_string().rsplit(": ").next(), Some("17 rows, and there are 1 to 16"));
+    let mut alone = Program::new(1);
+    alone.bank(Bank { offset: Some(0), ..Bank::new(8) }).row(&[]);
+    assert_eq!(alone.to_form(Form::Two), Err(Misuse::Open));
+    alone.choices(Choices { closed: true, ..Choices::default() });
+    assert_eq!(alone.to_form(Form::One), Err(Misuse::Closed));
+    assert!(alone.to_form(Form::Two).is_ok());
+    alone.values(&[0; 65_500]);
+    assert_eq!(alone.to_form(Form::Two).unwrap_err().to_string(), "a file or field of 65541 bytes, and there may be 65536");
+}
+
+#[test]
+fn records_of_what_was_built() {
+    let mut program = Program::new(1);
+    program.bank(Bank { offset: Some(0), ..Bank::new(8) }).values(&[0x5a; 8_000]);
+    program.node(Kind::Data, 0).node(Kind::Reserve, 0).node(Kind::Data, 8);
+    program.row(&[(8 * 7_000, Resolved), (8, Resolved), (16, Resolved)]);
+    let built = program.build(1 << 16).unwrap();
+    let hex = built.intel_hex(0xfff0).unwrap();
+    assert!(hex.starts_with(":10FFF0005A5A") && hex.ends_with(":00000001FF\n") && hex.len() <= records::room(7_003, 2));
+    let (mut bytes, mut starts, mut sizes) = (vec![0; 7_003], [0; 2], [0; 2]);
+    assert_eq!(records::read(records::Format::IntelHex, hex.as_bytes(), 0xfff0, &mut bytes, &mut starts, &mut sizes), Ok(2));
+    assert_eq!((bytes, starts, sizes), (built.image.clone(), [0, 56_008], [56_000, 16]));
+    assert_eq!(built.s_records(0xfff0, records::Width::Two), Err(Refusal::Malformed { place: 0 }));
+    assert!(built.s_records(0xfff0, records::Width::Four).unwrap().starts_with("S3150000FFF05A"));
+    let ragged = by_hand().build(64).unwrap();
+    assert_eq!((ragged.intel_hex(0), ragged.ragged_block()), (Err(Refusal::BadPart), Some(Block { offset: 0, size: 10 })));
+}
+
+/// The room is that of crates/record_room, and files of many shapes fit it.
+#[test]
+fn files_fit_their_room() {
+    let mut draw = Draw(7);
+    for _ in 0..300 {
+        let bytes = 1 + draw.below(70_000) as usize;
+        let (mut starts, mut sizes, mut at) = (Vec::new(), Vec::new(), 0);
+        while at < bytes as u64 && starts.len() < 4096 {
+            let most = [1, 2, 17, 70_000][draw.below(4) as usize];
+            let size = u64::from(1 + draw.below(most)).min(bytes as u64 - at);
+            starts.push(8 * at);
+            sizes.push(8 * size);
+            at += size + u64::from(draw.below(3));
+        }
+        let (image, load) = (vec![0xa5; bytes], draw.below(1 << 30));
+        let mut text = vec![0; records::room(bytes, starts.len())];
+        assert!(records::write_hex(&image, &starts, &sizes, load, &mut text).is_ok());
+        assert!(records::write_srec(&image, &starts, &sizes, load, records::Width::Four, &mut text).is_ok());
+    }
+}
