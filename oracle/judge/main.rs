@@ -4,17 +4,17 @@ use customasm::{asm, diagn, expr, util};
 use std::io::{Read, Write};
 use std::panic::{catch_unwind, AssertUnwindSafe};
 
-mod form;
+pub mod form;
 mod selftest;
 
 const STORED: usize = 512;
 const IMAGE_BITS: usize = 16_384 * 8;
 
 /// The Rust's tables for one file.
-struct Case {
-    report: diagn::Report,
-    decls: asm::ItemDecls,
-    defs: asm::ItemDefs,
+pub struct Case {
+    pub report: diagn::Report,
+    pub decls: asm::ItemDecls,
+    pub defs: asm::ItemDefs,
 }
 
 fn main() {
@@ -47,7 +47,7 @@ fn main() {
 }
 
 /// The next file of the stream: four bytes of length, big-endian, and the file.
-fn take<'a>(rest: &mut &'a [u8]) -> &'a [u8] {
+pub fn take<'a>(rest: &mut &'a [u8]) -> &'a [u8] {
     let length = u32::from_be_bytes(rest[..4].try_into().unwrap()) as usize;
     let file = &rest[4..4 + length];
     *rest = &rest[4 + length..];
@@ -66,7 +66,7 @@ fn answer_spans() {
     }
 }
 
-fn list(items: Vec<String>) -> String {
+pub fn list(items: Vec<String>) -> String {
     if items.is_empty() {
         "-".to_string()
     } else {
@@ -74,12 +74,12 @@ fn list(items: Vec<String>) -> String {
     }
 }
 
-fn blocks(output: &util::BitVec) -> String {
+pub fn blocks(output: &util::BitVec) -> String {
     list(output.get_blocks().iter().map(|block| format!("{}:{}", block.offset, block.size)).collect())
 }
 
 /// With `raw`, what the Rust does wherever it can be run at all; else its verdict where it has a say.
-fn answer(bytes: &[u8], raw: bool) -> String {
+pub fn answer(bytes: &[u8], raw: bool) -> String {
     let Some(file) = form::read(bytes) else { return "nosay 4".to_string() };
 
     if !(1..=16).contains(&file.banks.len()) {
@@ -110,7 +110,7 @@ fn probe(node: usize, probe: asm::Probe) -> asm::AstAny {
 }
 
 impl Case {
-    fn new(file: &form::File, strict: bool) -> Case {
+    pub fn new(file: &form::File, strict: bool) -> Case {
         let told = asm::Told {
             operands: file.nodes.iter().map(|node| node.1).collect(),
             rows: file.rows.clone(),
@@ -217,9 +217,9 @@ impl Case {
         }
     }
 
-    /// The Rust's passes over the file's own nodes, behind one probe that counts them; with `watched`, a probe after each
-    /// node too, which sees the positions on the way.
-    fn resolve(&mut self, file: &form::File, watched: bool) -> Result<(usize, asm::AstTopLevel), ()> {
+    /// The file's own nodes, behind one probe that counts the passes; with `watched`, a probe after each node too, which sees the
+    /// positions on the way.
+    pub fn tree(&mut self, file: &form::File, watched: bool) -> asm::AstTopLevel {
         let mut nodes = vec![probe(0, asm::Probe::PassBegins)];
         for i in 0..file.nodes.len() {
             nodes.push(self.node(file, i));
@@ -227,8 +227,12 @@ impl Case {
                 nodes.push(probe(i, asm::Probe::NodeDone));
             }
         }
-        let ast = asm::AstTopLevel { nodes };
+        asm::AstTopLevel { nodes }
+    }
 
+    /// The Rust's passes over the tree.
+    fn resolve(&mut self, file: &form::File, watched: bool) -> Result<(usize, asm::AstTopLevel), ()> {
+        let ast = self.tree(file, watched);
         let iterations = asm::resolver::resolve_iteratively(
             &mut self.report,
             &asm::AssemblyOptions::new(),
