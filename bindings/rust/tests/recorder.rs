@@ -52,6 +52,68 @@ fn a_program_writes_the_worked_example() {
     assert_eq!(by_hand().to_form(Form::Two).unwrap(), second[..long]);
 }
 
+/// The dumps and the words of docs/FORMAT.md, line by line: the bytes stand between the place and a bar.
+#[test]
+fn the_dumps_in_the_documents_are_the_real_bytes() {
+    let text = include_str!("../../../docs/FORMAT.md");
+    let dumps = text.lines().filter_map(|line| line.strip_prefix("    ")?.trim_start().split_once(" | "));
+    let (mut files, mut file) = (Vec::new(), Vec::new());
+    for (bytes, _) in dumps {
+        let (place, bytes) = bytes.split_once("  ").unwrap();
+        if place == "0" {
+            files.push(std::mem::take(&mut file));
+        }
+        assert_eq!(place.parse(), Ok(file.len()));
+        file.extend(bytes.split_whitespace().map(|byte| u8::from_str_radix(byte, 16).unwrap()));
+    }
+    files.push(file);
+    assert_eq!(files, [vec![], by_hand().to_form(Form::One).unwrap(), by_hand().to_form(Form::Two).unwrap()]);
+}
+
+/// The names file of docs/FORMAT.md, and its source's layout.
+#[test]
+fn the_source_in_the_documents() {
+    let text = include_str!("../../../docs/FORMAT.md");
+    let lines = text.lines().filter_map(|line| line.strip_prefix("    ")).filter(|line| line.contains('\t'));
+    let names = Names::read(&lines.flat_map(|line| [line, "\n"]).collect::<String>()).unwrap();
+    assert_eq!(names.get(2).map(|name| name.name.as_str()), Some("jmp far"));
+
+    let mut recorder = Recorder::new(10);
+    recorder.bank(Bank::new(8)).unwrap();
+    recorder.bank(Bank { size: Some(512), offset: Some(0), ..Bank::new(8) }).unwrap();
+    let kinds = [
+        (Kind::Switch, 1),
+        (Kind::Label, 0),
+        (Kind::Instruction, 0),
+        (Kind::Label, 1),
+        (Kind::Data, 0),
+        (Kind::OpenData, 0),
+        (Kind::Reserve, 0),
+        (Kind::Align, 0),
+        (Kind::Addr, 0),
+        (Kind::Assert, 0),
+        (Kind::Constant, 0),
+    ];
+    let nodes: Vec<Node> = kinds.map(|(kind, operand)| recorder.node(kind, operand).unwrap()).to_vec();
+    for (bits, jump, constant) in [(24, Unresolved, Stable), (16, Unresolved, Resolved), (16, Stable, Resolved)] {
+        recorder.begin_pass().unwrap();
+        for (node, number, state) in [(2, bits, jump), (4, 16, Resolved), (5, 24, Resolved), (6, 32, Resolved), (7, 64, Resolved), (8, 256, Resolved)] {
+            recorder.tell(nodes[node], number, state).unwrap();
+        }
+        recorder.tell(nodes[9], 0, Resolved).unwrap();
+        recorder.tell(nodes[10], 0, constant).unwrap();
+    }
+    recorder.value(nodes[2], &[0xeb, 0x02], 16).unwrap();
+    recorder.value(nodes[4], &[0xbe, 0xef], 16).unwrap();
+    recorder.value(nodes[5], b"abc", 24).unwrap();
+    let built = recorder.build(64).unwrap();
+    assert_eq!((built.layout.k, built.digits().unwrap().as_str(), built.blocks.len()), (3, "eb02beef616263", 1));
+    // and the values as the document has them
+    let values = [0xeb, 2, 0, 0xbe, 0xef, 0x61, 0x62, 0x63];
+    assert!(recorder.to_form(Form::Two).unwrap().windows(8).any(|bytes| bytes == values));
+    assert!(text.contains("values eb0200 beef 616263"));
+}
+
 #[test]
 fn the_recorder_against_tables_by_hand() {
     let (recorder, _) = recorded();
