@@ -33,7 +33,7 @@ pub enum Stopped {
 enum Part<'ast> {
     Switch,
     Label,
-    Constant(&'ast asm::AstSymbol),
+    Constant,
     Instruction(&'ast asm::AstInstruction),
     Data(&'ast asm::AstDirectiveData, usize),
     Res(&'ast asm::AstDirectiveRes),
@@ -78,7 +78,7 @@ fn walk<'ast>(
                 let decl = decls.symbols.get(at.item_ref.unwrap());
                 let (part, kind) = match at.kind {
                     asm::AstSymbolKind::Label => (Part::Label, Kind::Label),
-                    asm::AstSymbolKind::Constant(_) => (Part::Constant(at), Kind::Constant),
+                    asm::AstSymbolKind::Constant(_) => (Part::Constant, Kind::Constant),
                 };
                 step(recorder, part, kind, decl.depth, at.decl_span, bank)?;
                 let node = steps.last().unwrap().node;
@@ -111,13 +111,12 @@ impl Step<'_> {
         }
     }
 
-    /// What `advance_address` reads of the definitions: a number, and whether it is resolved. An assertion has no definition.
+    /// What `advance_address` reads of the definitions: a number, and whether it is resolved. It reads none of a constant's or an assertion's.
     fn told(&self, defs: &asm::ItemDefs) -> (usize, Option<bool>) {
         let size = || integer(self.encoding(defs)).and_then(|bigint| bigint.size);
         match self.part {
             Part::Switch | Part::Label => (0, Some(true)),
-            Part::Assert => (0, None),
-            Part::Constant(at) => (0, Some(defs.symbols.get(at.item_ref.unwrap()).resolved)),
+            Part::Constant | Part::Assert => (0, None),
             Part::Instruction(at) => {
                 let instr = defs.instructions.get(at.item_ref.unwrap());
                 (size().or(instr.encoding_size_guess).unwrap_or(0), Some(instr.resolved))
@@ -197,8 +196,8 @@ fn overlap(report: &mut diagn::Report, decls: &asm::ItemDecls, banks: &Recorder)
     }
 }
 
-/// The pass that `resolve_once` has just run. A node's own state is not kept by customasm, only whether it is resolved; one that is not, and an assertion, get
-/// the pass's: that gives the library the same pass, since a pass is as its least resolved node, and a position is known by resolved nodes alone.
+/// The pass that `resolve_once` has just run. A node's own state is not kept by customasm, only whether it is resolved; one that is not, a constant and an
+/// assertion get the pass's: that gives the library the same pass, since a pass is as its least resolved node, and a position is known by resolved nodes alone.
 fn record(report: &mut diagn::Report, steps: &[Step], defs: &asm::ItemDefs, recorder: &mut Recorder, pass: asm::ResolutionState) -> Result<(), Stopped> {
     recorder.begin_pass().map_err(Stopped::Limits)?;
     for step in steps {
