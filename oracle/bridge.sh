@@ -18,7 +18,7 @@ for needed in rustc python3; do
     }
 done
 [ -f "${CUSTOMASM_SRC:-$home/../shared/docs/src}/src/lib.rs" ] || {
-    echo "skipped: the bridge for customasm, for want of customasm's files (CUSTOMASM_SRC)"
+    echo "left out: the bridge for customasm, since customasm's files are not here (CUSTOMASM_SRC)"
     exit 0
 }
 [ "$(uname -m)" = x86_64 ] || {

@@ -18,7 +18,9 @@ fn main() {
     }
     let (arch, os) = (env::var("CARGO_CFG_TARGET_ARCH").unwrap_or_default(), env::var("CARGO_CFG_TARGET_OS").unwrap_or_default());
     if (arch.as_str(), os.as_str()) != ("x86_64", "linux") {
-        println!("cargo::error=the proved archive is code for x86-64 Linux, and this is {arch} {os}: give --target x86_64-unknown-linux-gnu");
+        println!(
+            "cargo::error=the proved archive is code for x86-64 Linux, and this is {arch} {os}: give --target x86_64-unknown-linux-gnu"
+        );
     }
     println!("cargo:rustc-link-search=native={}", folder.display());
     println!("cargo:rustc-link-lib=static=denkumari");

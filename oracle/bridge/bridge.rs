@@ -166,15 +166,23 @@ fn within<T: TryFrom<usize>>(report: &mut diagn::Report, span: diagn::Span, numb
 }
 
 /// The banks as customasm's `define` left them. Fill bits are zero, as customasm has them.
-fn banks(report: &mut diagn::Report, decls: &asm::ItemDecls, defs: &asm::ItemDefs, recorder: &mut Recorder) -> Result<(), Stopped> {
+fn banks(
+    report: &mut diagn::Report,
+    decls: &asm::ItemDecls,
+    defs: &asm::ItemDefs,
+    recorder: &mut Recorder,
+) -> Result<(), Stopped> {
     for i in 0..defs.bankdefs.len() {
         let bank = defs.bankdefs.get(util::ItemRef::new(i));
         let span = decls.bankdefs.get(bank.item_ref).span;
         let mut number = |number: Option<usize>| number.map(|number| within::<u32>(report, span, number)).transpose();
-        let (size, offset, align) = (number(bank.size_in_bits)?, number(bank.output_offset)?, number(bank.label_align)?);
+        let (size, offset, align) =
+            (number(bank.size_in_bits)?, number(bank.output_offset)?, number(bank.label_align)?);
         let unit = within(report, span, bank.addr_unit)?;
         let start = bank.addr_start.checked_into::<i64>(report, span).map_err(|()| Stopped::Reported(None))?;
-        recorder.bank(Bank { unit, start, size, offset, align, fill: bank.fill, ones: false }).map_err(Stopped::Limits)?;
+        recorder
+            .bank(Bank { unit, start, size, offset, align, fill: bank.fill, ones: false })
+            .map_err(Stopped::Limits)?;
     }
     Ok(())
 }
@@ -186,7 +194,9 @@ fn overlap(report: &mut diagn::Report, decls: &asm::ItemDecls, banks: &Recorder)
     match banks.build(0) {
         Err(NotBuilt::Refused(fault)) if fault.refusal.number() <= 3 => {
             let at = match fault.refusal {
-                Refusal::BankNumber { bank } | Refusal::BanksOverlap { first: bank, .. } => decls.bankdefs.get(util::ItemRef::new(bank as usize)).span,
+                Refusal::BankNumber { bank } | Refusal::BanksOverlap { first: bank, .. } => {
+                    decls.bankdefs.get(util::ItemRef::new(bank as usize)).span
+                }
                 _ => decls.bankdefs.get(util::ItemRef::new(0)).span,
             };
             report.error_span(fault.to_string(), at);
@@ -198,7 +208,13 @@ fn overlap(report: &mut diagn::Report, decls: &asm::ItemDecls, banks: &Recorder)
 
 /// The pass that `resolve_once` has just run. A node's own state is not kept by customasm, only whether it is resolved; one that is not, a constant and an
 /// assertion get the pass's: that gives the library the same pass, since a pass is as its least resolved node, and a position is known by resolved nodes alone.
-fn record(report: &mut diagn::Report, steps: &[Step], defs: &asm::ItemDefs, recorder: &mut Recorder, pass: asm::ResolutionState) -> Result<(), Stopped> {
+fn record(
+    report: &mut diagn::Report,
+    steps: &[Step],
+    defs: &asm::ItemDefs,
+    recorder: &mut Recorder,
+    pass: asm::ResolutionState,
+) -> Result<(), Stopped> {
     recorder.begin_pass().map_err(Stopped::Limits)?;
     for step in steps {
         let (number, resolved) = step.told(defs);
@@ -247,7 +263,8 @@ pub fn resolve_and_build(
         last = converged || iterations == max_iterations || iterations + 1 == max_iterations;
         let again = converged || iterations == max_iterations;
         let pass = iterations + 1;
-        let state = asm::resolver::resolve_once(report, opts, fileserver, ast, decls, defs, pass, pass == 1 && !again, last);
+        let state =
+            asm::resolver::resolve_once(report, opts, fileserver, ast, decls, defs, pass, pass == 1 && !again, last);
         if state.is_err() && !last {
             return Err(Stopped::Reported(None));
         }
@@ -266,7 +283,10 @@ pub fn resolve_and_build(
         Ok(built) if theirs == Some(built.layout.k as usize) => output(report, &steps, defs, built),
         Ok(built) => Err(Stopped::Apart(theirs, Some(built.layout.k as usize))),
         Err(NotBuilt::Misuse(misuse)) => {
-            report.error_span(misuse.to_string(), steps.first().map_or(decls.bankdefs.get(util::ItemRef::new(0)).span, |step| step.span));
+            report.error_span(
+                misuse.to_string(),
+                steps.first().map_or(decls.bankdefs.get(util::ItemRef::new(0)).span, |step| step.span),
+            );
             Err(Stopped::Limits(misuse))
         }
         Err(NotBuilt::Refused(fault)) => {
@@ -280,7 +300,11 @@ pub fn resolve_and_build(
                 return Err(Stopped::Apart(theirs, None));
             }
             if let Some(span) = at {
-                report.error_span(fault.to_string(), span);
+                report.push_parent(fault.to_string(), span);
+                if let Some(other) = fault.other.as_ref().and_then(|at| steps.get(at.node)) {
+                    report.note_span("overlaps with:", other.span);
+                }
+                report.pop_parent();
             }
             Err(Stopped::Refused(fault, at))
         }
@@ -288,11 +312,21 @@ pub fn resolve_and_build(
 }
 
 /// The library's image and spans as `build_output` gives them.
-fn output(report: &mut diagn::Report, steps: &[Step], defs: &asm::ItemDefs, built: Built) -> Result<Assembled, Stopped> {
+fn output(
+    report: &mut diagn::Report,
+    steps: &[Step],
+    defs: &asm::ItemDefs,
+    built: Built,
+) -> Result<Assembled, Stopped> {
     for step in steps {
         let is_final = match step.part {
-            Part::Instruction(at) => asm::resolver::finalize_instruction(report, step.span, defs.instructions.get(at.item_ref.unwrap())).is_ok(),
-            Part::Data(at, i) => asm::resolver::check_final_data_element(report, step.span, defs.data_elems.get(at.item_refs[i])).is_ok(),
+            Part::Instruction(at) => {
+                asm::resolver::finalize_instruction(report, step.span, defs.instructions.get(at.item_ref.unwrap()))
+                    .is_ok()
+            }
+            Part::Data(at, i) => {
+                asm::resolver::check_final_data_element(report, step.span, defs.data_elems.get(at.item_refs[i])).is_ok()
+            }
             _ => true,
         };
         if !is_final {

@@ -27,15 +27,29 @@ fn main() {
     let mut tally = Tally::default();
     while !rest.is_empty() {
         let file = judge::take(&mut rest);
-        let bridged = |varied| catch_unwind(AssertUnwindSafe(|| bridged(file, varied))).unwrap_or_else(|_| Some("panic".to_string()));
+        let bridged = |varied| {
+            catch_unwind(AssertUnwindSafe(|| bridged(file, varied)))
+                .unwrap_or_else(|_| Some(("panic".to_string(), None)))
+        };
         if lines {
-            let line = bridged(false).unwrap_or_else(|| "none".to_string());
+            let line = bridged(false).map_or("none".to_string(), |(line, _)| line);
             println!("{}", line.strip_suffix(STOPPED).unwrap_or(&line));
         } else {
-            let rust = catch_unwind(AssertUnwindSafe(|| judge::answer(file, false))).unwrap_or_else(|_| "panic".to_string());
+            let rust =
+                catch_unwind(AssertUnwindSafe(|| judge::answer(file, false))).unwrap_or_else(|_| "panic".to_string());
             let (plain, varied) = (bridged(false), bridged(true));
             tally.count("the same from a tree of another shape".to_string(), plain == varied);
-            tally.take(file, &rust, plain, &direct(file));
+            if rust.starts_with("refused 12") {
+                let (mine, theirs) = (plain.as_ref().and_then(|(_, nodes)| *nodes), customasms_overlap(file));
+                let (row, same) = match (mine, theirs) {
+                    (Some((node, None)), Some((their, Some(_)))) => {
+                        ("the node of an overlap alone, the image being past 16 MiB", node == their)
+                    }
+                    _ => ("the nodes of an overlap: refused, and in the way", mine.is_some() && mine == theirs),
+                };
+                tally.count(row.to_string(), same);
+            }
+            tally.take(file, &rust, plain.map(|(line, _)| line), &direct(file));
         }
     }
     if !lines && !tally.show() {
@@ -53,27 +67,57 @@ fn another_shape(ast: asm::AstTopLevel) -> asm::AstTopLevel {
                 before.item_refs.extend(data.item_refs);
                 before.elems.extend(data.elems);
             }
-            (_, asm::AstAny::DirectiveBank(at)) if i % 2 == 0 => nodes.push(asm::AstAny::DirectiveBankdef(asm::AstDirectiveBankdef {
-                item_ref: at.item_ref,
-                header_span: at.header_span,
-                addr_unit: None,
-                label_align: None,
-                addr_start: None,
-                addr_size: None,
-                addr_end: None,
-                output_offset: None,
-                fill: false,
-                userdata: None,
-            })),
-            (_, any @ asm::AstAny::Symbol(_)) => nodes.extend([asm::AstAny::DirectiveOnce(()), any, asm::AstAny::DirectiveRuledef(())]),
+            (_, asm::AstAny::DirectiveBank(at)) if i % 2 == 0 => {
+                nodes.push(asm::AstAny::DirectiveBankdef(asm::AstDirectiveBankdef {
+                    item_ref: at.item_ref,
+                    header_span: at.header_span,
+                    addr_unit: None,
+                    label_align: None,
+                    addr_start: None,
+                    addr_size: None,
+                    addr_end: None,
+                    output_offset: None,
+                    fill: false,
+                    userdata: None,
+                }))
+            }
+            (_, any @ asm::AstAny::Symbol(_)) => {
+                nodes.extend([asm::AstAny::DirectiveOnce(()), any, asm::AstAny::DirectiveRuledef(())])
+            }
             (_, any) => nodes.push(any),
         }
     }
     asm::AstTopLevel { nodes }
 }
 
-/// The bridge's line; nothing for a file that is no tree: a broken one, or one whose banks or nodes are malformed.
-fn bridged(bytes: &[u8], varied: bool) -> Option<String> {
+/// The node that a message of an overlap stands at, and that of its note.
+fn overlap(report: &diagn::Report, beginning: &str) -> Option<(usize, Option<usize>)> {
+    let (message, note) = report.find(beginning)?;
+    Some((message.span?.node, note.and_then(|note| note.span).map(|span| span.node)))
+}
+
+/// The same of customasm's own stages.
+fn customasms_overlap(bytes: &[u8]) -> Option<(usize, Option<usize>)> {
+    let file = judge::form::read(bytes)?;
+    let mut case = judge::Case::new(&file, false);
+    let ast = case.tree(&file, false);
+    let (opts, mut files) = (asm::AssemblyOptions::new(), util::FileServerMock::new());
+    asm::resolver::resolve_iteratively(
+        &mut case.report,
+        &opts,
+        &mut files,
+        &ast,
+        &case.decls,
+        &mut case.defs,
+        file.limit,
+    )
+    .ok()?;
+    asm::output::build_output(&mut case.report, &ast, &case.decls, &case.defs).err()?;
+    overlap(&case.report, "output overlap")
+}
+
+/// The bridge's line; nothing for a file that is no tree: a broken one, or one whose banks or nodes are malformed. And the nodes of an overlap.
+fn bridged(bytes: &[u8], varied: bool) -> Option<(String, Option<(usize, Option<usize>)>)> {
     let file = judge::form::read(bytes)?;
     let sound = (1..=16).contains(&file.banks.len())
         && file.banks.iter().all(|bank| bank.is_within_limits() && !bank.is_empty_fill())
@@ -85,16 +129,27 @@ fn bridged(bytes: &[u8], varied: bool) -> Option<String> {
     let ast = case.tree(&file, false);
     let ast = if varied { another_shape(ast) } else { ast };
     let (opts, mut files) = (asm::AssemblyOptions::new(), util::FileServerMock::new());
-    let answer =
-        bridge::resolve_and_build(&mut case.report, &opts, &mut files, &ast, &case.decls, &mut case.defs, file.limit, IMAGE);
-    Some(match answer {
+    let answer = bridge::resolve_and_build(
+        &mut case.report,
+        &opts,
+        &mut files,
+        &ast,
+        &case.decls,
+        &mut case.defs,
+        file.limit,
+        IMAGE,
+    );
+    let line = match answer {
         Ok(done) => built(&done),
         Err(bridge::Stopped::Refused(fault, at)) => refused(fault.refusal, at.map(|span| span.node as u64)),
-        Err(bridge::Stopped::Reported(Some((fault, at)))) => format!("{}{STOPPED}", refused(fault.refusal, at.map(|span| span.node as u64))),
+        Err(bridge::Stopped::Reported(Some((fault, at)))) => {
+            format!("{}{STOPPED}", refused(fault.refusal, at.map(|span| span.node as u64)))
+        }
         Err(bridge::Stopped::Reported(None)) => STOPPED.to_string(),
         Err(bridge::Stopped::Limits(misuse)) => format!("stopped {misuse}"),
         Err(bridge::Stopped::Apart(theirs, mine)) => format!("apart {theirs:?} {mine:?}"),
-    })
+    };
+    Some((line, overlap(&case.report, "refused 12")))
 }
 
 fn built(done: &bridge::Assembled) -> String {
@@ -132,7 +187,8 @@ fn refused(why: Refusal, at: Option<u64>) -> String {
 /// The library's line for the file itself.
 fn direct(file: &[u8]) -> String {
     let most = 4096;
-    let (mut image, mut addresses, mut offsets, mut sizes) = (vec![0; IMAGE], vec![0; most], vec![0; most], vec![0; most]);
+    let (mut image, mut addresses, mut offsets, mut sizes) =
+        (vec![0; IMAGE], vec![0; most], vec![0; most], vec![0; most]);
     let spans = Spans { addresses: &mut addresses, offsets: &mut offsets, sizes: &mut sizes };
     let layout = match layout_form(file, Fill::Inherited, None, &mut image, spans) {
         Ok(layout) => layout,
@@ -168,7 +224,9 @@ impl Tally {
     }
 
     fn take(&mut self, file: &[u8], rust: &str, bridged: Option<String>, direct: &str) {
-        let Some(bridged) = bridged else { return self.count("no tree: the file or its tables are malformed".to_string(), true) };
+        let Some(bridged) = bridged else {
+            return self.count("no tree: the file or its tables are malformed".to_string(), true);
+        };
         let mut agrees = true;
         if rust.starts_with("nosay") && bridged.ends_with(STOPPED) {
             return self.count(format!("outside the domain, customasm's own walk stops ({})", head(rust)), true);
@@ -198,12 +256,12 @@ impl Tally {
             let rows = self.rows.iter().filter(|(row, _)| row.starts_with(beginning));
             rows.fold((0, 0), |(same, different), (_, row)| (same + row.0, different + row.1))
         };
-        let (customasm, library, shapes) = (all("customasm"), all("library"), all("the same"));
+        let (customasm, library, others) = (all("customasm"), all("library"), all("the "));
         println!("{} layouts answered as by customasm, {} otherwise", customasm.0, customasm.1);
         println!("{} layouts answered as by the library on the file, {} otherwise", library.0, library.1);
         if let Some(first) = &self.first {
             println!("first difference:\n{first}");
         }
-        customasm.1 + library.1 + shapes.1 == 0 && customasm.0 > 0
+        customasm.1 + library.1 + others.1 == 0 && customasm.0 > 0
     }
 }

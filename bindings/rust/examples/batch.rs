@@ -16,7 +16,11 @@ struct Lent {
 }
 
 fn joined(parts: Vec<String>) -> String {
-    if parts.is_empty() { "-".to_string() } else { parts.join(",") }
+    if parts.is_empty() {
+        "-".to_string()
+    } else {
+        parts.join(",")
+    }
 }
 
 fn accepted(lent: &mut Lent, file: &[u8]) -> Result<String, Refusal> {

@@ -21,14 +21,15 @@ pub struct Fault {
     pub refusal: Refusal,
     /// The node at which it was met.
     pub node: Option<NodeAt>,
-    /// Of refusal 12: the written item or mark whose start and size the refusal names; `None` where that is a reserve.
+    /// Of refusal 12: the item, reserve or mark whose start and size the refusal names; `None` where the image ahead of it is past 16 MiB.
     pub other: Option<NodeAt>,
-    counted: Option<String>,
+    more: Option<String>,
 }
 
 impl Program {
-    /// What a refusal of [`Program::build`] speaks of. Refusal 4 says whether its place is a count or a node; refusal 12, which names a start and a size, is
-    /// given its node: the library is asked again for the first nodes of the list, in the row of the last pass, until it refuses.
+    /// What a refusal of [`Program::build`] speaks of. Refusal 4 says whether its place is a count or a node, and what is wrong with it; refusal 12, which
+    /// names a start and a size, is given its node: the library is asked again for the first nodes of the list, in the row of the last pass, until it
+    /// refuses.
     ///
     /// ```
     /// use denkumari::{Bank, Kind, Program, State::Resolved};
@@ -49,35 +50,50 @@ impl Program {
     pub(crate) fn named_fault(&self, refusal: Refusal, names: &Names) -> Fault {
         let (nodes, rows) = (self.kinds.len(), self.rows.len());
         let at = |node: usize| self.kinds.get(node).map(|kind| NodeAt { node, kind: *kind, name: names.get(node).cloned() });
-        let mut counted = None;
-        let (node, other) = match refusal {
-            Refusal::Malformed { place: 0 } if nodes > 4096 => {
-                counted = Some(format!("{nodes} nodes, and there may be 4,096"));
-                (None, None)
-            }
+        let (node, other, more) = match refusal {
+            Refusal::Malformed { place: 0 } if nodes > 4096 => (None, None, Some(format!("{nodes} nodes, and there may be 4,096"))),
             Refusal::Malformed { place: 1 } if !(1..=16).contains(&rows) => {
-                counted = Some(format!("{rows} rows, and there are 1 to 16"));
-                (None, None)
+                (None, None, Some(format!("{rows} rows, and there are 1 to 16")))
             }
-            Refusal::Malformed { place: node }
+            Refusal::Malformed { place: node } => (Some(node as usize), None, self.malformed(node as usize)),
+            // alignments of banks are tried before those of nodes
+            Refusal::OffProfile { rule: 2, at } if self.banks.iter().filter_map(|bank| bank.align).any(|align| align.count_ones() > 1) => {
+                (None, None, Some(format!("the label alignment of bank {at}")))
+            }
+            Refusal::OffProfile { rule: 2 | 6, at: node }
             | Refusal::PositionPast { node, .. }
             | Refusal::LabelOffBoundary { node, .. }
             | Refusal::DefaultBank { node, .. }
             | Refusal::PastBank { node, .. }
             | Refusal::NoOutput { node, .. }
-            | Refusal::StoreFull { node, .. }
-            | Refusal::OffProfile { rule: 6, at: node } => (Some(node as usize), None),
-            Refusal::Overlap { start, size, passes } => self.at_overlap(start, size, passes),
-            _ => (None, None),
+            | Refusal::StoreFull { node, .. } => (Some(node as usize), None, None),
+            Refusal::Overlap { start, size, passes } => {
+                let (node, other) = self.at_overlap(start, size, passes);
+                (node, other, None)
+            }
+            _ => (None, None, None),
         };
-        Fault { refusal, node: node.and_then(at), other: other.and_then(at), counted }
+        Fault { refusal, node: node.and_then(at), other: other.and_then(at), more }
+    }
+
+    /// What is wrong with a node's bank, or with its range in the first row in which it is: kinds and states cannot be.
+    fn malformed(&self, node: usize) -> Option<String> {
+        let (kind, operand) = (*self.kinds.get(node)?, *self.operands.get(node)?);
+        if kind == Kind::Switch {
+            return Some(format!("there is no bank {operand}"));
+        }
+        let (end, read) = (self.values.bytes().len() as u64 * 8, if kind == Kind::Data { 1 } else { self.rows.len() });
+        let ends = self.rows.iter().take(read).map(|row| row.get(node).map_or(0, |cell| u64::from(operand) + u64::from(cell.0)));
+        let (row, past) = ends.enumerate().find(|(_, past)| *past > end)?;
+        Some(format!("in row {row} it ends at bit {past} of the values, which have {end}"))
     }
 
     /// The first nodes of the list in the row of that pass, as a layout of one pass: everything stands where it stands in that pass.
     fn beginning(&self, nodes: usize, pass: u64) -> Option<Program> {
         let row = self.rows.get((pass.min(self.rows.len() as u64)).checked_sub(1)? as usize)?;
         let first = self.rows.first()?;
-        let declared = |node: usize, cell: u32| if self.kinds.get(node) == Some(&Kind::Data) { first.get(node).map_or(cell, |c| c.0) } else { cell };
+        let declared =
+            |node: usize, cell: u32| if self.kinds.get(node) == Some(&Kind::Data) { first.get(node).map_or(cell, |c| c.0) } else { cell };
         let cells = row.iter().enumerate().take(nodes).map(|(node, cell)| (declared(node, cell.0), State::Resolved)).collect();
         Some(Program {
             kinds: self.kinds.get(..nodes)?.to_vec(),
@@ -105,13 +121,38 @@ impl Program {
             }
         }
         let node = high.checked_sub(1);
-        let before = node.and_then(|node| self.beginning(node, passes)?.build(1 << 24).ok());
-        let spanned = || self.kinds.iter().enumerate().filter(|(_, kind)| **kind == Kind::Label || kind.is_written());
-        let other = before.and_then(|built| {
-            let mut spans = spanned().zip(&built.spans);
-            spans.find(|((_, kind), span)| kind.is_written() && span.offset == Some(start) && span.size == size).map(|((node, _), _)| node)
-        });
-        (node, other)
+        (node, node.and_then(|node| self.standing(node, start, size, passes)))
+    }
+
+    /// The node ahead of `node` that stands from bit `start` on with so many bits. Spans tell where written items stand; of a reserve, which has no span, an
+    /// item of no bits ahead of it tells.
+    fn standing(&self, node: usize, start: u64, size: u64, pass: u64) -> Option<usize> {
+        let ahead = self.beginning(node, pass)?;
+        let (mut told, mut of, mut row, mut bank) = (ahead.clone(), Vec::new(), Vec::new(), 0);
+        told.kinds.clear();
+        told.operands.clear();
+        // a fill moves nothing, and may make the image long
+        told.banks.iter_mut().for_each(|bank| bank.fill = false);
+        for (i, cell) in ahead.rows.first()?.iter().enumerate() {
+            let (kind, operand) = (*ahead.kinds.get(i)?, *ahead.operands.get(i)?);
+            match kind {
+                Kind::Switch => bank = operand as usize,
+                Kind::Label => of.push(None),
+                Kind::Reserve if self.banks.get(bank)?.offset.is_some() => {
+                    told.node(Kind::OpenData, 0);
+                    row.push((0, State::Resolved));
+                    of.push(Some((i, u64::from(cell.0))));
+                }
+                kind if kind.is_written() => of.push(Some((i, u64::from(cell.0)))),
+                _ => {}
+            }
+            told.node(kind, operand);
+            row.push(*cell);
+        }
+        told.rows = vec![row];
+        let built = told.build(1 << 24).ok()?;
+        let stands = of.into_iter().zip(built.spans).filter(|(_, span)| span.offset == Some(start));
+        stands.filter_map(|(of, _)| of).find(|(_, bits)| *bits == size).map(|(node, _)| node)
     }
 }
 
@@ -130,12 +171,12 @@ impl fmt::Display for NodeAt {
 impl fmt::Display for Fault {
     fn fmt(&self, f: &mut fmt::Formatter<'_>) -> fmt::Result {
         write!(f, "{}", self.refusal)?;
-        match (&self.counted, &self.node, &self.other) {
-            (Some(counted), ..) => write!(f, ": {counted}"),
-            (None, Some(node), Some(other)) => write!(f, ": {node} over {other}"),
-            (None, Some(node), None) => write!(f, ": {node}"),
-            _ => Ok(()),
+        match (&self.node, &self.other) {
+            (Some(node), Some(other)) => write!(f, ": {node} over {other}")?,
+            (Some(node), None) => write!(f, ": {node}")?,
+            _ => {}
         }
+        self.more.iter().try_for_each(|more| write!(f, ": {more}"))
     }
 }
 

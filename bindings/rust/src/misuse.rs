@@ -66,13 +66,17 @@ impl fmt::Display for Misuse {
                 write!(f, "pass {pass} gives node {node}, data of declared size, {number} bits, and pass 1 gave it {first}")
             }
             Misuse::NoValueRead { node, kind } => write!(f, "node {node} ({kind}) takes no value"),
-            Misuse::ShortValue { node, bits, given } => write!(f, "the value of node {node} is to have {bits} bits, and {given} bytes are given"),
+            Misuse::ShortValue { node, bits, given } => {
+                write!(f, "the value of node {node} is to have {bits} bits, and {given} bytes are given")
+            }
             Misuse::ValueSize { node, size, bits } => {
                 write!(f, "the last pass gives node {node} {size} bits, and its value has {bits}")
             }
             Misuse::ValuesTooLong { node } => write!(f, "the value of node {node} would stand past bit 4,294,967,295 of the values"),
             Misuse::BadName { node } => write!(f, "the name or place of node {node} has a tab, a line end or a control character in it"),
-            Misuse::RowLength { row, cells, nodes } => write!(f, "row {row}, counted from 0, has {cells} cells, and there are {nodes} nodes"),
+            Misuse::RowLength { row, cells, nodes } => {
+                write!(f, "row {row}, counted from 0, has {cells} cells, and there are {nodes} nodes")
+            }
             Misuse::FillBit { bank } => write!(f, "form 1 has no fill bits, and that of bank {bank} is one"),
             Misuse::Closed => write!(f, "form 1 leaves bank 0 open, and here it is the only bank and closed"),
             Misuse::Open => write!(f, "form 2 closes bank 0, and here it is the only bank and open"),

@@ -91,7 +91,9 @@ impl fmt::Display for Names {
 impl fmt::Display for BadNames {
     fn fmt(&self, f: &mut fmt::Formatter<'_>) -> fmt::Result {
         match self {
-            BadNames::Character { node } => write!(f, "the name or place of node {node} has a tab, a line end or a control character in it"),
+            BadNames::Character { node } => {
+                write!(f, "the name or place of node {node} has a tab, a line end or a control character in it")
+            }
             BadNames::Line { line } => write!(f, "line {line} of the names is not a number, a name and a place with tabs between"),
             BadNames::Order { line } => write!(f, "the node in line {line} of the names is not above that of the line before"),
         }

@@ -198,7 +198,11 @@ impl Recorder {
     }
 
     fn before_passes(&self) -> Result<(), Misuse> {
-        if self.pass.is_some() { Err(Misuse::PassesBegan) } else { Ok(()) }
+        if self.pass.is_some() {
+            Err(Misuse::PassesBegan)
+        } else {
+            Ok(())
+        }
     }
 
     fn kind(&self, node: Node) -> Result<Kind, Misuse> {

@@ -19,10 +19,16 @@ impl fmt::Display for Refusal {
         write!(f, "refused {}: ", self.number())?;
         match *self {
             Refusal::BankCount => write!(f, "there are not 1 to 16 banks"),
-            Refusal::BankNumber { bank } => write!(f, "bank {bank} has a number or a fill bit beyond its limit, or is filled and has size 0"),
+            Refusal::BankNumber { bank } => {
+                write!(f, "bank {bank} has a number or a fill bit beyond its limit, or is filled and has size 0")
+            }
             Refusal::BanksOverlap { first, second } => write!(f, "banks {first} and {second} overlap in the output"),
-            Refusal::Malformed { place } => write!(f, "a count, kind, bank number, state, value range, choice or file is malformed, at {place}"),
-            Refusal::RowLength { row, cells, nodes } => write!(f, "row {row}, counted from 0, has {cells} cells, and there are {nodes} nodes"),
+            Refusal::Malformed { place } => {
+                write!(f, "a count, kind, bank number, state, value range, choice or file is malformed, at {place}")
+            }
+            Refusal::RowLength { row, cells, nodes } => {
+                write!(f, "row {row}, counted from 0, has {cells} cells, and there are {nodes} nodes")
+            }
             Refusal::PositionPast { node, .. } => write!(f, "at node {node} a position would pass 4,294,967,295"),
             Refusal::LabelOffBoundary { node, .. } => write!(f, "the label at node {node} is between two addresses"),
             Refusal::Unresolved { passes } => write!(f, "the last of {passes} passes ended unresolved"),
@@ -30,7 +36,9 @@ impl fmt::Display for Refusal {
             Refusal::PastBank { node, .. } => write!(f, "node {node} ends past its bank's size"),
             Refusal::NoOutput { node, .. } => write!(f, "node {node} is written in a bank that has no place in the output"),
             Refusal::Overlap { start, size: 0, .. } => write!(f, "a placement would have the mark at bit {start} strictly inside it"),
-            Refusal::Overlap { start, size, .. } => write!(f, "a placement would share a bit with what stands from bit {start} on, {size} bits"),
+            Refusal::Overlap { start, size, .. } => {
+                write!(f, "a placement would share a bit with what stands from bit {start} on, {size} bits")
+            }
             Refusal::StoreFull { node, .. } => write!(f, "at node {node} 512 placements are stored already"),
             Refusal::TooShort { buffer, .. } => write!(f, "the room for {buffer} is too short"),
             Refusal::BadPart => write!(f, "a part of an image is empty, outside it, or not on byte edges"),

@@ -113,7 +113,8 @@ fn choices_are_passed_on() {
 #[test]
 fn pages() {
     let flags = [0, HAS_SIZE | HAS_OFFSET];
-    let banks = Banks { units: &[8, 16], starts: &[0, 0], sizes: &[0, 64], offsets: &[0, 32], aligns: &[0, 0], flags: &flags, fill_bits: &[0, 1] };
+    let banks =
+        Banks { units: &[8, 16], starts: &[0, 0], sizes: &[0, 64], offsets: &[0, 32], aligns: &[0, 0], flags: &flags, fill_bits: &[0, 1] };
     let nodes = Nodes { kinds: &[], operands: &[], numbers: &[], states: &[], rows: 1, values: &[], limit: 1 };
     let mut pages = [None; 16];
     pages[1] = Some(2);

@@ -29,6 +29,35 @@ fn recorded() -> (Recorder, Vec<Node>) {
     (recorder, nodes)
 }
 
+/// Bits appended one value after the other, against a list of bits.
+#[test]
+fn values_are_bits_one_behind_the_other() {
+    let mut draw = Draw(3);
+    for _ in 0..200 {
+        let (mut values, mut bits) = (Values::new(), Vec::new());
+        for _ in 0..draw.below(12) {
+            let (from, count) =
+                ([draw.below(256) as u8, draw.below(256) as u8, draw.below(256) as u8, draw.below(256) as u8], draw.below(33));
+            let there = bits.len() as u32;
+            if draw.below(4) == 0 {
+                assert_eq!(values.append_zeros(count), Some(there));
+                bits.extend(vec![false; count as usize]);
+            } else if draw.below(2) == 0 {
+                assert_eq!(values.append(&from, count), Some(there));
+                bits.extend((0..count as usize).map(|i| from[i / 8] >> (7 - i % 8) & 1 != 0));
+            } else {
+                let number = u64::from(u32::from_be_bytes(from));
+                assert_eq!(values.append_number(number, count), Some(there));
+                bits.extend((0..count).rev().map(|i| number >> i & 1 != 0));
+            }
+        }
+        assert_eq!((values.len(), values.bytes().len()), (bits.len() as u64, bits.len().div_ceil(8)));
+        bits.resize(bits.len().next_multiple_of(8), false);
+        let bytes: Vec<u8> = bits.chunks(8).map(|bits| bits.iter().fold(0, |byte, bit| byte << 1 | *bit as u8)).collect();
+        assert_eq!(values.bytes(), bytes);
+    }
+}
+
 /// What the library answers for a file.
 fn laid_out(file: &[u8], choices: Choices) -> Result<(Layout, Vec<u8>, Vec<Span>), Refusal> {
     let (mut image, mut addresses, mut offsets, mut sizes) = (vec![0; 1 << 16], vec![0; 4096], vec![0; 4096], vec![0; 4096]);
@@ -97,7 +126,9 @@ fn the_source_in_the_documents() {
     let nodes: Vec<Node> = kinds.map(|(kind, operand)| recorder.node(kind, operand).unwrap()).to_vec();
     for (bits, jump, constant) in [(24, Unresolved, Stable), (16, Unresolved, Resolved), (16, Stable, Resolved)] {
         recorder.begin_pass().unwrap();
-        for (node, number, state) in [(2, bits, jump), (4, 16, Resolved), (5, 24, Resolved), (6, 32, Resolved), (7, 64, Resolved), (8, 256, Resolved)] {
+        for (node, number, state) in
+            [(2, bits, jump), (4, 16, Resolved), (5, 24, Resolved), (6, 32, Resolved), (7, 64, Resolved), (8, 256, Resolved)]
+        {
             recorder.tell(nodes[node], number, state).unwrap();
         }
         recorder.tell(nodes[9], 0, Resolved).unwrap();
@@ -307,7 +338,10 @@ fn a_row_of_a_wrong_length_is_refused() {
     program.row(&[(0, Resolved), (10, Resolved), (10, Resolved), (10, Resolved)]);
     let refusal = program.build(64).unwrap_err();
     assert_eq!(refusal, Refusal::RowLength { row: 1, cells: 4, nodes: 5 });
-    assert_eq!((refusal.number(), refusal.to_string().as_str()), (4, "refused 4: row 1, counted from 0, has 4 cells, and there are 5 nodes"));
+    assert_eq!(
+        (refusal.number(), refusal.to_string().as_str()),
+        (4, "refused 4: row 1, counted from 0, has 4 cells, and there are 5 nodes")
+    );
     assert_eq!(program.to_form(Form::One), Err(Misuse::RowLength { row: 1, cells: 4, nodes: 5 }));
     // a row short by one and the next long by one have as many cells as two good ones
     let mut shifted = by_hand();
@@ -322,6 +356,21 @@ fn counts_and_forms() {
         program.row(&[(0, Resolved); 5]);
     }
     assert_eq!(program.fault(program.build(64).unwrap_err()).to_string().rsplit(": ").next(), Some("17 rows, and there are 1 to 16"));
+    let far = |bank| {
+        let mut program = Program::new(1);
+        program.bank(Bank::new(8)).node(Kind::Switch, bank).node(Kind::OpenData, 30).values(&[0; 4]);
+        program.row(&[(9, Resolved), (2, Resolved)]).row(&[(9, Resolved), (3, Resolved)]);
+        program.fault(program.build(64).unwrap_err()).to_string().rsplit("malformed, at ").next().unwrap().to_string()
+    };
+    assert_eq!(far(7), "0: node 0 (switch): there is no bank 7");
+    assert_eq!(far(0), "1: node 1 (open): in row 1 it ends at bit 33 of the values, which have 32");
+    let paged = |align, number| {
+        let mut program = Program::new(1);
+        program.bank(Bank { align, ..Bank::new(8) }).node(Kind::Align, 0).row(&[(number, Resolved)]);
+        program.choices(Choices { page: Some(8), ..Choices::default() });
+        program.fault(program.build(64).unwrap_err()).to_string().rsplit(": ").next().unwrap().to_string()
+    };
+    assert_eq!((paged(Some(24), 24).as_str(), paged(Some(16), 24).as_str()), ("the label alignment of bank 0", "node 0 (align)"));
     let mut alone = Program::new(1);
     alone.bank(Bank { offset: Some(0), ..Bank::new(8) }).row(&[]);
     assert_eq!(alone.to_form(Form::Two), Err(Misuse::Open));
