@@ -55,14 +55,15 @@ fn walk<'ast>(
     decls: &asm::ItemDecls,
     defs: &asm::ItemDefs,
     recorder: &mut Recorder,
-) -> Result<Vec<Step<'ast>>, Misuse> {
+) -> Result<Vec<Step<'ast>>, (Misuse, diagn::Span)> {
     let mut steps = Vec::new();
     let mut bank = util::ItemRef::new(0);
     for any in &ast.nodes {
         let mut step = |recorder: &mut Recorder, part, kind, operand: usize, span, bank| {
             let operand = u32::try_from(operand).unwrap_or(u32::MAX);
-            steps.push(Step { part, node: recorder.node(kind, operand)?, span, bank });
-            Ok::<(), Misuse>(())
+            let node = recorder.node(kind, operand).map_err(|misuse| (misuse, span))?;
+            steps.push(Step { part, node, span, bank });
+            Ok::<(), (Misuse, diagn::Span)>(())
         };
         match any {
             asm::AstAny::DirectiveBank(at) => {
@@ -82,7 +83,7 @@ fn walk<'ast>(
                 };
                 step(recorder, part, kind, decl.depth, at.decl_span, bank)?;
                 let node = steps.last().unwrap().node;
-                recorder.name(node, &decl.name, "")?;
+                recorder.name(node, &decl.name, "").map_err(|misuse| (misuse, at.decl_span))?;
             }
             asm::AstAny::Instruction(at) => step(recorder, Part::Instruction(at), Kind::Instruction, 0, at.span, bank)?,
             asm::AstAny::DirectiveData(at) => {
@@ -165,6 +166,12 @@ fn within<T: TryFrom<usize>>(report: &mut diagn::Report, span: diagn::Span, numb
     })
 }
 
+/// What the recorder turns away, at its place in the source.
+fn limits(report: &mut diagn::Report, span: diagn::Span, misuse: Misuse) -> Stopped {
+    report.error_span(misuse.to_string(), span);
+    Stopped::Limits(misuse)
+}
+
 /// The banks as customasm's `define` left them. Fill bits are zero, as customasm has them.
 fn banks(
     report: &mut diagn::Report,
@@ -180,9 +187,8 @@ fn banks(
             (number(bank.size_in_bits)?, number(bank.output_offset)?, number(bank.label_align)?);
         let unit = within(report, span, bank.addr_unit)?;
         let start = bank.addr_start.checked_into::<i64>(report, span).map_err(|()| Stopped::Reported(None))?;
-        recorder
-            .bank(Bank { unit, start, size, offset, align, fill: bank.fill, ones: false })
-            .map_err(Stopped::Limits)?;
+        let record = Bank { unit, start, size, offset, align, fill: bank.fill, ones: false };
+        recorder.bank(record).map_err(|misuse| limits(report, span, misuse))?;
     }
     Ok(())
 }
@@ -223,18 +229,25 @@ fn record(
             (_, asm::ResolutionState::Unresolved) => State::Unresolved,
             _ => State::Stable,
         };
-        recorder.tell(step.node, within(report, step.span, number)?, state).map_err(Stopped::Limits)?;
+        let number = within(report, step.span, number)?;
+        recorder.tell(step.node, number, state).map_err(|misuse| limits(report, step.span, misuse))?;
     }
     Ok(())
 }
 
 /// The values as the last pass left them.
-fn values(steps: &[Step], defs: &asm::ItemDefs, recorder: &mut Recorder) -> Result<(), Stopped> {
+fn values(
+    report: &mut diagn::Report,
+    steps: &[Step],
+    defs: &asm::ItemDefs,
+    recorder: &mut Recorder,
+) -> Result<(), Stopped> {
     for step in steps {
         let Some(encoding) = step.encoding(defs) else { continue };
         let size = step.told(defs).0;
         let bytes = integer(Some(encoding)).map_or(vec![0; size.div_ceil(8)], |bigint| bits(bigint, size));
-        recorder.value(step.node, &bytes, size as u32).map_err(Stopped::Limits)?;
+        let value = recorder.value(step.node, &bytes, size as u32);
+        value.map_err(|misuse| limits(report, step.span, misuse))?;
     }
     Ok(())
 }
@@ -255,7 +268,7 @@ pub fn resolve_and_build(
     let mut recorder = Recorder::new(max_iterations.min(255) as u8);
     banks(report, decls, defs, &mut recorder)?;
     overlap(report, decls, &recorder)?;
-    let steps = walk(ast, decls, defs, &mut recorder).map_err(Stopped::Limits)?;
+    let steps = walk(ast, decls, defs, &mut recorder).map_err(|(misuse, span)| limits(report, span, misuse))?;
 
     // `resolve_iteratively`, with each pass recorded; a pass that stops with an error is recorded as far as it came
     let (mut iterations, mut last, mut converged, mut reported) = (0, false, false, false);
@@ -275,7 +288,7 @@ pub fn resolve_and_build(
             iterations = pass;
         }
     }
-    values(&steps, defs, &mut recorder)?;
+    values(report, &steps, defs, &mut recorder)?;
 
     let theirs = converged.then_some(iterations);
     match recorder.build(most_bytes) {
