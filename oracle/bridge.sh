@@ -29,7 +29,11 @@ done
 "$home/oracle/build.sh" "$folder"
 rustc --edition 2021 -O -D warnings --crate-type rlib --crate-name denkumari -L "native=$archive" -l static=denkumari \
     --out-dir "$folder" "$home/bindings/rust/src/lib.rs"
-rustc --edition 2021 -C opt-level=2 -C overflow-checks=on -D warnings --crate-name bridge --extern "customasm=$folder/libcustomasm.rlib" \
-    --extern "denkumari=$folder/libdenkumari.rlib" -o "$folder/bridge" "$home/oracle/bridge/main.rs"
+# customasm's crate once more, with the bridge in its place; the other files are not ours to tidy: their warnings are let be
+cp "$home/oracle/bridge/bridge.rs" "$folder/src/asm/bridge.rs"
+echo 'pub mod bridge;' >>"$folder/src/asm/mod.rs"
+checked() { rustc --edition 2021 -C opt-level=2 -C overflow-checks=on -L "$folder" --extern "denkumari=$folder/libdenkumari.rlib" "$@"; }
+checked -A warnings --crate-type rlib --crate-name customasm --out-dir "$folder" "$folder/src/lib.rs"
+checked -D warnings --crate-name bridge --extern "customasm=$folder/libcustomasm.rlib" -o "$folder/bridge" "$home/oracle/bridge/main.rs"
 python3 "$home/oracle/generate.py" "$seed" "$layouts" --batch >"$folder/layouts"
 "$folder/bridge" <"$folder/layouts"

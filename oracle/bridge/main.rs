@@ -1,15 +1,15 @@
-//! The bridge on the judge's own trees, held against customasm's own answer and against the library's for the same file.
+//! The bridge, compiled into customasm's own crate, on the judge's own trees, held against customasm's own answer and against the library's for the same file.
 //!
 //! Reads files from standard input, each behind four bytes of length, big-endian, and prints a tally; with --lines the bridge's line for each file instead
 //! (oracle/README.md, "The lines"). Status 1 where an answer differs.
 
-use customasm::{asm, diagn, expr, util};
+use customasm::asm::bridge;
+use customasm::{asm, diagn, util};
 use denkumari::{get_blocks, hex, layout_form, Fill, Refusal, Spans, NO_OFFSET};
 use std::collections::BTreeMap;
 use std::io::Read;
 use std::panic::{catch_unwind, AssertUnwindSafe};
 
-mod bridge;
 #[allow(dead_code)]
 #[path = "../judge/main.rs"]
 mod judge;
