@@ -291,17 +291,17 @@ pub fn resolve_and_build(
     values(report, &steps, defs, &mut recorder)?;
 
     let theirs = converged.then_some(iterations);
+    // where a message has no place of its own
+    let begin = steps.first().map_or(decls.bankdefs.get(util::ItemRef::new(0)).span, |step| step.span);
+    let apart = |report: &mut diagn::Report, mine: Option<usize>| {
+        report.error_span("the layout library does not agree on the number of iterations", begin);
+        Err(Stopped::Apart(theirs, mine))
+    };
     match recorder.build(most_bytes) {
         Ok(_) if reported => Err(Stopped::Reported(None)),
         Ok(built) if theirs == Some(built.layout.k as usize) => output(report, &steps, defs, built),
-        Ok(built) => Err(Stopped::Apart(theirs, Some(built.layout.k as usize))),
-        Err(NotBuilt::Misuse(misuse)) => {
-            report.error_span(
-                misuse.to_string(),
-                steps.first().map_or(decls.bankdefs.get(util::ItemRef::new(0)).span, |step| step.span),
-            );
-            Err(Stopped::Limits(misuse))
-        }
+        Ok(built) => apart(report, Some(built.layout.k as usize)),
+        Err(NotBuilt::Misuse(misuse)) => Err(limits(report, begin, misuse)),
         Err(NotBuilt::Refused(fault)) => {
             let number = fault.refusal.number();
             let at = fault.node.as_ref().and_then(|at| steps.get(at.node)).map(|step| step.span);
@@ -310,15 +310,13 @@ pub fn resolve_and_build(
             }
             // 7 and 8 end the passes of customasm too; from 9 on the passes are over
             if (theirs.is_some() && matches!(number, 7 | 8)) || (theirs.is_none() && number >= 9) {
-                return Err(Stopped::Apart(theirs, None));
+                return apart(report, None);
             }
-            if let Some(span) = at {
-                report.push_parent(fault.to_string(), span);
-                if let Some(other) = fault.other.as_ref().and_then(|at| steps.get(at.node)) {
-                    report.note_span("overlaps with:", other.span);
-                }
-                report.pop_parent();
+            report.push_parent(fault.to_string(), at.unwrap_or(begin));
+            if let Some(other) = fault.other.as_ref().and_then(|at| steps.get(at.node)) {
+                report.note_span("overlaps with:", other.span);
             }
+            report.pop_parent();
             Err(Stopped::Refused(fault, at))
         }
     }
@@ -332,17 +330,21 @@ fn output(
     built: Built,
 ) -> Result<Assembled, Stopped> {
     for step in steps {
-        let is_final = match step.part {
+        let done = match step.part {
             Part::Instruction(at) => {
-                asm::resolver::finalize_instruction(report, step.span, defs.instructions.get(at.item_ref.unwrap()))
-                    .is_ok()
+                let instr = defs.instructions.get(at.item_ref.unwrap());
+                asm::resolver::finalize_instruction(report, step.span, instr)
             }
             Part::Data(at, i) => {
-                asm::resolver::check_final_data_element(report, step.span, defs.data_elems.get(at.item_refs[i])).is_ok()
+                let elem = defs.data_elems.get(at.item_refs[i]);
+                asm::resolver::check_final_data_element(report, step.span, elem)
             }
-            _ => true,
+            _ => continue,
         };
-        if !is_final {
+        let size = done.map_err(|()| Stopped::Reported(None))?.size;
+        // what is written has to be as long as what was laid out
+        if size != Some(step.told(defs).0) {
+            report.error_span("the encoding's size is not the one that was laid out", step.span);
             return Err(Stopped::Reported(None));
         }
     }
