@@ -47,7 +47,8 @@ rust --crate-type rlib --crate-name denkumari -L "$out" -l static=denkumari --ou
 for program in batch worked; do
     rust --extern "denkumari=$out/libdenkumari.rlib" -o "$out/${program}_rust" "bindings/rust/examples/$program.rs"
 done
-for tests in calls store overlays; do
+rust --extern "denkumari=$out/libdenkumari.rlib" -o "$out/recorder_example" bindings/rust/examples/recorder.rs
+for tests in calls store overlays recorder; do
     rust --test --extern "denkumari=$out/libdenkumari.rlib" -o "$out/${tests}_rust" "bindings/rust/tests/$tests.rs"
 done
 # the loader and the libraries that these programs want, for where they run under an emulator

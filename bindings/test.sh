@@ -117,7 +117,7 @@ fi
 started "$out/worked_rust" >"$out/answers"
 printf 'passes 1\nblock 0 10\nblock 20 10\nimage ffc002a800\n' | cmp - "$out/answers"
 echo "Rust: the worked example"
-for tests in calls store overlays; do
+for tests in calls store overlays recorder; do
     started "$out/${tests}_rust" -q >"$out/answers" || {
         cat "$out/answers"
         exit 1

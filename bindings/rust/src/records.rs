@@ -21,7 +21,7 @@ pub enum Width {
 }
 
 /// Characters in which every file of records fits that `blocks` blocks of an image of so many bytes make, of either format: with so much room the calls that
-/// write never answer 14. It is what the theorem `records-length` of crates/record_room/specs/Room.antt says of every file that is not refused 16 or 4:
+/// write never answer 14. It is what the theorem `records-length` of crates/thm_record_room/specs/Theorems/Room.antt says of every file that is not refused 16 or 4:
 /// 16 times its length is at most 47 for each byte, 225 for each block, and 496 for each 64 KiB begun and one more.
 ///
 /// ```
