@@ -189,9 +189,6 @@ module _ (load : ℕ) (given : List Piece) (kind address count high : ℕ) where
 
 -- ---- one more line
 
-pub trail-next : (format : ℕ) (text : List ℕ) (k : ℕ) → trail format text (k + 1) ≡ trail format text (suc k)
-trail-next format text k = ap (trail format text) (add-one k)
-
 module _ (load s f : ℕ) (given : List Piece) (last : Bool) (rest : ℕ → List Piece → Read) where
   pub on′ : (i : Item) → admits load given (asLine s f i) ≡ true → goOn load given last rest i ≡ later (rest (stateAfter s i) (given ++ newPieces i))
   on′ (gives a [] t) e = refl

@@ -30,12 +30,3 @@ abs-nonnegative (negsuc n) e = absurd (subst T e tt)
 pub between : (k : ℕ) (z : ℤ) → (leZ (negsuc k) z && leZ z (pos (suc k))) ≡ leb (natAbs z) (suc k)
 between k (pos n) = refl
 between k (negsuc n) = and-true (leb n k) ∙ sym (leb·suc-suc n k)
-
--- A number is its magnitude, or, below 0, the negative of it.
-pub is-magnitude : (z : ℤ) → ltZ z (pos 0) ≡ false → z ≡ pos (natAbs z)
-is-magnitude (pos n) e = refl
-is-magnitude (negsuc n) e = absurd (subst T e tt)
-
-pub is-negative : (z : ℤ) → ltZ z (pos 0) ≡ true → z ≡ negℤ (pos (natAbs z))
-is-negative (pos n) e = absurd (omega (arith, ltb-true n 0 e))
-is-negative (negsuc n) e = refl

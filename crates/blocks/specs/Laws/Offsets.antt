@@ -17,8 +17,5 @@ word-of-offset word = go (eqb word noOffset) refl
     go true e = sym (eqb-true word noOffset e)
     go false e = refl
 
-pub none-of-word : offsetOf (wordOf None) ≡ None
-none-of-word = refl
-
 pub at-of-word : (o : ℕ) → o < noOffset → offsetOf (wordOf (At o)) ≡ At o
 at-of-word o h = rw (ne-eqb o noOffset (λ e. omega arith))

@@ -50,10 +50,6 @@ pub passed : (b : Bool) (r : Refusal) (v : Verdict) → pick b (Refused r) v ≡
 passed true r v e = absurd (refused-accepted e)
 passed false r v e = (refl, e)
 
-or-neither : (a b : Bool) → (a || b) ≡ false → (a ≡ false) × (b ≡ false)
-or-neither true b e = absurd (mathlib.Core.Bool.true≢false e)
-or-neither false b e = (refl, e)
-
 pub or-second : (a b : Bool) → b ≡ true → (a || b) ≡ true
 or-second true b e = refl
 or-second false b e = e

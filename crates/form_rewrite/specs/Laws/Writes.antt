@@ -31,9 +31,6 @@ writes-then {a} {b} {old} {mid} {new} {at} {m} {end} p q =
       buffer = q .buffer ∙ ap (λ (l : List ℕ). sets l m b) (p .buffer) ∙ ap (λ (k : ℕ). sets (sets old at a) k b) (p .place) ∙ sym (sets-append old at a b);
     }
 
-pub writes-none : {old : List ℕ} {at : ℕ} → Writes [] old at at old
-writes-none {old} {at} = record { place = omega arith; buffer = refl }
-
 -- The buffer keeps its length.
 pub writes-long : {bytes old new : List ℕ} {at end : ℕ} → Writes bytes old at end new → length new ≡ length old
 writes-long {bytes} {old} {new} {at} p = ap length (p .buffer) ∙ length-sets old at bytes

@@ -112,9 +112,6 @@ module _ (n a : ℕ) (h : 0 < a) where
     least = nearest;
   }
 
-positive : (a : ℕ) → eqb a 0 ≡ false → 0 < a
-positive a e = omega (arith, eqb-false a 0 e)
-
 pub nonzero : (a : ℕ) → 0 < a → eqb a 0 ≡ false
 nonzero a h = ne-eqb a 0 (λ e. omega arith)
 

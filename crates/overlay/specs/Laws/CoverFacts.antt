@@ -33,9 +33,6 @@ unfolding every
 every-from zero test h = refl
 every-from (suc n) test h = rw (every-from n test (λ i l. h i (omega arith)), h n (omega arith))
 
-pub every-fails : (n : ℕ) (test : ℕ → Bool) (i : ℕ) → i < n → test i ≡ false → every n test ≡ false
-every-fails n test i h e = either (every n test) (λ t. absurd (clash (every-holds n test t i h) e)) (λ t. t)
-
 -- A bit by the blocks.
 pub covered-by : (os ss : List ℕ) (i k : ℕ) → i < length os → length os ≡ length ss
     → getD os i 0 ≤ k → k < getD os i 0 + getD ss i 0 → coveredBit os ss k ≡ true

@@ -74,7 +74,3 @@ puts-rest a b {old} {mid} {part} {n} {m} {from} p e q =
 -- The part keeps its length.
 pub puts-long : {text old new : List ℕ} {n : ℕ} → Puts text old n new → length new ≡ length old
 puts-long {text} {old} p = ap length (p .part) ∙ length-sets old 0 text
-
--- One length, and one part.
-pub one-put : {text old a b : List ℕ} {m n : ℕ} → Puts text old m a → Puts text old n b → (m ≡ n) × (a ≡ b)
-one-put p q = (determined (p .long) (q .long), determined (p .part) (q .part))

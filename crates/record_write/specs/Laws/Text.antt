@@ -12,8 +12,3 @@ lines-append format state [] b = refl
 lines-append format state (p ∷ a) b =
     ap (λ (l : List ℕ). textBy format state p ++ l) (lines-append format (afterBy format state p) a b)
     ∙ rw append-assoc
-
-pub state-append : (format state : ℕ) (a b : List Piece) → stateFrom format state (a ++ b) ≡ stateFrom format (stateFrom format state a) b
-unfolding stateFrom
-state-append format state [] b = refl
-state-append format state (p ∷ a) b = state-append format (afterBy format state p) a b

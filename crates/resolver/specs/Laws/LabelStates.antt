@@ -16,9 +16,6 @@ use Rattle.resolver.specs.Theorems.Labels.{same-address, address-same}
 use Rattle.resolver.specs.Once.{sameAddress}
 use Rattle.resolver.specs.LabelStates.{KnownOnBoundary, SameAddress}
 
-zero-not : {k : ℕ} → _≡_ {A = ℕ} 0 (suc k) → ⊥
-zero-not e = omega arith
-
 pub settled-told : (def : Bankdef) (now : Pos) → (now .known && onBoundary def (now .position)) ≡ true → KnownOnBoundary def now
 settled-told def now e =
     let a = both (now .known) (onBoundary def (now .position)) e in (a .0, eqb-true (now .position % def .unit) 0 (a .1))
