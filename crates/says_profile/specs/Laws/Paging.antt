@@ -19,13 +19,14 @@ use Rattle.sort.specs.Laws.Sorted.{le-or-lt}
 use Rattle.build_profile.specs.Theorems.PageFacts.{pages-at}
 use Rattle.build_profile.specs.Pages.{noPages, pagesBy, pagesIn, pagesOf}
 use Rattle.says_build.specs.Build.{Given, banks}
-use Rattle.says_meets.specs.Laws.Shown.{Shown, Tells, listed}
 use Rattle.says_build.specs.Typed.{Typed}
+use Rattle.says_build.specs.Laws.First.{none-at-all}
+use Rattle.says_meets.specs.Laws.Shown.{Shown, Tells, listed}
 use Rattle.says_meets.specs.Laws.Table.{table, shown}
 use Rattle.says_profile.specs.Profile as p
 use Rattle.says_profile.specs.Profile.{BadSize, Pages, Yes}
 use Rattle.says_profile.specs.Laws.Ruled.{some-apart}
-use Rattle.says_profile.specs.Laws.Tried.{Keeps, none-so}
+use Rattle.says_profile.specs.Laws.Tried.{Keeps}
 
 -- a bank of the table, by its record
 module _ (g : Given) (page b : ℕ) (there : b < banks g) (def : Bankdef) (t : Tells g b def) (sized : BadSize g page b → ⊥) where
@@ -60,7 +61,7 @@ module _ (g : Given) (typed : Typed g) (page : ℕ) (c : Checked (table g) (list
     in-table there =
         let def = bankRecord (table g) b in
         by-record g page b there def (is .tells b (omega (arith, is .count)))
-        (λ bad. none-so (λ b. (b < banks g) × BadSize g page b) (k .sizes) b (there, bad))
+        (λ bad. none-at-all (λ b. (b < banks g) × BadSize g page b) (k .sizes) b (there, bad))
         (def .offset) (def .size) refl refl
 
   pub says-yes : Keeps g page → Yes g page (record { refusal = 0; place = 0; second = 0; pages = pagesOf page (table g) })

@@ -30,8 +30,8 @@ use Rattle.says.specs.Words.{Tries, refused, passed, First}
 use Rattle.says_build.specs.Build as says
 use Rattle.says_build.specs.Build.{Given, Not, banks, unit, nodes, kind, operand, BadNode, In}
 use Rattle.says_build.specs.Laws.One.{in-one, number-one}
-use Rattle.says_meets.specs.Laws.Shown.{Shown, Tells, listed, number-is}
 use Rattle.says_build.specs.Typed.{Typed}
+use Rattle.says_meets.specs.Laws.Shown.{Shown, Tells, listed, number-is}
 use Rattle.says_meets.specs.Laws.Table.{table, shown}
 use Rattle.says_profile.specs.Profile as p
 use Rattle.says_profile.specs.Profile.{OneBit, Whole, FirstNode, BadLabel, BadAlign, BadOffset, BadSize, BadUnit, BadAddr, Rules}

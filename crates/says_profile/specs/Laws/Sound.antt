@@ -1,85 +1,82 @@
--- Where the library's checks of the table and of the lists accept, none of refusals 1 to 4 of the sentences is met.
-use mathlib.Core.Path.{_≡_, ap, _∙_}
-use mathlib.Core.Bool.{true}
-use Prim.Native.Nat.{ℕ, _<_}
+-- Where the library's checks of the table and of the lists accept, none of refusals 1 to 4 of the sentences is met: an ordinary build has then run a pass,
+-- and by its sentences one that is refused 1 to 4 has run none.
+use mathlib.Core.Path.{_≡_, refl, _∙_}
+use mathlib.Core.List.{List, []}
+use Prim.Native.Nat.{ℕ, _≤_, _<_}
 use native.Mathlib.Omega.{arith}
-use Rattle.refusal.specs.Laws.Bools.{clash}
-use Rattle.refusal.specs.declared.Verdict.{Verdict}
 use Rattle.refusal.specs.declared.Verdict.the-variants.{Accepted}
-use Rattle.bankdef.specs.Check.{banksOf, countSound}
-use Rattle.bankdef.specs.Numbers.{faultAt}
-use Rattle.bankdef.specs.Theorems.Numbers.{fault-exactly}
-use Rattle.bankdef.specs.Pairs.{OverlapAt}
-use Rattle.bankdef.specs.Refused as by
-use Rattle.bankdef.specs.Refused.{Decided, NoFault}
-use Rattle.bankdef.specs.Theorems.Refused.{decided}
-use Rattle.lists.specs.FaultExactly as faults
-use Rattle.lists.specs.Theorems.FaultExactly as faults-theorems
-use Rattle.lists.specs.FaultExactly.{FaultAt}
-use Rattle.lists.specs.Theorems.Sound.{accepted-node, accepted-lists}
-use Rattle.lists.specs.Sound.{SoundLists}
-use Rattle.resolver.specs.Layout.{Checked}
-use Rattle.says_build.specs.Build as says
-use Rattle.says_build.specs.Build.{Given, banks, nodes, BadBank, BadField, BadNode}
-use Rattle.says_build.specs.Laws.One.{number-one}
-use Rattle.says_meets.specs.Laws.Shown.{listed, number-is, state-is}
+use Rattle.bankdef.specs.Check.{checkOf}
+use Rattle.bankdef.specs.declared.Bankdefs.{Bankdefs}
+use Rattle.lists.specs.Lists.{Lists, listsOf}
+use Rattle.output.proofs.SettledLaws.{contract}
+use Rattle.output.specs.Output as out
+use Rattle.output.specs.Output.{Input, roomOf, buildOf, passesOf}
+use Rattle.output.specs.declared.Build.{Build}
+use Rattle.output.specs.declared.Build.the-variants.{Done, Refused}
+use Rattle.output.specs.declared.Output.{Output}
+use Rattle.build_paged.specs.InProfile.{leaves}
+use Rattle.resolver.specs.Layout.{Checked, layoutOf}
+use Rattle.resolver.specs.Passes.{passAt, resolutionOf}
+use Rattle.resolver.specs.Theorems.Run.{passes-bounded}
+use Rattle.resolver.specs.declared.Choices.{Choices}
+use Rattle.c_tables.specs.Tables.{choicesBy}
+use Rattle.c_answers.specs.Told.{buildTold, layoutTold}
+use Rattle.denkumari.specs.Tables.{TablesTold}
+use Rattle.says_build.specs.Build.{Given, Lent, Outcome, nodes, BadNode, refusal}
+use Rattle.says_build.specs.Laws.First.{none-at-all}
 use Rattle.says_build.specs.Typed.{Typed}
-use Rattle.says_meets.specs.Laws.Table.{table, recordOf, no-banks-only, as-many, long, record-of, faulty-of, overlap-at}
-use Rattle.says_profile.specs.Laws.Tried.{Clear}
+use Rattle.says_meets.specs.Laws.Contract.{lentSo, inputOf}
+use Rattle.says_meets.specs.Laws.Shown.{listed}
+use Rattle.says_meets.specs.Laws.Table.{table}
+use Rattle.says_meets.specs.Theorems.Meets.{lentOf, build-meets}
+use Rattle.says_profile.specs.Laws.Tried.{Clear, checks-clear}
 
-module _ (g : Given) (typed : Typed g) (c : Checked (table g) (listed g) (g .fill)) where
-  record SoundTable : Type 0 where
-    count : countSound (table g .len) ≡ true
-    fine : NoFault (banksOf (table g))
-    apart : (i j : ℕ) → OverlapAt (banksOf (table g)) i j → ⊥
+-- a layout that passes its checks comes to what its passes come to
+checked-passes : (banks : Bankdefs) (l : Lists) (choices : Choices) → checkOf banks ≡ Accepted → listsOf (banks .len) l (choices .fill) ≡ Accepted
+    → layoutOf banks l choices .passes ≡ resolutionOf banks l (choices .limit) .passes
+unfolding layoutOf
+checked-passes banks l choices e f = rw (e, f)
 
-  sound-by : {v : Verdict} → Decided (table g) v → v ≡ Accepted → SoundTable
-  sound-by (by.count e) q = absurd (let z : _≡_ {A = ℕ} 0 1 = cc in omega arith)
-  sound-by (by.number e f) q = absurd (let z : _≡_ {A = ℕ} 0 1 = cc in omega arith)
-  sound-by (by.pair e n f) q = absurd (let z : _≡_ {A = ℕ} 0 1 = cc in omega arith)
-  sound-by (by.sound e n f) q = record { count = e; fine = n; apart = f }
+-- nothing lent
+abbrev pub nothing : Lent
+nothing = record { image = []; addresses = []; offsets = []; sizes = [] }
 
-  sound : SoundTable
-  sound = sound-by (decided (table g)) (c .table)
+module _ (g : Given) (typed : Typed g) where
+  abbrev b : Input
+  b = inputOf g typed
 
-  many : table g .len ≡ banks g
-  many = as-many g (sound .count)
-
-  lists-sound : SoundLists (table g .len) (listed g) (g .fill)
-  lists-sound = accepted-lists (table g .len) (listed g) (g .fill) (c .lists)
-
-  pub no-bank-bad : (b : ℕ) → b < banks g → BadBank g b → ⊥
-  no-bank-bad b h bad =
-      let is = record-of g (sound .count) b (omega (arith, many)) in
-      sound .fine b (omega (arith, long g (sound .count))) (ap (faultAt b) is ∙ fault-exactly b (recordOf g b) .1 (faulty-of g b typed bad))
-
-  no-field-bad : (f : ℕ) → BadField g f → ⊥
-  no-field-bad f (says.nodes-many h) = omega (arith, lists-sound .few)
-  no-field-bad f (says.operands-differ h) = h (lists-sound .operands)
-  no-field-bad f (says.no-rows h) = omega (arith, lists-sound .rows .some)
-  no-field-bad f (says.rows-many h) = omega (arith, lists-sound .rows .few)
-  no-field-bad f (says.numbers-differ h) = h (lists-sound .rows .numbered)
-  no-field-bad f (says.states-differ h) = h (lists-sound .rows .stated)
-  no-field-bad f (says.limit-past h) = omega (arith, typed .limit)
-  no-field-bad f (says.fill-unknown h) = omega (arith, lists-sound .choice)
-
-  fault-of : (i : ℕ) → i < nodes g → BadNode g i → FaultAt (table g .len) (listed g) i
-  fault-of i h (says.kind-past k) = faults.otherKind k
-  fault-of i h (says.no-bank k o) = faults.otherBank k (omega (arith, many))
-  fault-of i h (says.state-past {r = r} rn k s) = faults.otherState r rn k (let e = state-is g (table g) r i h in omega arith)
-  fault-of i h (says.value-past {r = r} rn w n s) =
-      faults.pastValues r rn (w .0) (w .1) (let e = number-one g n (number-is g (table g) r i h) in omega arith)
-
-  pub no-node-bad : (i : ℕ) → i < nodes g → BadNode g i → ⊥
-  no-node-bad i h bad =
-      clash (faults-theorems.fault-exactly (table g .len) (listed g) i .1 (fault-of i h bad))
-      (accepted-node (table g .len) (listed g) (nodes g) (lists-sound .nodes) i h)
-
-  pub clear : Clear g
-  clear = record {
-    counted = λ x n. no-banks-only g (sound .count) n;
-    banked = λ b f. no-bank-bad b (f .so .0) (f .so .1);
-    apart = λ w f. sound .apart (w .0) (w .1) (overlap-at g (sound .count) (w .0) (w .1) (f .so));
-    fielded = λ k f. no-field-bad k (f .so);
-    noded = λ i f. no-node-bad i (f .so .0) (f .so .1);
+  -- The contract of `dk_build` holds of what the definitions say.
+  pub by-definition : (old : out.Lent) → TablesTold b old (layoutTold (buildOf b (roomOf old))) (leaves b old (buildOf b (roomOf old)))
+  unfolding buildOf
+  by-definition old = record {
+    answer = refl;
+    built = contract b (layoutOf (b .banks) (b .lists) (b .choices)) refl old (leaves b old (buildOf b (roomOf old))) (buildOf b (roomOf old)) refl refl;
   }
+
+  told-passes : (x : Build) (n : ℕ) (sums : List ℕ) → buildTold x n sums .passes ≡ n
+  told-passes (Done k length spans) n sums = refl
+  told-passes (Refused why) n sums = refl
+
+  abbrev built : Output
+  built = buildOf b (roomOf (lentOf nothing))
+
+  built-passes : built .passes ≡ passesOf b
+  unfolding buildOf
+  built-passes = refl
+
+  module _ (c : Checked (table g) (listed g) (g .fill)) where
+    ran : 1 ≤ layoutTold built .passes
+    ran =
+        let n = told-passes (built .build) (built .passes) (built .padding) ∙ built-passes
+        ∙ checked-passes (table g) (listed g) (choicesBy (g .limit) (g .fill) (g .closed)) (c .table) (c .lists) in
+        omega (arith, n, passes-bounded (passAt (table g) (listed g)) (g .limit) .0)
+
+    pub clear : Clear g
+    clear =
+        checks-clear g (λ number place second. refusal g nothing number place second 0) _ (λ (y : Outcome). 1 ≤ y .answer .passes)
+        (λ number place second h. omega arith)
+        (record { answer = layoutTold built; lent = lentSo (leaves b (lentOf nothing) built) }) ran
+        (build-meets g typed nothing (layoutTold built) (lentSo (leaves b (lentOf nothing) built)) (by-definition (lentOf nothing)))
+
+    pub no-node-bad : (i : ℕ) → i < nodes g → BadNode g i → ⊥
+    no-node-bad i h bad = none-at-all (λ i. (i < nodes g) × BadNode g i) (clear .noded) i (h, bad)

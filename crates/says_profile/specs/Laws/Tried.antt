@@ -1,10 +1,7 @@
 -- Refusals 1 to 4, and the rules, as tries one after another: that they leave one outcome where what comes then does, what stands behind a passed try, and
 -- the same tries told as another outcome.
 use mathlib.Core.Path.{_≡_, refl, sym, ap, subst}
-use mathlib.Core.Logic.{inl, inr, ⊎-elim}
-use Prim.Native.Nat.{ℕ, zero, suc, _≤_, _<_}
-use native.Mathlib.Omega.{arith}
-use Rattle.sort.specs.Laws.Sorted.{le-or-lt}
+use Prim.Native.Nat.{ℕ, _<_}
 use Rattle.says.specs.Words.{OneOnly, Tries, refused, passed, First, first-one, FirstPair, first-pair-one}
 use Rattle.says_build.specs.Build.{Given, Not, banks, NoBanks, BadBank, Overlap, nodes, BadField, BadNode}
 use Rattle.says_profile.specs.Profile.{OneBit, FirstBank, FirstNode, Checks, BadLabel, BadAlign, BadOffset, BadSize, BadUnit, BadAddr, Rules}
@@ -23,39 +20,6 @@ lowest-then : {Y : Type 0} (So : ℕ → Type 0) (refusal : ℕ → Y) (Then : Y
     → OneOnly (Tries (First So) refusal Then)
 lowest-then So refusal Then rest = tries-then (First So) refusal Then (λ i j f h. ap refusal (first-one So i j f h)) rest
 
--- Where no number is the lowest that is so, none is so.
-module _ (So : ℕ → Type 0) (none : (i : ℕ) → First So i → ⊥) where
-  none-to : (n i : ℕ) → i < n → So i → ⊥
-  none-to zero i h s = omega arith
-  none-to (suc n) i h s =
-      none i (record { so = s; none-below = λ k x. ⊎-elim (λ le. le) (λ lt. absurd (none-to n k (omega arith) x)) (le-or-lt i k) })
-
-  pub none-so : (i : ℕ) → So i → ⊥
-  none-so i s = none-to (suc i) i (omega arith) s
-
--- Where no pair is the first that is so, none is so.
-module _ (So : ℕ → ℕ → Type 0) (none : (i j : ℕ) → FirstPair So i j → ⊥) where
-  pair-to : (n i : ℕ) → ((c d : ℕ) → c < i → So c d → ⊥) → (j : ℕ) → j < n → So i j → ⊥
-  pair-to zero i before j h s = omega arith
-  pair-to (suc n) i before j h s =
-      let here : (c d : ℕ) → c ≡ i → So c d → j ≤ d =
-      λ c d e x. ⊎-elim (λ le. le) (λ lt. absurd (pair-to n i before d (omega arith) (rw e at x))) (le-or-lt j d) in
-      none i j (record {
-        so = s;
-        none-before = λ c d x.
-            ⊎-elim
-            (λ le. ⊎-elim (λ ge. inr (omega arith, here c d (omega arith) x)) (λ lt. inl lt) (le-or-lt c i))
-            (λ lt. absurd (before c d lt x))
-            (le-or-lt i c);
-      })
-
-  pairs-to : (n i : ℕ) → i < n → (j : ℕ) → So i j → ⊥
-  pairs-to zero i h j s = omega arith
-  pairs-to (suc n) i h j s = pair-to (suc j) i (λ c d lt x. pairs-to n c (omega arith) d x) j (omega arith) s
-
-  pub none-pair : (i j : ℕ) → So i j → ⊥
-  none-pair i j s = pairs-to (suc i) i (omega arith) j s
-
 -- Tries told as another outcome: what was met is met.
 pub tries-map : {X Y Z : Type 0} {Met : X → Type 0} {old : X → Y} {new : X → Z} {Then : Y → Type 0} {After : Z → Type 0} (f : Y → Z)
     → ((x : X) → f (old x) ≡ new x) → (y : Y) → (((x : X) → Met x → ⊥) → Then y → After (f y)) → Tries Met old Then y → Tries Met new After (f y)
@@ -67,6 +31,12 @@ pub tries-all : {X Y : Type 0} {Met : X → Type 0} {refusal : X → Y} {Then : 
     → (Then y → So y) → Tries Met refusal Then y → So y
 tries-all So each y then (refused x m) = each x
 tries-all So each y then (passed none t) = then t
+
+-- Where the outcome is no such refusal, nothing meets it, and what comes then is so.
+try-none : {X Y : Type 0} {Met : X → Type 0} {refusal : X → Y} {Then : Y → Type 0} (So : Y → Type 0) → ((x : X) → So (refusal x) → ⊥) → (y : Y) → So y
+    → Tries Met refusal Then y → ((x : X) → Met x → ⊥) × Then y
+try-none So never y s (refused x m) = absurd (never x s)
+try-none So never y s (passed none t) = (none, t)
 
 -- Where nothing meets the refusal, what comes then is so.
 went : {X Y : Type 0} {Met : X → Type 0} {refusal : X → Y} {Then : Y → Type 0} → ((x : X) → Met x → ⊥) → (y : Y) → Tries Met refusal Then y → Then y
@@ -99,6 +69,17 @@ module _ (g : Given) where
         lowest-then (BadField g) (λ f. refusal 4 f 0) _ (λ n4.
         lowest-then (λ i. (i < nodes g) × BadNode g i) (λ i. refusal 4 i 0) _ (λ n5.
         rest (record { counted = n1; banked = n2; apart = n3; fielded = n4; noded = n5 }))))))
+
+    -- What holds of no refusal 1 to 4 and of the outcome tells that none is met.
+    pub checks-clear : (So : Y → Type 0) → ((number place second : ℕ) → So (refusal number place second) → ⊥) → (y : Y) → So y → Checks g refusal Then y
+        → Clear
+    checks-clear So never y s t =
+        let a = try-none So (λ x. never 1 0 0) y s t in
+        let b = try-none So (λ b. never 2 b 0) y s (a .1) in
+        let c = try-none So (λ w. never 3 (w .0) (w .1)) y s (b .1) in
+        let d = try-none So (λ f. never 4 f 0) y s (c .1) in
+        let e = try-none So (λ i. never 4 i 0) y s (d .1) in
+        record { counted = a .0; banked = b .0; apart = c .0; fielded = d .0; noded = e .0 }
 
     pub checks-map : {Z : Type 0} {told : (number place second : ℕ) → Z} {After : Z → Type 0} (f : Y → Z)
         → ((number place second : ℕ) → f (refusal number place second) ≡ told number place second) → (y : Y) → (Clear → Then y → After (f y))

@@ -19,8 +19,8 @@ use Rattle.c_answers.specs.Told as told
 use Rattle.says.specs.Words as w
 use Rattle.says_build.specs.Build as b
 use Rattle.says_build.specs.Build.{Given, Lent, Outcome, Last, Accepts, Built, Laid, BuildSays, refusal}
-use Rattle.says_meets.specs.Laws.Shown.{listed}
 use Rattle.says_build.specs.Typed.{Typed}
+use Rattle.says_meets.specs.Laws.Shown.{listed}
 use Rattle.says_meets.specs.Laws.Table.{table}
 use Rattle.says_meets.specs.Laws.Checks.{answered, layout-meets}
 use Rattle.says_profile.specs.Profile.{Checks, Rules}

@@ -14,12 +14,13 @@ use Rattle.build_profile.specs.Theorems.OneBit.{one-bit-power}
 use Rattle.build_profile.specs.Rules.{multiple}
 use Rattle.says.specs.Words.{Tries, refused, passed}
 use Rattle.says_build.specs.Build.{Given, Not, banks, unit, flag, Size, Offset, nodes, BadBank, Overlap, BadField, BadNode}
+use Rattle.says_build.specs.Laws.First.{none-at-all, no-pair-at-all}
 use Rattle.says_profile.specs.Profile as p
 use Rattle.says_profile.specs.Profile.{OneBit, Whole, FirstBank, FirstNode, Checks, Rules, BadLabel, BadAlign, BadOffset, BadSize, BadUnit, BadAddr}
 use Rattle.says_profile.specs.Ticket9 as t
 use Rattle.says_profile.specs.Ticket9.{Sound, Holds, Breaks, Names}
 use Rattle.says_profile.specs.Laws.Ruled.{not-one, whole-when, not-whole}
-use Rattle.says_profile.specs.Laws.Tried.{Clear, Keeps, none-so, none-pair}
+use Rattle.says_profile.specs.Laws.Tried.{Clear, Keeps}
 
 -- one try
 try-way : {X Y : Type 0} {Met : X → Type 0} {refusal : X → Y} {Then : Y → Type 0} (So : Y → Type 0) (y : Y) → ((x : X) → Met x → So (refusal x))
@@ -58,10 +59,10 @@ module _ (g : Given) where
   pub clear-sound : Clear g → Sound g
   clear-sound c = record {
     counted = λ n. c .counted tt n;
-    banked = λ b h bad. none-so (λ b. (b < banks g) × BadBank g b) (c .banked) b (h, bad);
-    apart = none-pair (Overlap g) (λ i j f. c .apart (i, j) f);
-    fielded = none-so (BadField g) (c .fielded);
-    noded = λ i h bad. none-so (λ i. (i < nodes g) × BadNode g i) (c .noded) i (h, bad);
+    banked = λ b h bad. none-at-all (λ b. (b < banks g) × BadBank g b) (c .banked) b (h, bad);
+    apart = no-pair-at-all (Overlap g) (λ i j f. c .apart (i, j) f);
+    fielded = none-at-all (BadField g) (c .fielded);
+    noded = λ i h bad. none-at-all (λ i. (i < nodes g) × BadNode g i) (c .noded) i (h, bad);
   }
 
   module _ (page : ℕ) where
@@ -69,22 +70,22 @@ module _ (g : Given) where
 
     module _ (k : Keeps g page) where
       no-label : (b : ℕ) → b < banks g → Not (BadLabel g b)
-      no-label b h bad = none-so (λ b. (b < banks g) × BadLabel g b) (k .labels) b (h, bad)
+      no-label b h bad = none-at-all (λ b. (b < banks g) × BadLabel g b) (k .labels) b (h, bad)
 
       no-align : (i : ℕ) → i < nodes g → Not (BadAlign g i)
-      no-align i h bad = none-so (λ i. (i < nodes g) × BadAlign g i) (k .aligns) i (h, bad)
+      no-align i h bad = none-at-all (λ i. (i < nodes g) × BadAlign g i) (k .aligns) i (h, bad)
 
       no-offset : (b : ℕ) → b < banks g → Not (BadOffset g page b)
-      no-offset b h bad = none-so (λ b. (b < banks g) × BadOffset g page b) (k .offsets) b (h, bad)
+      no-offset b h bad = none-at-all (λ b. (b < banks g) × BadOffset g page b) (k .offsets) b (h, bad)
 
       no-size : (b : ℕ) → b < banks g → Not (BadSize g page b)
-      no-size b h bad = none-so (λ b. (b < banks g) × BadSize g page b) (k .sizes) b (h, bad)
+      no-size b h bad = none-at-all (λ b. (b < banks g) × BadSize g page b) (k .sizes) b (h, bad)
 
       no-unit : (b : ℕ) → b < banks g → Not (BadUnit g b)
-      no-unit b h bad = none-so (λ b. (b < banks g) × BadUnit g b) (k .units) b (h, bad)
+      no-unit b h bad = none-at-all (λ b. (b < banks g) × BadUnit g b) (k .units) b (h, bad)
 
       no-addr : (i : ℕ) → i < nodes g → Not (BadAddr g i)
-      no-addr i h bad = none-so (λ i. (i < nodes g) × BadAddr g i) (k .addrs) i (h, bad)
+      no-addr i h bad = none-at-all (λ i. (i < nodes g) × BadAddr g i) (k .addrs) i (h, bad)
 
       has-size : (b o : ℕ) → b < banks g → Offset g b o → (m : ℕ) × Size g b m × Whole page m
       has-size b o h at =
@@ -186,8 +187,8 @@ module _ (g : Given) where
         three : Below 3
         three = record {
           first = λ h. paged tt;
-          labels = λ h b lt bad. none-so (λ b. (b < banks g) × BadLabel g b) n2 b (lt, bad);
-          aligns = λ h i lt bad. none-so (λ i. (i < nodes g) × BadAlign g i) n3 i (lt, bad);
+          labels = λ h b lt bad. none-at-all (λ b. (b < banks g) × BadLabel g b) n2 b (lt, bad);
+          aligns = λ h i lt bad. none-at-all (λ i. (i < nodes g) × BadAlign g i) n3 i (lt, bad);
           offsets = beyond 3 3 (omega arith);
           sizes = beyond 3 4 (omega arith);
           units = beyond 3 5 (omega arith);
@@ -199,7 +200,7 @@ module _ (g : Given) where
             first = λ h. paged tt;
             labels = λ h. three .labels (omega arith);
             aligns = λ h. three .aligns (omega arith);
-            offsets = λ h b lt bad. none-so (λ b. (b < banks g) × BadOffset g page b) n4 b (lt, bad);
+            offsets = λ h b lt bad. none-at-all (λ b. (b < banks g) × BadOffset g page b) n4 b (lt, bad);
             sizes = beyond 4 4 (omega arith);
             units = beyond 4 5 (omega arith);
           }
@@ -211,7 +212,7 @@ module _ (g : Given) where
               labels = λ h. three .labels (omega arith);
               aligns = λ h. three .aligns (omega arith);
               offsets = λ h. four .offsets (omega arith);
-              sizes = λ h b lt bad. none-so (λ b. (b < banks g) × BadSize g page b) n5 b (lt, bad);
+              sizes = λ h b lt bad. none-at-all (λ b. (b < banks g) × BadSize g page b) n5 b (lt, bad);
               units = beyond 5 5 (omega arith);
             }
 
@@ -222,7 +223,7 @@ module _ (g : Given) where
               aligns = λ h. three .aligns (omega arith);
               offsets = λ h. four .offsets (omega arith);
               sizes = λ h. five .sizes (omega arith);
-              units = λ h b lt bad. none-so (λ b. (b < banks g) × BadUnit g b) n6 b (lt, bad);
+              units = λ h b lt bad. none-at-all (λ b. (b < banks g) × BadUnit g b) n6 b (lt, bad);
             }
 
     names : {k at : ℕ} → k ≤ 6 → Breaks g page k at → Below k → Names g page k at

@@ -23,8 +23,8 @@ use Rattle.c_tables.specs.Tables.{bankIn, countOf}
 use Rattle.c_answers.specs.Told.{profileTold}
 use Rattle.c_answers.specs.declared.DkProfile.{DkProfile}
 use Rattle.says_build.specs.Build.{Given}
-use Rattle.says_meets.specs.Laws.Shown.{listed}
 use Rattle.says_build.specs.Typed.{Typed}
+use Rattle.says_meets.specs.Laws.Shown.{listed}
 use Rattle.says_meets.specs.Laws.Table.{table}
 use Rattle.says_profile.specs.Profile.{ProfileSays}
 use Rattle.says_profile.specs.Theorems.Meets.{profile-meets}
