@@ -3,7 +3,9 @@
 use mathlib.Core.Path.{_≡_, refl, sym, ap, subst, _∙_}
 use mathlib.Core.Bool.{Bool, true, false}
 use mathlib.Core.Logic.{_⊎_, inl, inr, ⊎-elim}
-use Prim.Native.Nat.{ℕ, zero, suc, _+_, _*_, _≤_, _<_}
+use mathlib.Core.List.{List}
+use Prim.Native.Nat.{ℕ, _+_, _-_, _/_, _%_, _^_, _≤_, _<_}
+use lib.ListN.{getD}
 use native.Mathlib.Omega.{arith}
 use Rattle.sort.specs.Laws.Sorted.{le-or-lt}
 use Rattle.bitvec.specs.Bits.{bitAt}
@@ -14,6 +16,11 @@ use Rattle.says_build.specs.Build.{Inherited, Fill, Refuses, Sees, Numbe
 use Rattle.says_build.specs.Laws.One.{three, offer-one}
 use Rattle.says_build.specs.Laws.Largest.{fill-full}
 use Rattle.says_build.specs.Theorems.Outcomes.{AcceptedSo}
+
+-- "Bits run from the top of each byte": what `bitAt` of the sentences is.
+pub bit-at-is : (l : List ℕ) (j : ℕ) → bitAt l j ≡ getD l (j / 8) 0 / 2 ^ (7 - j % 8) % 2
+unfolding bitAt
+bit-at-is l j = refl
 
 module _ (g : Given) where
   offer-listed : {r i x m : ℕ} → Offer g r i x m → i < nodes g
