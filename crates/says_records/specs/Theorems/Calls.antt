@@ -1,4 +1,4 @@
--- The headlines of Tickets 1 and 12 over what the exported functions themselves promise: `dk_write_hex`, `dk_write_srec`, `dk_read_records`, `dk_record_fault`.
+-- The headlines of Tickets 1 and 12 over what the exported functions promise: `dk_write_hex`, `dk_write_srec`, `dk_read_records`, `dk_record_fault`.
 -- Each is its theorem over the sentences behind `meets`; an image is a list of bytes, which its type gives.
 use mathlib.Core.Path.{_≡_, ap}
 use mathlib.Core.List.{List}
@@ -29,7 +29,8 @@ use Rattle.says_records.specs.Theorems.Rewritten.{taken, read-is-written
 -- ---- what the functions promise, of an answer and of what is lent afterwards
 abbrev pub WritesHex : Given → List ℕ → DkCount → List ℕ → Type 0
 WritesHex g old r new =
-    WriteTold (answerOf (input 0 (g .image) (g .offsets) (g .sizes) (g .load)) old) (textAfter (input 0 (g .image) (g .offsets) (g .sizes) (g .load)) old) r new
+    WriteTold (answerOf (input 0 (g .image) (g .offsets) (g .sizes) (g .load)) old)
+    (textAfter (input 0 (g .image) (g .offsets) (g .sizes) (g .load)) old) r new
 
 abbrev pub WritesSrec : Given → ℕ → List ℕ → DkCount → List ℕ → Type 0
 WritesSrec g width old r new =
@@ -109,7 +110,8 @@ module _ (format load : ℕ) (text : List ℕ) (old : Lent) (r : DkCount) (new :
       (write-hex-meets (taken load (read r new)) room bytes q file d)
 
   -- and the two files read the same
-  pub hex-of-srec : q .refusal ≡ 0 → (into : Lent) (a b : DkCount) (x y : Lent) → Reads format load text into a x → Reads 0 load (take (q .count) file) into b y
+  pub hex-of-srec : q .refusal ≡ 0 → (into : Lent) (a b : DkCount) (x y : Lent) → Reads format load text into a x
+      → Reads 0 load (take (q .count) file) into b y
       → (a ≡ b) × (x ≡ y)
   hex-of-srec e into a b x y u v =
       both format load text file into a b x y

@@ -1,5 +1,6 @@
 -- "Reading back our own file gives the same bytes at the same addresses, touching blocks joined": of every file that `dk_write_hex` accepts, and of every one
--- that `dk_write_srec` accepts, once over both widths; read at the same load address into lists that are long enough. From the sentences.
+-- that `dk_write_srec` accepts, once over both widths; read at the same load address into lists that are long enough. Over the sentences; that a byte lies in
+-- a listed block goes by the runs.
 use mathlib.Core.Path.{_≡_, refl, sym, ap, _∙_, subst}
 use mathlib.Core.List.{List}
 use mathlib.Core.Logic.{_⊎_, ⊎-elim}
