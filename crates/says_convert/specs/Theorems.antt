@@ -1,4 +1,5 @@
 pub mod Decides
 pub mod Example
 pub mod Meets
+pub mod SameBuild
 pub mod Trips

@@ -66,7 +66,7 @@ module _ (from to : Kind) (turn : Contents → Contents) (drops : Contents → B
           let same = told .answer ∙ ap conversionCount e in
           e ∙ ap Converted (sym (ap (λ (x : DkCount). x .count) same))
 
-  converted : r .refusal ≡ 0 → Converts from to turn drops file old (Converted (r .count)) new
+  pub converted : r .refusal ≡ 0 → Converts from to turn drops file old (Converted (r .count)) new
   converted zero = subst (λ (a : Conversion). Converts from to turn drops file old a new) (not-refused zero) any-call
 
 -- ---- the same bytes
