@@ -1,3 +1,4 @@
+pub mod Alone
 pub mod Decides
 pub mod Example
 pub mod Meets
