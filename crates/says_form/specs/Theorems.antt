@@ -1,3 +1,4 @@
 pub mod FormDecides
 pub mod FormMeets
 pub mod Forms
+pub mod PagedBroken
