@@ -2,5 +2,6 @@ pub mod Alone
 pub mod Decides
 pub mod Example
 pub mod Meets
+pub mod OldReader
 pub mod SameBuild
 pub mod Trips
