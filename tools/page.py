@@ -29,8 +29,9 @@ import random
 import re
 import sys
 import textwrap
+import believed
+from antt import ROOT, functions_of, line_of, names_of, places, read, run
 
-ROOT = os.path.dirname(os.path.dirname(os.path.abspath(__file__)))
 PAGE = 'docs/STATEMENTS.md'
 ROWS = 'docs/statements'
 KEYS = {
@@ -47,9 +48,8 @@ UNIQUE_NAME = re.compile(r'(-unique|-ensures|-decides)$|^one-(outcome|writing|pa
 QUOTED = 2
 # the crate whose contracts are quoted, function by function
 EXPORTS = 'denkumari'
-MODIFIERS = ('pub', 'abbrev', 'unfoldable')
 LONGEST = 40
-SHORT = 12
+SHORT = 5
 
 faults = []
 
@@ -57,138 +57,6 @@ faults = []
 def fault(text):
     if text not in faults:
         faults.append(text)
-
-
-def read(path):
-    with open(os.path.join(ROOT, path), encoding='utf-8') as f:
-        return f.read()
-
-
-def indent(line):
-    return len(line) - len(line.lstrip(' '))
-
-
-def block(lines, i):
-    """The line i and those behind it that are indented deeper; blank lines and comments at the end left out."""
-    d, j, end = indent(lines[i]), i + 1, i + 1
-    while j < len(lines):
-        text = lines[j].strip()
-        if text and indent(lines[j]) <= d and not (indent(lines[j]) == d and text[0] in '})]'):
-            break
-        if text:
-            end = j + 1
-        j += 1
-    while end > i + 1 and lines[end - 1].strip().startswith('--'):
-        end -= 1
-    return lines[i:end], end
-
-
-class Declared:
-    """A name of a file: where it is declared, under which modules, its signature, and all of it."""
-
-    def __init__(self, path, line, around, signature, whole, definition):
-        self.path, self.line, self.around, self.signature, self.whole, self.definition = path, line, around, signature, whole, definition
-        self.comment = []
-
-
-def declared_in(path):
-    """The names of a file. Of two that are alike a public one counts, then one that is no field and no constructor, then the first."""
-    lines = [l.rstrip() for l in read(path).split('\n')]
-    names, around, i, last = {}, [], 0, None
-
-    def above(i):
-        """The comment right above a line, as far as it is indented alike; a heading of a file's part is none."""
-        j = i
-        while j > 0 and lines[j - 1].strip().startswith('-- ') and indent(lines[j - 1]) == indent(lines[i]) and not lines[j - 1].strip().startswith('-- ----'):
-            j -= 1
-        return lines[j:i]
-
-    def put(name, declared, public, member):
-        rank = (not public, member)
-        if name not in names or rank < names[name].rank:
-            names[name] = declared
-            declared.rank = rank
-
-    while i < len(lines):
-        text = lines[i].strip()
-        if not text or text.startswith('--'):
-            i += 1
-            continue
-        d = indent(lines[i])
-        around = [a for a in around if a[0] < d]
-        words = text.split()
-        k = 0
-        while k < len(words) and words[k] in MODIFIERS:
-            k += 1
-        first = words[k] if k < len(words) else ''
-        context = [a[1] for a in around]
-        if first == 'module':
-            head = [lines[i]]
-            while not head[-1].endswith(' where') and i + 1 < len(lines):
-                i += 1
-                head.append(lines[i])
-            around.append((d, head))
-            last = None
-            i += 1
-        elif first in ('record', 'data') and k + 1 < len(words):
-            whole, end = block(lines, i)
-            put(words[k + 1], Declared(path, i + 1, context, whole, whole, True), 'pub' in words[:k], False)
-            names[words[k + 1]].comment = names[words[k + 1]].comment or above(i)
-            head = [whole[0]]
-            n = 1
-            while not head[-1].endswith(' where') and n < len(whole):
-                head.append(whole[n])
-                n += 1
-            # fields and constructors
-            while n < len(whole):
-                member = whole[n].strip()
-                if member and not member.startswith('--'):
-                    part, _ = block(whole, n)
-                    before = member.split(' : ')[0].split()
-                    for name in before:
-                        if name not in MODIFIERS and re.fullmatch(r'[^\s(){}:=]+', name):
-                            put(name, Declared(path, i + 1 + n, context + [head], part, part, True), False, True)
-                    n += len(part)
-                else:
-                    n += 1
-            i, last = end, None
-        elif first in ('use', 'mod', '', 'unfolding'):
-            part, end = block(lines, i)
-            if first == 'unfolding' and last:
-                last.whole += part
-            i = end
-        else:
-            part, end = block(lines, i)
-            after = words[k + 1] if k + 1 < len(words) else ''
-            signed = ' : ' in text or text.endswith(' :')
-            if signed and (after == ':' or after[:1] in ('(', '{')) and not re.match(r'^[^:]* = ', ' '.join(words[k:])):
-                last = Declared(path, i + 1, context, part, list(part), any(w in ('abbrev', 'unfoldable') for w in words[:k]))
-                last.name, last.comment = first, above(i)
-                put(first, last, 'pub' in words[:k], False)
-            elif last and first == last.name:
-                last.whole += part
-            else:
-                last = last if last and any(w == last.name for w in words) else None
-                if last:
-                    last.whole += part
-            i = end
-    return names
-
-
-parsed = {}
-
-
-def names_of(path):
-    if path not in parsed:
-        parsed[path] = declared_in(path)
-    return parsed[path]
-
-
-def places(crate, file):
-    for part in ('specs', 'specs/Theorems', 'specs/Laws', 'proofs'):
-        path = f'crates/{crate}/{part}/{file}.antt'
-        if os.path.isfile(os.path.join(ROOT, path)):
-            yield path
 
 
 def find(crate, rest, where):
@@ -278,6 +146,7 @@ def laid(declarations, whole):
 
 # what the page quotes of what statements speak of, each once: name, and the first row that says `where`
 quoted_in = {}
+met = set()
 
 
 def word_name(key, d):
@@ -295,7 +164,7 @@ def spoken_of(cited, where):
             given.append(d)
             taken.add((d.path, rest.partition('.')[2]))
     for d in given:
-        around = [l for head in d.around for l in head]
+        around = [ln for head in d.around for ln in head]
         found, numbers = words(d, ' '.join(around + (d.whole if d.definition else d.signature)), taken)
         limits += [n for n in numbers if n not in limits]
         others += [(k, there) for k, there in found if is_fact(there)]
@@ -317,40 +186,6 @@ def with_links(text, where):
     """A text whose names of definitions lead to file and line."""
     return CITED.sub(lambda m: source_link(m.group(1), m.group(3), where) if m.group(2) == '/' and re.match(r'[A-Z][A-Za-z0-9]*\.', m.group(3))
                      else m.group(0), text)
-
-
-functions = {}
-
-
-def functions_of(crate):
-    """name: (path, is public, its head: the signature with requires and ensures)."""
-    if crate not in functions:
-        found = {}
-        for path in sorted(glob.glob(os.path.join(ROOT, f'crates/{crate}/src/**/*.rt'), recursive=True)):
-            lines = open(path, encoding='utf-8').read().split('\n')
-            for i, line in enumerate(lines):
-                m = re.match(r'^\s*(?:#\[[^]]*\]\s*)?(pub )?(?:extern "C" )?fn ([A-Za-z0-9_]+)', line)
-                if not m:
-                    continue
-                head = []
-                for l in lines[i:]:
-                    if l.strip() == '{':
-                        break
-                    head.append(l.rstrip())
-                    if l.rstrip().endswith('{') and '⌜' not in l and 'ensures' not in l:
-                        head[-1] = l.rstrip()[:-1].rstrip()
-                        break
-                d = indent(head[0])
-                head = [l[d:] if l[:d].strip() == '' else l for l in head if not l.strip().startswith('//')]
-                public = bool(m.group(1)) and os.path.basename(path) != 'main.rt'
-                if m.group(2) not in found or public and not found[m.group(2)][1]:
-                    found[m.group(2)] = (os.path.relpath(path, ROOT), public, head)
-        functions[crate] = found
-    return functions[crate]
-
-
-def line_of(path, name):
-    return next((n for n, l in enumerate(read(path).split('\n'), 1) if re.search(rf'\bfn {name}\b', l)), 1)
 
 
 def is_there(kind, crate, rest, where):
@@ -411,7 +246,7 @@ def quote(cited, whole, where):
 def digest(crate, rest, where):
     """Eight digits that change with a statement."""
     d = find(crate, rest, where)
-    text = '\n'.join(l for part in (d.around if d else []) for l in part) + '\n'.join(d.signature if d else [])
+    text = '\n'.join(ln for part in (d.around if d else []) for ln in part) + '\n'.join(d.signature if d else [])
     return hashlib.sha256(text.encode()).hexdigest()[:8]
 
 
@@ -440,7 +275,7 @@ def counted(text, where):
             fault(f'{where}: there is no {path}')
             return '0'
         lines = read(path).splitlines()
-        return f'{sum(1 for l in lines if not word or word in l.split(chr(9))):,}'
+        return f'{sum(1 for ln in lines if not word or word in ln.split(chr(9))):,}'
     return re.sub(r'\{lines (\S+?)(?: (\w+))?\}', count, text)
 
 
@@ -485,7 +320,7 @@ def rows():
 
 def wrapped(text, first='', rest=''):
     """A paragraph in lines of the documents' width."""
-    return textwrap.wrap(text, width=156, initial_indent=first, subsequent_indent=rest, break_long_words=False, break_on_hyphens=False)
+    return textwrap.wrap(text, width=158, initial_indent=first, subsequent_indent=rest, break_long_words=False, break_on_hyphens=False)
 
 
 def anchor(heading):
@@ -524,7 +359,7 @@ def write_row(b):
                 text = text.replace('`' + '/'.join(c) + '`', source_link(*c, b.where))
         out += wrapped(f'Theorem: {text}')
     out += quote(first, False, b.where)
-    shown = [c for c in statements(b['where']) if c not in cited]
+    shown, linked = [c for c in statements(b['where']) if c not in cited], ''
     if b['where']:
         # each is quoted once on the page, in the first row that names it; beside a theorem over sentences the definitions are linked
         said = any(c[0].startswith('says') for c in first)
@@ -536,17 +371,26 @@ def write_row(b):
                 text = text.replace(f'`{name}`', f'[`{name}`](#{quoted_in[name]})' if name in quoted_in else source_link(*c, b.where))
         for c in new:
             quoted_in['/'.join(c)] = b.name
-        out += ([] if new or out[-1] == '```' else ['']) + wrapped(f'With {text}') + quote(new, True, b.where)
+        if new:
+            out += wrapped(f'With {text}') + quote(new, True, b.where)
+        else:
+            linked = f'With {text.rstrip(".")}.'
         shown = new
     if b['contract']:
         out += contracts(b['contract'], b.where)
     foot = [f'{key.capitalize()}: {with_links(b[key], b.where) if key == "definition" else b[key]}.' for key in ('definition', 'function', 'edit') if b[key]]
     if not all(is_unique(*c) for c in cited):
-        others, limits = spoken_of(first + shown, b.where)
+        # a `meets` speaks of its contract and its sentences: the first row that names it has them
+        others, limits = spoken_of([c for c in first if not re.search(r'-meets?$', c[1]) or c not in met] + shown, b.where)
+        met.update(first)
+        if any(c[0].startswith('says') for c in first):
+            others = [(k, t) for k, t in others if t.path.startswith('crates/says')]
         if others:
             foot.insert(0, 'Words: ' + ', '.join(word_link(k, t) for k, t in others) + '.')
         if limits:
-            foot.insert(0, 'Limits: ' + ', '.join(f'`{l}`' for l in limits) + '.')
+            foot.insert(0, 'Limits: ' + ', '.join(f'`{n}`' for n in limits) + '.')
+    if linked:
+        foot.insert(0, linked)
     if foot:
         out += ([] if out[-1] == '```' else ['']) + wrapped(' '.join(foot))
     if b['note']:
@@ -555,23 +399,20 @@ def write_row(b):
 
 
 def write_function(b):
-    out, contract = [], ''
+    """A line of the table; of an exported function a paragraph with its contract."""
     crate, _, name = b.name.partition('::')
     path, _, head = functions_of(crate).get(name, ('', False, []))
-    if crate == EXPORTS:
-        out = contracts(f'`{b.name}`', b.where)
-    elif head:
-        digits = hashlib.sha256('\n'.join(head).encode()).hexdigest()[:8]
-        contract = f' [Contract](../{path}#L{line_of(path, name)}) {digits}.'
     if not b['not'] or not b['one']:
         fault(f'{b.where}: function {b.name} has not both of not and one')
     if not statements(b['one']):
         fault(f'{b.where}: function {b.name} names no theorem of its outcome')
     digits = ', '.join(digest(c, r, b.where) for c, r in statements(b['one']))
-    out = wrapped(f'**`{b.name}`** not: {b["not"].rstrip(".")}.{contract} One outcome: {b["one"]} (statement {digits})') + out + ['']
+    if crate == EXPORTS:
+        return wrapped(f'**`{b.name}`** not: {b["not"].rstrip(".")}. One outcome: {b["one"]} (statement {digits})') + contracts(f'`{b.name}`', b.where) + ['']
+    contract = hashlib.sha256('\n'.join(head).encode()).hexdigest()[:8]
     if b['note']:
-        out += [b['note'], '']
-    return out
+        fault(f'{b.where}: function {b.name}: the table has no place for a note')
+    return [f'| `{b.name}` | {cell(b["not"])} | [{contract}](../{path}#L{line_of(path, name)}) | {cell(b["one"])} ({digits}) |']
 
 
 def cell(text):
@@ -620,12 +461,17 @@ def page():
                 index[-1][2].append(b.name)
             body += write_row(b)
         elif kind == 'function':
-            close()
             c = b.name.split('::')[0]
             on_page.add(('::', c, b.name.split('::')[1]))
-            if c != crate:
-                crate = c
-                body += [f'### {c}', '']
+            wanted = None if c == EXPORTS else kind
+            if table != wanted or wanted is None:
+                close()
+                table = wanted
+                if wanted:
+                    body += ['| Function | Not | Contract | One outcome |', '|---|---|---|---|']
+                elif c != crate:
+                    body += [f'### {c}', '']
+            crate = c
             body += write_function(b)
         elif kind == 'edit':
             c, _, label = b.name.partition('!')
@@ -678,6 +524,48 @@ def page():
                 if n not in named:
                     fault(f'{os.path.relpath(path, ROOT)} cites a row that is not on the page: {n}')
     return text
+
+
+QUOTE = re.compile(r'<!-- quote ([^>]*?) -->\n(?:```\n.*?```\n)*', re.S)
+FIGURE = re.compile(r'<!-- (lines|files|edits) ?(\S*) -->[^<]*<!-- / -->')
+
+
+def filled(text, where):
+    """A document with what its marks ask for: `<!-- quote crate/File.name crate::function -->` a quote behind it, `<!-- lines NAME -->N<!-- / -->` how many
+    lines of it must be believed (`files`: in how many files), by tools/believed; `<!-- edits -->` how many edits there are."""
+    def quoted(m):
+        names = m.group(1).split()
+        for name in names:
+            if '/' not in name and '::' not in name:
+                fault(f'{where}: no name to be quoted: {name}')
+        out = quote([tuple(name.split('/', 1)) for name in names if '/' in name], False, where)
+        for name in names:
+            if '::' in name:
+                out += contracts(f'`{name}`', where)
+        return f'<!-- quote {m.group(1)} -->\n' + ''.join(line + '\n' for line in out)
+
+    def figure(m):
+        if m.group(1) == 'edits':
+            n = len(glob.glob(os.path.join(ROOT, 'crates/*/must-fail/*.edit')))
+        else:
+            n = believed.figures(m.group(2))[0 if m.group(1) == 'lines' else 2]
+        return f'<!-- {m.group(1)}{" " * bool(m.group(2))}{m.group(2)} -->{n:,}<!-- / -->'
+    return FIGURE.sub(figure, QUOTE.sub(quoted, text))
+
+
+def fill(write):
+    """Documents with marks: written anew, or a fault where they are not what the sources make."""
+    for file in sorted(glob.glob(os.path.join(ROOT, 'docs/*.md')) + [os.path.join(ROOT, 'README.md')]):
+        here = os.path.relpath(file, ROOT)
+        old = read(here)
+        if here == PAGE or '<!-- ' not in old:
+            continue
+        new = filled(old, here)
+        if new != old and write:
+            with open(file, 'w', encoding='utf-8') as f:
+                f.write(new)
+        elif new != old:
+            fault(f'{here}: a quote or a figure is not what the sources make: run tools/page and read what changed')
 
 
 TOPS = ('crates', 'docs', 'tools', 'oracle', 'bindings', 'examples', 'include', '.ci')
@@ -774,6 +662,9 @@ def draw(count):
 
 
 def main(arguments):
+    if '--help' in arguments:
+        print(__doc__)
+        return 0
     if arguments[:1] == ['--rename'] and len(arguments) == 3:
         rename(*arguments[1:])
         arguments = []
@@ -790,17 +681,20 @@ def main(arguments):
     if not arguments:
         with open(os.path.join(ROOT, PAGE), 'w', encoding='utf-8') as f:
             f.write(text)
+        fill(True)
     else:
         documents()
+        fill(False)
         if not os.path.isfile(os.path.join(ROOT, PAGE)) or read(PAGE) != text:
             fault(f'{PAGE} is not what {ROWS} and the sources make: run tools/page and read what changed')
             old = read(PAGE).split('\n') if os.path.isfile(os.path.join(ROOT, PAGE)) else []
-            changed = [l for l in difflib.unified_diff(old, text.split('\n'), lineterm='', n=0) if not l.startswith(('---', '+++', '@@'))]
-            for l in changed[:8]:
-                fault('    ' + l[:150])
+            changed = [ln for ln in difflib.unified_diff(old, text.split('\n'), lineterm='', n=0) if not ln.startswith(('---', '+++', '@@'))]
+            for ln in changed[:8]:
+                fault('    ' + ln[:150])
     for f in faults:
         print(f, file=sys.stderr)
     return 1 if faults else 0
 
 
-sys.exit(main(sys.argv[1:]))
+if __name__ == '__main__':
+    run(main, 'tools/page')
