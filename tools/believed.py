@@ -16,7 +16,7 @@ EXPORTS = 'denkumari'
 SENTENCES = {
     'dk_build': ('says_build/Build.BuildSays', 'says_meets/Meets.build-meets', 'says_build/Decides.build-decides',
                  'says_build/Typed.Typed'),
-    'dk_build_paged': ('says_profile/Paged.PagedSays', 'says_profile/Meets.paged-meets-by', 'says_profile/Decides.paged-decides',
+    'dk_build_paged': ('says_profile/Paged.PagedSays', 'says_profile/Meets.paged-meets', 'says_profile/Decides.paged-decides',
                        'says_build/Typed.Typed'),
     'dk_profile': ('says_profile/Profile.ProfileSays', 'says_profile/Meets.profile-meets', 'says_profile/Decides.profile-decides',
                    'says_build/Typed.Typed'),
