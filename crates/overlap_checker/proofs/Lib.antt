@@ -1,3 +1,1 @@
-pub mod Kept
-pub mod Shift
 pub mod Unique

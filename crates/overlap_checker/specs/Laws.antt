@@ -9,12 +9,14 @@ pub mod Faults
 pub mod Folds
 pub mod Going
 pub mod Insertion
+pub mod Kept
 pub mod Laid
 pub mod Lent
 pub mod MarkLaws
 pub mod Neighbours
 pub mod Reordered
 pub mod Rising
+pub mod Shift
 pub mod Unique
 pub mod WhatIsStored
 pub mod WhoIsNamed

@@ -20,7 +20,7 @@ use Rattle.form_rewrite.specs.Turning.{switchTo, isSwitch, namesBank, strays, z
 use Rattle.form_rewrite.specs.Turning.{lengthened, widened, alone, toForm2, shortened, narrowed, shaped, toForm1}
 use Rattle.form_rewrite.specs.Turning as turning
 use Rattle.form_rewrite.specs.Laws.Fitting.{narrowed-fits, shape-two, shape-some}
-use Rattle.form_convert.proofs.Laws.{first-within}
+use Rattle.thm_conversions.specs.Laws.ThereAndBack.{first-within}
 use Rattle.thm_conversions.specs.Theorems.RoundTrips.{widened-shaped, narrowed-back, widened-again}
 use Rattle.thm_conversions.specs.Laws.Shaped.{none-stray}
 use Rattle.says_form.specs.Files.{four, Held, Form, form-1, form-2}

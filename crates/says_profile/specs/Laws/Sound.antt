@@ -8,7 +8,6 @@ use Rattle.refusal.specs.declared.Verdict.the-variants.{Accepted}
 use Rattle.bankdef.specs.Check.{checkOf}
 use Rattle.bankdef.specs.declared.Bankdefs.{Bankdefs}
 use Rattle.lists.specs.Lists.{Lists, listsOf}
-use Rattle.output.proofs.SettledLaws.{contract}
 use Rattle.output.specs.Output as out
 use Rattle.output.specs.Output.{Input, roomOf, buildOf, passesOf}
 use Rattle.output.specs.declared.Build.{Build}
@@ -29,6 +28,7 @@ use Rattle.says_meets.specs.Laws.Contract.{lentSo, inputOf}
 use Rattle.says_meets.specs.Laws.Shown.{listed}
 use Rattle.says_meets.specs.Laws.Table.{table}
 use Rattle.says_meets.specs.Theorems.Meets.{lentOf, build-meets}
+use Rattle.says_meets.specs.Theorems.Promised.{has-outcome}
 use Rattle.says_profile.specs.Laws.Tried.{Clear, checks-clear}
 
 -- a layout that passes its checks comes to what its passes come to
@@ -48,10 +48,7 @@ module _ (g : Given) (typed : Typed g) where
   -- The contract of `dk_build` holds of what the definitions say.
   pub by-definition : (old : out.Lent) → TablesTold b old (layoutTold (buildOf b (roomOf old))) (leaves b old (buildOf b (roomOf old)))
   unfolding buildOf
-  by-definition old = record {
-    answer = refl;
-    built = contract b (layoutOf (b .banks) (b .lists) (b .choices)) refl old (leaves b old (buildOf b (roomOf old))) (buildOf b (roomOf old)) refl refl;
-  }
+  by-definition old = has-outcome g typed (lentSo old)
 
   told-passes : (x : Build) (n : ℕ) (sums : List ℕ) → buildTold x n sums .passes ≡ n
   told-passes (Done k length spans) n sums = refl

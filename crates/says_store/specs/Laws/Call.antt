@@ -39,7 +39,7 @@ use Rattle.overlap_checker.specs.Laws.Checks.{checks-passes}
 use Rattle.overlap_checker.specs.Laws.Faults.{ascending-proper}
 use Rattle.overlap_checker.specs.Laws.Going.{held-ascends, marks-rest, marks-rise}
 use Rattle.overlap_checker.specs.Theorems.WhoIsNamed.{named-as}
-use Rattle.overlap_checker.proofs.Kept.{offered-put, offered-marked}
+use Rattle.overlap_checker.specs.Laws.Kept.{offered-put, offered-marked}
 use Rattle.c_answers.specs.Stores.{inFigures}
 use Rattle.says.specs.Words.{refused, passed, First}
 use Rattle.says_store.specs.Store as w

@@ -6,8 +6,8 @@ use native.Mathlib.Omega.{arith}
 use lib.ListN.{length, getD, take, drop, List·getD-append, length-append, length-take, length-drop}
 use lib.Seq.{length-take-le, getD-take, getD-drop, getD-at, getD-append-add}
 use Rattle.overlap_checker.specs.Lent.{putIn}
-use Rattle.overlap_checker.proofs.Shift.{moved}
-use Rattle.overlap_checker.proofs.Kept.{moved-put}
+use Rattle.overlap_checker.specs.Laws.Shift.{moved}
+use Rattle.overlap_checker.specs.Laws.Kept.{moved-put}
 use Rattle.says_store.specs.Store.{Put}
 
 -- past the front of a list
