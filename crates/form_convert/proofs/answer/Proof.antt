@@ -1,4 +1,4 @@
--- `convert::answer` meets its contract: the definition's tests, one by one.
+-- `form_convert::answer` meets its contract: the definition's tests, one by one.
 use mathlib.Core.Path.{refl}
 use borrow.Author.Tests.{lt-ltb, le-ltb}
 use Rattle.form_convert.specs.Convert.{answerOf}

@@ -1,4 +1,4 @@
--- `convert::bits_clear` meets its contract. The invariant: the banks left tell.
+-- `form_convert::bits_clear` meets its contract. The invariant: the banks left tell.
 use Prim.Native.Nat.{ℕ, _+_, _-_, _*_, _≤_}
 use mathlib.Core.List.{List}
 use mathlib.Core.Path.{_≡_, sym, ap, _∙_}

@@ -1,4 +1,4 @@
--- `convert::convert1` meets its contract: the answer, and what is written where it is taken.
+-- `form_convert::convert1` meets its contract: the answer, and what is written where it is taken.
 use mathlib.Core.Path.{_≡_, sym, _∙_}
 use lib.ListN.{length}
 use native.Mathlib.Omega.{arith}

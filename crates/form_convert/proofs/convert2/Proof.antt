@@ -1,4 +1,4 @@
--- `convert::convert2` meets its contract: the answer, and what is written where it is taken.
+-- `form_convert::convert2` meets its contract: the answer, and what is written where it is taken.
 use mathlib.Core.Path.{_≡_, sym, _∙_}
 use mathlib.Core.Bool.{false}
 use lib.ListN.{length}

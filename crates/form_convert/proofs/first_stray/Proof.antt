@@ -1,4 +1,4 @@
--- `convert::first_stray` meets its contract. The invariant: none of the nodes passed is one.
+-- `form_convert::first_stray` meets its contract. The invariant: none of the nodes passed is one.
 use Prim.Native.Nat.{_+_, _-_, _*_, _≤_}
 use mathlib.Core.Path.{_≡_, sym, _∙_}
 use native.Mathlib.Omega.{arith}

@@ -1,4 +1,4 @@
--- `convert::is_bare` meets its contract: the two banks, part by part.
+-- `form_convert::is_bare` meets its contract: the two banks, part by part.
 use mathlib.Core.Bool.{true, false}
 use mathlib.Core.Path.{_≡_, refl, sym, _∙_}
 use native.Mathlib.Omega.{arith}

@@ -1,4 +1,4 @@
--- `convert::is_shape` meets its contract: the definition's five tests, one by one.
+-- `form_convert::is_shape` meets its contract: the definition's five tests, one by one.
 use Prim.Native.Nat.{_≤_}
 use mathlib.Core.Path.{sym, _∙_}
 use native.Mathlib.Omega.{arith}

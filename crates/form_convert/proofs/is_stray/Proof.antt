@@ -1,4 +1,4 @@
--- `convert::is_stray` meets its contract: the bytes of the node, one by one.
+-- `form_convert::is_stray` meets its contract: the bytes of the node, one by one.
 use Prim.Native.Nat.{_+_}
 use mathlib.Core.Path.{_∙_}
 use native.Mathlib.Omega.{arith}

@@ -1,4 +1,4 @@
--- `convert::is_zero` meets its contract. The invariant: what is left tells.
+-- `form_convert::is_zero` meets its contract. The invariant: what is left tells.
 use Prim.Native.Nat.{_-_, _≤_}
 use mathlib.Core.Path.{_≡_, refl}
 use native.Mathlib.Omega.{arith}

@@ -1,4 +1,4 @@
--- `convert::length1` meets its contract: what a bank, a node and its cells took, or a byte for each bank.
+-- `form_convert::length1` meets its contract: what a bank, a node and its cells took, or a byte for each bank.
 use mathlib.Core.Path.{sym, _∙_}
 use native.Mathlib.Omega.{arith}
 use Rattle.form_fields.specs.Kind.{is2}

@@ -1,4 +1,4 @@
--- `convert::length2` meets its contract: what one bank more, one node more and its cells take, or a byte for each bank.
+-- `form_convert::length2` meets its contract: what one bank more, one node more and its cells take, or a byte for each bank.
 use native.Mathlib.Omega.{arith}
 use Rattle.form_fields.specs.Kind.{is1}
 use Rattle.form_rewrite.specs.Laws.Sizes.{file-short, rows-few, banks-few}

@@ -1,4 +1,4 @@
--- `convert::nodes2` meets its contract: one more where there is one bank.
+-- `form_convert::nodes2` meets its contract: one more where there is one bank.
 use native.Mathlib.Omega.{arith}
 use Rattle.form_fields.specs.Kind.{is1}
 use Rattle.form_convert.proofs.There.{nodes-one, nodes-other}

@@ -1,4 +1,4 @@
--- `convert::rows_start_zero` meets its contract. The invariant: the rows left tell.
+-- `form_convert::rows_start_zero` meets its contract. The invariant: the rows left tell.
 use Prim.Native.Nat.{ℕ, _+_, _-_, _*_, _≤_}
 use mathlib.Core.List.{List}
 use mathlib.Core.Path.{_≡_, sym, ap, _∙_}

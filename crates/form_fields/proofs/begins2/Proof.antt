@@ -1,4 +1,4 @@
--- `form::begins2` meets its contract: a field of tag 16 and one byte, and that byte.
+-- `form_fields::begins2` meets its contract: a field of tag 16 and one byte, and that byte.
 use mathlib.Core.Bool.{true, false}
 use mathlib.Core.Path.{_≡_, refl, sym, _∙_}
 use borrow.Author.Needs.{needs}

@@ -1,4 +1,4 @@
--- `form::count_run` meets its contract. The invariant: what is counted and the run from here are the whole run.
+-- `form_fields::count_run` meets its contract. The invariant: what is counted and the run from here are the whole run.
 use Prim.Native.Nat.{_+_, _-_, _*_, _≤_}
 use mathlib.Core.Bool.{true}
 use mathlib.Core.Path.{_≡_, refl, sym, _∙_}

@@ -1,4 +1,4 @@
--- `form::ends_well` meets its contract: the definition's tests, one by one.
+-- `form_fields::ends_well` meets its contract: the definition's tests, one by one.
 use mathlib.Core.Path.{refl}
 use borrow.Author.Tests.{eq-eqb, ne-eqb, lt-leb, le-leb}
 use Rattle.form_fields.proofs.ends_well.Statement.{statement}

@@ -1,4 +1,4 @@
--- `form::form1` meets its contract: each number is the definition's.
+-- `form_fields::form1` meets its contract: each number is the definition's.
 use mathlib.Core.Path.{refl}
 use Rattle.form_fields.proofs.form1.Statement.{statement}
 use Rattle.form_fields.proofs.form1.Tie as tie

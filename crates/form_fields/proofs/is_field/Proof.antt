@@ -1,4 +1,4 @@
--- `form::is_field` meets its contract: the definition's three tests, one by one.
+-- `form_fields::is_field` meets its contract: the definition's three tests, one by one.
 use Prim.Native.Nat.{_+_, _≤_}
 use mathlib.Core.Bool.{true, false}
 use mathlib.Core.Path.{_≡_, refl, sym, _∙_}

@@ -1,4 +1,4 @@
--- `form::is_headed` meets its contract: a form without a head asks for none.
+-- `form_fields::is_headed` meets its contract: a form without a head asks for none.
 use mathlib.Core.Path.{refl}
 use borrow.Author.Needs.{needs}
 use borrow.Author.Tests.{eq-eqb, ne-eqb}

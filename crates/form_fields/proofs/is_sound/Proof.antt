@@ -1,4 +1,4 @@
--- `form::is_sound` meets its contract: the field is there, and its last two bytes are tested.
+-- `form_fields::is_sound` meets its contract: the field is there, and its last two bytes are tested.
 use Prim.Native.Nat.{_+_, _≤_}
 use mathlib.Core.Bool.{true, false}
 use mathlib.Core.Path.{_≡_, refl, sym, _∙_}

@@ -1,4 +1,4 @@
--- `form::is_whole` meets its contract: each return has the order of the two sums that the definition tests.
+-- `form_fields::is_whole` meets its contract: each return has the order of the two sums that the definition tests.
 use borrow.Author.Needs.{needs}
 use borrow.Author.Tests.{lt-leb}
 use native.Mathlib.Omega.{arith}

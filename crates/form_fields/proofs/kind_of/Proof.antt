@@ -1,4 +1,4 @@
--- `form::kind_of` meets its contract: the head chooses.
+-- `form_fields::kind_of` meets its contract: the head chooses.
 use mathlib.Core.Path.{sym, _∙_}
 use borrow.Author.Needs.{needs}
 use Rattle.form_fields.specs.Kind.{kindOf}

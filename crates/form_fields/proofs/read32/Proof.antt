@@ -1,4 +1,4 @@
--- `form::read32` meets its contract: the definition's sum, and it fits.
+-- `form_fields::read32` meets its contract: the definition's sum, and it fits.
 use borrow.Author.Needs.{needs}
 use native.Mathlib.Omega.{arith}
 use Rattle.form_fields.specs.Words.{word32}

@@ -1,4 +1,4 @@
--- `form::read_as` meets its contract: the runs of banks, nodes and rows, and what follows them.
+-- `form_fields::read_as` meets its contract: the runs of banks, nodes and rows, and what follows them.
 use mathlib.Core.Bool.{true, false}
 use mathlib.Core.Path.{_≡_, sym, _∙_}
 use borrow.Author.Needs.{needs}

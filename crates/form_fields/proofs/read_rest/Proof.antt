@@ -1,4 +1,4 @@
--- `form::read_rest` meets its contract: the tests behind the rows, in order.
+-- `form_fields::read_rest` meets its contract: the tests behind the rows, in order.
 use Prim.Native.Nat.{ℕ, _+_, _≤_}
 use mathlib.Core.Bool.{true, false}
 use mathlib.Core.Path.{_≡_, sym, ap, _∙_}

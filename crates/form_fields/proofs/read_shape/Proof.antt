@@ -1,4 +1,4 @@
--- `form::read_shape` meets its contract: a file is read as its own form.
+-- `form_fields::read_shape` meets its contract: a file is read as its own form.
 use mathlib.Core.Path.{sym, ap, subst, _∙_}
 use borrow.Author.Needs.{needs}
 use Rattle.form_fields.specs.declared.Kind.{Kind}

@@ -1,4 +1,4 @@
--- `convert_write::write1` meets its contract: the shape, or any other file.
+-- `form_rewrite::write1` meets its contract: the shape, or any other file.
 use Prim.Native.Nat.{_≤_}
 use mathlib.Core.Path.{sym, _∙_, subst}
 use lib.ListN.{length}

@@ -1,4 +1,4 @@
--- `convert_write::write2` meets its contract: one bank, or any other number.
+-- `form_rewrite::write2` meets its contract: one bank, or any other number.
 use Prim.Native.Nat.{_≤_}
 use mathlib.Core.Path.{sym, subst}
 use lib.ListN.{length}

@@ -1,4 +1,4 @@
--- `convert_write::write_bytes` meets its contract. The invariant: the first i bytes of the word stand in the buffer.
+-- `form_rewrite::write_bytes` meets its contract. The invariant: the first i bytes of the word stand in the buffer.
 use Prim.Native.Nat.{_-_, _≤_}
 use mathlib.Core.Path.{_≡_, refl, _∙_}
 use native.Mathlib.Omega.{arith}

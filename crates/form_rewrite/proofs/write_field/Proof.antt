@@ -1,4 +1,4 @@
--- `convert_write::write_field` meets its contract: header, zeros, bytes and zeros, one behind the other.
+-- `form_rewrite::write_field` meets its contract: header, zeros, bytes and zeros, one behind the other.
 use Prim.Native.Nat.{ℕ, _+_}
 use mathlib.Core.List.{List, _∷_, _++_}
 use mathlib.Core.Path.{subst}

@@ -1,4 +1,4 @@
--- `convert_write::write_head` meets its contract: the header, and one byte.
+-- `form_rewrite::write_head` meets its contract: the header, and one byte.
 use Prim.Native.Nat.{_+_, _≤_}
 use native.Mathlib.Omega.{arith}
 use lib.ListN.{length, length-set}

@@ -1,4 +1,4 @@
--- `convert_write::write_header` meets its contract: three bytes, one behind the other.
+-- `form_rewrite::write_header` meets its contract: three bytes, one behind the other.
 use Prim.Native.Nat.{_/_, _%_}
 use native.Mathlib.Omega.{arith}
 use borrow.Author.Needs.{needs}

@@ -1,4 +1,4 @@
--- `convert_write::write_lengthened` meets its contract: the head, the banks, and the file from its nodes on.
+-- `form_rewrite::write_lengthened` meets its contract: the head, the banks, and the file from its nodes on.
 use Prim.Native.Nat.{ℕ, _+_, _*_, _≤_}
 use mathlib.Core.List.{List, [], _∷_}
 use mathlib.Core.Path.{_≡_, refl, _∙_, subst}

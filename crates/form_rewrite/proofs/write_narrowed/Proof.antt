@@ -1,4 +1,4 @@
--- `convert_write::write_narrowed` meets its contract: the bank, the nodes behind the first, the rows without their first cells, and the file from
+-- `form_rewrite::write_narrowed` meets its contract: the bank, the nodes behind the first, the rows without their first cells, and the file from
 -- its values on.
 use Prim.Native.Nat.{ℕ, _+_, _-_, _*_}
 use mathlib.Core.List.{List}

@@ -1,4 +1,4 @@
--- `convert_write::write_node` meets its contract: a switch is turned, another node copied.
+-- `form_rewrite::write_node` meets its contract: a switch is turned, another node copied.
 use Prim.Native.Nat.{ℕ, _+_, _-_}
 use mathlib.Core.List.{List}
 use mathlib.Core.Path.{_≡_, refl, sym, ap, _∙_, subst}

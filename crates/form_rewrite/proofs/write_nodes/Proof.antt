@@ -1,4 +1,4 @@
--- `convert_write::write_nodes` meets its contract. The invariant: i nodes stand in the buffer.
+-- `form_rewrite::write_nodes` meets its contract. The invariant: i nodes stand in the buffer.
 use Prim.Native.Nat.{ℕ, _+_, _-_, _*_, _≤_}
 use mathlib.Core.List.{List}
 use mathlib.Core.Path.{_≡_, subst}

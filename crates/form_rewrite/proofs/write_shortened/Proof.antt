@@ -1,4 +1,4 @@
--- `convert_write::write_shortened` meets its contract: the banks, and the file from its nodes on.
+-- `form_rewrite::write_shortened` meets its contract: the banks, and the file from its nodes on.
 use Prim.Native.Nat.{ℕ, _+_, _*_, _≤_}
 use mathlib.Core.List.{List}
 use mathlib.Core.Path.{subst}

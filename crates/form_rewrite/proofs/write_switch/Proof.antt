@@ -1,4 +1,4 @@
--- `convert_write::write_switch` meets its contract: the header, and five bytes behind it.
+-- `form_rewrite::write_switch` meets its contract: the header, and five bytes behind it.
 use Prim.Native.Nat.{_+_, _≤_}
 use native.Mathlib.Omega.{arith}
 use lib.ListN.{length, length-set}

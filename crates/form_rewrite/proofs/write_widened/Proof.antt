@@ -1,4 +1,4 @@
--- `convert_write::write_widened` meets its contract: the head, the two banks, the switch, the nodes, the rows, and the file from its values on.
+-- `form_rewrite::write_widened` meets its contract: the head, the two banks, the switch, the nodes, the rows, and the file from its values on.
 use Prim.Native.Nat.{ℕ, _+_, _-_, _*_}
 use mathlib.Core.List.{List, [], _∷_}
 use mathlib.Core.Path.{_≡_, refl, _∙_, subst}

@@ -1,4 +1,4 @@
--- `text::block_end` meets its contract: five bytes, two numbers and LF.
+-- `print_text::block_end` meets its contract: five bytes, two numbers and LF.
 use borrow.Author.Needs.{needs}
 use mathlib.Core.Path.{ap, sym, _∙_}
 use mathlib.Core.List.{[], _∷_}

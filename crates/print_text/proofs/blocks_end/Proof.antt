@@ -1,4 +1,4 @@
--- `text::blocks_end` meets its contract. The invariant: the lines of the blocks passed end where the next begins.
+-- `print_text::blocks_end` meets its contract. The invariant: the lines of the blocks passed end where the next begins.
 use Prim.Native.Nat.{ℕ, _+_, _-_, _≤_}
 use mathlib.Core.Path.{_≡_, sym, ap, _∙_}
 use borrow.Author.Needs.{needs}

@@ -1,4 +1,4 @@
--- `text::decimal_length` counts the digits: what is counted and the digits of what is left are one more than those of the number.
+-- `print_text::decimal_length` counts the digits: what is counted and the digits of what is left are one more than those of the number.
 use Prim.Native.Nat.{_+_, _≤_}
 use mathlib.Core.Path.{_≡_}
 use native.Mathlib.Omega.{arith}

@@ -1,4 +1,4 @@
--- `text::end_of` meets its contract: each return has the order of the two sums that the definition tests.
+-- `print_text::end_of` meets its contract: each return has the order of the two sums that the definition tests.
 use borrow.Author.Needs.{needs}
 use borrow.Author.Tests.{le-leb, lt-leb}
 use native.Mathlib.Omega.{arith}

@@ -1,4 +1,4 @@
--- `text::image_length` meets its contract: with digits, there is a space before them.
+-- `print_text::image_length` meets its contract: with digits, there is a space before them.
 use mathlib.Core.Path.{sym, ap}
 use mathlib.Core.List.{_++_}
 use borrow.Author.Needs.{needs}

@@ -1,4 +1,4 @@
--- `text::layout_end` meets its contract: the three parts end one behind the other.
+-- `print_text::layout_end` meets its contract: the three parts end one behind the other.
 use Prim.Native.Nat.{_+_}
 use mathlib.Core.Path.{sym, _∙_}
 use mathlib.Core.List.{[], _∷_}

@@ -1,4 +1,4 @@
--- `text::lent` meets its contract: the least of three.
+-- `print_text::lent` meets its contract: the least of three.
 use native.Mathlib.Omega.{arith}
 use mathlib.Core.Logic.{⊎-elim}
 use Rattle.print_text.proofs.lent.Statement.{statement}

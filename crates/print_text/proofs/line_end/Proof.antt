@@ -1,4 +1,4 @@
--- `text::line_end` meets its contract. The invariant: what is measured and what is left come to the line, and what is measured fits.
+-- `print_text::line_end` meets its contract. The invariant: what is measured and what is left come to the line, and what is measured fits.
 use Prim.Native.Nat.{_+_, _-_, _≤_}
 use mathlib.Core.Path.{_≡_, sym, _∙_}
 use borrow.Author.Needs.{needs}

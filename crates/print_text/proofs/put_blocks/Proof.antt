@@ -1,4 +1,4 @@
--- `text::put_blocks` meets its contract: measured first, then written.
+-- `print_text::put_blocks` meets its contract: measured first, then written.
 use mathlib.Core.Path.{_≡_, ap, _∙_}
 use Prim.Native.Nat.{ℕ}
 use borrow.Author.Needs.{needs}

@@ -1,4 +1,4 @@
--- `text::put_layout` meets its contract: measured first, then written.
+-- `print_text::put_layout` meets its contract: measured first, then written.
 use Prim.Native.Nat.{ℕ}
 use mathlib.Core.Path.{_≡_, ap, _∙_}
 use borrow.Author.Needs.{needs}

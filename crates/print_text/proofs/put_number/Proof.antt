@@ -1,4 +1,4 @@
--- `text::put_number` meets its contract: measured first, then written.
+-- `print_text::put_number` meets its contract: measured first, then written.
 use borrow.Author.Needs.{needs}
 use native.Mathlib.Omega.{arith}
 use lib.ListN.{length}

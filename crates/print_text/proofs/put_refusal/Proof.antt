@@ -1,4 +1,4 @@
--- `text::put_refusal` meets its contract: the number and the place are those of the definitions.
+-- `print_text::put_refusal` meets its contract: the number and the place are those of the definitions.
 use borrow.Author.Needs.{needs}
 use Rattle.print_text.proofs.put_refusal.Statement.{statement}
 use Rattle.print_text.proofs.put_refusal.Tie as tie

@@ -1,4 +1,4 @@
--- `text::write_blocks` meets its contract. The invariant: the lines of the blocks passed stand in the buffer.
+-- `print_text::write_blocks` meets its contract. The invariant: the lines of the blocks passed stand in the buffer.
 use Prim.Native.Nat.{_+_, _-_, _≤_}
 use mathlib.Core.Path.{_≡_, refl, ap}
 use borrow.Author.Needs.{needs}

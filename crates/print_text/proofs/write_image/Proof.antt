@@ -1,4 +1,4 @@
--- `text::write_image` meets its contract: the words and the digits, one behind the other.
+-- `print_text::write_image` meets its contract: the words and the digits, one behind the other.
 use mathlib.Core.Path.{ap}
 use mathlib.Core.List.{_++_}
 use borrow.Author.Needs.{needs}

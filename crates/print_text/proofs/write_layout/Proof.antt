@@ -1,4 +1,4 @@
--- `text::write_layout` meets its contract: the three parts, one behind the other.
+-- `print_text::write_layout` meets its contract: the three parts, one behind the other.
 use mathlib.Core.List.{_++_}
 use borrow.Author.Needs.{needs}
 use native.Mathlib.Omega.{arith}

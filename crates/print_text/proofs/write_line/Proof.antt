@@ -1,4 +1,4 @@
--- `text::write_line` meets its contract: the word, the numbers and LF, one behind the other.
+-- `print_text::write_line` meets its contract: the word, the numbers and LF, one behind the other.
 use Prim.Native.Nat.{_+_, _≤_}
 use mathlib.Core.List.{[], _∷_, _++_}
 use native.Mathlib.Omega.{arith}

@@ -1,4 +1,4 @@
--- `text::write_number` meets its contract. The invariant: what stands from the next place on is the end of the number's digits, and
+-- `print_text::write_number` meets its contract. The invariant: what stands from the next place on is the end of the number's digits, and
 -- the digits of what is left are those before it.
 use Prim.Native.Nat.{ℕ, suc, _+_, _-_, _/_, _%_, _≤_, _<_}
 use mathlib.Core.Path.{_≡_, refl, sym, ap, _∙_}

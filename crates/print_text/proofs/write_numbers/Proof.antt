@@ -1,4 +1,4 @@
--- `text::write_numbers` meets its contract. The invariant: the numbers passed stand in the buffer, and those left have room.
+-- `print_text::write_numbers` meets its contract. The invariant: the numbers passed stand in the buffer, and those left have room.
 use Prim.Native.Nat.{_+_, _-_, _≤_}
 use mathlib.Core.Path.{_≡_, refl}
 use borrow.Author.Needs.{needs}

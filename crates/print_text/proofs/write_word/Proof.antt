@@ -1,4 +1,4 @@
--- `text::write_word` meets its contract. The invariant: the first i bytes of the word stand in the buffer.
+-- `print_text::write_word` meets its contract. The invariant: the first i bytes of the word stand in the buffer.
 use Prim.Native.Nat.{_-_, _≤_}
 use mathlib.Core.Path.{_≡_, refl, _∙_}
 use native.Mathlib.Omega.{arith}

@@ -1,4 +1,4 @@
--- `args::number`: what is left of the text spells the same, behind the digits that were read.
+-- `prog_args::number`: what is left of the text spells the same, behind the digits that were read.
 use mathlib.Core.Path.{_≡_, refl, sym, ap, _∙_}
 use Prim.Native.Nat.{_+_, _*_, _-_, _≤_}
 use native.Mathlib.Omega.{arith}

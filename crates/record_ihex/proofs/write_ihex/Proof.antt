@@ -1,4 +1,4 @@
--- `ihex::write_ihex` is the writing of records, for the format 0.
+-- `record_ihex::write_ihex` is the writing of records, for the format 0.
 use Rattle.record_ihex.proofs.Figures.{in-figures}
 use borrow.Author.Needs.{needs}
 use Rattle.record_ihex.proofs.write_ihex.Statement.{statement}

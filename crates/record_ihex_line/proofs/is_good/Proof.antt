@@ -1,4 +1,4 @@
--- `ihex_line::is_good` tests as the definition does.
+-- `record_ihex_line::is_good` tests as the definition does.
 use mathlib.Core.Path.{sym, _∙_}
 use borrow.Author.Tests.{not-true, not-false}
 use Rattle.record_ihex_line.proofs.LineLaws.{no-colon, wrong-length, no-digits, by-sum}

@@ -1,4 +1,4 @@
--- `ihex_line::line_of`: a law for each return.
+-- `record_ihex_line::line_of`: a law for each return.
 use mathlib.Core.Path.{sym, ap, _∙_}
 use Prim.Native.Nat.{ℕ, _+_, _*_}
 use native.Mathlib.Omega.{arith}

@@ -1,4 +1,4 @@
--- `ihex_line::put_piece`: one record behind another.
+-- `record_ihex_line::put_piece`: one record behind another.
 use Prim.Native.Nat.{_/_, _%_}
 use lib.ListN.{take}
 use native.Mathlib.Omega.{arith}

@@ -1,4 +1,4 @@
--- `ihex_line::put_record`: the stores are one line, and its check byte makes the sum zero.
+-- `record_ihex_line::put_record`: the stores are one line, and its check byte makes the sum zero.
 use mathlib.Core.Path.{refl, sym, ap, _∙_}
 use mathlib.Core.List.{List}
 use Prim.Native.Nat.{ℕ, _/_, _%_, _+_, _*_}

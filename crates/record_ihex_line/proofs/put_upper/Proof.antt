@@ -1,4 +1,4 @@
--- `ihex_line::put_upper` writes a record or nothing.
+-- `record_ihex_line::put_upper` writes a record or nothing.
 use mathlib.Core.Path.{refl}
 use native.Mathlib.Omega.{arith}
 use borrow.Author.Tests.{eq-eqb, ne-eqb}

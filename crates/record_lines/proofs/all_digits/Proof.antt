@@ -1,4 +1,4 @@
--- `records::all_digits`: what is left decides as the whole does.
+-- `record_lines::all_digits`: what is left decides as the whole does.
 use mathlib.Core.Path.{_≡_, refl, sym, ap, _∙_}
 use Prim.Native.Nat.{_-_}
 use native.Mathlib.Omega.{arith}

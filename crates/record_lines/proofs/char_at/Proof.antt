@@ -1,4 +1,4 @@
--- `records::char_at`: past the end a list has its default.
+-- `record_lines::char_at`: past the end a list has its default.
 use lib.ListN.{List·getD-eq-default}
 use mathlib.Core.Path.{sym}
 use borrow.Author.Needs.{needs}

@@ -1,4 +1,4 @@
--- `records::is_cr_lf` tests as the definition does.
+-- `record_lines::is_cr_lf` tests as the definition does.
 use Prim.Native.Nat.{_+_}
 use native.Mathlib.Omega.{arith}
 use borrow.Author.Tests.{eq-eqb, ne-eqb}

@@ -1,4 +1,4 @@
--- `records::letter` gives the letter by the test that the definition makes.
+-- `record_lines::letter` gives the letter by the test that the definition makes.
 use Prim.Native.Nat.{_%_}
 use borrow.Author.Tests.{lt-ltb, le-ltb}
 use borrow.Author.Needs.{needs}

@@ -1,4 +1,4 @@
--- `records::line_from`: what is left of the line, and of the text, from each character on.
+-- `record_lines::line_from`: what is left of the line, and of the text, from each character on.
 use mathlib.Core.Path.{_≡_, refl, sym, ap, _∙_}
 use Prim.Native.Nat.{_+_, _-_}
 use native.Mathlib.Omega.{arith}

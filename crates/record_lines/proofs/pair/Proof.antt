@@ -1,4 +1,4 @@
--- `records::pair` puts two digits together.
+-- `record_lines::pair` puts two digits together.
 use mathlib.Core.Path.{ap, ap₂, _∙_}
 use Prim.Native.Nat.{ℕ, _+_, _*_, _%_}
 use Rattle.record_lines.specs.Digits.{valueOf}

@@ -1,4 +1,4 @@
--- `records::put`: a store past the end changes nothing.
+-- `record_lines::put`: a store past the end changes nothing.
 use mathlib.Core.Path.{sym}
 use lib.Seq.{set-out}
 use borrow.Author.Needs.{needs}

@@ -1,4 +1,4 @@
--- `records::put_pair`: two stores are a run of two.
+-- `record_lines::put_pair`: two stores are a run of two.
 use native.Mathlib.Omega.{arith}
 use Rattle.record_lines.proofs.Steps.{two-stores}
 use borrow.Author.Needs.{needs}

@@ -1,4 +1,4 @@
--- `records::put_pairs`: the digits of the bytes so far stand in the part.
+-- `record_lines::put_pairs`: the digits of the bytes so far stand in the part.
 use mathlib.Core.Path.{_≡_, refl, sym, ap, _∙_}
 use Prim.Native.Nat.{ℕ, _-_, _+_, _*_, _≤_}
 use native.Mathlib.Omega.{arith}

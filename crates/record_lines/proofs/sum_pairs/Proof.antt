@@ -1,4 +1,4 @@
--- `records::sum_pairs`: the low byte of the sum so far.
+-- `record_lines::sum_pairs`: the low byte of the sum so far.
 use mathlib.Core.Path.{_≡_, refl, sym, ap, _∙_}
 use Prim.Native.Nat.{ℕ, _+_, _*_, _-_, _%_, _≤_}
 use native.Mathlib.Omega.{arith}

@@ -1,4 +1,4 @@
--- `records::value`: each return is one range of characters.
+-- `record_lines::value`: each return is one range of characters.
 use mathlib.Core.Path.{sym}
 use native.Mathlib.Omega.{arith}
 use Rattle.record_lines.specs.Theorems.DigitLaws.{value-below, value-figure, value-between, value-upper, value-middle, value-lower, value-above}

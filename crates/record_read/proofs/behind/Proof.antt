@@ -1,4 +1,4 @@
--- `record_fill::behind`: the definition's test.
+-- `record_read::behind`: the definition's test.
 use borrow.Author.Tests.{lt-ltb, le-ltb}
 use Rattle.record_read.proofs.behind.Statement.{statement}
 use Rattle.record_read.proofs.behind.Tie as tie

@@ -1,4 +1,4 @@
--- `record_fill::extent`: both ends, counted from the load address.
+-- `record_read::extent`: both ends, counted from the load address.
 use mathlib.Core.Path.{ap₂}
 use borrow.Author.Needs.{needs}
 use Rattle.record_read.specs.Steps.{run}

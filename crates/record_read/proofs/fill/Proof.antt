@@ -1,4 +1,4 @@
--- `record_fill::fill`: after k lines the bytes that they give are stored.
+-- `record_read::fill`: after k lines the bytes that they give are stored.
 use Prim.Native.Nat.{_-_}
 use Rattle.record_read.proofs.Fills.{Filling, filling-starts, filling-on, filling-long, filling-ends}
 use borrow.Author.Needs.{needs}

@@ -1,4 +1,4 @@
--- `record_fill::fill_line`: after j turns the first j bytes are stored.
+-- `record_read::fill_line`: after j turns the first j bytes are stored.
 use mathlib.Core.Path.{_≡_, ap, _∙_}
 use Prim.Native.Nat.{ℕ, _-_, _≤_}
 use native.Mathlib.Nat.{le-antisymm}

@@ -1,4 +1,4 @@
--- `record_fill::lowest`: after k lines it is the lowest stretch of what they give.
+-- `record_read::lowest`: after k lines it is the lowest stretch of what they give.
 use Prim.Native.Nat.{_-_}
 use Rattle.record_read.proofs.Loops.{Looking, looking-starts, looking-on, looking-ends}
 use borrow.Author.Needs.{needs}

@@ -1,4 +1,4 @@
--- `record_fill::push`: an empty run is dropped, another takes the next place.
+-- `record_read::push`: an empty run is dropped, another takes the next place.
 use Rattle.record_read.proofs.Walks.{push-none, push-some}
 use borrow.Author.Needs.{needs}
 use Rattle.record_read.proofs.push.Statement.{statement}

@@ -1,4 +1,4 @@
--- `record_fill::put`: a store past the end changes nothing.
+-- `record_read::put`: a store past the end changes nothing.
 use mathlib.Core.Path.{sym}
 use lib.Seq.{set-out}
 use borrow.Author.Needs.{needs}

@@ -1,4 +1,4 @@
--- `record_fill::put_byte`: a byte that has no place changes nothing.
+-- `record_read::put_byte`: a byte that has no place changes nothing.
 use mathlib.Core.Logic.{inl, inr}
 use Rattle.record_read.proofs.Fills.{byte-out, byte-set}
 use borrow.Author.Needs.{needs}

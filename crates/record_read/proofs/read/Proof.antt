@@ -1,4 +1,4 @@
--- `record_fill::read`: a bad file is refused, and of a sound one its bytes and blocks are taken.
+-- `record_read::read`: a bad file is refused, and of a sound one its bytes and blocks are taken.
 use Rattle.record_read.specs.Outcome.{lent}
 use Rattle.record_fault.specs.Reading.{readText}
 use Rattle.record_read.proofs.Room.{reads-bad, scan-bad, scan-whole, scanned-ready, scanned-reads}

@@ -1,4 +1,4 @@
--- `record_fill::take`: the first walk counts the blocks, and the second is made only where there is room for everything.
+-- `record_read::take`: the first walk counts the blocks, and the second is made only where there is room for everything.
 use Rattle.record_lines.specs.Pieces.{Piece}
 use mathlib.Core.List.{List}
 use Rattle.record_fault.specs.Trail.{trail}

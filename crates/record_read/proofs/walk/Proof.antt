@@ -1,4 +1,4 @@
--- `record_fill::walk`: one pass where records ascend.
+-- `record_read::walk`: one pass where records ascend.
 use mathlib.Core.Path.{sym, _∙_}
 use Rattle.record_read.proofs.Walks.{put-long}
 use Rattle.record_read.proofs.walk.Statement.{statement}

@@ -1,4 +1,4 @@
--- `record_fill::walk_any`: each turn writes what the lowest stretch behind those found closes.
+-- `record_read::walk_any`: each turn writes what the lowest stretch behind those found closes.
 use Prim.Native.Nat.{_-_}
 use mathlib.Core.Path.{_∙_}
 use native.Mathlib.Omega.{arith}

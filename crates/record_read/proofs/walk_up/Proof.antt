@@ -1,4 +1,4 @@
--- `record_fill::walk_up`: after k lines the blocks of what they give are written, but for the one that goes on.
+-- `record_read::walk_up`: after k lines the blocks of what they give are written, but for the one that goes on.
 use Prim.Native.Nat.{_-_}
 use mathlib.Core.Path.{_∙_}
 use Rattle.record_read.specs.Runs.{isGiven}

@@ -1,4 +1,4 @@
--- `srec::all_short`: what is left decides as the whole does.
+-- `record_srec::all_short`: what is left decides as the whole does.
 use mathlib.Core.Path.{_≡_, refl, sym, _∙_}
 use Prim.Native.Nat.{_-_}
 use native.Mathlib.Omega.{arith}

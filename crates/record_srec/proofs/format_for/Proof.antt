@@ -1,4 +1,4 @@
--- `srec::format_for`: the width, or none.
+-- `record_srec::format_for`: the width, or none.
 use mathlib.Core.Path.{sym, _∙_}
 use borrow.Author.Needs.{needs}
 use Rattle.record_write.specs.Cut.{blocksIn}

@@ -1,4 +1,4 @@
--- `srec::has_short` compares the address behind a block's last byte.
+-- `record_srec::has_short` compares the address behind a block's last byte.
 use borrow.Author.Needs.{needs}
 use Rattle.record_srec.proofs.has_short.Statement.{statement}
 use Rattle.record_srec.proofs.has_short.Tie as tie

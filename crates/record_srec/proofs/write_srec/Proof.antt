@@ -1,4 +1,4 @@
--- `srec::write_srec` is the writing of records, for the width's format.
+-- `record_srec::write_srec` is the writing of records, for the width's format.
 use borrow.Author.Needs.{needs}
 use Rattle.record_srec.proofs.Figures.{in-figures}
 use Rattle.record_srec.proofs.write_srec.Statement.{statement}

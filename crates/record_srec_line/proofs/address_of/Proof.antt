@@ -1,4 +1,4 @@
--- `srec_line::address_of`: two bytes, or four.
+-- `record_srec_line::address_of`: two bytes, or four.
 use mathlib.Core.Path.{_≡_, refl, sym, ap, _∙_}
 use mathlib.Core.Logic.{⊎-elim}
 use Prim.Native.Nat.{ℕ, _+_, _*_}

@@ -1,4 +1,4 @@
--- `srec_line::data_line`: of the width in force, with an address, and within the width.
+-- `record_srec_line::data_line`: of the width in force, with an address, and within the width.
 use mathlib.Core.Path.{_≡_, refl, sym, ap, _∙_}
 use native.Mathlib.Omega.{arith}
 use borrow.Author.Tests.{not-true, not-false}

@@ -1,4 +1,4 @@
--- `srec_line::end_line`: of the width in force, with no data.
+-- `record_srec_line::end_line`: of the width in force, with no data.
 use mathlib.Core.Path.{_≡_, refl, sym, ap, _∙_}
 use native.Mathlib.Omega.{arith}
 use borrow.Author.Tests.{not-true, not-false}

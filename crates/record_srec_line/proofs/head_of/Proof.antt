@@ -1,4 +1,4 @@
--- `srec_line::head_of`: the count and two or four bytes of address.
+-- `record_srec_line::head_of`: the count and two or four bytes of address.
 use mathlib.Core.Path.{_≡_, refl, sym, ap, _∙_}
 use mathlib.Core.Logic.{⊎-elim}
 use native.Mathlib.Omega.{arith}

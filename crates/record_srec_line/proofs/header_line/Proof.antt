@@ -1,4 +1,4 @@
--- `srec_line::header_line`: at least an address and a checksum.
+-- `record_srec_line::header_line`: at least an address and a checksum.
 use mathlib.Core.Path.{_≡_, refl, sym, ap, _∙_}
 use native.Mathlib.Omega.{arith}
 use Rattle.record_srec_line.proofs.Laws.{as-bad, as-passes, header-short, header-passes}

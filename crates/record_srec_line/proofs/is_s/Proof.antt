@@ -1,4 +1,4 @@
--- `srec_line::is_s`: the letter in either case.
+-- `record_srec_line::is_s`: the letter in either case.
 use mathlib.Core.Path.{_≡_, refl, sym, ap, _∙_}
 use borrow.Author.Tests.{eq-eqb, ne-eqb}
 use Rattle.record_srec_line.proofs.is_s.Statement.{statement}

@@ -1,4 +1,4 @@
--- `srec_line::is_sound`: the definition's tests in its order.
+-- `record_srec_line::is_sound`: the definition's tests in its order.
 use Prim.Native.Nat.{ℕ, _+_, _*_, _%_}
 use lib.Dec.{eqb}
 use Rattle.record_lines.specs.Digits.{bytesAt}

@@ -1,4 +1,4 @@
--- `srec_line::limit`: 256 to the width, at both widths.
+-- `record_srec_line::limit`: 256 to the width, at both widths.
 use mathlib.Core.Path.{_≡_, refl, sym, ap, _∙_}
 use mathlib.Core.Logic.{⊎-elim}
 use Rattle.record_srec_line.proofs.limit.Statement.{statement}

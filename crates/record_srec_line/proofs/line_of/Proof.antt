@@ -1,4 +1,4 @@
--- `srec_line::line_of`: a sound line by its type.
+-- `record_srec_line::line_of`: a sound line by its type.
 use mathlib.Core.Path.{_≡_, refl, sym, ap, _∙_}
 use borrow.Author.Tests.{not-true, not-false}
 use Rattle.record_srec_line.proofs.Laws.{as-bad, sound-long, item-bad, item-sound}

@@ -1,4 +1,4 @@
--- `srec_line::put_end`: a line of the width's type, with no data.
+-- `record_srec_line::put_end`: a line of the width's type, with no data.
 use mathlib.Core.List.{[]}
 use Rattle.record_srec_line.specs.Srec.{endDigit}
 use Rattle.record_srec_line.proofs.Writes.{with-digit, digits-two, digits-four}

@@ -1,4 +1,4 @@
--- `srec_line::put_line`: the head, the data and the checksum are the line.
+-- `record_srec_line::put_line`: the head, the data and the checksum are the line.
 use mathlib.Core.Path.{_≡_, refl, sym, ap, _∙_}
 use mathlib.Core.Logic.{⊎-elim}
 use native.Mathlib.Omega.{arith}

@@ -1,4 +1,4 @@
--- `srec_line::put_parts`: six stores, one behind the other.
+-- `record_srec_line::put_parts`: six stores, one behind the other.
 use mathlib.Core.Path.{_≡_, refl, sym, ap, _∙_}
 use Prim.Native.Nat.{ℕ, _+_, _*_}
 use native.Mathlib.Omega.{arith}

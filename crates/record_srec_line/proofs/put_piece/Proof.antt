@@ -1,4 +1,4 @@
--- `srec_line::put_piece`: a line of the width's type.
+-- `record_srec_line::put_piece`: a line of the width's type.
 use lib.ListN.{take}
 use Rattle.record_srec_line.specs.Srec.{dataDigit}
 use Rattle.record_srec_line.proofs.Writes.{with-digit, digits-two, digits-four}

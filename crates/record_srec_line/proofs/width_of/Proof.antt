@@ -1,4 +1,4 @@
--- `srec_line::width_of`: 2, or 4.
+-- `record_srec_line::width_of`: 2, or 4.
 use mathlib.Core.Logic.{inl, inr}
 use mathlib.Core.Path.{_≡_, refl, sym, ap, _∙_}
 use borrow.Author.Tests.{eq-eqb, ne-eqb}
