@@ -39,11 +39,11 @@ module _ (bytes : List ℕ) (bits : ℕ) where
     abbrev pub refusal : ℕ → ℕ → Outcome
     refusal number place = record { answer = record { refusal = number; place = place; count = 0 }; hex = old }
 
-    -- the count of digits; the hex "keep[s] .. old contents past what was written"
+    -- the count of digits; "hex keep their old contents past what was written"
     pub data Accepts (t : List ℕ) : Outcome → Type 0 where
       accepts : {new : List ℕ} → Begins t old new → Accepts t (record { answer = record { refusal = 0; place = 0; count = length t }; hex = new })
 
-    -- "14: a lent output is too short: .. hex 3"
+    -- 14: "a lent output is too short: .. hex 3"
     pub data Printed (y : Outcome) : Type 0 where
       printed : {t : List ℕ} → Text t → Tries (λ (_ : Unit {0}). length old < length t) (λ _. refusal 14 3) (Accepts t) y → Printed y
 

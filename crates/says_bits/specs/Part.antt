@@ -10,7 +10,7 @@ use Rattle.c_answers.specs.declared.DkPart.{DkPart}
 use Rattle.says.specs.Words.{Tries, Is}
 
 module _ (image : List ℕ) (offset size : ℕ) where
-  -- "16: a part of an image is empty, outside it, or not on byte edges": `size` bits from bit `offset` on
+  -- 16: "a part of an image is empty, outside it, or not on byte edges": `size` bits from bit `offset` on
   pub data Unfit : Type 0 where
     empty : size ≡ 0 → Unfit
     outside : 8 * length image < offset + size → Unfit

@@ -1,1 +1,1 @@
-// What the calls on hex and on parts of an image say, in the documents' words. There is no code here.
+// What the calls on hex, on parts of an image and on blocks say, in the documents' words. There is no code here.

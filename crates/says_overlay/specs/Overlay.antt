@@ -1,5 +1,5 @@
--- What `dk_overlay_range` and `dk_overlay_runs` say, and what `bench::pick` hands back, from document 02, Ticket 4, as READINGS-02 reads it. To be read
--- instead of the definitions. That the calls say it, and that it leaves one outcome: Theorems/Range and Theorems/Runs.
+-- What `dk_overlay_range` and `dk_overlay_runs` say, and what `overlay::pick` hands back, from document 02, Ticket 4, as docs/DECISIONS.md reads it. To
+-- be read instead of the definitions. That the calls say it, and that it leaves one outcome: Theorems/Range and Theorems/Runs.
 use mathlib.Core.Path.{_≡_}
 use mathlib.Core.List.{List, [], _∷_}
 use mathlib.Core.Logic.{_⊎_}
@@ -11,7 +11,7 @@ use Rattle.says.specs.Words.{Tries, Begins}
 
 -- "the released image and a small overlay of curves under trial, both at the same offsets"; the overlay's blocks are lent as offsets and sizes in bits
 module _ (overlay released offsets sizes : List ℕ) where
-  -- Bit k is one of the bits of block i. No end wraps: "an end past 64 bits is reckoned without wrapping".
+  -- Bit k is one of the bits of block i. An end past 64 bits is reckoned without wrapping (docs/DECISIONS.md).
   abbrev pub OfBlock : ℕ → ℕ → Type 0
   OfBlock i k = (i < length offsets) × (getD offsets i 0 ≤ k) × (k < getD offsets i 0 + getD sizes i 0)
 
@@ -23,7 +23,7 @@ module _ (overlay released offsets sizes : List ℕ) where
   abbrev pub CoveredByte : ℕ → Type 0
   CoveredByte b = (k : ℕ) → 8 * b ≤ k → k < 8 * b + 8 → Covered k
 
-  -- "4 for overlay blocks empty, not ascending or sharing a bit"; "Lists of offsets and sizes of different lengths are 4"
+  -- "4 for overlay blocks empty, not ascending or sharing a bit"; lists of offsets and sizes of different lengths are 4 (docs/DECISIONS.md)
   pub data BadBlocks : Type 0 where
     unpaired : (length offsets ≡ length sizes → ⊥) → BadBlocks
     empty : {i : ℕ} → i < length offsets → getD sizes i 0 ≡ 0 → BadBlocks

@@ -1,1 +1,1 @@
-// Sentences: what each call says, in plain facts and in the numerals of the documents, beside its definition. There is no code here.
+// What the calls that write, read and check Intel HEX and S-records say, in the documents' words. There is no code here.

@@ -66,7 +66,7 @@ module _ (s : Store) where
   abbrev pub mark : ℕ → ℕ
   mark i = getD (s .marks) i 0
 
-  -- "15: a store is given with over 512 entries"; Ticket 10: "also for over 512 marks"
+  -- 15: "a store is given with over 512 entries"; Ticket 10: "also for over 512 marks"
   abbrev pub TooMany : Type 0
   TooMany = (512 < s .count) ⊎ (512 < s .markCount)
 
@@ -86,7 +86,7 @@ module _ (s : Store) where
 
   -- ---- with an offer
   module _ (e : Entry) where
-    -- "4: .. a call's number is malformed", "offer to the store: position to 8,589,934,590, size to 4,294,967,295"
+    -- 4: ".. a call's number is malformed"; of an offer to the store "position to 8,589,934,590, size to 4,294,967,295" is accepted
     abbrev pub PastLimits : Type 0
     PastLimits = (8589934590 < e .position) ⊎ (4294967295 < e .size)
 
@@ -99,7 +99,7 @@ module _ (s : Store) where
     abbrev pub Crossed : ℕ → Type 0
     Crossed i = (i < s .markCount) × Inside (e .position) (e .size) (mark i)
 
-    -- "12: a placement overlaps"; Ticket 10: "12 also for that"
+    -- 12: "a placement overlaps"; Ticket 10: "12 also for that"
     pub data Overlaps : Type 0 where
       interval : {i : ℕ} → Clash i → Overlaps
       block-over : {i : ℕ} → Crossed i → Overlaps
@@ -113,7 +113,7 @@ module _ (s : Store) where
           → ((j : ℕ) → e .position ≤ start j → Clash j → ⊥) → Names (start i) (size i)
       lowest-mark : {i : ℕ} → Crossed i → ((j : ℕ) → Crossed j → mark i ≤ mark j) → ((j : ℕ) → Clash j → ⊥) → Names (mark i) 0
 
-    -- "13: the store holds 512 and the offer, of nonzero size, shares no bit"; Ticket 10: "13 also when 512 marks are kept and another is acceptable"
+    -- 13: "the store holds 512 and the offer, of nonzero size, shares no bit"; Ticket 10: "13 also when 512 marks are kept and another is acceptable"
     abbrev pub Full : Type 0
     Full = ((0 < e .size) × (s .count ≡ 512)) ⊎ ((e .size ≡ 0) × (s .markCount ≡ 512))
 

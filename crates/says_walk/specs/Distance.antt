@@ -9,7 +9,7 @@ use Rattle.bankdef.specs.declared.Bankdef.{Bankdef}
 use Rattle.iter.specs.declared.Skipped.{Skipped}
 use Rattle.says.specs.Words.{Tries}
 
--- "4: .. a call's number is malformed": "address unit 1 to 65,535 bits" (it has 16 bits), "start address -2^40 to 2^40"
+-- 4: ".. a call's number is malformed": "address unit 1 to 65,535 bits" (it has 16 bits), "start address -2^40 to 2^40"
 pub data NoAddress (def : Bankdef) : Type 0 where
   no-unit : def .unit ≡ 0 → NoAddress def
   far-start : 1099511627776 < natAbs (def .start) → NoAddress def

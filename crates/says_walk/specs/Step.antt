@@ -37,7 +37,7 @@ module _ (def : Bankdef) (walk : Walk) (node : Node) where
   abbrev pub Aligned : ℕ → Type 0
   Aligned a = ((node .kind ≡ 2) ⊎ (node .kind ≡ 3)) × (node .operand ≡ 0) × (def .align ≡ Some a)
 
-  -- "4: .. a call's number is malformed: .. kind, bank number, state"; and a distance that cannot be told
+  -- 4: ".. a call's number is malformed: .. kind, bank number, state"; and a distance that cannot be told
   pub data Malformed : Type 0 where
     kind-past : 10 < node .kind → Malformed
     no-bank : {b : ℕ} → In b → 16 ≤ b → Malformed
@@ -70,12 +70,12 @@ module _ (def : Bankdef) (walk : Walk) (node : Node) where
     by-align : node .kind ≡ 8 → Loses lead own own
     by-lead : (node .kind ≡ 8 → ⊥) → Loses lead own lead
 
-  -- "the sum of bits lost": "Sums are 64-bit", and end at the largest number of 64 bits
+  -- the sum of bits lost: "Sums are 64-bit", and end at the largest number of 64 bits (docs/DECISIONS.md)
   pub data Sum (lost bits : ℕ) : ℕ → Type 0 where
     fits : lost + bits ≤ 18446744073709551615 → Sum lost bits (lost + bits)
     full : 18446744073709551615 < lost + bits → Sum lost bits 18446744073709551615
 
-  -- "5: a position would pass 4,294,967,295"
+  -- 5: "a position would pass 4,294,967,295"
   pub data Past : Type 0 where
     lead-past : {b p : ℕ} {k : Bool} {s : Skipped} → In b → At (walk .at) b (pos p k) → Lead p s → 4294967295 < p + s .bits → Past
     move-past : {b p q : ℕ} {k : Bool} {s own : Skipped} → In b → At (walk .at) b (pos p k) → Lead p s → Advance (p + s .bits) q own → 4294967295 < q → Past

@@ -1,4 +1,4 @@
--- `record_read::closing`: the definition's test.
+-- `record_fault::closing`: the definition's test.
 use borrow.Author.Tests.{lt-ltb, le-ltb}
 use borrow.Author.Needs.{needs}
 use Rattle.record_fault.proofs.closing.Statement.{statement}

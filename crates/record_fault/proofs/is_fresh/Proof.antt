@@ -1,4 +1,4 @@
--- `record_read::is_fresh`: nothing given reaches above the highest end.
+-- `record_fault::is_fresh`: nothing given reaches above the highest end.
 use mathlib.Core.Path.{sym}
 use native.Mathlib.Omega.{arith}
 use Rattle.record_fault.specs.Trail.{trail}

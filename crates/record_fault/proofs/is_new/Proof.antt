@@ -1,4 +1,4 @@
--- `record_read::is_new`: after k lines it is known of their pieces.
+-- `record_fault::is_new`: after k lines it is known of their pieces.
 use borrow.Author.Needs.{needs}
 use Prim.Native.Nat.{_-_}
 use Rattle.record_fault.proofs.Loops.{Looking, looking-starts, looking-on, looking-ends}

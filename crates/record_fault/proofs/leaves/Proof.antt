@@ -1,4 +1,4 @@
--- `record_read::leaves`: the definition's tests.
+-- `record_fault::leaves`: the definition's tests.
 use borrow.Author.Tests.{eq-eqb, ne-eqb, le-leb, lt-leb}
 use Prim.Native.Nat.{_+_}
 use borrow.Author.Needs.{needs}

@@ -1,4 +1,4 @@
--- `record_read::line_at_fault`: what the scan found.
+-- `record_fault::line_at_fault`: what the scan found.
 use Rattle.record_fault.proofs.Loops.{fault-none, fault-some}
 use borrow.Author.Needs.{needs}
 use Rattle.record_fault.proofs.line_at_fault.Statement.{statement}

@@ -1,4 +1,4 @@
--- `record_read::line_in`: the format's own reading.
+-- `record_fault::line_in`: the format's own reading.
 use Rattle.record_fault.proofs.Laws.{in-hex, in-srec}
 use borrow.Author.Needs.{needs}
 use Rattle.record_fault.proofs.line_in.Statement.{statement}

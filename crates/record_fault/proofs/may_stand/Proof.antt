@@ -1,4 +1,4 @@
--- `record_read::may_stand`: the definition's tests in its order.
+-- `record_fault::may_stand`: the definition's tests in its order.
 use mathlib.Core.Path.{sym, ap, _∙_}
 use mathlib.Core.List.{List}
 use borrow.Author.Tests.{not-true, not-false}

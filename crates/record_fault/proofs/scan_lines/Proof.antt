@@ -1,4 +1,4 @@
--- `record_read::scan_lines`: after n lines the file is what they give and what the lines behind them say.
+-- `record_fault::scan_lines`: after n lines the file is what they give and what the lines behind them say.
 use mathlib.Core.Path.{sym, _∙_}
 use Prim.Native.Nat.{_-_}
 use borrow.Author.Needs.{needs}

@@ -1,4 +1,4 @@
--- `record_read::take_line`: the line's characters are a part of the text.
+-- `record_fault::take_line`: the line's characters are a part of the text.
 use mathlib.Core.Path.{_≡_, subst}
 use mathlib.Core.List.{List}
 use Prim.Native.Nat.{ℕ}

@@ -1,5 +1,5 @@
--- `dk_overlay_range` and `bench::pick`: by their contracts they say the sentences (`range-meets`, `bytes-meet`), which leave one outcome (`range-decides`,
--- `bytes-decide`).
+-- `dk_overlay_range` and `overlay::pick`: by their contracts they say the sentences (`range-meets`, `bytes-meet`), which leave one outcome
+-- (`range-decides`, `bytes-decide`).
 use mathlib.Core.Path.{_≡_, refl, sym, _∙_}
 use mathlib.Core.Bool.{Bool, true, false, not}
 use mathlib.Core.List.{List}

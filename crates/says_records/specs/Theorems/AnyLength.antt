@@ -1,6 +1,6 @@
--- "Data records: any count 0 to 255, any order": whatever pieces there are, of any length up to what a record's count byte holds, in any order, some
--- file gives
--- them, and it is a good one if no byte is given twice, below the load address or past the last that fits. No record has more bytes.
+-- Data records have any count and any order (docs/DECISIONS.md): whatever pieces there are, of any length up to what a record's count byte holds, in
+-- any order, some file gives them, and it is a good one if no byte is given twice, below the load address or past the last that fits. No record has
+-- more bytes.
 use mathlib.Core.Path.{_≡_, refl}
 use mathlib.Core.List.{List, [], _∷_}
 use Prim.Native.Nat.{ℕ, _+_, _*_, _≤_, _<_, _/_, _%_, _^_}

@@ -83,7 +83,7 @@ module _ (format load : ℕ) (text other : List ℕ) (old : Lent) (r q : DkCount
   both : read r new ≡ read q after → (r ≡ q) × (new ≡ after)
   both e = (ap (λ (y : s.Outcome). y .answer) e, ap (λ (y : s.Outcome). y .lent) e)
 
-  -- "any order": the answer and everything lent
+  -- any order: the answer and everything lent
   pub any-order : {ls ms : List (List ℕ)} → Lines text ls → Lines other ms → Reordered format ls ms → Reads format load text old r new
       → Reads format load other old q after → (r ≡ q) × (new ≡ after)
   any-order a b x c d =

@@ -41,7 +41,7 @@ module _ (format load : ℕ) where
   differ : {l : List Piece} {j : ℕ} → sound l ≡ faulty j → ⊥
   differ e = let z : _≡_ {A = ℕ} 0 1 = cc in omega arith
 
-  -- "no good file can go on"
+  -- no good file can go on
   no-good-file : (text : List ℕ) (i : ℕ) → readText format load text ≡ faulty i → GoesOn format load text (suc i) → ⊥
   no-good-file text i e (s.goes-on {other = other} {ls = ls} {ms = ms} fit a b same) =
       let f = formatBy format in

@@ -1,6 +1,6 @@
 -- "A file read from S-records and written as Intel HEX gives the same bytes at the same addresses": what was read, from either format, is never
--- refused with 16
--- or 4 when it is written as Intel HEX from the same load address, and reading the new file has the same outcome as reading the old one, whatever is lent.
+-- refused with 16 or 4 when it is written as Intel HEX from the same load address, and reading the new file has the same outcome as reading the old
+-- one, whatever is lent.
 use mathlib.Core.Path.{_≡_, sym, ap, _∙_, subst}
 use mathlib.Core.List.{List}
 use mathlib.Core.Logic.{_⊎_, inl, inr, ⊎-elim}

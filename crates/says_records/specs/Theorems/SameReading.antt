@@ -1,7 +1,6 @@
 -- What is read depends on nothing but the bytes at the addresses: two good files that give the same bytes to the same addresses have one outcome, in
--- the answer
--- and in everything lent, whatever their formats. So records come "in any order" (`order-free`), and a line ends "at LF, CR LF or the end of the text, each
--- line by itself" (`cr-lf-free`, and of the line at fault `cr-lf-fault`). From the sentences alone.
+-- the answer and in everything lent, whatever their formats. So records come in any order (`order-free`), and a line ends at LF, CR LF or the end of
+-- the text, each line by itself (`cr-lf-free`, and of the line at fault `cr-lf-fault`; docs/DECISIONS.md). From the sentences alone.
 use mathlib.Core.Path.{_≡_, refl, sym, ap, _∙_, subst}
 use mathlib.Core.List.{List, [], _∷_}
 use mathlib.Core.Logic.{_⊎_}
@@ -97,7 +96,7 @@ alike format load text other old to back y z (s.read {ps = ps} g b t) u =
     let k = to ps g in
     same-reading format format load text other ps (k .0) old (has-shuffled (k .2)) (has-shuffled (turned (k .2))) g (k .1) y z (s.read g b t) u
 
--- ---- "any order": data records that change places, anywhere in a file, as often as one likes (in Intel HEX not across a type 04 record)
+-- ---- any order: data records that change places, anywhere in a file, as often as one likes (in Intel HEX not across a type 04 record)
 pub data DataRecord (format : ℕ) (line : List ℕ) : Type 0 where
   hex : {field : ℕ} {bytes : List ℕ} → format ≡ 0 → Hex r.either line 0 field bytes → DataRecord format line
   s-record : {d e width top address : ℕ} {bytes : List ℕ} → Not (format ≡ 0) → Width d e width top → Srec r.either line d width address bytes

@@ -105,19 +105,19 @@ module _ (s : Store) where
     why-0 (kept n p o f) is = (n, p, o, f)
 
     module _ {y : Outcome} (says : OfferSays s e y) where
-      -- "15: a store is given with over 512 entries, or ..", whatever the offer
+      -- 15: "a store is given with over 512 entries, or ..", whatever the offer
       pub fifteen-exactly : (y .answer .refusal ≡ 15) ↔ BadStore
       fifteen-exactly = (why-15 (way says), (λ b. way-one (way says) (bad b)))
 
-      -- "4: .. a call's number is malformed"
+      -- 4: ".. a call's number is malformed"
       pub four-exactly : (y .answer .refusal ≡ 4) ↔ (Not BadStore × PastLimits s e)
       four-exactly = (why-4 (way says), (λ h. way-one (way says) (malformed (h .0) (h .1))))
 
-      -- "12: a placement overlaps"
+      -- 12: "a placement overlaps"
       pub twelve-exactly : (y .answer .refusal ≡ 12) ↔ (Not BadStore × Not (PastLimits s e) × Overlaps s e)
       twelve-exactly = (why-12 (way says), (λ h. way-one (way says) (overlaps (h .0) (h .1) (h .2))))
 
-      -- "13: the store holds 512 and the offer, of nonzero size, shares no bit"; "also when 512 marks are kept and another is acceptable"
+      -- 13: "the store holds 512 and the offer, of nonzero size, shares no bit"; "also when 512 marks are kept and another is acceptable"
       pub thirteen-exactly : (y .answer .refusal ≡ 13) ↔ (Not BadStore × Not (PastLimits s e) × Not (Overlaps s e) × Full s e)
       thirteen-exactly = (why-13 (way says), (λ h. way-one (way says) (full (h .0) (h .1) (h .2) (h .3))))
 

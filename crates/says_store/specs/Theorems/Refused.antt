@@ -1,4 +1,4 @@
--- Demand 1, of a store call: "Each refusal .. changes nothing lent. A returned state is the state given." From the sentences alone.
+-- Of a store call: "Each refusal .. changes nothing lent. A returned state is the state given." From the sentences alone.
 use mathlib.Core.Path.{_≡_, refl}
 use Rattle.overlap_checker.specs.declared.Entry.{Entry}
 use Rattle.says.specs.Words.{refused, passed}
