@@ -8,8 +8,9 @@
  * value, and what is not acceptable is refused.
  *
  * Refusals. `refusal` is 0 where the call was accepted, else one of the numbers below, and `place` (and `second`) says where. A refused
- * call leaves every buffer as it was, and every other field of its answer is 0, except `passes`. An accepted call leaves the lists that
- * it wrote as they were past what it wrote; the rest of the image is made zero, or takes the fill bits of filled banks.
+ * call leaves every buffer as it was, and every other field of its answer is 0, except `passes`, and `dk_offer`'s counts, which are those
+ * given. An accepted call leaves the lists that it wrote as they were past what it wrote; the rest of the image is made zero, or takes
+ * the fill bits of filled banks.
  *
  * Stack. What a call needs, all its frames included, is said of each, with what was measured on the longest lists, rounded up. bindings/c/stack.c measures
  * it by painting a thread's stack, and the tests fail where a call needs more; docs/BENCHMARK.md has the bytes. */
@@ -236,8 +237,8 @@ struct dk_layout dk_form_paged(const uint8_t *file, size_t file_len, uint8_t fil
 /* A layout file in the other form: `count` is the length of the result, which stands at the front of `out`, and what is behind it stays. On the way to form 2
  * fill bits are zero, and a file of one bank gets a bank 1 with bank 0's record, a switch to it ahead of the first node, and every switch to bank 0 turned
  * into one to bank 1; the way back takes exactly that shape to one bank. Refused 4 for a broken file or one of the other form (place: the first broken
- * field), over 4,096 nodes in file or result (0), over 16 rows (1), a one-bank file that names another bank (the node), or a result past its form's length (0); then, on
- * the way to form 1, 18 for a fill bit of one; then 14 (place 0) where `out` is too short. They need less than 1 KiB of stack. */
+ * field), over 4,096 nodes in file or result (0), over 16 rows (1), a one-bank file that names another bank (the node), or a result past its form's
+ * length (0); then, on the way to form 1, 18 for a fill bit of one; then 14 (place 0) where `out` is too short. They need less than 1 KiB of stack. */
 struct dk_count dk_to_form2(const uint8_t *file, size_t file_len, uint8_t *out, size_t out_len);
 struct dk_count dk_to_form1(const uint8_t *file, size_t file_len, uint8_t *out, size_t out_len);
 
