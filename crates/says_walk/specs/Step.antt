@@ -70,7 +70,7 @@ module _ (def : Bankdef) (walk : Walk) (node : Node) where
     by-align : node .kind ≡ 8 → Loses lead own own
     by-lead : (node .kind ≡ 8 → ⊥) → Loses lead own lead
 
-  -- the sum of bits lost: "Sums are 64-bit", and end at the largest number of 64 bits (docs/DECISIONS.md)
+  -- the sum of bits lost: sums have 64 bits, and end at the largest number of 64 bits (docs/DECISIONS.md)
   pub data Sum (lost bits : ℕ) : ℕ → Type 0 where
     fits : lost + bits ≤ 18446744073709551615 → Sum lost bits (lost + bits)
     full : 18446744073709551615 < lost + bits → Sum lost bits 18446744073709551615
