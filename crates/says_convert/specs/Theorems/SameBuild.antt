@@ -111,7 +111,7 @@ module _ (b : List ℕ) (nodes rows : List (List ℕ)) (values : List ℕ) (limi
         count = refl;
         table = refl;
         bit = no-bit;
-        alone = refl;
+        unclosed = refl;
         switches = λ i k.
             elim (decLe (length nodes) i) [
               | yes le ↦ List·getD-eq-default (map operandOn nodes) 0 (omega (arith, le, length-map nodes operandOn))

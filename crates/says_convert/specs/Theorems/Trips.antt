@@ -5,12 +5,14 @@ use mathlib.Core.Bool.{Bool, true, false}
 use mathlib.Core.List.{List, _++_}
 use Prim.Native.Nat.{ℕ, _≤_}
 use native.Mathlib.Omega.{arith}
-use lib.ListN.{length, take, drop}
-use borrow.Author.Tests.{eqb-false, eq-eqb, ne-eqb}
+use lib.Dec.{eqb}
+use lib.ListN.{length, take, drop, length-map}
+use borrow.Author.Tests.{eqb-true, eqb-false, eq-eqb, ne-eqb}
 use Rattle.refusal.specs.Laws.Bools.{either, clash}
 use Rattle.refusal.specs.Pick.{pick}
 use Rattle.refusal.specs.Theorems.Told.{number-some}
 use Rattle.refusal.specs.declared.Refusal.the-variants.{Malformed}
+use Rattle.bankdef.specs.Search.{firstWhere}
 use Rattle.form_fields.specs.declared.Kind.{Kind}
 use Rattle.form_fields.specs.Contents.{Contents, written}
 use Rattle.form_fields.specs.Kind.{form1, form2, is1, is2}
@@ -20,9 +22,11 @@ use Rattle.form_convert.specs.Convert.{Converts, outAfter, dropsNone}
 use Rattle.form_convert.specs.declared.Conversion.{Conversion}
 use Rattle.form_convert.specs.declared.Conversion.the-variants.{Converted, Refused}
 use Rattle.form_rewrite.specs.Theorems.Fitting.{lengthened-fits, form1-fits, form2-fits}
-use Rattle.form_rewrite.specs.Turning.{zeros, lengthened, alone, shaped, shortened, narrowed, toForm2, toForm1, dropsBit}
+use Rattle.form_convert.proofs.Laws.{first-within}
+use Rattle.form_rewrite.specs.Turning.{strays, zeros, lengthened, widened, alone, shaped, shortened, narrowed, toForm2, toForm1, dropsBit}
 use Rattle.thm_conversions.specs.Theorems.Conversions.{turned-file}
 use Rattle.thm_conversions.specs.Theorems.Exceptions.{one-bank-comes-back-as-shape, full-one-bank-not-again, shape-comes-back-as-one-bank}
+use Rattle.thm_conversions.specs.Theorems.RoundTrips.{narrowed-back}
 use Rattle.thm_conversions.specs.Theorems.ThereAndBack.{to-form2-and-back, to-form1-and-again}
 use Rattle.c_answers.specs.Counts.{conversionCount}
 use Rattle.c_answers.specs.declared.DkCount.{DkCount}
@@ -33,7 +37,7 @@ use Rattle.says_form.specs.Laws.Written.{held, contents, bytes-same, sound-cont
 use Rattle.says_convert.specs.Convert as says
 use Rattle.says_convert.specs.Convert.{Becomes, ShapeOf}
 use Rattle.says_convert.specs.Laws.Answers.{begins-so}
-use Rattle.says_convert.specs.Laws.Turns.{each-so, shape-so, so-shape, so-becomes}
+use Rattle.says_convert.specs.Laws.Turns.{each-so, shape-so, so-shape, becomes-so, so-becomes}
 
 -- the contracts of the two calls (crates/denkumari/src/conversions.rt)
 abbrev pub To2 : List ℕ → List ℕ → DkCount → List ℕ → Type 0
@@ -132,11 +136,11 @@ full-file-not-again file out mid r small first zero h sound one full old new s s
     (subst (λ (x : List ℕ). Converts form1 form2 toForm2 dropsNone x old a new) (t .made) back) in
     (second .answer ∙ ap conversionCount (p .0), p .1)
 
--- "a one-bank form 2 file, which comes back as the shape": where both calls answer, what stands in the buffer is the file of the shape of a one-bank file
+-- "a one-bank form 2 file, which comes back as the shape": where both calls answer, what stands in the buffer is the shape of what the file became
 pub one-bank-comes-as-shape : (file out mid : List ℕ) (r : DkCount) → Bytes file → To1 file out r mid → r .refusal ≡ 0
     → (h : Held) → Sound form-2 file h → length (h .banks) ≡ 1
     → (old new : List ℕ) (s : DkCount) → Bytes (take (r .count) mid) → To2 (take (r .count) mid) old s new → s .refusal ≡ 0
-    → (e : Held) × (d : Held) × ShapeOf e d × (take (s .count) new ≡ bytes form-2 d)
+    → (e : Held) × (d : Held) × Becomes h form-2 e × ShapeOf e d × (take (s .count) new ≡ bytes form-2 d)
 one-bank-comes-as-shape file out mid r small first zero h sound one old new s little second nought =
     let call = converted form2 form1 toForm1 dropsBit file out r mid first zero in
     let t = turned-file is2 toForm1 dropsBit file out (r .count) mid small call in
@@ -146,10 +150,24 @@ one-bank-comes-as-shape file out mid r small first zero h sound one old new s li
     let u = turned-file is1 toForm2 dropsNone mid′ old (s .count) new little (converted form1 form2 toForm2 dropsNone mid′ old s new second nought) in
     let back : contentsIn form1 mid′ ≡ toForm1 c = ap (contentsIn form1) (t .made) ∙ contents-back is1 (toForm1 c) (form1-fits c (t .fits)) in
     let x = toForm2 (toForm1 c) in
-    let fits = form2-fits (toForm1 c) (form1-fits c (t .fits)) in (
-      held (narrowed x),
+    let fits = form2-fits (toForm1 c) (form1-fits c (t .fits)) in
+    let plain = ne-eqb (length (c .banks)) 2 (λ e. omega (arith, e, eqb-true (length (c .banks)) 1 alone-is)) in
+    let goes : toForm1 c ≡ shortened c = rw plain refl in
+    let still : alone (toForm1 c) ≡ true =
+    ap (λ (y : Contents). alone y) goes ∙ ap (λ (n : ℕ). eqb n 1) (length-map (c .banks) (take 23)) ∙ alone-is in
+    let in-mid : alone (contentsIn form1 mid′) ≡ true = ap (λ (y : Contents). alone y) back ∙ still in
+    let few : length (contentsIn form1 mid′ .nodes) ≤ firstWhere (strays 0) (contentsIn form1 mid′ .nodes) = rw in-mid at (u .answer .none-strays) in
+    let none : length (toForm1 c .nodes) ≤ firstWhere (strays 0) (toForm1 c .nodes) =
+    subst (λ (y : Contents). length (y .nodes) ≤ firstWhere (strays 0) (y .nodes)) back few in
+    let exact : firstWhere (strays 0) (toForm1 c .nodes) ≡ length (toForm1 c .nodes) =
+    omega (arith, none, first-within (strays 0) (toForm1 c .nodes)) in
+    let wide : x ≡ widened (toForm1 c) = ap (λ (b : Bool). pick b (widened (toForm1 c)) (lengthened (toForm1 c))) still in
+    let again : narrowed x ≡ toForm1 c =
+    ap (λ (y : Contents). narrowed y) wide ∙ narrowed-back (toForm1 c) (form1-fits c (t .fits)) still exact in (
+      held (toForm1 c),
       held x,
-      shape-so x fits (one-bank-comes-back-as-shape c (t .fits) alone-is),
+      subst (λ (y : Held). Becomes y form-2 (held (toForm1 c))) (ap held (sound-contents sound)) (becomes-so form-2 c (t .fits)),
+      subst (λ (y : Contents). ShapeOf (held y) (held x)) again (shape-so x fits (one-bank-comes-back-as-shape c (t .fits) alone-is)),
       u .made ∙ ap (λ (y : Contents). written form2 (toForm2 y)) back ∙ bytes-same form-2 (held x),
     )
 
