@@ -1,0 +1,2 @@
+pub mod FormPaged
+pub mod Theorems
