@@ -3,7 +3,7 @@
 use mathlib.Core.Path.{_≡_, refl, sym, ap, subst, _∙_}
 use mathlib.Core.Bool.{Bool, true, false}
 use mathlib.Core.List.{List, _++_}
-use Prim.Native.Nat.{ℕ, _≤_}
+use Prim.Native.Nat.{ℕ, _≤_, _<_}
 use native.Mathlib.Omega.{arith}
 use lib.Dec.{eqb}
 use lib.ListN.{length, take, drop, length-map}
@@ -18,16 +18,18 @@ use Rattle.form_fields.specs.Contents.{Contents, written}
 use Rattle.form_fields.specs.Kind.{form1, form2, is1, is2}
 use Rattle.form_fields.specs.Whole.{Bytes, contentsIn}
 use Rattle.form_fields.specs.Theorems.Whole.{contents-back}
-use Rattle.form_convert.specs.Convert.{Converts, outAfter, dropsNone}
+use Rattle.form_convert.specs.Convert.{Converts, stray, outAfter, dropsNone}
 use Rattle.form_convert.specs.declared.Conversion.{Conversion}
 use Rattle.form_convert.specs.declared.Conversion.the-variants.{Converted, Refused}
-use Rattle.form_rewrite.specs.Theorems.Fitting.{lengthened-fits, form1-fits, form2-fits}
+use Rattle.form_rewrite.specs.Laws.Fitting.{shortened-fits, rest-long, narrowed-long, shape-two, shape-some}
+use Rattle.form_rewrite.specs.Theorems.Fitting.{lengthened-fits, lengthened-long, form1-fits, form2-fits}
 use Rattle.form_convert.proofs.Laws.{first-within}
-use Rattle.form_rewrite.specs.Turning.{strays, zeros, lengthened, widened, alone, shaped, shortened, narrowed, toForm2, toForm1, dropsBit}
+use Rattle.form_rewrite.specs.Turning.{strays, turned, zeros, lengthened, widened, alone, shaped, shortened, narrowed, toForm2, toForm1, dropsBit}
 use Rattle.thm_conversions.specs.Theorems.Conversions.{turned-file}
 use Rattle.thm_conversions.specs.Theorems.Exceptions.{one-bank-comes-back-as-shape, full-one-bank-not-again, shape-comes-back-as-one-bank}
 use Rattle.thm_conversions.specs.Theorems.RoundTrips.{narrowed-back}
 use Rattle.thm_conversions.specs.Theorems.ThereAndBack.{to-form2-and-back, to-form1-and-again}
+use Rattle.thm_conversions.specs.Laws.ThereAndBack.{Fine, makes2, second-call, stray-none}
 use Rattle.c_answers.specs.Counts.{conversionCount}
 use Rattle.c_answers.specs.declared.DkCount.{DkCount}
 use Rattle.denkumari.specs.Conversions.{WayTold, answerIn}
@@ -37,7 +39,7 @@ use Rattle.says_form.specs.Laws.Written.{held, contents, bytes-same, sound-cont
 use Rattle.says_convert.specs.Convert as says
 use Rattle.says_convert.specs.Convert.{Becomes, ShapeOf}
 use Rattle.says_convert.specs.Laws.Answers.{begins-so}
-use Rattle.says_convert.specs.Laws.Turns.{each-so, shape-so, so-shape, becomes-so, so-becomes}
+use Rattle.says_convert.specs.Laws.Turns.{so-widened, each-so, shape-so, so-shape, becomes-so, so-becomes}
 
 -- the contracts of the two calls (crates/denkumari/src/conversions.rt)
 abbrev pub To2 : List ℕ → List ℕ → DkCount → List ℕ → Type 0
@@ -193,4 +195,92 @@ shape-comes-as-one-bank file out mid r small first zero h d e sound more becomes
       shape .2 .one,
       u .made ∙ ap (λ (y : Contents). written form1 (toForm1 y)) back ∙ bytes-same form-1 (held (toForm1 (toForm2 c)))
           ∙ ap (bytes form-1) (sym e-is),
+    )
+
+-- ---- and neither is refused where there is room
+
+-- the shape comes back
+pub shape-comes-back : (file out mid : List ℕ) (r : DkCount) → Bytes file → To2 file out r mid → r .refusal ≡ 0
+    → (h d e : Held) → Sound form-1 file h → (length (h .banks) ≡ 1 → ⊥) → Becomes h form-1 d → ShapeOf e d
+    → (old new : List ℕ) (s : DkCount) → length (bytes form-1 e) ≤ length old → To1 (take (r .count) mid) old s new
+    → (s ≡ wrote (length (bytes form-1 e))) × Begins (bytes form-1 e) old new
+shape-comes-back file out mid r small first zero h d e sound more becomes shape old new s room second =
+    let call = converted form1 form2 toForm2 dropsNone file out r mid first zero in
+    let t = turned-file is1 toForm2 dropsNone file out (r .count) mid small call in
+    let c = contentsIn form1 file in
+    let x = toForm2 c in
+    let m = makes2 c (t .fits) in
+    let d-is : d ≡ held x = so-becomes form-1 h d (sound-fits sound) becomes ∙ ap (λ (y : Contents). held (toForm2 y)) (sym (sound-contents sound)) in
+    let p = so-shape e d shape in
+    let shaped-is : shaped x ≡ true = ap (λ (y : Held). shaped (contents y)) (sym d-is) ∙ p .0 in
+    let e-is : e ≡ held (narrowed x) = p .1 ∙ ap (λ (y : Held). held (narrowed (contents y))) d-is in
+    let goes : toForm1 x ≡ narrowed x = rw shaped-is refl in
+    let not-alone : alone c ≡ false =
+    ne-eqb (length (c .banks)) 1 (λ z. more (ap (λ (y : Contents). length (y .banks)) (sym (sound-contents sound)) ∙ z)) in
+    let longer-is : x ≡ lengthened c = ap (λ (b : Bool). pick b (widened c) (lengthened c)) not-alone in
+    let two : length (c .banks) ≡ 2 =
+    sym (length-map (c .banks) (λ (b : List ℕ). b ++ zeros 1)) ∙ ap (λ (y : Contents). length (y .banks)) (sym longer-is) ∙ shape-two x shaped-is in
+    let from-c = ap (λ (y : Contents). length (written form2 y)) longer-is in
+    let fits = form2-fits c (t .fits) in
+    let made : written form1 (narrowed x) ≡ bytes form-1 e = bytes-same form-1 (held (narrowed x)) ∙ ap (bytes form-1) (sym e-is) in
+    let long = ap length made in
+    let ok : Fine form1 x (narrowed x) (dropsBit x) (length old) =
+    record {
+      few = omega (arith, t .answer .few, rest-long x fits (shape-two x shaped-is) (shape-some x shaped-is));
+      few-rows = omega (arith, m .rows, t .answer .few-rows);
+      none = stray-none x (m .more);
+      short = omega (arith, t .short, two, from-c, lengthened-long c (t .fits), narrowed-long x fits (shape-two x shaped-is) (shape-some x shaped-is));
+      kept = m .clear;
+      fits = omega (arith, long, room);
+    } in
+    let mid′ = take (r .count) mid in
+    let a = answerIn form2 form1 toForm1 dropsBit mid′ old in
+    let back = any-call form2 form1 toForm1 dropsBit mid′ old s new second in
+    let q = second-call is2 toForm1 dropsBit x (narrowed x) fits (t .answer .short) goes old new a ok
+    (subst (λ (f : List ℕ). Converts form2 form1 toForm1 dropsBit f old a new) (t .made) back) in (
+      second .answer ∙ ap conversionCount (q .0) ∙ ap wrote long,
+      subst (Begins (bytes form-1 e) old) (sym (q .1 ∙ ap (λ (f : List ℕ). f ++ drop (length f) old) made)) (begins-so (bytes form-1 e) old room),
+    )
+
+-- and a one-bank form 2 file comes again, where it has fewer than 4,096 nodes and the result is within its form's length
+pub one-bank-comes-again : (file out mid : List ℕ) (r : DkCount) → Bytes file → To1 file out r mid → r .refusal ≡ 0
+    → (h d e : Held) → Sound form-2 file h → length (h .banks) ≡ 1 → length (h .nodes) < 4096 → Becomes h form-2 e → ShapeOf e d
+    → (old new : List ℕ) (s : DkCount) → length (bytes form-2 d) ≤ 65536 → length (bytes form-2 d) ≤ length old → To2 (take (r .count) mid) old s new
+    → (s ≡ wrote (length (bytes form-2 d))) × Begins (bytes form-2 d) old new
+one-bank-comes-again file out mid r small first zero h d e sound one few becomes shape old new s low room second =
+    let call = converted form2 form1 toForm1 dropsBit file out r mid first zero in
+    let t = turned-file is2 toForm1 dropsBit file out (r .count) mid small call in
+    let c = contentsIn form2 file in
+    let same : c ≡ contents h = sound-contents sound in
+    let single : length (c .banks) ≡ 1 = ap (λ (y : Contents). length (y .banks)) same ∙ one in
+    let many : length (c .nodes) ≡ length (h .nodes) = ap (λ (y : Contents). length (y .nodes)) same in
+    let alone-is : alone c ≡ true = eq-eqb (length (c .banks)) 1 single in
+    let plain = ne-eqb (length (c .banks)) 2 (λ z. omega (arith, z, single)) in
+    let goes : toForm1 c ≡ shortened c = rw plain refl in
+    let y = shortened c in
+    let still : alone y ≡ true = ap (λ (n : ℕ). eqb n 1) (length-map (c .banks) (take 23)) ∙ alone-is in
+    let again : toForm2 y ≡ widened y = ap (λ (b : Bool). pick b (widened y) (lengthened y)) still in
+    let e-is : e ≡ held y = so-becomes form-2 h e (sound-fits sound) becomes ∙ ap (λ (z : Contents). held (toForm1 z)) (sym same) ∙ ap held goes in
+    let d-is : d ≡ held (widened y) = so-widened e d (shape .2) ∙ ap (λ (z : Held). held (widened (contents z))) e-is in
+    let made : written form2 (widened y) ≡ bytes form-2 d = bytes-same form-2 (held (widened y)) ∙ ap (bytes form-2) (sym d-is) in
+    let long = ap length made in
+    let none-c : length (c .nodes) ≤ firstWhere (strays 0) (c .nodes) = rw alone-is at (t .answer .none-strays) in
+    let none-y : length (y .nodes) ≤ stray y = rw still none-c in
+    let ok : Fine form2 y (widened y) false (length old) =
+    record {
+      few = omega (arith, many, few, length-map (c .nodes) (turned 1));
+      few-rows = omega (arith, t .answer .few-rows);
+      none = none-y;
+      short = omega (arith, long, low);
+      kept = refl;
+      fits = omega (arith, long, room);
+    } in
+    let mid′ = take (r .count) mid in
+    let a = answerIn form1 form2 toForm2 dropsNone mid′ old in
+    let back = any-call form1 form2 toForm2 dropsNone mid′ old s new second in
+    let short : length (written form1 y) ≤ form1 .longest = rw goes at (t .answer .short) in
+    let q = second-call is1 toForm2 dropsNone y (widened y) (shortened-fits c (t .fits)) short again old new a ok
+    (subst (λ (f : List ℕ). Converts form1 form2 toForm2 dropsNone f old a new) (t .made ∙ ap (written form1) goes) back) in (
+      second .answer ∙ ap conversionCount (q .0) ∙ ap wrote long,
+      subst (Begins (bytes form-2 d) old) (sym (q .1 ∙ ap (λ (f : List ℕ). f ++ drop (length f) old) made)) (begins-so (bytes form-2 d) old room),
     )
