@@ -26,22 +26,25 @@ module _ (g : Given) where
       pub units : (b : ℕ) → b < banks g → (unit g b ≡ 8) ⊎ (unit g b ≡ 16)
       pub addrs : (i b r n : ℕ) → i < nodes g → kind g i ≡ 9 → In g i b → r < g .rows → Number g r i n → Whole (unit g b) n
 
-    -- a rule is broken at this bank or node
-    pub data Breaks : (rule at : ℕ) → Type 0 where
-      by-page : Not (OneBit page) → Breaks 1 0
-      by-label : {b : ℕ} → b < banks g → BadLabel g b → Breaks 2 b
-      by-align : {i : ℕ} → i < nodes g → BadAlign g i → Breaks 2 i
-      by-offset : {b : ℕ} → b < banks g → BadOffset g page b → Breaks 3 b
-      by-size : {b : ℕ} → b < banks g → BadSize g page b → Breaks 4 b
-      by-unit : {b : ℕ} → b < banks g → BadUnit g b → Breaks 5 b
-      by-addr : {i : ℕ} → i < nodes g → BadAddr g i → Breaks 6 i
+    -- A rule is broken at this bank or node. The turn is the rule's place in the ticket's order, where rule 2 has two: "alignments (banks, then nodes in every
+    -- row)".
+    pub data Breaks : (turn rule at : ℕ) → Type 0 where
+      by-page : Not (OneBit page) → Breaks 1 1 0
+      by-label : {b : ℕ} → b < banks g → BadLabel g b → Breaks 2 2 b
+      by-align : {i : ℕ} → i < nodes g → BadAlign g i → Breaks 3 2 i
+      by-offset : {b : ℕ} → b < banks g → BadOffset g page b → Breaks 4 3 b
+      by-size : {b : ℕ} → b < banks g → BadSize g page b → Breaks 5 4 b
+      by-unit : {b : ℕ} → b < banks g → BadUnit g b → Breaks 6 5 b
+      by-addr : {i : ℕ} → i < nodes g → BadAddr g i → Breaks 7 6 i
 
-    -- "The answer names the first rule broken": it is broken there, and no rule before it is broken anywhere
+    -- "The answer names the first rule broken, 1 to 6 in this order, each ascending": it is broken there, no break has an earlier turn, and none of its own
+    -- turn a lower place.
     pub record Names (rule at : ℕ) : Type 0 where
-      pub broken : Breaks rule at
-      pub first : (other place : ℕ) → Breaks other place → rule ≤ other
+      pub turn : ℕ
+      pub broken : Breaks turn rule at
+      pub first : (other by place : ℕ) → Breaks other by place → (turn < other) ⊎ ((turn ≡ other) × (at ≤ place))
 
-    -- Bit number `bit` of the image stands in a page of bank b: behind the bank's offset o, and before the end of its n pages.
+    -- Bit number `bit` of the image stands in a page of bank b: from the bank's offset o on, and before the end of its n pages.
     pub record InPages (b bit : ℕ) : Type 0 where
       pub o : ℕ
       pub n : ℕ

@@ -8,11 +8,10 @@ use lib.Dec.{eqb}
 use lib.ListN.{getD}
 use borrow.Author.Tests.{eqb-true, eqb-false}
 use Rattle.refusal.specs.Laws.Bools.{either}
-use Rattle.sort.specs.Laws.Sorted.{le-or-lt}
 use Rattle.build_profile.specs.OneBit.{oneBit}
 use Rattle.build_profile.specs.Theorems.OneBit.{one-bit-power}
 use Rattle.build_profile.specs.Rules.{multiple}
-use Rattle.says.specs.Words.{Tries, refused, passed}
+use Rattle.says.specs.Words.{Tries, refused, passed, First}
 use Rattle.says_build.specs.Build.{Given, Not, banks, unit, flag, Size, Offset, nodes, BadBank, Overlap, BadField, BadNode}
 use Rattle.says_build.specs.Laws.First.{none-at-all, no-pair-at-all}
 use Rattle.says_profile.specs.Profile as p
@@ -114,7 +113,7 @@ module _ (g : Given) where
       }
 
     -- a broken rule is none that holds
-    pub breaks-not : {rule at : ℕ} → Breaks g page rule at → Holds g page → ⊥
+    pub breaks-not : {turn rule at : ℕ} → Breaks g page turn rule at → Holds g page → ⊥
     breaks-not (t.by-page off) k = off (k .page-size)
     breaks-not (t.by-label {b} h (p.label {a} al some off)) k = off (k .labels b a h al some)
     breaks-not (t.by-align {i} h (p.align {r} {n} kd rn num some off)) k = off (k .aligns i r n h kd rn num some)
@@ -140,104 +139,130 @@ module _ (g : Given) where
 
     -- ---- the first rule broken
 
-    -- the rules before rule k are kept
-    record Below (k : ℕ) : Type 0 where
-      first : 1 < k → Not (Not (OneBit page))
-      labels : 2 < k → (b : ℕ) → b < banks g → Not (BadLabel g b)
-      aligns : 2 < k → (i : ℕ) → i < nodes g → Not (BadAlign g i)
-      offsets : 3 < k → (b : ℕ) → b < banks g → Not (BadOffset g page b)
-      sizes : 4 < k → (b : ℕ) → b < banks g → Not (BadSize g page b)
-      units : 5 < k → (b : ℕ) → b < banks g → Not (BadUnit g b)
+    -- a break of this turn and place does not come before turn k, place at
+    abbrev After : (k at turn place : ℕ) → Type 0
+    After k at turn place = (k < turn) ⊎ ((k ≡ turn) × (at ≤ place))
 
-    before : {k : ℕ} → k ≤ 6 → Below k → (rule at : ℕ) → Breaks g page rule at → k ≤ rule
-    before {k} top below rule at (t.by-page off) = ⊎-elim (λ le. le) (λ lt. absurd (below .first lt off)) (le-or-lt k 1)
-    before {k} top below rule at (t.by-label h bad) = ⊎-elim (λ le. le) (λ lt. absurd (below .labels lt at h bad)) (le-or-lt k 2)
-    before {k} top below rule at (t.by-align h bad) = ⊎-elim (λ le. le) (λ lt. absurd (below .aligns lt at h bad)) (le-or-lt k 2)
-    before {k} top below rule at (t.by-offset h bad) = ⊎-elim (λ le. le) (λ lt. absurd (below .offsets lt at h bad)) (le-or-lt k 3)
-    before {k} top below rule at (t.by-size h bad) = ⊎-elim (λ le. le) (λ lt. absurd (below .sizes lt at h bad)) (le-or-lt k 4)
-    before {k} top below rule at (t.by-unit h bad) = ⊎-elim (λ le. le) (λ lt. absurd (below .units lt at h bad)) (le-or-lt k 5)
-    before {k} top below rule at (t.by-addr h bad) = top
+    -- no break comes before turn k, place at
+    record Before (k at : ℕ) : Type 0 where
+      paged : Not (OneBit page) → After k at 1 0
+      labels : (b : ℕ) → (b < banks g) × BadLabel g b → After k at 2 b
+      aligns : (i : ℕ) → (i < nodes g) × BadAlign g i → After k at 3 i
+      offsets : (b : ℕ) → (b < banks g) × BadOffset g page b → After k at 4 b
+      sizes : (b : ℕ) → (b < banks g) × BadSize g page b → After k at 5 b
+      units : (b : ℕ) → (b < banks g) × BadUnit g b → After k at 6 b
+      addrs : (i : ℕ) → (i < nodes g) × BadAddr g i → After k at 7 i
 
-    -- those of a rule from k on are not asked for
-    beyond : {A : Type 0} (k j : ℕ) → k ≤ j → j < k → A
-    beyond k j h lt = absurd (omega arith)
+    before : {k at : ℕ} → Before k at → (turn rule place : ℕ) → Breaks g page turn rule place → After k at turn place
+    before b turn rule place (t.by-page off) = b .paged off
+    before b turn rule place (t.by-label h bad) = b .labels place (h, bad)
+    before b turn rule place (t.by-align h bad) = b .aligns place (h, bad)
+    before b turn rule place (t.by-offset h bad) = b .offsets place (h, bad)
+    before b turn rule place (t.by-size h bad) = b .sizes place (h, bad)
+    before b turn rule place (t.by-unit h bad) = b .units place (h, bad)
+    before b turn rule place (t.by-addr h bad) = b .addrs place (h, bad)
 
-    one : Below 1
-    one = record {
-      first = beyond 1 1 (omega arith);
-      labels = beyond 1 2 (omega arith);
-      aligns = beyond 1 2 (omega arith);
-      offsets = beyond 1 3 (omega arith);
-      sizes = beyond 1 4 (omega arith);
-      units = beyond 1 5 (omega arith);
+    names : {turn rule at : ℕ} → Breaks g page turn rule at → Before turn at → Names g page rule at
+    names {turn} b none = record { turn = turn; broken = b; first = before none }
+
+    -- a turn that was tried has no break, and the turn itself none below its first
+    gone : {So : ℕ → Type 0} → ((x : ℕ) → First So x → ⊥) → (x : ℕ) → So x → ⊥
+    gone {So} none x s = none-at-all So none x s
+
+    own : {So : ℕ → Type 0} (k : ℕ) {at : ℕ} → First So at → (x : ℕ) → So x → After k at k x
+    own k f x s = inr (refl, f .none-below x s)
+
+    first-1 : Before 1 0
+    first-1 = record {
+      paged = λ off. inr (refl, omega arith);
+      labels = λ x s. inl (omega arith);
+      aligns = λ x s. inl (omega arith);
+      offsets = λ x s. inl (omega arith);
+      sizes = λ x s. inl (omega arith);
+      units = λ x s. inl (omega arith);
+      addrs = λ x s. inl (omega arith);
     }
 
-    module _ (paged : (x : Unit {0}) → Not (OneBit page) → ⊥) where
-      two : Below 2
-      two = record {
-        first = λ h. paged tt;
-        labels = beyond 2 2 (omega arith);
-        aligns = beyond 2 2 (omega arith);
-        offsets = beyond 2 3 (omega arith);
-        sizes = beyond 2 4 (omega arith);
-        units = beyond 2 5 (omega arith);
+    module _ (n1 : (x : Unit {0}) → Not (OneBit page) → ⊥) where
+      first-2 : {b : ℕ} → FirstBank g (BadLabel g) b → Before 2 b
+      first-2 f = record {
+        paged = λ off. absurd (n1 tt off);
+        labels = own 2 f;
+        aligns = λ x s. inl (omega arith);
+        offsets = λ x s. inl (omega arith);
+        sizes = λ x s. inl (omega arith);
+        units = λ x s. inl (omega arith);
+        addrs = λ x s. inl (omega arith);
       }
 
-      module _ (n2 : (b : ℕ) → FirstBank g (BadLabel g) b → ⊥) (n3 : (i : ℕ) → FirstNode g (BadAlign g) i → ⊥) where
-        three : Below 3
-        three = record {
-          first = λ h. paged tt;
-          labels = λ h b lt bad. none-at-all (λ b. (b < banks g) × BadLabel g b) n2 b (lt, bad);
-          aligns = λ h i lt bad. none-at-all (λ i. (i < nodes g) × BadAlign g i) n3 i (lt, bad);
-          offsets = beyond 3 3 (omega arith);
-          sizes = beyond 3 4 (omega arith);
-          units = beyond 3 5 (omega arith);
+      module _ (n2 : (b : ℕ) → FirstBank g (BadLabel g) b → ⊥) where
+        first-3 : {i : ℕ} → FirstNode g (BadAlign g) i → Before 3 i
+        first-3 f = record {
+          paged = λ off. absurd (n1 tt off);
+          labels = λ x s. absurd (gone n2 x s);
+          aligns = own 3 f;
+          offsets = λ x s. inl (omega arith);
+          sizes = λ x s. inl (omega arith);
+          units = λ x s. inl (omega arith);
+          addrs = λ x s. inl (omega arith);
         }
 
-        module _ (n4 : (b : ℕ) → FirstBank g (BadOffset g page) b → ⊥) where
-          four : Below 4
-          four = record {
-            first = λ h. paged tt;
-            labels = λ h. three .labels (omega arith);
-            aligns = λ h. three .aligns (omega arith);
-            offsets = λ h b lt bad. none-at-all (λ b. (b < banks g) × BadOffset g page b) n4 b (lt, bad);
-            sizes = beyond 4 4 (omega arith);
-            units = beyond 4 5 (omega arith);
+        module _ (n3 : (i : ℕ) → FirstNode g (BadAlign g) i → ⊥) where
+          first-4 : {b : ℕ} → FirstBank g (BadOffset g page) b → Before 4 b
+          first-4 f = record {
+            paged = λ off. absurd (n1 tt off);
+            labels = λ x s. absurd (gone n2 x s);
+            aligns = λ x s. absurd (gone n3 x s);
+            offsets = own 4 f;
+            sizes = λ x s. inl (omega arith);
+            units = λ x s. inl (omega arith);
+            addrs = λ x s. inl (omega arith);
           }
 
-          module _ (n5 : (b : ℕ) → FirstBank g (BadSize g page) b → ⊥) where
-            five : Below 5
-            five = record {
-              first = λ h. paged tt;
-              labels = λ h. three .labels (omega arith);
-              aligns = λ h. three .aligns (omega arith);
-              offsets = λ h. four .offsets (omega arith);
-              sizes = λ h b lt bad. none-at-all (λ b. (b < banks g) × BadSize g page b) n5 b (lt, bad);
-              units = beyond 5 5 (omega arith);
+          module _ (n4 : (b : ℕ) → FirstBank g (BadOffset g page) b → ⊥) where
+            first-5 : {b : ℕ} → FirstBank g (BadSize g page) b → Before 5 b
+            first-5 f = record {
+              paged = λ off. absurd (n1 tt off);
+              labels = λ x s. absurd (gone n2 x s);
+              aligns = λ x s. absurd (gone n3 x s);
+              offsets = λ x s. absurd (gone n4 x s);
+              sizes = own 5 f;
+              units = λ x s. inl (omega arith);
+              addrs = λ x s. inl (omega arith);
             }
 
-            six : ((b : ℕ) → FirstBank g (BadUnit g) b → ⊥) → Below 6
-            six n6 = record {
-              first = λ h. paged tt;
-              labels = λ h. three .labels (omega arith);
-              aligns = λ h. three .aligns (omega arith);
-              offsets = λ h. four .offsets (omega arith);
-              sizes = λ h. five .sizes (omega arith);
-              units = λ h b lt bad. none-at-all (λ b. (b < banks g) × BadUnit g b) n6 b (lt, bad);
-            }
+            module _ (n5 : (b : ℕ) → FirstBank g (BadSize g page) b → ⊥) where
+              first-6 : {b : ℕ} → FirstBank g (BadUnit g) b → Before 6 b
+              first-6 f = record {
+                paged = λ off. absurd (n1 tt off);
+                labels = λ x s. absurd (gone n2 x s);
+                aligns = λ x s. absurd (gone n3 x s);
+                offsets = λ x s. absurd (gone n4 x s);
+                sizes = λ x s. absurd (gone n5 x s);
+                units = own 6 f;
+                addrs = λ x s. inl (omega arith);
+              }
 
-    names : {k at : ℕ} → k ≤ 6 → Breaks g page k at → Below k → Names g page k at
-    names top b below = record { broken = b; first = before top below }
+              first-7 : ((b : ℕ) → FirstBank g (BadUnit g) b → ⊥) → {i : ℕ} → FirstNode g (BadAddr g) i → Before 7 i
+              first-7 n6 f = record {
+                paged = λ off. absurd (n1 tt off);
+                labels = λ x s. absurd (gone n2 x s);
+                aligns = λ x s. absurd (gone n3 x s);
+                offsets = λ x s. absurd (gone n4 x s);
+                sizes = λ x s. absurd (gone n5 x s);
+                units = λ x s. absurd (gone n6 x s);
+                addrs = own 7 f;
+              }
 
     -- What holds of every answer that names a rule, and of what comes then where none is broken, holds.
     pub rules-way : {Y : Type 0} (broken : (rule at : ℕ) → Y) {Then : Y → Type 0} (So : Y → Type 0) (y : Y)
         → ((rule at : ℕ) → Names g page rule at → So (broken rule at)) → (Keeps g page → Then y → So y) → Rules g page broken Then y → So y
     rules-way broken So y each then =
-        try-way So y (λ x off. each 1 0 (names (omega arith) (t.by-page off) one)) (λ n1.
-        try-way So y (λ b f. each 2 b (names (omega arith) (t.by-label (f .so .0) (f .so .1)) (two n1))) (λ n2.
-        try-way So y (λ i f. each 2 i (names (omega arith) (t.by-align (f .so .0) (f .so .1)) (two n1))) (λ n3.
-        try-way So y (λ b f. each 3 b (names (omega arith) (t.by-offset (f .so .0) (f .so .1)) (three n1 n2 n3))) (λ n4.
-        try-way So y (λ b f. each 4 b (names (omega arith) (t.by-size (f .so .0) (f .so .1)) (four n1 n2 n3 n4))) (λ n5.
-        try-way So y (λ b f. each 5 b (names (omega arith) (t.by-unit (f .so .0) (f .so .1)) (five n1 n2 n3 n4 n5))) (λ n6.
-        try-way So y (λ i f. each 6 i (names (omega arith) (t.by-addr (f .so .0) (f .so .1)) (six n1 n2 n3 n4 n5 n6))) (λ n7.
+        try-way So y (λ x off. each 1 0 (names (t.by-page off) first-1)) (λ n1.
+        try-way So y (λ b f. each 2 b (names (t.by-label (f .so .0) (f .so .1)) (first-2 n1 f))) (λ n2.
+        try-way So y (λ i f. each 2 i (names (t.by-align (f .so .0) (f .so .1)) (first-3 n1 n2 f))) (λ n3.
+        try-way So y (λ b f. each 3 b (names (t.by-offset (f .so .0) (f .so .1)) (first-4 n1 n2 n3 f))) (λ n4.
+        try-way So y (λ b f. each 4 b (names (t.by-size (f .so .0) (f .so .1)) (first-5 n1 n2 n3 n4 f))) (λ n5.
+        try-way So y (λ b f. each 5 b (names (t.by-unit (f .so .0) (f .so .1)) (first-6 n1 n2 n3 n4 n5 f))) (λ n6.
+        try-way So y (λ i f. each 6 i (names (t.by-addr (f .so .0) (f .so .1)) (first-7 n1 n2 n3 n4 n5 n6 f))) (λ n7.
         then (record { page-size = n1; labels = n2; aligns = n3; offsets = n4; sizes = n5; units = n6; addrs = n7 }))))))))

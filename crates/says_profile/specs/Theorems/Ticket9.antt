@@ -38,7 +38,7 @@ module _ (g : Given) (page : ℕ) where
       back (a.names c′ n) c h = absurd (breaks-not g page (n .broken) h)
       back (a.keeps c′ h′ y) c h = yes-zero g page y
 
-  -- "then with each bank's pages"; refused, it has none.
+  -- "then with each bank's pages"; refused, sixteen zeros.
   pub yes-pages : (r : DkProfile) → ProfileSays g page r → r .refusal ≡ 0 → Yes g page r
   yes-pages r s e = from (answers g page r s) e
     where
@@ -69,7 +69,7 @@ module _ (g : Given) (page : ℕ) where
       back (a.names c′ n) c h = refl
       back (a.keeps c′ h′ y) c h = absurd (h h′)
 
-  -- and "the answer names the first rule broken".
+  -- and "the answer names the first rule broken, 1 to 6 in this order, each ascending".
   pub nineteen-names : (r : DkProfile) → ProfileSays g page r → r .refusal ≡ 19 → Names g page (r .place) (r .second)
   nineteen-names r s e = from (answers g page r s) e
     where
