@@ -1,1 +1,2 @@
-// The sentences of `dk_build`: what the call says, in plain facts and in the numerals of the documents, and what follows from them alone. There is no code here.
+// The sentences of `dk_build`: what the call says, in plain facts and in the numerals of the documents, and what follows from them alone. No code is
+// here.

@@ -1,5 +1,6 @@
--- The edges of document 01's table of limits, from both sides, on plain layouts: so many banks without size, offset or alignment, all with one start, and so
--- many nodes of kind 0, with so many rows of zeros. Accepted up to each limit, refused one past it. It shows too that the sentences can be met.
+-- Five edges from both sides, of banks, a bank's start, nodes, rows and the fill's choice, on plain layouts: so many banks without size, offset or alignment,
+-- all with one start, and so many nodes of kind 0, with so many rows of zeros. Accepted up to each limit, refused one past it. The other limits of document
+-- 01's table are not here. It shows too that the sentences can be met.
 use mathlib.Core.Path.{_≡_, refl, sym, ap, subst, _∙_}
 use mathlib.Core.Bool.{Bool, true, false}
 use mathlib.Core.List.{List, []}

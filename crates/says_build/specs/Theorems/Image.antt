@@ -54,7 +54,7 @@ module _ (g : Given) where
             let e = offer-one g o (subst (λ (k : ℕ). Offer g r k y n) (sym same) q) in
             omega (arith, e .0, e .1)
 
-    -- "10: an item ends past its bank's size": none does.
+    -- 10: "an item ends past its bank's size": none does.
     pub items-end-inside : {i c p e m : ℕ} {k : Bool} → Placed g i → Sees g r i c p k → Extent g r i e → Size g c m → p + e ≤ m
     items-end-inside {i} {c} {p} {e} {m} {k} placed s x size =
         ⊎-elim (λ (h : p + e ≤ m). h) (λ (h : m < p + e). absurd (clear i (b.ten (placed, (c, p, k, e, m, s, x, size, h)))))

@@ -44,6 +44,7 @@ module _ (g : Given) (old : Lent) where
     pub long : Length g row (o .answer .length)
     pub image-room : o .answer .length ≤ 8 * length (old .image)
     pub spans : Spans g (nodes g) (o .answer .spans)
+    pub span-room : (o .answer .spans ≤ length (old .addresses)) × (o .answer .spans ≤ length (old .offsets)) × (o .answer .spans ≤ length (old .sizes))
     pub padding : Padding g row (o .answer .padding)
     pub left : Left g old row (o .answer .length) (o .answer .spans) (o .lent)
 
@@ -88,6 +89,9 @@ module _ (g : Given) (old : Lent) where
       refused-with 13 i 0 n (omega arith) (omega arith) (λ e. omega arith) h
   at-node o h (w.passed a (w.passed c (w.passed d (w.passed e (w.passed f never))))) = absurd never
 
+  least-room : (n room : ℕ) → Not (room < n) → n ≤ room
+  least-room n room none = ⊎-elim (λ (h : n ≤ room). h) (λ (h : room < n). absurd (none h)) (le-or-lt n room)
+
   module _ (there : Not (NoBanks g)) (good : (c : ℕ) → c < banks g → Not (BadBank g c)) (apart : (c d : ℕ) → Not (Overlap g c d))
       (fields : (f : ℕ) → Not (BadField g f)) (listed : (i : ℕ) → i < nodes g → Not (BadNode g i)) where
     laid : (o : Outcome) → Laid g old o → RefusedSo o ⊎ AcceptedSo o
@@ -99,7 +103,7 @@ module _ (g : Given) (old : Lent) where
         inl (refused-with 14 0 0 n (omega arith) (omega arith) (λ e. omega arith) (last-bounded p))
     laid o (b.built {n = n} p r u q (b.placed clear l c (w.passed a (w.refused x m)))) =
         inl (refused-with 14 1 0 n (omega arith) (omega arith) (λ e. omega arith) (last-bounded p))
-    laid o (b.built {r = row} p r u q (b.placed {l = bits} clear l c (w.passed wide (w.passed room (b.accepts sums left))))) =
+    laid o (b.built {r = row} p r u q (b.placed {l = bits} {c = count} clear l c (w.passed wide (w.passed room (b.accepts sums left))))) =
         inr (record {
           banks-there = there;
           banks-good = good;
@@ -114,9 +118,13 @@ module _ (g : Given) (old : Lent) where
           reads = q;
           none-refused = clear;
           long = l;
-          image-room = ⊎-elim (λ (h : bits ≤ 8 * length (old .image)). h) (λ (h : 8 * length (old .image) < bits). absurd (wide tt h))
-              (le-or-lt bits (8 * length (old .image)));
+          image-room = least-room bits (8 * length (old .image)) (λ h. wide tt h);
           spans = c;
+          span-room = (
+            least-room count (length (old .addresses)) (λ h. room tt (inl h)),
+            least-room count (length (old .offsets)) (λ h. room tt (inr (inl h))),
+            least-room count (length (old .sizes)) (λ h. room tt (inr (inr h))),
+          );
           padding = sums;
           left = left;
         })
@@ -134,7 +142,7 @@ module _ (g : Given) (old : Lent) where
       laid (λ n. a tt n) (λ x h s. none-at-all (λ y. (y < banks g) × BadBank g y) c x (h, s)) (no-pair-at-all (Overlap g) (λ x y p. d (x, y) p))
       (none-at-all (BadField g) e) (λ i h s. none-at-all (λ y. (y < nodes g) × BadNode g y) f i (h, s)) o l
 
-  -- ---- demand 1, and what comes of it
+  -- ---- accepted and refused, told by the answer's number
 
   refused-not-0 : {o : Outcome} → RefusedSo o → o .answer .refusal ≡ 0 → ⊥
   refused-not-0 {o} x e =
