@@ -1,8 +1,11 @@
--- Ticket 14, "Raising the pass limit is harmless": "when a layout is accepted with K below its limit, every limit above K gives the same K, passes run, image,
--- spans", padding too, "over the same rows". That passes run never exceed the larger of 1 and the limit is `passes-within-limit` of says_build.
+-- Ticket 14, "Raising the pass limit is harmless": "when a layout is accepted with K below its limit, every limit above K gives the same K, passes run,
+-- image, spans and blocks, over the same rows", padding too. The blocks are `dk_blocks`' of the spans that the build leaves. That passes run never exceed the
+-- larger of 1 and the limit is `passes-within-limit` of says_build.
 use mathlib.Core.Path.{_≡_, refl, sym, ap, subst, _∙_}
+use mathlib.Core.List.{List}
 use Prim.Native.Nat.{ℕ, _≤_, _<_}
 use native.Mathlib.Omega.{arith}
+use lib.ListN.{take}
 use Rattle.refusal.specs.Refusals.{numberOf}
 use Rattle.refusal.specs.Theorems.Told.{number-some}
 use Rattle.output.specs.Calls.{Accepted}
@@ -16,6 +19,9 @@ use Rattle.output.specs.declared.Output.{Output}
 use Rattle.resolver.specs.declared.Settled.the-variants.{At}
 use Rattle.output.specs.Output.{settledOf}
 use Rattle.c_answers.specs.Told.{layoutTold}
+use Rattle.says.specs.Blocks as blocks
+use Rattle.says.specs.Blocks.{BlocksSay}
+use Rattle.says.specs.Theorems.Blocks.{blocks-decides}
 use Rattle.says_build.specs.Build.{Given, Lent, Outcome, BuildSays}
 use Rattle.says_build.specs.Typed.{Typed}
 use Rattle.says_meets.specs.Laws.Contract.{lentSo, inputOf}
@@ -65,6 +71,10 @@ done-so x e = by (x .build) refl
         told-number : x .build ≡ Refused why → layoutTold x .refusal ≡ numberOf why
         told-number f = rw f
 
+-- what the spans that a build leaves give as blocks, in two lists lent for them: the sentences of `blocks::get_blocks`, which `dk_blocks` says in numbers
+abbrev pub BlocksOf : Outcome → (starts sizes : List ℕ) → blocks.Outcome → Type 0
+BlocksOf o = BlocksSay (take (o .answer .spans) (o .lent .offsets)) (take (o .answer .spans) (o .lent .sizes))
+
 module _ (g : Given) (typed : Typed g) (old : Lent) (n : ℕ) (byte : n ≤ 255) where
   typed′ : Typed (withLimit g n)
   typed′ = typed-with g typed n byte
@@ -103,3 +113,11 @@ module _ (g : Given) (typed : Typed g) (old : Lent) (n : ℕ) (byte : n ≤ 255)
             spans = spans;
             done = e;
           }
+
+  -- "and blocks"
+  pub raised-limit-same-blocks : (o p : Outcome) → BuildSays g old o → o .answer .refusal ≡ 0 → o .answer .k < g .limit → o .answer .k < n
+      → BuildSays (withLimit g n) old p → (starts sizes : List ℕ) (x y : blocks.Outcome) → BlocksOf o starts sizes x → BlocksOf p starts sizes y → y ≡ x
+  raised-limit-same-blocks o p says done below more says′ starts sizes x y ofo ofp =
+      let same : p ≡ o = raised-limit-is-harmless o p says done below more says′ in
+      blocks-decides (take (o .answer .spans) (o .lent .offsets)) (take (o .answer .spans) (o .lent .sizes)) starts sizes y x
+      (subst (λ (q : Outcome). BlocksOf q starts sizes y) same ofp) ofo
