@@ -1,6 +1,6 @@
 -- Ticket 9 of what `dk_profile` and `dk_build_paged` say, from their sentences alone: with `profile-meets` and `paged-meets` it holds of every call.
 use mathlib.Core.Path.{_≡_, refl, ap, _∙_}
-use mathlib.Core.Logic.{⊎-elim, _↔_}
+use mathlib.Core.Logic.{_⊎_, inl, inr, ⊎-elim, _↔_}
 use Prim.Native.Nat.{ℕ, _+_, _/_, _%_, _≤_, _<_}
 use native.Mathlib.Nat.{zero-div}
 use native.Mathlib.Omega.{arith}
@@ -13,7 +13,8 @@ use Rattle.says_build.specs.Build.{Offer, Laid, BuildSays, refusal}
 use Rattle.says_profile.specs.Profile as p
 use Rattle.says_profile.specs.Profile.{BadLabel, BadSize, Rules, Pages, Yes, ProfileSays, refused}
 use Rattle.says_profile.specs.Paged.{PagedSays}
-use Rattle.says_profile.specs.Ticket9.{Sound, Holds, Names, InPages}
+use Rattle.says_profile.specs.Ticket9 as t
+use Rattle.says_profile.specs.Ticket9.{Sound, Holds, Breaks, Names, InPages}
 use Rattle.says_profile.specs.Laws.Answers as a
 use Rattle.says_profile.specs.Laws.Answers.{Answers, answers, yes-zero, turned, Comes, comes, laid-later, fine, in-pages}
 use Rattle.says_profile.specs.Laws.Ruled.{not-one}
@@ -77,6 +78,33 @@ module _ (g : Given) (page : ℕ) where
       from (a.early lo hi n) e = absurd (omega arith)
       from (a.names c n) e = n
       from (a.keeps c h y) e = absurd (let z = yes-zero g page y in omega arith)
+
+  -- a turn is one rule's
+  turn-rule : {turn rule at : ℕ} → Breaks g page turn rule at → ((turn ≤ 2) × (rule ≡ turn)) ⊎ ((2 < turn) × (rule + 1 ≡ turn))
+  turn-rule (t.by-page off) = inl (omega arith, refl)
+  turn-rule (t.by-label h bad) = inl (omega arith, refl)
+  turn-rule (t.by-align h bad) = inr (omega arith, refl)
+  turn-rule (t.by-offset h bad) = inr (omega arith, refl)
+  turn-rule (t.by-size h bad) = inr (omega arith, refl)
+  turn-rule (t.by-unit h bad) = inr (omega arith, refl)
+  turn-rule (t.by-addr h bad) = inr (omega arith, refl)
+
+  -- There is one rule and one bank or node to name.
+  pub names-one : (rule at other place : ℕ) → Names g page rule at → Names g page other place → (rule ≡ other) × (at ≡ place)
+  names-one rule at other place m n = by (m .first (n .turn) other place (n .broken)) (n .first (m .turn) rule at (m .broken))
+    where
+      by : (m .turn < n .turn) ⊎ ((m .turn ≡ n .turn) × (at ≤ place)) → (n .turn < m .turn) ⊎ ((n .turn ≡ m .turn) × (place ≤ at))
+          → (rule ≡ other) × (at ≡ place)
+      by (inl x) (inl y) = absurd (omega arith)
+      by (inl x) (inr y) = absurd (omega (arith, y .0))
+      by (inr x) (inl y) = absurd (omega (arith, x .0))
+      by (inr x) (inr y) = (
+        ⊎-elim
+            (λ p. ⊎-elim (λ q. omega (arith, x .0, p .1, q .1)) (λ q. absurd (omega (arith, x .0, p .0, q .0))) (turn-rule (n .broken)))
+            (λ p. ⊎-elim (λ q. absurd (omega (arith, x .0, p .0, q .0))) (λ q. omega (arith, x .0, p .1, q .1)) (turn-rule (n .broken)))
+            (turn-rule (m .broken)),
+        omega (arith, x .1, y .1),
+      )
 
   -- ---- the edges, for every layout
 
