@@ -22,6 +22,8 @@ SENTENCES = {
                    'says_build/Typed.Typed'),
     'dk_form': ('says_form/Form.FormSays', 'says_form/FormMeets.form-meets', 'says_form/FormDecides.form-decides',
                 'form_fields/Whole.Bytes'),
+    'dk_form_paged': ('says_form_paged/FormPaged.FormPagedSays', 'says_form_paged/Meets.form-paged-meets',
+                      'says_form_paged/Decides.form-paged-decides', 'form_fields/Whole.Bytes'),
     'dk_offer': ('says_store/Store.OfferSays', 'says_store/Meets.offer-meets', 'says_store/Decides.offer-decides',
                  'says_store/Store.Arrays'),
     'dk_blocks': ('says_bits/Blocks.DkBlocksSay', 'says_bits/Blocks.dk-blocks-meets', 'says_bits/Blocks.dk-blocks-decides'),
