@@ -23,7 +23,7 @@ use Rattle.form_convert.specs.declared.Conversion.{Conversion}
 use Rattle.form_convert.specs.declared.Conversion.the-variants.{Converted, Refused}
 use Rattle.form_rewrite.specs.Laws.Fitting.{shortened-fits, rest-long, narrowed-long, shape-two, shape-some}
 use Rattle.form_rewrite.specs.Theorems.Fitting.{lengthened-fits, lengthened-long, form1-fits, form2-fits}
-use Rattle.form_convert.proofs.Laws.{first-within}
+use Rattle.thm_conversions.specs.Laws.ThereAndBack.{first-within}
 use Rattle.form_rewrite.specs.Turning.{strays, turned, zeros, lengthened, widened, alone, shaped, shortened, narrowed, toForm2, toForm1, dropsBit}
 use Rattle.thm_conversions.specs.Theorems.Conversions.{turned-file}
 use Rattle.thm_conversions.specs.Theorems.Exceptions.{one-bank-comes-back-as-shape, full-one-bank-not-again, shape-comes-back-as-one-bank}
