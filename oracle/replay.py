@@ -24,8 +24,8 @@ LIST = compare.HERE / "replay" / "cases.tsv"
 
 # So many cases of each answer.
 WANTED = {
-    "ok": 130, "refused 3": 25, "refused 7": 30, "refused 8": 30, "refused 9": 20, "refused 10": 30, "refused 11": 20,
-    "refused 12": 50, "no say: 1": 6, "no say: 2": 12, "no say: 4": 45, "no say: 5": 14, "no say: alignment below zero": 24, "no say: 14": 6,
+    "ok": 136, "refused 3": 25, "refused 7": 30, "refused 8": 30, "refused 9": 20, "refused 10": 30, "refused 11": 20,
+    "refused 12": 50, "no say: 1": 6, "no say: 2": 14, "no say: 4": 46, "no say: 5": 14, "no say: alignment below zero": 24, "no say: 14": 6,
     "no say: empty placement, departing": 20, "no say: empty placement, the same anyway": 14}
 SECOND = 8      # of form 2 so many of each answer
 
@@ -96,6 +96,17 @@ def at_the_limits():
     yield encode(laid([Bank(offset=0)], [(DATA, 0, 8 * 16_384), (RESERVE, 0, 1), (INSTRUCTION, 0, 1)], full))
 
 
+def limits():
+    """Counts and numbers at their limits, and one beyond where no other case has it: banks, rows, nodes and spans, a bank's start."""
+    for banks in (15, 16):
+        yield encode(laid([Bank()] + [Bank(size=8, offset=8 * i) for i in range(banks - 1)], [(SWITCH, banks - 1, 0), (INSTRUCTION, 0, 8)]))
+    example = worked_example()
+    yield encode(Layout(example.banks, example.nodes, example.rows * 16, example.values, 10))
+    yield from (encode(laid([Bank(offset=0)], [(LABEL, 1, 0)] * (nodes - 1) + [(INSTRUCTION, 0, 8)])) for nodes in (4_096, 4_097))
+    for start in (2 ** 40, 2 ** 40 + 1, -2 ** 40, -2 ** 40 - 1):
+        yield encode(laid([Bank(), Bank(start=start, offset=0)], [(SWITCH, 1, 0), (LABEL, 0, 0), (INSTRUCTION, 0, 8)]))
+
+
 def broken_second():
     """Each way to break a file of form 2, and what a reader of the other form makes of it."""
     whole = [one(tag, payload) for tag, payload in fields(examples.EXAMPLES["erased"][1])]
@@ -147,6 +158,7 @@ def named():
     yield from (encode(layout) for layout in known_ness())
     yield from (encode(layout) for layout in full_stores())
     yield from broken_files()
+    yield from limits()
 
 
 def drawn(seed):
