@@ -7,7 +7,7 @@ lines that are indented by four):
       says: the sentence, quoted, or what is proved in words
       theorem: the names of theorems in backquotes, with remarks; the first statements, up to the first semicolon, are quoted below the row, the others
         linked. Or `none: why`
-      where: names that the statement needs to be read, sentences first; each is quoted once on the page, in the first row that names it
+      where: names that the statement needs to be read, sentences first; sentences are quoted, definitions where they are short
       contract: crate::function, ..; what it ensures is quoted
       only: said where uniqueness is the only theorem: what then says the sentence
       definition: names, links to file and line;   function:, edit:, note: as they are
@@ -45,11 +45,11 @@ CITED = re.compile(r'`([a-z_0-9]+)(/|::|!)([^` ]+)`')
 UNIQUE_FILE = re.compile(r'Unique$')
 UNIQUE_NAME = re.compile(r'(-unique|-ensures|-decides)$|^one-(outcome|writing|paged|write|read|way|offer|build|file-build|built-in)$')
 # so many statements of a row are quoted, the others linked
-QUOTED = 2
+QUOTED = 6
 # the crate whose contracts are quoted, function by function
 EXPORTS = 'denkumari'
 LONGEST = 40
-SHORT = 5
+SHORT = LONGEST
 
 faults = []
 
@@ -144,7 +144,7 @@ def laid(declarations, whole):
     return out
 
 
-# what the page quotes of what statements speak of, each once: name, and the first row that says `where`
+# what the page quotes of what statements speak of: name, and the first row that says `where`, to which words are linked
 quoted_in = {}
 met = set()
 
@@ -332,6 +332,21 @@ def is_short(cited, where):
     return d is not None and len(d.whole) <= SHORT
 
 
+def concluded(cited, where):
+    """The facts by whose names alone statements end: what follows, said elsewhere."""
+    out = []
+    for crate, rest in cited:
+        d = find(crate, rest, where)
+        if not d or is_unique(crate, rest) or re.search(r'-meets?$', rest):
+            continue
+        last = re.match(r'\s*([A-Z][\w₀₁₂′-]*)', re.split(r'→|:', ' '.join(d.signature))[-1])
+        for key, there in spoken_of([(crate, rest)], where)[0]:
+            name = tuple(word_name(key, there).split('/', 1))
+            if last and key == last.group(1) and there.definition and name not in out and find(*name, where) is there:
+                out.append(name)
+    return out
+
+
 def write_row(b):
     out = [f'#### {b.name}'] + wrapped(b['says'], '> ', '> ') + ['']
     theorem, cited = b['theorem'], statements(b['theorem'])
@@ -359,23 +374,31 @@ def write_row(b):
                 text = text.replace('`' + '/'.join(c) + '`', source_link(*c, b.where))
         out += wrapped(f'Theorem: {text}')
     out += quote(first, False, b.where)
-    shown, linked = [c for c in statements(b['where']) if c not in cited], ''
+    named = [c for c in statements(b['where']) if c not in cited]
+    shown, linked = named, ''
     if b['where']:
-        # each is quoted once on the page, in the first row that names it; beside a theorem over sentences the definitions are linked
+        # sentences are quoted in every row that names them, definitions where they are short; beside a theorem over sentences definitions are linked
         said = any(c[0].startswith('says') for c in first)
-        new = [c for c in shown if '/'.join(c) not in quoted_in and (c[0].startswith('says') or not said and is_short(c, b.where))]
+        quoted = [c for c in shown if c[0].startswith('says') or not said and is_short(c, b.where)]
         text = b['where']
         for c in shown:
-            name = '/'.join(c)
-            if c not in new:
-                text = text.replace(f'`{name}`', f'[`{name}`](#{quoted_in[name]})' if name in quoted_in else source_link(*c, b.where))
-        for c in new:
-            quoted_in['/'.join(c)] = b.name
-        if new:
-            out += wrapped(f'With {text}') + quote(new, True, b.where)
+            if c not in quoted:
+                name = '/'.join(c)
+                text = text.replace(f'`{name}`', source_link(*c, b.where))
+        for c in quoted:
+            quoted_in.setdefault('/'.join(c), b.name)
+        if quoted:
+            out += wrapped(f'With {text}') + quote(quoted, True, b.where)
         else:
             linked = f'With {text.rstrip(".")}.'
-        shown = new
+        shown = quoted
+    # a statement that ends in a fact by its name says what the fact says
+    ends = [c for c in concluded(first, b.where) if c not in named and is_short(c, b.where)]
+    if ends:
+        out += quote(ends, True, b.where)
+        shown = shown + ends
+        for c in ends:
+            quoted_in.setdefault('/'.join(c), b.name)
     if b['contract']:
         out += contracts(b['contract'], b.where)
     foot = [f'{key.capitalize()}: {with_links(b[key], b.where) if key == "definition" else b[key]}.' for key in ('definition', 'function', 'edit') if b[key]]
