@@ -596,7 +596,7 @@ PATH = re.compile(r'(?<![\w/.\-])((?:' + '|'.join(map(re.escape, TOPS)) + r')/[\
 
 
 def documents():
-    """Paths and names of the repository that documents cite, and the versions."""
+    """Paths and names of the repository that documents cite, the versions, and lines of the crates that are too long."""
     texts = sorted(glob.glob(os.path.join(ROOT, 'docs/*.md'))) + [os.path.join(ROOT, n) for n in ('README.md', 'NOTICE')]
     for file in texts:
         here = os.path.relpath(file, ROOT)
@@ -624,6 +624,11 @@ def documents():
         here = os.path.relpath(file, ROOT)
         for m in re.finditer(r'\bDenkumari (\d+\.\d+\.\d+)', read(here) if os.path.isfile(file) else ''):
             said[here] = m.group(1)
+    for file in sorted(glob.glob(os.path.join(ROOT, 'crates/**/*.antt'), recursive=True) + glob.glob(os.path.join(ROOT, 'crates/**/*.rt'), recursive=True)):
+        here = os.path.relpath(file, ROOT)
+        for n, line in enumerate(read(here).split('\n'), 1):
+            if len(line) > 160:
+                fault(f'{here}:{n}: longer than 160 characters')
     if len(set(said.values())) > 1:
         fault('the versions differ: ' + ', '.join(f'{k} {v}' for k, v in sorted(said.items())))
 

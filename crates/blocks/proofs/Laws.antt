@@ -71,10 +71,6 @@ module _ (words sizes : List ℕ) where
   pub acceptable-few : length words ≡ length sizes → length words ≤ maxNodes → allWithin (spansOf words sizes) ≡ acceptable words sizes
   acceptable-few e h = rw (eq-eqb (length words) (length sizes) e, le-leb (length words) maxNodes h)
 
-  pub acceptable-parts : acceptable words sizes ≡ true
-      → (length words ≡ length sizes) × (length words ≤ maxNodes) × (allWithin (spansOf words sizes) ≡ true)
-  acceptable-parts = parts words sizes
-
 pub put-nothing : (count : ℕ) (os ss : List ℕ) → Put [] count os ss count os ss
 put-nothing count os ss = record { counted = sym (add-zero count); first = refl; second = refl }
 

@@ -27,5 +27,6 @@ module _ (test : ℕ → Bool) where
       → at + lengthFrom test at (to - at) ≡ (i + n) + lengthFrom test (i + n) (to - (i + n))
   look-far zero at to i h e inv = inv ∙ ap (λ (k : ℕ). k + lengthFrom test k (to - k)) (omega arith)
   look-far (suc n) at to i h e inv =
-      look-far n at to (i + 1) (omega arith) (λ x lo hi. e x (omega arith) (omega arith)) (look-on test at to i (omega arith) (e i (omega arith) (omega arith)) inv)
+      look-far n at to (i + 1) (omega arith) (λ x lo hi. e x (omega arith) (omega arith))
+      (look-on test at to i (omega arith) (e i (omega arith) (omega arith)) inv)
       ∙ ap (λ (k : ℕ). k + lengthFrom test k (to - k)) (omega arith)

@@ -15,7 +15,8 @@ use Rattle.refusal.specs.Pick.{pick}
 use Rattle.record_lines.specs.Items.{Item, gives, passes, ends, bad, itemOf, plainLine, Says}
 use Rattle.record_lines.specs.Sums.{sumOf}
 use Rattle.record_lines.specs.declared.Line.{Line}
-use Rattle.record_srec_line.specs.Srec.{isS, isSound, agrees, numberFrom, countOf, addressOf, dataOf, fits, dataLine, endLine, headerLine, typed, srecItem}
+use Rattle.record_srec_line.specs.Srec.{isS, isSound, agrees, numberFrom, countOf, addressOf, dataOf, fits, dataLine, endLine}
+use Rattle.record_srec_line.specs.Srec.{headerLine, typed, srecItem}
 
 -- ---- what a line's fields say
 

@@ -11,7 +11,8 @@ ghost use Rattle.record_lines.specs.Items.{plainLine, Says};
 ghost use Rattle.record_lines.specs.Pieces.{piece};
 ghost use Rattle.record_lines.specs.Puts.{Puts};
 ghost use Rattle.record_lines.specs.Sums.{sumOf};
-ghost use Rattle.record_srec_line.specs.Srec.{isS, isSound, agrees, countOf, addressOf, dataLine, endLine, headerLine, typed, srecItem, firstFor, firstOf};
+ghost use Rattle.record_srec_line.specs.Srec.{isS, isSound, agrees, countOf, addressOf, dataLine, endLine, headerLine, typed};
+ghost use Rattle.record_srec_line.specs.Srec.{srecItem, firstFor, firstOf};
 ghost use Rattle.record_srec_line.specs.Srec.{headOf, widthOf, partsOf, endedLine, srecText, srecEnd};
 
 fn is_s(c: u8) -> bool

@@ -13,7 +13,8 @@ use Rattle.bankdef.specs.Laws.Integers.{between}
 use Rattle.refusal.specs.Limits.{maxStart}
 use Rattle.bankdef.specs.declared.Bankdef.{Bankdef}
 use Rattle.bankdef.specs.Laws.Numbers.{zero-size}
-use Rattle.bankdef.specs.Numbers.{Faulty, SoundBank, bank-0-one, bankFault, far-start, faultAt, fillBit, filled-empty, isZero, no-bit, no-unit, startSound, zeroFault}
+use Rattle.bankdef.specs.Numbers.{Faulty, SoundBank, bank-0-one, bankFault, far-start, faultAt, fillBit, filled-empty, isZero, no-bit}
+use Rattle.bankdef.specs.Numbers.{no-unit, startSound, zeroFault}
 
 -- The start's range is a bound on its magnitude.
 pub start-by-magnitude : (start : ℤ) → startSound start ≡ leb (natAbs start) maxStart

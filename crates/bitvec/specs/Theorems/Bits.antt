@@ -42,9 +42,3 @@ same-bits l m hl hm e same =
     byte-numeral l hl j
     ∙ numeral-cong 8 (λ b. bitAt l (8 * j + b)) (λ b. bitAt m (8 * j + b)) (λ b hb. same (8 * j + b) (omega arith))
     ∙ sym (byte-numeral m hm j)
-
--- Bytes are made of their own bits.
-pub ofBits-bitAt : (l : List ℕ) → Bytes l → ofBits (length l) (bitAt l) ≡ l
-ofBits-bitAt l h =
-    same-bits (ofBits (length l) (bitAt l)) l (bytes-ofBits (length l) (bitAt l) (bitAt-lt l)) h (length-ofBits (length l) (bitAt l))
-    λ k lt. bitAt-ofBits (length l) (bitAt l) (bitAt-lt l) k (omega (arith, length-ofBits (length l) (bitAt l)))

@@ -51,7 +51,8 @@ use Rattle.build_map.specs.Laws.TracedLaws.{stopped-at, traced-stopped}
 use Rattle.build_map.specs.declared.Fault.the-variants.{At as AtNode}
 use Rattle.build_map.specs.declared.Reach.{Reach}
 use Rattle.build_map.specs.AsBuilt.{Agree, accepted, refused, short}
-use Rattle.build_map.specs.Laws.AsBuilt.{agree-settled, fault-same, first-stopped, item-size, label-size, never-done, never-fault, never-refused, turned-same, verdict-same}
+use Rattle.build_map.specs.Laws.AsBuilt.{agree-settled, fault-same, first-stopped, item-size, label-size, never-done, never-fault}
+use Rattle.build_map.specs.Laws.AsBuilt.{never-refused, turned-same, verdict-same}
 
 -- one layout, mapped and built
 module _ (m : Call) (c : build.Call) (one : m .given ≡ c .given) where

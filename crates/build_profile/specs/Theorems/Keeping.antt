@@ -14,7 +14,8 @@ use Rattle.lists.specs.Lists.{Lists}
 use Rattle.resolver.specs.Once.{bankRecord}
 use Rattle.build_profile.specs.Theorems.OneBit.{one-bit-exactly}
 use Rattle.build_profile.specs.Laws.RuleLaws.{kept-all, all-kept}
-use Rattle.build_profile.specs.Rules.{aligned, bankAligned, nodeAligned, multiple, onPage, wholePages, unitKept, addrKept, numberIn, alignsKept, addrsKept}
+use Rattle.build_profile.specs.Rules.{aligned, bankAligned, nodeAligned, multiple, onPage, wholePages, unitKept, addrKept, numberIn}
+use Rattle.build_profile.specs.Rules.{alignsKept, addrsKept}
 use Rattle.build_profile.specs.Standing.{bankOfNode}
 use Rattle.build_profile.specs.Keeping.{AddrKept, AlignKept, Aligned, LabelAligned, OffsetKept, SizeKept, UnitKept}
 use Rattle.build_profile.specs.Laws.Keeping.{in-rows, never, of-some, page-test, size-test, unit-test}

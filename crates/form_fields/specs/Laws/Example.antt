@@ -11,7 +11,8 @@ use Rattle.form_fields.specs.declared.Form.the-variants.{Broken}
 use Rattle.form_fields.specs.Words.{word16}
 use Rattle.form_fields.specs.Fields.{fieldAt, soundAt, runIn, run}
 use Rattle.form_fields.specs.Kind.{begins2, kindOf}
-use Rattle.form_fields.specs.Shape.{bankCountIn, nodesStartIn, nodeCountIn, rowsStartIn, rowCountIn, valuesStartIn, valuesSizeIn, limitStartIn, fieldsBeforeIn}
+use Rattle.form_fields.specs.Shape.{bankCountIn, nodesStartIn, nodeCountIn, rowsStartIn, rowCountIn, valuesStartIn, valuesSizeIn}
+use Rattle.form_fields.specs.Shape.{limitStartIn, fieldsBeforeIn}
 use Rattle.form_fields.specs.Shape.{shapeIn, formIn, formOf}
 use Rattle.form_fields.specs.Writer.{Node, Cell, Layout}
 use Rattle.form_fields.specs.Example.{exampleFile}

@@ -17,7 +17,8 @@ use Rattle.form_fields.specs.Fields.{fieldAt, run}
 use Rattle.form_fields.specs.Laws.Fields.{field-ends, by-test}
 use Rattle.form_fields.specs.Kind.{Known, headed}
 use Rattle.form_fields.specs.Laws.Kind.{known-longest}
-use Rattle.form_fields.specs.Shape.{bankCountIn, nodesStartIn, nodeCountIn, rowsStartIn, rowCountIn, valuesStartIn, valuesSizeIn, limitStartIn, fieldsBeforeIn}
+use Rattle.form_fields.specs.Shape.{bankCountIn, nodesStartIn, nodeCountIn, rowsStartIn, rowCountIn, valuesStartIn, valuesSizeIn}
+use Rattle.form_fields.specs.Shape.{limitStartIn, fieldsBeforeIn}
 use Rattle.form_fields.specs.Shape.{shapeIn, formIn, Counted}
 use Rattle.form_fields.specs.Laws.Within.{fields-within}
 

@@ -24,7 +24,8 @@ use Rattle.form_fields.specs.Writer.{Node, Cell, Layout, bankBytes, node
 use Rattle.form_fields.specs.Has.{Has}
 use Rattle.form_fields.specs.Theorems.Has.{has-left, has-right, has-byte, field-size, field-payload, field-there}
 use Rattle.form_fields.specs.Laws.Has.{field-length}
-use Rattle.form_fields.specs.Laws.Parts.{Any, each-any, field-long, bank-fits, bank-back, node-length, row-length, kind-back, operand-back, cells-of, number-back}
+use Rattle.form_fields.specs.Laws.Parts.{Any, each-any, field-long, bank-fits, bank-back, node-length, row-length, kind-back}
+use Rattle.form_fields.specs.Laws.Parts.{operand-back, cells-of, number-back}
 use Rattle.form_fields.specs.Laws.Parts.{state-back}
 use Rattle.form_fields.specs.Laws.Rest.{form-sound}
 use Rattle.form_fields.specs.Sections.{Begins, Stops}

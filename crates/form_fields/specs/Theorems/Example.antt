@@ -7,7 +7,8 @@ use Rattle.form_fields.specs.declared.Form.the-variants.{Sound, Broken}
 use Rattle.form_fields.specs.Words.{word16}
 use Rattle.form_fields.specs.Fields.{fieldAt, soundAt, runIn, run}
 use Rattle.form_fields.specs.Kind.{form1, begins2, kindOf}
-use Rattle.form_fields.specs.Shape.{bankCountIn, nodesStartIn, nodeCountIn, rowsStartIn, rowCountIn, valuesStartIn, valuesSizeIn, limitStartIn, fieldsBeforeIn}
+use Rattle.form_fields.specs.Shape.{bankCountIn, nodesStartIn, nodeCountIn, rowsStartIn, rowCountIn, valuesStartIn, valuesSizeIn}
+use Rattle.form_fields.specs.Shape.{limitStartIn, fieldsBeforeIn}
 use Rattle.form_fields.specs.Shape.{shapeIn, formIn, formOf}
 use Rattle.form_fields.specs.Contents.{bytes16, bytes32, bytes64, field, flat, written}
 use Rattle.form_fields.specs.Writer.{flagsOf, bankBytes, encode}

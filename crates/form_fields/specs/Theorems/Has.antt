@@ -15,9 +15,6 @@ use Rattle.form_fields.specs.Has.{Has}
 use Rattle.form_fields.specs.Laws.Has.{field-length}
 
 module _ {file : List ℕ} where
-  pub has-all : Has file 0 file
-  has-all = record { rest = []; is = sym (append-nil file) }
-
   module _ {at : ℕ} where
     pub has-left : (a b : List ℕ) → Has file at (a ++ b) → Has file at a
     has-left a b h = record { rest = b ++ h .rest; is = h .is ∙ append-assoc a b (h .rest) }

@@ -15,7 +15,8 @@ use Rattle.form_fields.specs.Contents.{bytes16, field, flat, Contents, w
 use Rattle.form_fields.specs.Theorems.Has.{has-left}
 use Rattle.form_fields.specs.Laws.Parts.{field-long}
 use Rattle.form_fields.specs.Laws.RoundTrip.{begins, halts, values-field, values-begin, values-long, limit-is, written-sound}
-use Rattle.form_fields.specs.Laws.Sections.{bank-long, nodesAt, rowsAt, valuesAt, from-banks, from-nodes, from-rows, banks-are, nodes-start, nodes-are, rows-start}
+use Rattle.form_fields.specs.Laws.Sections.{bank-long, nodesAt, rowsAt, valuesAt, from-banks, from-nodes, from-rows, banks-are}
+use Rattle.form_fields.specs.Laws.Sections.{nodes-start, nodes-are, rows-start}
 use Rattle.form_fields.specs.Laws.Sections.{rows-are}
 use Rattle.form_fields.specs.Writer.{shapeFor}
 use Rattle.form_fields.specs.Laws.Written.{column-of}

@@ -53,10 +53,6 @@ module _ (def : Bankdef) (walk : Walk) (node : Node) where
       (λ t. absurd (never p (Malformed (node .index)) (sym e ∙ ap (λ (s : Stepped). s .seen) (outside def walk node (bankAfter (walk .bank) node) refl t))))
       (λ t. t)
 
-  -- A malformed bank number or state is refused 4 at the node, before anything else.
-  pub step-four-when : malformed (bankAfter (walk .bank) node) node ≡ true → toldMoved (stepOf def walk node .seen) ≡ refuses 4 (One (node .index))
-  step-four-when t = ap (λ (s : Stepped). toldMoved (s .seen)) (outside def walk node (bankAfter (walk .bank) node) refl t)
-
   -- A step that is made leaves in the bank that the node stands in the position to which the node's own advance leads, from what it saw.
   pub own-bank : (p : Pos) → length (walk .at) ≡ maxBanks → stepOf def walk node .seen ≡ To p
       → (q : Pos) × (advancedOf def p node ≡ To q) × (getD (stepOf def walk node .walk .at) (bankAfter (walk .bank) node) origin ≡ q)

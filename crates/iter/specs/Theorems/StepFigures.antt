@@ -44,9 +44,11 @@ module _ (def : Bankdef) (walk : Walk) (node : Node) where
     went p e = subst (λ (m : Moved). Advances def p node (toldMoved m)) e (advance-told def p node)
 
     -- a step by what the node sees and where it moves
-    from-advance : (p : Pos) → seenOf def (standing walk node) node ≡ To p → (m : Moved) → advancedOf def p node ≡ m → (StepTold def walk node) (stepOf def walk node)
+    from-advance : (p : Pos) → seenOf def (standing walk node) node ≡ To p → (m : Moved) → advancedOf def p node ≡ m
+        → (StepTold def walk node) (stepOf def walk node)
     from-advance p s (To q) a =
-        subst (StepTold def walk node) (sym (law.moves def walk node (bankOf def walk node) refl sound p q s a)) (made inside state p q _ (saw s) (went p a) (counts p q s a))
+        subst (StepTold def walk node) (sym (law.moves def walk node (bankOf def walk node) refl sound p q s a))
+        (made inside state p q _ (saw s) (went p a) (counts p q s a))
     from-advance p s (Refused why) a =
         subst (StepTold def walk node) (sym (law.stuck def walk node (bankOf def walk node) refl sound p why s a)) (stuck inside state p (saw s) (went p a))
 

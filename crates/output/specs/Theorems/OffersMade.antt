@@ -78,9 +78,6 @@ module _ (c : Call) where
   stopped Accepted s why e = absurd (let z : _≡_ {A = ℕ} 0 1 = cc in omega arith)
   stopped (TurnedAway other) s why e = cc
 
-  stops-same : {a b : Refusal} → stops a ≡ stops b → a ≡ b
-  stops-same e = cc
-
   none-stops : (why : Refusal) → placedAll (closedIn c) (visitsBefore c 0) ≡ stops why → ⊥
   unfolding placedFrom
   none-stops why e =

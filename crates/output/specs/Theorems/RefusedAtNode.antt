@@ -36,7 +36,8 @@ use Rattle.build_plan.specs.Laws.PlacingLaws.{picked-some, offer-is, placed-acc
 use Rattle.output.specs.OffersWithin.{OffsetsFit}
 use Rattle.output.specs.Theorems.OffersWithin.{offers-within}
 use Rattle.output.specs.Calls.{Call, closedIn, programIn, rowIn, visitIn, visitsBefore}
-use Rattle.output.specs.Laws.RefusedAtNode.{both, cause-there, decided, gave-refused, holds-not, lacks, not-holds, nowhere, past, perm-length, same-told, store-number, there, uses-default}
+use Rattle.output.specs.Laws.RefusedAtNode.{both, cause-there, decided, gave-refused, holds-not, lacks, not-holds, nowhere, past}
+use Rattle.output.specs.Laws.RefusedAtNode.{perm-length, same-told, store-number, there, uses-default}
 use Rattle.output.specs.RefusedAtNode.{Cause, Eleven, Nine, PlacedKind, Reaches, RefusedThere, Ten, eleven, nine, offersBefore, store, ten}
 
 module _ (c : Call) (n : ℕ) (r : Reaches c n) where

@@ -36,12 +36,6 @@ module _ (a : Lent) (e : Entry) (node : ℕ) (v : Verdict) (b : Lent) (s : Sound
   pub state-after : stateIn b ≡ after (stateIn a) e
   state-after = ap stateIn left-is ∙ state-laid a (after (stateIn a) e)
 
-  pub count-is : b .count ≡ length (after (stateIn a) e .intervals)
-  count-is = ap (λ (c : Lent). c .count) left-is
-
-  pub mark-count-is : b .markCount ≡ length (after (stateIn a) e .marks)
-  mark-count-is = ap (λ (c : Lent). c .markCount) left-is
-
   -- It is sound again.
   pub sound-after : Within e → Sound b
   sound-after within =

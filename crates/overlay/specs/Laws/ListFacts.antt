@@ -9,7 +9,8 @@ use Rattle.overlay.specs.List.{over}
 use Rattle.overlay.specs.Runs.{Run, run}
 
 -- a list put over another
-pub over-front : (f : Run → ℕ) (runs : List Run) (old : List ℕ) (i : ℕ) → i < length runs → getD (over (map f runs) old) i (f (run 0 0)) ≡ f (getD runs i (run 0 0))
+pub over-front : (f : Run → ℕ) (runs : List Run) (old : List ℕ) (i : ℕ) → i < length runs
+    → getD (over (map f runs) old) i (f (run 0 0)) ≡ f (getD runs i (run 0 0))
 over-front f runs old i h =
     List·getD-append (map f runs) (drop (length (map f runs)) old) (f (run 0 0)) i (rw length-map h) ∙ List·getD-map f runs i (run 0 0)
 

@@ -55,7 +55,8 @@ use Rattle.build_profile.specs.Rules.{bankAligned, onPage, wholePages, unitKept
 use Rattle.blocks.specs.Spans.{offsetWithin}
 use Rattle.build_sights.specs.Items.{isWritten}
 use Rattle.output.specs.Output.{Room, placedBuild}
-use Rattle.build_plan.specs.Placing.{isPlaced, isOffered, bitsAt, usesDefault, endsPast, lacksOutput, checked, answered, placing, verdictSeen, verdictOn, offerOf}
+use Rattle.build_plan.specs.Placing.{isPlaced, isOffered, bitsAt, usesDefault, endsPast, lacksOutput, checked, answered, placing}
+use Rattle.build_plan.specs.Placing.{verdictSeen, verdictOn, offerOf}
 use Rattle.build_plan.specs.Placing.{Placed, holds, stops, placedIf, placedNext, placedFrom, placedAll}
 use Rattle.build_plan.specs.Laws.PlacingLaws.{placed-last}
 use Rattle.build_sights.specs.Spans.{sizeOf}

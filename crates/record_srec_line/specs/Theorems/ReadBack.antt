@@ -20,7 +20,8 @@ use Rattle.record_lines.specs.Sums.{sumOf}
 use Rattle.record_lines.specs.Laws.Sums.{sum-append}
 use Rattle.record_srec_line.specs.Srec.{addressBytes, bodyOf, checksumOf, lineText, dataDigit, endDigit}
 use Rattle.record_srec_line.specs.Srec.{numberFrom, countOf, addressOf, isSound, agrees, dataLine, endLine, srecItem}
-use Rattle.record_srec_line.specs.Laws.ReadBack.{address-bytes, address-from, agrees-own, digit-data, digit-end, length-address, lineOf, sum-one, typed-data, typed-end, wholeOf, width-few, width-some}
+use Rattle.record_srec_line.specs.Laws.ReadBack.{address-bytes, address-from, agrees-own, digit-data, digit-end, length-address}
+use Rattle.record_srec_line.specs.Laws.ReadBack.{lineOf, sum-one, typed-data, typed-end, wholeOf, width-few, width-some}
 use Rattle.record_srec_line.specs.ReadBack.{Width}
 
 pub address-back : (w a : ℕ) → a < 256 ^ w → numberFrom 0 (addressBytes w a) ≡ a

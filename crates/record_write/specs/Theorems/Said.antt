@@ -19,7 +19,8 @@ use Rattle.record_write.specs.Checks.{allParts, allPlaced}
 use Rattle.record_write.specs.Cut.{piecesOf}
 use Rattle.record_write.specs.Text.{textOf}
 use Rattle.record_write.specs.Theorems.Rising.{pieces-rise}
-use Rattle.record_write.specs.Laws.Said.{hex-lines-tell, hex-lines-upper, hex-text-lines, hexLines, srec-lines-tell, srec-lines-upper, srec-text-lines, srecLines}
+use Rattle.record_write.specs.Laws.Said.{hex-lines-tell, hex-lines-upper, hex-text-lines, hexLines, srec-lines-tell, srec-lines-upper}
+use Rattle.record_write.specs.Laws.Said.{srec-text-lines, srecLines}
 
 module _ (load : ℕ) (image : List ℕ) (blocks : List Block) (good : Bytes image) (parts : allParts (length image) blocks ≡ true)
     (places : allPlaced load blocks ≡ true) where

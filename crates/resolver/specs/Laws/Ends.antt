@@ -31,7 +31,8 @@ module _ (pass : ℕ → Bool → Pass) where
         first-at settles 1 m n low (omega arith) (unsettled-below n (omega arith) before) (rw (ne-eqb n m (λ q. omega arith), e))
 
     -- a pass that is refused before the last ends the passes
-    pub refused-before : (n : ℕ) {why : Refusal} → (RunsBefore pass) m n → pass n false ≡ Failed why → settledBy pass m ≡ record { settled = Refused why; passes = n }
+    pub refused-before : (n : ℕ) {why : Refusal} → (RunsBefore pass) m n → pass n false ≡ Failed why
+        → settledBy pass m ≡ record { settled = Refused why; passes = n }
     refused-before n r e =
         let low = r .counted in
         let high = r .below in

@@ -55,8 +55,11 @@ module _ (p : Program) (row : Row) where
       → (isLast ≡ true) × (getD (p .kinds) i 0 ≡ 2) × (now .position % (defAt p row) i .unit ≡ 0 → ⊥)
   off-told isLast i now e =
       let a = both isLast (eqb (getD (p .kinds) i 0) 2 && not (onBoundary ((defAt p row) i) (now .position))) e in
-      let b = both (eqb (getD (p .kinds) i 0) 2) (not (onBoundary ((defAt p row) i) (now .position))) (a .1) in
-      (a .0, eqb-true (getD (p .kinds) i 0) 2 (b .0), eqb-false (now .position % (defAt p row) i .unit) 0 (not-true (onBoundary ((defAt p row) i) (now .position)) (b .1)))
+      let b = both (eqb (getD (p .kinds) i 0) 2) (not (onBoundary ((defAt p row) i) (now .position))) (a .1) in (
+        a .0,
+        eqb-true (getD (p .kinds) i 0) 2 (b .0),
+        eqb-false (now .position % (defAt p row) i .unit) 0 (not-true (onBoundary ((defAt p row) i) (now .position)) (b .1)),
+      )
 
   on-told : (isLast : Bool) (i : ℕ) (now : Pos) → offBoundary ((defAt p row) i) (node p row i) now isLast ≡ false → isLast ≡ true → getD (p .kinds) i 0 ≡ 2
       → now .position % (defAt p row) i .unit ≡ 0

@@ -47,7 +47,8 @@ use Rattle.resolver.specs.declared.Pass.the-variants.{State, Refused as 
 use Rattle.resolver.specs.declared.Settled.{Settled}
 use Rattle.resolver.specs.declared.Settled.the-variants.{At, Refused}
 use Rattle.resolver.specs.declared.Resolution.{Resolution}
-use Rattle.resolver.specs.Laws.RefusedExactly.{StopsFirst, below-five, lists-four, one-same, refusable-number, refusable-place, settled-same, table-number}
+use Rattle.resolver.specs.Laws.RefusedExactly.{StopsFirst, below-five, lists-four, one-same, refusable-number, refusable-place}
+use Rattle.resolver.specs.Laws.RefusedExactly.{settled-same, table-number}
 
 two-of : (x : Pass) → unresolved x ≡ true → x ≡ State 2
 two-of (State s) e = ap State (eqb-true s 2 e)

@@ -23,12 +23,6 @@ unfolding bitAt
 bit-at-is l j = refl
 
 module _ (g : Given) where
-  offer-listed : {r i x m : ℕ} → Offer g r i x m → i < nodes g
-  offer-listed (b.offer h k l s f n) = h
-
-  offer-kind : {r i x m : ℕ} → Offer g r i x m → (4 ≤ kind g i) × (kind g i ≤ 7)
-  offer-kind (b.offer h k l s f n) = (k, l)
-
   -- ---- what the build keeps apart, where no node is refused
 
   module _ (r : ℕ) (clear : (i : ℕ) → Not (Refuses g r i)) where

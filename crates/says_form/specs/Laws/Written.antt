@@ -39,10 +39,6 @@ contents h = record { banks = h .banks; nodes = h .nodes; rows = h .rows; values
 
 -- ---- the same bytes
 
-field-same : (tag : ℕ) (payload : List ℕ) → made.field tag payload ≡ field tag payload
-unfolding made.field bytes16
-field-same tag payload = refl
-
 fields-same : (tag : ℕ) (l : List (List ℕ)) → flat (made.field tag) l ≡ fields tag l
 unfolding flat fields made.field bytes16
 fields-same tag [] = refl

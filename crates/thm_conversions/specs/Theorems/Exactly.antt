@@ -21,7 +21,8 @@ use Rattle.form_convert.specs.Convert.{outAfter, Converts, dropsNone, ToForm2}
 use Rattle.form_convert.specs.Told.{toldConversion}
 use Rattle.form_convert.specs.Theorems.Told.{converts-told}
 use Rattle.thm_conversions.specs.Exactly.{Cause4, Fair}
-use Rattle.thm_conversions.specs.Laws.Exactly.{answer-4, bit-answer, broken-four, each-clear, from-14, from-18, from-4, from-any, from-given, given-answer, never, on-sound, one-set, short-answer}
+use Rattle.thm_conversions.specs.Laws.Exactly.{answer-4, bit-answer, broken-four, each-clear, from-14, from-18, from-4, from-any}
+use Rattle.thm_conversions.specs.Laws.Exactly.{from-given, given-answer, never, on-sound, one-set, short-answer}
 
 -- ---- exactly when
 

@@ -22,7 +22,9 @@ use Rattle.form_rewrite.specs.Turning.{toForm1}
 use Rattle.form_rewrite.specs.Turning.{allOf, allZero, same, bare, startsZero, shaped, bitClear, dropsBit}
 use Rattle.form_rewrite.specs.Theorems.Fitting.{form2-fits, form1-fits}
 use Rattle.form_rewrite.specs.Laws.Fitting.{shape-two, shape-some}
-use Rattle.thm_conversions.specs.Laws.RoundTrips.{all-made, bare-again, both-fit, each-fails, each-holds, each-two, first-of, last-byte, longer-back, map-back, nodes-again, none-made, one-only, row-again, row-back, shorter-back, starts, turned-back, turned-fits, two-only, widened-bare}
+use Rattle.thm_conversions.specs.Laws.RoundTrips.{all-made, bare-again, both-fit, each-fails, each-holds, each-two, first-of}
+use Rattle.thm_conversions.specs.Laws.RoundTrips.{last-byte, longer-back, map-back, nodes-again, none-made, one-only, row-again}
+use Rattle.thm_conversions.specs.Laws.RoundTrips.{row-back, shorter-back, starts, turned-back, turned-fits, two-only, widened-bare}
 
 -- What a one-bank file becomes has the shape,
 pub widened-shaped : (c : Contents) → Fits form1 c → alone c ≡ true → shaped (widened c) ≡ true
