@@ -34,34 +34,33 @@ pub s9 : Srec r.either (83 ∷ 57 ∷ 48 ∷ 51 ∷ 48 ∷ 48 ∷ 48 ∷ 48 ∷ 
 unfolding isSound listOf allDigits valueOf sumOf numberFrom
 s9 = good-srec back.two (83 ∷ 57 ∷ 48 ∷ 51 ∷ 48 ∷ 48 ∷ 48 ∷ 48 ∷ 70 ∷ 67 ∷ []) refl (omega arith)
 
--- `S1137AF00A0A0D0000000000000000000000000061`: an S1 record: 16 bytes at 7AF0
-abbrev s1-line : List ℕ
-s1-line = 83 ∷ 49 ∷ 49 ∷ 51 ∷ 55 ∷ 65 ∷ 70 ∷ 48 ∷ 48 ∷ 65 ∷ 48 ∷ 65 ∷ 48 ∷ 68 ∷ 48 ∷ 48 ∷ 48 ∷ 48 ∷ 48 ∷ 48 ∷ 48 ∷ 48 ∷ 48 ∷ 48 ∷ 48 ∷ 48 ∷
-    48 ∷ 48 ∷ 48 ∷ 48 ∷ 48 ∷ 48 ∷ 48 ∷ 48 ∷ 48 ∷ 48 ∷ 48 ∷ 48 ∷ 48 ∷ 48 ∷ 54 ∷ 49 ∷ []
-
-pub s1 : Srec r.either s1-line 49 2 31472 (10 ∷ 10 ∷ 13 ∷ 0 ∷ 0 ∷ 0 ∷ 0 ∷ 0 ∷ 0 ∷ 0 ∷ 0 ∷ 0 ∷ 0 ∷ 0 ∷ 0 ∷ 0 ∷ [])
-unfolding isSound listOf allDigits valueOf sumOf numberFrom
-s1 = good-srec back.two s1-line refl (omega arith)
-
--- `S00F000068656C6C6F202020202000003C`: a header, skipped
+-- `S00600004844521B`, the header in the manual page srec_motorola(5): HDR, skipped
 abbrev s0-line : List ℕ
-s0-line = 83 ∷ 48 ∷ 48 ∷ 70 ∷ 48 ∷ 48 ∷ 48 ∷ 48 ∷ 54 ∷ 56 ∷ 54 ∷ 53 ∷ 54 ∷ 67 ∷ 54 ∷ 67 ∷ 54 ∷ 70 ∷ 50 ∷ 48 ∷ 50 ∷ 48 ∷ 50 ∷ 48 ∷ 50 ∷ 48 ∷
-    50 ∷ 48 ∷ 48 ∷ 48 ∷ 48 ∷ 48 ∷ 51 ∷ 67 ∷ []
+s0-line = 83 ∷ 48 ∷ 48 ∷ 54 ∷ 48 ∷ 48 ∷ 48 ∷ 48 ∷ 52 ∷ 56 ∷ 52 ∷ 52 ∷ 53 ∷ 50 ∷ 49 ∷ 66 ∷ []
 
-pub s0 : Srec r.either s0-line 48 2 0 (104 ∷ 101 ∷ 108 ∷ 108 ∷ 111 ∷ 32 ∷ 32 ∷ 32 ∷ 32 ∷ 32 ∷ 0 ∷ 0 ∷ [])
+pub s0 : Srec r.either s0-line 48 2 0 (72 ∷ 68 ∷ 82 ∷ [])
 unfolding isSound listOf allDigits valueOf sumOf numberFrom
 s0 = good-srec back.two s0-line refl (omega arith)
 
--- `S30DFFFF00000102030405060708D0`: an S3 record: 8 bytes at FFFF0000
-abbrev s3-line : List ℕ
-s3-line = 83 ∷ 51 ∷ 48 ∷ 68 ∷ 70 ∷ 70 ∷ 70 ∷ 70 ∷ 48 ∷ 48 ∷ 48 ∷ 48 ∷ 48 ∷ 49 ∷ 48 ∷ 50 ∷ 48 ∷ 51 ∷ 48 ∷ 52 ∷ 48 ∷ 53 ∷ 48 ∷ 54 ∷ 48 ∷ 55 ∷
-    48 ∷ 56 ∷ 68 ∷ 48 ∷ []
+-- `S110000048656C6C6F2C20576F726C640A9D`, the data record of the same page's example: `Hello, World` and a line's end at 0
+abbrev s1-line : List ℕ
+s1-line = 83 ∷ 49 ∷ 49 ∷ 48 ∷ 48 ∷ 48 ∷ 48 ∷ 48 ∷ 52 ∷ 56 ∷ 54 ∷ 53 ∷ 54 ∷ 67 ∷ 54 ∷ 67 ∷ 54 ∷ 70 ∷ 50 ∷ 67 ∷ 50 ∷ 48 ∷ 53 ∷ 55 ∷ 54 ∷ 70 ∷ 55 ∷ 50 ∷
+    54 ∷ 67 ∷ 54 ∷ 52 ∷ 48 ∷ 65 ∷ 57 ∷ 68 ∷ []
 
-pub s3 : Srec r.either s3-line 51 4 4294901760 (1 ∷ 2 ∷ 3 ∷ 4 ∷ 5 ∷ 6 ∷ 7 ∷ 8 ∷ [])
+pub s1 : Srec r.either s1-line 49 2 0 (72 ∷ 101 ∷ 108 ∷ 108 ∷ 111 ∷ 44 ∷ 32 ∷ 87 ∷ 111 ∷ 114 ∷ 108 ∷ 100 ∷ 10 ∷ [])
+unfolding isSound listOf allDigits valueOf sumOf numberFrom
+s1 = good-srec back.two s1-line refl (omega arith)
+
+-- `S3121234567848445230313233343536373839EE`, as srec_cat 1.64 writes `HDR0123456789` at 12345678
+abbrev s3-line : List ℕ
+s3-line = 83 ∷ 51 ∷ 49 ∷ 50 ∷ 49 ∷ 50 ∷ 51 ∷ 52 ∷ 53 ∷ 54 ∷ 55 ∷ 56 ∷ 52 ∷ 56 ∷ 52 ∷ 52 ∷ 53 ∷ 50 ∷ 51 ∷ 48 ∷ 51 ∷ 49 ∷ 51 ∷ 50 ∷ 51 ∷ 51 ∷ 51 ∷ 52 ∷
+    51 ∷ 53 ∷ 51 ∷ 54 ∷ 51 ∷ 55 ∷ 51 ∷ 56 ∷ 51 ∷ 57 ∷ 69 ∷ 69 ∷ []
+
+pub s3 : Srec r.either s3-line 51 4 305419896 (72 ∷ 68 ∷ 82 ∷ 48 ∷ 49 ∷ 50 ∷ 51 ∷ 52 ∷ 53 ∷ 54 ∷ 55 ∷ 56 ∷ 57 ∷ [])
 unfolding isSound listOf allDigits valueOf sumOf numberFrom
 s3 = good-srec back.four s3-line refl (omega arith)
 
--- `S70500000000FA`: the end record of 32-bit addresses
+-- `S70500000000FA`, as srec_cat 1.64 ends a file of 32-bit addresses
 abbrev s7-line : List ℕ
 s7-line = 83 ∷ 55 ∷ 48 ∷ 53 ∷ 48 ∷ 48 ∷ 48 ∷ 48 ∷ 48 ∷ 48 ∷ 48 ∷ 48 ∷ 70 ∷ 65 ∷ []
 
