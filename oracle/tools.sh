@@ -110,6 +110,32 @@ has "$room/out" ' *21  instruction *1 *64 *264 *0x108  64..87 *8..10 *24' 'tools
 has "$room/out" ' *3  320..335 *40..41 *16' 'tools/map examples/banks.form'
 tools/map --svg examples/sequencer.form >"$room/drawn" || wrong=1
 same docs/sequencer.svg "$room/drawn" "docs/sequencer.svg is not what tools/map --svg draws of examples/sequencer.form"
+# names, given and beside the file, in the words of each tool; a names file that is none
+cp examples/clamp-mark-after.form "$room/clamp.form"
+printf '2\tclamp_force\ttables.asm:12\n4\ta|b\t\n7\t<wear>\ttables.asm:19\n4096\tnothing\t\n' >"$room/given.names"
+hit='<wear>, tables.asm:19 (node 7, data, bank 1, .* from bit 0 on, 128 bits: clamp_force, tables.asm:12 (node 2, data, bank 1, '
+refused 'refused 12 0 128' "$hit" tools/layout --names "$room/given.names" "$room/clamp.form"
+refused 'refused 12 0 128' 'node 7 (data' tools/layout "$room/clamp.form"
+cp "$room/given.names" "$room/clamp.names"
+refused 'refused 12 0 128' "$hit" tools/layout "$room/clamp.form"
+refused '' "$hit" tools/ihex "$room/clamp.form"
+refused 'refused 12 0 128' "$hit" tools/map "$room/clamp.form"
+has "$room/out" ' *7  <wear>  *tables.asm:19  data  .*  at fault' 'tools/map with names'
+has "$room/out" ' *4  a|b  *reserve .*  a mark' 'tools/map with names'
+has "$room/out" 'refused at <wear>, tables.asm:19, and the map ends there' 'tools/map with names'
+refused '</svg>' "$hit" tools/map --svg "$room/clamp.form"
+has "$room/out" '.*>clamp_force</text>' 'tools/map --svg with names'
+has "$room/out" '.*>&lt;wear&gt;, tables.asm:19 at fault</text>' 'tools/map --svg with names'
+for bad in '1\ta' '1\ta\tb\tc' 'x\ta\tb' '\ta\tb' '2\ta\t\n2\tb\t' '2\ta\t\n1\tb\t' '1\ta\033\t' '1\t\377\t' '1\t\302\205\t' '1\ta\t\n\n'; do
+    # shellcheck disable=SC2059
+    printf "$bad\n" >"$room/clamp.names"
+    is 2 tools/map --names "$room/clamp.names" "$room/clamp.form"
+    is 2 tools/words "$room/clamp.form" 'refused 9 0' --names "$room/clamp.names"
+    refused 'refused 12 0 128' 'are left out: .*line [12] ' tools/layout "$room/clamp.form"
+    grep -q 'node 7 (data' "$room/err" || wrong=1
+done
+is 2 tools/layout --names "$room/none" "$room/clamp.form"
+is 2 tools/layout --names '' "$room/clamp.form"
 # what no program says is no refusal
 for said in hello 'refused 12' 'refused 20 0' 'refused 12 a b'; do
     is 2 tools/words examples/clamp-mark-after.form "$said"

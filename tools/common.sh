@@ -3,7 +3,8 @@
 # many files.
 . "$(dirname "$(readlink -f -- "$0")")/start.sh"
 . "$home/tools/launch.sh"
-load='' width='' to='' fill='' page='' address='' count='' svg=''
+. "$home/tools/names.sh"
+load='' width='' to='' fill='' page='' address='' count='' svg='' names=''
 file='' other='' files=0 line='' kinds='type 00, 01 or 04'
 
 # A number, decimal or in hex after 0x, as decimal.
@@ -67,6 +68,11 @@ options() {
         --width) word "$name" "$2" '2 4' && width=$value ;;
         --to) word "$name" "$2" "$targets" && to=$value ;;
         --fill) word "$name" "$2" 'inherited full' && fill=$value ;;
+        --names)
+            [ -n "$2" ] || say "the name of a file is empty"
+            find_names '' "$2"
+            names=$2
+            ;;
         --range)
             [ "$#" -ge 3 ] || say "--range wants an address and a count"
             number "$name" "$2" && address=$value
@@ -169,6 +175,6 @@ layout_words() {
     if [ "$(sed -n 2p "$room/said")" = records ]; then
         records_words "$1" 65536
     else
-        "$home/tools/words" "$from" "$(sed -n 1p "$room/said")"
+        "$home/tools/words" "$from" "$(sed -n 1p "$room/said")" ${names:+--names "$names"}
     fi
 }

@@ -28,7 +28,7 @@ for one in "$@"; do
     [ -z "${only_first:-}" ] || break
 done
 case $tool in
-tools/start.sh | tools/launch.sh | tools/crates.sh | tools/common.sh) say "other scripts read this, nobody runs it" ;;
+tools/start.sh | tools/launch.sh | tools/crates.sh | tools/common.sh | tools/names.sh) say "other scripts read this, nobody runs it" ;;
 esac
 
 # The words of a script that takes none, or at most so many, none of them an option.

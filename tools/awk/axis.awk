@@ -14,7 +14,8 @@ function at_output(bank, from, long) {
     return ", output bit" (long > 1 ? "s " : " ") range(from, long) " (byte" (long > 8 ? "s " : " ") bytes(from, long) ")"
 }
 function node_title(i,   text) {
-    text = "node " i ": " kinds[kind[i]] (is_mark(i) ? ", a mark" : "") ", bank " bank_of[i] ", " at_address(bank_of[i], position[i])
+    text = (called(i) == "" ? "" : called(i) ": ") "node " i ": " kinds[kind[i]] (is_mark(i) ? ", a mark" : "")
+    text = text ", bank " bank_of[i] ", " at_address(bank_of[i], position[i])
     text = text at_output(bank_of[i], position[i], bits[i]) (is_placed(i) ? ", " several(bits[i], "bit") : "")
     return kind[i] == 7 && bits[i] > 0 ? text takes_fill(bank_of[i]) : text
 }
@@ -49,8 +50,9 @@ function gather(axis,   bank, i) {
     if (hit) { split(verdict, w, " "); hit_from = w[3] + 0; hit_to = hit_from + w[4] }
 }
 function gather_box(i, base, class,   title) {
-    if (class == "p") title = stretch_title("padding, node " box_node[i], box_bank[i], box_from[i], box_to[i] - box_from[i]) takes_fill(box_bank[i])
-    else title = node_title(box_node[i])
+    title = node_title(box_node[i])
+    if (class == "p")
+        title = stretch_title("padding, " called_or_number(box_node[i]), box_bank[i], box_from[i], box_to[i] - box_from[i]) takes_fill(box_bank[i])
     put_area(base + box_from[i], base + box_to[i], class, title, class == "p" ? "" : box_node[i])
     reach(base + box_to[i])
 }

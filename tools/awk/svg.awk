@@ -84,11 +84,15 @@ function draw_line(axis, line,   from, to, i, top) {
 function x_of(at, from) { return left + (at - from) * scale }
 function high(a, b) { return a > b ? a : b }
 function low(a, b) { return a < b ? a : b }
-function draw_area(i, from, to, top,   x, w) {
+# a name where it fits, else the number
+function fits(text, w) { return w >= 6 * characters(text) + 3 }
+function draw_area(i, from, to, top,   x, w, text) {
     x = x_of(high(seg_from[i], from), from)
     w = x_of(low(seg_to[i], to), from) - x
     emit(area(x, top, high(w, 0.7), 26, seg_class[i], seg_title[i]))
-    if (seg_text[i] != "" && w >= 6 * length(seg_text[i]) + 3) emit(write(x + w / 2, top + 16.5, seg_text[i], seg_class[i] == "r" ? "rn" : "n"))
+    if (seg_text[i] == "") return
+    text = name_of[seg_text[i]] != "" && fits(name_of[seg_text[i]], w) ? name_of[seg_text[i]] : seg_text[i]
+    if (fits(text, w)) emit(write(x + w / 2, top + 16.5, text, seg_class[i] == "r" ? "rn" : "n"))
 }
 function draw_hit(from, to, top,   x) {
     x = x_of(high(hit_from, from), from)
@@ -107,12 +111,13 @@ function has_mark(line,   i) {
     return 0
 }
 # the node at fault below what stands already
-function draw_fault(from, to, top,   x, x2) {
+function draw_fault(from, to, top,   x, x2, text) {
+    text = called_or_number(fault) " at fault"
     x = x_of(high(fault_from, from), from)
     x2 = high(x_of(low(fault_from + bits[fault], to), from), x + 6)
     emit(area(x, top + 36, x2 - x, 14, "fault", "at fault: " node_title(fault)))
-    if (x2 < left + wide - 90) emit(write(x2 + 5, top + 47, "node " fault " at fault", "b"))
-    else emit(write(x - 5, top + 47, "node " fault " at fault", "be"))
+    if (x2 < left + wide - high(90, 7 * characters(text))) emit(write(x2 + 5, top + 47, text, "b"))
+    else emit(write(x - 5, top + 47, text, "be"))
 }
 # A bank's bar with its number and addresses.
 function draw_bank(bank, axis, from, to,   base, a, z, x, x2, top, text) {
@@ -181,7 +186,7 @@ function draw_overview(   i, order, class, from, to, seg, kept) {
         }
     }
     if (class != "") draw_run(from, to, class)
-    if (faulty) emit(area(x_of(fault_from, 0) - 1, y - 2, high(bits[fault] * scale, 3), 16, "fault", "at fault: node " fault))
+    if (faulty) emit(area(x_of(fault_from, 0) - 1, y - 2, high(bits[fault] * scale, 3), 16, "fault", "at fault: " called_or_number(fault)))
     draw_scale(-1, 0, extent, y + 12)
     y += 56
     scale = kept

@@ -1,9 +1,10 @@
-# A refusal in words; tools/words has the call, tools/awk/file.awk what is read. `said` is the refusal, `to` the form that a file was to be converted to.
+# A refusal in words; tools/words has the call, tools/awk/file.awk and tools/awk/names.awk what is read. `said` is the refusal, `to` the form that a file was to
+# be converted to.
 
-# Where a node stands, where `mapper` says it: kind, bank, position, address, size and output; else what the file alone tells.
+# Where a node stands, where `mapper` says it: kind, bank, position, address, size and output; else what the file alone tells. By its name where it has one.
 function tell_node(node,   text, past) {
     if (node >= nodes) return "node " node
-    text = "node " node " ("
+    text = called(node) == "" ? "node " node " (" : called(node) " (node " node ", "
     if (!(kind[node] in kinds)) return text "kind " kind[node] ")"
     text = text kinds[kind[node]]
     if (kind[node] == 1) return text " to " operand[node] ")"
