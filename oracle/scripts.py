@@ -36,6 +36,7 @@ tools/bench FILE FILE
 tools/words FILE refused\u00a01\u00a00
 tools/form FILE
 tools/form --make FILE
+tools/compare FILE FILE
 tools/run --file FILE
 oracle/edit.py FILE FILE
 oracle/build.sh --edit FILE
@@ -69,6 +70,8 @@ tools/ihex examples/banks.form
 tools/srec examples/banks.form
 tools/convert - --to 2
 tools/form -
+tools/compare examples/worked.form examples/banks.form
+tools/compare --svg examples/worked.form examples/worked.form
 tools/words examples/worked.form refused\u00a01\u00a00
 tools/run --command LAYOUT
 oracle/model.py
@@ -231,6 +234,7 @@ def with_blanks(room):
         if (ROOT / "target" / name).is_dir():
             shutil.copytree(ROOT / "target" / name, copy / "target" / name)
     tried = [("tools/layout", FORM), ("tools/map", "--svg", "examples/sequencer.form"), ("tools/ihex", "examples/banks.form"), ("tools/form", FORM),
+             ("tools/compare", FORM, FORM),
              ("tools/words", FORM, "refused 5 0"), ("tools/statements",), ("oracle/check.py",), ("oracle/programs.py", "--cases", "3")]
     for words in tried:
         here, there = ([trial.run([*start_of(root / words[0]), *words[1:]], start=root) for root in (ROOT, copy)])

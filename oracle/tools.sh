@@ -136,6 +136,55 @@ for bad in '1\ta' '1\ta\tb\tc' 'x\ta\tb' '\ta\tb' '2\ta\t\n2\tb\t' '2\ta\t\n1\tb
 done
 is 2 tools/layout --names "$room/none" "$room/clamp.form"
 is 2 tools/layout --names '' "$room/clamp.form"
+# a call that says what differs, status 1
+differs() {
+    "$@" >"$room/out" 2>"$room/err" </dev/null
+    got=$?
+    if [ "$got" -ne 1 ] || [ -s "$room/err" ]; then
+        echo "$*: status $got and not 1: $(cat "$room/err")"
+        wrong=1
+    fi
+}
+# two layouts, node by node: without names, and by them with two tables in the other order
+compared() {
+    tools/form examples/banks.form >"$room/words" || wrong=1
+    sed 's/^reserve: 16$/reserve: 24/;s/^data 40: 48$/data 40: 32/;s/^values 0e/values 0f/;/^instruction 24/d' "$room/words" |
+        tools/form --make - >"$room/new.form" || wrong=1
+    is 0 tools/compare examples/banks.form examples/banks.form
+    has "$room/out" 'banks, blocks and image are the same' 'tools/compare of a layout with itself'
+    is 0 tools/compare --svg --fill full examples/sequencer.form examples/sequencer.form
+    differs tools/compare examples/banks.form "$room/new.form"
+    has "$room/out" 'banks.form -> new.form: 7 the same, 5 moved, 1 grown, 1 shrunk, 1 other contents, 1 gone' tools/compare
+    has "$room/out" 'other contents: node 2 (instruction, 24 bits): bank 1, address 256 = 0x100, output bit 0' tools/compare
+    has "$room/out" 'gone: node 3 (instruction, 16 bits): bank 1, .*' tools/compare
+    has "$room/out" 'grown: node 6 (reserve, 24 bits): 16 -> 24 bits' tools/compare
+    has "$room/out" 'shrunk: node 11 (data, 32 bits): 48 -> 32 bits' tools/compare
+    has "$room/out" 'moved: node 13 (data of open size, 16 bits): address 16388 = 0x4004 -> 16386 = 0x4002, output bit 320 -> 288' tools/compare
+    has "$room/out" 'bank 2: padding 16 -> 0, used 64 -> 48' tools/compare
+    has "$room/out" '  new  bits 0..23' tools/compare
+    has "$room/out" '  .* bytes differ: 0, 3..4, .*' tools/compare
+    printf 'form 2\nbank unit 8\nbank unit 8 size 64 offset 0\nswitch 1\nlabel\ndata: 8\nlabel\ndata 8: 16\nvalues 112233\nlimit 1\n' |
+        tools/form --make - >"$room/a.form" || wrong=1
+    printf 'form 2\nbank unit 8\nbank unit 8 size 64 offset 0\nswitch 1\nlabel\ndata 8: 16\nlabel\ndata: 8\nvalues 112233\nlimit 1\n' |
+        tools/form --make - >"$room/b.form" || wrong=1
+    printf '1\tone\ta.asm:1\n3\ttwo\ta.asm:2\n' >"$room/a.names"
+    printf '1\ttwo\ta.asm:1\n3\tone\ta.asm:2\n' >"$room/b.names"
+    differs tools/compare "$room/a.form" "$room/b.form"
+    has "$room/out" 'a.form -> b.form: 4 moved' 'tools/compare by name'
+    has "$room/out" 'moved: one, a.asm:2 (node 3, label): address 0 -> 2, output bit 0 -> 16' 'tools/compare by name'
+    has "$room/out" 'moved: node 4 (data, 8 bits, behind one): address 0 -> 2, output bit 0 -> 16' 'tools/compare by name'
+    differs tools/compare --svg --names "$room/a.names" "$room/b.names" "$room/a.form" "$room/b.form"
+    has "$room/out" '.*class="moved"><title>moved: node 4 .*' 'tools/compare --svg'
+    has "$room/out" '</svg>' 'tools/compare --svg'
+    is 2 tools/compare --names "$room/a.form" "$room/b.names" "$room/a.form" "$room/b.form"
+    is 2 tools/compare "$room/a.form" examples/clamp-mark-after.form
+    is 2 tools/compare "$room/a.form"
+}
+if command -v python3 >/dev/null 2>&1; then
+    compared
+else
+    echo "skipped: tools/compare and tools/form, for want of python3"
+fi
 # what no program says is no refusal
 for said in hello 'refused 12' 'refused 20 0' 'refused 12 a b'; do
     is 2 tools/words examples/clamp-mark-after.form "$said"
