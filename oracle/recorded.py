@@ -8,6 +8,7 @@ models as they are now, for when a document changes what is right."""
 
 import io
 import random
+import re
 import subprocess
 import sys
 
@@ -22,6 +23,7 @@ import model
 import records
 
 LIST = compare.HERE / "replay" / "models.tsv"
+WORKED = manners.ROOT / "crates" / "says_convert" / "specs" / "Theorems" / "Example.antt"
 EACH = 50       # cases of a model, or a few more
 LONGEST = 300   # bytes of a file
 
@@ -37,7 +39,21 @@ def files():
             yield bytes.fromhex(data)
 
 
+def worked():
+    """The one-bank file of the theorems `example-to-form2` and `example-to-form1`, in form 1 and in form 2: the bytes that stand in their text."""
+    text = WORKED.read_text()
+    return [bytes(map(int, re.findall(r"\d+", re.search(rf"^{name} =$(.*?)\[\]$", text, re.M | re.S)[1]))) for name in ("inForm1", "inForm2")]
+
+
+def worked_cases():
+    """Each of them, and what the theorem says that it becomes."""
+    one, two = worked()
+    return ("--to 2", one.hex(), f"ok {two.hex()}"), ("--to 1", two.hex(), f"ok {one.hex()}")
+
+
 def convert_cases():
+    for choices, given, _ in worked_cases():
+        yield choices, given
     for file in files():
         for to in (1, 2):
             yield f"--to {to}", file.hex()
@@ -155,7 +171,12 @@ def main():
     counted, wrong, start = dict.fromkeys(MODELS, 0), 0, {}
     if asked.built:
         start = {name: words for name, (starts, _) in BUILT.items() if (words := starts())}
-    for (name, choices), cases in recorded().items():
+    found = recorded()
+    for choices, given, said in worked_cases():
+        if (given, said) not in found.get(("convert.py", choices), []):
+            print(f"convert.py {choices}: the worked file of {WORKED.name} is not recorded as its theorem has it")
+            wrong += 1
+    for (name, choices), cases in found.items():
         counted[name] += len(cases)
         wrong += compared("the model", name, choices, cases, [MODELS[name][1](choices, given) for given, _ in cases])
         if name in start:

@@ -76,6 +76,22 @@ is 1 tools/bench "$room/banks.hex" "$room/banks.s37"
 is 2 tools/bench "$room/banks.hex"
 tools/convert examples/banks.form --to 2 >"$room/two" && tools/convert --to 1 "$room/two" >"$room/one" || wrong=1
 same examples/banks.form "$room/one" "a file comes back changed from form 2"
+# the one-bank file of says_convert's theorems `example-to-form2` and `example-to-form1`, by the bytes that stand in their text
+worked() { # NAME
+    awk -v name="$1" '$1 == name && $2 == "=" { on = 1; next }
+        on && NF == 0 { exit }
+        on { gsub(/[^0-9]+/, " "); for (i = 1; i <= NF; i++) printf "\\%03o", $i }' crates/says_convert/specs/Theorems/Example.antt >"$room/octal"
+    # shellcheck disable=SC2059
+    printf "$(cat "$room/octal")"
+}
+worked inForm1 >"$room/worked1" && worked inForm2 >"$room/worked2" || wrong=1
+[ "$(wc -c <"$room/worked1") $(wc -c <"$room/worked2")" = '75 120' ] || {
+    echo "the worked file has not 75 bytes in form 1 and 120 in form 2"
+    wrong=1
+}
+tools/convert "$room/worked1" --to 2 >"$room/out" && tools/convert "$room/worked2" --to 1 >"$room/back" || wrong=1
+same "$room/worked2" "$room/out" "the worked file is not in form 2 what its theorem says"
+same "$room/worked1" "$room/back" "the worked file is not in form 1 what its theorem says"
 is 1 tools/convert examples/banks.form --to 1
 is 1 tools/convert "$room/two" --to 2
 is 2 tools/convert "$room/two" --to 3
