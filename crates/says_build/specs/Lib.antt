@@ -1,4 +1,5 @@
 pub mod Build
+pub mod InTurn
 pub mod Typed
 pub mod Theorems
 pub mod Laws

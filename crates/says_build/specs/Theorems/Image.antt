@@ -23,6 +23,9 @@ unfolding bitAt
 bit-at-is l j = refl
 
 module _ (g : Given) where
+  pub offer-listed : {r i x m : ℕ} → Offer g r i x m → i < nodes g
+  offer-listed (b.offer h k l s f n) = h
+
   -- ---- what the build keeps apart, where no node is refused
 
   module _ (r : ℕ) (clear : (i : ℕ) → Not (Refuses g r i)) where
