@@ -9,7 +9,7 @@ use Rattle.refusal.specs.Limits.{maxBanks}
 use Rattle.refusal.specs.Pick.{pick}
 use Rattle.bankdef.specs.declared.Bankdef.{Bankdef}
 use Rattle.bankdef.specs.declared.Bankdefs.{Bankdefs}
-use Rattle.form_fields.specs.Banks.{isSet, optOf, noBank}
+use Rattle.form_fields.specs.Banks.{bankSaid, noBank}
 use Rattle.form_fields.specs.Columns.{column}
 use Rattle.resolver.specs.declared.Choices.{Choices}
 
@@ -30,17 +30,9 @@ given units starts sizes offsets aligns flags bits =
 abbrev pub unitOf : ℕ → ℕ → ℕ
 unitOf unit flags = pick (leb flags 15) unit 0
 
-abbrev pub bankOf : ℕ → ℤ → ℕ → ℕ → ℕ → ℕ → ℕ → Bankdef
-bankOf unit start size offset align flags bit =
-    record {
-      unit = unitOf unit flags;
-      start = start;
-      size = optOf flags 1 size;
-      offset = optOf flags 2 offset;
-      align = optOf flags 4 align;
-      fill = isSet flags 8;
-      «fill_bit» = bit;
-    }
+-- The bank of a record's numbers, as of a file's; with flags that mean nothing it has no unit.
+abbrev pub bankOf : (unit : ℕ) (start : ℤ) (size offset align flags bit : ℕ) → Bankdef
+bankOf unit start size offset align flags bit = bankSaid (unitOf unit flags) start size offset align flags bit
 
 -- bank i
 unfoldable pub bankIn : Given → ℕ → Bankdef

@@ -5,7 +5,7 @@ use mathlib.Core.List.{List, _++_}
 use mathlib.Core.Path.{_≡_}
 use Prim.Native.Nat.{ℕ, _+_, _*_, _-_, _/_, _%_, min}
 use lib.Dec.{ltb, eqb}
-use lib.IntN.{pos}
+use lib.IntN.{ℤ, pos}
 use lib.ListN.{replicate}
 use mir.Syntax.{w64}
 use mir.Val.{toZ}
@@ -29,22 +29,39 @@ isSet flags flag = eqb (flags / flag % 2) 1
 abbrev pub optOf : ℕ → ℕ → ℕ → Opt
 optOf flags flag n = pick (isSet flags flag) (Some n) None
 
--- The fill bit is the byte behind the 23 of form 1, where a form has it; elsewhere it is 0.
-abbrev pub fillBitAt : Kind → List ℕ → ℕ → ℕ
-fillBitAt k file at = pick (ltb 23 (k .bank)) (byte file (at + 26)) 0
-
--- The bank whose field starts at `at`, three bytes before its payload. `toZ w64` reads eight bytes as two's complement.
-unfoldable pub bankAt : Kind → List ℕ → ℕ → Bankdef
-bankAt k file at =
+-- The bank of a record's seven numbers, wherever they stand: in a file, in a payload by itself, or in lists. "A number whose flag is clear is not read."
+abbrev pub bankSaid : (unit : ℕ) (start : ℤ) (size offset align flags bit : ℕ) → Bankdef
+bankSaid unit start size offset align flags bit =
     record {
-      unit = word16 file (at + 3);
-      start = toZ w64 (word64 file (at + 5));
-      size = optOf (byte file (at + 25)) 1 (word32 file (at + 13));
-      offset = optOf (byte file (at + 25)) 2 (word32 file (at + 17));
-      align = optOf (byte file (at + 25)) 4 (word32 file (at + 21));
-      fill = isSet (byte file (at + 25)) 8;
-      «fill_bit» = fillBitAt k file at;
+      unit = unit;
+      start = start;
+      size = optOf flags 1 size;
+      offset = optOf flags 2 offset;
+      align = optOf flags 4 align;
+      fill = isSet flags 8;
+      «fill_bit» = bit;
     }
+
+-- The fill bit is the byte behind the 23 of form 1, where a form has it; elsewhere it is 0. Of a payload that begins `skip` bytes behind `at`.
+abbrev pub fillBitFrom : Kind → List ℕ → (at skip : ℕ) → ℕ
+fillBitFrom k bytes at skip = pick (ltb 23 (k .bank)) (byte bytes (at + (skip + 23))) 0
+
+-- The bank of that payload, by its bytes. `toZ w64` reads eight bytes as two's complement.
+abbrev pub bankFrom : Kind → List ℕ → (at skip : ℕ) → Bankdef
+bankFrom k bytes at skip =
+    bankSaid (word16 bytes (at + skip)) (toZ w64 (word64 bytes (at + (skip + 2)))) (word32 bytes (at + (skip + 10))) (word32 bytes (at + (skip + 14)))
+    (word32 bytes (at + (skip + 18))) (byte bytes (at + (skip + 22))) (fillBitFrom k bytes at skip)
+
+-- The bank whose field starts at `at`, three bytes before its payload.
+abbrev pub fillBitAt : Kind → List ℕ → ℕ → ℕ
+fillBitAt k file at = fillBitFrom k file at 3
+
+unfoldable pub bankAt : Kind → List ℕ → ℕ → Bankdef
+bankAt k file at = bankFrom k file at 3
+
+-- The bank of a payload by itself.
+unfoldable pub bankOf : Kind → List ℕ → Bankdef
+bankOf k payload = bankFrom k payload 0 0
 
 -- The first `n` banks of a file, behind the head.
 abbrev pub banksIn : Kind → List ℕ → ℕ → List Bankdef

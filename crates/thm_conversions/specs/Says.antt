@@ -3,36 +3,21 @@
 -- (number 4 and state 1 for each node)"; document 02: "a payload one byte longer (fill bit, 0 or 1)".
 use mathlib.Core.List.{List, _++_, map}
 use Prim.Native.Nat.{ℕ, _-_, min}
-use lib.Dec.{eqb, ltb}
+use lib.Dec.{eqb}
 use lib.ListN.{length, take, replicate}
-use mir.Syntax.{w64}
-use mir.Val.{toZ}
 use Rattle.refusal.specs.Limits.{maxBanks}
-use Rattle.refusal.specs.Pick.{pick}
 use Rattle.bankdef.specs.Check.{noBank}
 use Rattle.bankdef.specs.declared.Bankdef.{Bankdef}
 use Rattle.bankdef.specs.declared.Bankdefs.{Bankdefs}
 use Rattle.lists.specs.Lists.{Lists, lists}
 use Rattle.output.specs.Output.{Input, input}
 use Rattle.form_fields.specs.declared.Kind.{Kind}
-use Rattle.form_fields.specs.Words.{byte, word16, word32, word64}
+use Rattle.form_fields.specs.Words.{byte, word32}
 use Rattle.form_fields.specs.Columns.{column}
-use Rattle.form_fields.specs.Banks.{isSet, optOf}
+use Rattle.form_fields.specs.Banks.{bankOf}
 use Rattle.form_fields.specs.Contents.{flat, Contents}
 
--- ---- what a payload says
-
-unfoldable pub bankOf : Kind → List ℕ → Bankdef
-bankOf k b =
-    record {
-      unit = word16 b 0;
-      start = toZ w64 (word64 b 2);
-      size = optOf (byte b 22) 1 (word32 b 10);
-      offset = optOf (byte b 22) 2 (word32 b 14);
-      align = optOf (byte b 22) 4 (word32 b 18);
-      fill = isSet (byte b 22) 8;
-      «fill_bit» = pick (ltb 23 (k .bank)) (byte b 23) 0;
-    }
+-- ---- what a payload says; a bank's is `form_fields/Banks.bankOf`
 
 abbrev pub kindOn : List ℕ → ℕ
 kindOn node = byte node 0

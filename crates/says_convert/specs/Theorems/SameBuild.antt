@@ -24,7 +24,7 @@ use Rattle.bankdef.specs.Search.{firstWhere}
 use Rattle.bankdef.specs.Laws.Search.{not-before}
 use Rattle.form_fields.specs.Laws.Cells.{cells-length}
 use Rattle.form_fields.specs.Laws.Columns.{column-length}
-use Rattle.form_fields.specs.Banks.{optOf, isSet}
+use Rattle.form_fields.specs.Banks.{optOf, isSet, bankOf}
 use Rattle.form_fields.specs.Contents.{Contents, flat, written}
 use Rattle.form_fields.specs.Kind.{form1, form2, is1}
 use Rattle.form_fields.specs.Laws.Parts.{Any, each-any}
@@ -35,7 +35,7 @@ use Rattle.form_convert.specs.Convert.{dropsNone}
 use Rattle.form_rewrite.specs.Turning.{strays, turned, widened, alone, toForm2}
 use Rattle.thm_conversions.specs.Theorems.Conversions.{turned-file}
 use Rattle.thm_conversions.specs.Theorems.OneBank.{form2-one-bank-same-build}
-use Rattle.thm_conversions.specs.Says.{bankOf, kindOn, operandOn, numbersOn, statesOn, inputFor}
+use Rattle.thm_conversions.specs.Says.{kindOn, operandOn, numbersOn, statesOn, inputFor}
 use Rattle.thm_conversions.specs.Theorems.Says.{written-output}
 use Rattle.thm_conversions.specs.Places as places
 use Rattle.thm_conversions.specs.Places.{Rises}

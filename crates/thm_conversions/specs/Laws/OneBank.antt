@@ -22,7 +22,7 @@ use Rattle.output.specs.Output.{Input, input, Lent, Room, roomOf, visitsOf, bui
 use Rattle.output.specs.Output.{toldBuild}
 use Rattle.output.specs.declared.Output.{Output}
 use Rattle.form_fields.specs.Words.{byte, word16, word32, word64}
-use Rattle.form_fields.specs.Banks.{isSet, optOf}
+use Rattle.form_fields.specs.Banks.{isSet, optOf, bankOf}
 use Rattle.form_fields.specs.Columns.{column}
 use Rattle.form_fields.specs.Laws.Columns.{column-length}
 use Rattle.form_fields.specs.Kind.{form1, form2, is1, is2}
@@ -38,7 +38,7 @@ use Rattle.thm_conversions.specs.Laws.Figures.{build-told}
 use Rattle.thm_conversions.specs.Widened.{bare, turned as turnedIn, zerosAhead, withSwitch, widened as widenedIn, OneBank, raisedOutput}
 use Rattle.thm_conversions.specs.DefaultBankSame.{TwoBanks}
 use Rattle.thm_conversions.specs.Theorems.DefaultBankSame.{same-answer, same-build}
-use Rattle.thm_conversions.specs.Says.{bankOf, kindOn, operandOn, numbersOn, statesOn, tableFor, listsFor, inputFor}
+use Rattle.thm_conversions.specs.Says.{kindOn, operandOn, numbersOn, statesOn, tableFor, listsFor, inputFor}
 use Rattle.thm_conversions.specs.Laws.Says.{word16-in, word64-in}
 use Rattle.thm_conversions.specs.Laws.Says.{ReadsIn, byte-reads, word32-reads, column-in}
 use Rattle.thm_conversions.specs.Theorems.Says.{written-output, from-written, to-written}

@@ -14,8 +14,8 @@ use Rattle.form_fields.specs.Words.{byte}
 use Rattle.form_fields.specs.Kind.{form1, form2}
 use Rattle.form_fields.specs.Contents.{Each, BankFits}
 use Rattle.form_fields.specs.Has.{Has}
+use Rattle.form_fields.specs.Banks.{bankOf}
 use Rattle.form_rewrite.specs.Turning.{zeros, allOf, bitClear}
-use Rattle.thm_conversions.specs.Says.{bankOf}
 use Rattle.thm_conversions.specs.Laws.Says.{byte-in, word16-in, word32-in, word64-in, alike-banks}
 
 -- ---- banks

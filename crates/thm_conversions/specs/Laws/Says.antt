@@ -14,13 +14,12 @@ use Rattle.form_fields.specs.Words.{byte, word16, word32, word64}
 use Rattle.form_fields.specs.Kind.{Known, is1, is2}
 use Rattle.form_fields.specs.Laws.Kind.{known-bank}
 use Rattle.form_fields.specs.Columns.{column}
-use Rattle.form_fields.specs.Banks.{isSet, optOf, bankAt}
+use Rattle.form_fields.specs.Banks.{isSet, optOf, bankAt, bankOf}
 use Rattle.form_fields.specs.Lists.{cells}
 use Rattle.form_fields.specs.Contents.{field, flat, Each, Long, BankFits}
 use Rattle.form_fields.specs.Has.{Has}
 use Rattle.form_fields.specs.Theorems.Has.{has-left, has-right, field-payload}
 use Rattle.form_fields.specs.Laws.Parts.{has-at, field-long}
-use Rattle.thm_conversions.specs.Says.{bankOf}
 
 -- ---- numbers inside a part of a file
 

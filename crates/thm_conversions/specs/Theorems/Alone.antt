@@ -25,10 +25,11 @@ use Rattle.form_fields.specs.Words.{word16, word32, word64}
 use Rattle.form_fields.specs.Columns.{column}
 use Rattle.form_fields.specs.Kind.{form1, form2, is1, is2}
 use Rattle.form_fields.specs.Contents.{flat, written}
+use Rattle.form_fields.specs.Banks.{bankOf}
 use Rattle.form_build.specs.Filed.{fileOutput}
 use Rattle.form_rewrite.specs.Turning.{toForm1}
 use Rattle.form_rewrite.specs.Theorems.Fitting.{form1-fits}
-use Rattle.thm_conversions.specs.Says.{bankOf, inputFor}
+use Rattle.thm_conversions.specs.Says.{inputFor}
 use Rattle.thm_conversions.specs.Theorems.Says.{written-output}
 use Rattle.thm_conversions.specs.Alone.{reserve}
 use Rattle.thm_conversions.specs.Laws.Alone.{back-short, reserve-fits, reserve-short}

@@ -30,6 +30,7 @@ use Rattle.build_paged.specs.InProfile.{saidOf}
 use Rattle.form_fields.specs.Kind.{form1, form2, is1, is2}
 use Rattle.form_fields.specs.Contents.{Contents, written, BankFits, Fits}
 use Rattle.form_fields.specs.Whole.{contentsIn, Bytes}
+use Rattle.form_fields.specs.Banks.{bankOf}
 use Rattle.form_build.specs.Filed.{fileOutput, FileBuilt}
 use Rattle.form_build.specs.Paged.{afterSaid, outputIn, BuiltIn}
 use Rattle.form_convert.specs.declared.Conversion.the-variants.{Converted}
@@ -37,7 +38,7 @@ use Rattle.form_rewrite.specs.Turning.{zeros, lengthened, shortened, shaped, al
 use Rattle.form_convert.specs.Convert.{dropsNone, ToForm2, ToForm1}
 use Rattle.form_rewrite.specs.Theorems.Fitting.{lengthened-fits}
 use Rattle.form_rewrite.specs.Laws.Fitting.{shortened-fits}
-use Rattle.thm_conversions.specs.Says.{bankOf, tableFor, listsFor, inputFor}
+use Rattle.thm_conversions.specs.Says.{tableFor, listsFor, inputFor}
 use Rattle.thm_conversions.specs.Theorems.Says.{written-output, from-written, to-written}
 use Rattle.thm_conversions.specs.Theorems.Conversions.{turned-file}
 use Rattle.thm_conversions.specs.Laws.OtherBanks.{bank-lengthened, bank-shortened, each-clear, map-over, none-or-more}

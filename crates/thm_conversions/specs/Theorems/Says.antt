@@ -20,7 +20,7 @@ use Rattle.form_fields.specs.Words.{byte, word32}
 use Rattle.form_fields.specs.Kind.{Known, kindOf}
 use Rattle.form_fields.specs.Columns.{column}
 use Rattle.form_fields.specs.Shape.{bankCountIn, nodesStartIn, nodeCountIn, rowsStartIn, rowCountIn, formIn, formOf}
-use Rattle.form_fields.specs.Banks.{bankAt, banksIn, tableOf}
+use Rattle.form_fields.specs.Banks.{bankAt, banksIn, tableOf, bankOf}
 use Rattle.form_fields.specs.Lists.{cells, kindsIn, operandsIn, numbersIn, statesIn, valuesBy}
 use Rattle.form_fields.specs.Contents.{field, flat, Contents, written, Long, BankFits, Fits}
 use Rattle.form_fields.specs.Has.{Has}
@@ -36,7 +36,7 @@ use Rattle.form_fields.specs.Laws.Written.{column-of}
 use Rattle.form_build.specs.Filed.{listsIn, choicesOf, outputBy, fileOutput, FileBuilt}
 use Rattle.form_build.specs.Paged.{outputIn, BuiltIn}
 use Rattle.thm_conversions.specs.Laws.Says.{ReadsIn, bank-read, byte-in, byte-reads, cells-in, column-front, word32-in, word32-reads}
-use Rattle.thm_conversions.specs.Says.{bankOf, inputFor, kindOn, listsFor, numbersOn, operandOn, statesOn, tableFor}
+use Rattle.thm_conversions.specs.Says.{inputFor, kindOn, listsFor, numbersOn, operandOn, statesOn, tableFor}
 
 -- ---- the file of some contents
 
