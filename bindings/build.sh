@@ -1,10 +1,11 @@
 #!/bin/sh
 # Builds the proved archive and the programs over it: target/staticlib/libdenkumari.a, and in build/bindings the C programs batch, test, store, overlays,
-# records, stack and calls_time, and, where a Rust compiler has the x86-64 target, the Rust ones batch_rust, worked_rust, calls_rust, store_rust and
-# overlays_rust. Says what it skipped for want of something, and what it left out since this machine cannot run it.
+# records, stack, structs and calls_time, structs_cpp where there is a C++ compiler, and, where a Rust compiler has the x86-64 target, the Rust ones
+# batch_rust, worked_rust, calls_rust, store_rust and overlays_rust. Says what it skipped for want of something, and what it left out since this machine
+# cannot run it.
 #
-# Not on x86-64, CC names a C compiler for it (default x86_64-linux-gnu-gcc; Debian: gcc-x86-64-linux-gnu libc6-dev-amd64-cross). RUSTC names the
-# Rust compiler.
+# Not on x86-64, CC names a C compiler for it (default x86_64-linux-gnu-gcc; Debian: gcc-x86-64-linux-gnu libc6-dev-amd64-cross), and CXX one for C++
+# (x86_64-linux-gnu-g++; g++-x86-64-linux-gnu). RUSTC names the Rust compiler.
 set -eu
 . "$(dirname "$(readlink -f -- "$0")")/../tools/start.sh"
 . "$home/tools/launch.sh"
@@ -13,9 +14,9 @@ cd "$home"
 target=x86_64-unknown-linux-gnu
 # the archive is x86-64 code: there it can always be linked, and elsewhere only by a compiler for it
 if [ "$(uname -m)" = x86_64 ]; then
-    cc=${CC:-cc} skipped=skipped
+    cc=${CC:-cc} cxx=${CXX:-c++} skipped=skipped
 else
-    cc=${CC:-x86_64-linux-gnu-gcc} skipped='left out'
+    cc=${CC:-x86_64-linux-gnu-gcc} cxx=${CXX:-x86_64-linux-gnu-g++} skipped='left out'
 fi
 rustc=${RUSTC:-rustc}
 
@@ -33,7 +34,17 @@ fi
 for program in batch test store overlays stack records calls_time; do
     "$cc" -std=c11 -O2 -Wall -Wextra -Werror -static -pthread -o "$out/$program" "bindings/c/$program.c" "$out/libdenkumari.a"
 done
+"$cc" -std=c99 -O2 -Wall -Wextra -Wshadow -Wpedantic -Werror -static -o "$out/structs" bindings/c/structs.c "$out/libdenkumari.a"
 echo "built: libdenkumari.a and the C programs"
+if command -v "$cxx" >/dev/null; then
+    for standard in c++20 c++11; do
+        "$cxx" -x c++ -std="$standard" -O2 -Wall -Wextra -Wshadow -Wpedantic -Werror -static -o "$out/structs_cpp" bindings/c/structs.c \
+            -x none "$out/libdenkumari.a"
+    done
+    echo "built: the C++ program"
+else
+    echo "$skipped: the C++ program, for want of a C++ compiler for x86-64 ($cxx)"
+fi
 
 has_target() {
     "$rustc" --version >/dev/null 2>&1 && set -- "$("$rustc" --print target-libdir --target "$target" 2>/dev/null)"/libstd-*.rlib && [ -f "$1" ]

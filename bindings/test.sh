@@ -33,6 +33,10 @@ tested C "$out/test" examples/worked.form
 tested "C, the store" "$out/store"
 tested "C, stack" "$out/stack"
 tested "C, overlays" "$out/overlays"
+tested "C, structs" "$out/structs"
+if [ -x "$out/structs_cpp" ]; then
+    tested "C++, structs" "$out/structs_cpp"
+fi
 
 compare() {
     name=$1
@@ -56,6 +60,7 @@ against() {
     python3 oracle/model.py --batch --padding "$@" <"$out/layouts" >"$out/expected"
     compare "C, from files$under" "$out/batch" --padding "$@"
     compare "C, from tables$under" "$out/batch" --tables --padding "$@"
+    compare "C, from structs$under" "$out/batch" --structs --padding "$@"
 }
 # converted FORM [ROOM]: the files in that form, against oracle/convert.py
 converted() {

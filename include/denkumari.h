@@ -23,6 +23,10 @@
 #ifdef __cplusplus
 extern "C" {
 #endif
+#if defined(__cplusplus) && defined(__GNUC__)
+#pragma GCC diagnostic push
+#pragma GCC diagnostic ignored "-Wshadow" /* three calls have the name of their answer's struct: see dk_part_answer */
+#endif
 
 /* The version of this interface. */
 #define DENKUMARI_VERSION "0.2.0"
@@ -128,6 +132,11 @@ struct dk_part {
     uint64_t start;   /* in bytes */
     uint64_t length;  /* in bytes */
 };
+
+/* Three answers have the name of their call, which C++ takes for the call alone unless `struct` stands before it: they have these names too. */
+typedef struct dk_part dk_part_answer;
+typedef struct dk_offer dk_offer_answer;
+typedef struct dk_profile dk_profile_answer;
 
 /* The answer to an offer. */
 struct dk_offer {
@@ -363,6 +372,9 @@ static inline const char *dk_words(uint64_t refusal)
     }
 }
 
+#if defined(__cplusplus) && defined(__GNUC__)
+#pragma GCC diagnostic pop
+#endif
 #ifdef __cplusplus
 }
 #endif

@@ -3,17 +3,18 @@
  *
  *     batch             lays each file out with dk_form
  *     batch --tables    takes sound files apart itself and calls dk_build; broken ones still go to dk_form. With --long, files past their form's length too
+ *     batch --structs   the same by way of the structs of denkumari_tables.h
  *     batch --to N      converts each file to form N, 1 or 2, into --room BYTES, and writes `ok` and the result in hex, or the refusal (oracle/convert.py)
  *     batch --spans     reads lists of spans instead, a line each, OFFSET:SIZE,.. with - for no offset, and writes their blocks
  *
- * The first two also take --fill N, the fill's choice, --page N, the page size of a device with pages, and --padding, by which each bank's padding, and with
+ * The first three also take --fill N, the fill's choice, --page N, the page size of a device with pages, and --padding, by which each bank's padding, and with
  * --page its pages, stand at the end of a line. */
 #include <inttypes.h>
 #include <stdio.h>
 #include <stdlib.h>
 #include <string.h>
 
-#include "../../include/denkumari.h"
+#include "../../include/denkumari_tables.h"
 #include "tables.h"
 
 enum { IMAGE = 16384, SPANS = 4096, FILE_MOST = 1 << 20 };
@@ -113,7 +114,7 @@ static void put_image(uint64_t bits)
 /* What the caller chooses. */
 static uint8_t fill;
 static uint32_t page;
-static int paged, padded, longer;
+static int paged, padded, longer, structs;
 
 #define OUTPUT image, IMAGE, addresses, SPANS, offsets, SPANS, sizes, SPANS
 
@@ -121,6 +122,38 @@ static struct dk_layout from_tables(size_t size)
 {
     uint8_t limit = file[size - 1];
     return paged ? dk_build_paged(page, TABLES, limit, fill, form == 2, OUTPUT) : dk_build(TABLES, limit, fill, form == 2, OUTPUT);
+}
+
+/* The tables as structs. */
+static struct dk_tables as_structs(size_t size)
+{
+    static struct dk_bank records[BANKS];
+    struct dk_tables t = dk_no_tables();
+    for (size_t i = 0; i < banks; i++) {
+        struct dk_bank record = {bank_starts[i], bank_sizes[i], bank_offsets[i], aligns[i], units[i], flags[i], fill_bits[i]};
+        records[i] = record;
+    }
+    t.banks = records;
+    t.bank_count = banks;
+    t.kinds = kinds;
+    t.operands = operands;
+    t.node_count = nodes;
+    t.numbers = numbers;
+    t.states = states;
+    t.row_count = rows;
+    t.values = file + values_at;
+    t.values_len = values_size;
+    t.limit = file[size - 1];
+    t.fill = fill;
+    t.closed = form == 2;
+    return t;
+}
+
+static struct dk_layout from_structs(size_t size)
+{
+    struct dk_tables t = as_structs(size);
+    struct dk_room room = {image, IMAGE, addresses, offsets, sizes, SPANS};
+    return paged ? dk_build_tables_paged(page, &t, &room) : dk_build_tables(&t, &room);
 }
 
 static struct dk_layout from_file(size_t size)
@@ -145,7 +178,7 @@ static void put_each(const char *name, const uint64_t *each)
 static void lay_out(size_t size, int tables)
 {
     int sound = (tables || padded) && take_apart(file, size, longer);
-    struct dk_layout r = tables && sound ? from_tables(size) : from_file(size);
+    struct dk_layout r = tables && sound ? (structs ? from_structs(size) : from_tables(size)) : from_file(size);
     if (r.refusal != DK_ACCEPTED) {
         put_refusal(r);
         end_line();
@@ -162,8 +195,9 @@ static void lay_out(size_t size, int tables)
     put_blocks(r.spans);
     if (padded) {
         put_each("padding", r.padding);
+        struct dk_tables t = as_structs(size);
         if (paged)
-            put_each("pages", dk_profile(page, TABLES, fill).pages);
+            put_each("pages", (structs ? dk_profile_tables(page, &t) : dk_profile(page, TABLES, fill)).pages);
     }
     end_line();
 }
@@ -206,7 +240,8 @@ int main(int argc, char **argv)
     for (int i = 1; i < argc; i++) {
         if (strcmp(argv[i], "--spans") == 0)
             return print_span_lists();
-        tables |= strcmp(argv[i], "--tables") == 0;
+        structs |= strcmp(argv[i], "--structs") == 0;
+        tables |= structs | (strcmp(argv[i], "--tables") == 0);
         padded |= strcmp(argv[i], "--padding") == 0;
         longer |= strcmp(argv[i], "--long") == 0;
         if (i + 1 < argc && strcmp(argv[i], "--fill") == 0)

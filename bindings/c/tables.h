@@ -1,6 +1,6 @@
 /* The tables of a layout file of either form, taken apart for the calls that have them lent. For the programs of bindings/c. */
-#ifndef DENKUMARI_TABLES_H
-#define DENKUMARI_TABLES_H
+#ifndef BINDINGS_TABLES_H
+#define BINDINGS_TABLES_H
 
 #include <stddef.h>
 #include <stdint.h>

@@ -1,0 +1,213 @@
+/* Denkumari's calls over two structs: the tables of a layout, each list under its name, and what is lent to the call. denkumari.h's own calls take the same
+ * lists as up to 36 parameters, among them several pointers of one type, which a compiler lets be exchanged unseen; here every list is assigned by name, a
+ * bank is a record, and no length is given twice. For C from C99 on and C++ from C++11 on; nothing here is linked, and nothing is proved beyond the calls
+ * below it: the inline functions put the fields in the places of the parameters, and bindings/c/structs.c tests that.
+ *
+ *     struct dk_bank banks[] = {dk_bank_of(8), dk_bank_of(10)};
+ *     dk_bank_size(&banks[1], 40);
+ *     dk_bank_offset(&banks[1], 0);
+ *     banks[1].start = 64;
+ *     struct dk_tables tables = dk_no_tables();
+ *     tables.banks = banks;
+ *     tables.bank_count = 2;
+ *     tables.kinds = kinds; ..
+ *     struct dk_room room = dk_no_room();
+ *     room.image = image;
+ *     room.image_len = sizeof image; ..
+ *     struct dk_layout r = dk_build_tables(&tables, &room); */
+#ifndef DENKUMARI_TABLES_H
+#define DENKUMARI_TABLES_H
+
+#include "denkumari.h"
+
+/* A bank. Zeros everywhere but in `unit` are a bank from address 0 on without size, offset and label alignment, not filled. */
+struct dk_bank {
+    int64_t start;    /* address of its first bit */
+    uint32_t size;    /* in bits; read where flags has DK_HAS_SIZE */
+    uint32_t offset;  /* of its first bit in the image, in bits; read where flags has DK_HAS_OFFSET */
+    uint32_t align;   /* label alignment; read where flags has DK_HAS_ALIGN */
+    uint16_t unit;    /* bits to an address */
+    uint8_t flags;    /* a sum of enum dk_flags */
+    uint8_t fill_bit; /* 0 or 1 */
+};
+
+/* A layout: banks, nodes, rows, values and choices. Where a count is 0 its pointers may be NULL. */
+struct dk_tables {
+    const struct dk_bank *banks;
+    size_t bank_count;
+    const uint8_t *kinds;     /* of each node: enum dk_kind */
+    const uint32_t *operands; /* of each node */
+    size_t node_count;
+    const uint32_t *numbers;  /* of each node in each row: that of node j in row r is numbers[r * node_count + j] */
+    const uint8_t *states;    /* the same */
+    size_t row_count;
+    const uint8_t *values;
+    size_t values_len;        /* in bytes */
+    uint8_t limit;            /* the pass limit */
+    uint8_t fill;             /* enum dk_fill */
+    uint8_t closed;           /* whether bank 0 is closed where it is the only one, as in form 2 */
+};
+
+/* What a layout is written into: the image, and for each span an address, an offset and a size, three lists of `span_count` elements. */
+struct dk_room {
+    uint8_t *image;
+    size_t image_len;    /* in bytes */
+    int64_t *addresses;
+    uint64_t *offsets;
+    uint64_t *sizes;
+    size_t span_count;
+};
+
+static inline struct dk_bank dk_bank_of(uint16_t unit)
+{
+    struct dk_bank bank = {0, 0, 0, 0, 0, 0, 0};
+    bank.unit = unit;
+    return bank;
+}
+
+/* Sets a number of a bank together with its flag. */
+static inline void dk_bank_size(struct dk_bank *bank, uint32_t bits)
+{
+    bank->size = bits;
+    bank->flags |= DK_HAS_SIZE;
+}
+
+static inline void dk_bank_offset(struct dk_bank *bank, uint32_t bits)
+{
+    bank->offset = bits;
+    bank->flags |= DK_HAS_OFFSET;
+}
+
+static inline void dk_bank_align(struct dk_bank *bank, uint32_t bits)
+{
+    bank->align = bits;
+    bank->flags |= DK_HAS_ALIGN;
+}
+
+static inline void dk_bank_fill(struct dk_bank *bank, uint8_t bit)
+{
+    bank->fill_bit = bit;
+    bank->flags |= DK_FILL;
+}
+
+static inline struct dk_tables dk_no_tables(void)
+{
+    struct dk_tables tables = {NULL, 0, NULL, NULL, 0, NULL, NULL, 0, NULL, 0, 0, 0, 0};
+    return tables;
+}
+
+static inline struct dk_room dk_no_room(void)
+{
+    struct dk_room room = {NULL, 0, NULL, NULL, NULL, 0};
+    return room;
+}
+
+/* The banks as the lists that the calls take, one more than there may be, so that 17 are refused as more are. */
+struct dk_bank_lists {
+    size_t count;
+    int64_t starts[DK_MAX_BANKS + 1];
+    uint32_t sizes[DK_MAX_BANKS + 1], offsets[DK_MAX_BANKS + 1], aligns[DK_MAX_BANKS + 1];
+    uint16_t units[DK_MAX_BANKS + 1];
+    uint8_t flags[DK_MAX_BANKS + 1], fill_bits[DK_MAX_BANKS + 1];
+};
+
+static inline void dk_list_banks(struct dk_bank_lists *lists, const struct dk_tables *tables)
+{
+    size_t i;
+    lists->count = tables->bank_count > DK_MAX_BANKS ? DK_MAX_BANKS + 1 : tables->bank_count;
+    for (i = 0; i < lists->count; i++) {
+        lists->starts[i] = tables->banks[i].start;
+        lists->sizes[i] = tables->banks[i].size;
+        lists->offsets[i] = tables->banks[i].offset;
+        lists->aligns[i] = tables->banks[i].align;
+        lists->units[i] = tables->banks[i].unit;
+        lists->flags[i] = tables->banks[i].flags;
+        lists->fill_bits[i] = tables->banks[i].fill_bit;
+    }
+}
+
+/* How many cells the rows have: none where there are more nodes or rows than are read, which is refused whatever they hold, so that no product wraps. */
+static inline size_t dk_cell_count(const struct dk_tables *tables)
+{
+    return tables->node_count > DK_MAX_NODES || tables->row_count > DK_MAX_ROWS ? 0 : tables->node_count * tables->row_count;
+}
+
+/* dk_build over the structs. The banks' lists take 512 bytes of stack more than that call's own. */
+static inline struct dk_layout dk_build_tables(const struct dk_tables *tables, const struct dk_room *room)
+{
+    struct dk_bank_lists b;
+    const size_t nodes = tables->node_count, cells = dk_cell_count(tables), spans = room->span_count;
+    dk_list_banks(&b, tables);
+    return dk_build(b.units, b.count, b.starts, b.count, b.sizes, b.count, b.offsets, b.count, b.aligns, b.count, b.flags, b.count, b.fill_bits, b.count,
+                    tables->kinds, nodes, tables->operands, nodes, tables->numbers, cells, tables->states, cells, tables->row_count,
+                    tables->values, tables->values_len, tables->limit, tables->fill, tables->closed,
+                    room->image, room->image_len, room->addresses, spans, room->offsets, spans, room->sizes, spans);
+}
+
+/* dk_build_paged over the structs. */
+static inline struct dk_layout dk_build_tables_paged(uint32_t page, const struct dk_tables *tables, const struct dk_room *room)
+{
+    struct dk_bank_lists b;
+    const size_t nodes = tables->node_count, cells = dk_cell_count(tables), spans = room->span_count;
+    dk_list_banks(&b, tables);
+    return dk_build_paged(page, b.units, b.count, b.starts, b.count, b.sizes, b.count, b.offsets, b.count, b.aligns, b.count, b.flags, b.count,
+                          b.fill_bits, b.count, tables->kinds, nodes, tables->operands, nodes, tables->numbers, cells, tables->states, cells,
+                          tables->row_count, tables->values, tables->values_len, tables->limit, tables->fill, tables->closed,
+                          room->image, room->image_len, room->addresses, spans, room->offsets, spans, room->sizes, spans);
+}
+
+/* dk_profile over the tables. */
+static inline dk_profile_answer dk_profile_tables(uint32_t page, const struct dk_tables *tables)
+{
+    struct dk_bank_lists b;
+    const size_t nodes = tables->node_count, cells = dk_cell_count(tables);
+    dk_list_banks(&b, tables);
+    return dk_profile(page, b.units, b.count, b.starts, b.count, b.sizes, b.count, b.offsets, b.count, b.aligns, b.count, b.flags, b.count,
+                      b.fill_bits, b.count, tables->kinds, nodes, tables->operands, nodes, tables->numbers, cells, tables->states, cells,
+                      tables->row_count, tables->values, tables->values_len, tables->fill);
+}
+
+/* dk_form and dk_form_paged into a struct. */
+static inline struct dk_layout dk_form_into(const uint8_t *file, size_t file_len, uint8_t fill, const struct dk_room *room)
+{
+    return dk_form(file, file_len, fill, room->image, room->image_len, room->addresses, room->span_count, room->offsets, room->span_count,
+                   room->sizes, room->span_count);
+}
+
+static inline struct dk_layout dk_form_into_paged(const uint8_t *file, size_t file_len, uint8_t fill, uint32_t page, const struct dk_room *room)
+{
+    return dk_form_paged(file, file_len, fill, page, room->image, room->image_len, room->addresses, room->span_count, room->offsets, room->span_count,
+                         room->sizes, room->span_count);
+}
+
+/* Blocks of an image: block i is sizes[i] bits from bit offsets[i] on; `count` of them, in lists of `room` elements. */
+struct dk_block_list {
+    uint64_t *offsets;
+    uint64_t *sizes;
+    size_t room;
+    size_t count;
+};
+
+/* dk_blocks of the spans of an accepted layout; accepted, it sets the list's count. */
+static inline struct dk_count dk_blocks_into(const struct dk_layout *layout, const struct dk_room *room, struct dk_block_list *blocks)
+{
+    const size_t spans = (size_t)layout->spans;
+    struct dk_count r = dk_blocks(room->offsets, spans, room->sizes, spans, blocks->offsets, blocks->room, blocks->sizes, blocks->room);
+    if (r.refusal == DK_ACCEPTED)
+        blocks->count = (size_t)r.count;
+    return r;
+}
+
+/* dk_write_hex and dk_write_srec of a layout's image and its blocks. */
+static inline struct dk_count dk_write_hex_of(const struct dk_room *room, const struct dk_block_list *blocks, uint32_t load, uint8_t *text, size_t text_len)
+{
+    return dk_write_hex(room->image, room->image_len, blocks->offsets, blocks->count, blocks->sizes, blocks->count, load, text, text_len);
+}
+
+static inline struct dk_count dk_write_srec_of(const struct dk_room *room, const struct dk_block_list *blocks, uint32_t load, uint8_t width,
+                                               uint8_t *text, size_t text_len)
+{
+    return dk_write_srec(room->image, room->image_len, blocks->offsets, blocks->count, blocks->sizes, blocks->count, load, width, text, text_len);
+}
+
+#endif
