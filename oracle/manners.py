@@ -14,6 +14,7 @@ from contextlib import contextmanager
 from pathlib import Path
 
 ROOT = Path(__file__).resolve().parent.parent
+INSTALLED = (ROOT / "INSTALLED").exists()
 ENDING = (signal.SIGTERM, signal.SIGHUP, signal.SIGINT)
 
 
@@ -28,7 +29,14 @@ class Parser(argparse.ArgumentParser):
         (file or sys.stderr).write(message or "")
 
 
+def called():
+    """The script's name as its caller knows it: its path in the checkout, or the installed command (tools/install)."""
+    name = os.path.relpath(os.path.realpath(sys.argv[0]), ROOT)
+    return name.replace("tools/", "denkumari ", 1) if INSTALLED else name
+
+
 def parser(doc):
+    doc = doc.replace("tools/", "denkumari ") if INSTALLED else doc
     return Parser(description=doc, formatter_class=argparse.RawDescriptionHelpFormatter, allow_abbrev=False)
 
 
@@ -120,7 +128,7 @@ def run(main, *words):
     for number in ENDING:
         if signal.getsignal(number) in (signal.SIG_DFL, signal.default_int_handler):
             signal.signal(number, came)
-    name = os.path.relpath(os.path.realpath(sys.argv[0]), ROOT)
+    name = called()
     try:
         if sys.stdout is None:
             raise Stop("standard output is closed")

@@ -201,6 +201,91 @@ if command -v python3 >/dev/null 2>&1; then
 else
     echo "skipped: tools/compare and tools/form, for want of python3"
 fi
+# the recipes of docs/RECIPES.md, where their tools are installed: each file that its option makes good is read, and the one without is not
+recipes() {
+    tools/srec examples/banks.form --load 0x8000 --width 4 >"$room/made.s37" && tools/ihex examples/banks.form --load 0x8000 >"$room/made.hex" || wrong=1
+    if command -v srec_cat >/dev/null 2>&1; then
+        for out in 1.hex 2.s37 3.bin 4.hex 5.s37; do
+            set -- "$room/made.hex" -intel -o "$room/$out"
+            case $out in
+            1.hex) set -- "$@" -intel -execution-start-address=0x8000 -disable=exec-start-address ;;
+            2.s37) set -- "$@" -motorola -address-length=4 -disable=data-count -execution-start-address=0 ;;
+            3.bin) set -- "$room/made.hex" -intel -offset -0x8000 -fill 0xff 0 64 -o "$room/3.bin" -binary ;;
+            4.hex) set -- "$@" -intel -execution-start-address=0x8000 ;;
+            5.s37) set -- "$@" -motorola -address-length=4 -execution-start-address=0 ;;
+            esac
+            srec_cat "$@" 2>"$room/err" || {
+                echo "srec_cat $*: $(cat "$room/err")"
+                wrong=1
+            }
+        done
+        tools/rehex "$room/1.hex" --to srec --load 0x8000 >"$room/back.s37" && tools/rehex "$room/2.s37" --to hex --load 0x8000 >"$room/back.hex" || wrong=1
+        same "$room/made.s37" "$room/back.s37" "what srec_cat wrote as Intel HEX is read as something else"
+        same "$room/made.hex" "$room/back.hex" "what srec_cat wrote as S-records is read as something else"
+        is 1 tools/rehex "$room/4.hex" --to srec --load 0x8000
+        is 1 tools/rehex "$room/5.s37" --to hex --load 0x8000
+        [ "$(wc -c <"$room/3.bin")" -eq 64 ] || wrong=1
+    else
+        echo "left out: the recipes for srec_cat, which is not installed"
+    fi
+    if command -v objcopy >/dev/null 2>&1; then
+        objcopy -I ihex -O binary --gap-fill 0xff "$room/made.hex" "$room/o.bin" &&
+            objcopy -I binary -O ihex --change-section-address .data=0x8000 "$room/o.bin" "$room/o.hex" &&
+            objcopy -I binary -O srec --srec-forceS3 --change-section-address .data=0x8000 "$room/o.bin" "$room/o.s37" &&
+            objcopy -I binary -O ihex --change-addresses 0x8000 "$room/o.bin" "$room/o5.hex" || wrong=1
+        tools/rehex "$room/o.hex" --to srec --load 0x8000 >"$room/back.s37" && tools/rehex "$room/o.s37" --to hex --load 0x8000 >"$room/back.hex" &&
+            tools/rehex "$room/back.hex" --to srec --load 0x8000 >"$room/again.s37" || wrong=1
+        same "$room/back.s37" "$room/again.s37" "what objcopy wrote as S-records and as Intel HEX is not read as the same"
+        is 1 tools/rehex "$room/o5.hex" --to srec --load 0x8000
+    else
+        echo "left out: the recipes for objcopy, which is not installed"
+    fi
+}
+recipes
+# the words of tools/form: a wrong line is named with what is wrong in it
+wrong_words() {
+    # shellcheck disable=SC2059
+    printf "$2" >"$room/wrong.words"
+    is 2 tools/form --make "$room/wrong.words"
+    grep -q "$1" "$room/err" || {
+        echo "tools/form --make of '$2' says '$(cat "$room/err")', without '$1'"
+        wrong=1
+    }
+}
+words_of_form() {
+    wrong_words 'line 1: limit wants one number, and here are 2: 1 2' 'limit 1 2\n'
+    wrong_words 'line 1: form 3: there are form 1 and form 2' 'form 3\n'
+    wrong_words 'line 2: form was said in line 1' 'form 2\nform 2\n'
+    wrong_words 'line 2: form stands ahead' 'bank unit 8\nform 2\n'
+    wrong_words 'line 1: the bracket before size is not closed' 'bank unit 8 (size 40\n'
+    wrong_words 'line 1: 40): no bracket was opened' 'bank unit 8 size 40)\n'
+    wrong_words 'line 2: limit was said in line 1' 'limit 1\nlimit 1\n'
+    wrong_words 'line 2: rows was said in line 1' 'rows 1\nrows 1\n'
+    wrong_words "line 1: the bank's unit is said twice" 'bank unit 8 unit 8\n'
+    wrong_words "line 1: the bank's size is said twice" 'bank unit 8 size 8 (size 8)\n'
+    wrong_words "line 1: the bank's fill is said twice" 'bank unit 8 fill fill\n'
+    wrong_words 'line 1: the bank has no unit' 'bank size 8\n'
+    wrong_words 'line 1: ones is of form 2' 'bank unit 8 fill ones\n'
+    wrong_words 'line 1: it begins with a byte order mark' '\357\273\277form 2\n'
+    wrong_words "line 2: no line begins with 'lable' (is it label?)" '# a remark\nlable\n'
+    wrong_words 'line 1: there is no number behind the colon' 'data 0:\n'
+    wrong_words "line 1: '1~' is no number" 'data 0: 1~?\n'
+    wrong_words 'line 1: the values have 3 hex digits' 'values abc\n'
+    wrong_words "line 1: 'xy' is not hex digits" 'values xy\n'
+    for form in examples/*.form; do
+        tools/form "$form" >"$room/words" && tools/form --make "$room/words" >"$room/back.form" || wrong=1
+        same "$form" "$room/back.form" "$form comes back changed from its words"
+    done
+    printf 'bank unit 8 (size 40) (offset 8) (align 3)\nrows 1\nlimit 1\n' >"$room/words"
+    tools/form --make "$room/words" >"$room/back.form" && tools/form "$room/back.form" >"$room/words2" || wrong=1
+    same "$room/words" "$room/words2" "numbers in brackets come back changed"
+    refused 'refused 4 0' 'it looks like words, of which form --make makes a layout file' tools/layout "$room/words"
+}
+if command -v python3 >/dev/null 2>&1; then
+    words_of_form
+fi
+refused 'refused 4 0' 'it looks like Intel HEX' tools/layout "$room/made.hex"
+refused '' 'it looks like S-records' tools/map "$room/made.s37"
 # what no program says is no refusal
 for said in hello 'refused 12' 'refused 20 0' 'refused 12 a b'; do
     is 2 tools/words examples/clamp-mark-after.form "$said"

@@ -47,9 +47,23 @@ function tell_table(bank,   text) {
     if (bank == 0 && bit[bank]) text = text ", bank 0 cannot have a fill bit of one"
     return tell_bank(bank) ": " substr(text, 3)
 }
+# What a file that is no layout file looks like by its first line that is neither empty nor a remark, in words that say what to do with it.
+function looks_like(   i, text, tool_words) {
+    for (i = b[0] == 239 && b[1] == 187 && b[2] == 191 ? 3 : 0; i < n && length(text) < 80; i++) {
+        if (b[i] != 10 && b[i] != 13) text = text sprintf("%c", b[i])
+        else if (text ~ /^[ \t]*(#.*)?$/) text = ""
+        else break
+    }
+    tool_words = "^[ \t]*(form [12]|bank (unit|start|size|offset|align|fill|\\()|rows [0-9]|limit [0-9]|values [0-9a-fA-F]|switch [0-9]|" \
+        "label|constant|instruction|data|open|reserve)"
+    if (text ~ /^:[0-9A-Fa-f][0-9A-Fa-f]/) return "; it looks like Intel HEX, which is no layout file: rehex and bench read it"
+    if (text ~ /^S[0-9][0-9A-Fa-f][0-9A-Fa-f]/) return "; it looks like S-records, which are no layout file: rehex reads them"
+    if (text ~ tool_words) return "; it looks like words, of which form --make makes a layout file"
+    return ""
+}
 # 4: the file's own fault, else the list's: node count, row count, then the lowest node
 function tell_list(place,   r, end) {
-    if (broken >= 0) return why
+    if (broken >= 0) return why looks_like()
     if (nodes > 4096) return "there are " nodes " nodes, and at most 4,096 can be laid out"
     if (rows < 1 || rows > 16) return "there are " several(rows, "row") ", and 1 to 16 can be read"
     if (kind[place] > 10) return tell_node(place) ": kinds go from 0 to 10"
@@ -130,8 +144,8 @@ function tell_converted(no, place,   i, most) {
     most = banks == 1 && to == 2 ? 4095 : 4096
     if (no == 18) for (i = 0; i < banks; i++) if (bit[i]) return tell_bank(i) " has a fill bit of one, and form 1 has no fill bits"
     if (no != 4) return tell(no, place, 0)
-    if (n && form == to) return "the file is of form " form " already, by its first byte"
-    if (broken >= 0) return why
+    if (n && form == to && (broken < 0 || b[0] < 32)) return "the file is of form " form " already, by its first byte"
+    if (broken >= 0) return why looks_like()
     if (nodes > most) return "there are " nodes " nodes, and at most " most " can be converted" (most < 4096 ? ", since a switch is put ahead of them" : "")
     if (rows > 16) return "there are " rows " rows, and at most 16 can be converted"
     if (banks == 1 && kind[place] == 1 && operand[place] > 0) return tell_node(place) ": the file has one bank"
