@@ -1,120 +1,82 @@
--- The promise of `write_srec` from that of the writing of records; and the blocks one by one.
-use mathlib.Core.Path.{_≡_, refl, ap, subst, _∙_}
+-- The promise of `write_srec` from that of the writing of records.
+use mathlib.Core.Path.{_≡_, refl, sym, ap, subst, _∙_}
 use mathlib.Core.Bool.{Bool, true, false, _&&_, _||_}
-use mathlib.Core.List.{List, [], _∷_}
-use Prim.Native.Nat.{ℕ, _+_, _/_, _<_, _≤_, min}
-use native.Mathlib.Numerals.{add-one}
+use mathlib.Core.List.{List, _++_}
+use Prim.Native.Nat.{ℕ}
 use native.Mathlib.Omega.{arith}
-use native.Mathlib.Decide.{decLt}
-use lib.Dec.{leb, eqb}
-use lib.ListN.{length, drop, getD, drop-of-length-le}
-use lib.Seq.{drop-cons}
-use borrow.Author.Tests.{ne-eqb}
+use borrow.Author.Tests.{eqb-true}
+use lib.Dec.{eqb}
+use lib.ListN.{length, drop}
+use Rattle.refusal.specs.Laws.Bools.{either}
 use Rattle.refusal.specs.Pick.{pick}
+use Rattle.refusal.specs.declared.Refusal.the-variants.{Malformed, TooShort, BadPart}
 use Rattle.blocks.specs.declared.Block.{Block}
-use Rattle.blocks.specs.Walk.{block}
 use Rattle.record_write.specs.declared.Written.{Written}
-use Rattle.record_write.specs.Checks.{allPlaced}
+use Rattle.record_write.specs.declared.Written.the-variants.{Length, Refused}
+use Rattle.record_write.specs.Checks.{allPlaced, allShort}
 use Rattle.record_write.specs.Cut.{blocksIn}
-use Rattle.record_write.specs.Text.{known}
 use Rattle.record_write.specs.Theorems.Exactly.{told-answers}
-use Rattle.record_write.specs.Outcome.{input, toldWritten, Writes}
-use Rattle.record_srec.specs.Writing.{allShort, widthOk, formatFor, srecOf, partsOk, fitsIn, WritesSrec}
-
--- ---- blocks one by one
-
-module _ (os ss : List ℕ) (i : ℕ) where
-  abbrev left : List Block
-  left = blocksIn (drop i os) (drop i ss)
-
-  blocks-at : i < length os → i < length ss → left ≡ block (getD os i 0) (getD ss i 0) ∷ blocksIn (drop (i + 1) os) (drop (i + 1) ss)
-  unfolding blocksIn
-  blocks-at h k = rw (add-one, drop-cons os i 0 h, drop-cons ss i 0 k)
-
-  pub short-stop : i < length os → i < length ss → (load : ℕ) → leb (load + getD os i 0 / 8 + getD ss i 0 / 8) 65536 ≡ false → allShort load left ≡ false
-  unfolding allShort
-  short-stop h k load e = rw (blocks-at h k, e)
-
-  pub short-on : i < length os → i < length ss → (load : ℕ) → leb (load + getD os i 0 / 8 + getD ss i 0 / 8) 65536 ≡ true
-      → allShort load left ≡ allShort load (blocksIn (drop (i + 1) os) (drop (i + 1) ss))
-  unfolding allShort
-  short-on h k load e = rw (blocks-at h k, e)
-
-none-first : (ss : List ℕ) → blocksIn [] ss ≡ []
-unfolding blocksIn
-none-first ss = refl
-
-none-second : (os : List ℕ) → blocksIn os [] ≡ []
-unfolding blocksIn
-none-second [] = refl
-none-second (o ∷ os) = refl
-
-pub short-done : (os ss : List ℕ) (i : ℕ) (load : ℕ) → min (length os) (length ss) ≤ i → allShort load (blocksIn (drop i os) (drop i ss)) ≡ true
-unfolding allShort
-short-done os ss i load h =
-    elim (decLt i (length os)) [
-      | yes p ↦
-          let k : length ss ≤ i = omega arith in
-          let d : drop i ss ≡ [] = drop-of-length-le ss k in
-          rw (d, none-second (drop i os))
-      | no p ↦
-          let k : length os ≤ i = omega arith in
-          let d : drop i os ≡ [] = drop-of-length-le os k in
-          rw (d, none-first (drop i ss))
-    ]
-
--- ---- the format
-
-module _ (width load : ℕ) (blocks : List Block) where
-  pub format-four : width ≡ 4 → 4 ≡ formatFor width load blocks
-  format-four e = rw e
-
-  pub format-none : (width ≡ 4 → ⊥) → (width ≡ 2 → ⊥) → 1 ≡ formatFor width load blocks
-  format-none e f = rw (ne-eqb width 4 e, ne-eqb width 2 f)
-
-  pub format-two : width ≡ 2 → allShort load blocks ≡ true → 2 ≡ formatFor width load blocks
-  format-two e s = rw (e, s)
-
-  pub format-past : width ≡ 2 → allShort load blocks ≡ false → 1 ≡ formatFor width load blocks
-  format-past e s = rw (e, s)
-
-known-of : (a b c x : Bool) → (c || (b && x)) ≡ true → (a || b || c) ≡ true
-known-of true b c x e = refl
-known-of false true c x e = refl
-known-of false false true x e = refl
-known-of false false false x e = e
+use Rattle.record_write.specs.Outcome.{input, sound, toldWritten, Writes}
+use Rattle.record_srec.specs.Writing.{formatFor, srecOf, partsOk, placesOk, fitsIn, WritesSrec}
 
 and-false : (b : Bool) → (b && false) ≡ false
 and-false true = refl
 and-false false = refl
 
-module _ (image offsets sizes : List ℕ) (load width : ℕ) (old : List ℕ) where
+-- a is that the format is 0, b that it is 2, c that it is 4; x that addresses have 16 bits
+tests-are : (a b c x e p : Bool) → a ≡ false → (b ≡ true → c ≡ true → ⊥) → ((a || b || c) && pick b x true && e && p) ≡ ((c || (b && x)) && (e && p))
+tests-are a true true x e p z h = absurd (h refl refl)
+tests-are a true false true true p z h = rw z
+tests-are a true false true false p z h = rw z
+tests-are a true false false e p z h = rw z
+tests-are a false true x e p z h = rw z
+tests-are a false false x e p z h = rw z
+
+module _ (image offsets sizes : List ℕ) (load : ℕ) (old : List ℕ) where
   abbrev blocks : List Block
   blocks = blocksIn offsets sizes
 
-  abbrev room : Bool
-  room = fitsIn image offsets sizes load width old
+  abbrev parts : Bool
+  parts = partsOk image offsets sizes
 
-  abbrev long : ℕ
-  long = length (srecOf image offsets sizes load width)
-
-  by-width : {r : Written} {new : List ℕ} (t : Bool) → widthOk width load blocks ≡ t → Writes (input (pick t width 1) image offsets sizes load) old r new
-      → WritesSrec image offsets sizes load width old r new
-  by-width true e w =
-      let k : known width ≡ true = known-of (eqb width 0) (eqb width 2) (eqb width 4) (allShort load blocks) e in
-      let placed : Bool = eqb (length offsets) (length sizes) && allPlaced load blocks in
+  -- no width
+  none : {r : Written} {new : List ℕ} → Writes (input 1 image offsets sizes load) old r new → WritesSrec image offsets sizes load 0 old r new
+  none w =
       record {
-        answer = w .answer ∙ rw (k, e);
-        told = ap toldWritten (w .answer) ∙ rw (k, e) (told-answers (partsOk image offsets sizes) placed room long);
-        lent = w .lent ∙ rw (k, e);
-      }
-  by-width false e w =
-      record {
-        answer = w .answer ∙ rw e;
-        told = ap toldWritten (w .answer) ∙ rw e (told-answers (partsOk image offsets sizes) false room long);
-        lent = w .lent ∙ rw (e, and-false (partsOk image offsets sizes));
+        answer = w .answer;
+        told = ap toldWritten (w .answer) ∙ told-answers parts false true 0;
+        lent = w .lent ∙ rw (and-false parts);
       }
 
-  pub in-figures : {r : Written} {new : List ℕ} (f : ℕ) → f ≡ formatFor width load blocks → Writes (input f image offsets sizes load) old r new
-      → WritesSrec image offsets sizes load width old r new
-  in-figures {r} {new} f e w = by-width (widthOk width load blocks) refl (subst (λ (x : ℕ). Writes (input x image offsets sizes load) old r new) e w)
+  module _ (width : ℕ) where
+    abbrev room : Bool
+    room = fitsIn image offsets sizes load width old
+
+    abbrev file : List ℕ
+    file = srecOf image offsets sizes load width
+
+    some : {r : Written} {new : List ℕ} → eqb width 0 ≡ false → Writes (input width image offsets sizes load) old r new
+        → WritesSrec image offsets sizes load width old r new
+    some e w =
+        let same : sound (input width image offsets sizes load) ≡ placesOk offsets sizes load width =
+        tests-are (eqb width 0) (eqb width 2) (eqb width 4) (allShort load blocks) (eqb (length offsets) (length sizes)) (allPlaced load blocks) e
+        (λ two four. omega (arith, eqb-true width 2 two, eqb-true width 4 four)) in
+        let answer = w .answer ∙ ap (λ (s : Bool). pick parts (pick s (pick room (Length (length file)) (Refused (TooShort 3))) (Refused (Malformed 0)))
+        (Refused BadPart)) same in
+        record {
+          answer = answer;
+          told = ap toldWritten answer ∙ told-answers parts (placesOk offsets sizes load width) room (length file);
+          lent = w .lent ∙ ap (λ (s : Bool). pick (parts && s && room) (file ++ drop (length file) old) old) same;
+        }
+
+    pub in-figures : {r : Written} {new : List ℕ} (f : ℕ) → f ≡ formatFor width → Writes (input f image offsets sizes load) old r new
+        → WritesSrec image offsets sizes load width old r new
+    in-figures {r} {new} f e w =
+        either (eqb width 0)
+        (λ t.
+        let one : f ≡ 1 = e ∙ rw t in
+        subst (λ (x : ℕ). WritesSrec image offsets sizes load x old r new) (sym (eqb-true width 0 t))
+        (none (subst (λ (x : ℕ). Writes (input x image offsets sizes load) old r new) one w)))
+        (λ t.
+        let same : f ≡ width = e ∙ rw t in
+        some t (subst (λ (x : ℕ). Writes (input x image offsets sizes load) old r new) same w))

@@ -1,13 +1,8 @@
 -- The test of the width, in document 02's words.
 use mathlib.Core.Path.{_≡_}
 use mathlib.Core.List.{List}
-use Prim.Native.Nat.{ℕ, _≤_, _<_}
-use lib.ListN.{length}
-use Rattle.record_write.specs.Exactly.{behindLast}
-
--- The last byte of each block has an address of 16 bits.
-abbrev pub AllShort : ℕ → List ℕ → List ℕ → Type 0
-AllShort load offsets sizes = (k : ℕ) → k < length offsets → k < length sizes → behindLast load offsets sizes k ≤ 65536
+use Prim.Native.Nat.{ℕ}
+use Rattle.record_write.specs.Exactly.{AllShort}
 
 -- "S1 with S9, and S3 with S7": a width of 2 or 4, and no "address that doesn't fit the width". (One that has 32 bits is asked for at any width.)
 pub data FitsWidth (width load : ℕ) (offsets sizes : List ℕ) : Type 0 where

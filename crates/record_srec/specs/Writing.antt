@@ -2,9 +2,9 @@
 -- same blocks, cut as in
 -- Ticket 1"; "Refusals: as in Ticket 1; 4 also for an address that doesn't fit the width or a bad line."
 use mathlib.Core.Path.{_≡_}
-use mathlib.Core.Bool.{Bool, true, _&&_, _||_}
-use mathlib.Core.List.{List, [], _∷_, _++_}
-use Prim.Native.Nat.{ℕ, _+_, _/_}
+use mathlib.Core.Bool.{Bool, _&&_, _||_}
+use mathlib.Core.List.{List, _++_}
+use Prim.Native.Nat.{ℕ}
 use lib.Dec.{leb, eqb}
 use lib.ListN.{length, drop}
 use Rattle.refusal.specs.Pick.{pick}
@@ -14,22 +14,17 @@ use Rattle.refusal.specs.declared.Refusal.the-variants.{Malformed, TooShort, Ba
 use Rattle.blocks.specs.declared.Block.{Block}
 use Rattle.record_write.specs.declared.Written.{Written}
 use Rattle.record_write.specs.declared.Written.the-variants.{Length, Refused}
-use Rattle.record_write.specs.Checks.{allParts, allPlaced}
+use Rattle.record_write.specs.Checks.{allParts, allPlaced, allShort}
 use Rattle.record_write.specs.Cut.{blocksIn}
 use Rattle.record_write.specs.Outcome.{input, toldWritten, text}
-
--- The last byte of each block has an address of 16 bits.
-unfoldable pub allShort : ℕ → List Block → Bool
-allShort load [] = true
-allShort load (b ∷ l) = leb (load + b .origin / 8 + b .size / 8) 65536 && allShort load l
 
 -- The width is 4, or it is 2 and no address is past it.
 abbrev pub widthOk : ℕ → ℕ → List Block → Bool
 widthOk width load blocks = eqb width 4 || (eqb width 2 && allShort load blocks)
 
--- The format by which a file is written; 1 is none.
-abbrev pub formatFor : ℕ → ℕ → List Block → ℕ
-formatFor width load blocks = pick (widthOk width load blocks) width 1
+-- The format by which a file is written: the width's number; 1, which is none, for 0, which is that of Intel HEX.
+abbrev pub formatFor : ℕ → ℕ
+formatFor width = pick (eqb width 0) 1 width
 
 -- The text of an image's blocks from a load address on.
 abbrev pub srecOf : List ℕ → List ℕ → List ℕ → ℕ → ℕ → List ℕ

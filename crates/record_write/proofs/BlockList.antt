@@ -18,7 +18,7 @@ use Rattle.refusal.specs.declared.Verdict.the-variants.{Accepted, Refused}
 use Rattle.blocks.specs.declared.Block.{Block}
 use Rattle.blocks.specs.Walk.{block}
 use Rattle.bitvec.specs.Part.{isPart}
-use Rattle.record_write.specs.Checks.{allParts, startsBehind, placed, allPlaced}
+use Rattle.record_write.specs.Checks.{allParts, startsBehind, placed, allPlaced, allShort}
 use Rattle.record_write.specs.Cut.{blocksIn}
 
 -- a test whose outcome a verdict tells
@@ -82,6 +82,14 @@ module _ (os ss : List ℕ) (i : ℕ) where
       unfolding allPlaced
       placed-on e f = rw (blocks-at, e, f)
 
+      pub short-stop : leb (load + getD os i 0 / 8 + getD ss i 0 / 8) 65536 ≡ false → allShort load left ≡ false
+      unfolding allShort
+      short-stop e = rw (blocks-at, e)
+
+      pub short-on : leb (load + getD os i 0 / 8 + getD ss i 0 / 8) 65536 ≡ true → allShort load left ≡ allShort load behind
+      unfolding allShort
+      short-on e = rw (blocks-at, e)
+
   pub parts-done : (len : ℕ) → min (length os) (length ss) ≤ i → allParts len left ≡ true
   unfolding allParts
   parts-done len h = rw (blocks-none h)
@@ -89,3 +97,7 @@ module _ (os ss : List ℕ) (i : ℕ) where
   pub placed-done : (load : ℕ) → min (length os) (length ss) ≤ i → allPlaced load left ≡ true
   unfolding allPlaced
   placed-done load h = rw (blocks-none h)
+
+  pub short-done : (load : ℕ) → min (length os) (length ss) ≤ i → allShort load left ≡ true
+  unfolding allShort
+  short-done load h = rw (blocks-none h)

@@ -12,7 +12,7 @@ use Rattle.refusal.specs.declared.Refusal.the-variants.{Malformed, TooShort, Ba
 use Rattle.record_lines.specs.Puts.{Puts}
 use Rattle.record_lines.specs.Laws.Puts.{sets-none}
 use Rattle.record_write.specs.declared.Written.the-variants.{Length, Refused}
-use Rattle.record_write.specs.Checks.{allParts, allPlaced}
+use Rattle.record_write.specs.Checks.{allParts, allPlaced, fitsWidth}
 use Rattle.record_write.specs.Going.{Ready}
 use Rattle.record_write.specs.Text.{known}
 use Rattle.record_write.specs.Cut.{blocksIn}
@@ -45,9 +45,10 @@ module _ (i : Input) (old : List ℕ) where
       -- what is known when the blocks are written
       pub ready : Ready (i .image) (i .offsets) (i .sizes) (i .load)
       ready =
-          let three = and-eq-true-iff (known (i .format) && eqb (length (i .offsets)) (length (i .sizes)))
+          let known-fits = known (i .format) && fitsWidth (i .format) (i .load) (blocksIn (i .offsets) (i .sizes)) in
+          let three = and-eq-true-iff (known-fits && eqb (length (i .offsets)) (length (i .sizes)))
           (allPlaced (i .load) (blocksIn (i .offsets) (i .sizes))) .0 s in
-          let two = and-eq-true-iff (known (i .format)) (eqb (length (i .offsets)) (length (i .sizes))) .0 (three .0) in
+          let two = and-eq-true-iff known-fits (eqb (length (i .offsets)) (length (i .sizes))) .0 (three .0) in
           record { paired = eqb-true (length (i .offsets)) (length (i .sizes)) (two .1); parts = p; places = three .1 }
 
       -- an empty part takes nothing, and so the first run leaves the text as it was

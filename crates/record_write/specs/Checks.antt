@@ -1,10 +1,11 @@
 -- What is refused before anything is written. Document 02, Ticket 1: "Refusals: 16 for a block by document 01's rule, 4 for blocks not ascending or
--- sharing a bit, an address past 2^32 - 1 or a bad file, then 14."
+-- sharing a bit, an address past 2^32 - 1 or a bad file, then 14." Ticket 12: "4 also for an address that doesn't fit the width".
 use mathlib.Core.Bool.{Bool, true, _&&_}
 use mathlib.Core.List.{List, [], _∷_}
 use Prim.Native.Nat.{ℕ, _+_, _/_}
-use lib.Dec.{leb}
+use lib.Dec.{leb, eqb}
 use lib.ListN.{drop, getD}
+use Rattle.refusal.specs.Pick.{pick}
 use Rattle.blocks.specs.declared.Block.{Block}
 use Rattle.blocks.specs.Walk.{endOf}
 use Rattle.bitvec.specs.Part.{isPart}
@@ -31,3 +32,12 @@ endsFree offsets sizes i = startsBehind (getD offsets i 0 + getD sizes i 0) (blo
 unfoldable pub allPlaced : ℕ → List Block → Bool
 allPlaced load [] = true
 allPlaced load (b ∷ l) = placed load b l && allPlaced load l
+
+-- The last byte of each block has an address of 16 bits.
+unfoldable pub allShort : ℕ → List Block → Bool
+allShort load [] = true
+allShort load (b ∷ l) = leb (load + b .origin / 8 + b .size / 8) 65536 && allShort load l
+
+-- Format 2 has addresses of 16 bits, and the others of 32.
+abbrev pub fitsWidth : ℕ → ℕ → List Block → Bool
+fitsWidth format load blocks = pick (eqb format 2) (allShort load blocks) true

@@ -19,6 +19,10 @@ AllParts len offsets sizes = (k : ℕ) → k < length offsets → k < length siz
 abbrev pub behindLast : ℕ → List ℕ → List ℕ → ℕ → ℕ
 behindLast load offsets sizes k = load + getD offsets k 0 / 8 + getD sizes k 0 / 8
 
+-- "an address that doesn't fit the width", of 16 bits: the last byte of each block has one that does.
+abbrev pub AllShort : ℕ → List ℕ → List ℕ → Type 0
+AllShort load offsets sizes = (k : ℕ) → k < length offsets → k < length sizes → behindLast load offsets sizes k ≤ 65536
+
 -- No "blocks not ascending or sharing a bit": each ends before every later one starts. No "address past 2^32 - 1". There is a size for each offset.
 pub record WellPlaced (load : ℕ) (offsets sizes : List ℕ) : Type 0 where
   pub paired : length offsets ≡ length sizes

@@ -13,7 +13,7 @@ use Rattle.record_write.specs.declared.Written.{Written}
 use Rattle.record_write.specs.declared.Written.the-variants.{Length, Refused}
 use Rattle.record_write.specs.Cut.{blocksIn}
 use Rattle.record_write.specs.Text.{known, textOf}
-use Rattle.record_write.specs.Checks.{allParts, allPlaced}
+use Rattle.record_write.specs.Checks.{allParts, allPlaced, fitsWidth}
 
 -- What is given to a call, and what is lent and not changed.
 pub record Input : Type 0 where
@@ -26,10 +26,12 @@ pub record Input : Type 0 where
 abbrev pub input : ℕ → List ℕ → List ℕ → List ℕ → ℕ → Input
 input format image offsets sizes load = record { format = format; image = image; offsets = offsets; sizes = sizes; load = load }
 
--- 4 is not given: the format is known, the lists are as long as each other, the blocks are in order, and their addresses have 32 bits.
+-- 4 is not given: the format is known, the addresses fit its width, the lists are as long as each other, the blocks are in order, and their addresses have
+-- 32 bits.
 abbrev pub sound : Input → Bool
 sound i =
-    known (i .format) && eqb (length (i .offsets)) (length (i .sizes)) && allPlaced (i .load) (blocksIn (i .offsets) (i .sizes))
+    known (i .format) && fitsWidth (i .format) (i .load) (blocksIn (i .offsets) (i .sizes)) && eqb (length (i .offsets)) (length (i .sizes))
+    && allPlaced (i .load) (blocksIn (i .offsets) (i .sizes))
 
 abbrev pub text : Input → List ℕ
 text i = textOf (i .format) (i .load) (i .image) (blocksIn (i .offsets) (i .sizes))

@@ -10,7 +10,7 @@ ghost use Rattle.record_lines.specs.Pieces.{piece};
 ghost use Rattle.record_lines.specs.Puts.{Puts};
 ghost use Rattle.record_write.specs.Cut.{pieceLength, blocksIn};
 ghost use Rattle.record_write.specs.Text.{known, textBy, endBy};
-ghost use Rattle.record_write.specs.Checks.{allParts, endsFree, allPlaced};
+ghost use Rattle.record_write.specs.Checks.{allParts, endsFree, allPlaced, allShort, fitsWidth};
 ghost use Rattle.record_write.specs.Outcome.{input, sound, PutsText, Writes};
 ghost use Rattle.bitvec.specs.Part.{isPart};
 ghost use Rattle.record_write.specs.Going.{BlockWritten, Ready};
@@ -173,6 +173,38 @@ fn all_placed(offsets: &[u64], sizes: &[u64], load: u32) -> bool
     true
 }
 
+// Whether a block's last byte has an address of 16 bits.
+fn has_short(load: u32, offset: u64, size: u64) -> bool
+    ensures { λ r. ⌜ r ≡ leb (load + offset / 8 + size / 8) 65536 ⌝ }
+{
+    load as u64 + offset / 8 + size / 8 <= 65_536
+}
+
+// Whether the last byte of every block has.
+fn all_short(offsets: &[u64], sizes: &[u64], load: u32) -> bool
+    ensures { λ r. ⌜ r ≡ allShort load (blocksIn (now (offsets .entry)) (now (sizes .entry))) ⌝ }
+{
+    let count = least(offsets.len(), sizes.len());
+    let mut i = 0;
+    while i < count {
+        if !has_short(load, offsets[i], sizes[i]) {
+            return false;
+        }
+        i += 1;
+    }
+    true
+}
+
+// Whether no address is past the width of a format.
+fn fits_width(format: u8, offsets: &[u64], sizes: &[u64], load: u32) -> bool
+    ensures { λ r. ⌜ r ≡ fitsWidth format load (blocksIn (now (offsets .entry)) (now (sizes .entry))) ⌝ }
+{
+    if format != 2 {
+        return true;
+    }
+    all_short(offsets, sizes, load)
+}
+
 // Whether a format is known: 0 is Intel HEX, 2 and 4 are S-records of that width.
 fn is_known(format: u8) -> bool
     ensures { λ r. ⌜ r ≡ known format ⌝ }
@@ -191,6 +223,9 @@ fn is_sound(format: u8, image: &[u8], offsets: &[u64], sizes: &[u64], load: u32)
     ensures { λ r. ⌜ r ≡ sound (input format (now (image .entry)) (now (offsets .entry)) (now (sizes .entry)) load) ⌝ }
 {
     if !is_known(format) {
+        return false;
+    }
+    if !fits_width(format, offsets, sizes, load) {
         return false;
     }
     if offsets.len() != sizes.len() {

@@ -18,7 +18,7 @@ returns c =
     let w = c .before .before in
     let f = w .before .before in
     let a = f .before .before .before .before .before .args in
-    in-figures (a .image .now) (a .offsets .now) (a .sizes .now) (a .load) (a .width) (a .text .now) (f .format-for .result) (f .format-for .ensures)
+    in-figures (a .image .now) (a .offsets .now) (a .sizes .now) (a .load) (a .text .now) (a .width) (f .format-for .result) (f .format-for .ensures)
     (w .write .ensures)
 
 pub write-srec-spec : {M : Type 1} → statement M

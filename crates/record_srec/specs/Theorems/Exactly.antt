@@ -9,13 +9,13 @@ use lib.Dec.{eqb}
 use lib.ListN.{length}
 use Rattle.refusal.specs.Laws.Bools.{either, both}
 use Rattle.record_srec_line.specs.ReadBack.{Width, two, four}
-use Rattle.record_write.specs.Checks.{allPlaced}
+use Rattle.record_write.specs.Checks.{allPlaced, allShort}
 use Rattle.record_write.specs.Cut.{blocksIn}
 use Rattle.record_write.specs.Exactly.{WellPlaced}
+use Rattle.record_write.specs.Laws.Exactly.{each-short, short-each}
 use Rattle.record_write.specs.Theorems.Exactly.{placed-exactly}
-use Rattle.record_srec.specs.Writing.{allShort, widthOk, placesOk}
+use Rattle.record_srec.specs.Writing.{widthOk, placesOk}
 use Rattle.record_srec.specs.Exactly.{FitsWidth, narrow, wide}
-use Rattle.record_srec.specs.Laws.Exactly.{each-short, short-each}
 
 module _ (width load : ℕ) (offsets sizes : List ℕ) where
   fits-when : FitsWidth width load offsets sizes → widthOk width load (blocksIn offsets sizes) ≡ true

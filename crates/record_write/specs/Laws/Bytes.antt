@@ -67,7 +67,8 @@ piece-byte start bytes p q j h =
       ap (λ (l : List ℕ). getD l j 0) (q .own) ∙ getD-take n (drop (q .index) bytes) j 0 h ∙ getD-drop (q .index) bytes j 0,
     )
 
-pub given-is-block-byte : (load : ℕ) (image : List ℕ) (blocks : List Block) (a b : ℕ) → GivesAt (piecesOf load image blocks) a b → BlockByte load image blocks a b
+pub given-is-block-byte : (load : ℕ) (image : List ℕ) (blocks : List Block) (a b : ℕ) → GivesAt (piecesOf load image blocks) a b
+    → BlockByte load image blocks a b
 given-is-block-byte load image blocks a b g =
     let from = pieces-long load image blocks (g .from) (g .among) in
     let d = from .of in

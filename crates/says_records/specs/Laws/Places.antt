@@ -12,10 +12,8 @@ use Rattle.refusal.specs.Laws.Bools.{either, clash}
 use Rattle.bitvec.specs.Part.{isPart}
 use Rattle.bitvec.specs.Theorems.Part.{isPart-when}
 use Rattle.record_write.specs.Cut.{blocksIn}
-use Rattle.record_write.specs.Checks.{allParts, allPlaced}
-use Rattle.record_write.specs.Exactly.{AllParts, WellPlaced}
-use Rattle.record_srec.specs.Writing.{allShort}
-use Rattle.record_srec.specs.Exactly.{AllShort}
+use Rattle.record_write.specs.Checks.{allParts, allPlaced, allShort}
+use Rattle.record_write.specs.Exactly.{AllParts, WellPlaced, AllShort}
 use Rattle.says_records.specs.Write as w
 use Rattle.says_records.specs.Write.{Given, BadPart, BadPlace}
 

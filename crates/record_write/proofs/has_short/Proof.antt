@@ -1,7 +1,7 @@
--- `record_srec::has_short` compares the address behind a block's last byte.
+-- `record_write::has_short` compares the address behind a block's last byte.
 use borrow.Author.Needs.{needs}
-use Rattle.record_srec.proofs.has_short.Statement.{statement}
-use Rattle.record_srec.proofs.has_short.Tie as tie
+use Rattle.record_write.proofs.has_short.Statement.{statement}
+use Rattle.record_write.proofs.has_short.Tie as tie
 
 add-result : tie.Need-add-result
 add-result c = search needs

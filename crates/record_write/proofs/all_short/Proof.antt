@@ -1,15 +1,15 @@
--- `record_srec::all_short`: what is left decides as the whole does.
+-- `record_write::all_short`: what is left decides as the whole does.
 use mathlib.Core.Path.{_≡_, refl, sym, _∙_}
 use Prim.Native.Nat.{_-_}
 use native.Mathlib.Omega.{arith}
 use borrow.Author.Tests.{not-true, not-false}
 use borrow.Author.Needs.{needs}
 use lib.ListN.{drop}
+use Rattle.record_write.specs.Checks.{allShort}
 use Rattle.record_write.specs.Cut.{blocksIn}
-use Rattle.record_srec.specs.Writing.{allShort}
-use Rattle.record_srec.proofs.Figures.{short-stop, short-on, short-done}
-use Rattle.record_srec.proofs.all_short.Statement.{statement}
-use Rattle.record_srec.proofs.all_short.Tie as tie
+use Rattle.record_write.proofs.BlockList.{short-stop, short-on, short-done}
+use Rattle.record_write.proofs.all_short.Statement.{statement}
+use Rattle.record_write.proofs.all_short.Tie as tie
 
 abbrev Inv-loop : tie.InvT-loop
 Inv-loop offsets sizes load count i₀ i = allShort load (blocksIn offsets sizes) ≡ allShort load (blocksIn (drop i offsets) (drop i sizes))
