@@ -286,6 +286,35 @@ if command -v python3 >/dev/null 2>&1; then
 fi
 refused 'refused 4 0' 'it looks like Intel HEX' tools/layout "$room/made.hex"
 refused '' 'it looks like S-records' tools/map "$room/made.s37"
+# a first build says how far it is, with a stand-in for rt that proves nothing; one that fails is said, and the next run tries again
+mkdir -p "$room/first/crates/prog/src" "$room/first/bin" && cp -R tools "$room/first/" && : >"$room/first/crates/prog/src/main.rt" || wrong=1
+printf 'low:\nhigh: low\nprog: low high io\n' >"$room/first/crates.txt"
+cat >"$room/first/bin/rt" <<'RT'
+#!/bin/sh
+case $1 in
+version) echo stand-in ;;
+doc) echo /nowhere/docs/START-HERE.md ;;
+check)
+    printf 'rt: low proved (unchanged since it was last proved)\nrt: high proved (3 s)\nrt: prog proved (4 s)\n'
+    [ ! -e target/fails ] || exit 1
+    mkdir -p target/bin && printf '#!/bin/sh\necho ran\n' >target/bin/prog && chmod +x target/bin/prog
+    ;;
+esac
+RT
+chmod +x "$room/first/bin/rt"
+mkdir "$room/first/target" && : >"$room/first/target/fails"
+is 2 env PATH="$room/first/bin:$PATH" "$room/first/tools/run" --build prog
+has "$room/err" 'crate 2 of 3, [0-9]* s: high' 'a first build that fails'
+has "$room/err" 'tools/run: the program prog was not built: .*' 'a first build that fails'
+rm "$room/first/target/fails"
+is 0 env PATH="$room/first/bin:$PATH" "$room/first/tools/run" --build prog
+has "$room/err" 'crate 3 of 3, [0-9]* s: prog' 'a first build'
+! grep -q ': low$' "$room/err" || wrong=1
+is 0 env PATH="$room/first/bin:$PATH" "$room/first/tools/run" --build prog
+[ ! -s "$room/err" ] || {
+    echo "a program that is built is built again: $(cat "$room/err")"
+    wrong=1
+}
 # what no program says is no refusal
 for said in hello 'refused 12' 'refused 20 0' 'refused 12 a b'; do
     is 2 tools/words examples/clamp-mark-after.form "$said"

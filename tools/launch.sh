@@ -1,8 +1,11 @@
 # shellcheck shell=sh
 # The launcher of the repository's programs, for tools/run and the scripts that run several; they read it behind start.sh, nobody runs it. Builds what is not
-# built from the files that are here now, and starts x86-64 programs: by themselves, or under an emulator on another processor.
+# built from the files that are here now, and starts x86-64 programs: by themselves, or under an emulator on another processor. Where they were installed
+# (tools/install) nothing is built, and the kit is not asked.
 [ "${0##*/}" != launch.sh ] || . "$(dirname "$(readlink -f -- "$0")")/start.sh"
 . "$home/tools/crates.sh"
+installed='' programs=$home/target/bin
+[ ! -f "$home/INSTALLED" ] || installed=yes programs=$home/bin
 
 wants_rt() {
     command -v rt >/dev/null 2>&1 || say "the Rattle kit's command rt is not on the PATH"
@@ -41,6 +44,43 @@ is_built() {
     [ -f "$home/$2" ] && [ -f "$home/target/sum/$1" ] && [ "$(cat "$home/target/sum/$1")" = "$(sum_of "$1" "$2")" ]
 }
 
+# progress CRATE LOG: what rt says, from standard input, goes into the log, and for each crate that it proved a line to standard error. The last line of the
+# input is `status N`, rt's status.
+progress() {
+    began=$(date +%s) status=2 through=' ' count=0
+    total=$(stands_on "$1" | wc -l)
+    while IFS= read -r text; do
+        case $text in
+        'status '*)
+            status=${text#status }
+            continue
+            ;;
+        esac
+        printf '%s\n' "$text" >&3
+        one=${text#rt: } one=${one%% *}
+        case $text in
+        'rt: '*' proved ('*')') ;;
+        *) continue ;;
+        esac
+        case $through in
+        *" $one "*) continue ;;
+        esac
+        through="$through$one " count=$((count + 1))
+        case $text in
+        *' s)') echo "crate $count of $((total)), $(($(date +%s) - began)) s: $one" >&2 ;;
+        esac
+    done 3>"$2"
+    [ "$status" = 0 ]
+}
+# What a crate stands on is proved first, by `rt check`, which takes in parallel what does not stand on each other; other verbs take one after the other.
+run_rt() {
+    if [ "$1" != check ]; then
+        # shellcheck disable=SC2046
+        rt check $(stands_on "$2" | sed -n 's,^crates/,,;/./p' | grep -vx "$2") </dev/null || return
+    fi
+    rt "$1" "$2" </dev/null
+}
+
 # build CRATE PRODUCT VERB WORDS: runs `rt VERB CRATE` where the product is not that of the files that are here. What is proved is said as it goes.
 build() {
     wants_rt
@@ -56,13 +96,9 @@ build() {
         echo "building $4: its crates are proved first, which takes some minutes where nothing is proved yet" >&2
         cd "$home" || exit 2
         {
-            rt "$3" "$1" </dev/null
+            run_rt "$3" "$1"
             echo "status $?"
-        } 2>&1 | awk -v log_file="$log" '
-            /^status [0-9]+$/ { status = $2; next }
-            { print > log_file; fflush(log_file) }
-            /^rt: .* proved \([0-9]+ s\)$/ { print; fflush() }
-            END { exit status != "0" }' >&2 || exit 1
+        } 2>&1 | progress "$1" "$log" || exit 1
         sum_of "$1" "$2" >"target/sum/$1"
     ) || {
         [ ! -f "$home/$log" ] || tail -n 5 "$home/$log" >&2
@@ -70,6 +106,10 @@ build() {
     }
 }
 build_program() {
+    if [ -n "$installed" ]; then
+        [ -x "$programs/$1" ] || say "the program $1 is not installed"
+        return 0
+    fi
     [ -f "$home/crates/$1/src/main.rt" ] || say "there is no program $1"
     build "$1" "target/bin/$1" check "the program $1"
 }
@@ -83,7 +123,7 @@ find_emulator() {
     emulator=
     [ "$(uname -m)" != x86_64 ] || return 0
     find_parts
-    for emulator in "$parts/bin/qemu-x86_64" "$(command -v qemu-x86_64)" "$(command -v qemu-x86_64-static)"; do
+    for emulator in "${parts:-/none}/bin/qemu-x86_64" "$(command -v qemu-x86_64)" "$(command -v qemu-x86_64-static)"; do
         [ ! -x "$emulator" ] || return 0
     done
     emulator=
@@ -91,18 +131,18 @@ find_emulator() {
 }
 parts=
 find_parts() {
-    [ -n "$parts" ] || parts=${RATTLE_HOME:-$(dirname "$(dirname "$(rt doc)")")}/on/$(uname -m)/toolchain
+    [ -n "$parts" ] || [ -n "$installed" ] || parts=${RATTLE_HOME:-$(dirname "$(dirname "$(rt doc)")")}/on/$(uname -m)/toolchain
 }
 
 # launch NAME ..: a program of target/bin, with the kit's own C library. launch_file FILE ..: a program that stands by itself. With `by=exec` it takes the
 # script's place.
 by=
 launch() {
-    program=$home/target/bin/$1
+    program=$programs/$1
     shift
     find_parts
-    loader=$parts/lib/ld-linux-x86-64.so.2
-    if [ -f "$loader" ]; then
+    loader=${parts:+$parts/lib/ld-linux-x86-64.so.2}
+    if [ -n "$loader" ] && [ -f "$loader" ]; then
         launch_file "$loader" --library-path "$parts/lib" "$program" "$@"
     else
         launch_file "$program" "$@"

@@ -18,9 +18,13 @@ say() {
     exit 2
 }
 
-# The lines at the head of the script, at once wherever --help stands, or in the first place alone where the rest is not the script's own.
+# The lines at the head of the script, at once wherever --help stands, or in the first place alone where the rest is not the script's own. Where it was
+# installed (tools/install) it goes by the name that it has there.
 usage() {
-    sed -n '1{/^#!/d;};/^# shellcheck /d;/^[^#]/q;/^$/q;s/^# \{0,1\}//p' "$here" || exit 2
+    {
+        sed -n '1{/^#!/d;};/^# shellcheck /d;/^[^#]/q;/^$/q;s/^# \{0,1\}//p' "$here" || exit 2
+        [ ! -f "$home/INSTALLED" ] || echo "As installed, every program is built already: no run proves or builds one."
+    } | if [ -f "$home/INSTALLED" ]; then sed 's,tools/\([a-z]\),denkumari \1,g'; else cat; fi || exit 2
     exit 0
 }
 for one in "$@"; do
@@ -30,6 +34,11 @@ done
 case $tool in
 tools/start.sh | tools/launch.sh | tools/crates.sh | tools/common.sh | tools/names.sh) say "other scripts read this, nobody runs it" ;;
 esac
+if [ -f "$home/INSTALLED" ]; then
+    tool="denkumari ${tool#tools/}"
+    tool=${tool#denkumari denkumari}
+    tool=${tool:-denkumari}
+fi
 
 # The words of a script that takes none, or at most so many, none of them an option.
 words_at_most() {

@@ -1,10 +1,13 @@
-// Links libdenkumari.a, which `rt staticlib denkumari` writes. DENKUMARI_LIB names its folder where it is not the repository's own.
+// Links libdenkumari.a, which `rt staticlib denkumari` writes. DENKUMARI_LIB names its folder where it is neither the repository's own nor the installation's
+// that this crate stands in (tools/install).
 use std::env;
 use std::path::PathBuf;
 
 fn main() {
     let here = PathBuf::from(env::var("CARGO_MANIFEST_DIR").expect("cargo sets it"));
-    let folder = env::var("DENKUMARI_LIB").map(PathBuf::from).unwrap_or_else(|_| here.join("../../target/staticlib"));
+    let own = [here.join("../../target/staticlib"), here.join("../../../lib")];
+    let found = own.iter().find(|folder| folder.join("libdenkumari.a").is_file()).unwrap_or(&own[0]);
+    let folder = env::var("DENKUMARI_LIB").map(PathBuf::from).unwrap_or_else(|_| found.clone());
     let archive = folder.join("libdenkumari.a");
     println!("cargo:rerun-if-env-changed=DENKUMARI_LIB");
     println!("cargo:rerun-if-changed={}", archive.display());

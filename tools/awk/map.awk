@@ -72,7 +72,8 @@ END {
     }
     if (shown) {
         for (i = 0; i < shown; i++) if (is_listed(i) && called(i) != "") has_names = 1
-        open_table("node|" (has_names ? "name|source|" : "") "kind|bank|position|address|in hex|output bits|bytes|size|", has_names ? "2 3 4 9 10 12" : "2 7 8 10")
+        open_table("node|" (has_names ? "name|source|" : "") "kind|bank|position|address|in hex|output bits|bytes|size|", \
+            has_names ? "2 3 4 9 10 12" : "2 7 8 10")
         for (i = 0; i < shown; i++) if (is_listed(i)) add_row(node_row(i))
         print_table()
     }

@@ -1,0 +1,131 @@
+#!/bin/sh
+# The installation as one without the kit and without the checkout has it: oracle/install.sh. Installs into a folder whose path has blanks, runs every command
+# there with nothing on the PATH but the system's own, and holds the answers against the checkout's; compiles and runs a program in C, C++ and, where cargo is,
+# Rust over the installed library; takes the installation away, after which nothing is left; and makes the tar file of tools/release, unpacks it and checks it.
+set -u
+. "$(dirname "$(readlink -f -- "$0")")/../tools/start.sh"
+. "$home/tools/launch.sh"
+words_at_most 0 "$@"
+cd "$home" || exit 2
+make_room
+wrong=0
+fault() {
+    echo "$1"
+    wrong=1
+}
+[ "$(uname -m)" = x86_64 ] || {
+    echo "left out: the installation, since its programs are x86-64 code"
+    exit 0
+}
+into="$room/a prefix"
+tools/install "$into" >"$room/said" 2>&1 || {
+    cat "$room/said"
+    exit 1
+}
+mkdir "$room/elsewhere"
+# a command of the installation, without the kit and from another folder
+there() {
+    (cd "$room/elsewhere" && PATH=/usr/bin:/bin && unset RATTLE_HOME CDPATH && "$into/bin/denkumari" "$@") >"$room/out" 2>"$room/err" </dev/null
+}
+# as COMMAND ..: its answer, status and words are those of the checkout's tool
+as() {
+    name=$1
+    shift
+    "tools/$name" "$@" >"$room/here" 2>"$room/here_err" </dev/null
+    wanted=$?
+    there "$name" "$@"
+    got=$?
+    sed "s,^tools/,denkumari ," "$room/here_err" >"$room/here_words"
+    if [ "$got" -ne "$wanted" ] || ! cmp -s "$room/here" "$room/out" || ! cmp -s "$room/here_words" "$room/err"; then
+        fault "denkumari $name $*: status $got and not $wanted, or another answer than the checkout's: $(cat "$room/err")"
+    fi
+}
+examples=$home/examples
+as layout "$examples/worked.form"
+as layout "$examples/clamp-mark-after.form"
+as layout --page 64 --fill full "$examples/banks.form"
+as map "$examples/banks.form"
+as map --svg "$examples/sequencer.form"
+as words "$examples/worked.form" 'refused 9 1'
+as ihex "$examples/banks.form" --load 0x8000
+cp "$room/here" "$room/banks.hex"
+as srec "$examples/banks.form" --width 2
+as rehex "$room/banks.hex" --to srec
+as bench "$room/banks.hex" "$room/banks.hex"
+as convert "$examples/banks.form" --to 2
+as layout "$room/none"
+if command -v python3 >/dev/null 2>&1; then
+    as compare "$examples/worked.form" "$examples/banks.form"
+    as form "$examples/worked.form"
+fi
+for command in layout map words ihex srec rehex bench convert; do
+    there "$command" --help
+    grep -q 'As installed' "$room/out" || fault "denkumari $command --help does not say that nothing is built"
+    ! grep -q 'tools/' "$room/out" || fault "denkumari $command --help speaks of tools/"
+done
+there --version
+[ "$(head -n 1 "$room/out")" = "denkumari $(sed -n 's/^#define DENKUMARI_VERSION "\(.*\)"$/\1/p' include/denkumari.h)" ] || fault "denkumari --version"
+there nothing
+[ $? -eq 2 ] || fault "denkumari nothing: its status is not 2"
+there
+[ $? -eq 2 ] || fault "denkumari without a command: its status is not 2"
+
+# a program over the installed library, by pkg-config where that is
+flags="-I'$into/include' -L'$into/lib' -ldenkumari"
+! command -v pkg-config >/dev/null 2>&1 || flags=$(PKG_CONFIG_PATH="$into/lib/pkgconfig" pkg-config --cflags --libs denkumari)
+cat >"$room/main.c" <<'C'
+#include <denkumari_tables.h>
+int main(void)
+{
+    struct dk_tables none = dk_no_tables();
+    struct dk_room room = dk_no_room();
+    return dk_build_tables(&none, &room).refusal == DK_BANK_COUNT ? 0 : 1;
+}
+C
+compiled() { # LANGUAGE COMPILER WORD ..
+    language=$1
+    shift
+    command -v "$1" >/dev/null 2>&1 || {
+        echo "skipped: the installed library in $language, for want of a compiler ($1)"
+        return
+    }
+    eval "\"\$@\" \"\$room/main.c\" -x none $flags -o \"\$room/main\"" 2>"$room/err" || fault "the installed library in $language: $(cat "$room/err")"
+    "$room/main" || fault "the installed library in $language: the program failed"
+    echo "installed: the library in $language"
+}
+compiled C "${CC:-cc}" -x c
+compiled C++ "${CXX:-c++}" -x c++
+if command -v cargo >/dev/null 2>&1; then
+    (cd "$into/share/denkumari/rust" && CARGO_TARGET_DIR=$room/cargo cargo run --offline -q --example worked) >"$room/out" 2>"$room/err" ||
+        fault "the installed crate: $(tail -n 3 "$room/err")"
+    tools/layout examples/worked.form | cmp -s - "$room/out" || fault "the installed crate's example prints something else"
+    echo "installed: the Rust crate"
+else
+    echo "skipped: the installed Rust crate, for want of cargo"
+fi
+
+# once more over itself, and away: nothing is left
+: >"$into/share/of another"
+tools/install "$into" >"$room/said" 2>&1 || fault "a second installation: $(cat "$room/said")"
+tools/install --uninstall "$into" >"$room/said" 2>&1 || fault "tools/install --uninstall: $(cat "$room/said")"
+[ "$(find "$into" -type f -o -type l | wc -l)" -eq 1 ] || fault "the installation leaves files behind, or takes another's away: $(find "$into" -type f | head -n 3)"
+[ -e "$into/share/of another" ] || fault "tools/install --uninstall takes another's file away"
+if tools/install --uninstall "$into" >"$room/said" 2>&1; then fault "an installation that is not there can be taken away"; fi
+
+# the tar file
+echo '12 passed, 1 failed' >"$room/gate"
+if tools/release --gate "$room/gate" "$room/release" >"$room/said" 2>&1; then fault "tools/release takes a gate that failed"; fi
+echo '12 passed, 0 failed' >"$room/gate"
+tools/release --gate "$room/gate" "$room/release" >"$room/said" 2>&1 || fault "tools/release: $(cat "$room/said")"
+mkdir "$room/unpacked"
+tar -xzf "$room"/release/*.tar.gz -C "$room/unpacked" --strip-components=1 || fault "the tar file cannot be unpacked"
+(cd "$room/release" && sha256sum -c --quiet ./*.sha256) || fault "the tar file's checksum"
+(cd "$room/unpacked" && sha256sum -c --quiet SHA256SUMS) || fault "the checksums in the tar file"
+[ "$(cat "$room/unpacked/GATE")" = '12 passed, 0 failed' ] || fault "GATE in the tar file"
+cmp -s KIT "$room/unpacked/KIT" || fault "KIT in the tar file"
+(cd "$room/unpacked" && find . -type f ! -name SHA256SUMS ! -name CONTENTS | sed 's,^\./,,' | LC_ALL=C sort) >"$room/files"
+sed '1,5d' "$room/unpacked/CONTENTS" | cut -f 2 | LC_ALL=C sort | cmp -s - "$room/files" || fault "CONTENTS is not what is inside"
+into=$room/unpacked
+as layout "$examples/worked.form"
+[ "$wrong" -eq 0 ] && echo "installation: all as it should be"
+exit "$wrong"
