@@ -296,17 +296,17 @@ version) echo stand-in ;;
 doc) echo /nowhere/docs/START-HERE.md ;;
 check)
     printf 'rt: low proved (unchanged since it was last proved)\nrt: high proved (3 s)\nrt: prog proved (4 s)\n'
-    [ ! -e target/fails ] || exit 1
+    [ ! -e fails ] || exit 1
     mkdir -p target/bin && printf '#!/bin/sh\necho ran\n' >target/bin/prog && chmod +x target/bin/prog
     ;;
 esac
 RT
 chmod +x "$room/first/bin/rt"
-mkdir "$room/first/target" && : >"$room/first/target/fails"
+: >"$room/first/fails"
 is 2 env PATH="$room/first/bin:$PATH" "$room/first/tools/run" --build prog
 has "$room/err" 'crate 2 of 3, [0-9]* s: high' 'a first build that fails'
 has "$room/err" 'tools/run: the program prog was not built: .*' 'a first build that fails'
-rm "$room/first/target/fails"
+rm "$room/first/fails"
 is 0 env PATH="$room/first/bin:$PATH" "$room/first/tools/run" --build prog
 has "$room/err" 'crate 3 of 3, [0-9]* s: prog' 'a first build'
 ! grep -q ': low$' "$room/err" || wrong=1

@@ -50,7 +50,7 @@ class Box:
     def __init__(self, node, other, found, axis, side):
         self.start = place_of(node, axis)
         self.end, self.kind, self.side = self.start + node.bits, class_of(found), side
-        self.text = node.name or str(node.number)
+        self.texts = [text for text in (node.name, str(node.number)) if text]
         self.other = place_of(other, axis) if other is not None and "moved" in found and stands_on(other, axis) else None
         was = f"{', '.join(found)}: " if found else ""
         self.title = f"{was}{node.words()}: {node.where()}" + (f"\n{'before' if side else 'now'}: {other.where()}" if other and found else "")
@@ -189,8 +189,9 @@ def draw_line(picture, axis, line):
 def draw_box(picture, box, at, tops):
     x, size = at(box.start), at(box.end) - at(box.start)
     picture.area(x, tops[box.side], (max(size, 0.7), BAR), box.kind, box.title)
-    if size >= 6.2 * len(box.text) + 4:
-        picture.write(x + size / 2, tops[box.side] + 15.5, box.text, "n")
+    text = next((text for text in box.texts if size >= 6.2 * len(text) + 4), None)
+    if text is not None:
+        picture.write(x + size / 2, tops[box.side] + 15.5, text, "n")
 
 
 def draw_scale(picture, axis, line, scale, top):
