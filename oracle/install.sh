@@ -101,7 +101,7 @@ if command -v cargo >/dev/null 2>&1; then
     tools/layout examples/worked.form | cmp -s - "$room/out" || fault "the installed crate's example prints something else"
     echo "installed: the Rust crate"
 else
-    echo "skipped: the installed Rust crate, for want of cargo"
+    echo "left out: the installed Rust crate, for want of cargo"
 fi
 
 # once more over itself, and away: nothing is left

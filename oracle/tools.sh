@@ -279,6 +279,13 @@ words_of_form() {
     printf 'bank unit 8 (size 40) (offset 8) (align 3)\nrows 1\nlimit 1\n' >"$room/words"
     tools/form --make "$room/words" >"$room/back.form" && tools/form "$room/back.form" >"$room/words2" || wrong=1
     same "$room/words" "$room/words2" "numbers in brackets come back changed"
+    # what a node is called is a remark, and says nothing of the file
+    printf '2\tclamp_force\ttables.asm:12\n' >"$room/clamp.names"
+    is 0 tools/form "$room/clamp.form"
+    has "$room/out" 'data: 128  # clamp_force, tables.asm:12' 'tools/form with names'
+    tools/form --make "$room/out" >"$room/back.form" || wrong=1
+    same "$room/clamp.form" "$room/back.form" "a file comes back changed from its words with names"
+    is 2 tools/form --names "$room/clamp.form" "$room/clamp.form"
     refused 'refused 4 0' 'it looks like words, of which form --make makes a layout file' tools/layout "$room/words"
 }
 if command -v python3 >/dev/null 2>&1; then

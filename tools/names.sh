@@ -24,6 +24,8 @@ find_names() {
     fi
     [ -n "$bad_names" ] || return 0
     [ -z "$2" ] || say "$2 is no names file: $bad_names"
-    echo "$tool: the names of $names_file are left out: $bad_names" >&2
-    names_file=
+    # said once, also where one tool calls another
+    [ -n "${names_left_out:-}" ] || echo "$tool: the names of $names_file are left out: $bad_names" >&2
+    names_file='' names_left_out=yes
+    export names_left_out
 }
