@@ -1,3 +1,4 @@
+pub mod Built
 pub mod Convert
 pub mod Laws
 pub mod Theorems

@@ -8,6 +8,7 @@ pub mod DefaultProfileCases
 pub mod DefaultProfileSame
 pub mod Exactly
 pub mod OneBank
+pub mod PagedPlaces
 pub mod Places
 pub mod Raised
 pub mod Says

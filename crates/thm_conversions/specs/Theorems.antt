@@ -10,6 +10,7 @@ pub mod Exactly
 pub mod Exceptions
 pub mod OneBank
 pub mod OtherBanks
+pub mod PagedPlaces
 pub mod Places
 pub mod RoundTrips
 pub mod Rules

@@ -23,7 +23,7 @@ use Rattle.thm_conversions.specs.Builds.{profileBuild, profileOutput}
 
 -- ---- the ordinary build, which gives no 19
 
-other-stays : (why : Refusal) → toldNumber (toldBuild (Refused why)) < 17 → ruleRaised why ≡ why
+pub other-stays : (why : Refusal) → toldNumber (toldBuild (Refused why)) < 17 → ruleRaised why ≡ why
 other-stays BankCount h = refl
 other-stays (BankNumber bank) h = refl
 other-stays (BanksOverlap first second) h = refl

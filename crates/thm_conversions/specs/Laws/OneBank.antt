@@ -13,7 +13,8 @@ use mir.Val.{toZ}
 use Rattle.refusal.specs.Laws.Bools.{both, clash}
 use Rattle.refusal.specs.Limits.{maxNodes}
 use Rattle.refusal.specs.Pick.{pick}
-use Rattle.refusal.specs.declared.Opt.the-variants.{None}
+use Rattle.refusal.specs.declared.Opt.{Opt}
+use Rattle.refusal.specs.declared.Opt.the-variants.{None, Some}
 use Rattle.bankdef.specs.Search.{firstWhere}
 use Rattle.bankdef.specs.declared.Bankdef.{Bankdef}
 use Rattle.bankdef.specs.declared.Bankdefs.{Bankdefs}
@@ -34,6 +35,9 @@ use Rattle.form_build.specs.Filed.{fileOutput, FileBuilt}
 use Rattle.form_build.specs.Paged.{BuiltIn}
 use Rattle.form_rewrite.specs.Turning.{switchTo, isSwitch, namesBank, strays, turned, zeros, widened}
 use Rattle.form_rewrite.specs.Theorems.Fitting.{widened-fits}
+use Rattle.thm_conversions.specs.Builds.{profileOutput}
+use Rattle.thm_conversions.specs.PagedPlaces.{raisedIn}
+use Rattle.thm_conversions.specs.Theorems.PagedPlaces.{same-paged-build}
 use Rattle.thm_conversions.specs.Laws.Figures.{build-told}
 use Rattle.thm_conversions.specs.Widened.{bare, turned as turnedIn, zerosAhead, withSwitch, widened as widenedIn, OneBank, raisedOutput}
 use Rattle.thm_conversions.specs.DefaultBankSame.{TwoBanks}
@@ -192,13 +196,13 @@ module _ (b : List ℕ) (nodes rows : List (List ℕ)) (values : List ℕ) (limi
       let count = length-map rows (λ (row : List ℕ). zeros 5 ++ row) in
       λ i. lists (kinds i) (operands i) (numbers i) (states i) (count i) values
 
-  abbrev table : Bankdefs
+  abbrev pub table : Bankdefs
   table = tableFor 2 (bankOf form2 (take 10 b ++ zeros 14) ∷ bankOf form2 (b ++ zeros 1) ∷ [])
 
-  same-input : (fill : ℕ) → inputFor form2 (widened c) fill ≡ widenedIn (inputFor form1 c fill) table
+  pub same-input : (fill : ℕ) → inputFor form2 (widened c) fill ≡ widenedIn (inputFor form1 c fill) table
   same-input fill = ap (λ (l : Lists). input table l (record { limit = limit; fill = fill; closed = true })) same-lists
 
-  two : (fill : ℕ) → TwoBanks (bankOf form1 b) table
+  pub two : (fill : ℕ) → TwoBanks (bankOf form1 b) table
   two fill =
       record {
         count = refl;
@@ -246,6 +250,16 @@ module _ (b : List ℕ) (nodes rows : List (List ℕ)) (values : List ℕ) (limi
           let same : left ≡ new = same-build here table one (two fill) old (as-build q) (as-build mine) .1 in
           to-written is2 (widened c) (widened-fits c fits refl) short2
           (subst (λ (x : Input). BuiltIn None x old s new) (sym (same-input fill)) (subst (λ (l : Lent). BuiltIn None there old s l) same mine))
+
+      -- with a page size or without
+      pub build-raised-in : (page : Opt) {old new : Lent} {r : Output} → FileBuilt (written form1 c) fill page old r new
+          → FileBuilt (written form2 (widened c)) fill page old (raisedIn page (inputFor form1 c fill) r) new
+      build-raised-in None p = build-raised p
+      build-raised-in (Some page) {old} {new} {r} p =
+          let here = inputFor form1 c fill in
+          let mine = same-paged-build here table one (two fill) page (from-written is1 c fits short p) in
+          to-written is2 (widened c) (widened-fits c fits refl) short2
+          (subst (λ (x : Input). BuiltIn (Some page) x old (profileOutput here r) new) (sym (same-input fill)) mine)
 
 -- ---- any contents with one bank
 

@@ -15,7 +15,7 @@ use Rattle.form_fields.specs.Contents.{Contents, written, Fits}
 use Rattle.form_fields.specs.Whole.{contentsIn, Bytes}
 use Rattle.form_build.specs.Filed.{FileBuilt}
 use Rattle.form_convert.specs.declared.Conversion.the-variants.{Converted}
-use Rattle.form_rewrite.specs.Turning.{shaped, narrowed, dropsBit, toForm1}
+use Rattle.form_rewrite.specs.Turning.{shaped, narrowed, widened, dropsBit, toForm1}
 use Rattle.form_convert.specs.Convert.{ToForm1}
 use Rattle.form_rewrite.specs.Laws.Fitting.{narrowed-fits, rest-long, shape-two, shape-some}
 use Rattle.thm_conversions.specs.Theorems.RoundTrips.{widened-again}
@@ -28,7 +28,7 @@ use Rattle.thm_conversions.specs.Laws.Shaped.{none-stray}
 
 module _ (d : Contents) (fits : Fits form2 d) (shape : shaped d ≡ true) (few : length (d .nodes) ≤ maxNodes)
     (short : length (written form2 d) ≤ form2 .longest) (short1 : length (written form1 (narrowed d)) ≤ form1 .longest) where
-  narrowed-single : Single (narrowed d)
+  pub narrowed-single : Single (narrowed d)
   narrowed-single =
       let two = shape-two d shape in
       let some = shape-some d shape in
@@ -46,6 +46,22 @@ module _ (d : Contents) (fits : Fits form2 d) (shape : shaped d ≡ true) (few :
   narrowed-same-build fill {old} {new} {r} p =
       subst (λ (e : Contents). FileBuilt (written form2 e) fill None old (raisedOutput (inputFor form1 (narrowed d) fill) r) new)
       (widened-again d fits shape) (widened-same-build (narrowed d) fill narrowed-single p)
+
+-- What is known of a file with the shape that was converted back: what was written is the file of contents with one bank, and the file given is that of what
+-- they become.
+pub converted-back-single : (file out : List ℕ) (n : ℕ) (new : List ℕ) → Bytes file → ToForm1 file out (Converted n) new
+    → shaped (contentsIn form2 file) ≡ true
+    → Single (narrowed (contentsIn form2 file)) × (take n new ≡ written form1 (narrowed (contentsIn form2 file)))
+    × (file ≡ written form2 (widened (narrowed (contentsIn form2 file))))
+converted-back-single file out n new bytes call shape =
+    let d = contentsIn form2 file in
+    let t = turned-file is2 toForm1 dropsBit file out n new bytes call in
+    let becomes : toForm1 d ≡ narrowed d = rw shape refl in
+    let short1 : length (written form1 (narrowed d)) ≤ form1 .longest = rw becomes at (t .answer .short) in (
+      narrowed-single d (t .fits) shape (omega (arith, t .answer .few)) (t .short) short1,
+      t .made ∙ ap (written form1) becomes,
+      sym (t .is) ∙ ap (written form2) (sym (widened-again d (t .fits) shape)),
+    )
 
 -- The call: what was written is the one-bank file, and the file given is built as it is, places raised.
 pub form1-shape-same-build : (file out : List ℕ) (n : ℕ) (new : List ℕ) → Bytes file → ToForm1 file out (Converted n) new
