@@ -1,0 +1,3 @@
+pub mod SpellingLaws
+pub mod Walks
+pub mod Unique

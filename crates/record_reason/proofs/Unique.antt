@@ -1,0 +1,28 @@
+-- Uniqueness over each public function's own contract: two answers that meet it for the same line or file are equal.
+use Rattle.refusal.specs.Laws.Outcome.{OneOutcome}
+use Rattle.refusal.specs.Laws.Pick.{determined}
+use Rattle.record_reason.proofs.reason_of.Kinds as reason-of-kinds
+use Rattle.record_reason.proofs.reason_of.Reads as reason-of-reads
+use Rattle.record_reason.proofs.spelling.own_cause.Kinds as own-cause-kinds
+use Rattle.record_reason.proofs.spelling.own_cause.Reads as own-cause-reads
+use Rattle.record_reason.proofs.spelling.start_of.Kinds as start-of-kinds
+use Rattle.record_reason.proofs.spelling.start_of.Reads as start-of-reads
+use Rattle.record_reason.proofs.spelling.many_of.Kinds as many-of-kinds
+use Rattle.record_reason.proofs.spelling.many_of.Reads as many-of-reads
+use Rattle.record_reason.proofs.spelling.top_of.Kinds as top-of-kinds
+use Rattle.record_reason.proofs.spelling.top_of.Reads as top-of-reads
+
+pub reason-of-unique : OneOutcome 1 reason-of-kinds.ps reason-of-kinds.r reason-of-reads.Learnt
+reason-of-unique κs a x y e f p q = determined p q
+
+pub own-cause-unique : OneOutcome 1 own-cause-kinds.ps own-cause-kinds.r own-cause-reads.Learnt
+own-cause-unique κs a x y e f p q = determined p q
+
+pub start-of-unique : OneOutcome 1 start-of-kinds.ps start-of-kinds.r start-of-reads.Learnt
+start-of-unique κs a x y e f p q = determined (p .0) (q .0)
+
+pub many-of-unique : OneOutcome 1 many-of-kinds.ps many-of-kinds.r many-of-reads.Learnt
+many-of-unique κs a x y e f p q = determined (p .0) (q .0)
+
+pub top-of-unique : OneOutcome 1 top-of-kinds.ps top-of-kinds.r top-of-reads.Learnt
+top-of-unique κs a x y e f p q = determined (p .0) (q .0)

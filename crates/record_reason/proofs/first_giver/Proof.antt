@@ -1,0 +1,42 @@
+-- `record_reason::first_giver`: after k lines it is known which of them was the first.
+use Prim.Native.Nat.{_-_}
+use native.Mathlib.Omega.{arith}
+use Rattle.record_reason.proofs.Walks.{Seeking, seeking-starts, seeking-on, seeking-ends}
+use borrow.Author.Needs.{needs}
+use Rattle.record_reason.proofs.first_giver.Statement.{statement}
+use Rattle.record_reason.proofs.first_giver.Tie as tie
+
+abbrev Inv-loop : tie.InvT-loop
+Inv-loop format text n first end at₀ state₀ found₀ k₀ at state found k = Seeking format text n first end at state found k
+
+abbrev μ-loop : tie.MeasureT-loop
+μ-loop format text n first end at₀ state₀ found₀ k₀ at state found k = n - k
+
+loop-holds : tie.Need-loop-holds Inv-loop μ-loop
+loop-holds c = seeking-starts (c .before .args .format) (c .before .args .text .now) (c .before .args .n) (c .before .args .first) (c .before .args .end)
+
+take-line-requires : tie.Need-take-line-requires Inv-loop μ-loop
+take-line-requires c κs = search needs
+
+leaves-requires : tie.Need-leaves-requires Inv-loop μ-loop
+leaves-requires c κs = search needs
+
+next-giver-requires : tie.Need-next-giver-requires Inv-loop μ-loop
+next-giver-requires c κs = search needs
+
+add-k : tie.Need-add-k Inv-loop μ-loop
+add-k c = search needs
+
+loop-less : tie.Need-loop-less Inv-loop μ-loop
+loop-less c = search needs
+
+loop-again : tie.Need-loop-again Inv-loop μ-loop
+loop-again c = seeking-on _ _ _ _ _ (c .before .before .before .before .before .loop .inv) (c .before .before .before .before .loop-test .taken) (c .before .before .before .take-line .ensures) (c .before .leaves .ensures) (c .next-giver .ensures)
+
+returns : tie.Need-returns Inv-loop μ-loop
+returns c = seeking-ends _ _ _ _ _ (c .before .loop .inv) (c .loop-test .left)
+
+pub first-giver-spec : {M : Type 1} → statement M
+first-giver-spec =
+    tie.close
+    (tie.spec Inv-loop μ-loop loop-holds take-line-requires leaves-requires next-giver-requires add-k loop-less loop-again returns)

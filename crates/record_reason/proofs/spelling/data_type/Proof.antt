@@ -1,0 +1,51 @@
+-- `record_reason::spelling::data_type`: the definition's tests.
+use mathlib.Core.Path.{sym, _∙_}
+use native.Mathlib.Omega.{arith}
+use Rattle.record_lines.specs.Digits.{pairAt}
+use borrow.Author.Tests.{le-leb, lt-leb, not-true, not-false}
+use borrow.Author.Needs.{needs}
+use Rattle.record_reason.proofs.spelling.data_type.Statement.{statement}
+use Rattle.record_reason.proofs.spelling.data_type.Tie as tie
+
+does-agree-requires : tie.Need-does-agree-requires
+does-agree-requires c κs = search needs
+
+made-requires : tie.Need-made-requires
+made-requires c κs = search needs
+
+returns : tie.Need-returns
+returns c = rw (c .made .ensures, sym (c .before .before .does-agree .ensures) ∙ not-true _ (c .before .if1 .taken))
+
+byte-requires : tie.Need-byte-requires
+byte-requires c κs = search needs
+
+add-made : tie.Need-add-made
+add-made c = search needs
+
+made-requires-2 : tie.Need-made-requires-2
+made-requires-2 c κs = search needs
+
+returns-2 : tie.Need-returns-2
+returns-2 c =
+    rw (
+      c .made2 .ensures,
+      c .before .before .byte .ensures .0,
+      sym (c .before .before .before .before .does-agree .ensures) ∙ not-false _ (c .before .before .before .if1 .left),
+      le-leb (pairAt (c .before .before .before .before .before .before .args .line .now) 2) (c .before .before .before .before .before .before .args .width) (omega (arith, c .before .before .byte .ensures .0, c .before .if2 .taken)),
+    )
+
+made-requires-3 : tie.Need-made-requires-3
+made-requires-3 c κs = search needs
+
+returns-3 : tie.Need-returns-3
+returns-3 c =
+    rw (
+      c .made3 .ensures,
+      sym (c .before .before .before .before .does-agree .ensures) ∙ not-false _ (c .before .before .before .if1 .left),
+      lt-leb (pairAt (c .before .before .before .before .before .before .args .line .now) 2) (c .before .before .before .before .before .before .args .width) (omega (arith, c .before .before .byte .ensures .0, c .before .if2 .left)),
+    )
+
+pub data-type-spec : {M : Type 1} → statement M
+data-type-spec =
+    tie.close
+    (tie.spec does-agree-requires made-requires returns byte-requires add-made made-requires-2 returns-2 made-requires-3 returns-3)

@@ -1,0 +1,32 @@
+-- `record_reason::spelling::fields`: the definition's test.
+use mathlib.Core.Path.{sym, _∙_}
+use Rattle.record_lines.specs.Digits.{pairAt}
+use borrow.Author.Tests.{eq-eqb, ne-eqb}
+use borrow.Author.Needs.{needs}
+use Rattle.record_reason.proofs.spelling.fields.Statement.{statement}
+use Rattle.record_reason.proofs.spelling.fields.Tie as tie
+
+byte-requires : tie.Need-byte-requires
+byte-requires c κs = search needs
+
+made-requires : tie.Need-made-requires
+made-requires c κs = search needs
+
+returns : tie.Need-returns
+returns c =
+    rw (c .made .ensures, c .before .before .byte .ensures .0, ne-eqb (pairAt (c .before .before .before .before .args .line .now) 1) (c .before .before .before .before .args .count) (λ z. c .before .if1 .taken (c .before .before .byte .ensures .0 ∙ z)))
+
+word-requires : tie.Need-word-requires
+word-requires c κs = search needs
+
+made-requires-2 : tie.Need-made-requires-2
+made-requires-2 c κs = search needs
+
+returns-2 : tie.Need-returns-2
+returns-2 c =
+    rw (c .made2 .ensures, c .before .word .ensures .0, eq-eqb (pairAt (c .before .before .before .before .before .args .line .now) 1) (c .before .before .before .before .before .args .count) (sym (c .before .before .before .byte .ensures .0) ∙ c .before .before .if1 .left))
+
+pub fields-spec : {M : Type 1} → statement M
+fields-spec =
+    tie.close
+    (tie.spec byte-requires made-requires returns word-requires made-requires-2 returns-2)

@@ -1,0 +1,50 @@
+-- `record_reason::spelling::first_other`: what is left is counted as the whole is.
+use mathlib.Core.Path.{_≡_, refl, sym, _∙_}
+use Prim.Native.Nat.{_+_, _-_}
+use native.Mathlib.Omega.{arith}
+use lib.ListN.{length, drop}
+use borrow.Author.Tests.{not-true, not-false}
+use Rattle.record_reason.specs.Spelling.{leading}
+use Rattle.record_reason.proofs.SpellingLaws.{leading-stops, leading-goes, leading-ends}
+use borrow.Author.Needs.{needs}
+use Rattle.record_reason.proofs.spelling.first_other.Statement.{statement}
+use Rattle.record_reason.proofs.spelling.first_other.Tie as tie
+
+abbrev Inv-loop : tie.InvT-loop
+Inv-loop line from i₀ i = from + leading (drop from line) ≡ i + leading (drop i line)
+
+abbrev μ-loop : tie.MeasureT-loop
+μ-loop line from i₀ i = length line - i
+
+loop-holds : tie.Need-loop-holds Inv-loop μ-loop
+loop-holds c = refl
+
+shared-slice-read-is-digit : tie.Need-shared-slice-read-is-digit Inv-loop μ-loop
+shared-slice-read-is-digit c = search needs
+
+is-digit-requires : tie.Need-is-digit-requires Inv-loop μ-loop
+is-digit-requires c κs = search needs
+
+returns : tie.Need-returns Inv-loop μ-loop
+returns c =
+    let stops = leading-stops (c .before .before .before .before .before .before .args .line .now) (c .before .before .before .before .loop .i) (c .before .before .before .loop-test .taken) (sym (c .before .is-digit .ensures) ∙ not-true _ (c .if1 .taken)) in
+    omega (arith, c .before .before .before .before .loop .inv, stops)
+
+add-i : tie.Need-add-i Inv-loop μ-loop
+add-i c = search needs
+
+loop-less : tie.Need-loop-less Inv-loop μ-loop
+loop-less c = search needs
+
+loop-again : tie.Need-loop-again Inv-loop μ-loop
+loop-again c =
+    let goes = leading-goes (c .before .before .before .before .before .before .args .line .now) (c .before .before .before .before .loop .i) (c .before .before .before .loop-test .taken) (sym (c .before .is-digit .ensures) ∙ not-false _ (c .if1 .left)) in
+    omega (arith, c .before .before .before .before .loop .inv, goes)
+
+returns-2 : tie.Need-returns-2 Inv-loop μ-loop
+returns-2 c = omega (arith, c .before .loop .inv, leading-ends (c .before .before .before .args .line .now) (c .before .loop .i) (c .loop-test .left))
+
+pub first-other-spec : {M : Type 1} → statement M
+first-other-spec =
+    tie.close
+    (tie.spec Inv-loop μ-loop loop-holds shared-slice-read-is-digit is-digit-requires returns add-i loop-less loop-again returns-2)

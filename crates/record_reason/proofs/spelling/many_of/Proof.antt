@@ -1,0 +1,56 @@
+-- `record_reason::spelling::many_of`: the definition's tests.
+use mathlib.Core.Path.{sym, _∙_}
+use native.Mathlib.Omega.{arith}
+use lib.ListN.{getD}
+use borrow.Author.Tests.{eq-eqb, ne-eqb}
+use borrow.Author.Needs.{needs}
+use Rattle.record_reason.proofs.spelling.many_of.Statement.{statement}
+use Rattle.record_reason.proofs.spelling.many_of.Tie as tie
+
+byte-requires : tie.Need-byte-requires
+byte-requires c κs = search needs
+
+returns : tie.Need-returns
+returns c = (rw (eq-eqb (c .before .before .before .args .format) 0 (c .before .if1 .taken), c .byte .ensures .0), omega (arith, c .byte .ensures .1))
+
+char-at-requires : tie.Need-char-at-requires
+char-at-requires c κs = search needs
+
+byte-requires-2 : tie.Need-byte-requires-2
+byte-requires-2 c κs = search needs
+
+left-requires : tie.Need-left-requires
+left-requires c κs = search needs
+
+returns-2 : tie.Need-returns-2
+returns-2 c = (
+  rw (
+    ne-eqb (c .before .before .before .before .before .before .args .format) 0 (c .before .before .before .before .if1 .left),
+    eq-eqb (getD (c .before .before .before .before .before .before .args .line .now) 1 0) 49 (sym (c .before .before .before .char-at .ensures) ∙ c .before .before .if2 .taken),
+    c .left .ensures .0,
+    c .before .byte2 .ensures .0,
+  ),
+  omega (arith, c .left .ensures .1, c .before .byte2 .ensures .1),
+)
+
+byte-requires-3 : tie.Need-byte-requires-3
+byte-requires-3 c κs = search needs
+
+left-requires-2 : tie.Need-left-requires-2
+left-requires-2 c κs = search needs
+
+returns-3 : tie.Need-returns-3
+returns-3 c = (
+  rw (
+    ne-eqb (c .before .before .before .before .before .before .args .format) 0 (c .before .before .before .before .if1 .left),
+    ne-eqb (getD (c .before .before .before .before .before .before .args .line .now) 1 0) 49 (λ z. c .before .before .if2 .left (c .before .before .before .char-at .ensures ∙ z)),
+    c .left2 .ensures .0,
+    c .before .byte3 .ensures .0,
+  ),
+  omega (arith, c .left2 .ensures .1, c .before .byte3 .ensures .1),
+)
+
+pub many-of-spec : {M : Type 1} → statement M
+many-of-spec =
+    tie.close
+    (tie.spec byte-requires returns char-at-requires byte-requires-2 left-requires returns-2 byte-requires-3 left-requires-2 returns-3)

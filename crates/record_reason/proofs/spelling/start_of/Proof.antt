@@ -1,0 +1,61 @@
+-- `record_reason::spelling::start_of`: the definition's tests.
+use mathlib.Core.Path.{sym, _∙_}
+use native.Mathlib.Omega.{arith}
+use lib.ListN.{getD}
+use borrow.Author.Tests.{eq-eqb, ne-eqb}
+use borrow.Author.Needs.{needs}
+use Rattle.record_reason.proofs.spelling.start_of.Statement.{statement}
+use Rattle.record_reason.proofs.spelling.start_of.Tie as tie
+
+mul-result : tie.Need-mul-result
+mul-result c = search needs
+
+word-requires : tie.Need-word-requires
+word-requires c κs = search needs
+
+add-result : tie.Need-add-result
+add-result c = search needs
+
+returns : tie.Need-returns
+returns c = (rw (eq-eqb (c .before .before .before .args .format) 0 (c .before .if1 .taken), c .word .ensures .0), omega (arith, c .word .ensures .1))
+
+word-requires-2 : tie.Need-word-requires-2
+word-requires-2 c κs = search needs
+
+char-at-requires : tie.Need-char-at-requires
+char-at-requires c κs = search needs
+
+returns-2 : tie.Need-returns-2
+returns-2 c = (
+  rw (
+    ne-eqb (c .before .before .before .before .before .args .format) 0 (c .before .before .before .if1 .left),
+    eq-eqb (getD (c .before .before .before .before .before .args .line .now) 1 0) 49 (sym (c .before .char-at .ensures) ∙ c .if2 .taken),
+    c .before .before .word2 .ensures .0,
+  ),
+  omega (arith, c .before .before .word2 .ensures .1),
+)
+
+mul-result-2 : tie.Need-mul-result-2
+mul-result-2 c = search needs
+
+word-requires-3 : tie.Need-word-requires-3
+word-requires-3 c κs = search needs
+
+add-result-2 : tie.Need-add-result-2
+add-result-2 c = search needs
+
+returns-3 : tie.Need-returns-3
+returns-3 c = (
+  rw (
+    ne-eqb (c .before .before .before .before .before .before .args .format) 0 (c .before .before .before .before .if1 .left),
+    ne-eqb (getD (c .before .before .before .before .before .before .args .line .now) 1 0) 49 (λ z. c .before .if2 .left (c .before .before .char-at .ensures ∙ z)),
+    c .before .before .before .word2 .ensures .0,
+    c .word3 .ensures .0,
+  ),
+  omega (arith, c .before .before .before .word2 .ensures .1, c .word3 .ensures .1),
+)
+
+pub start-of-spec : {M : Type 1} → statement M
+start-of-spec =
+    tie.close
+    (tie.spec mul-result word-requires add-result returns word-requires-2 char-at-requires returns-2 mul-result-2 word-requires-3 add-result-2 returns-3)

@@ -1,0 +1,29 @@
+-- `record_reason::spelling::starts`: the definition's tests.
+use mathlib.Core.Path.{sym, _∙_}
+use lib.ListN.{getD}
+use borrow.Author.Tests.{eq-eqb, ne-eqb}
+use borrow.Author.Needs.{needs}
+use Rattle.record_reason.proofs.spelling.starts.Statement.{statement}
+use Rattle.record_reason.proofs.spelling.starts.Tie as tie
+
+char-at-requires : tie.Need-char-at-requires
+char-at-requires c κs = search needs
+
+returns : tie.Need-returns
+returns c = rw (c .before .char-at .ensures, eq-eqb (c .before .before .before .args .format) 0 (c .if1 .taken))
+
+returns-2 : tie.Need-returns-2
+returns-2 c = rw (ne-eqb (c .before .before .before .before .args .format) 0 (c .before .if1 .left), eq-eqb (getD (c .before .before .before .before .args .line .now) 0 0) 83 (sym (c .before .before .char-at .ensures) ∙ c .if2 .taken))
+
+returns-3 : tie.Need-returns-3
+returns-3 c =
+    rw (
+      c .before .before .char-at .ensures,
+      ne-eqb (c .before .before .before .before .args .format) 0 (c .before .if1 .left),
+      ne-eqb (getD (c .before .before .before .before .args .line .now) 0 0) 83 (λ z. c .if2 .left (c .before .before .char-at .ensures ∙ z)),
+    )
+
+pub starts-spec : {M : Type 1} → statement M
+starts-spec =
+    tie.close
+    (tie.spec char-at-requires returns returns-2 returns-3)
