@@ -33,6 +33,7 @@ tested C "$out/test" examples/worked.form
 tested "C, the store" "$out/store"
 tested "C, stack" "$out/stack"
 tested "C, overlays" "$out/overlays"
+tested "C, reasons" "$out/reasons"
 tested "C, structs" "$out/structs"
 if [ -x "$out/structs_cpp" ]; then
     tested "C++, structs" "$out/structs_cpp"
@@ -122,7 +123,7 @@ fi
 started "$out/worked_rust" >"$out/answers"
 printf 'passes 1\nblock 0 10\nblock 20 10\nimage ffc002a800\n' | cmp - "$out/answers"
 echo "Rust: the worked example"
-for tests in calls store overlays recorder; do
+for tests in calls store overlays recorder reasons; do
     started "$out/${tests}_rust" -q >"$out/answers" || {
         cat "$out/answers"
         exit 1

@@ -345,6 +345,70 @@ struct dk_fault {
 /* The same file, asked why it is refused with 4. It needs less than 1 KiB of stack. */
 struct dk_fault dk_record_fault(uint8_t format, const uint8_t *text, size_t text_len, uint32_t load);
 
+/* Why a file of records is bad, in the order in which a line is looked at: the first of these that there is. `first` and `second` with it. */
+enum dk_cause {
+    DK_GOOD_FILE = 0,       /* nothing is wrong */
+    DK_NO_START = 1,        /* a line that does not begin with a colon or, in S-records, with S; a blank line too */
+    DK_NO_DIGIT = 2,        /* a character that should be a digit: its place in the line, from 0, and the character */
+    DK_LINE_LENGTH = 3,     /* the line's length: its characters, and those that its count asks for; the shortest record's where it has no count */
+    DK_RECORD_COUNT = 4,    /* the count, and what its type has: 0 in type 01, 2 in type 04, 5 in S7, 3 in S9; at least 3 in S0 and S1, 5 in S3. A count
+                               below 3 in S-records is told before the checksum, every other behind the width */
+    DK_CHECKSUM = 5,        /* the checksum: what it is, and what it should be */
+    DK_RECORD_TYPE = 6,     /* a type other than 00, 01 and 04, or S0, S1, S3, S7 and S9: the type, in S-records its character; 0 */
+    DK_ADDRESS_WIDTH = 7,   /* another width than the file's: the bytes of its address, and those of the lines before it */
+    DK_ADDRESS_FIELD = 8,   /* an address field that is not 0000, in types 01 and 04: the field; 0 */
+    DK_PAST_LAST = 9,       /* past the last address: that of the line's last byte, and the last that there is */
+    DK_BELOW_LOAD = 10,     /* below `load`: the address of the line's first byte, and the lowest that a line of the file gives a byte at */
+    DK_GIVEN_TWICE = 11,    /* a byte that is given already: the first line that gives one of this line's, from 0, and the lowest address that both give */
+    DK_BEHIND_END = 12,     /* a line behind the end record; 0, 0 */
+    DK_NO_END_RECORD = 13   /* the text ends without an end record: `line` is the number of its lines; 0, 0 */
+};
+
+/* The line at fault of a file of records, and why. */
+struct dk_reason {
+    uint64_t reason; /* enum dk_cause */
+    uint64_t line;   /* as dk_record_fault tells it; 0 of a good file */
+    uint64_t first;  /* see enum dk_cause */
+    uint64_t second;
+};
+
+/* The same file, asked what is wrong with the line at fault. Nothing is refused: every text has an answer, 0 where the file is good. It takes the time of
+ * dk_record_fault and of reading the lines before the one at fault once or twice more, and where a line is below `load` those of the whole text. It needs less
+ * than 1 KiB of stack. */
+struct dk_reason dk_record_reason(uint8_t format, const uint8_t *text, size_t text_len, uint32_t load);
+
+/* A reason in words, without its numbers. */
+static inline const char *dk_reason_words(uint64_t reason)
+{
+    switch (reason) {
+    case DK_GOOD_FILE: return "nothing is wrong";
+    case DK_NO_START: return "the line does not begin with its format's character, a colon or S";
+    case DK_NO_DIGIT: return "a character of the line is no hex digit";
+    case DK_LINE_LENGTH: return "the line is not as long as its count says";
+    case DK_RECORD_COUNT: return "the count is not one that records of this type have";
+    case DK_CHECKSUM: return "the checksum is wrong";
+    case DK_RECORD_TYPE: return "records of this type are not read";
+    case DK_ADDRESS_WIDTH: return "the address has another width than those before it";
+    case DK_ADDRESS_FIELD: return "the address field is not 0000";
+    case DK_PAST_LAST: return "the line's bytes pass the last address";
+    case DK_BELOW_LOAD: return "the line's bytes begin below the load address";
+    case DK_GIVEN_TWICE: return "the line gives a byte that another line gave";
+    case DK_BEHIND_END: return "a line stands behind the end record";
+    case DK_NO_END_RECORD: return "the end record is missing";
+    default: return "a reason that this header has no words for";
+    }
+}
+
+/* Characters in which every file of records fits that `blocks` blocks of an image of `image_len` bytes make, in either format: with so much room dk_write_hex
+ * and dk_write_srec never answer DK_TOO_SHORT. It is what the theorem records-length of crates/thm_record_room says of every file that is not refused 16 or 4:
+ * 16 times its length is at most 47 for each byte, 225 for each block, and 496 for each 64 KiB begun and one more. */
+static inline uint64_t dk_record_room(uint64_t image_len, uint64_t blocks)
+{
+    if (image_len > UINT64_MAX / 128 || blocks > UINT64_MAX / 512)
+        return UINT64_MAX;
+    return (47 * image_len + 225 * blocks + 496 * (image_len / 65536 + 2)) / 16;
+}
+
 /* A refusal in words, without its place. */
 static inline const char *dk_words(uint64_t refusal)
 {
@@ -360,8 +424,8 @@ static inline const char *dk_words(uint64_t refusal)
     case DK_DEFAULT_BANK: return "bank 0 is used though there are others or it is closed";
     case DK_PAST_BANK: return "an item ends past its bank's size";
     case DK_NO_OUTPUT: return "an item is written in a bank that has no place in the output";
-    case DK_OVERLAP: return "a placement would share a bit with another, or have a mark strictly inside it";
-    case DK_STORE_FULL: return "512 placements are stored already";
+    case DK_OVERLAP: return "a placement would share a bit with another, or have a mark strictly inside it, or is a mark strictly inside another";
+    case DK_STORE_FULL: return "512 placements, or for a mark 512 marks, are stored already";
     case DK_TOO_SHORT: return "a lent buffer is too short";
     case DK_BAD_STORE: return "a store that was given is not one";
     case DK_BAD_PART: return "a part of an image is empty, outside it, or not on byte edges";

@@ -84,6 +84,23 @@ static void fault(void)
     refusal = dk_record_fault(DK_S_RECORDS, text, text_length, 0xfff8).fault;
 }
 
+/* of a good file, of one that begins below the load address, and of one whose first line comes again; in the last two `refusal` is 0 where the reason is told */
+static void reason(void)
+{
+    refusal = dk_record_reason(DK_S_RECORDS, text, text_length, 0xfff8).reason;
+}
+
+static void reason_below(void)
+{
+    refusal = dk_record_reason(DK_S_RECORDS, text, text_length, 0xfff9).reason != DK_BELOW_LOAD;
+}
+
+static void reason_twice(void)
+{
+    static const uint8_t twice[] = "S1040000AA51\nS1040000AA51\nS9030000FC\n";
+    refusal = dk_record_reason(DK_S_RECORDS, twice, sizeof twice - 1, 0).reason != DK_GIVEN_TWICE;
+}
+
 static uint8_t other[FILE_MOST];
 static uint64_t other_length;
 
@@ -272,5 +289,8 @@ int main(void)
     bad |= measure("dk_write_srec", write_srec, 1024);
     bad |= measure("dk_read_records, S-records", read_srec, 1024);
     bad |= measure("dk_record_fault", fault, 1024);
+    bad |= measure("dk_record_reason", reason, 1024);
+    bad |= measure("dk_record_reason, below", reason_below, 1024);
+    bad |= measure("dk_record_reason, twice", reason_twice, 1024);
     return bad;
 }

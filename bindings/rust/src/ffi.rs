@@ -30,6 +30,14 @@ pub struct DkFault {
 }
 
 #[repr(C)]
+pub struct DkReason {
+    pub reason: u64,
+    pub line: u64,
+    pub first: u64,
+    pub second: u64,
+}
+
+#[repr(C)]
 pub struct DkCount {
     pub refusal: u64,
     pub place: u64,
@@ -99,6 +107,7 @@ extern "C" {
     fn dk_to_form2(file: *const u8, file_len: usize, out: *mut u8, out_len: usize) -> DkCount;
     fn dk_to_form1(file: *const u8, file_len: usize, out: *mut u8, out_len: usize) -> DkCount;
     fn dk_record_fault(format: u8, text: *const u8, text_len: usize, load: u32) -> DkFault;
+    fn dk_record_reason(format: u8, text: *const u8, text_len: usize, load: u32) -> DkReason;
     fn dk_form(
         file: *const u8, file_len: usize, fill: u8, image: *mut u8, image_len: usize, addresses: *mut i64, addresses_len: usize,
         offsets: *mut u64, offsets_len: usize, sizes: *mut u64, sizes_len: usize,
@@ -228,6 +237,11 @@ pub fn to_form1(file: &[u8], out: &mut [u8]) -> DkCount {
 pub fn record_fault(format: u8, text: &[u8], load: u32) -> DkFault {
     // SAFETY: see the module
     unsafe { dk_record_fault(format, text.as_ptr(), text.len(), load) }
+}
+
+pub fn record_reason(format: u8, text: &[u8], load: u32) -> DkReason {
+    // SAFETY: see the module
+    unsafe { dk_record_reason(format, text.as_ptr(), text.len(), load) }
 }
 
 #[rustfmt::skip]

@@ -41,6 +41,7 @@ mod misuse;
 mod names;
 pub mod overlays;
 mod owned;
+mod reasons;
 mod recorder;
 pub mod records;
 mod store;

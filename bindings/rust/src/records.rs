@@ -2,6 +2,8 @@
 
 use crate::{count_of, ffi, Refusal};
 
+pub use crate::reasons::{reason, BadFile, Reason};
+
 /// Which records a file is read as.
 #[derive(Clone, Copy, Debug, PartialEq, Eq)]
 pub enum Format {

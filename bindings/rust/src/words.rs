@@ -39,7 +39,7 @@ impl fmt::Display for Refusal {
             Refusal::Overlap { start, size, .. } => {
                 write!(f, "a placement would share a bit with what stands from bit {start} on, {size} bits")
             }
-            Refusal::StoreFull { node, .. } => write!(f, "at node {node} 512 placements are stored already"),
+            Refusal::StoreFull { node, .. } => write!(f, "at node {node} 512 placements, or for a mark 512 marks, are stored already"),
             Refusal::TooShort { buffer, .. } => write!(f, "the room for {buffer} is too short"),
             Refusal::BadPart => write!(f, "a part of an image is empty, outside it, or not on byte edges"),
             Refusal::PartlyCovered => write!(f, "the overlay covers a range only in part"),

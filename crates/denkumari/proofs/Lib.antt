@@ -4,6 +4,7 @@ pub mod FormLaws
 pub mod OverlayUnique
 pub mod ProfileLaws
 pub mod ProfileUnique
+pub mod ReasonUnique
 pub mod RecordUnique
 pub mod StoreLaws
 pub mod StoreUnique

@@ -3,6 +3,7 @@ pub mod Forms
 pub mod Overlays
 pub mod Parts
 pub mod Profiles
+pub mod Reasons
 pub mod RecordFiles
 pub mod Stores
 pub mod Tables

@@ -6,5 +6,6 @@ mod forms;
 mod overlays;
 mod parts;
 mod profiles;
+mod reasons;
 mod record_files;
 mod stores;

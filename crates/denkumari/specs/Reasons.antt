@@ -1,0 +1,11 @@
+-- Why a file of records is bad, as a caller in another language is told of it.
+use mathlib.Core.Path.{_≡_}
+use mathlib.Core.List.{List}
+use Prim.Native.Nat.{ℕ}
+use Rattle.record_fault.specs.Reading.{readText}
+use Rattle.record_reason.specs.Reasons.{whyOf}
+use Rattle.record_reason.specs.declared.Why.{Why}
+
+-- What `dk_record_reason` promises: the line that `dk_record_fault` tells, the first reason that there is, and its two numbers.
+pub record ReasonTold (format load : ℕ) (text : List ℕ) (r : Why) : Type 0 where
+  pub answer : r ≡ whyOf format load text (readText format load text)
