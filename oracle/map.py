@@ -1,7 +1,7 @@
 #!/usr/bin/env python3
 """What the program `mapper` prints, once more: where each node of a layout stands in the row of the last pass, as far as the layout goes.
 
-    map.py [FILL]      a file on standard input; FILL is the fill's choice, 0 unless said
+    map.py [FILL [PAGE]]    a file on standard input; FILL is the fill's choice, 0 unless said; PAGE the page size in bits of a device with pages
 
 Over model.py's file, checks, passes and store; the walk's figures are kept here node by node, and the rules 9 to 13 are tried here once more, so that
 the node at which one is met is known. A line for the file, for each bank and for each node that has a place, then the node at fault and the verdict."""
@@ -107,6 +107,8 @@ def lines_of(data, choices):
     try:
         model.check_banks(layout.banks)
         model.check_list(layout, choices)
+        if choices.page is not None:
+            model.profile(layout, choices.page)
         run, last, shown, fault, refused = walked(layout)
     except Refused as early:
         refused = early
@@ -127,8 +129,9 @@ def printed(data, choices=model.Choices()):
 def main():
     parser = manners.parser(__doc__)
     parser.add_argument("fill", nargs="?", type=manners.count, default=model.INHERITED, metavar="FILL")
+    parser.add_argument("page", nargs="?", type=manners.count, metavar="PAGE")
     asked = parser.parse_args()
-    sys.stdout.write(printed(manners.given(), model.Choices(fill=asked.fill)))
+    sys.stdout.write(printed(manners.given(), model.Choices(fill=asked.fill, page=asked.page)))
 
 
 if __name__ == "__main__":

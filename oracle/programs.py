@@ -146,8 +146,9 @@ def converter_case(rng):
 def mapper_case(rng):
     """A layout file, and where everything stands."""
     data, fill = some_layout(rng), rng.choice((None, 0, 1, 1, 2))
-    arguments = [] if fill is None else [str(fill)]
-    return arguments, data, mapped.printed(data, model.Choices(fill=fill or 0)).encode()
+    page = None if fill is None else rng.choice((None, None, 0, 1, 8, 64, 96))
+    arguments = [str(number) for number in (fill, page) if number is not None]
+    return arguments, data, mapped.printed(data, model.Choices(fill=fill or 0, page=page)).encode()
 
 
 def main():

@@ -7,9 +7,10 @@ use borrow.Author.Tests.{le-leb}
 use lib.ListN.{length, getD, take, drop, length-append, length-drop}
 use lib.Seq.{take-at}
 use Rattle.refusal.specs.Limits.{maxNodes}
+use Rattle.refusal.specs.declared.Opt.{Opt}
 use Rattle.refusal.specs.declared.Refusal.{Refusal}
 use Rattle.refusal.specs.declared.Verdict.{Verdict}
-use Rattle.refusal.specs.declared.Verdict.the-variants.{Accepted}
+use Rattle.refusal.specs.declared.Verdict.the-variants.{Accepted, Refused}
 use Rattle.bankdef.specs.declared.Bankdefs.{Bankdefs}
 use Rattle.bitvec.specs.Lists.{listOf}
 use Rattle.bitvec.specs.Laws.Lists.{length-listOf}
@@ -35,7 +36,7 @@ use Rattle.build_map.specs.Theorems.Entries.{entries-are, entries-few, entries-
 use Rattle.build_map.specs.Map.{mapOf, Lent, bankShown, positionShown, outputShown, sizeShown, shown, Maps}
 use Rattle.build_map.specs.declared.Map.{Map}
 use Rattle.print_map.specs.Steps.{nodesHeld, textHeld}
-use Rattle.print_map.specs.Text.{nodeLine, nodesText, refusedText, layoutText, inputOf, textBy, mapText}
+use Rattle.print_map.specs.Text.{nodeLine, nodesText, refusedText, layoutText, inputOf, saidIn, mapAfter, textBy, mapText}
 
 -- what was read stands in the front, and as much room is there
 module _ (new old after : List ℕ) (n : ℕ) (long : length new ≡ n) (is : after ≡ new ++ drop (length new) old) where
@@ -91,9 +92,9 @@ module _ (file : List ℕ) (s : Shape) (sound : formOf file ≡ Sound s) (kinds 
         of-states = front (statesOf file) states states′ (s .rows * s .nodes) s-long s-is;
       }
 
-pub broken-text : (file : List ℕ) (fill : ℕ) (why : Refusal) → formOf file ≡ Broken why → refusedText why ≡ mapText file fill
+pub broken-text : (file : List ℕ) (fill : ℕ) (page : Opt) (why : Refusal) → formOf file ≡ Broken why → refusedText why ≡ mapText file fill page
 unfolding mapText
-broken-text file fill why e = sym (ap (textBy file fill) e)
+broken-text file fill page why e = sym (ap (textBy file fill page) e)
 
 -- ---- a sound file's map
 
@@ -165,9 +166,40 @@ module _ (file : List ℕ) (fill : ℕ) (s : Shape) (sound : formOf file ≡ Sou
   unfolding call
   nodes-listed = rw (h .of-kinds) (entries-listed call)
 
-  pub read-text : textHeld s banks m (take (s .nodes) kinds) (new .banks) (new .positions) (new .outputs) (new .sizes) ≡ mapText file fill
-  unfolding call mapText
-  read-text =
-      rw (eb, h .of-kinds, held-lines call (m .nodes) (omega arith)) refl
-      ∙ ap (layoutText s (inputOf file s fill)) (met .answer)
-      ∙ sym (ap (textBy file fill) sound)
+  -- the map's own records, and those of a layout that the profile refuses, in which no node has an entry
+  own-text : textHeld s banks m (take (s .nodes) kinds) (new .banks) (new .positions) (new .outputs) (new .sizes) ≡ layoutText s (inputOf file s fill) m
+  unfolding call
+  own-text = rw (eb, h .of-kinds, held-lines call (m .nodes) (omega arith)) refl
+
+  said-text : (v : Verdict) → textHeld s banks (mapAfter v m) (take (s .nodes) kinds) (new .banks) (new .positions) (new .outputs) (new .sizes)
+      ≡ layoutText s (inputOf file s fill) (mapAfter v m)
+  unfolding nodesHeld nodesText
+  said-text Accepted = own-text
+  said-text (Refused why) = rw (eb) refl
+
+  module _ (page : Opt) (shown : Map) (is : shown ≡ mapAfter (saidIn page (input banks
+      (lists (take (s .nodes) kinds) (take (s .nodes) operands) (take (s .rows * s .nodes) numbers) (take (s .rows * s .nodes) states) (s .rows) values)
+      choices)) m) where
+    is-said : shown ≡ mapAfter (saidIn page (inputOf file s fill)) m
+    is-said =
+        subst
+        (λ (x : ℕ). shown ≡ mapAfter (saidIn page (input (tableOf file)
+        (lists (kindsOf file) (operandsOf file) (numbersOf file) (statesOf file) x (valuesBy file (formOf file))) (choicesOf s fill))) m)
+        (places file s sound .rows)
+        (rw (ec, eb, ev, h .of-kinds, h .of-operands, h .of-numbers, h .of-states) at is)
+
+    -- no more nodes have entries than the map has
+    fewer : (v : Verdict) → mapAfter v m .nodes ≤ m .nodes
+    fewer Accepted = omega arith
+    fewer (Refused why) = omega arith
+
+    pub shown-fewer : shown .nodes ≤ m .nodes
+    shown-fewer = omega (arith, ap (λ (x : Map). x .nodes) is-said, fewer (saidIn page (inputOf file s fill)))
+
+    pub read-text : textHeld s banks shown (take (s .nodes) kinds) (new .banks) (new .positions) (new .outputs) (new .sizes) ≡ mapText file fill page
+    unfolding mapText
+    read-text =
+        ap (λ (x : Map). textHeld s banks x (take (s .nodes) kinds) (new .banks) (new .positions) (new .outputs) (new .sizes)) is-said
+        ∙ said-text (saidIn page (inputOf file s fill))
+        ∙ ap (λ (x : Map). layoutText s (inputOf file s fill) (mapAfter (saidIn page (inputOf file s fill)) x)) (met .answer)
+        ∙ sym (ap (textBy file fill page) sound)

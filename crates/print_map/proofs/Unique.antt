@@ -7,5 +7,5 @@ use Rattle.print_map.specs.Laws.Unique.{writes-unique}
 use Rattle.print_map.proofs.files.write_map.Kinds as write-map-kinds
 use Rattle.print_map.proofs.files.write_map.Reads as write-map-reads
 
-pub write-map-unique : OneView 2 write-map-kinds.ps write-map-kinds.r write-map-reads.Learnt (ℕ × List ℕ) (λ κs x e. (x, e .1 .1 .0 .now))
+pub write-map-unique : OneView 2 write-map-kinds.ps write-map-kinds.r write-map-reads.Learnt (ℕ × List ℕ) (λ κs x e. (x, e .1 .1 .1 .0 .now))
 write-map-unique κs a x y e f p q = let same = writes-unique (p .0) (q .0) in paired (same .0) (same .1)

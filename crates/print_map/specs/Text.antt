@@ -10,10 +10,12 @@
 use mathlib.Core.List.{List, [], _∷_, _++_}
 use Prim.Native.Nat.{ℕ, zero, suc, min}
 use lib.Dec.{eqb}
-use lib.ListN.{getD}
+use lib.ListN.{getD, replicate}
 use Rattle.refusal.specs.Limits.{maxBanks}
 use Rattle.refusal.specs.Pick.{pick}
 use Rattle.refusal.specs.Refusals.{numberOf, placeOf}
+use Rattle.refusal.specs.declared.Opt.{Opt}
+use Rattle.refusal.specs.declared.Opt.the-variants.{None as NoPage, Some as Pages}
 use Rattle.refusal.specs.declared.Place.{Place}
 use Rattle.refusal.specs.declared.Place.the-variants.{One, Two}
 use Rattle.refusal.specs.declared.Refusal.{Refusal}
@@ -35,6 +37,7 @@ use Rattle.form_fields.specs.declared.Form.{Form}
 use Rattle.form_fields.specs.declared.Form.the-variants.{Sound, Broken}
 use Rattle.form_fields.specs.declared.Shape.{Shape}
 use Rattle.form_build.specs.Filed.{listsIn, choicesOf}
+use Rattle.build_paged.specs.InProfile.{saidOf}
 use Rattle.build_map.specs.Map.{mapOf, bankShown, positionShown, outputShown, sizeShown}
 use Rattle.build_map.specs.declared.Fault.{Fault}
 use Rattle.build_map.specs.declared.Fault.the-variants.{None, At as AtNode}
@@ -134,13 +137,26 @@ layoutText s b m = mappedText s (b .banks) (program (b .banks) (b .lists)) (rowO
 abbrev pub inputOf : List ℕ → Shape → ℕ → Input
 inputOf file s fill = input (tableOf file) (listsIn file) (choicesOf s fill)
 
-abbrev pub textBy : List ℕ → ℕ → Form → List ℕ
-textBy file fill (Broken why) = refusedText why
-textBy file fill (Sound s) = layoutText s (inputOf file s fill) (mapOf (inputOf file s fill))
+-- What the profile of a device with pages says of a layout, where there is a page size. "A build in the profile is the ordinary build after a yes.
+-- Refusals: 19 (new), after 4 and before the first pass" (document 02, Ticket 9): no pass is run then, and no node has an entry.
+abbrev pub saidIn : Opt → Input → Verdict
+saidIn NoPage b = Accepted
+saidIn (Pages bits) b = saidOf bits b
 
--- The map's text of a file's bytes and a fill's choice.
-unfoldable pub mapText : List ℕ → ℕ → List ℕ
-mapText file fill = textBy file fill (formOf file)
+abbrev pub mapAfter : Verdict → Map → Map
+mapAfter Accepted m = m
+mapAfter (Refused why) m = record { verdict = Refused why; passes = 0; nodes = 0; fault = None; padding = replicate maxBanks 0 }
+
+abbrev pub mapIn : Opt → Input → Map
+mapIn page b = mapAfter (saidIn page b) (mapOf b)
+
+abbrev pub textBy : List ℕ → ℕ → Opt → Form → List ℕ
+textBy file fill page (Broken why) = refusedText why
+textBy file fill page (Sound s) = layoutText s (inputOf file s fill) (mapIn page (inputOf file s fill))
+
+-- The map's text of a file's bytes, a fill's choice and a page size, if there is one.
+unfoldable pub mapText : List ℕ → ℕ → Opt → List ℕ
+mapText file fill page = textBy file fill page (formOf file)
 
 -- room for any of them: 160 bytes for each of 4,096 nodes, and 8,192 for the rest
 abbrev pub mapRoom : ℕ

@@ -6,19 +6,24 @@ use crate::records::write_nodes;
 use crate::records::write_refused;
 use crate::records::write_verdict;
 use bankdef::Bankdefs;
+use build_map::Fault;
 use build_map::Map;
 use form_fields::Form;
 use form_fields::Shape;
+use refusal::Opt;
+use refusal::Verdict;
 use resolver::Choices;
 ghost use mathlib.Core.Path.{_≡_};
 ghost use mathlib.Core.List.{_++_};
 ghost use Prim.Native.Nat.{_+_, _≤_};
 ghost use lib.ListN.{length};
 ghost use Rattle.refusal.specs.Limits.{maxNodes};
+ghost use Rattle.lists.specs.Lists.{lists};
+ghost use Rattle.output.specs.Output.{input};
 ghost use Rattle.print_text.specs.Puts.{Writes};
 ghost use Rattle.form_build.specs.Filed.{choicesOf, HeldIn};
 ghost use Rattle.print_map.specs.Steps.{textHeld};
-ghost use Rattle.print_map.specs.Text.{fileLine, mapText, mapRoom};
+ghost use Rattle.print_map.specs.Text.{fileLine, saidIn, mapAfter, mapText, mapRoom};
 
 // Room for the lists of any sound file. A node takes 8 of its 65,536 bytes, and 5 more in each row.
 const ROOM: usize = 8_192;
@@ -33,6 +38,62 @@ fn chosen(shape: Shape, fill: u8) -> Choices
         limit: shape.limit,
         fill,
         closed: shape.form == 2,
+    }
+}
+
+// The map after what the profile said: "19 (new), after 4 and before the first pass", so that no node has an entry.
+fn after(said: Verdict, map: Map) -> Map
+    ensures { λ r. ⌜ r ≡ mapAfter said map ⌝ }
+{
+    match said {
+        Verdict::Accepted => map,
+        Verdict::Refused(why) => Map {
+            verdict: Verdict::Refused(why),
+            passes: 0,
+            nodes: 0,
+            fault: Fault::None,
+            padding: [0; 16],
+        },
+    }
+}
+
+// The map of a layout in the profile of a device with pages, where a page size is given.
+fn in_profile(
+    page: Opt,
+    banks: Bankdefs,
+    kinds: &[u8],
+    operands: &[u32],
+    numbers: &[u32],
+    states: &[u8],
+    rows: u64,
+    values: &[u8],
+    choices: Choices,
+    map: Map,
+) -> Map
+    ensures { λ r. ⌜
+        r ≡ mapAfter (saidIn page
+        (input banks
+        (lists (now (kinds .entry)) (now (operands .entry)) (now (numbers .entry)) (now (states .entry)) rows (now (values .entry)))
+        choices)) map
+        ⌝ }
+{
+    match page {
+        Opt::None => map,
+        Opt::Some(bits) => {
+            let paged = build_profile::check_profile(
+                banks,
+                kinds,
+                operands,
+                numbers,
+                states,
+                rows,
+                values,
+                choices,
+                bits,
+            );
+            let said = paged.verdict;
+            after(said, map)
+        }
     }
 }
 
@@ -102,6 +163,7 @@ fn map_read(
     file: &[u8],
     shape: Shape,
     fill: u8,
+    page: Opt,
     kinds: &[u8],
     operands: &[u32],
     numbers: &[u32],
@@ -110,13 +172,14 @@ fn map_read(
 ) -> usize
     requires { ⌜ HeldIn (now file) shape (now kinds) (now operands) (now numbers) (now states) ⌝ }
     requires { ⌜ mapRoom ≤ length (now out) ⌝ }
-    ensures { λ r. ⌜ Writes (mapText (now (file .entry)) fill) (now (out .entry)) 0 r (now (out .exit)) ⌝ }
+    ensures { λ r. ⌜ Writes (mapText (now (file .entry)) fill page) (now (out .entry)) 0 r (now (out .exit)) ⌝ }
     ensures { λ r. ⌜ r ≤ mapRoom ⌝ }
 {
     let choices = chosen(shape, fill);
     let nodes = shape.nodes as usize;
     let cells = shape.rows as usize * nodes;
     let banks = form_lists::read_banks(file);
+    let values = form_lists::read_values(file);
     let mut banks_of = [0u64; 4096];
     let mut positions = [0u32; 4096];
     let mut outputs = [0u64; 4096];
@@ -128,19 +191,31 @@ fn map_read(
         &numbers[..cells],
         &states[..cells],
         shape.rows,
-        form_lists::read_values(file),
+        values,
         choices,
         &mut banks_of,
         &mut positions,
         &mut outputs,
         &mut sizes,
     );
+    let shown = in_profile(
+        page,
+        banks,
+        &kinds[..nodes],
+        &operands[..nodes],
+        &numbers[..cells],
+        &states[..cells],
+        shape.rows,
+        values,
+        choices,
+        map,
+    );
     write_all(
         out,
         shape,
         banks,
         &kinds[..nodes],
-        map,
+        shown,
         &banks_of,
         &positions,
         &outputs,
@@ -149,9 +224,9 @@ fn map_read(
 }
 
 // The text of a file: its lists are read into arrays that are large enough for any file.
-fn map_file(file: &[u8], fill: u8, out: &mut [u8]) -> usize
+fn map_file(file: &[u8], fill: u8, page: Opt, out: &mut [u8]) -> usize
     requires { ⌜ mapRoom ≤ length (now out) ⌝ }
-    ensures { λ r. ⌜ Writes (mapText (now (file .entry)) fill) (now (out .entry)) 0 r (now (out .exit)) ⌝ }
+    ensures { λ r. ⌜ Writes (mapText (now (file .entry)) fill page) (now (out .entry)) 0 r (now (out .exit)) ⌝ }
     ensures { λ r. ⌜ r ≤ mapRoom ⌝ }
 {
     match form_fields::read_shape(file) {
@@ -162,15 +237,25 @@ fn map_file(file: &[u8], fill: u8, out: &mut [u8]) -> usize
             let mut numbers = [0u32; CELLS];
             let mut states = [0u8; CELLS];
             form_lists::read_lists(file, &mut kinds, &mut operands, &mut numbers, &mut states);
-            map_read(file, shape, fill, &kinds, &operands, &numbers, &states, out)
+            map_read(
+                file,
+                shape,
+                fill,
+                page,
+                &kinds,
+                &operands,
+                &numbers,
+                &states,
+                out,
+            )
         }
     }
 }
 
-// The map's text of a file of either form and a fill's choice, at the front of `out`, which has room for any.
-pub fn write_map(file: &[u8], fill: u8, out: &mut [u8; 663552]) -> usize
-    ensures { λ r. ⌜ Writes (mapText (now (file .entry)) fill) (now (out .entry)) 0 r (now (out .exit)) ⌝ }
+// The map's text of a file of either form, a fill's choice and a page size, if there is one, at the front of `out`, which has room for any.
+pub fn write_map(file: &[u8], fill: u8, page: Opt, out: &mut [u8; 663552]) -> usize
+    ensures { λ r. ⌜ Writes (mapText (now (file .entry)) fill page) (now (out .entry)) 0 r (now (out .exit)) ⌝ }
     ensures { λ r. ⌜ r ≤ mapRoom ⌝ }
 {
-    map_file(file, fill, out)
+    map_file(file, fill, page, out)
 }

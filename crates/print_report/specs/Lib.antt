@@ -1,5 +1,6 @@
 pub mod Blocks
 pub mod Places
+pub mod Printed
 pub mod Report
 pub mod Room
 pub mod Steps

@@ -9,3 +9,11 @@ Few n = n < 100000000000
 abbrev pub AllFew : List ℕ → Type 0
 AllFew [] = Unit {0}
 AllFew (n ∷ ns) = Few n × AllFew ns
+
+-- at most twenty digits: what 64 bits hold
+abbrev pub Word : ℕ → Type 0
+Word n = n < 18446744073709551616
+
+abbrev pub AllWords : List ℕ → Type 0
+AllWords [] = Unit {0}
+AllWords (n ∷ ns) = Word n × AllWords ns

@@ -53,7 +53,7 @@ fn ascii(d: u64) -> u8
 }
 
 // Writes bytes that are known to fit, and answers the place behind them.
-fn write_word(out: &mut [u8], at: usize, word: &[u8]) -> usize
+pub fn write_word(out: &mut [u8], at: usize, word: &[u8]) -> usize
     requires { ⌜ at + length (now word) ≤ length (now out) ⌝ }
     ensures { λ r. ⌜ Writes (now (word .entry)) (now (out .entry)) at r (now (out .exit)) ⌝ }
 {
@@ -103,7 +103,7 @@ fn line_end(size: usize, at: usize, word: usize, numbers: &[u64]) -> Written
 }
 
 // Writes numbers that are known to fit, a space before each.
-fn write_numbers(out: &mut [u8], at: usize, numbers: &[u64]) -> usize
+pub fn write_numbers(out: &mut [u8], at: usize, numbers: &[u64]) -> usize
     requires { ⌜ at + length (spaced (now numbers)) ≤ length (now out) ⌝ }
     ensures { λ r. ⌜ Writes (spaced (now (numbers .entry))) (now (out .entry)) at r (now (out .exit)) ⌝ }
 {
@@ -298,6 +298,18 @@ pub fn put_refusal(out: &mut [u8], at: usize, refusal: Refusal) -> Written
             let numbers = [number, p, q];
             put_line(out, at, b"refused", &numbers)
         }
+    }
+}
+
+// The same where it is known to fit: a refusal's line has at most 71 bytes, since its number has two digits at most and each of a place twenty.
+pub fn write_refusal(out: &mut [u8], at: usize, why: Refusal) -> usize
+    requires { ⌜ at + 71 ≤ length (now out) ⌝ }
+    ensures { λ r. ⌜ Writes (refusalText why) (now (out .entry)) at r (now (out .exit)) ⌝ }
+    ensures { λ r. ⌜ r ≤ at + 71 ⌝ }
+{
+    match put_refusal(out, at, why) {
+        Written::To(end) => end,
+        Written::TooShort => at,
     }
 }
 

@@ -1,39 +1,69 @@
 // The program behind tools/convert: a layout file from standard input, in the other form.
 //
-//     converter FORM    FORM is the form that is written, 1 or 2
+//     prog_convert FORM    FORM is the form that is written, 1 or 2
 //
 // A refusal is one line on standard output, `refused` with its number and place.
 use form_convert::Conversion;
 use refusal::Opt;
+ghost use mathlib.Core.Path.{_≡_};
 ghost use Prim.Native.Nat.{_≤_};
 ghost use lib.ListN.{length};
-ghost use Rattle.prog_convert.specs.Room.{longestFile, Held};
+ghost use Rattle.prog_convert.specs.Program.{fileRoom, form1Text, form2Text, convertText, Handed, Shows, Converted};
+ghost use Rattle.prog_convert.specs.Room.{Held};
 
 // Room for the longest file and a byte more, so that none is cut to a sound one.
 const FILE: usize = 65_537;
 
-// The file in the other form. The buffer is never too short for it.
-fn convert(form: u32, file: &[u8], out: &mut [u8]) -> Conversion
-    requires { ⌜ longestFile ≤ length (now out) ⌝ }
-    ensures { λ r. ⌜ Held (length (now (out .entry))) r ⌝ }
+// Hands an answer on: the file that stands in the front of the buffer, or the refusal's line. How many bytes that is.
+fn hand(answer: Conversion, out: &mut [u8]) -> usize
+    requires { ⌜ fileRoom ≤ length (now out) ⌝ }
+    ensures { λ r. ⌜ Handed answer (now (out .entry)) r (now (out .exit)) ⌝ }
 {
-    if form == 1 {
-        return form_convert::to_form1(file, out);
+    match answer {
+        Conversion::Refused(why) => {
+            let end = print_text::write_refusal(out, 0, why);
+            prog_args::print(out, end as u64)
+        }
+        Conversion::Converted(length) => prog_args::print(out, length),
     }
-    form_convert::to_form2(file, out)
 }
 
-fn write(form: u32, file: &[u8], out: &mut [u8])
-    requires { ⌜ longestFile ≤ length (now out) ⌝ }
+// The file in form 1, handed to standard output from the front of `out`, or the line of a refusal: how many bytes. The buffer is never too short.
+fn write_form1(file: &[u8], out: &mut [u8]) -> usize
+    requires { ⌜ length (now out) ≡ fileRoom ⌝ }
+    ensures { λ r. ⌜ Shows (form1Text (now (file .entry))) r (now (out .exit)) ⌝ }
 {
-    match convert(form, file, out) {
-        Conversion::Refused(why) => {
-            prog_args::refuse(why);
-        }
-        Conversion::Converted(length) => {
-            prog_args::print(out, length);
-        }
+    let answer = form_convert::to_form1(file, out);
+    hand(answer, out)
+}
+
+// The same in form 2.
+fn write_form2(file: &[u8], out: &mut [u8]) -> usize
+    requires { ⌜ length (now out) ≡ fileRoom ⌝ }
+    ensures { λ r. ⌜ Shows (form2Text (now (file .entry))) r (now (out .exit)) ⌝ }
+{
+    let answer = form_convert::to_form2(file, out);
+    hand(answer, out)
+}
+
+fn write(form: u32, file: &[u8], out: &mut [u8]) -> usize
+    requires { ⌜ length (now out) ≡ fileRoom ⌝ }
+    ensures { λ r. ⌜ Shows (convertText form (now (file .entry))) r (now (out .exit)) ⌝ }
+{
+    if form == 1 {
+        return write_form1(file, out);
     }
+    write_form2(file, out)
+}
+
+// Reads a file and hands it on in the form that is asked: how many bytes that is.
+fn run(form: u32) -> usize
+    ensures { λ r. ⌜ Converted form r ⌝ }
+{
+    let mut file = [0u8; FILE];
+    let n = io::read_full(0, &mut file);
+    let mut out = [0u8; FILE];
+    write(form, &file[..n], &mut out)
 }
 
 fn main() {
@@ -46,8 +76,5 @@ fn main() {
     if form > 2 {
         return;
     }
-    let mut file = [0u8; FILE];
-    let n = io::read_full(0, &mut file);
-    let mut out = [0u8; FILE];
-    write(form, &file[..n], &mut out);
+    run(form);
 }

@@ -53,3 +53,15 @@ puts-writes {text} {old} {at} {e} {new} h w =
       place = ap To (w .place) ∙ sym (end-fits (length old) at (length text) h);
       buffer = w .buffer ∙ sets-eq text old at h ∙ sym (pick-true _ _ (le-leb (at + length text) (length old) h));
     }
+
+-- What fits is written, and is not too short.
+module _ {text old : List ℕ} {at : ℕ} {r : Written} {new : List ℕ} (fits : at + length text ≤ length old) (p : Puts text old at r new) where
+  pub put-writes : {e : ℕ} → r ≡ To e → Writes text old at e new
+  put-writes {e} q =
+      record {
+        place = fits-of (length old) at (length text) (p .place) q .0;
+        buffer = p .buffer ∙ pick-true _ _ (le-leb (at + length text) (length old) fits) ∙ sym (sets-eq text old at fits);
+      }
+
+  pub put-fits : r ≡ TooShort → ⊥
+  put-fits q = let short = short-of (length old) at (length text) (p .place) q in omega arith

@@ -15,7 +15,7 @@ use Rattle.print_text.specs.Ascii.{ascii}
 use Rattle.print_text.specs.Decimal.{decimal}
 use Rattle.print_text.specs.Theorems.Decimal.{decimal-length}
 use Rattle.print_text.specs.Lines.{spaced, line, placeNumbers, imageText}
-use Rattle.print_text.specs.Lengths.{AllFew}
+use Rattle.print_text.specs.Lengths.{AllFew, AllWords}
 
 -- how long a line is
 pub line-length : (word numbers : List ℕ) → length (line word numbers) ≡ length word + length (spaced numbers) + 1
@@ -26,6 +26,12 @@ unfolding spaced
 spaced-few [] h = omega arith
 spaced-few (n ∷ ns) h =
     omega (arith, length-append (decimal n) (spaced ns), decimal-length 10 n (omega (arith, h .0)), spaced-few ns (h .1))
+
+pub spaced-words : (ns : List ℕ) → AllWords ns → length (spaced ns) ≤ 21 * length ns
+unfolding spaced
+spaced-words [] h = omega arith
+spaced-words (n ∷ ns) h =
+    omega (arith, length-append (decimal n) (spaced ns), decimal-length 19 n (omega (arith, h .0)), spaced-words ns (h .1))
 
 pub number-few : (r : Refusal) → numberOf r < 20
 number-few BankCount = omega arith

@@ -7,8 +7,8 @@ use Rattle.refusal.specs.Refusals.{numberOf, placeOf}
 use Rattle.refusal.specs.declared.Refusal.{Refusal}
 use Rattle.print_text.specs.Ascii.{ascii}
 use Rattle.print_text.specs.Lines.{line, blockWord, passesText, placeNumbers, refusalText, blocksText, imageText, layoutText}
-use Rattle.print_text.specs.Laws.Lengths.{image-few, line-length, number-few, spaced-few, two-places}
-use Rattle.print_text.specs.Lengths.{AllFew, Few}
+use Rattle.print_text.specs.Laws.Lengths.{image-few, line-length, number-few, spaced-few, spaced-words, two-places}
+use Rattle.print_text.specs.Lengths.{AllFew, Few, AllWords}
 
 -- A line of a word and numbers.
 pub line-few : (word ns : List ℕ) → AllFew ns → length (line word ns) ≤ length word + 12 * length ns + 1
@@ -18,6 +18,17 @@ line-few word ns h = omega (arith, line-length word ns, spaced-few ns h)
 pub refusal-few : (r : Refusal) → AllFew (placeNumbers (placeOf r)) → length (refusalText r) ≤ 44
 refusal-few r h =
     omega (arith, line-few (ascii "refused") (numberOf r ∷ placeNumbers (placeOf r)) (omega (arith, number-few r), h), two-places (placeOf r))
+
+-- The same for every place that 64 bits hold.
+pub refusal-within : (why : Refusal) → AllWords (placeNumbers (placeOf why)) → length (refusalText why) ≤ 71
+refusal-within why h =
+    let ns = numberOf why ∷ placeNumbers (placeOf why) in
+    omega (
+      arith,
+      line-length (ascii "refused") ns,
+      spaced-words ns (omega (arith, number-few why), h),
+      two-places (placeOf why),
+    )
 
 -- The lines of blocks: 30 bytes for each.
 pub blocks-few : (n : ℕ) (offsets sizes : List ℕ) → AllFew offsets → AllFew sizes → length (blocksText n offsets sizes) ≤ 30 * n

@@ -68,7 +68,7 @@ returns c =
     let at-read-shape = at-why .before .before in
     let start = at-read-shape .before .before .before in
     let a = start .args in (
-      written-as (broken-text (a .file .now) (a .fill) _ (sym (at-read-shape .read-shape .ensures .is) ∙ at-why .why .given .1))
+      written-as (broken-text (a .file .now) (a .fill) (a .page) _ (sym (at-read-shape .read-shape .ensures .is) ∙ at-why .why .given .1))
           (c .before .before .write-refused .ensures .0),
       omega (arith, c .before .before .write-refused .ensures .1),
     )
