@@ -214,6 +214,13 @@ module _ (load s f : ℕ) (given : List Piece) (last : Bool) (rest : ℕ → Lis
   end′ ends e = refl
   end′ bad e = absurd (omega arith)
 
+-- a line that may stand is not bad
+pub allowed-good : (load : ℕ) (given : List Piece) (s f : ℕ) (i : Item) → admits load given (asLine s f i) ≡ true → i ≡ bad → ⊥
+allowed-good load given s f (gives a l t) e z = let y : _≡_ {A = ℕ} 0 1 = cc in omega arith
+allowed-good load given s f (passes t) e z = let y : _≡_ {A = ℕ} 0 1 = cc in omega arith
+allowed-good load given s f ends e z = let y : _≡_ {A = ℕ} 0 1 = cc in omega arith
+allowed-good load given s f bad e z = let y : _≡_ {A = ℕ} 0 1 = cc in omega arith
+
 -- ---- many lines
 
 unfoldable pub laters : ℕ → Read → Read

@@ -6,7 +6,7 @@ use Prim.Native.Nat.{ℕ, zero, suc, _+_, _<_, _≤_}
 use native.Mathlib.Nat.{le-antisymm}
 use native.Mathlib.Numerals.{add-one}
 use native.Mathlib.Omega.{arith}
-use native.Mathlib.Decide.{decLt}
+use native.Mathlib.Decide.{decLt, ℕ-discrete}
 use lib.Dec.{ltb}
 use lib.ListN.{length, drop}
 use borrow.Author.Tests.{lt-ltb, le-ltb}
@@ -21,14 +21,14 @@ use Rattle.record_fault.specs.declared.Fault.the-variants.{Good, At}
 use Rattle.record_fault.specs.Reading.{formatBy, Read, sound, faulty, later, newPieces, stateAfter, isNew, isNone, goOn, readFrom, readText}
 use Rattle.record_fault.specs.Trail.{Trail, trail, lineAt, itemAt, nextOf}
 use Rattle.record_fault.specs.Laws.TrailLaws.{said, moved, next-at, next-state, next-given}
-use Rattle.record_fault.specs.Steps.{firstBy, Stepped, highest, rises, closingOf, Scanned, ScanIs}
+use Rattle.record_fault.specs.Steps.{firstBy, IsGood, AllGood, Stepped, highest, rises, closingOf, Scanned, ScanIs}
 use Rattle.record_fault.specs.Laws.Steps.{leavesOf, admits, highAfter, admitOf}
 use Rattle.record_fault.specs.declared.Step.{Step}
 use Rattle.record_fault.specs.declared.Admit.{Admit}
 use Rattle.record_fault.specs.declared.Admit.the-variants.{No, High}
 use Rattle.record_fault.specs.declared.Scan.{Scan}
 use Rattle.record_fault.specs.declared.Scan.the-variants.{Whole, Broken}
-use Rattle.record_fault.proofs.Laws.{lines-at, lines-past, leaves-new, new-append, high-new, on′, off′, end′, laters, laters-faulty, laters-sound}
+use Rattle.record_fault.proofs.Laws.{allowed-good, lines-at, lines-past, leaves-new, new-append, high-new, on′, off′, end′, laters, laters-faulty, laters-sound}
 
 -- ---- whether bytes are new
 
@@ -79,6 +79,7 @@ pub record Scanning (format load : ℕ) (text : List ℕ) (at state high : ℕ) 
   pub top : high ≡ highest (trail format text n .given)
   pub order : ascend ≡ rises format text n
   pub left : n + length (linesOf (drop at text)) ≡ length (linesOf text)
+  pub good : AllGood format text n
   pub reads : readText format load text ≡ reading format load text n
 
 read-step : (f : Format) (load : ℕ) (text : List ℕ) (at state : ℕ) (given : List Piece) → at < length text
@@ -98,7 +99,7 @@ no-of false x e = refl
 module _ (format load : ℕ) (text : List ℕ) where
   pub scanning-starts : Scanning format load text 0 0 0 true 0
   unfolding trail laters highest rises
-  scanning-starts = record { few = omega arith; inside = omega arith; place = refl; force = refl; top = refl; order = refl; left = omega arith; reads = refl }
+  scanning-starts = record { few = omega arith; inside = omega arith; place = refl; force = refl; top = refl; order = refl; left = omega arith; good = λ k z. absurd (omega arith); reads = refl }
 
   module _ {at state high : ℕ} {ascend : Bool} {n : ℕ} (w : Scanning format load text at state high ascend n) where
     abbrev now : Trail
@@ -150,6 +151,12 @@ module _ (format load : ℕ) (text : List ℕ) where
             order = still f u;
             left =
                 omega (arith, w .left, ap length (lines-at text at h), ap (λ (x : ℕ). length (linesOf (drop x text))) (s .next));
+            good = λ k z.
+                elim (ℕ-discrete k n) [
+                  | yes e ↦ subst (λ (j : ℕ). IsGood format (trail format text j .state) (lineAt text (trail format text j .at))) (sym e)
+                      (allowed-good load (now .given) (now .state) first item allowed)
+                  | no e ↦ w .good k (elim (decLt k n) [ yes q ↦ q | no q ↦ absurd (e (omega arith)) ])
+                ];
             reads = ahead ∙ ap (reading format load text) (sym (add-one n));
           }
 
@@ -187,6 +194,7 @@ module _ (format load : ℕ) (text : List ℕ) where
                       ∙ laters-sound n (now .given);
                   top = w .top;
                   order = w .order;
+                  good = w .good;
                   all =
                       omega
                       (arith, w .left, ap length (lines-at text at h), ap length (lines-past text (nextOf text at) (omega (arith, p, s .next))));

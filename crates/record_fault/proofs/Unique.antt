@@ -19,6 +19,8 @@ use Rattle.record_fault.proofs.line_at_fault.Kinds as line-at-fault-kin
 use Rattle.record_fault.proofs.line_at_fault.Reads as line-at-fault-reads
 use Rattle.record_fault.proofs.scan_lines.Kinds as scan-lines-kinds
 use Rattle.record_fault.proofs.scan_lines.Reads as scan-lines-reads
+use Rattle.record_fault.proofs.known_line.Kinds as known-line-kinds
+use Rattle.record_fault.proofs.known_line.Reads as known-line-reads
 use Rattle.record_fault.proofs.take_line.Kinds as take-line-kinds
 use Rattle.record_fault.proofs.take_line.Reads as take-line-reads
 
@@ -33,7 +35,10 @@ one-step r s p q =
     ap₂ (λ (l : Line) (n : ℕ). record { line = l; stop = r .stop; next = n }) lines nexts
     ∙ ap (λ (m : ℕ). record { line = s .line; stop = m; next = s .next }) stops
 
-pub take-line-unique : OneOutcome 1 take-line-kinds.ps take-line-kinds.r take-line-reads.Learnt
+pub known-line-unique : OneOutcome 2 known-line-kinds.ps known-line-kinds.r known-line-reads.Learnt
+known-line-unique κs a x y e f p q = one-step x y p q
+
+pub take-line-unique : OneOutcome 2 take-line-kinds.ps take-line-kinds.r take-line-reads.Learnt
 take-line-unique κs a x y e f p q = one-step x y p q
 
 module _ (format load : ℕ) (text : List ℕ) where
@@ -53,5 +58,5 @@ module _ (format load : ℕ) (text : List ℕ) where
   one-scan (Broken n) (Whole m k b) p q = absurd (sound-or-faulty (q .reads) p)
   one-scan (Broken n) (Broken m) p q = let e = sym p ∙ q in let same : n ≡ m = cc in ap Broken same
 
-pub scan-lines-unique : OneOutcome 1 scan-lines-kinds.ps scan-lines-kinds.r scan-lines-reads.Learnt
-scan-lines-unique κs a x y e f p q = one-scan (a .0) (a .1 .1 .0) (a .1 .0 .now) x y p q
+pub scan-lines-unique : OneOutcome 2 scan-lines-kinds.ps scan-lines-kinds.r scan-lines-reads.Learnt
+scan-lines-unique κs a x y e f p q = one-scan (a .0) (a .1 .1 .1 .0) (a .1 .0 .now) x y p q

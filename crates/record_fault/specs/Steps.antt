@@ -2,15 +2,16 @@
 use mathlib.Core.Path.{_≡_}
 use mathlib.Core.Bool.{Bool, true, false, _&&_, _||_}
 use mathlib.Core.List.{List, [], _∷_}
-use Prim.Native.Nat.{ℕ, zero, suc, _+_, _-_, _<_, _≤_, max}
+use Prim.Native.Nat.{ℕ, zero, suc, _+_, _-_, _*_, _<_, _≤_, max, min}
 use lib.Dec.{ltb, leb, eqb}
 use lib.ListN.{length, take, drop}
 use Rattle.refusal.specs.Pick.{pick}
-use Rattle.record_lines.specs.Items.{Says}
+use Rattle.record_lines.specs.Digits.{pairAt}
+use Rattle.record_lines.specs.Items.{bad, Says}
 use Rattle.record_lines.specs.Lines.{linesOf}
 use Rattle.record_lines.specs.Pieces.{Piece, endOf}
 use Rattle.record_srec_line.specs.Srec.{firstOf}
-use Rattle.record_fault.specs.Reading.{sound, faulty, newPieces, isNew, readText}
+use Rattle.record_fault.specs.Reading.{formatBy, sound, faulty, newPieces, isNew, readText}
 use Rattle.record_fault.specs.Trail.{trail, lineAt, itemAt, nextOf}
 use Rattle.record_fault.specs.declared.Step.{Step}
 use Rattle.record_fault.specs.declared.Admit.{Admit}
@@ -21,6 +22,17 @@ use Rattle.record_fault.specs.declared.Scan.the-variants.{Whole, Broken}
 -- Where in a line its data's first digit stands.
 abbrev pub firstBy : ℕ → List ℕ → ℕ
 firstBy format line = pick (eqb format 0) 9 (firstOf line)
+
+-- A line is not bad.
+abbrev pub IsGood : ℕ → ℕ → List ℕ → Type 0
+IsGood format state line = formatBy format state line ≡ bad → ⊥
+
+-- How long the line at a place is by its count, and where it ends by that, at the latest with the text.
+abbrev pub longBy : ℕ → List ℕ → ℕ → ℕ
+longBy format text at = pick (eqb format 0) (11 + 2 * pairAt text (at + 1)) (4 + 2 * pairAt text (at + 2))
+
+abbrev pub stopBy : ℕ → List ℕ → ℕ → ℕ
+stopBy format text at = pick (ltb (length text - at) 4) (length text) (at + min (longBy format text at) (length text - at))
 
 -- One line.
 pub record Stepped (format : ℕ) (text : List ℕ) (at state : ℕ) (r : Step) : Type 0 where
@@ -63,6 +75,10 @@ rises format text (suc n) =
     let t = trail format text n in
     rises format text n && isNew (newPieces (itemAt format text (t .at) (t .state))) 0 (highest (t .given))
 
+-- None of the first n lines is bad.
+abbrev pub AllGood : ℕ → List ℕ → ℕ → Type 0
+AllGood format text n = (k : ℕ) → k < n → IsGood format (trail format text k .state) (lineAt text (trail format text k .at))
+
 -- The end record, with `next` the place behind it.
 abbrev pub closingOf : ℕ → ℕ → Bool → ℕ → ℕ → Scan
 closingOf n high ascend next len = pick (ltb next len) (Broken (n + 1)) (Whole n high ascend)
@@ -73,6 +89,7 @@ pub record Scanned (format load : ℕ) (text : List ℕ) (lines high : ℕ) (asc
   pub top : high ≡ highest (trail format text lines .given)
   pub order : ascend ≡ rises format text lines
   pub all : suc lines ≡ length (linesOf text)
+  pub good : AllGood format text lines
 
 abbrev pub ScanIs : ℕ → ℕ → List ℕ → Scan → Type 0
 ScanIs format load text (Whole lines high ascend) = Scanned format load text lines high ascend

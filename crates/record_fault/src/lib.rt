@@ -5,9 +5,10 @@ ghost use mathlib.Core.Bool.{_&&_};
 ghost use Prim.Native.Nat.{_+_, _*_, _≤_, _<_, max, min};
 ghost use lib.ListN.{length};
 ghost use Rattle.record_lines.specs.Items.{Says};
+ghost use Rattle.record_lines.specs.Spelling.{Spells};
 ghost use Rattle.record_fault.specs.Reading.{formatBy, isNew, readText};
-ghost use Rattle.record_fault.specs.Trail.{trail};
-ghost use Rattle.record_fault.specs.Steps.{firstBy, Stepped, leavesBy, highest, rises, admitBy, closingOf, ScanIs};
+ghost use Rattle.record_fault.specs.Trail.{trail, lineAt};
+ghost use Rattle.record_fault.specs.Steps.{firstBy, IsGood, longBy, stopBy, Stepped, leavesBy, highest, rises, admitBy, closingOf, ScanIs};
 ghost use Rattle.record_fault.specs.Outcome.{faultOf};
 
 // A line that was read, where its characters end, and where the next one begins.
@@ -36,13 +37,26 @@ pub enum Fault {
 }
 
 // What a line says in a format: 0 is Intel HEX, every other number S-records.
-fn line_in(format: u8, line: &[u8], state: u16) -> Line
+fn line_in(format: u8, line: &[u8], t: &[u8; 256], state: u16) -> Line
+    requires { ⌜ Spells (now t) ⌝ }
     ensures { λ r. ⌜ Says (now (line .entry)) state (firstBy format (now (line .entry))) r (formatBy format state (now (line .entry))) ⌝ }
 {
     if format == 0 {
-        return record_ihex_line::line_of(line, state);
+        return record_ihex_line::line_of(line, t, state);
     }
-    record_srec_line::line_of(line, state)
+    record_srec_line::line_of(line, t, state)
+}
+
+// The same of a line that is not bad.
+fn known_in(format: u8, line: &[u8], t: &[u8; 256], state: u16) -> Line
+    requires { ⌜ Spells (now t) ⌝ }
+    requires { ⌜ IsGood format state (now line) ⌝ }
+    ensures { λ r. ⌜ Says (now (line .entry)) state (firstBy format (now (line .entry))) r (formatBy format state (now (line .entry))) ⌝ }
+{
+    if format == 0 {
+        return record_ihex_line::known_line(line, t, state);
+    }
+    record_srec_line::known_line(line, t, state)
 }
 
 fn least(a: usize, b: usize) -> usize
@@ -51,19 +65,85 @@ fn least(a: usize, b: usize) -> usize
     if a < b { a } else { b }
 }
 
-// The line that begins at a place; behind the text it is empty.
-pub fn take_line(format: u8, text: &[u8], at: usize, state: u16) -> Step
+// How long a line is by its count; 4 characters of it are there.
+fn long_by(format: u8, text: &[u8], t: &[u8; 256], at: usize) -> usize
+    requires { ⌜ Spells (now t) ⌝ }
+    requires { ⌜ at + 3 < length (now text) ⌝ }
+    ensures { λ r. ⌜ (r ≡ longBy format (now (text .entry)) at) × (r ≤ 521) ⌝ }
+{
+    if format == 0 {
+        let bytes = record_lines::pair_inside(text, t, at + 1) as usize;
+        return 11 + 2 * bytes;
+    }
+    let bytes = record_lines::pair_inside(text, t, at + 2) as usize;
+    4 + 2 * bytes
+}
+
+// Where the line that begins at a place ends by its count, or the end of the text.
+fn stop_by(format: u8, text: &[u8], t: &[u8; 256], at: usize) -> usize
+    requires { ⌜ Spells (now t) ⌝ }
+    requires { ⌜ at ≤ length (now text) ⌝ }
+    ensures { λ r. ⌜ (r ≡ stopBy format (now (text .entry)) at) × (at ≤ r) × (r ≤ length (now (text .entry))) ⌝ }
+{
+    let left = text.len() - at;
+    if left < 4 {
+        return text.len();
+    }
+    at + least(long_by(format, text, t, at), left)
+}
+
+// The line that begins at a place, whose end is searched for; behind the text it is empty.
+fn search_line(format: u8, text: &[u8], t: &[u8; 256], at: usize, state: u16) -> Step
+    requires { ⌜ Spells (now t) ⌝ }
     ensures { λ r. ⌜ Stepped format (now (text .entry)) at state r ⌝ }
 {
     let cut = record_lines::line_from(text, at);
     let stop = cut.stop;
     let end = least(stop, text.len());
     let start = least(at, end);
-    let line = line_in(format, &text[start..end], state);
+    let line = line_in(format, &text[start..end], t, state);
     Step {
         line,
         stop,
         next: cut.next,
+    }
+}
+
+// The line that begins at a place. A good one ends where its count says, so that its end is searched for only where that is none, or the line bad.
+pub fn take_line(format: u8, text: &[u8], t: &[u8; 256], at: usize, state: u16) -> Step
+    requires { ⌜ Spells (now t) ⌝ }
+    requires { ⌜ at ≤ length (now text) ⌝ }
+    ensures { λ r. ⌜ Stepped format (now (text .entry)) at state r ⌝ }
+{
+    let stop = stop_by(format, text, t, at);
+    let width = record_lines::end_at(text, stop);
+    if width == record_lines::NO_END {
+        return search_line(format, text, t, at, state);
+    }
+    let line = line_in(format, &text[at..stop], t, state);
+    if line.kind == record_lines::BAD {
+        return search_line(format, text, t, at, state);
+    }
+    Step {
+        line,
+        stop,
+        next: stop + width as usize,
+    }
+}
+
+// The line that begins at a place, where it is known not to be bad: its digits are not looked at again.
+pub fn known_line(format: u8, text: &[u8], t: &[u8; 256], at: usize, state: u16) -> Step
+    requires { ⌜ Spells (now t) ⌝ }
+    requires { ⌜ (at ≤ length (now text)) × IsGood format state (lineAt (now text) at) ⌝ }
+    ensures { λ r. ⌜ Stepped format (now (text .entry)) at state r ⌝ }
+{
+    let stop = stop_by(format, text, t, at);
+    let width = record_lines::end_at(text, stop);
+    let line = known_in(format, &text[at..stop], t, state);
+    Step {
+        line,
+        stop,
+        next: stop + width as usize,
     }
 }
 
@@ -94,7 +174,8 @@ fn both(a: bool, b: bool) -> bool
 }
 
 // Whether no byte from `first` on and below `end` is among those that the first n lines give.
-fn is_new(format: u8, text: &[u8], n: usize, first: u64, end: u64) -> bool
+fn is_new(format: u8, text: &[u8], t: &[u8; 256], n: usize, first: u64, end: u64) -> bool
+    requires { ⌜ Spells (now t) ⌝ }
     ensures { λ r. ⌜ r ≡ isNew (trail format (now (text .entry)) n .given) first end ⌝ }
 {
     let mut at = 0usize;
@@ -102,7 +183,7 @@ fn is_new(format: u8, text: &[u8], n: usize, first: u64, end: u64) -> bool
     let mut ok = true;
     let mut k = 0usize;
     while k < n {
-        let s = take_line(format, text, at, state);
+        let s = take_line(format, text, t, at, state);
         let line = s.line;
         ok = both(ok, leaves(line.kind, line.address, line.count, first, end));
         at = s.next;
@@ -113,14 +194,23 @@ fn is_new(format: u8, text: &[u8], n: usize, first: u64, end: u64) -> bool
 }
 
 // The same, where the highest end of those bytes is known: "while records ascend, nothing need be held against anything".
-fn is_fresh(format: u8, text: &[u8], n: usize, first: u64, end: u64, high: u64) -> bool
+fn is_fresh(
+    format: u8,
+    text: &[u8],
+    t: &[u8; 256],
+    n: usize,
+    first: u64,
+    end: u64,
+    high: u64,
+) -> bool
+    requires { ⌜ Spells (now t) ⌝ }
     requires { ⌜ high ≡ highest (trail format (now text) n .given) ⌝ }
     ensures { λ r. ⌜ r ≡ isNew (trail format (now (text .entry)) n .given) first end ⌝ }
 {
     if high <= first {
         return true;
     }
-    is_new(format, text, n, first, end)
+    is_new(format, text, t, n, first, end)
 }
 
 fn larger(a: u64, b: u64) -> u64
@@ -133,6 +223,7 @@ fn larger(a: u64, b: u64) -> u64
 fn may_stand(
     format: u8,
     text: &[u8],
+    t: &[u8; 256],
     n: usize,
     load: u32,
     kind: u8,
@@ -140,6 +231,7 @@ fn may_stand(
     count: u8,
     high: u64,
 ) -> Admit
+    requires { ⌜ Spells (now t) ⌝ }
     requires { ⌜ high ≡ highest (trail format (now text) n .given) ⌝ }
     ensures { λ r. ⌜ r ≡ admitBy load (trail format (now (text .entry)) n .given) kind address count high ⌝ }
 {
@@ -160,7 +252,7 @@ fn may_stand(
     if end > 4_294_967_296 {
         return Admit::No;
     }
-    if !is_fresh(format, text, n, first, end, high) {
+    if !is_fresh(format, text, t, n, first, end, high) {
         return Admit::No;
     }
     Admit::High(larger(high, end))
@@ -178,7 +270,8 @@ fn closing(n: usize, high: u64, ascend: bool, next: usize, len: usize) -> Scan
 }
 
 // Reads the lines up to the end record, or to the first at fault.
-pub fn scan_lines(format: u8, text: &[u8], load: u32) -> Scan
+pub fn scan_lines(format: u8, text: &[u8], t: &[u8; 256], load: u32) -> Scan
+    requires { ⌜ Spells (now t) ⌝ }
     ensures { λ r. ⌜ ScanIs format load (now (text .entry)) r ⌝ }
 {
     let mut at = 0usize;
@@ -187,7 +280,7 @@ pub fn scan_lines(format: u8, text: &[u8], load: u32) -> Scan
     let mut ascend = true;
     let mut n = 0usize;
     while at < text.len() {
-        let s = take_line(format, text, at, state);
+        let s = take_line(format, text, t, at, state);
         let line = s.line;
         if line.kind == record_lines::END {
             return closing(n, high, ascend, s.next, text.len());
@@ -195,6 +288,7 @@ pub fn scan_lines(format: u8, text: &[u8], load: u32) -> Scan
         let Admit::High(h) = may_stand(
             format,
             text,
+            t,
             n,
             load,
             line.kind,
@@ -218,7 +312,8 @@ pub fn scan_lines(format: u8, text: &[u8], load: u32) -> Scan
 pub fn line_at_fault(format: u8, text: &[u8], load: u32) -> Fault
     ensures { λ r. ⌜ r ≡ faultOf (readText format load (now (text .entry))) ⌝ }
 {
-    match scan_lines(format, text, load) {
+    let t = record_lines::digit_table();
+    match scan_lines(format, text, &t, load) {
         Scan::Whole(_, _, _) => Fault::Good,
         Scan::Broken(line) => Fault::At(line as u64),
     }

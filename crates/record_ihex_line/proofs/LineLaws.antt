@@ -1,6 +1,6 @@
 -- What a line says, by the tests on the way to each return.
 use mathlib.Core.Path.{_≡_, refl, sym, ap, _∙_}
-use mathlib.Core.Bool.{true, false, _&&_, and-eq-true-iff}
+use mathlib.Core.Bool.{Bool, true, false, _&&_, and-eq-true-iff}
 use mathlib.Core.List.{List}
 use Prim.Native.Nat.{ℕ, _+_, _*_, _%_, _≤_}
 use native.Mathlib.Omega.{arith}
@@ -11,8 +11,14 @@ use Rattle.bitvec.specs.Laws.Lists.{length-listOf}
 use Rattle.record_lines.specs.declared.Line.{Line}
 use Rattle.record_lines.specs.Digits.{allDigits, bytesAt}
 use Rattle.record_lines.specs.Items.{Item, gives, passes, ends, bad, plainLine, Says}
+use Rattle.refusal.specs.Pick.{pick}
+use Rattle.record_lines.specs.Spelling.{checkedSum}
 use Rattle.record_lines.specs.Sums.{sumOf}
 use Rattle.record_ihex_line.specs.Format.{wordAt, countOf, fieldOf, typeOf, goodLine, byType, hexItem}
+
+checked : (d : Bool) (n : ℕ) → eqb (pick d n 256) 0 ≡ (d && eqb n 0)
+checked true n = refl
+checked false n = refl
 
 module _ (line : List ℕ) where
   pub no-colon : (x : ℕ) → x ≡ getD line 0 0 → (x ≡ 58 → ⊥) → false ≡ goodLine line
@@ -29,15 +35,12 @@ module _ (line : List ℕ) where
       same-long : length line ≡ 11 + 2 * countOf line
       same-long = long ∙ ap (λ (n : ℕ). 11 + 2 * n) ek
 
-      pub no-digits : allDigits (drop 1 line) ≡ false → false ≡ goodLine line
+      pub by-sum : (s : ℕ) → s ≡ checkedSum line 1 (5 + k) → eqb s 0 ≡ goodLine line
       unfolding goodLine
-      no-digits d = rw (eq-eqb (getD line 0 0) 58 (sym ex ∙ colon), eq-eqb (length line) (11 + 2 * countOf line) same-long, d)
-
-      pub by-sum : (s : ℕ) → allDigits (drop 1 line) ≡ true → s ≡ sumOf (bytesAt line 1 (5 + k)) % 256 → eqb s 0 ≡ goodLine line
-      unfolding goodLine
-      by-sum s d e =
-          rw (eq-eqb (getD line 0 0) 58 (sym ex ∙ colon), eq-eqb (length line) (11 + 2 * countOf line) same-long, d)
-          (ap (λ (n : ℕ). eqb n 0) (e ∙ ap (λ (n : ℕ). sumOf (bytesAt line 1 (5 + n)) % 256) ek))
+      by-sum s e =
+          rw (eq-eqb (getD line 0 0) 58 (sym ex ∙ colon), eq-eqb (length line) (11 + 2 * countOf line) same-long)
+          (ap (λ (n : ℕ). eqb n 0) (e ∙ ap (λ (n : ℕ). checkedSum line 1 (5 + n)) ek)
+          ∙ checked (allDigits (drop 1 line)) (sumOf (bytesAt line 1 (5 + countOf line)) % 256))
 
   -- a good line is as long as its count says
   pub good-long : goodLine line ≡ true → length line ≡ 11 + 2 * countOf line

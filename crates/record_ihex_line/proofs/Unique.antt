@@ -4,6 +4,8 @@ use Prim.Native.Nat.{ℕ}
 use mathlib.Core.List.{List}
 use Rattle.refusal.specs.Laws.Outcome.{OneOutcome, OneView}
 use Rattle.refusal.specs.Laws.Pick.{determined, paired}
+use Rattle.record_ihex_line.proofs.known_line.Kinds as known-line-kinds
+use Rattle.record_ihex_line.proofs.known_line.Reads as known-line-reads
 use Rattle.record_ihex_line.proofs.line_of.Kinds as line-of-kinds
 use Rattle.record_ihex_line.proofs.line_of.Reads as line-of-reads
 use Rattle.record_ihex_line.proofs.put_piece.Kinds as put-piece-kinds
@@ -11,7 +13,10 @@ use Rattle.record_ihex_line.proofs.put_piece.Reads as put-piece-reads
 use Rattle.record_ihex_line.proofs.put_end.Kinds as put-end-kinds
 use Rattle.record_ihex_line.proofs.put_end.Reads as put-end-reads
 
-pub line-of-unique : OneOutcome 1 line-of-kinds.ps line-of-kinds.r line-of-reads.Learnt
+pub known-line-unique : OneOutcome 2 known-line-kinds.ps known-line-kinds.r known-line-reads.Learnt
+known-line-unique κs a x y e f p q = determined (p .answer) (q .answer)
+
+pub line-of-unique : OneOutcome 2 line-of-kinds.ps line-of-kinds.r line-of-reads.Learnt
 line-of-unique κs a x y e f p q = determined (p .answer) (q .answer)
 
 -- the length of the text, and the part that it was written into

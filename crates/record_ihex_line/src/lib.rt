@@ -1,13 +1,14 @@
 // Intel HEX, one line at a time: what a line says, and the lines of a piece of bytes. Document 02, Ticket 1.
 use record_lines::Line;
 ghost use mathlib.Core.Path.{_≡_};
-ghost use mathlib.Core.Bool.{Bool};
+ghost use mathlib.Core.Bool.{Bool, true};
 ghost use mathlib.Core.List.{[], _∷_};
 ghost use Prim.Native.Nat.{_+_, _*_, _/_, _%_, _≤_, _<_, min};
 ghost use lib.ListN.{length, take};
 ghost use Rattle.record_lines.specs.Items.{plainLine, Says};
 ghost use Rattle.record_lines.specs.Pieces.{piece};
 ghost use Rattle.record_lines.specs.Puts.{Puts};
+ghost use Rattle.record_lines.specs.Spelling.{Spells};
 ghost use Rattle.record_ihex_line.specs.Format.{wordAt, goodLine, hexItem, recordText, upperText, hexText, endText};
 
 // "types 00, 01 and 04": data, the end, and the upper half of the addresses that follow
@@ -37,40 +38,38 @@ fn plain(kind: u8, state: u16) -> Line
 }
 
 // Two bytes of a line, the higher first.
-fn word(line: &[u8], i: u16) -> u16
+fn word(line: &[u8], t: &[u8; 256], i: u16) -> u16
+    requires { ⌜ Spells (now t) ⌝ }
     ensures { λ r. ⌜ r ≡ wordAt (now (line .entry)) i ⌝ }
 {
     let at = i as u32;
-    256 * wide(record_lines::pair(line, at)) + wide(record_lines::pair(line, at + 2))
+    256 * wide(record_lines::pair(line, t, at)) + wide(record_lines::pair(line, t, at + 2))
 }
 
 // Whether a line is a colon and as many digits as its count says. "Bytes of a record, checksum included, sum to zero and wrap at 256": checked.
-fn is_good(line: &[u8]) -> bool
+fn is_good(line: &[u8], t: &[u8; 256]) -> bool
+    requires { ⌜ Spells (now t) ⌝ }
     ensures { λ r. ⌜ r ≡ goodLine (now (line .entry)) ⌝ }
 {
     if record_lines::char_at(line, 0) != b':' {
         return false;
     }
-    let count = wide(record_lines::pair(line, 1));
+    let count = record_lines::pair(line, t, 1) as usize;
     if line.len() as u64 != 11 + 2 * (count as u64) {
         return false;
     }
-    if !record_lines::all_digits(line, 1) {
-        return false;
-    }
-    record_lines::sum_pairs(line, 1, 5 + count) == 0
+    record_lines::sum_checked(line, t, 1, 5 + count) == 0
 }
 
-// What a line says while an upper half is in force: "types 00, 01 and 04".
-pub fn line_of(line: &[u8], state: u16) -> Line
+// What a good line says while an upper half is in force: "types 00, 01 and 04".
+pub fn known_line(line: &[u8], t: &[u8; 256], state: u16) -> Line
+    requires { ⌜ Spells (now t) ⌝ }
+    requires { ⌜ goodLine (now line) ≡ true ⌝ }
     ensures { λ r. ⌜ Says (now (line .entry)) state 9 r (hexItem state (now (line .entry))) ⌝ }
 {
-    if !is_good(line) {
-        return plain(record_lines::BAD, state);
-    }
-    let count = record_lines::pair(line, 1);
-    let field = word(line, 3);
-    let kind = record_lines::pair(line, 7);
+    let count = record_lines::pair(line, t, 1);
+    let field = word(line, t, 3);
+    let kind = record_lines::pair(line, t, 7);
     if kind == TYPE_DATA {
         return Line {
             kind: record_lines::DATA,
@@ -91,11 +90,22 @@ pub fn line_of(line: &[u8], state: u16) -> Line
     }
     if kind == TYPE_UPPER {
         if count == 2 {
-            return plain(record_lines::PASS, word(line, 9));
+            return plain(record_lines::PASS, word(line, t, 9));
         }
         return plain(record_lines::BAD, state);
     }
     plain(record_lines::BAD, state)
+}
+
+// What any line says.
+pub fn line_of(line: &[u8], t: &[u8; 256], state: u16) -> Line
+    requires { ⌜ Spells (now t) ⌝ }
+    ensures { λ r. ⌜ Says (now (line .entry)) state 9 r (hexItem state (now (line .entry))) ⌝ }
+{
+    if !is_good(line, t) {
+        return plain(record_lines::BAD, state);
+    }
+    known_line(line, t, state)
 }
 
 // A record has at most 255 bytes.

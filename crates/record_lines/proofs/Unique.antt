@@ -10,10 +10,12 @@ use Rattle.record_lines.proofs.char_at.Kinds as char-at-kinds
 use Rattle.record_lines.proofs.char_at.Reads as char-at-reads
 use Rattle.record_lines.proofs.pair.Kinds as pair-kinds
 use Rattle.record_lines.proofs.pair.Reads as pair-reads
-use Rattle.record_lines.proofs.all_digits.Kinds as all-digits-kinds
-use Rattle.record_lines.proofs.all_digits.Reads as all-digits-reads
-use Rattle.record_lines.proofs.sum_pairs.Kinds as sum-pairs-kinds
-use Rattle.record_lines.proofs.sum_pairs.Reads as sum-pairs-reads
+use Rattle.record_lines.proofs.pair_inside.Kinds as pair-inside-kinds
+use Rattle.record_lines.proofs.pair_inside.Reads as pair-inside-reads
+use Rattle.record_lines.proofs.sum_checked.Kinds as sum-checked-kinds
+use Rattle.record_lines.proofs.sum_checked.Reads as sum-checked-reads
+use Rattle.record_lines.proofs.end_at.Kinds as end-at-kinds
+use Rattle.record_lines.proofs.end_at.Reads as end-at-reads
 use Rattle.record_lines.proofs.sum.Kinds as sum-kinds
 use Rattle.record_lines.proofs.sum.Reads as sum-reads
 use Rattle.record_lines.proofs.put.Kinds as put-kinds
@@ -26,14 +28,17 @@ use Rattle.record_lines.proofs.line_from.Reads as line-from-reads
 pub char-at-unique : OneOutcome 1 char-at-kinds.ps char-at-kinds.r char-at-reads.Learnt
 char-at-unique κs a x y e f p q = determined p q
 
-pub pair-unique : OneOutcome 1 pair-kinds.ps pair-kinds.r pair-reads.Learnt
+pub pair-unique : OneOutcome 2 pair-kinds.ps pair-kinds.r pair-reads.Learnt
 pair-unique κs a x y e f p q = determined p q
 
-pub all-digits-unique : OneOutcome 1 all-digits-kinds.ps all-digits-kinds.r all-digits-reads.Learnt
-all-digits-unique κs a x y e f p q = determined p q
+pub pair-inside-unique : OneOutcome 2 pair-inside-kinds.ps pair-inside-kinds.r pair-inside-reads.Learnt
+pair-inside-unique κs a x y e f p q = determined p q
 
-pub sum-pairs-unique : OneOutcome 1 sum-pairs-kinds.ps sum-pairs-kinds.r sum-pairs-reads.Learnt
-sum-pairs-unique κs a x y e f p q = determined p q
+pub sum-checked-unique : OneOutcome 2 sum-checked-kinds.ps sum-checked-kinds.r sum-checked-reads.Learnt
+sum-checked-unique κs a x y e f p q = determined p q
+
+pub end-at-unique : OneOutcome 1 end-at-kinds.ps end-at-kinds.r end-at-reads.Learnt
+end-at-unique κs a x y e f p q = determined p q
 
 pub sum-unique : OneOutcome 1 sum-kinds.ps sum-kinds.r sum-reads.Learnt
 sum-unique κs a x y e f p q = determined p q

@@ -1,4 +1,5 @@
 pub mod DigitLaws
+pub mod Ends
 pub mod Items
 pub mod Lines
 pub mod Pieces

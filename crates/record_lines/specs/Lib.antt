@@ -4,6 +4,7 @@ pub mod Items
 pub mod Lines
 pub mod Pieces
 pub mod Puts
+pub mod Spelling
 pub mod Sums
 pub mod Telling
 pub mod Uppers

@@ -7,7 +7,8 @@ ghost use Rattle.record_lines.specs.Digits.{letterOf, valueOf, allDigits
 ghost use Rattle.record_lines.specs.Sums.{sumOf};
 ghost use mathlib.Core.Bool.{_&&_};
 ghost use Rattle.record_lines.specs.Lines.{isCr, lfNext};
-ghost use Rattle.record_lines.specs.Cuts.{CutIs};
+ghost use Rattle.record_lines.specs.Cuts.{CutIs, endWidth};
+ghost use Rattle.record_lines.specs.Spelling.{Spells, checkedSum};
 
 // What a line is: bad, with bytes, good without bytes, or the end record.
 pub const BAD: u8 = 0;
@@ -78,43 +79,79 @@ pub fn char_at(line: &[u8], i: u64) -> u8
     }
 }
 
+// What each character stands for, as a table: made once for a file.
+pub fn digit_table() -> [u8; 256]
+    ensures { λ r. ⌜ Spells r ⌝ }
+{
+    let mut t = [16u8; 256];
+    let mut i = 0usize;
+    while i < 256 {
+        t[i] = value(i as u8);
+        i += 1;
+    }
+    t
+}
+
+// A character's value by the table.
+fn value_by(t: &[u8; 256], c: u8) -> u8
+    requires { ⌜ Spells (now t) ⌝ }
+    ensures { λ r. ⌜ r ≡ valueOf c ⌝ }
+{
+    let at = c as usize;
+    t[at]
+}
+
 // The byte that the characters at i and behind it spell.
-pub fn pair(line: &[u8], i: u32) -> u8
+pub fn pair(line: &[u8], t: &[u8; 256], i: u32) -> u8
+    requires { ⌜ Spells (now t) ⌝ }
     ensures { λ r. ⌜ r ≡ pairAt (now (line .entry)) i ⌝ }
 {
     let at = i as u64;
-    let high = value(char_at(line, at));
-    let low = value(char_at(line, at + 1));
+    let high = value_by(t, char_at(line, at));
+    let low = value_by(t, char_at(line, at + 1));
     16 * (high % 16) + low % 16
 }
 
-// Whether all characters from a place on are digits.
-pub fn all_digits(line: &[u8], from: usize) -> bool
-    ensures { λ r. ⌜ r ≡ allDigits (drop from (now (line .entry))) ⌝ }
+// The same of characters that are known to be there.
+pub fn pair_inside(line: &[u8], t: &[u8; 256], i: usize) -> u8
+    requires { ⌜ Spells (now t) ⌝ }
+    requires { ⌜ i + 1 < length (now line) ⌝ }
+    ensures { λ r. ⌜ r ≡ pairAt (now (line .entry)) i ⌝ }
 {
-    let mut i = from;
-    while i < line.len() {
-        if value(line[i]) == 16 {
-            return false;
-        }
-        i += 1;
-    }
-    true
+    let high = value_by(t, line[i]);
+    let low = value_by(t, line[i + 1]);
+    16 * (high % 16) + low % 16
 }
 
-// "Bytes of a record, checksum included, sum to zero and wrap at 256": the wrapping sum of the n bytes that a line spells from a place on.
-pub fn sum_pairs(line: &[u8], from: u16, n: u16) -> u8
-    ensures { λ r. ⌜ r ≡ sumOf (bytesAt (now (line .entry)) from n) % 256 ⌝ }
+fn wide(x: u8) -> u32
+    ensures { λ r. ⌜ (r ≡ x) × (r < 256) ⌝ }
 {
-    let start = from as u32;
-    let count = n as u32;
-    let mut sum = 0u8;
-    let mut j = 0u32;
-    while j < count {
-        sum = std::num::wrapping_add_u8(sum, pair(line, start + 2 * j));
+    x as u32
+}
+
+// "Bytes of a record, checksum included, sum to zero and wrap at 256": the wrapping sum of the n bytes that the characters from a place to the end of
+// the line spell; 256 where one of them is no digit.
+pub fn sum_checked(line: &[u8], t: &[u8; 256], from: usize, n: usize) -> u32
+    requires { ⌜ Spells (now t) ⌝ }
+    requires { ⌜ (length (now line) ≡ from + 2 * n) × (n ≤ 1000) ⌝ }
+    ensures { λ r. ⌜ r ≡ checkedSum (now (line .entry)) from n ⌝ }
+{
+    let mut sum = 0u32;
+    let mut j = 0;
+    while j < n {
+        let i = from + 2 * j;
+        let high = wide(value_by(t, line[i]));
+        let low = wide(value_by(t, line[i + 1]));
+        if 15 < high {
+            return 256;
+        }
+        if 15 < low {
+            return 256;
+        }
+        sum += 16 * high + low;
         j += 1;
     }
-    sum
+    sum % 256
 }
 
 // The same sum, of bytes that are to be written: the first n.
@@ -205,4 +242,23 @@ pub fn line_from(text: &[u8], at: usize) -> Cut
         i += 1;
     }
     Cut { stop: i, next: i }
+}
+
+// How a line ends at a place: with the text, by LF, by CR LF, or not there.
+pub const NO_END: u8 = 3;
+
+// How many characters the end of a line takes that stands at a place.
+pub fn end_at(text: &[u8], at: usize) -> u8
+    ensures { λ r. ⌜ r ≡ endWidth (drop at (now (text .entry))) ⌝ }
+{
+    if text.len() <= at {
+        return 0;
+    }
+    if text[at] == b'\n' {
+        return 1;
+    }
+    if is_cr_lf(text, at) {
+        return 2;
+    }
+    NO_END
 }

@@ -18,7 +18,7 @@ use Rattle.record_lines.specs.Pieces.{Piece}
 use Rattle.record_lines.specs.Laws.Puts.{sets-none}
 use Rattle.record_fault.specs.Reading.{Read, sound, faulty, readText}
 use Rattle.record_fault.specs.Trail.{trail}
-use Rattle.record_fault.specs.Steps.{rises, Scanned, ScanIs}
+use Rattle.record_fault.specs.Steps.{AllGood, rises, Scanned, ScanIs}
 use Rattle.record_fault.specs.declared.Scan.{Scan}
 use Rattle.record_fault.specs.declared.Scan.the-variants.{Whole, Broken}
 use Rattle.record_read.specs.Given.{filled}
@@ -97,6 +97,9 @@ module _ {format load : ℕ} {text : List ℕ} {lines high : ℕ} {ascend : Bool
   pub scanned-ready : {end : ℕ} → end ≡ high - load
       → (end ≡ reach load (trail format text lines .given)) × (ascend ≡ rises format text lines)
   scanned-ready e = (e ∙ ap (λ (h : ℕ). h - load) (s .top), s .order)
+
+  pub scanned-good : AllGood format text lines
+  scanned-good = s .good
 
   pub scanned-reads : {old new : Lent} {r : Blocks} → Reads load (sound (trail format text lines .given)) old r new
       → Reads load (readText format load text) old r new

@@ -12,9 +12,10 @@ ghost use Rattle.refusal.specs.Pick.{pick};
 ghost use Rattle.blocks.specs.Put.{Put};
 ghost use Rattle.record_lines.specs.Digits.{bytesAt};
 ghost use Rattle.record_lines.specs.Pieces.{piece};
+ghost use Rattle.record_lines.specs.Spelling.{Spells};
 ghost use Rattle.record_fault.specs.Reading.{readText, sound};
 ghost use Rattle.record_fault.specs.Trail.{trail};
-ghost use Rattle.record_fault.specs.Steps.{highest, rises};
+ghost use Rattle.record_fault.specs.Steps.{AllGood, highest, rises};
 ghost use Rattle.record_read.specs.Given.{filled};
 ghost use Rattle.record_read.specs.Runs.{isGiven, reach, inBits, runsGiven, blocksGiven};
 ghost use Rattle.record_read.specs.Outcome.{lent, Reads};
@@ -110,11 +111,13 @@ fn join(run: Run, next: Run) -> Run
 fn walk_up(
     format: u8,
     text: &[u8],
+    t: &[u8; 256],
     n: usize,
     load: u32,
     offsets: &mut [u64],
     sizes: &mut [u64],
 ) -> u64
+    requires { ⌜ Spells (now t) × AllGood format (now text) n ⌝ }
     requires { ⌜ rises format (now text) n ≡ true ⌝ }
     ensures { λ r. ⌜ Put (blocksGiven load (trail format (now (text .entry)) n .given)) 0
         (now (offsets .entry)) (now (sizes .entry)) r (now (offsets .exit)) (now (sizes .exit)) ⌝ }
@@ -125,7 +128,7 @@ fn walk_up(
     let mut count = 0u64;
     let mut k = 0usize;
     while k < n {
-        let s = record_fault::take_line(format, text, at, state);
+        let s = record_fault::known_line(format, text, t, at, state);
         let line = s.line;
         let next = extent(line.address, line.count, load);
         count = close(run, next, count, offsets, sizes);
@@ -168,7 +171,8 @@ fn better(best: Run, next: Run, from: u64) -> Run
 }
 
 // The lowest stretch of bytes from a byte on, whatever the order of the records; none where nothing is given there.
-fn lowest(format: u8, text: &[u8], n: usize, load: u32, from: u64) -> Run
+fn lowest(format: u8, text: &[u8], t: &[u8; 256], n: usize, load: u32, from: u64) -> Run
+    requires { ⌜ Spells (now t) × AllGood format (now text) n ⌝ }
     ensures { λ r. ⌜ Lowest (isGiven load (trail format (now (text .entry)) n .given)) from r × Small r ⌝ }
 {
     let mut at = 0usize;
@@ -176,7 +180,7 @@ fn lowest(format: u8, text: &[u8], n: usize, load: u32, from: u64) -> Run
     let mut best = Run { first: 0, end: 0 };
     let mut k = 0usize;
     while k < n {
-        let s = record_fault::take_line(format, text, at, state);
+        let s = record_fault::known_line(format, text, t, at, state);
         let line = s.line;
         best = better(best, extent(line.address, line.count, load), from);
         at = s.next;
@@ -200,12 +204,14 @@ fn behind(next: Run, end: u64) -> u64
 fn walk_any(
     format: u8,
     text: &[u8],
+    t: &[u8; 256],
     n: usize,
     load: u32,
     end: u64,
     offsets: &mut [u64],
     sizes: &mut [u64],
 ) -> u64
+    requires { ⌜ Spells (now t) × AllGood format (now text) n ⌝ }
     requires { ⌜ end ≡ reach load (trail format (now text) n .given) ⌝ }
     ensures { λ r. ⌜ Put (blocksGiven load (trail format (now (text .entry)) n .given)) 0
         (now (offsets .entry)) (now (sizes .entry)) r (now (offsets .exit)) (now (sizes .exit)) ⌝ }
@@ -214,7 +220,7 @@ fn walk_any(
     let mut run = Run { first: 0, end: 0 };
     let mut count = 0u64;
     while from < end {
-        let next = lowest(format, text, n, load, from);
+        let next = lowest(format, text, t, n, load, from);
         count = close(run, next, count, offsets, sizes);
         run = join(run, next);
         from = behind(next, end);
@@ -225,6 +231,7 @@ fn walk_any(
 fn walk(
     format: u8,
     text: &[u8],
+    t: &[u8; 256],
     n: usize,
     load: u32,
     end: u64,
@@ -232,14 +239,15 @@ fn walk(
     offsets: &mut [u64],
     sizes: &mut [u64],
 ) -> u64
+    requires { ⌜ Spells (now t) × AllGood format (now text) n ⌝ }
     requires { ⌜ (end ≡ reach load (trail format (now text) n .given)) × (ascend ≡ rises format (now text) n) ⌝ }
     ensures { λ r. ⌜ Put (blocksGiven load (trail format (now (text .entry)) n .given)) 0
         (now (offsets .entry)) (now (sizes .entry)) r (now (offsets .exit)) (now (sizes .exit)) ⌝ }
 {
     if ascend {
-        return walk_up(format, text, n, load, offsets, sizes);
+        return walk_up(format, text, t, n, load, offsets, sizes);
     }
-    walk_any(format, text, n, load, end, offsets, sizes)
+    walk_any(format, text, t, n, load, end, offsets, sizes)
 }
 
 // Stores the byte of an address, if there is room for it.
@@ -257,37 +265,48 @@ fn put_byte(bytes: &mut [u8], address: u64, load: u32, value: u8)
 }
 
 // Stores the bytes of a line.
-fn fill_line(line: &[u8], first: u16, count: u8, address: u32, load: u32, bytes: &mut [u8])
+fn fill_line(
+    line: &[u8],
+    t: &[u8; 256],
+    first: u16,
+    count: u8,
+    address: u32,
+    load: u32,
+    bytes: &mut [u8],
+)
+    requires { ⌜ Spells (now t) × (first + 2 * count ≤ length (now line)) ⌝ }
     ensures { λ _. ⌜ now (bytes .exit) ≡ filled load (piece address (bytesAt (now (line .entry)) first count) ∷ []) (now (bytes .entry)) ⌝ }
 {
-    let start = first as u32;
+    let start = first as usize;
     let base = address as u64;
-    let n = count as u32;
-    let mut j = 0u32;
+    let n = count as usize;
+    let mut j = 0usize;
     while j < n {
         put_byte(
             bytes,
             base + j as u64,
             load,
-            record_lines::pair(line, start + 2 * j),
+            record_lines::pair_inside(line, t, start + 2 * j),
         );
         j += 1;
     }
 }
 
 // Stores the bytes of the first n lines.
-fn fill(format: u8, text: &[u8], n: usize, load: u32, bytes: &mut [u8])
+fn fill(format: u8, text: &[u8], t: &[u8; 256], n: usize, load: u32, bytes: &mut [u8])
+    requires { ⌜ Spells (now t) × AllGood format (now text) n ⌝ }
     ensures { λ _. ⌜ now (bytes .exit) ≡ filled load (trail format (now (text .entry)) n .given) (now (bytes .entry)) ⌝ }
 {
     let mut at = 0usize;
     let mut state = 0u16;
     let mut k = 0usize;
     while k < n {
-        let s = record_fault::take_line(format, text, at, state);
+        let s = record_fault::known_line(format, text, t, at, state);
         let line = s.line;
         let stop = s.stop;
         fill_line(
             &text[at..stop],
+            t,
             line.first,
             line.count,
             line.address,
@@ -304,6 +323,7 @@ fn fill(format: u8, text: &[u8], n: usize, load: u32, bytes: &mut [u8])
 fn take(
     format: u8,
     text: &[u8],
+    t: &[u8; 256],
     n: usize,
     load: u32,
     end: u64,
@@ -312,6 +332,7 @@ fn take(
     offsets: &mut [u64],
     sizes: &mut [u64],
 ) -> Blocks
+    requires { ⌜ Spells (now t) × AllGood format (now text) n ⌝ }
     requires { ⌜ (end ≡ reach load (trail format (now text) n .given)) × (ascend ≡ rises format (now text) n) ⌝ }
     ensures { λ r. ⌜ Reads load (sound (trail format (now (text .entry)) n .given)) (lent (now (bytes .entry)) (now (offsets .entry)) (now (sizes .entry))) r
         (lent (now (bytes .exit)) (now (offsets .exit)) (now (sizes .exit))) ⌝ }
@@ -322,6 +343,7 @@ fn take(
     let count = walk(
         format,
         text,
+        t,
         n,
         load,
         end,
@@ -335,8 +357,8 @@ fn take(
     if (sizes.len() as u64) < count {
         return Blocks::Refused(Refusal::TooShort(BLOCKS));
     }
-    walk(format, text, n, load, end, ascend, offsets, sizes);
-    fill(format, text, n, load, bytes);
+    walk(format, text, t, n, load, end, ascend, offsets, sizes);
+    fill(format, text, t, n, load, bytes);
     Blocks::Found(count)
 }
 
@@ -353,9 +375,21 @@ pub fn read(
     ensures { λ r. ⌜ Reads load (readText format load (now (text .entry))) (lent (now (bytes .entry)) (now (offsets .entry)) (now (sizes .entry))) r
         (lent (now (bytes .exit)) (now (offsets .exit)) (now (sizes .exit))) ⌝ }
 {
-    let Scan::Whole(n, high, ascend) = record_fault::scan_lines(format, text, load) else {
+    let t = record_lines::digit_table();
+    let Scan::Whole(n, high, ascend) = record_fault::scan_lines(format, text, &t, load) else {
         return Blocks::Refused(Refusal::Malformed(0));
     };
     let end = above(high, load);
-    take(format, text, n, load, end, ascend, bytes, offsets, sizes)
+    take(
+        format,
+        text,
+        &t,
+        n,
+        load,
+        end,
+        ascend,
+        bytes,
+        offsets,
+        sizes,
+    )
 }

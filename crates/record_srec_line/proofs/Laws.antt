@@ -13,6 +13,7 @@ use Rattle.bitvec.specs.Laws.Lists.{length-listOf}
 use Rattle.record_lines.specs.Digits.{allDigits, pairAt, bytesAt}
 use Rattle.refusal.specs.Pick.{pick}
 use Rattle.record_lines.specs.Items.{Item, gives, passes, ends, bad, itemOf, plainLine, Says}
+use Rattle.record_lines.specs.Spelling.{checkedSum}
 use Rattle.record_lines.specs.Sums.{sumOf}
 use Rattle.record_lines.specs.declared.Line.{Line}
 use Rattle.record_srec_line.specs.Srec.{isS, isSound, agrees, numberFrom, countOf, addressOf, dataOf, fits, dataLine, endLine}
@@ -50,6 +51,14 @@ module _ (w state : ℕ) (l : List ℕ) {r : Line} (f g : ℕ) where
 
 -- ---- soundness
 
+no-more : (d x : Bool) → (d && false && x) ≡ false
+no-more true x = refl
+no-more false x = refl
+
+checked : (d : Bool) (n : ℕ) → (d && true && eqb n 255) ≡ eqb (pick d n 256) 255
+checked true n = refl
+checked false n = refl
+
 module _ (l : List ℕ) where
   pub sound-short : length l < 4 → isSound l ≡ false
   unfolding isSound
@@ -61,18 +70,15 @@ module _ (l : List ℕ) where
     sound-letter h = rw (le-leb 4 (length l) long, h)
 
     module _ (s : isS (getD l 0 0) ≡ true) where
-      pub sound-digits : allDigits (drop 2 l) ≡ false → isSound l ≡ false
+      pub sound-count : (length l ≡ 4 + 2 * countOf l → ⊥) → isSound l ≡ false
       unfolding isSound
-      sound-digits h = rw (le-leb 4 (length l) long, s, h)
+      sound-count h = rw (le-leb 4 (length l) long, s, ne-eqb (length l) (4 + 2 * countOf l) h) (no-more (allDigits (drop 2 l)) (eqb (sumOf (bytesAt l 2 (countOf l + 1)) % 256) 255))
 
-      module _ (d : allDigits (drop 2 l) ≡ true) where
-        pub sound-count : (length l ≡ 4 + 2 * countOf l → ⊥) → isSound l ≡ false
-        unfolding isSound
-        sound-count h = rw (le-leb 4 (length l) long, s, d, ne-eqb (length l) (4 + 2 * countOf l) h)
-
-        pub sound-sum : length l ≡ 4 + 2 * countOf l → isSound l ≡ eqb (sumOf (bytesAt l 2 (countOf l + 1)) % 256) 255
-        unfolding isSound
-        sound-sum h = rw (le-leb 4 (length l) long, s, d, eq-eqb (length l) (4 + 2 * countOf l) h)
+      pub sound-sum : length l ≡ 4 + 2 * countOf l → isSound l ≡ eqb (checkedSum l 2 (countOf l + 1)) 255
+      unfolding isSound
+      sound-sum h =
+          rw (le-leb 4 (length l) long, s, eq-eqb (length l) (4 + 2 * countOf l) h)
+          (checked (allDigits (drop 2 l)) (sumOf (bytesAt l 2 (countOf l + 1)) % 256))
 
 -- A sound line is as long as its count says.
 and-both : (a b : Bool) → a && b ≡ true → (a ≡ true) × (b ≡ true)

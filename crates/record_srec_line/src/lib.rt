@@ -1,6 +1,7 @@
 // One S-record, a line of text: written for a piece of an image, and read. No file is walked here.
 use record_lines::Line;
 ghost use mathlib.Core.Path.{_≡_};
+ghost use mathlib.Core.Bool.{true};
 ghost use mathlib.Core.List.{[], _++_};
 ghost use mathlib.Core.Logic.{_⊎_};
 ghost use Prim.Native.Nat.{_+_, _*_, _/_, _%_, _^_, _≤_, _<_, min};
@@ -10,6 +11,7 @@ ghost use Rattle.record_lines.specs.Digits.{bytesText, pairAt};
 ghost use Rattle.record_lines.specs.Items.{plainLine, Says};
 ghost use Rattle.record_lines.specs.Pieces.{piece};
 ghost use Rattle.record_lines.specs.Puts.{Puts};
+ghost use Rattle.record_lines.specs.Spelling.{Spells};
 ghost use Rattle.record_lines.specs.Sums.{sumOf};
 ghost use Rattle.record_srec_line.specs.Srec.{isS, isSound, agrees, countOf, addressOf, dataLine, endLine, headerLine, typed};
 ghost use Rattle.record_srec_line.specs.Srec.{srecItem, firstFor, firstOf};
@@ -24,14 +26,16 @@ fn is_s(c: u8) -> bool
     c == b's'
 }
 
-fn byte(line: &[u8], i: u32) -> u32
+fn byte(line: &[u8], t: &[u8; 256], i: u32) -> u32
+    requires { ⌜ Spells (now t) ⌝ }
     ensures { λ r. ⌜ (r ≡ pairAt (now (line .entry)) i) × (r < 256) ⌝ }
 {
-    record_lines::pair(line, i) as u32
+    record_lines::pair(line, t, i) as u32
 }
 
 // Whether a line is an S, pairs of digits, as many as its count says, and sums to 255.
-fn is_sound(line: &[u8]) -> bool
+fn is_sound(line: &[u8], t: &[u8; 256]) -> bool
+    requires { ⌜ Spells (now t) ⌝ }
     ensures { λ r. ⌜ r ≡ isSound (now (line .entry)) ⌝ }
 {
     if line.len() < 4 {
@@ -40,14 +44,11 @@ fn is_sound(line: &[u8]) -> bool
     if !is_s(line[0]) {
         return false;
     }
-    if !record_lines::all_digits(line, 2) {
+    let count = record_lines::pair(line, t, 2) as usize;
+    if line.len() != 4 + 2 * count {
         return false;
     }
-    let count = record_lines::pair(line, 2) as u16;
-    if line.len() != 4 + 2 * (count as usize) {
-        return false;
-    }
-    record_lines::sum_pairs(line, 2, count + 1) == 255
+    record_lines::sum_checked(line, t, 2, count + 1) == 255
 }
 
 // Whether no width or this one is in force.
@@ -61,15 +62,16 @@ fn does_agree(state: u16, width: u16) -> bool
 }
 
 // The address of an S1 record, 16 bits, and of an S3 record, 32 bits.
-fn address_of(line: &[u8], width: u16) -> u32
+fn address_of(line: &[u8], t: &[u8; 256], width: u16) -> u32
+    requires { ⌜ Spells (now t) ⌝ }
     requires { ⌜ ((width ≡ 2) ⊎ (width ≡ 4)) ⌝ }
     ensures { λ r. ⌜ r ≡ addressOf width (now (line .entry)) ⌝ }
 {
-    let upper = byte(line, 4) * 256 + byte(line, 6);
+    let upper = byte(line, t, 4) * 256 + byte(line, t, 6);
     if width == 2 {
         return upper;
     }
-    let lower = byte(line, 8) * 256 + byte(line, 10);
+    let lower = byte(line, t, 8) * 256 + byte(line, t, 10);
     upper * 65536 + lower
 }
 
@@ -98,7 +100,8 @@ fn plain(kind: u8, state: u16) -> Line
 }
 
 // S1 and S3.
-fn data_line(line: &[u8], width: u16, state: u16) -> Line
+fn data_line(line: &[u8], t: &[u8; 256], width: u16, state: u16) -> Line
+    requires { ⌜ Spells (now t) ⌝ }
     requires { ⌜ ((width ≡ 2) ⊎ (width ≡ 4)) ⌝ }
     requires { ⌜ length (now line) ≡ 4 + 2 * countOf (now line) ⌝ }
     ensures { λ r. ⌜ Says (now (line .entry)) state (4 + 2 * width) r (dataLine width state (now (line .entry))) ⌝ }
@@ -106,12 +109,12 @@ fn data_line(line: &[u8], width: u16, state: u16) -> Line
     if !does_agree(state, width) {
         return plain(record_lines::BAD, state);
     }
-    let count = record_lines::pair(line, 2) as u16;
+    let count = record_lines::pair(line, t, 2) as u16;
     if count <= width {
         return plain(record_lines::BAD, state);
     }
     let left = count - width - 1;
-    let address = address_of(line, width);
+    let address = address_of(line, t, width);
     if (address as u64) + (left as u64) > limit(width) {
         return plain(record_lines::BAD, state);
     }
@@ -125,53 +128,66 @@ fn data_line(line: &[u8], width: u16, state: u16) -> Line
 }
 
 // S9 and S7.
-fn end_line(line: &[u8], width: u16, state: u16) -> Line
+fn end_line(line: &[u8], t: &[u8; 256], width: u16, state: u16) -> Line
+    requires { ⌜ Spells (now t) ⌝ }
     requires { ⌜ width ≤ 4 ⌝ }
     ensures { λ r. ⌜ Says (now (line .entry)) state 0 r (endLine width state (now (line .entry))) ⌝ }
 {
     if !does_agree(state, width) {
         return plain(record_lines::BAD, state);
     }
-    if record_lines::pair(line, 2) as u16 != width + 1 {
+    if record_lines::pair(line, t, 2) as u16 != width + 1 {
         return plain(record_lines::BAD, state);
     }
     plain(record_lines::END, state)
 }
 
 // S0: "A header record S0 is read and skipped."
-fn header_line(line: &[u8], state: u16) -> Line
+fn header_line(line: &[u8], t: &[u8; 256], state: u16) -> Line
+    requires { ⌜ Spells (now t) ⌝ }
     ensures { λ r. ⌜ Says (now (line .entry)) state 0 r (headerLine state (now (line .entry))) ⌝ }
 {
-    if record_lines::pair(line, 2) < 3 {
+    if record_lines::pair(line, t, 2) < 3 {
         return plain(record_lines::BAD, state);
     }
     plain(record_lines::PASS, state)
 }
 
 // A sound line by its type's digit.
-fn typed_line(line: &[u8], digit: u8, state: u16) -> Line
+fn typed_line(line: &[u8], t: &[u8; 256], digit: u8, state: u16) -> Line
+    requires { ⌜ Spells (now t) ⌝ }
     requires { ⌜ length (now line) ≡ 4 + 2 * countOf (now line) ⌝ }
     ensures { λ r. ⌜ Says (now (line .entry)) state (firstFor digit) r (typed digit state (now (line .entry))) ⌝ }
 {
     match digit {
-        b'0' => header_line(line, state),
-        b'1' => data_line(line, 2, state),
-        b'3' => data_line(line, 4, state),
-        b'7' => end_line(line, 4, state),
-        b'9' => end_line(line, 2, state),
+        b'0' => header_line(line, t, state),
+        b'1' => data_line(line, t, 2, state),
+        b'3' => data_line(line, t, 4, state),
+        b'7' => end_line(line, t, 4, state),
+        b'9' => end_line(line, t, 2, state),
         _ => plain(record_lines::BAD, state),
     }
 }
 
-// What a line's characters say, without its end, while a width is in force (0 for none).
-pub fn line_of(line: &[u8], state: u16) -> Line
+// What a sound line says while a width is in force (0 for none).
+pub fn known_line(line: &[u8], t: &[u8; 256], state: u16) -> Line
+    requires { ⌜ Spells (now t) ⌝ }
+    requires { ⌜ isSound (now line) ≡ true ⌝ }
     ensures { λ r. ⌜ Says (now (line .entry)) state (firstOf (now (line .entry))) r (srecItem state (now (line .entry))) ⌝ }
 {
-    if !is_sound(line) {
+    let digit = record_lines::char_at(line, 1);
+    typed_line(line, t, digit, state)
+}
+
+// What any line's characters say, without its end.
+pub fn line_of(line: &[u8], t: &[u8; 256], state: u16) -> Line
+    requires { ⌜ Spells (now t) ⌝ }
+    ensures { λ r. ⌜ Says (now (line .entry)) state (firstOf (now (line .entry))) r (srecItem state (now (line .entry))) ⌝ }
+{
+    if !is_sound(line, t) {
         return plain(record_lines::BAD, state);
     }
-    let digit = record_lines::char_at(line, 1);
-    typed_line(line, digit, state)
+    known_line(line, t, state)
 }
 
 // The width that is written: 2, or 4 for every other number.

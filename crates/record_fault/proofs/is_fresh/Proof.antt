@@ -11,7 +11,7 @@ returns : tie.Need-returns
 returns c =
     let s = c .before .before in
     let a = s .args in
-    sym (new-above (trail (a .format) (a .text .now) (a .n) .given) (a .first) (a .end) (omega (arith, s .pre, c .if1 .taken)))
+    sym (new-above (trail (a .format) (a .text .now) (a .n) .given) (a .first) (a .end) (omega (arith, s .pre .1, c .if1 .taken)))
 
 is-new-requires : tie.Need-is-new-requires
 is-new-requires c κs = search needs

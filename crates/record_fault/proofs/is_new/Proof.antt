@@ -6,16 +6,16 @@ use Rattle.record_fault.proofs.is_new.Statement.{statement}
 use Rattle.record_fault.proofs.is_new.Tie as tie
 
 abbrev Inv-loop : tie.InvT-loop
-Inv-loop format text n first end at₀ state₀ ok₀ k₀ at state ok k = Looking format text n first end at state ok k
+Inv-loop format text t n first end at₀ state₀ ok₀ k₀ at state ok k = Looking format text n first end at state ok k
 
 abbrev μ-loop : tie.MeasureT-loop
-μ-loop format text n first end at₀ state₀ ok₀ k₀ at state ok k = n - k
+μ-loop format text t n first end at₀ state₀ ok₀ k₀ at state ok k = n - k
 
 loop-holds : tie.Need-loop-holds Inv-loop μ-loop
 loop-holds c = let a = c .before .args in looking-starts (a .format) (a .text .now) (a .n) (a .first) (a .end)
 
 take-line-requires : tie.Need-take-line-requires Inv-loop μ-loop
-take-line-requires c κs = search needs
+take-line-requires c κs = let l = c .before in (l .before .before .pre, l .loop .inv .inside)
 
 leaves-requires : tie.Need-leaves-requires Inv-loop μ-loop
 leaves-requires c κs = search needs

@@ -9,16 +9,16 @@ use Rattle.record_fault.proofs.scan_lines.Statement.{statement}
 use Rattle.record_fault.proofs.scan_lines.Tie as tie
 
 abbrev Inv-loop : tie.InvT-loop
-Inv-loop format text load at₀ state₀ high₀ ascend₀ n₀ at state high ascend n = Scanning format load text at state high ascend n
+Inv-loop format text t load at₀ state₀ high₀ ascend₀ n₀ at state high ascend n = Scanning format load text at state high ascend n
 
 abbrev μ-loop : tie.MeasureT-loop
-μ-loop format text load at₀ state₀ high₀ ascend₀ n₀ at state high ascend n = length text - at
+μ-loop format text t load at₀ state₀ high₀ ascend₀ n₀ at state high ascend n = length text - at
 
 loop-holds : tie.Need-loop-holds Inv-loop μ-loop
 loop-holds c = let a = c .before .args in scanning-starts (a .format) (a .load) (a .text .now)
 
 take-line-requires : tie.Need-take-line-requires Inv-loop μ-loop
-take-line-requires c κs = search needs
+take-line-requires c κs = let l = c .before in (l .before .before .pre, l .loop .inv .inside)
 
 closing-requires : tie.Need-closing-requires Inv-loop μ-loop
 closing-requires c κs =
@@ -34,7 +34,7 @@ returns c =
     (scanning-closes (a .format) (a .load) (a .text .now) (l .loop .inv) (t .before .loop-test .taken) (t .take-line .ensures) (c .before .if1 .taken))
 
 may-stand-requires : tie.Need-may-stand-requires Inv-loop μ-loop
-may-stand-requires c κs = c .before .before .before .before .before .loop .inv .top
+may-stand-requires c κs = let l = c .before .before .before .before .before in (l .before .before .pre, l .loop .inv .top)
 
 enum-known-h : tie.Need-enum-known-h Inv-loop μ-loop
 enum-known-h c = search needs

@@ -1,24 +1,36 @@
--- `record_fault::take_line`: the line's characters are a part of the text.
-use mathlib.Core.Path.{_≡_, subst}
-use mathlib.Core.List.{List}
-use Prim.Native.Nat.{ℕ}
-use native.Mathlib.Omega.{arith}
-use Rattle.record_lines.specs.Items.{Says}
-use Rattle.record_fault.specs.Reading.{formatBy}
-use Rattle.record_fault.specs.Steps.{firstBy}
-use Rattle.record_fault.proofs.Laws.{stop-inside, next-inside, next-onward, line-part, line-cut}
+-- `record_fault::take_line`: a line that is not bad and has an end behind it is the one that begins here.
+use mathlib.Core.Path.{_∙_}
+use Prim.Native.Nat.{_+_, _≤_}
+use lib.ListN.{length}
+use Rattle.record_fault.specs.Steps.{Stepped}
+use Rattle.record_fault.proofs.Ends.{says-good, line-found, stepped-by}
 use borrow.Author.Needs.{needs}
 use Rattle.record_fault.proofs.take_line.Statement.{statement}
 use Rattle.record_fault.proofs.take_line.Tie as tie
 
-line-from-requires : tie.Need-line-from-requires
-line-from-requires c κs = search needs
+abbrev called : tie.Else2 → tie.After-line-in
+called c = c .before .before
 
-least-requires : tie.Need-least-requires
-least-requires c κs = search needs
+abbrev ended : tie.Else2 → tie.After-end-at
+ended c = called c .before .before .before
 
-least-requires-2 : tie.Need-least-requires-2
-least-requires-2 c κs = search needs
+abbrev stopped : tie.Else2 → tie.After-stop-by
+stopped c = ended c .before
+
+abbrev start : tie.Else2 → tie.Start
+start c = stopped c .before .before
+
+stop-by-requires : tie.Need-stop-by-requires
+stop-by-requires c κs = search needs
+
+end-at-requires : tie.Need-end-at-requires
+end-at-requires c κs = search needs
+
+search-line-requires : tie.Need-search-line-requires
+search-line-requires c κs = search needs
+
+returns : tie.Need-returns
+returns c = c .search-line .ensures
 
 sub-line-in : tie.Need-sub-line-in
 sub-line-in c = search needs
@@ -32,37 +44,54 @@ part-line-in-end c = search needs
 line-in-requires : tie.Need-line-in-requires
 line-in-requires c κs = search needs
 
-returns : tie.Need-returns
-returns c =
-    let two = c .before .before in
-    let one = two .before in
-    let f = one .before in
-    let a = f .before .before .args in
-    let cut = f .line-from .ensures in
+search-line-requires-2 : tie.Need-search-line-requires-2
+search-line-requires-2 c κs = search needs
+
+returns-2 : tie.Need-returns-2
+returns-2 c = c .search-line2 .ensures
+
+cast-t11 : tie.Need-cast-t11
+cast-t11 c = search needs
+
+-- what is found, as a step
+found : (c : tie.Else2) → Stepped (start c .args .format) (start c .args .text .now) (start c .args .at) (start c .args .state)
+    (record { line = called c .line-in .result; stop = stopped c .stop-by .result; next = stopped c .stop-by .result + ended c .end-at .result })
+found c =
+    let l = c .before .before in
+    let i = l .before .before in
+    let e = i .before in
+    let b = e .before in
+    let a = b .before .before .args in
     let t = a .text .now in
-    let own = line-cut t (a .at) (f .line-from .result .stop) (one .least .result) (two .least2 .result) (cut .stop)
-    (one .least .ensures) (two .least2 .ensures) in
-    record {
-      says =
-          subst (λ (l : List ℕ). Says l (a .state) (firstBy (a .format) l) (c .line-in .result) (formatBy (a .format) (a .state) l)) own (c .line-in .ensures);
-      stop = cut .stop;
-      start = omega (arith, cut .stop);
-      within = λ h. rw (cut .stop) (stop-inside t (a .at) h);
-      part = line-part t (a .at) (f .line-from .result .stop) (cut .stop);
-      next = cut .next;
-      inside = λ h. rw (cut .next) (next-inside t (a .at) h);
-      onward = λ h. rw (cut .next) (next-onward t (a .at) h);
-    }
+    let stop = b .stop-by .result in
+    let h = b .stop-by .ensures .1 in
+    let k = b .stop-by .ensures .2 in
+    let good = says-good (a .format) (a .state) (l .line-in .ensures) (c .if2 .left) in
+    stepped-by t (a .at) stop h k (a .format) (a .state) (e .end-at .result)
+    (line-found t (a .at) stop h k (a .format) (a .state) good (λ z. i .if1 .left (e .end-at .ensures ∙ z))) (e .end-at .ensures) (l .line-in .ensures)
+
+add-t14 : tie.Need-add-t14
+add-t14 c =
+    let h : stopped c .stop-by .result + ended c .end-at .result ≤ length (start c .args .text .now) = found c .inside (start c .pre .1) in
+    search needs
+
+returns-3 : tie.Need-returns-3
+returns-3 c = found c
 
 pub take-line-spec : {M : Type 1} → statement M
 take-line-spec =
     tie.close
     (tie.spec
-    line-from-requires
-    least-requires
-    least-requires-2
+    stop-by-requires
+    end-at-requires
+    search-line-requires
+    returns
     sub-line-in
     part-line-in-start
     part-line-in-end
     line-in-requires
-    returns)
+    search-line-requires-2
+    returns-2
+    cast-t11
+    add-t14
+    returns-3)

@@ -1,7 +1,7 @@
 -- `record_ihex_line::is_good` tests as the definition does.
-use mathlib.Core.Path.{sym, _∙_}
-use borrow.Author.Tests.{not-true, not-false}
-use Rattle.record_ihex_line.proofs.LineLaws.{no-colon, wrong-length, no-digits, by-sum}
+use mathlib.Core.Path.{_∙_}
+use native.Mathlib.Omega.{arith}
+use Rattle.record_ihex_line.proofs.LineLaws.{no-colon, wrong-length, by-sum}
 use borrow.Author.Needs.{needs}
 use Rattle.record_ihex_line.proofs.is_good.Statement.{statement}
 use Rattle.record_ihex_line.proofs.is_good.Tie as tie
@@ -10,16 +10,13 @@ char-at-requires : tie.Need-char-at-requires
 char-at-requires c κs = search needs
 
 returns : tie.Need-returns
-returns c = no-colon (c .before .before .before .args .line .now) (c .before .char-at .result) (c .before .char-at .ensures) (c .if1 .taken)
+returns c = let a = c .before .before .before .args in no-colon (a .line .now) (c .before .char-at .result) (c .before .char-at .ensures) (c .if1 .taken)
 
 pair-requires : tie.Need-pair-requires
 pair-requires c κs = search needs
 
-wide-requires : tie.Need-wide-requires
-wide-requires c κs = search needs
-
-cast-if2 : tie.Need-cast-if2
-cast-if2 c = search needs
+cast-count : tie.Need-cast-count
+cast-count c = search needs
 
 mul-if2 : tie.Need-mul-if2
 mul-if2 c = search needs
@@ -29,35 +26,26 @@ add-if2 c = search needs
 
 returns-2 : tie.Need-returns-2
 returns-2 c =
-    wrong-length (c .before .before .before .before .before .before .args .line .now) (c .before .before .before .before .char-at .result)
-    (c .before .wide .result) (c .before .before .before .before .char-at .ensures) (c .before .before .before .if1 .left)
-    (c .before .wide .ensures .0 ∙ c .before .before .pair .ensures) (c .if2 .taken)
+    let p = c .before in
+    let h = p .before .before in
+    let a = h .before .before .args in
+    wrong-length (a .line .now) (h .char-at .result) (p .pair .result) (h .char-at .ensures) (p .before .if1 .left) (p .pair .ensures) (c .if2 .taken)
 
-all-digits-requires : tie.Need-all-digits-requires
-all-digits-requires c κs = search needs
+add-sum-checked : tie.Need-add-sum-checked
+add-sum-checked c = search needs
+
+sum-checked-requires : tie.Need-sum-checked-requires
+sum-checked-requires c κs =
+    let p = c .before in
+    (p .before .before .before .before .pre, (omega (arith, c .if2 .left), search needs))
 
 returns-3 : tie.Need-returns-3
 returns-3 c =
-    no-digits (c .before .before .before .before .before .before .before .before .args .line .now)
-    (c .before .before .before .before .before .before .char-at .result) (c .before .before .before .wide .result)
-    (c .before .before .before .before .before .before .char-at .ensures) (c .before .before .before .before .before .if1 .left)
-    (c .before .before .before .wide .ensures .0 ∙ c .before .before .before .before .pair .ensures) (c .before .before .if2 .left)
-    (sym (c .before .all-digits .ensures) ∙ not-true _ (c .if3 .taken))
-
-add-sum-pairs : tie.Need-add-sum-pairs
-add-sum-pairs c = search needs
-
-sum-pairs-requires : tie.Need-sum-pairs-requires
-sum-pairs-requires c κs = search needs
-
-returns-4 : tie.Need-returns-4
-returns-4 c =
-    by-sum (c .before .before .before .before .before .before .before .before .before .args .line .now)
-    (c .before .before .before .before .before .before .before .char-at .result) (c .before .before .before .before .wide .result)
-    (c .before .before .before .before .before .before .before .char-at .ensures) (c .before .before .before .before .before .before .if1 .left)
-    (c .before .before .before .before .wide .ensures .0 ∙ c .before .before .before .before .before .pair .ensures)
-    (c .before .before .before .if2 .left)
-    (c .sum-pairs .result) (sym (c .before .before .all-digits .ensures) ∙ not-false _ (c .before .if3 .left)) (c .sum-pairs .ensures)
+    let p = c .before .before in
+    let h = p .before .before in
+    let a = h .before .before .args in
+    by-sum (a .line .now) (h .char-at .result) (p .pair .result) (h .char-at .ensures) (p .before .if1 .left) (p .pair .ensures) (c .before .if2 .left)
+    (c .sum-checked .result) (c .sum-checked .ensures)
 
 pub is-good-spec : {M : Type 1} → statement M
 is-good-spec =
@@ -66,13 +54,10 @@ is-good-spec =
     char-at-requires
     returns
     pair-requires
-    wide-requires
-    cast-if2
+    cast-count
     mul-if2
     add-if2
     returns-2
-    all-digits-requires
-    returns-3
-    add-sum-pairs
-    sum-pairs-requires
-    returns-4)
+    add-sum-checked
+    sum-checked-requires
+    returns-3)

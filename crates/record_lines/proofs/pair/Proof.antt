@@ -9,8 +9,8 @@ use Rattle.record_lines.proofs.pair.Tie as tie
 char-at-requires : tie.Need-char-at-requires
 char-at-requires c κs = search needs
 
-value-requires : tie.Need-value-requires
-value-requires c κs = search needs
+value-by-requires : tie.Need-value-by-requires
+value-by-requires c κs = search needs
 
 add-char-at : tie.Need-add-char-at
 add-char-at c = search needs
@@ -18,8 +18,8 @@ add-char-at c = search needs
 char-at-requires-2 : tie.Need-char-at-requires-2
 char-at-requires-2 c κs = search needs
 
-value-requires-2 : tie.Need-value-requires-2
-value-requires-2 c κs = search needs
+value-by-requires-2 : tie.Need-value-by-requires-2
+value-by-requires-2 c κs = search needs
 
 mul-result : tie.Need-mul-result
 mul-result c = search needs
@@ -29,18 +29,18 @@ add-result c = search needs
 
 returns : tie.Need-returns
 returns c =
-    ap₂ (λ (u v : ℕ). 16 * (u % 16) + v % 16) (c .before .before .value .ensures .0 ∙ ap valueOf (c .before .before .before .char-at .ensures))
-    (c .value2 .ensures .0 ∙ ap valueOf (c .before .char-at2 .ensures))
+    ap₂ (λ (u v : ℕ). 16 * (u % 16) + v % 16) (c .before .before .value-by .ensures ∙ ap valueOf (c .before .before .before .char-at .ensures))
+    (c .value-by2 .ensures ∙ ap valueOf (c .before .char-at2 .ensures))
 
 pub pair-spec : {M : Type 1} → statement M
 pair-spec =
     tie.close
     (tie.spec
     char-at-requires
-    value-requires
+    value-by-requires
     add-char-at
     char-at-requires-2
-    value-requires-2
+    value-by-requires-2
     mul-result
     add-result
     returns)

@@ -1,33 +1,47 @@
 -- `record_read::fill`: after k lines the bytes that they give are stored.
-use Prim.Native.Nat.{_-_}
+use mathlib.Core.Path.{sym, subst}
+use mathlib.Core.List.{List}
+use lib.ListN.{length}
+use Prim.Native.Nat.{ℕ, _+_, _-_, _*_, _≤_}
+use Rattle.record_read.proofs.Loops.{good-at}
 use Rattle.record_read.proofs.Fills.{Filling, filling-starts, filling-on, filling-long, filling-ends}
 use borrow.Author.Needs.{needs}
 use Rattle.record_read.proofs.fill.Statement.{statement}
 use Rattle.record_read.proofs.fill.Tie as tie
 
 abbrev Inv-loop : tie.InvT-loop
-Inv-loop format text n load bytes₀ at₀ state₀ k₀ bytes at state k = Filling format text n load bytes₀ at state bytes k
+Inv-loop format text t n load bytes₀ at₀ state₀ k₀ bytes at state k = Filling format text n load bytes₀ at state bytes k
 
 abbrev μ-loop : tie.MeasureT-loop
-μ-loop format text n load bytes₀ at₀ state₀ k₀ bytes at state k = n - k
+μ-loop format text t n load bytes₀ at₀ state₀ k₀ bytes at state k = n - k
 
 loop-holds : tie.Need-loop-holds Inv-loop μ-loop
 loop-holds c = let a = c .before .before .args in filling-starts (a .format) (a .text .now) (a .n) (a .load) (a .bytes .now)
 
-take-line-requires : tie.Need-take-line-requires Inv-loop μ-loop
-take-line-requires c κs = search needs
+known-line-requires : tie.Need-known-line-requires Inv-loop μ-loop
+known-line-requires c κs =
+    let l = c .before in
+    let s = l .before .before .before in
+    let a = s .args in
+    let w = l .loop .inv in
+    (s .pre .0, (w .inside, good-at (a .format) (a .text .now) (a .n) (l .loop .k) (w .place) (w .force) (s .pre .1) (c .loop-test .taken)))
 
 sub-fill-line : tie.Need-sub-fill-line Inv-loop μ-loop
-sub-fill-line c = c .before .take-line .ensures .start
+sub-fill-line c = c .before .known-line .ensures .start
 
 part-fill-line-start : tie.Need-part-fill-line-start Inv-loop μ-loop
-part-fill-line-start c = c .before .take-line .ensures .start
+part-fill-line-start c = c .before .known-line .ensures .start
 
 part-fill-line-end : tie.Need-part-fill-line-end Inv-loop μ-loop
-part-fill-line-end c = c .before .take-line .ensures .within (c .before .before .before .loop .inv .inside)
+part-fill-line-end c = c .before .known-line .ensures .within (c .before .before .before .loop .inv .inside)
 
 fill-line-requires : tie.Need-fill-line-requires Inv-loop μ-loop
-fill-line-requires c κs = search needs
+fill-line-requires c κs =
+    let k = c .before .before .before in
+    let s = k .before .before .before .before .before in
+    let e = k .known-line .ensures in
+    let r = k .known-line .result .line in
+    (s .pre .0, subst (λ (l : List ℕ). r .first + 2 * r .count ≤ length l) (sym (e .part)) (e .says .room))
 
 add-k : tie.Need-add-k Inv-loop μ-loop
 add-k c = search needs
@@ -42,8 +56,8 @@ loop-again c =
     let i = t .before in
     let l = i .before in
     let a = l .before .before .before .args in
-    filling-on (a .format) (a .text .now) (a .n) (a .load) (a .bytes .now) (l .loop .inv) (i .loop-test .taken) (t .take-line .ensures)
-    (t .take-line .ensures .part) (f .fill-line .ensures)
+    filling-on (a .format) (a .text .now) (a .n) (a .load) (a .bytes .now) (l .loop .inv) (i .loop-test .taken) (t .known-line .ensures)
+    (t .known-line .ensures .part) (f .fill-line .ensures)
 
 same-length : tie.Need-same-length Inv-loop μ-loop
 same-length c =
@@ -64,7 +78,7 @@ fill-spec =
     Inv-loop
     μ-loop
     loop-holds
-    take-line-requires
+    known-line-requires
     sub-fill-line
     part-fill-line-start
     part-fill-line-end

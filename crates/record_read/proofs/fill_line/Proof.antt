@@ -14,31 +14,28 @@ use Rattle.record_read.proofs.fill_line.Statement.{statement}
 use Rattle.record_read.proofs.fill_line.Tie as tie
 
 abbrev Inv-loop : tie.InvT-loop
-Inv-loop line first count address load bytes₀ start base n j₀ bytes j =
+Inv-loop line t first count address load bytes₀ start base n j₀ bytes j =
     (j ≤ n) × (bytes ≡ filled load (piece address (bytesAt line first j) ∷ []) bytes₀)
 
 abbrev μ-loop : tie.MeasureT-loop
-μ-loop line first count address load bytes₀ start base n j₀ bytes j = n - j
+μ-loop line t first count address load bytes₀ start base n j₀ bytes j = n - j
 
 loop-holds : tie.Need-loop-holds Inv-loop μ-loop
 loop-holds c =
     let a = c .before .before .args in
     (search needs, spelled-none (a .line .now) (a .first) (a .address) (a .load) (a .bytes .now))
 
-cast-put-byte : tie.Need-cast-put-byte Inv-loop μ-loop
-cast-put-byte c = search needs
-
 add-put-byte : tie.Need-add-put-byte Inv-loop μ-loop
 add-put-byte c = search needs
 
-mul-pair : tie.Need-mul-pair Inv-loop μ-loop
-mul-pair c = search needs
+mul-pair-inside : tie.Need-mul-pair-inside Inv-loop μ-loop
+mul-pair-inside c = search needs
 
-add-pair : tie.Need-add-pair Inv-loop μ-loop
-add-pair c = search needs
+add-pair-inside : tie.Need-add-pair-inside Inv-loop μ-loop
+add-pair-inside c = search needs
 
-pair-requires : tie.Need-pair-requires Inv-loop μ-loop
-pair-requires c κs = search needs
+pair-inside-requires : tie.Need-pair-inside-requires Inv-loop μ-loop
+pair-inside-requires c κs = search needs
 
 put-byte-requires : tie.Need-put-byte-requires Inv-loop μ-loop
 put-byte-requires c κs = search needs
@@ -56,7 +53,7 @@ loop-again c =
     let l = p .before .before .before in
     let a = l .before .before .before .args in (
       search needs,
-      spelled-more (a .line .now) (a .first) (a .address) (a .load) (a .bytes .now) (l .loop .j) (l .loop .inv .1) (p .pair .ensures) (b .put-byte .ensures),
+      spelled-more (a .line .now) (a .first) (a .address) (a .load) (a .bytes .now) (l .loop .j) (l .loop .inv .1) (p .pair-inside .ensures) (b .put-byte .ensures),
     )
 
 same-length : tie.Need-same-length Inv-loop μ-loop
@@ -79,11 +76,10 @@ fill-line-spec =
     Inv-loop
     μ-loop
     loop-holds
-    cast-put-byte
     add-put-byte
-    mul-pair
-    add-pair
-    pair-requires
+    mul-pair-inside
+    add-pair-inside
+    pair-inside-requires
     put-byte-requires
     add-j
     loop-less

@@ -1,21 +1,26 @@
 -- `record_read::lowest`: after k lines it is the lowest stretch of what they give.
 use Prim.Native.Nat.{_-_}
-use Rattle.record_read.proofs.Loops.{Looking, looking-starts, looking-on, looking-ends}
+use Rattle.record_read.proofs.Loops.{good-at, Looking, looking-starts, looking-on, looking-ends}
 use borrow.Author.Needs.{needs}
 use Rattle.record_read.proofs.lowest.Statement.{statement}
 use Rattle.record_read.proofs.lowest.Tie as tie
 
 abbrev Inv-loop : tie.InvT-loop
-Inv-loop format text n load from at₀ state₀ best₀ k₀ at state best k = Looking format text n load from at state best k
+Inv-loop format text t n load from at₀ state₀ best₀ k₀ at state best k = Looking format text n load from at state best k
 
 abbrev μ-loop : tie.MeasureT-loop
-μ-loop format text n load from at₀ state₀ best₀ k₀ at state best k = n - k
+μ-loop format text t n load from at₀ state₀ best₀ k₀ at state best k = n - k
 
 loop-holds : tie.Need-loop-holds Inv-loop μ-loop
 loop-holds c = let a = c .before .args in looking-starts (a .format) (a .text .now) (a .n) (a .load) (a .from)
 
-take-line-requires : tie.Need-take-line-requires Inv-loop μ-loop
-take-line-requires c κs = search needs
+known-line-requires : tie.Need-known-line-requires Inv-loop μ-loop
+known-line-requires c κs =
+    let l = c .before in
+    let s = l .before .before in
+    let a = s .args in
+    let w = l .loop .inv in
+    (s .pre .0, (w .inside, good-at (a .format) (a .text .now) (a .n) (l .loop .k) (w .place) (w .force) (s .pre .1) (c .loop-test .taken)))
 
 extent-requires : tie.Need-extent-requires Inv-loop μ-loop
 extent-requires c κs = search needs
@@ -36,7 +41,7 @@ loop-again c =
     let i = t .before in
     let l = i .before in
     let a = l .before .before .args in
-    looking-on (a .format) (a .text .now) (a .n) (a .load) (a .from) (l .loop .inv) (i .loop-test .taken) (t .take-line .ensures) (x .extent .ensures)
+    looking-on (a .format) (a .text .now) (a .n) (a .load) (a .from) (l .loop .inv) (i .loop-test .taken) (t .known-line .ensures) (x .extent .ensures)
     (c .better .ensures)
 
 returns : tie.Need-returns Inv-loop μ-loop
@@ -52,7 +57,7 @@ lowest-spec =
     Inv-loop
     μ-loop
     loop-holds
-    take-line-requires
+    known-line-requires
     extent-requires
     better-requires
     add-k

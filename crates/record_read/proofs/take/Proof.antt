@@ -21,7 +21,7 @@ returns : tie.Need-returns
 returns c =
     let s = c .before .before .before .before .before in
     let a = s .args in
-    reads-short (a .load) (pieces s) (a .bytes .now) (a .offsets .now) (a .sizes .now) (a .end) (s .pre .0) (c .if1 .taken)
+    reads-short (a .load) (pieces s) (a .bytes .now) (a .offsets .now) (a .sizes .now) (a .end) (s .pre .1 .0) (c .if1 .taken)
 
 slice-relend-prefix-walk : tie.Need-slice-relend-prefix-walk
 slice-relend-prefix-walk c = search needs
@@ -49,7 +49,7 @@ returns-2 c =
     let w = c .before .before .before .before .before in
     let s = start w in
     let a = s .args in
-    reads-short-first (a .load) (pieces s) (a .bytes .now) (a .offsets .now) (a .sizes .now) (a .end) (s .pre .0) (tested w .if1 .left)
+    reads-short-first (a .load) (pieces s) (a .bytes .now) (a .offsets .now) (a .sizes .now) (a .end) (s .pre .1 .0) (tested w .if1 .left)
     (w .walk .result) _ _ (w .walk .ensures) (c .if2 .taken)
 
 same-length-3 : tie.Need-same-length-3
@@ -63,7 +63,7 @@ returns-3 c =
     let w = c .before .before .before .before .before .before in
     let s = start w in
     let a = s .args in
-    reads-short-second (a .load) (pieces s) (a .bytes .now) (a .offsets .now) (a .sizes .now) (a .end) (s .pre .0) (tested w .if1 .left)
+    reads-short-second (a .load) (pieces s) (a .bytes .now) (a .offsets .now) (a .sizes .now) (a .end) (s .pre .1 .0) (tested w .if1 .left)
     (w .walk .result) _ _ (w .walk .ensures) (c .before .if2 .left) (c .if3 .taken)
 
 walk-requires-2 : tie.Need-walk-requires-2
@@ -89,7 +89,7 @@ returns-4 c =
     let w = t .before .before .before .before .before .before in
     let s = start w in
     let a = s .args in
-    reads-all (a .load) (pieces s) (a .bytes .now) (a .offsets .now) (a .sizes .now) (a .end) (s .pre .0) (tested w .if1 .left)
+    reads-all (a .load) (pieces s) (a .bytes .now) (a .offsets .now) (a .sizes .now) (a .end) (s .pre .1 .0) (tested w .if1 .left)
     (w .walk .result) _ _ (w .walk .ensures) (t .before .if2 .left) (t .if3 .left) (v .walk2 .ensures) (f .fill .ensures)
 
 pub take-spec : {M : Type 1} → statement M

@@ -8,7 +8,7 @@ walk-up-requires : tie.Need-walk-up-requires
 walk-up-requires c κs =
     let i = c .before .before in
     let s = i .before .before .before .before in
-    sym (s .pre .1) ∙ i .if1 .taken
+    (s .pre .0, sym (s .pre .1 .1) ∙ i .if1 .taken)
 
 same-length : tie.Need-same-length
 same-length c = put-long (c .before .before .before .before .walk-up .ensures) .0
@@ -20,7 +20,7 @@ returns : tie.Need-returns
 returns c = c .before .before .before .before .walk-up .ensures
 
 walk-any-requires : tie.Need-walk-any-requires
-walk-any-requires c κs = let s = c .before .before .before .before .before .before in s .pre .0
+walk-any-requires c κs = let s = c .before .before .before .before .before .before in (s .pre .0, s .pre .1 .0)
 
 same-length-3 : tie.Need-same-length-3
 same-length-3 c = put-long (c .before .before .before .before .walk-any .ensures) .0

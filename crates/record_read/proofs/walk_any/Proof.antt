@@ -11,11 +11,11 @@ use Rattle.record_read.proofs.walk_any.Statement.{statement}
 use Rattle.record_read.proofs.walk_any.Tie as tie
 
 abbrev Inv-loop : tie.InvT-loop
-Inv-loop format text n load end offsets₀ sizes₀ from₀ run₀ count₀ offsets sizes from run count =
+Inv-loop format text t n load end offsets₀ sizes₀ from₀ run₀ count₀ offsets sizes from run count =
     Listed (isGiven load (trail format text n .given)) offsets₀ sizes₀ run from count offsets sizes
 
 abbrev μ-loop : tie.MeasureT-loop
-μ-loop format text n load end offsets₀ sizes₀ from₀ run₀ count₀ offsets sizes from run count = end - from
+μ-loop format text t n load end offsets₀ sizes₀ from₀ run₀ count₀ offsets sizes from run count = end - from
 
 abbrev start : tie.At-loop Inv-loop μ-loop → tie.Start Inv-loop μ-loop
 start l = l .before .before .before .before
@@ -89,7 +89,7 @@ returns c =
     let l = e .before in
     let s = start l in
     let a = s .args in
-    finding-ends (a .load) (trail (a .format) (a .text .now) (a .n) .given) (a .end) (a .offsets .now) (a .sizes .now) (l .loop .inv) (s .pre)
+    finding-ends (a .load) (trail (a .format) (a .text .now) (a .n) .given) (a .end) (a .offsets .now) (a .sizes .now) (l .loop .inv) (s .pre .1)
     (e .loop-test .left) (p .push .ensures)
 
 pub walk-any-spec : {M : Type 1} → statement M

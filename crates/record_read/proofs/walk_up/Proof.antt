@@ -3,18 +3,18 @@ use Prim.Native.Nat.{_-_}
 use mathlib.Core.Path.{_∙_}
 use Rattle.record_read.specs.Runs.{isGiven}
 use Rattle.record_fault.specs.Trail.{trail}
-use Rattle.record_read.proofs.Loops.{Rising, rising-starts, rising-on, rising-ends}
+use Rattle.record_read.proofs.Loops.{good-at, Rising, rising-starts, rising-on, rising-ends}
 use Rattle.record_read.proofs.Walks.{listed-few, listed-long, put-long}
 use borrow.Author.Needs.{needs}
 use Rattle.record_read.proofs.walk_up.Statement.{statement}
 use Rattle.record_read.proofs.walk_up.Tie as tie
 
 abbrev Inv-loop : tie.InvT-loop
-Inv-loop format text n load offsets₀ sizes₀ at₀ state₀ run₀ count₀ k₀ offsets sizes at state run count k =
+Inv-loop format text t n load offsets₀ sizes₀ at₀ state₀ run₀ count₀ k₀ offsets sizes at state run count k =
     Rising format text n load offsets₀ sizes₀ at state run count offsets sizes k
 
 abbrev μ-loop : tie.MeasureT-loop
-μ-loop format text n load offsets₀ sizes₀ at₀ state₀ run₀ count₀ k₀ offsets sizes at state run count k = n - k
+μ-loop format text t n load offsets₀ sizes₀ at₀ state₀ run₀ count₀ k₀ offsets sizes at state run count k = n - k
 
 abbrev start : tie.At-loop Inv-loop μ-loop → tie.Start Inv-loop μ-loop
 start l = l .before .before .before .before
@@ -24,8 +24,14 @@ loop-holds c =
     let a = c .before .before .before .args in
     rising-starts (a .format) (a .text .now) (a .n) (a .load) (a .offsets .now) (a .sizes .now)
 
-take-line-requires : tie.Need-take-line-requires Inv-loop μ-loop
-take-line-requires c κs = search needs
+known-line-requires : tie.Need-known-line-requires Inv-loop μ-loop
+known-line-requires c κs =
+    let l = c .before in
+    let a = start l .args in
+    let w = l .loop .inv in (
+      start l .pre .0 .0,
+      (w .inside, good-at (a .format) (a .text .now) (a .n) (l .loop .k) (w .place) (w .force) (start l .pre .0 .1) (c .loop-test .taken)),
+    )
 
 extent-requires : tie.Need-extent-requires Inv-loop μ-loop
 extent-requires c κs = search needs
@@ -55,8 +61,8 @@ loop-again c =
     let i = t .before in
     let l = i .before in
     let a = start l .args in
-    rising-on (a .format) (a .text .now) (a .n) (a .load) (a .offsets .now) (a .sizes .now) (l .loop .inv) (start l .pre) (i .loop-test .taken)
-    (t .take-line .ensures) (x .extent .ensures) (d .close .ensures) (c .join .ensures)
+    rising-on (a .format) (a .text .now) (a .n) (a .load) (a .offsets .now) (a .sizes .now) (l .loop .inv) (start l .pre .1) (i .loop-test .taken)
+    (t .known-line .ensures) (x .extent .ensures) (d .close .ensures) (c .join .ensures)
 
 push-requires : tie.Need-push-requires Inv-loop μ-loop
 push-requires c κs =
@@ -97,7 +103,7 @@ walk-up-spec =
     Inv-loop
     μ-loop
     loop-holds
-    take-line-requires
+    known-line-requires
     extent-requires
     close-requires
     join-requires

@@ -49,7 +49,7 @@ add-result c = search needs
 returns-2 : tie.Need-returns-2
 returns-2 c =
     let s = c .before .before .before .before .before .before in
-    let four : s .args .width ≡ 4 = ⊎-elim (λ e. absurd (c .before .before .if1 .left e)) (λ e. e) (s .pre) in
+    let four : s .args .width ≡ 4 = ⊎-elim (λ e. absurd (c .before .before .if1 .left e)) (λ e. e) (s .pre .1) in
     rw four (omega (
       arith,
       c .before .before .before .before .byte .ensures .0,

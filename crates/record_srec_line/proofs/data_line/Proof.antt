@@ -65,14 +65,14 @@ returns-3 c =
     (omega (arith, p .pair .ensures, d .address-of .ensures, c .before .before .limit .ensures)))
     (c .plain3 .ensures)
 
-mul-t10 : tie.Need-mul-t10
-mul-t10 c = search needs
+mul-t11 : tie.Need-mul-t11
+mul-t11 c = search needs
 
-add-t15 : tie.Need-add-t15
-add-t15 c = search needs
+add-t16 : tie.Need-add-t16
+add-t16 c = search needs
 
-cast-t9 : tie.Need-cast-t9
-cast-t9 c = search needs
+cast-t10 : tie.Need-cast-t10
+cast-t10 c = search needs
 
 returns-4 : tie.Need-returns-4
 returns-4 c =
@@ -85,7 +85,7 @@ returns-4 c =
     let own = sym (a .before .does-agree .ensures) ∙ not-false _ (a .if1 .left) in
     data-as w (s .args .state) l (c .before .before .address-of .result) (p .pair .result) (d .address-of .ensures) (p .pair .ensures)
     (data-gives w (s .args .state) l own (omega (arith, p .pair .ensures)) (omega (arith, p .pair .ensures, d .address-of .ensures, c .before .limit .ensures)))
-    (omega (arith, p .pair .ensures)) (s .pre .1)
+    (omega (arith, p .pair .ensures)) (s .pre .1 .1)
 
 pub data-line-spec : {M : Type 1} → statement M
 data-line-spec =
@@ -107,7 +107,7 @@ data-line-spec =
     limit-requires
     plain-requires-3
     returns-3
-    mul-t10
-    add-t15
-    cast-t9
+    mul-t11
+    add-t16
+    cast-t10
     returns-4)

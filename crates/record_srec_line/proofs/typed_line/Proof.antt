@@ -10,10 +10,10 @@ header-line-requires : tie.Need-header-line-requires
 header-line-requires c κs = search needs
 
 data-line-requires : tie.Need-data-line-requires
-data-line-requires c κs = (inl refl, c .before .before .pre)
+data-line-requires c κs = let p = c .before .before .pre in (p .0, (inl refl, p .1))
 
 data-line-requires-2 : tie.Need-data-line-requires-2
-data-line-requires-2 c κs = (inr refl, c .before .before .pre)
+data-line-requires-2 c κs = let p = c .before .before .pre in (p .0, (inr refl, p .1))
 
 end-line-requires : tie.Need-end-line-requires
 end-line-requires c κs = search needs

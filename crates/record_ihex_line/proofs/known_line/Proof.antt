@@ -1,0 +1,148 @@
+-- `record_ihex_line::known_line`: a law for each return.
+use native.Mathlib.Omega.{arith}
+use Rattle.record_ihex_line.proofs.LineLaws.{data-line, field-bad, end-line, end-bad, upper-line, upper-bad, other-bad}
+use Rattle.record_ihex_line.proofs.LineLaws.{good-long, says-bad, says-end, says-pass, says-data}
+use borrow.Author.Needs.{needs}
+use Rattle.record_ihex_line.proofs.known_line.Statement.{statement}
+use Rattle.record_ihex_line.proofs.known_line.Tie as tie
+
+-- the start, seen from behind the three fields
+abbrev start : tie.After-pair2 → tie.Start
+start p = p .before .before .before .before
+
+pair-requires : tie.Need-pair-requires
+pair-requires c κs = search needs
+
+word-requires : tie.Need-word-requires
+word-requires c κs = search needs
+
+pair-requires-2 : tie.Need-pair-requires-2
+pair-requires-2 c κs = search needs
+
+mul-t9 : tie.Need-mul-t9
+mul-t9 c = search needs
+
+cast-t10 : tie.Need-cast-t10
+cast-t10 c = search needs
+
+add-t11 : tie.Need-add-t11
+add-t11 c = search needs
+
+returns : tie.Need-returns
+returns c =
+    let p = c .before in
+    let s = start p in
+    let line = s .args .line .now in
+    let long = good-long line (s .pre .1) in
+    says-data line (s .args .state) _ (p .before .before .pair .result)
+    (data-line line (s .args .state) (s .pre .1) (p .pair2 .result) (p .before .word .result) (p .before .before .pair .result) (p .pair2 .ensures)
+    (p .before .word .ensures) (p .before .before .pair .ensures) (c .if1 .taken))
+    (omega (arith, p .before .before .pair .ensures))
+
+plain-requires : tie.Need-plain-requires
+plain-requires c κs = search needs
+
+returns-2 : tie.Need-returns-2
+returns-2 c =
+    let i = c .before .before in
+    let p = i .before in
+    let s = start p in
+    let line = s .args .line .now in
+    says-bad line (s .args .state) (c .plain .ensures)
+    (field-bad line (s .args .state) (s .pre .1) (p .pair2 .result) (p .before .word .result) (p .before .before .pair .result) (p .pair2 .ensures)
+    (p .before .word .ensures) (p .before .before .pair .ensures) (i .if1 .left) (c .before .if2 .taken))
+
+plain-requires-2 : tie.Need-plain-requires-2
+plain-requires-2 c κs = search needs
+
+returns-3 : tie.Need-returns-3
+returns-3 c =
+    let j = c .before .before .before in
+    let p = j .before .before in
+    let s = start p in
+    let line = s .args .line .now in
+    says-end line (s .args .state) (c .plain2 .ensures)
+    (end-line line (s .args .state) (s .pre .1) (p .pair2 .result) (p .before .word .result) (p .before .before .pair .result) (p .pair2 .ensures)
+    (p .before .word .ensures) (p .before .before .pair .ensures) (c .before .before .if3 .taken) (j .if2 .left) (c .before .if4 .taken))
+
+plain-requires-3 : tie.Need-plain-requires-3
+plain-requires-3 c κs = search needs
+
+returns-4 : tie.Need-returns-4
+returns-4 c =
+    let j = c .before .before .before in
+    let p = j .before .before in
+    let s = start p in
+    let line = s .args .line .now in
+    says-bad line (s .args .state) (c .plain3 .ensures)
+    (end-bad line (s .args .state) (s .pre .1) (p .pair2 .result) (p .before .word .result) (p .before .before .pair .result) (p .pair2 .ensures)
+    (p .before .word .ensures) (p .before .before .pair .ensures) (c .before .before .if3 .taken) (j .if2 .left) (c .before .if4 .left))
+
+word-requires-2 : tie.Need-word-requires-2
+word-requires-2 c κs = search needs
+
+plain-requires-4 : tie.Need-plain-requires-4
+plain-requires-4 c κs = search needs
+
+returns-5 : tie.Need-returns-5
+returns-5 c =
+    let w = c .before in
+    let j = w .before .before .before .before in
+    let p = j .before .before in
+    let s = start p in
+    let line = s .args .line .now in
+    says-pass line (s .args .state) (w .word2 .result) _ (w .word2 .ensures) (c .plain4 .ensures)
+    (upper-line line (s .args .state) (s .pre .1) (p .pair2 .result) (p .before .word .result) (p .before .before .pair .result) (p .pair2 .ensures)
+    (p .before .word .ensures) (p .before .before .pair .ensures) (w .before .before .if5 .taken) (j .if2 .left) (w .before .if6 .taken))
+
+plain-requires-5 : tie.Need-plain-requires-5
+plain-requires-5 c κs = search needs
+
+returns-6 : tie.Need-returns-6
+returns-6 c =
+    let j = c .before .before .before .before in
+    let p = j .before .before in
+    let s = start p in
+    let line = s .args .line .now in
+    says-bad line (s .args .state) (c .plain5 .ensures)
+    (upper-bad line (s .args .state) (s .pre .1) (p .pair2 .result) (p .before .word .result) (p .before .before .pair .result) (p .pair2 .ensures)
+    (p .before .word .ensures) (p .before .before .pair .ensures) (c .before .before .if5 .taken) (j .if2 .left) (c .before .if6 .left))
+
+plain-requires-6 : tie.Need-plain-requires-6
+plain-requires-6 c κs = search needs
+
+returns-7 : tie.Need-returns-7
+returns-7 c =
+    let j = c .before .before .before in
+    let i = j .before in
+    let p = i .before in
+    let s = start p in
+    let line = s .args .line .now in
+    says-bad line (s .args .state) (c .plain6 .ensures)
+    (other-bad line (s .args .state) (s .pre .1) (p .pair2 .result) (p .before .word .result) (p .before .before .pair .result) (p .pair2 .ensures)
+    (p .before .word .ensures) (p .before .before .pair .ensures) (i .if1 .left) (c .before .before .if3 .left) (c .before .if5 .left) (j .if2 .left))
+
+pub known-line-spec : {M : Type 1} → statement M
+known-line-spec =
+    tie.close
+    (tie.spec
+    pair-requires
+    word-requires
+    pair-requires-2
+    mul-t9
+    cast-t10
+    add-t11
+    returns
+    plain-requires
+    returns-2
+    plain-requires-2
+    returns-3
+    plain-requires-3
+    returns-4
+    word-requires-2
+    plain-requires-4
+    returns-5
+    plain-requires-5
+    returns-6
+    plain-requires-6
+    returns-7)

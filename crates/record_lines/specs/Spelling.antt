@@ -1,0 +1,15 @@
+-- A table of what each character stands for, and what a loop over it comes to.
+use mathlib.Core.Path.{_≡_}
+use mathlib.Core.List.{List}
+use Prim.Native.Nat.{ℕ, _<_, _%_}
+use lib.ListN.{getD, drop}
+use Rattle.refusal.specs.Pick.{pick}
+use Rattle.record_lines.specs.Digits.{valueOf, allDigits, bytesAt}
+use Rattle.record_lines.specs.Sums.{sumOf}
+
+abbrev pub Spells : List ℕ → Type 0
+Spells t = (c : ℕ) → c < 256 → getD t c 0 ≡ valueOf c
+
+-- The low byte of the sum of the bytes that the digits from a place on spell; 256 where one of them is no digit.
+abbrev pub checkedSum : List ℕ → ℕ → ℕ → ℕ
+checkedSum line from n = pick (allDigits (drop from line)) (sumOf (bytesAt line from n) % 256) 256
