@@ -1,3 +1,4 @@
 pub mod Signed
 pub mod Advanced
+pub mod PaceLaws
 pub mod Unique

@@ -16,8 +16,12 @@ use Rattle.iter.proofs.steps.advance_address.Kinds as advance-kinds
 use Rattle.iter.proofs.steps.advance_address.Reads as advance-reads
 use Rattle.iter.proofs.steps.bank_after.Kinds as bank-after-kinds
 use Rattle.iter.proofs.steps.bank_after.Reads as bank-after-reads
-use Rattle.iter.proofs.steps.cross.Kinds as cross-kinds
-use Rattle.iter.proofs.steps.cross.Reads as cross-reads
+use Rattle.iter.proofs.paces.cross.Kinds as cross-kinds
+use Rattle.iter.proofs.paces.cross.Reads as cross-reads
+use Rattle.iter.proofs.paces.pace.Kinds as pace-kinds
+use Rattle.iter.proofs.paces.pace.Reads as pace-reads
+use Rattle.iter.proofs.paces.why_refused.Kinds as why-refused-kinds
+use Rattle.iter.proofs.paces.why_refused.Reads as why-refused-reads
 use Rattle.iter.proofs.steps.lost_after.Kinds as lost-after-kinds
 use Rattle.iter.proofs.steps.lost_after.Reads as lost-after-reads
 use Rattle.iter.proofs.steps.seen.Kinds as seen-kinds
@@ -50,6 +54,12 @@ bank-after-unique κs a x y e f p q = determined p q
 
 pub cross-unique : OneOutcome 0 cross-kinds.ps cross-kinds.r cross-reads.Learnt
 cross-unique κs a x y e f p q = determined p q
+
+pub pace-unique : OneOutcome 0 pace-kinds.ps pace-kinds.r pace-reads.Learnt
+pace-unique κs a x y e f p q = determined (p .0) (q .0)
+
+pub why-refused-unique : OneOutcome 0 why-refused-kinds.ps why-refused-kinds.r why-refused-reads.Learnt
+why-refused-unique κs a x y e f p q = determined p q
 
 pub lost-after-unique : OneOutcome 0 lost-after-kinds.ps lost-after-kinds.r lost-after-reads.Learnt
 lost-after-unique κs a x y e f p q = determined p q

@@ -6,6 +6,7 @@ pub mod Crossing
 pub mod Distance
 pub mod Figures
 pub mod Known
+pub mod Pace
 pub mod Padding
 pub mod Signs
 pub mod Step

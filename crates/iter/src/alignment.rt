@@ -7,7 +7,7 @@ use refusal::Refusal;
 ghost use mathlib.Core.Path.{_≡_};
 ghost use mathlib.Core.Bool.{true};
 ghost use Prim.Native.Nat.{_<_};
-ghost use Rattle.iter.specs.Distance.{tellable, addressInBits, gap, skipsOf, distanceOf};
+ghost use Rattle.iter.specs.Distance.{tellable, addressInBits, gap, distanceTo, skipsOf, distanceOf};
 ghost use Rattle.iter.specs.Figures.{toldDistance, Measures};
 ghost use Rattle.iter.specs.Signs.{inBits, remainderOf};
 
@@ -75,6 +75,28 @@ fn in_units(def: Bankdef, bits: u32) -> Skipped
     Skipped {
         bits,
         units: bits / (def.unit as u32),
+    }
+}
+
+// "The distance to alignment A is 0 for A = 0. Otherwise, with r the remainder .. by A, it is 0 for r = 0 and A - r for others.", in bits.
+pub fn distance_in_bits(def: Bankdef, position: u32, alignment: u32) -> u32
+    requires { ⌜ tellable def ≡ true ⌝ }
+    ensures { λ r. ⌜ r ≡ distanceTo (addressInBits def position) alignment ⌝ }
+{
+    if alignment == 0 {
+        return 0;
+    }
+    gap_to(remainder_by(address_in_bits(def, position), alignment), alignment)
+}
+
+// The whole units in so many bits; a unit of 0 holds none.
+pub fn skipped_by(def: Bankdef, bits: u32) -> Skipped
+    ensures { λ r. ⌜ r ≡ skipsOf def bits ⌝ }
+{
+    let unit = def.unit as u32;
+    Skipped {
+        bits,
+        units: if unit == 0 { 0 } else { bits / unit },
     }
 }
 

@@ -1,17 +1,20 @@
 // Where each node of the list stands: the distance to an alignment, the address, the output position, and the walk that goes
 // from node to node with a position for each bank.
 mod alignment;
+mod paces;
 mod places;
 mod steps;
 
 pub use alignment::bits_until_alignment;
+pub use paces::cross;
+pub use paces::pace;
+pub use paces::why_refused;
 pub use places::get_address;
 pub use places::get_output_position;
 pub use places::on_boundary;
 use refusal::Refusal;
 pub use steps::advance_address;
 pub use steps::bank_after;
-pub use steps::cross;
 pub use steps::lost_after;
 pub use steps::seen;
 pub use steps::start;
@@ -76,6 +79,15 @@ pub struct Crossing {
     pub seen: Moved,
     pub skipped: Skipped,
     pub after: Pos,
+}
+
+// A step in numbers, which a loop stores into its own walk: 0, or the number of what the node is refused for, 4 or 5; the position that it sees, its
+// bank's position after it, and the bits that its alignment skips. Refused, nothing is skipped and the position is the one given.
+pub struct Paced {
+    pub fault: u8,
+    pub seen: Pos,
+    pub after: Pos,
+    pub bits: u32,
 }
 
 // A step of the walk: the position that the node sees, what its alignment skips, and the walk after it. Refused, nothing is

@@ -1,5 +1,4 @@
 // The walk from node to node, by value.
-use crate::Crossing;
 use crate::Distance;
 use crate::Motion;
 use crate::Moved;
@@ -9,30 +8,27 @@ use crate::Skipped;
 use crate::Stepped;
 use crate::Walk;
 use crate::alignment::bits_until_alignment;
+use crate::paces::cross;
+use crate::paces::is_bad_state;
+use crate::paces::is_outermost_symbol;
+use crate::paces::stays_known;
 use bankdef::Bankdef;
 use refusal::ADDR;
 use refusal::ALIGN;
 use refusal::ASSERT;
 use refusal::CONSTANT;
-use refusal::DATA;
 use refusal::INSTRUCTION;
-use refusal::LABEL;
 use refusal::NOTHING;
 use refusal::Opt;
 use refusal::RESERVE;
 use refusal::RESOLVED;
 use refusal::Refusal;
 use refusal::SWITCH;
-use refusal::UNRESOLVED;
 ghost use mathlib.Core.Path.{_≡_};
-ghost use mathlib.Core.Bool.{_||_};
 ghost use Prim.Native.Nat.{_<_};
-ghost use lib.Dec.{eqb};
 ghost use Rattle.refusal.specs.Limits.{maxBanks};
-ghost use Rattle.iter.specs.Step.{movedBy, startOf, bankAfter, outermostSymbol, badState};
-ghost use Rattle.iter.specs.Step.{still, motionOf, alignedMotion, seenMotion, advanceMotion, counted, lostAfter, kept, stopped, stepOf};
-ghost use Rattle.iter.specs.Crossing.{halted, crossingOf};
-ghost use Rattle.iter.specs.Known.{staysKnown};
+ghost use Rattle.iter.specs.Step.{movedBy, startOf, bankAfter};
+ghost use Rattle.iter.specs.Step.{still, motionOf, alignedMotion, seenMotion, advanceMotion, lostAfter, kept, stopped, stepOf};
 ghost use Rattle.iter.specs.Figures.{SightTold, AdvanceTold};
 ghost use Rattle.iter.specs.StepFigures.{StepTold};
 
@@ -113,20 +109,6 @@ pub fn bank_after(bank: u64, node: Node) -> u64
     }
 }
 
-// "2 label, 3 constant"
-fn is_symbol(kind: u8) -> bool
-    ensures { λ r. ⌜ r ≡ (eqb kind 2 || eqb kind 3) ⌝ }
-{
-    kind == LABEL || kind == CONSTANT
-}
-
-// "a symbol (label or constant) of depth 0"
-fn is_outermost_symbol(node: Node) -> bool
-    ensures { λ r. ⌜ r ≡ outermostSymbol node ⌝ }
-{
-    is_symbol(node.kind) && node.operand == 0
-}
-
 // The position that a node sees, and what is skipped. In a bank with label alignment a symbol of depth 0, label or constant, is
 // aligned first.
 pub fn seen(def: Bankdef, at: Pos, node: Node) -> Motion
@@ -141,23 +123,6 @@ pub fn seen(def: Bankdef, at: Pos, node: Node) -> Motion
         Opt::Some(a) => aligned_to(def, at, a, at.known, node.index),
         Opt::None => unskipped(Moved::To(at)),
     }
-}
-
-// Whether a position stays known over an item or an alignment: "4, 6, 7, 8 keep it only if state is 0; 5 .. leave it".
-fn stays_known(known: bool, node: Node) -> bool
-    ensures { λ r. ⌜ r ≡ staysKnown known node ⌝ }
-{
-    if node.kind == DATA {
-        return known;
-    }
-    if known { node.state == RESOLVED } else { false }
-}
-
-// Whether a node's state is read and is none of "0 resolved, 1 stable, 2 unresolved": "0, 1 and 2 don't read the state".
-fn is_bad_state(node: Node) -> bool
-    ensures { λ r. ⌜ r ≡ badState node ⌝ }
-{
-    node.kind >= CONSTANT && node.state > UNRESOLVED
 }
 
 // The position after a node's own advance, and what is skipped.
@@ -188,13 +153,6 @@ pub fn advance_address(def: Bankdef, at: Pos, node: Node) -> Motion
     }
 }
 
-// What a step counts as lost: an `align`'s own distance, and else that of a symbol's alignment.
-fn counts(node: Node, sight: Skipped, own: Skipped) -> Skipped
-    ensures { λ r. ⌜ r ≡ counted node sight own ⌝ }
-{
-    if node.kind == ALIGN { own } else { sight }
-}
-
 // "the sum of bits lost", with those of one node more
 pub fn lost_after(lost: u64, bits: u32) -> u64
     ensures { λ r. ⌜ r ≡ lostAfter lost bits ⌝ }
@@ -204,44 +162,6 @@ pub fn lost_after(lost: u64, bits: u32) -> u64
         lost + more
     } else {
         MAX_SUM
-    }
-}
-
-// A crossing that is refused: nothing is skipped, and the position is the one given.
-fn refused_crossing(at: Pos, why: Refusal) -> Crossing
-    ensures { λ r. ⌜ r ≡ halted at why ⌝ }
-{
-    Crossing {
-        seen: Moved::Refused(why),
-        skipped: Skipped { bits: 0, units: 0 },
-        after: at,
-    }
-}
-
-// One node in the bank that it stands in, whose record is `def` and whose position is `at`: what it sees, what its alignment skips,
-// and the position after it. No other bank is read, so that a loop need not hand its walk about.
-pub fn cross(def: Bankdef, at: Pos, node: Node) -> Crossing
-    ensures { λ r. ⌜ r ≡ crossingOf def at node ⌝ }
-{
-    if is_bad_state(node) {
-        return refused_crossing(at, Refusal::Malformed(node.index));
-    }
-    let sight = seen(def, at, node);
-    let found = sight.to;
-    match found {
-        Moved::To(p) => {
-            let own = advance_address(def, p, node);
-            let went = own.to;
-            match went {
-                Moved::To(q) => Crossing {
-                    seen: Moved::To(p),
-                    skipped: counts(node, sight.skipped, own.skipped),
-                    after: q,
-                },
-                Moved::Refused(why) => refused_crossing(at, why),
-            }
-        }
-        Moved::Refused(why) => refused_crossing(at, why),
     }
 }
 

@@ -62,6 +62,23 @@ halts def at node why e f =
     tested false (To p) g = advanced p (stepSkips def at p node) (advancedOf def p node) g
     tested false (Refused x) g = refl
 
+-- And nothing is skipped.
+pub halts-skip : (def : Bankdef) (at : Pos) (node : Node) (why : Refusal) {c : Crossing} → c ≡ crossingOf def at node → c .seen ≡ Refused why
+    → c .skipped .bits ≡ 0
+unfolding crossingOf
+halts-skip def at node why e f =
+    ap (λ (x : Crossing). x .skipped .bits) e ∙ tested (badState node) (seenOf def at node) (ap (λ (x : Crossing). x .seen) (sym e) ∙ f)
+  where
+    advanced : (p : Pos) (s : Skipped) (m : Moved) → crossedTo at p s m .seen ≡ Refused why → crossedTo at p s m .skipped .bits ≡ 0
+    advanced p s (To q) g = absurd (never g)
+    advanced p s (Refused x) g = refl
+
+    tested : (t : Bool) (m : Moved) → pick t (halted at (Malformed (node .index))) (crossedFrom def at node m) .seen ≡ Refused why
+        → pick t (halted at (Malformed (node .index))) (crossedFrom def at node m) .skipped .bits ≡ 0
+    tested true m g = refl
+    tested false (To p) g = advanced p (stepSkips def at p node) (advancedOf def p node) g
+    tested false (Refused x) g = refl
+
 -- A bank switch is made wherever there is such a bank.
 pub switch-made : (def : Bankdef) (at : Pos) (node : Node) → node .kind ≡ 1 → (why : Refusal) → crossingOf def at node .seen ≡ Refused why → ⊥
 switch-made def at node k why e =

@@ -1,6 +1,8 @@
 -- Theorems about what Crossing defines.
-use Prim.Native.Nat.{ℕ, _≤_, _<_}
+use Prim.Native.Nat.{ℕ, _+_, _^_, _≤_, _<_}
 use mathlib.Core.Path.{_≡_, refl, sym, ap, _∙_}
+use mathlib.Core.List.{List}
+use native.Mathlib.Omega.{arith}
 use lib.Dec.{leb, eqb}
 use lib.ListN.{getD, set}
 use lib.Seq.{set-getD}
@@ -12,7 +14,8 @@ use Rattle.refusal.specs.Laws.Pick.{pick-true, pick-false}
 use Rattle.refusal.specs.declared.Refusal.{Refusal}
 use Rattle.refusal.specs.declared.Refusal.the-variants.{Malformed}
 use Rattle.bankdef.specs.declared.Bankdef.{Bankdef}
-use Rattle.iter.specs.Step.{origin, seenOf, badState, bankAfter, kept, stopped, stepOf}
+use Rattle.iter.specs.Padding.{Fits, lostIn}
+use Rattle.iter.specs.Step.{origin, seenOf, badState, bankAfter, maxSum, lostAfter, kept, stopped, stepOf}
 use Rattle.iter.specs.Theorems.StepFacts.{stands-in}
 use Rattle.iter.specs.declared.Crossing.{Crossing}
 use Rattle.iter.specs.declared.Moved.{Moved}
@@ -22,7 +25,7 @@ use Rattle.iter.specs.declared.Pos.{Pos}
 use Rattle.iter.specs.declared.Stepped.{Stepped}
 use Rattle.iter.specs.declared.Walk.{Walk}
 use Rattle.iter.specs.Crossing.{crossingOf, putBy, putIn}
-use Rattle.iter.specs.Laws.Crossing.{halts, switch-made, tests-put}
+use Rattle.iter.specs.Laws.Crossing.{halts, halts-skip, switch-made, tests-put}
 
 -- A step is the crossing of the node in the bank that it stands in, put into the walk, where there is such a bank.
 pub step-crosses : (def : Bankdef) (walk : Walk) (node : Node) → let bank = bankAfter (walk .bank) node in
@@ -32,6 +35,12 @@ unfolding stepOf crossingOf
 step-crosses def walk node =
     let bank = bankAfter (walk .bank) node in
     tests-put def walk node bank (leb maxBanks bank) (badState node) (seenOf def (getD (walk .at) bank origin) node)
+
+-- no bits added leave a sum as it was
+none-added : (lost : ℕ) → lost < 2 ^ 64 → lost ≡ lostAfter lost 0
+none-added lost h =
+    let same : lost + 0 ≡ lost = omega arith in
+    sym (pick-true _ _ (le-leb (lost + 0) maxSum (omega arith)) ∙ same)
 
 -- The same by its cases: no such bank, a crossing that is refused, one that is made.
 module _ (def : Bankdef) (walk : Walk) (node : Node) {bank : ℕ} (b : bank ≡ bankAfter (walk .bank) node) where
@@ -81,3 +90,29 @@ module _ (def : Bankdef) (walk : Walk) (node : Node) {bank : ℕ} (b : bank ≡ 
             either (eqb (node .kind) 1)
             (λ t. absurd (switch-made def (getD (walk .at) bank origin) node (eqb-true (node .kind) 1 t) why (ap (λ (x : Crossing). x .seen) (sym e) ∙ f)))
             (λ t. sym (stands-in (walk .bank) node (eqb-false (node .kind) 1 t)) ∙ sym b)
+
+    -- The walk after a step, refused ones too, is the one that has the crossing's position and bits stored: so a loop may store them as they come.
+    pub crossing-kept : Fits walk → stepOf def walk node .walk ≡ kept walk bank (c .after) (c .skipped .bits)
+    crossing-kept fits = ap (λ (s : Stepped). s .walk) crossing-in ∙ put-kept (c .seen) refl
+      where
+        kept-same : walk .bank ≡ bank → getD (walk .at) bank origin ≡ c .after → lostIn walk bank ≡ lostAfter (lostIn walk bank) (c .skipped .bits)
+            → walk ≡ kept walk bank (c .after) (c .skipped .bits)
+        kept-same x y z =
+            ap (λ (l : List Pos). record { at = l; lost = walk .lost; bank = walk .bank }) (sym (set-getD (walk .at) bank origin) ∙ ap (set (walk .at) bank) y)
+            ∙ ap (λ (l : List ℕ). record { at = set (walk .at) bank (c .after); lost = l; bank = walk .bank })
+            (sym (set-getD (walk .lost) bank 0) ∙ ap (set (walk .lost) bank) z)
+            ∙ ap (λ (k : ℕ). record { at = set (walk .at) bank (c .after);
+              lost = set (walk .lost) bank (lostAfter (lostIn walk bank) (c .skipped .bits)); bank = k }) x
+
+        put-kept : (m : Moved) → c .seen ≡ m → putBy walk bank c m .walk ≡ kept walk bank (c .after) (c .skipped .bits)
+        put-kept (To p) f = refl
+        put-kept (Refused why) f =
+            let stays = halts def (getD (walk .at) bank origin) node why e f in
+            let none = halts-skip def (getD (walk .at) bank origin) node why e f in
+            let stood : walk .bank ≡ bank =
+            either (eqb (node .kind) 1)
+            (λ t. absurd (switch-made def (getD (walk .at) bank origin) node (eqb-true (node .kind) 1 t) why (ap (λ (x : Crossing). x .seen) (sym e) ∙ f)))
+            (λ t. sym (stands-in (walk .bank) node (eqb-false (node .kind) 1 t)) ∙ sym b) in
+            let sum : lostIn walk bank ≡ lostAfter (lostIn walk bank) (c .skipped .bits) =
+            rw none (none-added (lostIn walk bank) (fits bank)) in
+            kept-same stood (sym stays) sum

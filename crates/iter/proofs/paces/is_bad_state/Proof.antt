@@ -1,7 +1,7 @@
 -- A state that is read and is beyond 2: both tests of the definition, in its order.
 use borrow.Author.Tests.{le-leb, lt-leb}
-use Rattle.iter.proofs.steps.is_bad_state.Statement.{statement}
-use Rattle.iter.proofs.steps.is_bad_state.Tie as tie
+use Rattle.iter.proofs.paces.is_bad_state.Statement.{statement}
+use Rattle.iter.proofs.paces.is_bad_state.Tie as tie
 
 returns : tie.Need-returns
 returns c = rw (le-leb _ _ (c .before .if1 .taken))

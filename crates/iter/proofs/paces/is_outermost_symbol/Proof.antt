@@ -1,8 +1,8 @@
 -- A symbol of depth 0: both tests of the definition, in its order.
 use borrow.Author.Needs.{needs}
 use mathlib.Core.Path.{_∙_, sym}
-use Rattle.iter.proofs.steps.is_outermost_symbol.Statement.{statement}
-use Rattle.iter.proofs.steps.is_outermost_symbol.Tie as tie
+use Rattle.iter.proofs.paces.is_outermost_symbol.Statement.{statement}
+use Rattle.iter.proofs.paces.is_outermost_symbol.Tie as tie
 
 is-symbol-requires : tie.Need-is-symbol-requires
 is-symbol-requires c κs = search needs

@@ -1,7 +1,7 @@
 -- Known-ness over an item or an alignment: the definition picks by the same test.
 use borrow.Author.Tests.{eq-eqb, ne-eqb}
-use Rattle.iter.proofs.steps.stays_known.Statement.{statement}
-use Rattle.iter.proofs.steps.stays_known.Tie as tie
+use Rattle.iter.proofs.paces.stays_known.Statement.{statement}
+use Rattle.iter.proofs.paces.stays_known.Tie as tie
 
 returns : tie.Need-returns
 returns c = rw (eq-eqb _ _ (c .if1 .taken))

@@ -1,7 +1,7 @@
 -- A symbol: the two tests of the definition, in its order.
 use borrow.Author.Tests.{eq-eqb, ne-eqb}
-use Rattle.iter.proofs.steps.is_symbol.Statement.{statement}
-use Rattle.iter.proofs.steps.is_symbol.Tie as tie
+use Rattle.iter.proofs.paces.is_symbol.Statement.{statement}
+use Rattle.iter.proofs.paces.is_symbol.Tie as tie
 
 returns : tie.Need-returns
 returns c = rw (eq-eqb _ _ (c .if1 .taken))

@@ -1,0 +1,54 @@
+-- An `align`: by whether the bank's addresses can be told.
+use borrow.Author.Needs.{needs}
+use mathlib.Core.Path.{_≡_, _∙_, sym}
+use mathlib.Core.Bool.{true}
+use borrow.Author.Tests.{not-true, not-false}
+use Rattle.iter.specs.Distance.{tellable}
+use Rattle.iter.proofs.PaceLaws.{paces-align, paces-align-untold}
+use Rattle.iter.proofs.paces.pace_align.Statement.{statement}
+use Rattle.iter.proofs.paces.pace_align.Tie as tie
+
+-- past the test
+tells : (c : tie.Else1) → tellable (c .before .before .args .def) ≡ true
+tells c = sym (c .before .is-tellable .ensures) ∙ not-false _ (c .if1 .left)
+
+is-tellable-requires : tie.Need-is-tellable-requires
+is-tellable-requires c κs = search needs
+
+halted-requires : tie.Need-halted-requires
+halted-requires c κs = search needs
+
+returns : tie.Need-returns
+returns c =
+    let t = c .before in
+    let s = t .before .before in
+    paces-align-untold _ _ _ (s .pre .0) (s .pre .1) (sym (t .before .is-tellable .ensures) ∙ not-true _ (t .if1 .taken)) (c .halted .ensures)
+
+distance-in-bits-requires : tie.Need-distance-in-bits-requires
+distance-in-bits-requires c κs = tells c
+
+stays-known-requires : tie.Need-stays-known-requires
+stays-known-requires c κs = search needs
+
+added-requires : tie.Need-added-requires
+added-requires c κs = search needs
+
+returns-2 : tie.Need-returns-2
+returns-2 c =
+    let k = c .before in
+    let d = k .before in
+    let e = d .before in
+    let s = e .before .before in
+    paces-align _ _ _ (s .pre .0) (s .pre .1) (d .distance-in-bits .result) (tells e) (d .distance-in-bits .ensures) (rw (k .stays-known .ensures) at (c .added .ensures))
+
+pub pace-align-spec : {M : Type 1} → statement M
+pace-align-spec =
+    tie.close
+    (tie.spec
+    is-tellable-requires
+    halted-requires
+    returns
+    distance-in-bits-requires
+    stays-known-requires
+    added-requires
+    returns-2)

@@ -1,0 +1,72 @@
+-- A step in numbers: a node's crossing told by numbers alone, so that a loop may hold it and store it into its own walk.
+use Prim.Native.Nat.{ℕ, _+_}
+use mathlib.Core.Path.{_≡_}
+use mathlib.Core.Bool.{Bool}
+use lib.Dec.{eqb, leb}
+use Rattle.refusal.specs.Limits.{maxPosition}
+use Rattle.refusal.specs.Pick.{pick}
+use Rattle.refusal.specs.Refusals.{numberOf}
+use Rattle.refusal.specs.declared.Refusal.{Refusal}
+use Rattle.refusal.specs.declared.Refusal.the-variants.{Malformed, PositionPast}
+use Rattle.bankdef.specs.declared.Bankdef.{Bankdef}
+use Rattle.iter.specs.Crossing.{crossingOf}
+use Rattle.iter.specs.Distance.{skipsOf}
+use Rattle.iter.specs.Step.{origin}
+use Rattle.iter.specs.declared.Crossing.{Crossing}
+use Rattle.iter.specs.declared.Moved.{Moved}
+use Rattle.iter.specs.declared.Moved.the-variants.{To, Refused}
+use Rattle.iter.specs.declared.Node.{Node}
+use Rattle.iter.specs.declared.Paced.{Paced}
+use Rattle.iter.specs.declared.Pos.{Pos}
+
+-- the number of what a step is refused for; 0 where it is made
+abbrev pub faultIn : Moved → ℕ
+faultIn (To p) = 0
+faultIn (Refused why) = numberOf why
+
+-- the position that is seen; a node that is refused sees none, and counts as at the start
+abbrev pub seenIn : Moved → Pos
+seenIn (To p) = p
+seenIn (Refused why) = origin
+
+-- a crossing's numbers
+abbrev pub numbersOf : Crossing → Paced
+numbersOf c = record { fault = faultIn (c .seen); seen = seenIn (c .seen); after = c .after; bits = c .skipped .bits }
+
+-- "4: the list or a call's number is malformed", "5: a position would pass 4,294,967,295": a step meets no other refusal
+abbrev pub whyBy : ℕ → ℕ → Refusal
+whyBy fault index = pick (eqb fault 4) (Malformed index) (PositionPast index)
+
+-- what the node sees, by the numbers
+abbrev pub seenBy : Paced → ℕ → Moved
+seenBy p index = pick (eqb (p .fault) 0) (To (p .seen)) (Refused (whyBy (p .fault) index))
+
+-- the crossing that the numbers tell
+abbrev pub crossedBy : Bankdef → ℕ → Paced → Crossing
+crossedBy def index p = record { seen = seenBy p index; skipped = skipsOf def (p .bits); after = p .after }
+
+-- What `pace` promises: its numbers are those of the node's crossing, and tell all of it.
+abbrev pub Paces : Bankdef → Pos → Node → Paced → Type 0
+Paces def at node p = (p ≡ numbersOf (crossingOf def at node)) × (crossedBy def (node .index) p ≡ crossingOf def at node)
+
+-- ---- the shapes that a step has
+
+-- a step that is made
+abbrev pub madeBy : Pos → Pos → ℕ → Paced
+madeBy seen after bits = record { fault = 0; seen = seen; after = after; bits = bits }
+
+-- one that is refused: nothing is skipped, and the position is the one given
+abbrev pub haltedBy : Pos → ℕ → Paced
+haltedBy at fault = record { fault = fault; seen = origin; after = at; bits = 0 }
+
+-- a position moved on by so many bits
+abbrev pub onward : Pos → ℕ → Bool → Pos
+onward at bits known = record { position = at .position + bits; known = known }
+
+-- "4 to 7 add their number, 8 adds the distance to alignment": the node sees the position before it
+abbrev pub addedBy : Pos → ℕ → Bool → ℕ → Paced
+addedBy at bits known lost = pick (leb (at .position + bits) maxPosition) (madeBy at (onward at bits known) lost) (haltedBy at 5)
+
+-- "a symbol (label or constant) of depth 0 in a bank with label alignment is aligned first": the node sees the position after it
+abbrev pub alignedBy : Pos → ℕ → Paced
+alignedBy at bits = pick (leb (at .position + bits) maxPosition) (madeBy (onward at bits (at .known)) (onward at bits (at .known)) bits) (haltedBy at 5)

@@ -1,0 +1,231 @@
+// One node's step, in numbers: what it sees, where it leads and what its alignment skips, kind by kind.
+use crate::Crossing;
+use crate::Moved;
+use crate::Node;
+use crate::Paced;
+use crate::Pos;
+use crate::alignment::distance_in_bits;
+use crate::alignment::is_tellable;
+use crate::alignment::skipped_by;
+use bankdef::Bankdef;
+use refusal::ADDR;
+use refusal::ALIGN;
+use refusal::ASSERT;
+use refusal::CONSTANT;
+use refusal::DATA;
+use refusal::INSTRUCTION;
+use refusal::LABEL;
+use refusal::NOTHING;
+use refusal::Opt;
+use refusal::RESERVE;
+use refusal::RESOLVED;
+use refusal::Refusal;
+use refusal::SWITCH;
+use refusal::UNRESOLVED;
+ghost use mathlib.Core.Path.{_≡_};
+ghost use mathlib.Core.Bool.{false, _||_};
+ghost use Prim.Native.Nat.{_≤_};
+ghost use lib.Dec.{eqb};
+ghost use Rattle.iter.specs.Crossing.{crossingOf};
+ghost use Rattle.iter.specs.Known.{staysKnown};
+ghost use Rattle.iter.specs.Pace.{Paces, madeBy, haltedBy, addedBy, alignedBy, seenBy, whyBy, crossedBy};
+ghost use Rattle.iter.specs.Step.{outermostSymbol, badState};
+
+// A step is made, or is refused for one of two of document 01's numbers.
+const MADE: u8 = 0;
+const MALFORMED: u8 = 4;
+const POSITION_PAST: u8 = 5;
+
+// A step that is made.
+fn made(seen: Pos, after: Pos, bits: u32) -> Paced
+    ensures { λ r. ⌜ r ≡ madeBy seen after bits ⌝ }
+{
+    Paced {
+        fault: MADE,
+        seen,
+        after,
+        bits,
+    }
+}
+
+// A step that is refused: nothing is skipped, and the position is the one given.
+fn halted(at: Pos, fault: u8) -> Paced
+    ensures { λ r. ⌜ r ≡ haltedBy at fault ⌝ }
+{
+    Paced {
+        fault,
+        seen: Pos {
+            position: 0,
+            known: true,
+        },
+        after: at,
+        bits: 0,
+    }
+}
+
+// A position moved on, where the sum stays within the limit: "a position would pass 4,294,967,295". The node sees it as it was.
+fn added(at: Pos, bits: u32, known: bool, lost: u32) -> Paced
+    ensures { λ r. ⌜ r ≡ addedBy at bits known lost ⌝ }
+{
+    let sum = (at.position as u64) + (bits as u64);
+    if refusal::MAX_POSITION < sum {
+        return halted(at, POSITION_PAST);
+    }
+    let after = Pos {
+        position: sum as u32,
+        known,
+    };
+    made(at, after, lost)
+}
+
+// The same where the node is "aligned first", and sees the position moved on.
+fn aligned_first(at: Pos, bits: u32) -> Paced
+    ensures { λ r. ⌜ r ≡ alignedBy at bits ⌝ }
+{
+    let sum = (at.position as u64) + (bits as u64);
+    if refusal::MAX_POSITION < sum {
+        return halted(at, POSITION_PAST);
+    }
+    let seen = Pos {
+        position: sum as u32,
+        known: at.known,
+    };
+    made(seen, seen, bits)
+}
+
+// "2 label, 3 constant"
+fn is_symbol(kind: u8) -> bool
+    ensures { λ r. ⌜ r ≡ (eqb kind 2 || eqb kind 3) ⌝ }
+{
+    kind == LABEL || kind == CONSTANT
+}
+
+// "a symbol (label or constant) of depth 0"
+pub fn is_outermost_symbol(node: Node) -> bool
+    ensures { λ r. ⌜ r ≡ outermostSymbol node ⌝ }
+{
+    is_symbol(node.kind) && node.operand == 0
+}
+
+// Whether a position stays known over an item or an alignment: "4, 6, 7, 8 keep it only if state is 0; 5 .. leave it".
+pub fn stays_known(known: bool, node: Node) -> bool
+    ensures { λ r. ⌜ r ≡ staysKnown known node ⌝ }
+{
+    if node.kind == DATA {
+        return known;
+    }
+    if known { node.state == RESOLVED } else { false }
+}
+
+// Whether a node's state is read and is none of "0 resolved, 1 stable, 2 unresolved": "0, 1 and 2 don't read the state".
+pub fn is_bad_state(node: Node) -> bool
+    ensures { λ r. ⌜ r ≡ badState node ⌝ }
+{
+    node.kind >= CONSTANT && node.state > UNRESOLVED
+}
+
+// "A node sees its bank's position before its own advance, except that a symbol (label or constant) of depth 0 in a bank with label alignment is aligned
+// first.", and is where it is afterwards.
+fn pace_symbol(def: Bankdef, at: Pos, node: Node) -> Paced
+    requires { ⌜ badState node ≡ false ⌝ }
+    requires { ⌜ node .kind ≤ 3 ⌝ }
+    ensures { λ r. ⌜ Paces def at node r ⌝ }
+{
+    if !is_outermost_symbol(node) {
+        return made(at, at, 0);
+    }
+    let align = def.align;
+    match align {
+        Opt::None => made(at, at, 0),
+        Opt::Some(a) => {
+            if !is_tellable(def) {
+                return halted(at, MALFORMED);
+            }
+            aligned_first(at, distance_in_bits(def, at.position, a))
+        }
+    }
+}
+
+// "8 adds the distance to alignment"
+fn pace_align(def: Bankdef, at: Pos, node: Node) -> Paced
+    requires { ⌜ badState node ≡ false ⌝ }
+    requires { ⌜ node .kind ≡ 8 ⌝ }
+    ensures { λ r. ⌜ Paces def at node r ⌝ }
+{
+    if !is_tellable(def) {
+        return halted(at, MALFORMED);
+    }
+    let bits = distance_in_bits(def, at.position, node.number);
+    added(at, bits, stays_known(at.known, node), bits)
+}
+
+// The step over one node, in the bank that it stands in, whose record is `def` and whose position is `at`. "Afterwards 4 to 7 add their number, 8 adds the
+// distance to alignment, 9 sets the position." No other bank is read, and the answer is numbers alone, so that a loop need not hand its walk about.
+pub fn pace(def: Bankdef, at: Pos, node: Node) -> Paced
+    ensures { λ r. ⌜ Paces def at node r ⌝ }
+{
+    if is_bad_state(node) {
+        return halted(at, MALFORMED);
+    }
+    let kind = node.kind;
+    match kind {
+        NOTHING..=SWITCH => made(at, at, 0),
+        LABEL..=CONSTANT => pace_symbol(def, at, node),
+        INSTRUCTION..=RESERVE => added(at, node.number, stays_known(at.known, node), 0),
+        ALIGN => pace_align(def, at, node),
+        // "An `addr` that moves the position is not padding."
+        ADDR => made(
+            at,
+            Pos {
+                position: node.number,
+                known: node.state == RESOLVED,
+            },
+            0,
+        ),
+        ASSERT => made(at, at, 0),
+        // "Any other kind number is refused."
+        _ => halted(at, MALFORMED),
+    }
+}
+
+// What a step is refused for, by its number.
+pub fn why_refused(fault: u8, node: u64) -> Refusal
+    ensures { λ r. ⌜ r ≡ whyBy fault node ⌝ }
+{
+    if fault == MALFORMED {
+        Refusal::Malformed(node)
+    } else {
+        Refusal::PositionPast(node)
+    }
+}
+
+// The position that a node sees, by its step.
+fn sight_of(p: Paced, node: u64) -> Moved
+    ensures { λ r. ⌜ r ≡ seenBy p node ⌝ }
+{
+    let seen = p.seen;
+    if p.fault == MADE {
+        Moved::To(seen)
+    } else {
+        Moved::Refused(why_refused(p.fault, node))
+    }
+}
+
+// The crossing that a step's numbers tell.
+fn crossing_of(def: Bankdef, p: Paced, node: u64) -> Crossing
+    ensures { λ r. ⌜ r ≡ crossedBy def node p ⌝ }
+{
+    let after = p.after;
+    Crossing {
+        seen: sight_of(p, node),
+        skipped: skipped_by(def, p.bits),
+        after,
+    }
+}
+
+// One node in the bank that it stands in, by value: what it sees, what its alignment skips, and the position after it.
+pub fn cross(def: Bankdef, at: Pos, node: Node) -> Crossing
+    ensures { λ r. ⌜ r ≡ crossingOf def at node ⌝ }
+{
+    crossing_of(def, pace(def, at, node), node.index)
+}
