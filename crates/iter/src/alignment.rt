@@ -86,7 +86,10 @@ pub fn distance_in_bits(def: Bankdef, position: u32, alignment: u32) -> u32
     if alignment == 0 {
         return 0;
     }
-    gap_to(remainder_by(address_in_bits(def, position), alignment), alignment)
+    gap_to(
+        remainder_by(address_in_bits(def, position), alignment),
+        alignment,
+    )
 }
 
 // The whole units in so many bits; a unit of 0 holds none.

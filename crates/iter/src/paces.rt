@@ -33,7 +33,9 @@ ghost use Rattle.iter.specs.Step.{outermostSymbol, badState};
 
 // A step is made, or is refused for one of two of document 01's numbers.
 const MADE: u8 = 0;
+
 const MALFORMED: u8 = 4;
+
 const POSITION_PAST: u8 = 5;
 
 // A step that is made.

@@ -101,8 +101,11 @@ module _ (def : Bankdef) (walk : Walk) (node : Node) {bank : ℕ} (b : bank ≡ 
             ap (λ (l : List Pos). record { at = l; lost = walk .lost; bank = walk .bank }) (sym (set-getD (walk .at) bank origin) ∙ ap (set (walk .at) bank) y)
             ∙ ap (λ (l : List ℕ). record { at = set (walk .at) bank (c .after); lost = l; bank = walk .bank })
             (sym (set-getD (walk .lost) bank 0) ∙ ap (set (walk .lost) bank) z)
-            ∙ ap (λ (k : ℕ). record { at = set (walk .at) bank (c .after);
-              lost = set (walk .lost) bank (lostAfter (lostIn walk bank) (c .skipped .bits)); bank = k }) x
+            ∙ ap (λ (k : ℕ). record {
+              at = set (walk .at) bank (c .after);
+              lost = set (walk .lost) bank (lostAfter (lostIn walk bank) (c .skipped .bits));
+              bank = k;
+            }) x
 
         put-kept : (m : Moved) → c .seen ≡ m → putBy walk bank c m .walk ≡ kept walk bank (c .after) (c .skipped .bits)
         put-kept (To p) f = refl

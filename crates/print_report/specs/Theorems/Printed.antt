@@ -29,7 +29,6 @@ use Rattle.print_text.specs.Lines.{line, placeNumbers, passesText, blocksText, 
 use Rattle.print_report.specs.Printed.{blocksBuilt, imageBuilt}
 use Rattle.print_report.specs.Report.{lentRoom, answerText, builtText, reportText}
 
-
 four-told : {k : Kind} {file : List ℕ} {t : Told Shape} → FormTold k file t → (n : ℕ) (p : Place) → t ≡ refuses n p → (i : ℕ) × (n ≡ 4) × (p ≡ One i)
 four-told (long h) n p e = (_, cc, cc)
 four-told (no-head h a) n p e = (_, cc, cc)
