@@ -425,6 +425,8 @@ def write_function(b):
     """A line of the table; of an exported function a paragraph with its contract."""
     crate, _, name = b.name.partition('::')
     path, _, head = functions_of(crate).get(name, ('', False, []))
+    if not path:
+        return [f'| `{b.name}` | there is no such function | | |']
     if not b['not'] or not b['one']:
         fault(f'{b.where}: function {b.name} has not both of not and one')
     if not statements(b['one']):
