@@ -21,6 +21,8 @@ use Rattle.record_fault.proofs.scan_lines.Kinds as scan-lines-kinds
 use Rattle.record_fault.proofs.scan_lines.Reads as scan-lines-reads
 use Rattle.record_fault.proofs.known_line.Kinds as known-line-kinds
 use Rattle.record_fault.proofs.known_line.Reads as known-line-reads
+use Rattle.record_fault.proofs.search_line.Kinds as search-line-kinds
+use Rattle.record_fault.proofs.search_line.Reads as search-line-reads
 use Rattle.record_fault.proofs.take_line.Kinds as take-line-kinds
 use Rattle.record_fault.proofs.take_line.Reads as take-line-reads
 
@@ -37,6 +39,9 @@ one-step r s p q =
 
 pub known-line-unique : OneOutcome 2 known-line-kinds.ps known-line-kinds.r known-line-reads.Learnt
 known-line-unique κs a x y e f p q = one-step x y p q
+
+pub search-line-unique : OneOutcome 2 search-line-kinds.ps search-line-kinds.r search-line-reads.Learnt
+search-line-unique κs a x y e f p q = one-step x y p q
 
 pub take-line-unique : OneOutcome 2 take-line-kinds.ps take-line-kinds.r take-line-reads.Learnt
 take-line-unique κs a x y e f p q = one-step x y p q

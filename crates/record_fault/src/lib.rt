@@ -93,7 +93,7 @@ fn stop_by(format: u8, text: &[u8], t: &[u8; 256], at: usize) -> usize
 }
 
 // The line that begins at a place, whose end is searched for; behind the text it is empty.
-fn search_line(format: u8, text: &[u8], t: &[u8; 256], at: usize, state: u16) -> Step
+pub fn search_line(format: u8, text: &[u8], t: &[u8; 256], at: usize, state: u16) -> Step
     requires { ⌜ Spells (now t) ⌝ }
     ensures { λ r. ⌜ Stepped format (now (text .entry)) at state r ⌝ }
 {

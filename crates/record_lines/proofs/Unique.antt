@@ -10,6 +10,12 @@ use Rattle.record_lines.proofs.char_at.Kinds as char-at-kinds
 use Rattle.record_lines.proofs.char_at.Reads as char-at-reads
 use Rattle.record_lines.proofs.pair.Kinds as pair-kinds
 use Rattle.record_lines.proofs.pair.Reads as pair-reads
+use Rattle.record_lines.proofs.byte_at.Kinds as byte-at-kinds
+use Rattle.record_lines.proofs.byte_at.Reads as byte-at-reads
+use Rattle.record_lines.proofs.all_digits.Kinds as all-digits-kinds
+use Rattle.record_lines.proofs.all_digits.Reads as all-digits-reads
+use Rattle.record_lines.proofs.sum_pairs.Kinds as sum-pairs-kinds
+use Rattle.record_lines.proofs.sum_pairs.Reads as sum-pairs-reads
 use Rattle.record_lines.proofs.pair_inside.Kinds as pair-inside-kinds
 use Rattle.record_lines.proofs.pair_inside.Reads as pair-inside-reads
 use Rattle.record_lines.proofs.sum_checked.Kinds as sum-checked-kinds
@@ -30,6 +36,15 @@ char-at-unique κs a x y e f p q = determined p q
 
 pub pair-unique : OneOutcome 2 pair-kinds.ps pair-kinds.r pair-reads.Learnt
 pair-unique κs a x y e f p q = determined p q
+
+pub byte-at-unique : OneOutcome 1 byte-at-kinds.ps byte-at-kinds.r byte-at-reads.Learnt
+byte-at-unique κs a x y e f p q = determined p q
+
+pub all-digits-unique : OneOutcome 1 all-digits-kinds.ps all-digits-kinds.r all-digits-reads.Learnt
+all-digits-unique κs a x y e f p q = determined p q
+
+pub sum-pairs-unique : OneOutcome 1 sum-pairs-kinds.ps sum-pairs-kinds.r sum-pairs-reads.Learnt
+sum-pairs-unique κs a x y e f p q = determined p q
 
 pub pair-inside-unique : OneOutcome 2 pair-inside-kinds.ps pair-inside-kinds.r pair-inside-reads.Learnt
 pair-inside-unique κs a x y e f p q = determined p q

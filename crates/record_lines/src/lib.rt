@@ -112,7 +112,46 @@ pub fn pair(line: &[u8], t: &[u8; 256], i: u32) -> u8
     16 * (high % 16) + low % 16
 }
 
-// The same of characters that are known to be there.
+// The same without a table, for a line that is looked at once.
+pub fn byte_at(line: &[u8], i: u32) -> u8
+    ensures { λ r. ⌜ r ≡ pairAt (now (line .entry)) i ⌝ }
+{
+    let at = i as u64;
+    let high = value(char_at(line, at));
+    let low = value(char_at(line, at + 1));
+    16 * (high % 16) + low % 16
+}
+
+// Whether all characters from a place on are digits.
+pub fn all_digits(line: &[u8], from: usize) -> bool
+    ensures { λ r. ⌜ r ≡ allDigits (drop from (now (line .entry))) ⌝ }
+{
+    let mut i = from;
+    while i < line.len() {
+        if value(line[i]) == 16 {
+            return false;
+        }
+        i += 1;
+    }
+    true
+}
+
+// The wrapping sum of the n bytes that a line spells from a place on, digits or not.
+pub fn sum_pairs(line: &[u8], from: u16, n: u16) -> u8
+    ensures { λ r. ⌜ r ≡ sumOf (bytesAt (now (line .entry)) from n) % 256 ⌝ }
+{
+    let start = from as u32;
+    let count = n as u32;
+    let mut sum = 0u8;
+    let mut j = 0u32;
+    while j < count {
+        sum = std::num::wrapping_add_u8(sum, byte_at(line, start + 2 * j));
+        j += 1;
+    }
+    sum
+}
+
+// The byte that the characters at i and behind it spell, where these are known to be there.
 pub fn pair_inside(line: &[u8], t: &[u8; 256], i: usize) -> u8
     requires { ⌜ Spells (now t) ⌝ }
     requires { ⌜ i + 1 < length (now line) ⌝ }

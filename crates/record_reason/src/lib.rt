@@ -7,6 +7,7 @@ ghost use Prim.Native.Nat.{_+_, _≤_, _<_, max, min};
 ghost use lib.Dec.{eqb};
 ghost use lib.ListN.{length};
 ghost use Rattle.refusal.specs.Pick.{pick};
+ghost use Rattle.record_lines.specs.Spelling.{Spells};
 ghost use Rattle.record_fault.specs.Reading.{readText};
 ghost use Rattle.record_fault.specs.Steps.{leavesBy};
 ghost use Rattle.record_fault.specs.Trail.{trail};
@@ -80,7 +81,8 @@ fn is_end(kind: u8) -> bool
 }
 
 // Line n: a walk over those before it.
-fn place_of(format: u8, text: &[u8], n: u64) -> Place
+fn place_of(format: u8, text: &[u8], t: &[u8; 256], n: u64) -> Place
+    requires { ⌜ Spells (now t) ⌝ }
     ensures { λ r. ⌜ Placed format (now (text .entry)) n r ⌝ }
 {
     let mut at = 0usize;
@@ -88,7 +90,7 @@ fn place_of(format: u8, text: &[u8], n: u64) -> Place
     let mut ended = false;
     let mut k = 0u64;
     while k < n {
-        let s = record_fault::take_line(format, text, at, state);
+        let s = record_fault::search_line(format, text, t, at, state);
         let line = s.line;
         ended = is_end(line.kind);
         at = s.next;
@@ -130,7 +132,8 @@ fn next_giver(found: u64, k: u64, left: bool) -> u64
 }
 
 // The first line, of the n first, that gives a byte from `first` on and below `end`.
-fn first_giver(format: u8, text: &[u8], n: u64, first: u64, end: u64) -> u64
+fn first_giver(format: u8, text: &[u8], t: &[u8; 256], n: u64, first: u64, end: u64) -> u64
+    requires { ⌜ Spells (now t) ⌝ }
     ensures { λ r. ⌜ r ≡ giver format (now (text .entry)) first end n ⌝ }
 {
     let mut at = 0usize;
@@ -138,7 +141,7 @@ fn first_giver(format: u8, text: &[u8], n: u64, first: u64, end: u64) -> u64
     let mut found = 0u64;
     let mut k = 0u64;
     while k < n {
-        let s = record_fault::take_line(format, text, at, state);
+        let s = record_fault::search_line(format, text, t, at, state);
         let line = s.line;
         found = next_giver(
             found,
@@ -153,11 +156,12 @@ fn first_giver(format: u8, text: &[u8], n: u64, first: u64, end: u64) -> u64
 }
 
 // The address that line n gives bytes from.
-fn address_at(format: u8, text: &[u8], n: u64) -> u32
+fn address_at(format: u8, text: &[u8], t: &[u8; 256], n: u64) -> u32
+    requires { ⌜ Spells (now t) ⌝ }
     ensures { λ r. ⌜ r ≡ addressIn (itemOf format (now (text .entry)) n) ⌝ }
 {
-    let p = place_of(format, text, n);
-    let s = record_fault::take_line(format, text, p.at, p.state);
+    let p = place_of(format, text, t, n);
+    let s = record_fault::search_line(format, text, t, p.at, p.state);
     let line = s.line;
     line.address
 }
@@ -177,14 +181,15 @@ fn lower_of(kind: u8, address: u32, count: u8, low: u64) -> u64
 }
 
 // The lowest address that the file gives a byte at.
-fn lowest_of(format: u8, text: &[u8]) -> u64
+fn lowest_of(format: u8, text: &[u8], t: &[u8; 256]) -> u64
+    requires { ⌜ Spells (now t) ⌝ }
     ensures { λ r. ⌜ r ≡ lowest format (now (text .entry)) ⌝ }
 {
     let mut at = 0usize;
     let mut state = 0u16;
     let mut low = 4_294_967_296u64;
     while at < text.len() {
-        let s = record_fault::take_line(format, text, at, state);
+        let s = record_fault::search_line(format, text, t, at, state);
         let line = s.line;
         low = lower_of(line.kind, line.address, line.count, low);
         at = s.next;
@@ -200,7 +205,17 @@ fn larger(a: u64, b: u64) -> u64
 }
 
 // What is wrong with the addresses of line n, whose `many` bytes begin at `start`.
-fn span_cause(format: u8, text: &[u8], load: u32, n: u64, start: u64, many: u64, top: u64) -> Cause
+fn span_cause(
+    format: u8,
+    text: &[u8],
+    t: &[u8; 256],
+    load: u32,
+    n: u64,
+    start: u64,
+    many: u64,
+    top: u64,
+) -> Cause
+    requires { ⌜ Spells (now t) ⌝ }
     requires { ⌜ (start < 4294967296) × (many < 256) × (0 < top) ⌝ }
     ensures { λ r. ⌜ r ≡ spanCause format load (now (text .entry)) n start many top ⌝ }
 {
@@ -209,18 +224,27 @@ fn span_cause(format: u8, text: &[u8], load: u32, n: u64, start: u64, many: u64,
         return made(PAST, end - 1, top - 1);
     }
     if start < load as u64 {
-        return made(BELOW, start, lowest_of(format, text));
+        return made(BELOW, start, lowest_of(format, text, t));
     }
-    let first = first_giver(format, text, n, start, end);
+    let first = first_giver(format, text, t, n, start, end);
     made(
         TWICE,
         first,
-        larger(start, address_at(format, text, first) as u64),
+        larger(start, address_at(format, text, t, first) as u64),
     )
 }
 
 // What is wrong with line n, by its characters and what is in force there.
-fn line_cause(format: u8, text: &[u8], load: u32, n: u64, state: u16, line: &[u8]) -> Cause
+fn line_cause(
+    format: u8,
+    text: &[u8],
+    t: &[u8; 256],
+    load: u32,
+    n: u64,
+    state: u16,
+    line: &[u8],
+) -> Cause
+    requires { ⌜ Spells (now t) ⌝ }
     ensures { λ r. ⌜ r ≡ lineCause format load (now (text .entry)) n state (now (line .entry)) ⌝ }
 {
     let own = spelling::own_cause(format, line, state);
@@ -232,6 +256,7 @@ fn line_cause(format: u8, text: &[u8], load: u32, n: u64, state: u16, line: &[u8
     span_cause(
         format,
         text,
+        t,
         load,
         n,
         start,
@@ -241,10 +266,11 @@ fn line_cause(format: u8, text: &[u8], load: u32, n: u64, state: u16, line: &[u8
 }
 
 // Why line n is at fault.
-fn cause_at(format: u8, text: &[u8], load: u32, n: u64) -> Cause
+fn cause_at(format: u8, text: &[u8], t: &[u8; 256], load: u32, n: u64) -> Cause
+    requires { ⌜ Spells (now t) ⌝ }
     ensures { λ r. ⌜ r ≡ causeAt format load (now (text .entry)) n ⌝ }
 {
-    let p = place_of(format, text, n);
+    let p = place_of(format, text, t, n);
     if p.ended {
         return made(BEHIND, 0, 0);
     }
@@ -253,9 +279,9 @@ fn cause_at(format: u8, text: &[u8], load: u32, n: u64) -> Cause
         return made(NO_END, 0, 0);
     }
     let state = p.state;
-    let s = record_fault::take_line(format, text, at, state);
+    let s = record_fault::search_line(format, text, t, at, state);
     let stop = s.stop;
-    line_cause(format, text, load, n, state, &text[at..stop])
+    line_cause(format, text, t, load, n, state, &text[at..stop])
 }
 
 // The line at fault of a file that is read from a load address on, and why.
@@ -270,7 +296,8 @@ pub fn reason_of(format: u8, text: &[u8], load: u32) -> Why
             second: 0,
         },
         Fault::At(line) => {
-            let c = cause_at(format, text, load, line);
+            let t = record_lines::digit_table();
+            let c = cause_at(format, text, &t, load, line);
             Why {
                 reason: c.reason,
                 line,

@@ -14,7 +14,7 @@ ghost use Rattle.record_reason.specs.Spelling.{fieldsOf, hexTyped, dataT
 fn byte(line: &[u8], i: u32) -> u64
     ensures { λ r. ⌜ (r ≡ pairAt (now (line .entry)) i) × (r < 256) ⌝ }
 {
-    record_lines::pair(line, i) as u64
+    record_lines::byte_at(line, i) as u64
 }
 
 // Two bytes, the higher first.
@@ -93,7 +93,7 @@ fn wanted(line: &[u8], from: u8, body: u8, fewest: u8) -> u64
 fn summed(line: &[u8], from: u8, body: u8, target: u8) -> Cause
     ensures { λ r. ⌜ r ≡ sumCause from body target (now (line .entry)) ⌝ }
 {
-    let n = body as u16 + record_lines::pair(line, from as u32) as u16;
+    let n = body as u16 + record_lines::byte_at(line, from as u32) as u16;
     let sum = record_lines::sum_pairs(line, from as u16, n + 1);
     if sum == target {
         return made(0, 0, 0);

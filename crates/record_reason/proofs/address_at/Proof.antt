@@ -8,19 +8,19 @@ use Rattle.record_reason.proofs.address_at.Statement.{statement}
 use Rattle.record_reason.proofs.address_at.Tie as tie
 
 place-of-requires : tie.Need-place-of-requires
-place-of-requires c κs = search needs
+place-of-requires c κs = c .before .pre
 
-take-line-requires : tie.Need-take-line-requires
-take-line-requires c κs = search needs
+search-line-requires : tie.Need-search-line-requires
+search-line-requires c κs = c .before .before .pre
 
 returns : tie.Need-returns
 returns c =
     let a = c .before .before .before .before .args in
     let p = c .before .before .place-of .ensures in
-    let s = moved (a .format) (a .text .now) (a .n) _ _ _ (p .at) (p .state) (c .before .take-line .ensures) in
+    let s = moved (a .format) (a .text .now) (a .n) _ _ _ (p .at) (p .state) (c .before .search-line .ensures) in
     says-address (s .says)
 
 pub address-at-spec : {M : Type 1} → statement M
 address-at-spec =
     tie.close
-    (tie.spec place-of-requires take-line-requires returns)
+    (tie.spec place-of-requires search-line-requires returns)

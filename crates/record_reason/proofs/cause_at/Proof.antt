@@ -12,7 +12,7 @@ use Rattle.record_reason.proofs.cause_at.Statement.{statement}
 use Rattle.record_reason.proofs.cause_at.Tie as tie
 
 place-of-requires : tie.Need-place-of-requires
-place-of-requires c κs = search needs
+place-of-requires c κs = c .before .pre
 
 made-requires : tie.Need-made-requires
 made-requires c κs = search needs
@@ -29,8 +29,8 @@ returns-2 c =
     let past : length (c .before .before .before .before .before .args .text .now) ≤ t .at = subst (λ (x : ℕ). length (c .before .before .before .before .before .args .text .now) ≤ x) (c .before .before .before .place-of .ensures .at) (c .before .if2 .taken) in
     rw (c .made2 .ensures, sym (c .before .before .before .place-of .ensures .ended) ∙ c .before .before .if1 .left, le-leb (length (c .before .before .before .before .before .args .text .now)) (t .at) past)
 
-take-line-requires : tie.Need-take-line-requires
-take-line-requires c κs = search needs
+search-line-requires : tie.Need-search-line-requires
+search-line-requires c κs = c .before .before .before .before .pre
 
 sub-line-cause : tie.Need-sub-line-cause
 sub-line-cause c = search needs
@@ -39,10 +39,10 @@ part-line-cause-start : tie.Need-part-line-cause-start
 part-line-cause-start c = search needs
 
 part-line-cause-end : tie.Need-part-line-cause-end
-part-line-cause-end c = c .take-line .ensures .within (c .before .before .before .place-of .ensures .inside)
+part-line-cause-end c = c .search-line .ensures .within (c .before .before .before .place-of .ensures .inside)
 
 line-cause-requires : tie.Need-line-cause-requires
-line-cause-requires c κs = search needs
+line-cause-requires c κs = c .before .before .before .before .before .before .pre
 
 returns-3 : tie.Need-returns-3
 returns-3 c =
@@ -53,11 +53,11 @@ returns-3 c =
     let before : t .at < length l = subst (λ (x : ℕ). x < length l) (p .at) (c .before .before .before .if2 .left) in
     rw (sym (p .ended) ∙ c .before .before .before .before .if1 .left, lt-leb (length l) (t .at) before)
     (c .line-cause .ensures
-    ∙ ap (λ (s : List ℕ). lineCause (a .format) (a .load) l (a .n) (c .before .before .before .before .before .place-of .result .state) s) (c .before .before .take-line .ensures .part)
+    ∙ ap (λ (s : List ℕ). lineCause (a .format) (a .load) l (a .n) (c .before .before .before .before .before .place-of .result .state) s) (c .before .before .search-line .ensures .part)
     ∙ ap (λ (s : ℕ). lineCause (a .format) (a .load) l (a .n) s (lineAt l (c .before .before .before .before .before .place-of .result .at))) (p .state)
     ∙ ap (λ (x : ℕ). lineCause (a .format) (a .load) l (a .n) (t .state) (lineAt l x)) (p .at))
 
 pub cause-at-spec : {M : Type 1} → statement M
 cause-at-spec =
     tie.close
-    (tie.spec place-of-requires made-requires returns made-requires-2 returns-2 take-line-requires sub-line-cause part-line-cause-start part-line-cause-end line-cause-requires returns-3)
+    (tie.spec place-of-requires made-requires returns made-requires-2 returns-2 search-line-requires sub-line-cause part-line-cause-start part-line-cause-end line-cause-requires returns-3)

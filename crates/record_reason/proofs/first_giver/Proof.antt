@@ -7,16 +7,16 @@ use Rattle.record_reason.proofs.first_giver.Statement.{statement}
 use Rattle.record_reason.proofs.first_giver.Tie as tie
 
 abbrev Inv-loop : tie.InvT-loop
-Inv-loop format text n first end at₀ state₀ found₀ k₀ at state found k = Seeking format text n first end at state found k
+Inv-loop format text t n first end at₀ state₀ found₀ k₀ at state found k = Seeking format text n first end at state found k
 
 abbrev μ-loop : tie.MeasureT-loop
-μ-loop format text n first end at₀ state₀ found₀ k₀ at state found k = n - k
+μ-loop format text t n first end at₀ state₀ found₀ k₀ at state found k = n - k
 
 loop-holds : tie.Need-loop-holds Inv-loop μ-loop
 loop-holds c = seeking-starts (c .before .args .format) (c .before .args .text .now) (c .before .args .n) (c .before .args .first) (c .before .args .end)
 
-take-line-requires : tie.Need-take-line-requires Inv-loop μ-loop
-take-line-requires c κs = search needs
+search-line-requires : tie.Need-search-line-requires Inv-loop μ-loop
+search-line-requires c κs = c .before .before .before .pre
 
 leaves-requires : tie.Need-leaves-requires Inv-loop μ-loop
 leaves-requires c κs = search needs
@@ -31,7 +31,7 @@ loop-less : tie.Need-loop-less Inv-loop μ-loop
 loop-less c = search needs
 
 loop-again : tie.Need-loop-again Inv-loop μ-loop
-loop-again c = seeking-on _ _ _ _ _ (c .before .before .before .before .before .loop .inv) (c .before .before .before .before .loop-test .taken) (c .before .before .before .take-line .ensures) (c .before .leaves .ensures) (c .next-giver .ensures)
+loop-again c = seeking-on _ _ _ _ _ (c .before .before .before .before .before .loop .inv) (c .before .before .before .before .loop-test .taken) (c .before .before .before .search-line .ensures) (c .before .leaves .ensures) (c .next-giver .ensures)
 
 returns : tie.Need-returns Inv-loop μ-loop
 returns c = seeking-ends _ _ _ _ _ (c .before .loop .inv) (c .loop-test .left)
@@ -39,4 +39,4 @@ returns c = seeking-ends _ _ _ _ _ (c .before .loop .inv) (c .loop-test .left)
 pub first-giver-spec : {M : Type 1} → statement M
 first-giver-spec =
     tie.close
-    (tie.spec Inv-loop μ-loop loop-holds take-line-requires leaves-requires next-giver-requires add-k loop-less loop-again returns)
+    (tie.spec Inv-loop μ-loop loop-holds search-line-requires leaves-requires next-giver-requires add-k loop-less loop-again returns)

@@ -8,25 +8,25 @@ use Rattle.record_reason.proofs.lowest_of.Statement.{statement}
 use Rattle.record_reason.proofs.lowest_of.Tie as tie
 
 abbrev Inv-loop : tie.InvT-loop
-Inv-loop format text at₀ state₀ low₀ at state low = Sinking format text at state low
+Inv-loop format text t at₀ state₀ low₀ at state low = Sinking format text at state low
 
 abbrev μ-loop : tie.MeasureT-loop
-μ-loop format text at₀ state₀ low₀ at state low = length text - at
+μ-loop format text t at₀ state₀ low₀ at state low = length text - at
 
 loop-holds : tie.Need-loop-holds Inv-loop μ-loop
 loop-holds c = sinking-starts (c .before .args .format) (c .before .args .text .now)
 
-take-line-requires : tie.Need-take-line-requires Inv-loop μ-loop
-take-line-requires c κs = search needs
+search-line-requires : tie.Need-search-line-requires Inv-loop μ-loop
+search-line-requires c κs = c .before .before .before .pre
 
 lower-of-requires : tie.Need-lower-of-requires Inv-loop μ-loop
 lower-of-requires c κs = search needs
 
 loop-less : tie.Need-loop-less Inv-loop μ-loop
-loop-less c = omega (arith, c .before .before .take-line .ensures .onward (c .before .before .before .loop-test .taken), c .before .before .take-line .ensures .inside (c .before .before .before .before .loop .inv .inside))
+loop-less c = omega (arith, c .before .before .search-line .ensures .onward (c .before .before .before .loop-test .taken), c .before .before .search-line .ensures .inside (c .before .before .before .before .loop .inv .inside))
 
 loop-again : tie.Need-loop-again Inv-loop μ-loop
-loop-again c = sinking-on _ _ (c .before .before .before .before .loop .inv) (c .before .before .before .loop-test .taken) (c .before .before .take-line .ensures) (c .lower-of .ensures)
+loop-again c = sinking-on _ _ (c .before .before .before .before .loop .inv) (c .before .before .before .loop-test .taken) (c .before .before .search-line .ensures) (c .lower-of .ensures)
 
 returns : tie.Need-returns Inv-loop μ-loop
 returns c = sinking-ends _ _ (c .before .loop .inv) (c .loop-test .left)
@@ -34,4 +34,4 @@ returns c = sinking-ends _ _ (c .before .loop .inv) (c .loop-test .left)
 pub lowest-of-spec : {M : Type 1} → statement M
 lowest-of-spec =
     tie.close
-    (tie.spec Inv-loop μ-loop loop-holds take-line-requires lower-of-requires loop-less loop-again returns)
+    (tie.spec Inv-loop μ-loop loop-holds search-line-requires lower-of-requires loop-less loop-again returns)

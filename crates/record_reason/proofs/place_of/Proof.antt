@@ -6,16 +6,16 @@ use Rattle.record_reason.proofs.place_of.Statement.{statement}
 use Rattle.record_reason.proofs.place_of.Tie as tie
 
 abbrev Inv-loop : tie.InvT-loop
-Inv-loop format text n at₀ state₀ ended₀ k₀ at state ended k = Walking format text n at state ended k
+Inv-loop format text t n at₀ state₀ ended₀ k₀ at state ended k = Walking format text n at state ended k
 
 abbrev μ-loop : tie.MeasureT-loop
-μ-loop format text n at₀ state₀ ended₀ k₀ at state ended k = n - k
+μ-loop format text t n at₀ state₀ ended₀ k₀ at state ended k = n - k
 
 loop-holds : tie.Need-loop-holds Inv-loop μ-loop
 loop-holds c = walking-starts (c .before .args .format) (c .before .args .text .now) (c .before .args .n)
 
-take-line-requires : tie.Need-take-line-requires Inv-loop μ-loop
-take-line-requires c κs = search needs
+search-line-requires : tie.Need-search-line-requires Inv-loop μ-loop
+search-line-requires c κs = c .before .before .before .pre
 
 is-end-requires : tie.Need-is-end-requires Inv-loop μ-loop
 is-end-requires c κs = search needs
@@ -27,7 +27,7 @@ loop-less : tie.Need-loop-less Inv-loop μ-loop
 loop-less c = search needs
 
 loop-again : tie.Need-loop-again Inv-loop μ-loop
-loop-again c = walking-on _ _ _ (c .before .before .before .before .loop .inv) (c .before .before .before .loop-test .taken) (c .before .before .take-line .ensures) (c .is-end .ensures)
+loop-again c = walking-on _ _ _ (c .before .before .before .before .loop .inv) (c .before .before .before .loop-test .taken) (c .before .before .search-line .ensures) (c .is-end .ensures)
 
 returns : tie.Need-returns Inv-loop μ-loop
 returns c = walking-ends _ _ _ (c .before .loop .inv) (c .loop-test .left)
@@ -35,4 +35,4 @@ returns c = walking-ends _ _ _ (c .before .loop .inv) (c .loop-test .left)
 pub place-of-spec : {M : Type 1} → statement M
 place-of-spec =
     tie.close
-    (tie.spec Inv-loop μ-loop loop-holds take-line-requires is-end-requires add-k loop-less loop-again returns)
+    (tie.spec Inv-loop μ-loop loop-holds search-line-requires is-end-requires add-k loop-less loop-again returns)

@@ -17,8 +17,11 @@ enum-told c = search needs
 enum-known-line : tie.Need-enum-known-line
 enum-known-line c = search needs
 
+digit-table-requires : tie.Need-digit-table-requires
+digit-table-requires c κs = search needs
+
 cause-at-requires : tie.Need-cause-at-requires
-cause-at-requires c κs = search needs
+cause-at-requires c κs = c .before .digit-table .ensures
 
 returns : tie.Need-returns
 returns c =
@@ -27,11 +30,11 @@ returns c =
 
 returns-2 : tie.Need-returns-2
 returns-2 c =
-    let a = c .before .before .before .before .before .before .args in
+    let a = c .before .before .before .before .before .before .before .before .args in
     ap (toldOf _) (c .cause-at .ensures)
-    ∙ why-at (a .format) (a .load) (a .text .now) (readText (a .format) (a .load) (a .text .now)) _ (sym (c .before .before .before .before .line-at-fault .ensures) ∙ c .before .before .line .given .1)
+    ∙ why-at (a .format) (a .load) (a .text .now) (readText (a .format) (a .load) (a .text .now)) _ (sym (c .before .before .before .before .before .before .line-at-fault .ensures) ∙ c .before .before .before .before .line .given .1)
 
 pub reason-of-spec : {M : Type 1} → statement M
 reason-of-spec =
     tie.close
-    (tie.spec line-at-fault-requires enum-told enum-known-line cause-at-requires returns returns-2)
+    (tie.spec line-at-fault-requires enum-told enum-known-line digit-table-requires cause-at-requires returns returns-2)

@@ -23,7 +23,7 @@ returns : tie.Need-returns
 returns c = rw (c .made .ensures, lt-ltb (c .before .before .before .args .top) (c .before .before .before .args .start + c .before .before .before .args .many) (c .before .if1 .taken))
 
 lowest-of-requires : tie.Need-lowest-of-requires
-lowest-of-requires c κs = search needs
+lowest-of-requires c κs = c .before .before .before .pre .0
 
 made-requires-2 : tie.Need-made-requires-2
 made-requires-2 c κs = search needs
@@ -38,10 +38,10 @@ returns-2 c =
     )
 
 first-giver-requires : tie.Need-first-giver-requires
-first-giver-requires c κs = search needs
+first-giver-requires c κs = c .before .before .before .pre .0
 
 address-at-requires : tie.Need-address-at-requires
-address-at-requires c κs = search needs
+address-at-requires c κs = c .before .before .before .before .pre .0
 
 cast-larger : tie.Need-cast-larger
 cast-larger c = search needs

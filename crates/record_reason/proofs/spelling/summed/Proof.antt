@@ -5,8 +5,8 @@ use borrow.Author.Needs.{needs}
 use Rattle.record_reason.proofs.spelling.summed.Statement.{statement}
 use Rattle.record_reason.proofs.spelling.summed.Tie as tie
 
-pair-requires : tie.Need-pair-requires
-pair-requires c κs = search needs
+byte-at-requires : tie.Need-byte-at-requires
+byte-at-requires c κs = search needs
 
 cast-n : tie.Need-cast-n
 cast-n c = search needs
@@ -26,7 +26,7 @@ made-requires c κs = search needs
 returns : tie.Need-returns
 returns c =
     c .made .ensures
-    ∙ sum-right (c .before .before .before .before .before .args .line .now) (c .before .before .before .before .before .args .from) (c .before .before .before .before .before .args .body) (c .before .before .before .before .before .args .target) (c .before .before .before .pair .ensures) (c .before .before .sum-pairs .ensures) (c .before .if1 .taken)
+    ∙ sum-right (c .before .before .before .before .before .args .line .now) (c .before .before .before .before .before .args .from) (c .before .before .before .before .before .args .body) (c .before .before .before .before .before .args .target) (c .before .before .before .byte-at .ensures) (c .before .before .sum-pairs .ensures) (c .before .if1 .taken)
 
 cast-byte : tie.Need-cast-byte
 cast-byte c = search needs
@@ -58,10 +58,10 @@ made-requires-2 c κs = search needs
 returns-2 : tie.Need-returns-2
 returns-2 c =
     c .made2 .ensures
-    ∙ sum-wrong (c .before .before .before .before .before .before .before .args .line .now) (c .before .before .before .before .before .before .before .args .from) (c .before .before .before .before .before .before .before .args .body) (c .before .before .before .before .before .before .before .args .target) (c .before .before .before .before .before .pair .ensures) (c .before .before .before .before .sum-pairs .ensures) (c .before .before .before .if1 .left) (c .before .before .byte .ensures .0)
+    ∙ sum-wrong (c .before .before .before .before .before .before .before .args .line .now) (c .before .before .before .before .before .before .before .args .from) (c .before .before .before .before .before .before .before .args .body) (c .before .before .before .before .before .before .before .args .target) (c .before .before .before .before .before .byte-at .ensures) (c .before .before .before .before .sum-pairs .ensures) (c .before .before .before .if1 .left) (c .before .before .byte .ensures .0)
     (c .before .sum-pairs2 .ensures)
 
 pub summed-spec : {M : Type 1} → statement M
 summed-spec =
     tie.close
-    (tie.spec pair-requires cast-n add-n add-sum-pairs sum-pairs-requires made-requires returns cast-byte mul-byte add-byte byte-requires sum-pairs-requires-2 cast-others add-made sub-made made-requires-2 returns-2)
+    (tie.spec byte-at-requires cast-n add-n add-sum-pairs sum-pairs-requires made-requires returns cast-byte mul-byte add-byte byte-requires sum-pairs-requires-2 cast-others add-made sub-made made-requires-2 returns-2)
