@@ -12,7 +12,7 @@ sys.path.insert(0, str(Path(__file__).resolve().parent.parent / "oracle"))
 
 import manners  # noqa: E402
 
-LEFT, WIDE, MOST_LINES = 88, 1080, 24
+LEFT, WIDE, MOST_LINES, MOST_TRIED = 88, 1080, 24, 4096
 BAR = 24
 # what a node is drawn as, by the first that holds; each has its pattern in the legend
 CLASSES = (("new", "new"), ("gone", "gone"), ("other kind", "grown"), ("grown", "grown"), ("shrunk", "grown"), ("moved", "moved"),
@@ -118,7 +118,7 @@ class Axis:
         self.long = self.extent
         if self.extent > 640:
             self.long = 640
-            while len(self.touched()) > MOST_LINES:
+            while self.extent > MOST_TRIED * self.long or len(self.touched()) > MOST_LINES:
                 self.long *= 2
 
     def put(self, box, node, found):
