@@ -36,20 +36,24 @@ def some_layout(rng):
 
 
 def station_case(rng):
-    """A layout file, its image as records."""
+    """A layout file, its image as records: its blocks, or the whole of it."""
     data = some_layout(rng)
-    form, load = rng.choice((0, 2, 4)), rng.choice((0, 0x1000, 0xFFF0, 0xFFFF_FFF0))
-    said = model.printed(data).splitlines()
+    form, load = rng.choice((0, 2, 4, 4, 3)), rng.choice((0, 0x1000, 0xFFF0, 0xFFFF_FFF0))
+    whole, fill, page = rng.choice((0, 1)), rng.choice((0, 0, 1, 2)), rng.choice((None, None, None, 0, 8, 64, 2048))
+    arguments = [*map(str, (form, load, whole, fill)), *([] if page is None else [str(page)])]
+    said = model.printed(data, model.Choices(fill=fill, page=page)).splitlines()
     if said[-1].startswith("refused"):
-        return [str(form), str(load)], data, (said[-1] + "\n").encode()
+        return arguments, data, (said[-1] + "\n").encode()
     blocks = [tuple(map(int, line.split()[1:])) for line in said if line.startswith("block")]
     digits = said[-1][6:]
-    image = bytes.fromhex(digits + "0" * (len(digits) % 2)).ljust(IMAGE, b"\0")
+    image = bytes.fromhex(digits + "0" * (len(digits) % 2))
+    if whole:
+        blocks = [(0, 8 * len(image))] if image else []
     try:
-        told = written("srec" if form else "hex", form, image, blocks, load)
+        told = written("srec" if form else "hex", form, image.ljust(IMAGE, b"\0"), blocks, load)
     except records.Refused as refused:
         told = f"{refused}\nrecords\n".encode()
-    return [str(form), str(load)], data, told
+    return arguments, data, told
 
 
 def damaged(rng, text):

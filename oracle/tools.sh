@@ -58,7 +58,36 @@ for tool in ihex srec; do
     is 1 "tools/$tool" examples/banks.form --load 4294967295
     is 2 "tools/$tool" examples/banks.form --load 4294967296
     is 2 "tools/$tool" examples/banks.form --load 0x
+    # an image whose words stand off byte edges, as whole bytes; a layout for a device with pages
+    is 1 "tools/$tool" examples/sequencer.form
+    is 0 "tools/$tool" examples/sequencer.form --whole
+    is 0 "tools/$tool" examples/paged.form --page 128
+    is 1 "tools/$tool" examples/paged-unit.form --page 128
+    is 0 "tools/$tool" examples/paged-unit.form --whole
+    is 2 "tools/$tool" examples/banks.form --page
+    is 2 "tools/$tool" examples/banks.form --fill all
+    # a file of its own: whole, or not at all
+    is 0 "tools/$tool" examples/banks.form -o "$room/own"
+    [ ! -s "$room/out" ] || {
+        echo "tools/$tool -o: printed too"
+        wrong=1
+    }
+    "tools/$tool" examples/banks.form >"$room/printed"
+    same "$room/printed" "$room/own" "tools/$tool -o writes another file than it prints"
+    is 1 "tools/$tool" examples/worked.form -o "$room/own"
+    same "$room/printed" "$room/own" "tools/$tool -o changed a file where the layout was refused"
+    is 2 "tools/$tool" examples/banks.form -o "$room"
+    is 2 "tools/$tool" examples/banks.form -o "$room/none/own"
+    is 2 "tools/$tool" examples/banks.form -o ''
+    is 2 "tools/$tool" examples/banks.form -o
 done
+# the whole image, gaps and fill too, and nothing past its last byte, whose unused bits are zero: 9 bits, and 40,960
+tools/ihex examples/lock.form --whole --fill full >"$room/whole.hex" || wrong=1
+has "$room/whole.hex" ':02000000A50059' 'tools/ihex examples/lock.form --whole --fill full'
+tools/ihex examples/sequencer.form --whole >"$room/whole.hex" || wrong=1
+tools/layout examples/sequencer.form | sed -n 's/^image //p' | tr 'a-f' 'A-F' | tr -d '\n' >"$room/digits"
+sed -n 's/^:..[0-9A-F]\{4\}00\(.*\)..$/\1/p' "$room/whole.hex" | tr -d '\n' >"$room/held"
+same "$room/digits" "$room/held" "tools/ihex --whole has other bytes than tools/layout"
 is 1 tools/srec examples/banks.form --width 2 --load 65535
 is 2 tools/srec examples/banks.form --width 3
 tools/ihex examples/banks.form --load 256 >"$room/banks.hex" && tools/srec examples/banks.form --load 256 >"$room/banks.s37" || wrong=1

@@ -4,7 +4,7 @@
 . "$(dirname "$(readlink -f -- "$0")")/start.sh"
 . "$home/tools/launch.sh"
 . "$home/tools/names.sh"
-load='' width='' to='' fill='' page='' address='' count='' svg='' names=''
+load='' width='' to='' fill='' page='' address='' count='' svg='' names='' every=0 output='' part=''
 file='' other='' files=0 line='' kinds='type 00, 01 or 04'
 
 # A number, decimal or in hex after 0x, as decimal.
@@ -42,7 +42,7 @@ options() {
         -?*)
             case " ${flags:-} " in
             *" $name "*)
-                svg=yes
+                if [ "$name" = --whole ]; then every=1; else svg=yes; fi
                 shift
                 continue
                 ;;
@@ -72,6 +72,10 @@ options() {
             [ -n "$2" ] || say "the name of a file is empty"
             find_names '' "$2"
             names=$2
+            ;;
+        -o)
+            [ -n "$2" ] || say "the name of a file is empty"
+            output=$2
             ;;
         --range)
             [ "$#" -ge 3 ] || say "--range wants an address and a count"
@@ -144,12 +148,40 @@ whole() {
     esac
 }
 
-# And hands its answer on: status 0.
+# The answer in a file of its own: made beside its place, and moved there when it is whole, so that nobody finds a part of it.
+leave() {
+    [ -z "$part" ] || rm -f -- "$part"
+    [ -z "$room" ] || rm -rf -- "$room"
+}
+deliver() {
+    [ ! -e "$1" ] || [ -f "$1" ] || say "$1 is no regular file"
+    place=$(readlink -f -- "$1") || say "there is no folder for $1"
+    part=$(mktemp "${place%/*}/.part.XXXXXX" 2>/dev/null) || say "no file can be made beside $1"
+    { cat "$room/said" >"$part" && chmod "$(printf '%o' "$((0666 & ~$(umask)))")" "$part" && mv -f -- "$part" "$place"; } 2>/dev/null \
+        || say "$1 could not be written"
+    part=
+}
+
+# And hands its answer on, to the file of -o where one is given: status 0.
 answer() {
     ask "$@"
     whole "$1" || say "the program's answer was cut"
-    cat "$room/said" || say "the answer could not be written"
+    if [ -n "$output" ]; then
+        deliver "$output"
+    else
+        cat "$room/said" || say "the answer could not be written"
+    fi
     exit 0
+}
+
+# The records of a layout: records FORMAT.
+records() {
+    choice=0
+    [ "$fill" != full ] || choice=1
+    take "$file" 65537 "$crate_station"
+    set -- "$1" "${load:-0}" "$every" "$choice"
+    [ -z "$page" ] || set -- "$@" "$page"
+    answer "$crate_station" "$@"
 }
 
 # A refusal of a file of records that is read, and of records that are written.
@@ -166,7 +198,8 @@ records_words() {
         fi
         ;;
     14) echo "the file gives a byte too far from the load address, or too many blocks (--help has the limits)" ;;
-    16) echo "a block does not begin and end on a whole byte, and records hold whole bytes (tools/layout prints the blocks, in bits)" ;;
+    16) echo "a block does not begin and end on a whole byte, and records hold whole bytes: --whole writes the whole image (tools/layout has its" \
+        "blocks, in bits)" ;;
     esac
 }
 

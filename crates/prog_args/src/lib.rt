@@ -1,12 +1,15 @@
 // What the programs share: numbers on the command line, and what they print.
+use print_text::Written;
 use refusal::Opt;
 use refusal::Refusal;
 ghost use mathlib.Core.Path.{_≡_};
-ghost use Prim.Native.Nat.{min};
+ghost use Prim.Native.Nat.{_≤_, min};
 ghost use lib.ListN.{length};
 ghost use Rattle.io.specs.Counts.{Counts};
 ghost use Rattle.refusal.specs.Refusals.{numberOf};
+ghost use Rattle.print_text.specs.Lines.{refusalText};
 ghost use Rattle.prog_args.specs.Number.{numberIn, Spelled};
+ghost use Rattle.prog_args.specs.Text.{lineRoom, Stands, Shows};
 
 // The number that a text spells in decimal digits, up to 4,294,967,295; none for any other text, the empty one too.
 pub fn number(text: &[u8]) -> Opt
@@ -75,14 +78,39 @@ pub fn print(text: &[u8], count: u64) -> usize
     n
 }
 
+// A refusal's line, put at the front of a buffer that holds every such line: how long it is.
+pub fn put_refusal(why: Refusal, out: &mut [u8]) -> usize
+    requires { ⌜ lineRoom ≤ length (now out) ⌝ }
+    ensures { λ r. ⌜ Stands (refusalText why) (now (out .entry)) r (now (out .exit)) ⌝ }
+    ensures { λ r. ⌜ r ≤ lineRoom ⌝ }
+{
+    let Written::To(end) = print_text::put_refusal(out, 0, why) else {
+        return 0;
+    };
+    end
+}
+
+// Hands a refusal's line on from the front of a buffer, and answers how many bytes.
+fn hand_refusal(why: Refusal, line: &mut [u8]) -> usize
+    requires { ⌜ lineRoom ≤ length (now line) ⌝ }
+    ensures { λ r. ⌜ Shows (refusalText why) r (now (line .exit)) ⌝ }
+{
+    let end = put_refusal(why, line);
+    print(line, end as u64)
+}
+
+// Hands a refusal's line to standard output, whole, and answers how many bytes.
+pub fn print_refusal(why: Refusal) -> usize
+    ensures { λ r. ⌜ r ≡ length (refusalText why) ⌝ }
+{
+    let mut line = [0u8; 128];
+    hand_refusal(why, &mut line)
+}
+
 // Hands a refusal's line to standard output, and answers its number.
 pub fn refuse(why: Refusal) -> u64
     ensures { λ r. ⌜ r ≡ numberOf why ⌝ }
 {
-    let mut line = [0u8; 128];
-    let text: &mut [u8] = &mut line;
-    if let print_text::Written::To(end) = print_text::put_refusal(text, 0, why) {
-        print(text, end as u64);
-    }
+    print_refusal(why);
     refusal::number(why)
 }

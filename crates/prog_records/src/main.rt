@@ -1,26 +1,54 @@
-// The program behind tools/ihex and tools/srec: lays out a file from standard input and writes its blocks for the flash station.
+// The program behind tools/ihex and tools/srec: lays out a file from standard input and writes its image for the flash station.
 //
-//     station FORMAT LOAD    FORMAT 0 writes Intel HEX, 2 and 4 write S-records of that address width
+//     prog_records FORMAT LOAD WHOLE FILL [PAGE]
 //
-// A refusal is one line on standard output, `refused` with its number and place, and a line `records` behind it where the layout was accepted and its
-// blocks were not written.
+// FORMAT 0 writes Intel HEX, 2 and 4 write S-records of that address width; LOAD is the address of the image's first byte. WHOLE 0 writes the blocks, 1 the
+// whole image with its fill. FILL is the fill's choice, and PAGE the page size in bits of a device with pages. It writes nothing where an argument is no
+// decimal number or there are more or fewer. A refusal is one line on standard output, `refused` with its number and place, and a line `records` behind it
+// where the layout was accepted and its blocks were not written.
 use blocks::Blocks;
 use output::Build;
 use record_write::Written;
 use refusal::Opt;
-ghost use Prim.Native.Nat.{_≤_};
+use refusal::Refusal;
+ghost use mathlib.Core.Path.{_≡_};
+ghost use mathlib.Core.Bool.{true};
+ghost use Prim.Native.Nat.{_*_, _≤_, min};
 ghost use lib.ListN.{length};
-ghost use Rattle.thm_record_room.specs.Calls.{NotShort};
+ghost use Rattle.refusal.specs.Limits.{maxNodes};
+ghost use Rattle.blocks.specs.Spans.{spansOf, acceptable};
+ghost use Rattle.blocks.specs.Walk.{blocksOf};
+ghost use Rattle.record_write.specs.Cut.{blocksIn};
+ghost use Rattle.print_report.specs.Report.{imageRoom, spanRoom};
+ghost use Rattle.print_report.specs.Steps.{Fitting};
+ghost use Rattle.prog_args.specs.Text.{Stands, Shows};
+ghost use Rattle.prog_records.specs.Program.{refusedText, recordsOf, wholeBlocks, doneText, recordsText, Recorded};
+ghost use Rattle.prog_records.specs.Steps.{textRoom, answered, Puts};
 
 // Room for the longest file and a byte more, so that none is cut to a sound one.
 const FILE: usize = 65_537;
 
-const IMAGE: usize = 16_384;
-
-const NODES: usize = 4_096;
-
 // Room for the image as records, a short one in each block.
 const TEXT: usize = 131_072;
+
+// What is asked for on the command line.
+pub struct Wanted {
+    format: u8,
+    load: u32,
+    whole: bool,
+}
+
+// The refusal of blocks whose layout was accepted.
+fn put_refused(why: Refusal, out: &mut [u8]) -> usize
+    requires { ⌜ textRoom ≤ length (now out) ⌝ }
+    ensures { λ r. ⌜ Stands (refusedText why) (now (out .entry)) r (now (out .exit)) ⌝ }
+{
+    let at = prog_args::put_refusal(why, out);
+    let print_text::Written::To(end) = print_text::put_word(out, at, b"records\n") else {
+        return 0;
+    };
+    end
+}
 
 // The blocks as records. There is room for every file, so that 14 is not given.
 fn put(
@@ -31,10 +59,13 @@ fn put(
     sizes: &[u64],
     out: &mut [u8],
 ) -> Written
-    requires { ⌜ length (now image) ≤ 16384 ⌝ }
-    requires { ⌜ length (now offsets) ≤ 4096 ⌝ }
-    requires { ⌜ 131072 ≤ length (now out) ⌝ }
-    ensures { λ r. ⌜ NotShort r ⌝ }
+    requires { ⌜ length (now image) ≤ imageRoom ⌝ }
+    requires { ⌜ length (now offsets) ≤ spanRoom ⌝ }
+    requires { ⌜ length (now offsets) ≡ length (now sizes) ⌝ }
+    requires { ⌜ textRoom ≤ length (now out) ⌝ }
+    ensures { λ r. ⌜
+        Puts format load (now (image .entry)) (blocksIn (now (offsets .entry)) (now (sizes .entry))) (now (out .entry)) r (now (out .exit))
+        ⌝ }
 {
     if format == 0 {
         return record_ihex::write_ihex(image, offsets, sizes, load, out);
@@ -42,110 +73,254 @@ fn put(
     record_srec::write_srec(image, offsets, sizes, load, format, out)
 }
 
-// The first `count` blocks, written and printed.
-fn write(
+// The text of blocks: their records, or why not.
+fn put_records(
     format: u8,
     load: u32,
     image: &[u8],
     offsets: &[u64],
     sizes: &[u64],
-    count: u64,
-    out: &mut [u8; TEXT],
-)
-    requires { ⌜ length (now image) ≤ 16384 ⌝ }
-    requires { ⌜ length (now offsets) ≤ 4096 ⌝ }
+    out: &mut [u8],
+) -> usize
+    requires { ⌜ length (now image) ≤ imageRoom ⌝ }
+    requires { ⌜ length (now offsets) ≤ spanRoom ⌝ }
+    requires { ⌜ length (now offsets) ≡ length (now sizes) ⌝ }
+    requires { ⌜ textRoom ≤ length (now out) ⌝ }
+    ensures { λ r. ⌜
+        Stands (recordsOf format load (now (image .entry)) (blocksIn (now (offsets .entry)) (now (sizes .entry)))) (now (out .entry)) r (now (out .exit))
+        ⌝ }
 {
-    let n = prog_args::within(count, offsets);
-    let m = prog_args::within(count, sizes);
-    let text: &mut [u8] = out;
-    match put(format, load, image, &offsets[..n], &sizes[..m], text) {
-        Written::Refused(why) => {
-            prog_args::refuse(why);
-            io::write_all(1, b"records\n");
-        }
-        Written::Length(length) => {
-            prog_args::print(text, length);
-        }
+    let written = put(format, load, image, offsets, sizes, out);
+    match written {
+        Written::Refused(why) => put_refused(why, out),
+        Written::Length(length) => length as usize,
     }
 }
 
-// The blocks of the first `count` spans.
-fn join(
+// One block where there are bits, else none.
+fn block_count(bits: u64) -> usize
+    ensures { λ r. ⌜ r ≡ min bits 1 ⌝ }
+{
+    if bits == 0 { 0 } else { 1 }
+}
+
+// The text of the whole image as one block. "the last byte's unused bits" are zero in the image.
+fn put_whole(format: u8, load: u32, bits: u64, image: &[u8], out: &mut [u8]) -> usize
+    requires { ⌜ length (now image) ≤ imageRoom ⌝ }
+    requires { ⌜ bits ≤ 8 * imageRoom ⌝ }
+    requires { ⌜ textRoom ≤ length (now out) ⌝ }
+    ensures { λ r. ⌜ Stands (recordsOf format load (now (image .entry)) (wholeBlocks bits)) (now (out .entry)) r (now (out .exit)) ⌝ }
+{
+    let offsets = [0u64];
+    let sizes = [8 * ((bits + 7) / 8)];
+    let n = block_count(bits);
+    put_records(format, load, image, &offsets[..n], &sizes[..n], out)
+}
+
+// The text of the blocks of spans, with room for every block.
+fn put_blocks(
     format: u8,
     load: u32,
     image: &[u8],
     offsets: &[u64],
     sizes: &[u64],
-    count: u64,
-    block_offsets: &mut [u64; NODES],
-    block_sizes: &mut [u64; NODES],
-    out: &mut [u8; TEXT],
-)
-    requires { ⌜ length (now image) ≤ 16384 ⌝ }
+    block_offsets: &mut [u64],
+    block_sizes: &mut [u64],
+    out: &mut [u8],
+) -> usize
+    requires { ⌜ length (now image) ≤ imageRoom ⌝ }
+    requires { ⌜ acceptable (now offsets) (now sizes) ≡ true ⌝ }
+    requires { ⌜ length (now «block_offsets») ≡ maxNodes ⌝ }
+    requires { ⌜ length (now «block_sizes») ≡ maxNodes ⌝ }
+    requires { ⌜ textRoom ≤ length (now out) ⌝ }
+    ensures { λ r. ⌜
+        Stands (recordsOf format load (now (image .entry)) (blocksOf (spansOf (now (offsets .entry)) (now (sizes .entry)))))
+        (now (out .entry)) r (now (out .exit))
+        ⌝ }
 {
-    let n = prog_args::within(count, offsets);
-    let m = prog_args::within(count, sizes);
-    match blocks::get_blocks(&offsets[..n], &sizes[..m], block_offsets, block_sizes) {
-        Blocks::Refused(why) => {
-            prog_args::refuse(why);
+    let found = blocks::get_blocks(offsets, sizes, block_offsets, block_sizes);
+    match found {
+        Blocks::Refused(why) => prog_args::put_refusal(why, out),
+        Blocks::Found(count) => {
+            let n = count as usize;
+            put_records(
+                format,
+                load,
+                image,
+                &block_offsets[..n],
+                &block_sizes[..n],
+                out,
+            )
         }
-        Blocks::Found(found) => write(format, load, image, block_offsets, block_sizes, found, out),
     }
 }
 
-fn lay_out(format: u8, load: u32, file: &[u8], out: &mut [u8; TEXT]) {
-    let mut image = [0u8; IMAGE];
-    let mut addresses = [0i64; NODES];
-    let mut offsets = [0u64; NODES];
-    let mut sizes = [0u64; NODES];
-    let output = form_build::build_file(
+// The text of an accepted build. Lends room for the blocks.
+fn put_done(
+    wanted: Wanted,
+    bits: u64,
+    image: &[u8],
+    offsets: &[u64],
+    sizes: &[u64],
+    out: &mut [u8],
+) -> usize
+    requires { ⌜ length (now image) ≤ imageRoom ⌝ }
+    requires { ⌜ bits ≤ 8 * imageRoom ⌝ }
+    requires { ⌜ acceptable (now offsets) (now sizes) ≡ true ⌝ }
+    requires { ⌜ textRoom ≤ length (now out) ⌝ }
+    ensures { λ r. ⌜
+        Stands (doneText wanted bits (now (offsets .entry)) (now (sizes .entry)) (now (image .entry))) (now (out .entry)) r (now (out .exit))
+        ⌝ }
+{
+    if wanted.whole {
+        return put_whole(wanted.format, wanted.load, bits, image, out);
+    }
+    let mut block_offsets = [0u64; 4096];
+    let mut block_sizes = [0u64; 4096];
+    put_blocks(
+        wanted.format,
+        wanted.load,
+        image,
+        offsets,
+        sizes,
+        &mut block_offsets,
+        &mut block_sizes,
+        out,
+    )
+}
+
+// The text of a build's answer, whose image and spans stand in what is lent.
+fn put_answer(
+    wanted: Wanted,
+    build: Build,
+    image: &[u8],
+    offsets: &[u64],
+    sizes: &[u64],
+    out: &mut [u8],
+) -> usize
+    requires { ⌜ Fitting build (now image) (now offsets) (now sizes) ⌝ }
+    requires { ⌜ length (now image) ≤ imageRoom ⌝ }
+    requires { ⌜ textRoom ≤ length (now out) ⌝ }
+    ensures { λ r. ⌜
+        Stands (answered wanted build (now (image .entry)) (now (offsets .entry)) (now (sizes .entry))) (now (out .entry)) r (now (out .exit))
+        ⌝ }
+{
+    match build {
+        Build::Refused(why) => prog_args::put_refusal(why, out),
+        Build::Done {
+            k: _,
+            length,
+            spans,
+        } => {
+            let n = spans as usize;
+            put_done(wanted, length, image, &offsets[..n], &sizes[..n], out)
+        }
+    }
+}
+
+// Builds the file's layout in what is lent, and puts its text.
+fn put_build(
+    wanted: Wanted,
+    file: &[u8],
+    fill: u8,
+    page: Opt,
+    image: &mut [u8],
+    addresses: &mut [i64],
+    offsets: &mut [u64],
+    sizes: &mut [u64],
+    out: &mut [u8],
+) -> usize
+    requires { ⌜ length (now image) ≡ imageRoom ⌝ }
+    requires { ⌜ length (now addresses) ≡ spanRoom ⌝ }
+    requires { ⌜ length (now offsets) ≡ spanRoom ⌝ }
+    requires { ⌜ length (now sizes) ≡ spanRoom ⌝ }
+    requires { ⌜ textRoom ≤ length (now out) ⌝ }
+    ensures { λ r. ⌜ Stands (recordsText wanted (now (file .entry)) fill page) (now (out .entry)) r (now (out .exit)) ⌝ }
+{
+    let answer = form_build::build_file(file, fill, page, image, addresses, offsets, sizes);
+    let build = answer.build;
+    put_answer(wanted, build, image, offsets, sizes, out)
+}
+
+// Puts the text of a file. Lends room for the image and the spans.
+fn put_file(wanted: Wanted, file: &[u8], fill: u8, page: Opt, out: &mut [u8]) -> usize
+    requires { ⌜ textRoom ≤ length (now out) ⌝ }
+    ensures { λ r. ⌜ Stands (recordsText wanted (now (file .entry)) fill page) (now (out .entry)) r (now (out .exit)) ⌝ }
+{
+    let mut image = [0u8; 16384];
+    let mut addresses = [0i64; 4096];
+    let mut offsets = [0u64; 4096];
+    let mut sizes = [0u64; 4096];
+    put_build(
+        wanted,
         file,
-        0,
-        Opt::None,
+        fill,
+        page,
         &mut image,
         &mut addresses,
         &mut offsets,
         &mut sizes,
-    );
-    let build = output.build;
-    match build {
-        Build::Refused(why) => {
-            prog_args::refuse(why);
-        }
-        Build::Done {
-            k: _,
-            length: _,
-            spans,
-        } => {
-            let mut block_offsets = [0u64; NODES];
-            let mut block_sizes = [0u64; NODES];
-            join(
-                format,
-                load,
-                &image,
-                &offsets,
-                &sizes,
-                spans,
-                &mut block_offsets,
-                &mut block_sizes,
-                out,
-            );
-        }
-    }
+        out,
+    )
+}
+
+// The text of a file, handed to standard output from the front of `out`: how many bytes it is.
+fn write(wanted: Wanted, file: &[u8], fill: u8, page: Opt, out: &mut [u8]) -> usize
+    requires { ⌜ textRoom ≤ length (now out) ⌝ }
+    ensures { λ r. ⌜ Shows (recordsText wanted (now (file .entry)) fill page) r (now (out .exit)) ⌝ }
+{
+    let count = put_file(wanted, file, fill, page, out);
+    prog_args::print(out, count as u64)
+}
+
+// Reads a file and hands its text to standard output: how many bytes that is.
+fn run(wanted: Wanted, fill: u8, page: Opt) -> usize
+    ensures { λ r. ⌜ Recorded wanted fill page r ⌝ }
+{
+    let mut file = [0u8; FILE];
+    let n = io::read_full(0, &mut file);
+    let mut text = [0u8; TEXT];
+    write(wanted, &file[..n], fill, page, &mut text)
+}
+
+// A choice that no byte holds is as unknown as 255.
+fn choice(n: u32) -> u8
+    ensures { λ r. ⌜ r ≡ min n 255 ⌝ }
+{
+    if n < 255 { n as u8 } else { 255 }
 }
 
 fn main() {
+    let count = os::arg_count();
+    if count > 6 {
+        return;
+    }
     let Opt::Some(format) = prog_args::number_at(1) else {
         return;
     };
     let Opt::Some(load) = prog_args::number_at(2) else {
         return;
     };
-    if format > 4 {
+    let Opt::Some(whole) = prog_args::number_at(3) else {
+        return;
+    };
+    let Opt::Some(fill) = prog_args::number_at(4) else {
+        return;
+    };
+    if whole > 1 {
         return;
     }
-    let mut file = [0u8; FILE];
-    let n = io::read_full(0, &mut file);
-    let mut out = [0u8; TEXT];
-    lay_out(format as u8, load, &file[..n], &mut out);
+    let wanted = Wanted {
+        format: choice(format),
+        load,
+        whole: whole == 1,
+    };
+    if count < 6 {
+        run(wanted, choice(fill), Opt::None);
+        return;
+    }
+    let page = prog_args::number_at(5);
+    if let Opt::Some(_) = page {
+        run(wanted, choice(fill), page);
+    }
 }
