@@ -39,6 +39,7 @@ def read_request(kind, load, text, rng=None):
 def requests_for(kind, load, text, rng=None):
     yield read_request(kind, load, text, rng)
     yield f"fault {kind} {load} {text.hex() or '-'}"
+    yield f"reason {kind} {load} {text.hex() or '-'}"
 
 
 def every_byte(files):

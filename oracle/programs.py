@@ -17,6 +17,7 @@ import generate
 import manners
 import map as mapped
 import model
+import reasons
 import records
 
 REACH, BENCH_REACH, BLOCKS, IMAGE = 1_048_576, 524_288, 4_096, 16_384
@@ -78,8 +79,8 @@ def rehex_case(rng):
         count, image, starts, sizes = records.read(kind, text, load, bytes(REACH), [0] * BLOCKS, [0] * BLOCKS)
         told = written("srec" if width else "hex", width, image, list(zip(starts[:count], sizes[:count])), load)
     except records.Refused as refused:
-        line = records.fault(kind, text, load)
-        told = (f"{refused}\n" + ("" if line is None else f"line {line}\n")).encode()
+        why, *rest = reasons.reason(kind, text, load)
+        told = (f"{refused}\n" + (f"line {rest[0]} {why} {rest[1]} {rest[2]}\n" if why else "")).encode()
     return [str(width), str(load)], text, told
 
 

@@ -271,6 +271,10 @@ def answer(line):
         kind, load, text = words[1:]
         line = fault(kind, octets(text), int(load))
         return "good" if line is None else f"line {line}"
+    if words[0] == "reason":
+        import reasons  # which stands on this module
+        kind, load, text = words[1:]
+        return "reason " + " ".join(map(str, reasons.reason(kind, octets(text), int(load))))
     raise SystemExit(f"records.py: {line!r}?")
 
 

@@ -4,6 +4,7 @@
 . "$(dirname "$(readlink -f -- "$0")")/start.sh"
 . "$home/tools/launch.sh"
 . "$home/tools/names.sh"
+. "$home/tools/reasons.sh"
 load='' width='' to='' fill='' page='' address='' count='' svg='' names='' every=0 output='' part=''
 file='' other='' files=0 line='' kinds='type 00, 01 or 04'
 
@@ -129,7 +130,7 @@ ask() {
     [ -s "$room/said" ] || say "the program gave no answer"
     case $(head -c 8 "$room/said" | tr -d '\000') in
     'refused ')
-        # the line of a file that is at fault, counted from 1, where the program names one
+        # the line of a file that is at fault, from 0, where the program names one, with its reason and the reason's numbers
         line=$(sed -n 's/^line //p' "$room/said")
         read -r _ number place _ <"$room/said" || say "the program gave no answer"
         text=$(words "$number" "$place")
@@ -189,8 +190,8 @@ records_words() {
     case $1 in
     4)
         if [ -n "$line" ]; then
-            echo "line $((line + 1)): no good file goes on so: no record of $kinds, a wrong checksum, a byte given twice, below the load address or past" \
-                "4294967295, or no end record"
+            # shellcheck disable=SC2086
+            reason_words $line
         elif [ "$(wc -c <"$from")" -gt "$2" ]; then
             echo "the file is longer than $2 bytes"
         else

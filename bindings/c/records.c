@@ -99,6 +99,14 @@ static void find_fault(char **words)
         fputs("good", stdout);
 }
 
+/* reason KIND LOAD FILE */
+static void find_reason(char **words)
+{
+    size_t length = octets(words[3], text);
+    struct dk_reason r = dk_record_reason(format(words[1]), text, length, (uint32_t)strtoul(words[2], NULL, 10));
+    printf("reason %" PRIu64 " %" PRIu64 " %" PRIu64 " %" PRIu64, r.reason, r.line, r.first, r.second);
+}
+
 int main(void)
 {
     while (fgets(line, sizeof line, stdin)) {
@@ -112,6 +120,8 @@ int main(void)
             read_records(words);
         else if (n == 4 && strcmp(words[0], "fault") == 0)
             find_fault(words);
+        else if (n == 4 && strcmp(words[0], "reason") == 0)
+            find_reason(words);
         else
             return 1;
         putchar('\n');

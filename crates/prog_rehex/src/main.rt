@@ -2,9 +2,9 @@
 //
 //     rehex FORMAT LOAD    FORMAT 0 writes Intel HEX from S-records, 2 and 4 write S-records of that address width from Intel HEX
 //
-// A refusal is one line on standard output, `refused` with its number and place, and where a line of the file is at fault one more with its number, from 0.
+// A refusal is one line on standard output, `refused` with its number and place, and where a line of the file is at fault one more: `line`, its
+// number, from 0, the reason (include/denkumari.h) and the reason's two numbers.
 use blocks::Blocks;
-use record_fault::Fault;
 use record_write::Written;
 use refusal::Opt;
 use refusal::Refusal;
@@ -71,12 +71,22 @@ fn rewrite(
     }
 }
 
-// A refusal, and the line at fault where there is one.
+// A number behind others.
+fn tell_number(number: u64) {
+    io::write_all(1, b" ");
+    io::print_decimal(1, number);
+}
+
+// A refusal, and the line at fault where there is one, with its reason and the reason's two numbers.
 fn refuse(format: u8, load: u32, source: &[u8], why: Refusal) {
     prog_args::refuse(why);
-    if let Fault::At(line) = record_fault::line_at_fault(other(format), source, load) {
+    let found = record_reason::reason_of(other(format), source, load);
+    if found.reason != 0 {
         io::write_all(1, b"line ");
-        io::print_decimal(1, line);
+        io::print_decimal(1, found.line);
+        tell_number(found.reason);
+        tell_number(found.first);
+        tell_number(found.second);
         io::write_all(1, b"\n");
     }
 }
