@@ -1,18 +1,23 @@
 -- Laws of a pass: what a node adds, and the pass from node to node.
-use Prim.Native.Nat.{ℕ, zero, suc, _+_, _/_, _<_, _≤_}
-use mathlib.Core.Path.{_≡_, refl, sym, _∙_}
+use Prim.Native.Nat.{ℕ, zero, suc, _+_, _/_, _<_, _≤_, max}
+use mathlib.Core.Path.{_≡_, refl, sym, ap, _∙_}
 use mathlib.Core.Logic.{⊎-elim}
 use mathlib.Core.Bool.{Bool, true, false, _&&_}
-use native.Mathlib.Nat.{max-eq-left, max-eq-right, le-of-lt, le-of-suc-le-suc, not-suc-le-zero, eq-or-lt-of-le}
+use native.Mathlib.Nat.{le-of-suc-le-suc, not-suc-le-zero, eq-or-lt-of-le}
 use native.Mathlib.Numerals.{add-one}
+use native.Mathlib.Omega.{arith}
+use lib.Dec.{eqb}
 use lib.ListN.{length}
 use borrow.Author.Tests.{eq-eqb, ne-eqb, le-leb, lt-leb}
+use Rattle.refusal.specs.Laws.Bools.{either}
 use Rattle.refusal.specs.declared.Refusal.{Refusal}
 use Rattle.refusal.specs.declared.Refusal.the-variants.{LabelOffBoundary}
 use Rattle.bankdef.specs.declared.Bankdef.{Bankdef}
 use Rattle.iter.specs.Address.{onBoundary}
+use Rattle.iter.specs.Pace.{seenBy}
 use Rattle.iter.specs.declared.Moved.{Moved}
 use Rattle.iter.specs.declared.Moved.the-variants.{To, Refused as Stopped}
+use Rattle.iter.specs.declared.Paced.{Paced}
 use Rattle.iter.specs.declared.Pos.{Pos}
 use Rattle.iter.specs.declared.Node.{Node}
 use Rattle.iter.specs.declared.Walk.{Walk}
@@ -52,6 +57,11 @@ module _ (def : Bankdef) (now : Pos) where
     pub label-stopped : {before : Moved} {why : Refusal} {isFirst : Bool} → isFirst ≡ false → before ≡ Stopped why → 2 ≡ labelState def now before isFirst
     label-stopped f e = rw (unsure, f, e)
 
+-- whatever node it is, a step that is refused tells no address
+label-any : (def : Bankdef) (now : Pos) (before : Paced) (isFirst : Bool) (i j : ℕ)
+    → labelState def now (seenBy before i) isFirst ≡ labelState def now (seenBy before j) isFirst
+label-any def now before isFirst i j = either (eqb (before .fault) 0) (λ t. rw t) (λ t. rw t)
+
 -- a node's state, by its kind
 module _ (node : Node) (label : ℕ) where
   pub label-node : node .kind ≡ 2 → {r : ℕ} → r ≡ label → r ≡ stateOf node label
@@ -72,12 +82,21 @@ module _ (def : Bankdef) (node : Node) (before : Moved) (isFirst isLast : Bool) 
     pub met-off : t ≡ true → Refused (LabelOffBoundary (node .index)) ≡ met def node before isFirst isLast merged seen
     met-off y = rw (sees, sym edge ∙ y)
 
-    module _ (n : t ≡ false) {state : ℕ} (e : state ≡ stateOf node (labelState def now before isFirst)) where
-      pub met-larger : merged < state → State state ≡ met def node before isFirst isLast merged seen
-      met-larger h = rw (sees, sym edge ∙ n, ← e, max-eq-right (le-of-lt h))
+    pub met-state : t ≡ false → {state : ℕ} → state ≡ stateOf node (labelState def now before isFirst) → {r : ℕ} → r ≡ max merged state
+        → State r ≡ met def node before isFirst isLast merged seen
+    met-state n e f = rw (sees, sym edge ∙ n, f, e)
 
-      pub met-merged : state ≤ merged → State merged ≡ met def node before isFirst isLast merged seen
-      met-merged h = rw (sees, sym edge ∙ n, ← e, max-eq-left h)
+-- the same by the step of the pass before, whatever node it names
+pub met-paced : (def : Bankdef) (node : Node) (b : Paced) (j : ℕ) (isFirst isLast : Bool) (merged : ℕ) {seen : Moved} {now : Pos} → seen ≡ To now
+    → {t : Bool} → t ≡ offBoundary def node now isLast → t ≡ false
+    → {state : ℕ} → state ≡ stateOf node (labelState def now (seenBy b 0) isFirst) → {r : ℕ} → r ≡ max merged state
+    → State r ≡ met def node (seenBy b j) isFirst isLast merged seen
+met-paced def node b j isFirst isLast merged {now = now} s e n f g =
+    met-state def node (seenBy b j) isFirst isLast merged s e n (f ∙ ap (λ (x : ℕ). stateOf node x) (label-any def now b isFirst 0 j)) g
+
+-- a pass that is refused has no state
+pub never-state : {why : Refusal} {merged : ℕ} → Refused why ≡ State merged → ⊥
+never-state e = let z : _≡_ {A = ℕ} 0 1 = cc in omega arith
 
 -- the pass from node to node
 module _ (p : Program) (row before : Row) (isFirst isLast : Bool) where
@@ -102,6 +121,13 @@ module _ (p : Program) (row before : Row) (isFirst isLast : Bool) where
   pass-stopped zero i h e = absurd (not-suc-le-zero h)
   pass-stopped (suc n) i h e =
       ⊎-elim (λ (q : i ≡ n). rw (← q) (rw add-one at e)) (λ (g : i < n). rw (pass-stopped n i g e)) (eq-or-lt-of-le (le-of-suc-le-suc h))
+
+  -- a node that sees none ends it
+  pub pass-halts : (i : ℕ) {merged : ℕ} {s : Moved} {why : Refusal} → passTo p row before isFirst isLast i ≡ on (walkTo p row i) merged →
+      s ≡ stepAt p row (walkTo p row i) i .seen → s ≡ Stopped why → i < length (p .kinds) → Refused why ≡ passOf p row before isFirst isLast
+  unfolding passTo
+  pass-halts i {why = why} g e f h =
+      let stop : passTo p row before isFirst isLast (i + 1) ≡ off why = rw (add-one, g, sym e ∙ f) in rw (pass-stopped (length (p .kinds)) i h stop)
 
   pub pass-goes : (i : ℕ) {state : ℕ} {w : Walk} {r : Pass} → passTo p row before isFirst isLast i ≡ goesOn w r → r ≡ State state
       → passTo p row before isFirst isLast i ≡ on w state

@@ -20,3 +20,4 @@ pub mod StepRefusals
 pub mod Told
 pub mod Unread
 pub mod Walked
+pub mod Walking

@@ -21,5 +21,6 @@ pub mod Told
 pub mod Unread
 pub mod UnreadStep
 pub mod Walked
+pub mod Walking
 pub mod Theorems
 pub mod Laws

@@ -2,6 +2,7 @@
 mod once;
 mod passes;
 
+use iter::Walk;
 pub use once::bank_record;
 pub use passes::resolve;
 use refusal::Refusal;
@@ -17,6 +18,12 @@ pub struct Choices {
 pub enum Pass {
     State(u8),
     Refused(Refusal),
+}
+
+// A pass, and the walk of its row, handed back by value: "bank positions, an array of 16 in the walk's state".
+pub struct Passed {
+    pub pass: Pass,
+    pub walk: Walk,
 }
 
 // What the passes come to: pass K, or a refusal; and how many passes were run, a refusing pass included.

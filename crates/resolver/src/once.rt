@@ -1,13 +1,18 @@
 // A pass over a row.
 use crate::Pass;
+use crate::Passed;
 use bankdef::Bankdef;
 use bankdef::Bankdefs;
-use iter::Moved;
 use iter::Node;
+use iter::Paced;
 use iter::Pos;
+use iter::Walk;
 use iter::bank_after;
-use iter::cross;
+use iter::lost_after;
 use iter::on_boundary;
+use iter::pace;
+use iter::start;
+use iter::why_refused;
 use lists::node_at;
 use refusal::LABEL;
 use refusal::MAX_BANKS;
@@ -20,11 +25,19 @@ use refusal::SWITCH;
 use refusal::UNRESOLVED;
 ghost use mathlib.Core.Path.{_≡_};
 ghost use mathlib.Core.Bool.{false};
+ghost use Prim.Native.Nat.{ℕ, max};
+ghost use lib.ListN.{length};
+ghost use Rattle.iter.specs.Pace.{seenBy};
+ghost use Rattle.iter.specs.Step.{startOf};
 ghost use Rattle.bankdef.specs.Check.{noBank};
 ghost use Prim.Native.Nat.{_/_};
 ghost use Rattle.lists.specs.Lists.{rowWith};
-ghost use Rattle.resolver.specs.Once.{programWith, bankRecord, labelState, stateOf, offBoundary, met, passOf};
+ghost use Rattle.resolver.specs.Once.{programWith, bankRecord, labelState, stateOf, offBoundary, passOf, walkTo};
+ghost use Rattle.resolver.specs.declared.Pass.the-variants.{State};
 ghost use Rattle.resolver.specs.Switches.{Switches};
+
+// A step that is made: `Paced`'s number of no refusal.
+const MADE: u8 = 0;
 
 // The record of a bank that the table does not list: its unit is 0, and no address of it can be told.
 fn no_record() -> Bankdef
@@ -67,8 +80,8 @@ fn whole_units(def: Bankdef, position: u32) -> u32
 
 // "a label is resolved when its position is known and on a boundary, stable when its address equals that of the pass before (never
 // in pass 1), unresolved otherwise"
-fn label_state(def: Bankdef, now: Pos, before: Moved, is_first: bool) -> u8
-    ensures { λ r. ⌜ r ≡ labelState def now before «is_first» ⌝ }
+fn label_state(def: Bankdef, now: Pos, before: Paced, is_first: bool) -> u8
+    ensures { λ r. ⌜ r ≡ labelState def now (seenBy before 0) «is_first» ⌝ }
 {
     if now.known {
         if on_boundary(def, now.position) {
@@ -78,21 +91,20 @@ fn label_state(def: Bankdef, now: Pos, before: Moved, is_first: bool) -> u8
     if is_first {
         return UNRESOLVED;
     }
-    match before {
-        Moved::To(b) => {
-            if whole_units(def, now.position) == whole_units(def, b.position) {
-                STABLE
-            } else {
-                UNRESOLVED
-            }
-        }
-        Moved::Refused(_) => UNRESOLVED,
+    if before.fault != MADE {
+        return UNRESOLVED;
+    }
+    let was = before.seen;
+    if whole_units(def, now.position) == whole_units(def, was.position) {
+        STABLE
+    } else {
+        UNRESOLVED
     }
 }
 
 // A node's state in a pass: "0, 1 and 2 don't read the state", a label's is found.
-fn node_state(def: Bankdef, node: Node, now: Pos, before: Moved, is_first: bool) -> u8
-    ensures { λ r. ⌜ r ≡ stateOf node (labelState def now before «is_first») ⌝ }
+fn node_state(def: Bankdef, node: Node, now: Pos, before: Paced, is_first: bool) -> u8
+    ensures { λ r. ⌜ r ≡ stateOf node (labelState def now (seenBy before 0) «is_first») ⌝ }
 {
     let kind = node.kind;
     match kind {
@@ -114,35 +126,75 @@ fn off_boundary(def: Bankdef, node: Node, now: Pos, is_last: bool) -> bool
     false
 }
 
-// What a node adds to the states merged so far.
-fn meet(
-    def: Bankdef,
-    node: Node,
-    before: Moved,
-    is_first: bool,
-    is_last: bool,
-    merged: u8,
-    seen: Moved,
-) -> Pass
-    ensures { λ r. ⌜ r ≡ met def node before «is_first» «is_last» merged seen ⌝ }
+// "A pass is unresolved if any state is 2, stable if any is 1, otherwise resolved": the larger state.
+fn larger(merged: u8, state: u8) -> u8
+    ensures { λ r. ⌜ r ≡ max merged state ⌝ }
 {
-    match seen {
-        Moved::Refused(why) => Pass::Refused(why),
-        Moved::To(now) => {
-            if off_boundary(def, node, now, is_last) {
-                return Pass::Refused(Refusal::LabelOffBoundary(node.index));
-            }
-            let state = node_state(def, node, now, before, is_first);
-            if merged < state {
-                Pass::State(state)
-            } else {
-                Pass::State(merged)
-            }
-        }
+    if merged < state { state } else { merged }
+}
+
+// A pass that is refused, and the walk that it has come to.
+fn refused_pass(why: Refusal, walk: Walk) -> Passed
+    ensures { λ r. ⌜ r .pass ≡ Pass.Refused why ⌝ }
+{
+    Passed {
+        pass: Pass::Refused(why),
+        walk,
     }
 }
 
-// A pass over a row that the pass before reads too, where each label has the address of the pass before; or pass 1, which has none before it.
+// The walk of a pass over its row, which the pass before reads too, where each label has the address of the pass before; or of pass 1, which has none before
+// it. "bank positions, an array of 16 in the walk's state": the walk comes by value, each step is stored into it, and it goes back as the row leaves it.
+fn walk_alone(
+    banks: Bankdefs,
+    kinds: &[u8],
+    operands: &[u32],
+    first: &[u32],
+    numbers: &[u32],
+    states: &[u8],
+    begun: Walk,
+    is_first: bool,
+    is_last: bool,
+) -> Passed
+    requires { ⌜ Switches (banks .len) (now kinds) (now operands) ⌝ }
+    requires { ⌜ begun ≡ startOf ⌝ }
+    ensures pass { λ r. ⌜ r .pass ≡ passOf (programWith banks (now (kinds .entry)) (now (operands .entry)) (now (first .entry)))
+        (rowWith (now (numbers .entry)) (now (states .entry)))
+        (rowWith (now (numbers .entry)) (now (states .entry)))
+        «is_first» «is_last» ⌝ }
+    ensures walk { λ r. ⌜ ((merged : ℕ) → r .pass ≡ State merged
+        → r .walk ≡ walkTo (programWith banks (now (kinds .entry)) (now (operands .entry)) (now (first .entry)))
+        (rowWith (now (numbers .entry)) (now (states .entry))) (length (now (kinds .entry)))) ⌝ }
+{
+    let mut walk = begun;
+    let mut merged: u8 = 0;
+    let mut i = 0;
+    while i < kinds.len() {
+        let node = node_at(kinds, operands, first, numbers, states, i);
+        let bank = bank_after(walk.bank, node);
+        let def = banks.defs[bank as usize];
+        let step = pace(def, walk.at[bank as usize], node);
+        if step.fault != MADE {
+            return refused_pass(why_refused(step.fault, node.index), walk);
+        }
+        let now = step.seen;
+        if off_boundary(def, node, now, is_last) {
+            return refused_pass(Refusal::LabelOffBoundary(node.index), walk);
+        }
+        merged = larger(merged, node_state(def, node, now, step, is_first));
+        let after = step.after;
+        walk.at[bank as usize] = after;
+        walk.lost[bank as usize] = lost_after(walk.lost[bank as usize], step.bits);
+        walk.bank = bank;
+        i += 1;
+    }
+    Passed {
+        pass: Pass::State(merged),
+        walk,
+    }
+}
+
+// A pass over a row that the pass before reads too, or pass 1: its walk begins at the start.
 pub fn pass_alone(
     banks: Bankdefs,
     kinds: &[u8],
@@ -159,34 +211,81 @@ pub fn pass_alone(
         (rowWith (now (numbers .entry)) (now (states .entry)))
         «is_first» «is_last» ⌝ }
 {
-    let origin = Pos {
-        position: 0,
-        known: true,
-    };
-    let mut at = [origin; 16];
-    let mut bank: u64 = 0;
+    let passed = walk_alone(
+        banks,
+        kinds,
+        operands,
+        first,
+        numbers,
+        states,
+        start(),
+        is_first,
+        is_last,
+    );
+    let pass = passed.pass;
+    pass
+}
+
+// The walk of a pass beside the walk of the pass before, which reads another row: two walks side by side, in one bank after another.
+fn walk_beside(
+    banks: Bankdefs,
+    kinds: &[u8],
+    operands: &[u32],
+    first: &[u32],
+    numbers: &[u32],
+    states: &[u8],
+    begun: Walk,
+    before_numbers: &[u32],
+    before_states: &[u8],
+    begun_before: Walk,
+    is_last: bool,
+) -> Passed
+    requires { ⌜ Switches (banks .len) (now kinds) (now operands) ⌝ }
+    requires { ⌜ (begun ≡ startOf) × («begun_before» ≡ startOf) ⌝ }
+    ensures pass { λ r. ⌜ r .pass ≡ passOf (programWith banks (now (kinds .entry)) (now (operands .entry)) (now (first .entry)))
+        (rowWith (now (numbers .entry)) (now (states .entry)))
+        (rowWith (now («before_numbers» .entry)) (now («before_states» .entry)))
+        false «is_last» ⌝ }
+    ensures walk { λ r. ⌜ ((merged : ℕ) → r .pass ≡ State merged
+        → r .walk ≡ walkTo (programWith banks (now (kinds .entry)) (now (operands .entry)) (now (first .entry)))
+        (rowWith (now (numbers .entry)) (now (states .entry))) (length (now (kinds .entry)))) ⌝ }
+{
+    let mut walk = begun;
+    let mut old = begun_before;
     let mut merged: u8 = 0;
     let mut i = 0;
     while i < kinds.len() {
         let node = node_at(kinds, operands, first, numbers, states, i);
-        bank = bank_after(bank, node);
+        let bank = bank_after(walk.bank, node);
         let def = banks.defs[bank as usize];
-        let crossing = cross(def, at[bank as usize], node);
-        let seen = crossing.seen;
-        match meet(def, node, seen, is_first, is_last, merged, seen) {
-            Pass::Refused(why) => return Pass::Refused(why),
-            Pass::State(state) => {
-                merged = state;
-            }
+        let step = pace(def, walk.at[bank as usize], node);
+        if step.fault != MADE {
+            return refused_pass(why_refused(step.fault, node.index), walk);
         }
-        let after = crossing.after;
-        at[bank as usize] = after;
+        let now = step.seen;
+        if off_boundary(def, node, now, is_last) {
+            return refused_pass(Refusal::LabelOffBoundary(node.index), walk);
+        }
+        let node_before = node_at(kinds, operands, first, before_numbers, before_states, i);
+        let before = pace(def, old.at[bank as usize], node_before);
+        merged = larger(merged, node_state(def, node, now, before, false));
+        let after = step.after;
+        walk.at[bank as usize] = after;
+        walk.lost[bank as usize] = lost_after(walk.lost[bank as usize], step.bits);
+        walk.bank = bank;
+        let after_before = before.after;
+        old.at[bank as usize] = after_before;
+        old.lost[bank as usize] = lost_after(old.lost[bank as usize], before.bits);
+        old.bank = bank;
         i += 1;
     }
-    Pass::State(merged)
+    Passed {
+        pass: Pass::State(merged),
+        walk,
+    }
 }
 
-// A pass beside the walk of the pass before, which reads another row.
+// A pass beside the walk of the pass before, which reads another row. Both walks begin at the start.
 pub fn pass_beside(
     banks: Bankdefs,
     kinds: &[u8],
@@ -204,35 +303,19 @@ pub fn pass_beside(
         (rowWith (now («before_numbers» .entry)) (now («before_states» .entry)))
         false «is_last» ⌝ }
 {
-    let origin = Pos {
-        position: 0,
-        known: true,
-    };
-    let mut at = [origin; 16];
-    let mut at_before = [origin; 16];
-    let mut bank: u64 = 0;
-    let mut merged: u8 = 0;
-    let mut i = 0;
-    while i < kinds.len() {
-        let node = node_at(kinds, operands, first, numbers, states, i);
-        bank = bank_after(bank, node);
-        let def = banks.defs[bank as usize];
-        let crossing = cross(def, at[bank as usize], node);
-        let node_before = node_at(kinds, operands, first, before_numbers, before_states, i);
-        let crossing_before = cross(def, at_before[bank as usize], node_before);
-        let before = crossing_before.seen;
-        let seen = crossing.seen;
-        match meet(def, node, before, false, is_last, merged, seen) {
-            Pass::Refused(why) => return Pass::Refused(why),
-            Pass::State(state) => {
-                merged = state;
-            }
-        }
-        let next = crossing.after;
-        at[bank as usize] = next;
-        let next_before = crossing_before.after;
-        at_before[bank as usize] = next_before;
-        i += 1;
-    }
-    Pass::State(merged)
+    let passed = walk_beside(
+        banks,
+        kinds,
+        operands,
+        first,
+        numbers,
+        states,
+        start(),
+        before_numbers,
+        before_states,
+        start(),
+        is_last,
+    );
+    let pass = passed.pass;
+    pass
 }

@@ -13,7 +13,7 @@ use refusal::Verdict;
 ghost use mathlib.Core.Path.{_≡_};
 ghost use mathlib.Core.Bool.{true};
 ghost use mathlib.Core.List.{[]};
-ghost use Prim.Native.Nat.{_+_, _-_, _<_, _≤_, min};
+ghost use Prim.Native.Nat.{_-_, _<_, _≤_, min};
 ghost use lib.ListN.{length};
 ghost use Rattle.resolver.specs.Layout.{layoutOf};
 ghost use Rattle.lists.specs.Lists.{lists, Rows};
@@ -137,17 +137,8 @@ fn last_pass(
     settle(k, last, n)
 }
 
-// The passes that are walked before pass M: from the first past the rows on they repeat themselves, so one of those is enough.
-fn walked_passes(rows: u64, limit: u64) -> u64
-    requires { ⌜ rows ≤ 16 ⌝ }
-    ensures { λ r. ⌜ r ≡ min limit (rows + 2) ⌝ }
-{
-    let enough = rows + 2;
-    if limit < enough { limit } else { enough }
-}
-
-// The passes of document 01. "the number of passes run, a count that equals the passes": the limit bounds the loop, and each way
-// out tells the pass that it stands at.
+// The passes of document 01. "the number of passes run, a count that equals the passes": the pass limit bounds the loop, and each way out tells the pass
+// that it stands at.
 fn resolve_iteratively(
     banks: Bankdefs,
     kinds: &[u8],
@@ -165,9 +156,14 @@ fn resolve_iteratively(
     if m == 0 {
         return last_pass(banks, kinds, operands, numbers, states, rows, 0, 1);
     }
-    let end = walked_passes(rows, m);
+    // Passes past the rows need not be walked. "Pass n reads row n, or the last row if there are fewer": pass rows + 1 and each one behind it read the
+    // last row, and so does the pass before each, so that they all come to the same. Where pass rows + 1 is unresolved, so is every pass up to the limit.
+    let enough = rows + 2;
     let mut n: u64 = 1;
-    while n < end {
+    while n < m {
+        if n == enough {
+            return last_pass(banks, kinds, operands, numbers, states, rows, m, m);
+        }
         match pass_at(banks, kinds, operands, numbers, states, rows, n, false) {
             Pass::Refused(why) => {
                 return Resolution {

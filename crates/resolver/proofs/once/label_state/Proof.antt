@@ -2,7 +2,10 @@
 use mathlib.Core.Path.{_≡_}
 use mathlib.Core.Bool.{false, _&&_}
 use mathlib.Core.Logic.{⊎-elim}
+use borrow.Author.Tests.{eq-eqb, ne-eqb}
+use Rattle.refusal.specs.Laws.Pick.{pick-true, pick-false}
 use Rattle.iter.specs.Address.{onBoundary}
+use Rattle.iter.specs.Pace.{seenBy}
 use Rattle.resolver.proofs.Going.{unsettled, unknown, label-resolved, label-first, label-same, label-moved, label-stopped}
 use borrow.Author.Needs.{needs}
 use Rattle.resolver.proofs.once.label_state.Statement.{statement}
@@ -18,14 +21,18 @@ on-boundary-requires : tie.Need-on-boundary-requires
 on-boundary-requires c κs = search needs
 
 returns : tie.Need-returns
-returns c = let a = c .before .before .before .args in
-    label-resolved (a .def) (a .now) (a .before) (a .is-first) (c .before .before .if1 .taken) (c .before .on-boundary .ensures) (c .if2 .taken)
+returns c =
+    let a = c .before .before .before .args in
+    label-resolved (a .def) (a .now) (seenBy (a .before) 0) (a .is-first) (c .before .before .if1 .taken) (c .before .on-boundary .ensures) (c .if2 .taken)
 
 returns-2 : tie.Need-returns-2
-returns-2 c = let a = c .before .before .args in label-first (a .def) (a .now) (still-open (c .before)) (a .before) (a .is-first) (c .if3 .taken)
+returns-2 c = let a = c .before .before .args in label-first (a .def) (a .now) (still-open (c .before)) (seenBy (a .before) 0) (a .is-first) (c .if3 .taken)
 
-enum-known-before : tie.Need-enum-known-before
-enum-known-before c = search needs
+returns-3 : tie.Need-returns-3
+returns-3 c =
+    let a = c .before .before .before .before .args in
+    label-stopped (a .def) (a .now) (still-open (c .before .before .before)) (c .before .before .if3 .left) (pick-false _ _ (ne-eqb (a .before .fault) 0
+    (c .if4 .taken)))
 
 whole-units-requires : tie.Need-whole-units-requires
 whole-units-requires c κs = search needs
@@ -33,24 +40,21 @@ whole-units-requires c κs = search needs
 whole-units-requires-2 : tie.Need-whole-units-requires-2
 whole-units-requires-2 c κs = search needs
 
-enum-told : tie.Need-enum-told
-enum-told c = search needs
-
-returns-3 : tie.Need-returns-3
-returns-3 c = let a = c .before .before .before .before .before .before .before .before .args in
-    label-same (a .def) (a .now) (still-open (c .before .before .before .before .before .before .before))
-    (c .before .before .before .before .before .before .if3 .left) (c .before .before .before .before .before2 .given .1)
-    (c .before .before .whole-units .ensures) (c .before .whole-units2 .ensures) (c .if4 .taken)
-
 returns-4 : tie.Need-returns-4
-returns-4 c = let a = c .before .before .before .before .before .before .before .before .args in
-    label-moved (a .def) (a .now) (still-open (c .before .before .before .before .before .before .before))
-    (c .before .before .before .before .before .before .if3 .left) (c .before .before .before .before .before2 .given .1)
-    (c .before .before .whole-units .ensures) (c .before .whole-units2 .ensures) (c .if4 .left)
+returns-4 c =
+    let a = c .before .before .before .before .before .before .before .before .args in
+    label-same (a .def) (a .now) (still-open (c .before .before .before .before .before .before .before))
+    (c .before .before .before .before .before .before .if3 .left) (pick-true _ _ (eq-eqb (a .before .fault) 0
+    (c .before .before .before .before .if4 .left)))
+    (c .before .before .whole-units .ensures) (c .before .whole-units2 .ensures) (c .if5 .taken)
 
 returns-5 : tie.Need-returns-5
-returns-5 c = let a = c .before .before .before .before .args in
-    label-stopped (a .def) (a .now) (still-open (c .before .before .before)) (c .before .before .if3 .left) (c .enum-told .given .1)
+returns-5 c =
+    let a = c .before .before .before .before .before .before .before .before .args in
+    label-moved (a .def) (a .now) (still-open (c .before .before .before .before .before .before .before))
+    (c .before .before .before .before .before .before .if3 .left) (pick-true _ _ (eq-eqb (a .before .fault) 0
+    (c .before .before .before .before .if4 .left)))
+    (c .before .before .whole-units .ensures) (c .before .whole-units2 .ensures) (c .if5 .left)
 
 pub label-state-spec : {M : Type 1} → statement M
 label-state-spec =
@@ -59,10 +63,8 @@ label-state-spec =
     on-boundary-requires
     returns
     returns-2
-    enum-known-before
+    returns-3
     whole-units-requires
     whole-units-requires-2
-    enum-told
-    returns-3
     returns-4
     returns-5)
