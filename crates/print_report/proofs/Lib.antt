@@ -1,3 +1,2 @@
-pub mod Built
 pub mod Found
 pub mod Unique

@@ -4,3 +4,4 @@ pub mod Fitting
 pub mod Places
 pub mod Room
 pub mod Table
+pub mod Built

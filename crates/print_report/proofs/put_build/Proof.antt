@@ -4,7 +4,7 @@ use Prim.Native.Nat.{ℕ, _<_}
 use lib.ListN.{getD}
 use Rattle.form_build.specs.Filed.{FileBuilt}
 use Rattle.output.specs.Output.{Lent, lent}
-use Rattle.print_report.proofs.Built.{file-text, file-fits}
+use Rattle.print_report.specs.Laws.Built.{file-text, file-fits}
 use borrow.Author.Needs.{needs}
 use Rattle.print_report.proofs.put_build.Statement.{statement}
 use Rattle.print_report.proofs.put_build.Tie as tie

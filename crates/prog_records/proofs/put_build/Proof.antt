@@ -5,7 +5,7 @@ use native.Mathlib.Omega.{arith}
 use lib.ListN.{getD}
 use Rattle.form_build.specs.Filed.{FileBuilt}
 use Rattle.output.specs.Output.{Lent, lent}
-use Rattle.print_report.proofs.Built.{file-fits}
+use Rattle.print_report.specs.Laws.Built.{file-fits}
 use Rattle.prog_records.proofs.Built.{file-text}
 use borrow.Author.Needs.{needs}
 use Rattle.prog_records.proofs.put_build.Statement.{statement}
