@@ -322,31 +322,63 @@ if command -v python3 >/dev/null 2>&1; then
 fi
 refused 'refused 4 0' 'it looks like Intel HEX' tools/layout "$room/made.hex"
 refused '' 'it looks like S-records' tools/map "$room/made.s37"
-# a first build says how far it is, with a stand-in for rt that proves nothing; one that fails is said, and the next run tries again
+# a first build says how far it is, takes crates as soon as what they stand on is proved, and leaves nothing but what is proved; with a stand-in for rt that
+# proves nothing. One that fails is said, and the next run tries again
 mkdir -p "$room/first/crates/prog/src" "$room/first/bin" && cp -R tools "$room/first/" && : >"$room/first/crates/prog/src/main.rt" || wrong=1
-printf 'low:\nhigh: low\nprog: low high io\n' >"$room/first/crates.txt"
+printf 'low:\nleft: low\nright: low # remark\nhigh: left right\nprog: low high io\n' >"$room/first/crates.txt"
 cat >"$room/first/bin/rt" <<'RT'
 #!/bin/sh
+# rt check NAME: each crate that it stands on has its stamp, or it is none
+prove() {
+    for need in $(sed -n "s/#.*//;s/^$1://p" crates.txt); do
+        [ "$need" = io ] || [ -f "target/stamp/$need" ] || { echo "rt: $1 NOT PROVED: $need is not" && exit 1; }
+    done
+    [ ! -e "$calls/fails" ] || [ "$1" != high ] || { echo "rt: $1 NOT PROVED" && exit 1; }
+    [ ! -f "target/stamp/$1" ] || { echo "rt: $1 proved (unchanged since it was last proved)" && return; }
+    echo "$1 in ${PWD##*/}" >>"$calls/calls"
+    echo "rt: $1 proved (3 s)"
+    : >"target/stamp/$1"
+}
 case $1 in
 version) echo stand-in ;;
 doc) echo /nowhere/docs/START-HERE.md ;;
 check)
-    printf 'rt: low proved (unchanged since it was last proved)\nrt: high proved (3 s)\nrt: prog proved (4 s)\n'
-    [ ! -e fails ] || exit 1
-    mkdir -p target/bin && printf '#!/bin/sh\necho ran\n' >target/bin/prog && chmod +x target/bin/prog
+    mkdir -p target/stamp target/log
+    case $2 in
+    prog) set -- low left right high prog ;;
+    *) set -- "$2" ;;
+    esac
+    for one in "$@"; do
+        prove "$one"
+    done
+    [ "$1" = "$one" ] || { mkdir -p target/bin && printf '#!/bin/sh\necho ran\n' >target/bin/prog && chmod +x target/bin/prog; }
     ;;
 esac
 RT
 chmod +x "$room/first/bin/rt"
+# shellcheck disable=SC2317
+first() {
+    env PATH="$room/first/bin:$PATH" RT_JOBS=2 calls="$room/first" "$room/first/tools/run" --build prog
+}
 : >"$room/first/fails"
-is 2 env PATH="$room/first/bin:$PATH" "$room/first/tools/run" --build prog
-has "$room/err" 'crate 2 of 3, [0-9]* s: high' 'a first build that fails'
+is 2 first
+has "$room/err" 'crate [23] of 5, [0-9]* s: left' 'a first build that fails'
 has "$room/err" 'tools/run: the program prog was not built: .*' 'a first build that fails'
+has "$room/err" 'rt: high NOT PROVED' 'a first build that fails'
 rm "$room/first/fails"
-is 0 env PATH="$room/first/bin:$PATH" "$room/first/tools/run" --build prog
-has "$room/err" 'crate 3 of 3, [0-9]* s: prog' 'a first build'
+is 0 first
+has "$room/err" 'crate 5 of 5, [0-9]* s: prog' 'a build after one that failed'
 ! grep -q ': low$' "$room/err" || wrong=1
-is 0 env PATH="$room/first/bin:$PATH" "$room/first/tools/run" --build prog
+rm -rf "$room/first/target" "$room/first/calls"
+is 0 first
+has "$room/err" 'crate 4 of 5, [0-9]* s: high' 'a first build'
+has "$room/first/calls" 'high in high' 'a first build, each in a folder of its own'
+has "$room/first/calls" 'prog in first' 'a first build, the last where it belongs'
+if [ "$(wc -l <"$room/first/calls")" -ne 5 ] || [ -e "$room/first/target/first" ]; then
+    echo "a first build proves something twice, or leaves its folders"
+    wrong=1
+fi
+is 0 first
 [ ! -s "$room/err" ] || {
     echo "a program that is built is built again: $(cat "$room/err")"
     wrong=1

@@ -5,25 +5,14 @@
 [ "${0##*/}" != launch.sh ] || . "$(dirname "$(readlink -f -- "$0")")/start.sh"
 . "$home/tools/crates.sh"
 installed='' programs=$home/target/bin
-[ ! -f "$home/INSTALLED" ] || installed=yes programs=$home/bin
+if [ -f "$home/INSTALLED" ]; then
+    installed=yes programs=$home/bin
+else
+    . "$home/tools/prove.sh"
+fi
 
 wants_rt() {
     command -v rt >/dev/null 2>&1 || say "the Rattle kit's command rt is not on the PATH"
-}
-
-# The folders of a crate and of those that it stands on.
-stands_on() {
-    awk -v name="$1" '
-        { sub(/#.*/, "") }
-        match($0, /^[^:]*:/) { needs[substr($0, 1, RLENGTH - 1)] = substr($0, RLENGTH + 1) }
-        function reach(one,    word, i, n) {
-            if (!(one in needs) || (one in seen)) return
-            seen[one] = 1
-            print "crates/" one
-            n = split(needs[one], word, " ")
-            for (i = 1; i <= n; i++) reach(word[i])
-        }
-        END { reach(name) }' crates.txt
 }
 
 # What a crate's product was made from, and the product, in one number: the kit, the files of the crate and of those that it stands on. No file's time is
@@ -44,41 +33,10 @@ is_built() {
     [ -f "$home/$2" ] && [ -f "$home/target/sum/$1" ] && [ "$(cat "$home/target/sum/$1")" = "$(sum_of "$1" "$2")" ]
 }
 
-# progress CRATE LOG: what rt says, from standard input, goes into the log, and for each crate that it proved a line to standard error. The last line of the
-# input is `status N`, rt's status.
-progress() {
-    began=$(date +%s) status=2 through=' ' count=0
-    total=$(stands_on "$1" | wc -l)
-    while IFS= read -r text; do
-        case $text in
-        'status '*)
-            status=${text#status }
-            continue
-            ;;
-        esac
-        printf '%s\n' "$text" >&3
-        one=${text#rt: } one=${one%% *}
-        case $text in
-        'rt: '*' proved ('*')') ;;
-        *) continue ;;
-        esac
-        case $through in
-        *" $one "*) continue ;;
-        esac
-        through="$through$one " count=$((count + 1))
-        case $text in
-        *' s)') echo "crate $count of $((total)), $(($(date +%s) - began)) s: $one" >&2 ;;
-        esac
-    done 3>"$2"
-    [ "$status" = 0 ]
-}
-# What a crate stands on is proved first, by `rt check`, which takes in parallel what does not stand on each other; other verbs take one after the other.
-run_rt() {
-    if [ "$1" != check ]; then
-        # shellcheck disable=SC2046
-        rt check $(stands_on "$2" | sed -n 's,^crates/,,;/./p' | grep -vx "$2") </dev/null || return
-    fi
-    rt "$1" "$2" </dev/null
+# One build at a time in one folder; the lock goes with the process.
+alone() {
+    exec 9>"$home/target/sum/lock" || exit 2
+    ! command -v flock >/dev/null 2>&1 || flock 9
 }
 
 # build CRATE PRODUCT VERB WORDS: runs `rt VERB CRATE` where the product is not that of the files that are here. What is proved is said as it goes.
@@ -89,16 +47,14 @@ build() {
     mkdir -p "$home/target/sum" || say "target/ cannot be written"
     log=target/sum/$1.log
     (
-        # one build at a time in one folder; the lock goes with the process
-        exec 9>"$home/target/sum/lock" || exit 2
-        ! command -v flock >/dev/null 2>&1 || flock 9
+        alone
         ! is_built "$1" "$2" || exit 0
         echo "building $4: its crates are proved first, which takes some minutes where nothing is proved yet" >&2
         cd "$home" || exit 2
         {
             run_rt "$3" "$1"
             echo "status $?"
-        } 2>&1 | progress "$1" "$log" || exit 1
+        } 2>&1 | progress "$log" "$1" || exit 1
         sum_of "$1" "$2" >"target/sum/$1"
     ) || {
         [ ! -f "$home/$log" ] || tail -n 5 "$home/$log" >&2
@@ -112,6 +68,31 @@ build_program() {
     fi
     [ -f "$home/crates/$1/src/main.rt" ] || say "there is no program $1"
     build "$1" "target/bin/$1" check "the program $1"
+}
+# Several programs and the archive: where one of them is not built, what all of them stand on is proved in one go, and then the programs.
+build_all() {
+    every=
+    for one in "$@"; do
+        is_built "$one" "target/bin/$one" || every=yes
+    done
+    if [ -n "$every" ] && [ -z "$(ls "$home/target/stamp" 2>/dev/null)" ]; then
+        wants_rt
+        mkdir -p "$home/target/sum" || say "target/ cannot be written"
+        (
+            alone
+            echo "building the programs and the archive: their crates are proved first, which takes some minutes" >&2
+            cd "$home" || exit 2
+            {
+                first_build "$@" "$crate_library"
+                rt check "$@" </dev/null
+                echo "status $?"
+            } 2>&1 | progress target/sum/all.log "$@" "$crate_library"
+        ) || say "the programs were not built: target/sum/all.log has the whole account"
+    fi
+    for one in "$@"; do
+        build_program "$one"
+    done
+    build_archive
 }
 archive=target/staticlib/lib$crate_library.a
 build_archive() {
