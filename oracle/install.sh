@@ -108,7 +108,8 @@ fi
 : >"$into/share/of another"
 tools/install "$into" >"$room/said" 2>&1 || fault "a second installation: $(cat "$room/said")"
 tools/install --uninstall "$into" >"$room/said" 2>&1 || fault "tools/install --uninstall: $(cat "$room/said")"
-[ "$(find "$into" -type f -o -type l | wc -l)" -eq 1 ] || fault "the installation leaves files behind, or takes another's away: $(find "$into" -type f | head -n 3)"
+[ "$(find "$into" -type f -o -type l | wc -l)" -eq 1 ] ||
+    fault "the installation leaves files behind, or takes another's away: $(find "$into" -type f | head -n 3)"
 [ -e "$into/share/of another" ] || fault "tools/install --uninstall takes another's file away"
 if tools/install --uninstall "$into" >"$room/said" 2>&1; then fault "an installation that is not there can be taken away"; fi
 

@@ -32,7 +32,7 @@ for one in "$@"; do
     [ -z "${only_first:-}" ] || break
 done
 case $tool in
-tools/start.sh | tools/launch.sh | tools/crates.sh | tools/common.sh | tools/names.sh | tools/prove.sh) say "other scripts read this, nobody runs it" ;;
+tools/*.sh) say "other scripts read this, nobody runs it" ;;
 esac
 if [ -f "$home/INSTALLED" ]; then
     tool="denkumari ${tool#tools/}"
