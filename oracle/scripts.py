@@ -38,6 +38,7 @@ tools/form FILE
 tools/form --make FILE
 tools/compare FILE FILE
 tools/run --file FILE
+tools/release --gate FILE
 oracle/edit.py FILE FILE
 oracle/build.sh --edit FILE
 oracle/mutants.py FILE
