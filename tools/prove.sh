@@ -84,14 +84,15 @@ in_turn() {
 # sees this repository and keeps its own notes, and shares with the others what is proved alone. The verdict is that of the run of rt that follows, which
 # looks every crate up again.
 first_build() (
+    views=$home/target/first running=0 begun=' ' proved=' '
+    # of a run that was ended
+    rm -rf "$views"
     [ -z "$(ls target/stamp 2>/dev/null)" ] || exit 0
     jobs=${RT_JOBS:-$(nproc 2>/dev/null || echo 1)}
     case $jobs in
     '' | *[!0-9]* | 0) exit 0 ;;
     esac
     [ -n "${RT_JOBS:-}" ] || [ "$jobs" -le 4 ] || jobs=4
-    views=$home/target/first running=0 begun=' ' proved=' '
-    rm -rf "$views"
     mkdir -p "$views" target/rlib target/stamp && mkfifo "$views/ended" || exit 0
     exec 8<>"$views/ended" || exit 0
     in_turn "$@" >"$views/turns"
