@@ -18,10 +18,13 @@ fault() {
     exit 0
 }
 into="$room/a prefix"
-tools/install "$into" >"$room/said" 2>&1 || {
+# a CDPATH leads nobody astray
+mkdir -p "$room/astray/examples" "$room/astray/tools/awk"
+CDPATH=$room/astray tools/install "$into" >"$room/said" 2>&1 || {
     cat "$room/said"
     exit 1
 }
+[ -f "$into/share/doc/denkumari/examples/worked.form" ] || fault "the examples are not installed"
 mkdir "$room/elsewhere"
 # a command of the installation, without the kit and from another folder
 there() {
