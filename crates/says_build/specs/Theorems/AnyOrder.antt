@@ -2,22 +2,29 @@
 -- share a bit, so that a bit of an item keeps the value that the item gives it, whatever is written before and after it.
 use mathlib.Core.Path.{_≡_, refl, sym, ap, ap₂, subst, _∙_}
 use mathlib.Core.List.{List, [], _∷_}
-use mathlib.Core.Logic.{⊎-elim}
-use Prim.Native.Nat.{ℕ, _+_, _-_, _*_, _≤_, _<_}
+use mathlib.Core.Bool.{Bool}
+use mathlib.Core.Logic.{_⊎_, inl, inr, ⊎-elim}
+use Prim.Native.Nat.{ℕ, zero, suc, _+_, _-_, _*_, _/_, _%_, _≤_, _<_}
 use native.Mathlib.Omega.{arith}
 use borrow.Author.Tests.{eqb-true, eqb-false}
 use lib.Dec.{eqb}
+use lib.IntN.{ℤ}
 use lib.ListN.{length, getD}
 use Rattle.refusal.specs.Laws.Bools.{either}
 use Rattle.sort.specs.Laws.Sorted.{le-or-lt}
 use Rattle.bitvec.specs.Bits.{bitAt}
 use Rattle.bitvec.specs.Theorems.Bits.{same-bits}
-use Rattle.says_build.specs.Build.{Given, Lent, Outcome, Not, nodes, operand, IsWritten, Offer, Refuses, OfItem, Fills}
-use Rattle.says_build.specs.Laws.One.{offer-one}
+use Rattle.bitvec.specs.Written.{written}
+use Rattle.bitvec.specs.Theorems.Written.{length-written, bytes-written, bitAt-written, writtenBit-inside, written-other}
+use Rattle.says_build.specs.Build as b
+use Rattle.says_build.specs.Build.{Given, Lent, Outcome, Not, nodes, kind, operand, flag, IsWritten, Number, In, Sees, Offer, Refuses, IsSpan, Spans, SpanAt}
+use Rattle.says_build.specs.Build.{OfItem, Fills}
+use Rattle.says_build.specs.Laws.One.{three, offer-one}
 use Rattle.says_build.specs.InTurn as turn
 use Rattle.says_build.specs.InTurn.{Puts, Among, InTurn, Blank}
 use Rattle.says_build.specs.Theorems.Outcomes.{AcceptedSo}
-use Rattle.says_build.specs.Theorems.Image.{offers-share-no-bit, offer-listed}
+use Rattle.says_build.specs.Theorems.Decides.{spans-less}
+use Rattle.says_build.specs.Theorems.Image.{offers-share-no-bit, offer-listed, item-within}
 
 same-number : (x y : ℕ) → ((x ≡ y → ⊥) → ⊥) → x ≡ y
 same-number x y h = either (eqb x y) (λ t. eqb-true x y t) (λ f. absurd (h (eqb-false x y f)))
@@ -108,3 +115,79 @@ module _ (g : Given) (old : Lent) (o : Outcome) (a : AcceptedSo g old o) where
       → Blank g old (o .answer .length) image′ → InTurn g (a .row) order image last → InTurn g (a .row) order′ image′ last′ → last ≡ last′
   two-orders-one-image order order′ image image′ last last′ all all′ blank blank′ run run′ =
       any-order-same-image order image last all blank run ∙ sym (any-order-same-image order′ image′ last′ all′ blank′ run′)
+
+-- ---- every order can be written
+
+module _ (g : Given) where
+  span-or-not : (i : ℕ) → IsSpan g i ⊎ Not (IsSpan g i)
+  span-or-not i =
+      either (eqb (kind g i) 2)
+      (λ t. inl (inl (eqb-true (kind g i) 2 t)))
+      (λ f. ⊎-elim
+      (λ (low : 4 ≤ kind g i). ⊎-elim
+      (λ (high : kind g i ≤ 6). inl (inr (low, high)))
+      (λ (past : 6 < kind g i). inr (λ s. ⊎-elim (λ e. eqb-false (kind g i) 2 f e) (λ w. omega (arith, w .1)) s))
+      (le-or-lt (kind g i) 6))
+      (λ (below : kind g i < 4). inr (λ s. ⊎-elim (λ e. eqb-false (kind g i) 2 f e) (λ w. omega (arith, w .0)) s))
+      (le-or-lt 4 (kind g i)))
+
+  -- how many spans stand before a node
+  spans-before : (i : ℕ) → (n : ℕ) × Spans g i n
+  spans-before zero = (0, b.before-all)
+  spans-before (suc i) =
+      let (n, s) = spans-before i in
+      ⊎-elim (λ h. (suc n, b.more s h)) (λ h. (n, b.other s h)) (span-or-not i)
+
+  stands-in : {r i c p : ℕ} {k : Bool} → Sees g r i c p k → In g i c
+  stands-in (b.sees x h l le) = h
+
+  its-number : (r i : ℕ) → (n : ℕ) × Number g r i n
+  its-number r i =
+      either (eqb (kind g i) 5) (λ t. (getD (g .numbers) i 0, b.first (eqb-true (kind g i) 5 t)))
+      (λ f. (getD (g .numbers) (r * nodes g + i) 0, b.own (eqb-false (kind g i) 5 f)))
+
+module _ (g : Given) (old : Lent) (o : Outcome) (a : AcceptedSo g old o) where
+  sees-there : {i n : ℕ} → Spans g i n → IsSpan g i → {z : ℤ} {w e : ℕ} → SpanAt g (a .row) n z w e
+      → (c : ℕ) × (p : ℕ) × (k : Bool) × Sees g (a .row) i c p k
+  sees-there {i} s h (b.span {i = j} {b = c} {p = p} {k = k} lt h′ s′ x ex w) =
+      let same : j ≡ i =
+      three g i j (λ l. absurd (omega (arith, spans-less g s h s′ l))) (λ e. sym e) (λ l. absurd (omega (arith, spans-less g s′ h′ s l))) in
+      (c, p, k, subst (λ (m : ℕ). Sees g (a .row) m c p k) same x)
+
+  -- Every written item of an accepted build was offered.
+  pub written-is-offered : (i : ℕ) → i < nodes g → IsWritten g i → (x : ℕ) × (m : ℕ) × Offer g (a .row) i x m
+  written-is-offered i h w =
+      let (n, s) = spans-before g i in
+      let (c, p, k, x) = sees-there s (inr w) (a .left .span n (spans-less g s (inr w) (a .spans) h)) in
+      let (m, q) = its-number g (a .row) i in
+      either (eqb (flag g c / 2 % 2) 1)
+      (λ t. (getD (g .bankOffsets) c 0 + p, m, b.offer h (w .0) (omega (arith, w .1)) x (eqb-true (flag g c / 2 % 2) 1 t, refl) q))
+      (λ f. absurd (a .none-refused i (b.eleven (h, w, (c, stands-in g x, λ _ offset. eqb-false (flag g c / 2 % 2) 1 f (offset .0))))))
+
+  -- Its bits can be written into an image as long as the build's,
+  puts-there : {i x m : ℕ} (image : List ℕ) → length image ≡ length (old .image) → IsWritten g i → Offer g (a .row) i x m
+      → Puts (g .values) x m (operand g i) image (written image x (g .values) (operand g i) m)
+  puts-there {i} {x} {m} image long w q =
+      let values = g .values in
+      let from = operand g i in
+      let within = item-within g old o a w q in
+      record {
+        as-long = length-written image x values from m;
+        bytes = bytes-written image x values from m;
+        own = λ bit h.
+            bitAt-written image x values from m (x + bit) (omega (arith, within, a .image-room, long))
+            ∙ writtenBit-inside image x values from m (x + bit) (omega arith) (omega arith)
+            ∙ ap (λ (n : ℕ). bitAt values (from + n)) {x = x + bit - x} {y = bit} (omega arith);
+        others = λ bit out. written-other image x values from m bit out;
+      }
+
+  -- and so can those of any of them, in any order.
+  pub some-writing : (order : List ℕ) → ((i : ℕ) → Among i order → (i < nodes g) × IsWritten g i) → (image : List ℕ) → length image ≡ length (old .image)
+      → (last : List ℕ) × InTurn g (a .row) order image last
+  some-writing [] each image long = (image, turn.all-put)
+  some-writing (i ∷ order) each image long =
+      let (h, w) = each i turn.here in
+      let (x, m, q) = written-is-offered i h w in
+      let after = written image x (g .values) (operand g i) m in
+      let (last, rest) = some-writing order (λ j there. each j (turn.later there)) after (length-written image x (g .values) (operand g i) m ∙ long) in
+      (last, turn.one-more w q (puts-there image long w q) rest)
