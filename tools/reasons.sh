@@ -1,6 +1,7 @@
 # shellcheck shell=sh disable=SC2154
 # Why a file of records was refused, in words; the tools read it, nobody runs it. The program's line is `line N REASON FIRST SECOND`, N from 0, the reason and
 # its numbers as include/denkumari.h has them.
+[ "${0##*/}" != reasons.sh ] || . "$(dirname "$(readlink -f -- "$0")")/start.sh"
 
 # reason_words N REASON FIRST SECOND: one cause, and the line as it stands in the file
 reason_words() {
