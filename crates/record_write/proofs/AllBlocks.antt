@@ -6,11 +6,12 @@ use Prim.Native.Nat.{ℕ, suc, _+_, _-_, _*_, _/_, _%_, _≤_, _<_, min}
 use native.Mathlib.Omega.{arith}
 use borrow.Author.Tests.{leb-true}
 use lib.Dec.{leb}
-use lib.ListN.{length, take, drop, getD}
+use lib.ListN.{length, take, drop, getD, length-append}
 use Rattle.blocks.specs.declared.Block.{Block}
 use Rattle.blocks.specs.Walk.{block, endOf}
 use Rattle.bitvec.specs.Part.{isPart}
 use Rattle.bitvec.specs.Theorems.Part.{isPart-true}
+use Rattle.record_lines.specs.Pieces.{Piece}
 use Rattle.record_lines.specs.Puts.{Puts}
 use Rattle.record_write.specs.declared.Place.{Place}
 use Rattle.record_write.specs.Checks.{allParts, startsBehind, placed, allPlaced}
@@ -26,7 +27,7 @@ abbrev pub Few : ℕ → ℕ → List Block → Type 0
 Few load at [] = at ≤ 1044 * 4294967296
 Few load at (b ∷ l) = at ≤ 1044 * (load + b .origin / 8)
 
-few-none : (load : ℕ) (l : List Block) → Few load 0 l
+pub few-none : (load : ℕ) (l : List Block) → Few load 0 l
 few-none load [] = omega arith
 few-none load (b ∷ l) = omega arith
 
@@ -69,6 +70,10 @@ module _ (len load : ℕ) (b : Block) (l : List Block) (parts : allParts len (b 
           let p = isPart-true len (b .origin) (b .size) is-part in
           let q = leb-true (endOf b) (d .origin) e in
           omega (arith, p .starts, p .ends)
+
+-- What is still to come of a text that has room has it.
+room-left : {whole old text rest : List ℕ} {at : ℕ} → Writing whole old at text rest → length whole ≤ length old → at + length rest ≤ length old
+room-left {rest = rest} w h = omega (arith, w .puts .long, ap length (w .split), length-append (w .done) rest)
 
 module _ (format : ℕ) (image os ss : List ℕ) (load : ℕ) (old : List ℕ) where
   abbrev pub linesLeft : ℕ → ℕ → List ℕ
@@ -133,12 +138,42 @@ module _ (format : ℕ) (image os ss : List ℕ) (load : ℕ) (old : List ℕ) w
                 (rw lines at (g .writing));
           }
 
+      -- there is room for the block
+      pub now-room : length (textOf format load image (blocksIn os ss)) ≤ length old → (n : ℕ) → n ≡ getD ss i 0 / 8
+          → p .at + length (linesFrom format (p .state) (cut (load + getD os i 0 / 8) (take n (drop (getD os i 0 / 8) image)))) ≤ length text
+      unfolding piecesOf
+      now-room room n e =
+          let mine = cut (load + getD os i 0 / 8) (take n (drop (getD os i 0 / 8) image)) in
+          let rest = piecesOf load image (behind os ss i) in
+          let pieces : piecesOf load image (left os ss i) ≡ mine ++ rest =
+          ap (piecesOf load image) now-at ∙ ap (λ (k : ℕ). cut (load + getD os i 0 / 8) (take k (drop (getD os i 0 / 8) image)) ++ rest) (sym e) in
+          let after = stateFrom format (p .state) mine in
+          omega (
+            arith,
+            room-left (g .writing) room,
+            g .long,
+            length-append (linesFrom format (p .state) (piecesOf load image (left os ss i))) (endBy format),
+            ap (λ (l : List Piece). length (linesFrom format (p .state) l)) pieces,
+            ap length (lines-append format (p .state) mine rest),
+            length-append (linesFrom format (p .state) mine) (linesFrom format after rest),
+          )
+
     module _ (h : length os ≤ i) where
       last-none : left os ss i ≡ []
       last-none = blocks-none os ss i (omega (arith, r .paired))
 
       pub last-few : p .at ≤ 1044 * 4294967296
       last-few = rw last-none at (g .few)
+
+      -- there is room for the end record
+      pub end-room : length (textOf format load image (blocksIn os ss)) ≤ length old → p .at + length (endBy format) ≤ length text
+      end-room room =
+          omega (
+            arith,
+            room-left (g .writing) room,
+            g .long,
+            length-append (linesFrom format (p .state) (piecesOf load image (left os ss i))) (endBy format),
+          )
 
       -- the end record, and all is written
       pub all-done : {m from : ℕ} {part : List ℕ} → from ≡ min (p .at) (length text) → Puts (endBy format) (take (length text - from) (drop from text)) m part

@@ -5,8 +5,8 @@ use Prim.Native.Nat.{ℕ, zero, suc, _+_, _-_, _*_, _/_, _≤_, _<_, min}
 use native.Mathlib.Nat.{le-refl}
 use native.Mathlib.Omega.{arith}
 use borrow.Rule.Slice.PartMut.{same-len-mid}
-use lib.ListN.{length, take, drop, length-take, length-drop}
-use lib.Seq.{take-take, take-all, take-nil, drop-drop, drop-nil}
+use lib.ListN.{length, take, drop, length-append, length-take, length-drop}
+use lib.Seq.{take-take, take-nil, drop-drop, drop-nil}
 use Rattle.record_lines.specs.Pieces.{Piece, piece}
 use Rattle.record_lines.specs.Puts.{Puts}
 use Rattle.record_lines.specs.Laws.Puts.{puts-rest, puts-long}
@@ -52,13 +52,23 @@ module _ (format : ℕ) (image : List ℕ) (start end address at₀ state₀ : �
     pub high : k ≤ end
     pub place : here + start ≡ address + k
     pub few : at ≤ 1044 * here
+    pub room : at + length (linesAt state here k) ≤ length text
     pub long : length text ≡ length old
     pub states : stateAt state here k ≡ stateAt state₀ address start
     pub goes : (whole first rest : List ℕ) → Writing whole first at₀ old (linesAt state₀ address start ++ rest) → Writing whole first at text
         (linesAt state here k ++ rest)
 
-  pub going-first : start ≤ end → at₀ ≤ 1044 * address → Going at₀ state₀ address start old
-  going-first h f = record { low = le-refl start; high = h; place = refl; few = f; long = refl; states = refl; goes = λ whole first rest w. w }
+  pub going-first : start ≤ end → at₀ ≤ 1044 * address → at₀ + length (linesAt state₀ address start) ≤ length old → Going at₀ state₀ address start old
+  going-first h f r = record {
+    low = le-refl start;
+    high = h;
+    place = refl;
+    few = f;
+    room = r;
+    long = refl;
+    states = refl;
+    goes = λ whole first rest w. w;
+  }
 
   -- what is written next, and the rest
   next-pieces : (here k n : ℕ) → k < end → end ≤ length image → n ≡ pieceLength here (end - k) → n ≤ end - k
@@ -74,36 +84,63 @@ module _ (format : ℕ) (image : List ℕ) (start end address at₀ state₀ : �
       some-left : (k : ℕ) → k < end → {x : ℕ} → x ≡ end - k → 0 < x
       some-left k h e = omega arith
 
-  pub going-on : {at state here k m from : ℕ} {text part : List ℕ} → Going at state here k text → k < end → end ≤ length image → (n : ℕ)
-      → n ≡ pieceLength here (end - k) → n ≤ 16 → n ≤ end - k → 0 < n → from ≡ min at (length text)
-      → Puts (textBy format state (piece here (take 255 (take (k + n - k) (drop k image))))) (take (length text - from) (drop from text)) m part → m ≤ 1044
-      → Going (at + m) (here / 65536) (here + n) (k + n) (take from text ++ (part ++ drop (length text - from) (drop from text)))
+  -- the lines of the next piece, and those behind it
+  next-lines : (state here k n : ℕ) → k < end → end ≤ length image → n ≡ pieceLength here (end - k) → n ≤ end - k
+      → linesAt state here k ≡ textBy format state (piece here (take n (drop k image))) ++ linesAt (here / 65536) (here + n) (k + n)
+  unfolding linesFrom
+  next-lines state here k n h l e b = ap (linesFrom format state) (next-pieces here k n h l e b)
+
+  abbrev textAt : ℕ → ℕ → ℕ → ℕ → List ℕ
+  textAt state here k n = textBy format state (piece here (take (k + n - k) (drop k image)))
+
+  same-text : (state here k n : ℕ) → textAt state here k n ≡ textBy format state (piece here (take n (drop k image)))
+  same-text state here k n = let count : k + n - k ≡ n = omega arith in ap (λ (j : ℕ). textBy format state (piece here (take j (drop k image)))) count
+
+  -- there is room for them
+  pub next-room : {at state here k : ℕ} {text : List ℕ} → Going at state here k text → k < end → end ≤ length image → (n : ℕ)
+      → n ≡ pieceLength here (end - k) → n ≤ end - k → at + length (textAt state here k n) ≤ length text
+  next-room {at} {state} {here} {k} {text} g h l n e b =
+      let t = textBy format state (piece here (take n (drop k image))) in
+      omega (
+        arith,
+        g .room,
+        ap length (next-lines state here k n h l e b),
+        length-append t (linesAt (here / 65536) (here + n) (k + n)),
+        ap length (same-text state here k n),
+      )
+
+  pub going-on : {at state here k m : ℕ} {text part : List ℕ} → Going at state here k text → k < end → end ≤ length image → (n : ℕ)
+      → n ≡ pieceLength here (end - k) → n ≤ 16 → n ≤ end - k → 0 < n
+      → Puts (textAt state here k n) (take (length text - at) (drop at text)) m part → m ≤ 1044
+      → Going (at + m) (here / 65536) (here + n) (k + n) (take at text ++ (part ++ drop (length text - at) (drop at text)))
   unfolding linesFrom stateFrom
-  going-on {at} {state} {here} {k} {m} {from} {text} {part} g h l n e b16 bn b0 ef q b =
+  going-on {at} {state} {here} {k} {m} {text} {part} g h l n e b16 bn b0 q b =
       let next = next-pieces here k n h l e bn in
       let rest = cut (here + n) (partOf image (k + n) end) in
-      let count : k + n - k ≡ n = omega arith in
-      let short : length (take n (drop k image)) ≤ 255 = few-bytes n (drop k image) b16 in
-      let same : take 255 (take (k + n - k) (drop k image)) ≡ take n (drop k image) =
-      ap (λ (j : ℕ). take 255 (take j (drop k image))) count ∙ take-all 255 (take n (drop k image)) short in
-      let puts = rw same at q in
-      let lines : linesAt state here k ≡ textBy format state (piece here (take n (drop k image))) ++ linesFrom format (here / 65536) rest = ap
-      (linesFrom format state) next in
+      let puts = rw (same-text state here k n) at q in
+      let lines = next-lines state here k n h l e bn in
+      let t = textBy format state (piece here (take n (drop k image))) in
+      let ef : at ≡ min at (length text) = omega (arith, g .room) in
       record {
         low = omega (arith, g .low);
         high = high-stays k n h bn;
         place = omega (arith, g .place);
         few = omega (arith, g .few);
-        long = kept-long from text part (puts-long puts) ∙ g .long;
+        room = omega (
+          arith,
+          g .room,
+          kept-long at text part (puts-long puts),
+          ap length lines,
+          length-append t (linesAt (here / 65536) (here + n) (k + n)),
+          puts .long,
+        );
+        long = kept-long at text part (puts-long puts) ∙ g .long;
         states = sym (ap (stateFrom format state) next) ∙ g .states;
         goes = λ whole first r w.
             writing-on (textBy format state (piece here (take n (drop k image)))) (linesFrom format (here / 65536) rest ++ r)
             (rw (lines, append-assoc) at (g .goes whole first r w)) ef puts;
       }
     where
-      few-bytes : (n : ℕ) (x : List ℕ) → n ≤ 16 → length (take n x) ≤ 255
-      few-bytes n x h = omega (arith, length-take n x)
-
       high-stays : (k n : ℕ) → k < end → n ≤ end - k → k + n ≤ end
       high-stays k n h b = omega arith
 
@@ -143,3 +180,7 @@ module _ (end k n : ℕ) (h : k < end) where
 
   pub next-within : {len : ℕ} → n ≤ end - k → end ≤ len → k + n ≤ len
   next-within b l = omega arith
+
+-- A piece is short.
+pub few-bytes : (k n : ℕ) (x : List ℕ) → n ≤ 16 → length (take (k + n - k) x) ≤ 16
+few-bytes k n x h = omega (arith, length-take (k + n - k) x)

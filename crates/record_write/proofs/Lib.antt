@@ -1,5 +1,7 @@
 pub mod AllBlocks
 pub mod BlockList
 pub mod BlockTurns
+pub mod LineLaws
+pub mod TextRoom
 pub mod Unique
 pub mod Whole

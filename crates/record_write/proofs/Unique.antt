@@ -6,6 +6,17 @@ use Rattle.refusal.specs.Laws.Pick.{determined, paired}
 use Rattle.record_write.specs.declared.Written.{Written}
 use Rattle.record_write.proofs.write.Kinds as write-kinds
 use Rattle.record_write.proofs.write.Reads as write-reads
+use Rattle.record_write.proofs.line.put_piece.Kinds as put-piece-kinds
+use Rattle.record_write.proofs.line.put_piece.Reads as put-piece-reads
+use Rattle.record_write.proofs.line.put_end.Kinds as put-end-kinds
+use Rattle.record_write.proofs.line.put_end.Reads as put-end-reads
 
 pub write-unique : OneView 4 write-kinds.ps write-kinds.r write-reads.Learnt (Written × List ℕ) (λ κs x e. (x, e .1 .1 .1 .1 .1 .0 .now))
 write-unique κs a x y e f p q = paired (determined (p .answer) (q .answer)) (determined (p .lent) (q .lent))
+
+-- the length of the lines, and the part that they were written into
+pub put-piece-unique : OneView 2 put-piece-kinds.ps put-piece-kinds.r put-piece-reads.Learnt (ℕ × List ℕ) (λ κs x e. (x, e .1 .0 .now))
+put-piece-unique κs a x y e f p q = paired (determined (p .long) (q .long)) (determined (p .part) (q .part))
+
+pub put-end-unique : OneView 1 put-end-kinds.ps put-end-kinds.r put-end-reads.Learnt (ℕ × List ℕ) (λ κs x e. (x, e .1 .0 .now))
+put-end-unique κs a x y e f p q = paired (determined (p .long) (q .long)) (determined (p .part) (q .part))

@@ -1,7 +1,7 @@
 -- What a call owes, by what its tests say.
 use mathlib.Core.Path.{_≡_, refl, sym, ap, _∙_}
 use mathlib.Core.Bool.{true, false, _&&_, and-eq-true-iff}
-use mathlib.Core.List.{List, [], _++_}
+use mathlib.Core.List.{List, _++_}
 use Prim.Native.Nat.{ℕ, _+_, _≤_, _<_}
 use native.Mathlib.Omega.{arith}
 use borrow.Author.Tests.{le-leb, lt-leb, eqb-true}
@@ -9,8 +9,6 @@ use lib.Dec.{eqb}
 use lib.ListN.{length, take, drop}
 use lib.Seq.{sets, sets-eq}
 use Rattle.refusal.specs.declared.Refusal.the-variants.{Malformed, TooShort, BadPart}
-use Rattle.record_lines.specs.Puts.{Puts}
-use Rattle.record_lines.specs.Laws.Puts.{sets-none}
 use Rattle.record_write.specs.declared.Written.the-variants.{Length, Refused}
 use Rattle.record_write.specs.Checks.{allParts, allPlaced, fitsWidth}
 use Rattle.record_write.specs.Going.{Ready}
@@ -50,15 +48,3 @@ module _ (i : Input) (old : List ℕ) where
           (allPlaced (i .load) (blocksIn (i .offsets) (i .sizes))) .0 s in
           let two = and-eq-true-iff known-fits (eqb (length (i .offsets)) (length (i .sizes))) .0 (three .0) in
           record { paired = eqb-true (length (i .offsets)) (length (i .sizes)) (two .1); parts = p; places = three .1 }
-
-      -- an empty part takes nothing, and so the first run leaves the text as it was
-      pub short-after : (n : ℕ) (part : List ℕ) → Puts (text i) [] n part → length (part ++ old) < n → Writes i old (Refused (TooShort 3)) (part ++ old)
-      short-after n part q h =
-          let none : part ≡ [] = q .part ∙ sets-none (text i) 0 in
-          rw none (too-short n (q .long) (rw none at h))
-
-      pub written-after : (n m : ℕ) (part new : List ℕ) → Puts (text i) [] n part → n ≤ length (part ++ old) → Puts (text i) (part ++ old) m new → Writes i
-          old (Length n) new
-      written-after n m part new q h w =
-          let none : part ≡ [] = q .part ∙ sets-none (text i) 0 in
-          all-written n new (q .long) (rw none at h) (rw none at (w .part))

@@ -1,11 +1,13 @@
 -- A text that is written piece by piece: what the private steps of the crate owe each other.
 use mathlib.Core.Path.{_≡_}
 use mathlib.Core.Bool.{true}
-use mathlib.Core.List.{List, _++_}
-use Prim.Native.Nat.{ℕ}
+use mathlib.Core.List.{List, [], _∷_, _++_}
+use Prim.Native.Nat.{ℕ, _+_}
 use lib.ListN.{length}
+use Rattle.record_lines.specs.Digits.{bytesText}
+use Rattle.record_lines.specs.Pieces.{piece}
 use Rattle.record_lines.specs.Puts.{Puts}
-use Rattle.record_write.specs.Text.{linesFrom, stateFrom}
+use Rattle.record_write.specs.Text.{textBy, linesFrom, stateFrom}
 use Rattle.record_write.specs.Checks.{allParts, allPlaced}
 use Rattle.record_write.specs.Cut.{cut, blocksIn}
 use Rattle.record_write.specs.declared.Place.{Place}
@@ -25,6 +27,19 @@ pub record BlockWritten (format address : ℕ) (bytes : List ℕ) (p : Place) (o
   pub adds : Adds (linesFrom format (p .state) (cut address bytes)) (p .at) old (r .at) new
   pub state : r .state ≡ stateFrom format (p .state) (cut address bytes)
   pub long : length new ≡ length old
+
+-- The lines of n bytes at an address, whichever they are, have so many characters;
+abbrev pub PieceRoom : ℕ → ℕ → ℕ → ℕ → ℕ → Type 0
+PieceRoom format state address n r = (bytes : List ℕ) → length bytes ≡ n → r ≡ length (textBy format state (piece address bytes))
+
+-- so many bytes from an address on, whichever they are, take the room from one place to another.
+pub record BlockRoom (format address count : ℕ) (p r : Place) : Type 0 where
+  pub at : (bytes : List ℕ) → length bytes ≡ count → r .at ≡ p .at + length (linesFrom format (p .state) (cut address bytes))
+  pub state : (bytes : List ℕ) → length bytes ≡ count → r .state ≡ stateFrom format (p .state) (cut address bytes)
+
+-- A line behind its head: its bytes, the check byte and LF.
+abbrev pub tailText : List ℕ → ℕ → List ℕ
+tailText bytes check = (bytesText bytes ++ bytesText (check ∷ [])) ++ (10 ∷ [])
 
 -- What is known of the blocks when they are written.
 pub record Ready (image offsets sizes : List ℕ) (load : ℕ) : Type 0 where

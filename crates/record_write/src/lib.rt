@@ -1,4 +1,6 @@
 // The blocks of an image, written as a file of records into a lent text. Document 02, Tickets 1 and 12: what the formats share.
+mod line;
+
 use refusal::Refusal;
 use refusal::Verdict;
 ghost use mathlib.Core.Path.{_≡_};
@@ -6,14 +8,12 @@ ghost use mathlib.Core.Bool.{true, _&&_};
 ghost use Prim.Native.Nat.{_+_, _-_, _*_, _/_, _≤_, _<_, min};
 ghost use lib.Dec.{leb, eqb};
 ghost use lib.ListN.{length, take, drop};
-ghost use Rattle.record_lines.specs.Pieces.{piece};
-ghost use Rattle.record_lines.specs.Puts.{Puts};
-ghost use Rattle.record_write.specs.Cut.{pieceLength, blocksIn};
-ghost use Rattle.record_write.specs.Text.{known, textBy, endBy};
+ghost use Rattle.record_write.specs.Cut.{pieceLength, cut, blocksIn};
+ghost use Rattle.record_write.specs.Text.{known, linesFrom, endBy, textOf};
 ghost use Rattle.record_write.specs.Checks.{allParts, endsFree, allPlaced, allShort, fitsWidth};
-ghost use Rattle.record_write.specs.Outcome.{input, sound, PutsText, Writes};
+ghost use Rattle.record_write.specs.Outcome.{input, sound, text, PutsText, Writes};
 ghost use Rattle.bitvec.specs.Part.{isPart};
-ghost use Rattle.record_write.specs.Going.{BlockWritten, Ready};
+ghost use Rattle.record_write.specs.Going.{BlockWritten, PieceRoom, BlockRoom, Ready};
 
 // What writing answers: the length of the text, or why there is none.
 pub enum Written {
@@ -42,29 +42,75 @@ fn piece_length(address: u64, left: usize) -> usize
     least(16, least(left, line))
 }
 
-// The lines of a piece at the front of the part, in a format.
-fn put_piece(format: u8, out: &mut [u8], state: u16, address: u32, bytes: &[u8]) -> usize
-    ensures { λ r. ⌜ Puts (textBy format state (piece address (take 255 (now (bytes .entry))))) (now (out .entry)) r (now (out .exit)) ⌝ }
+// How many characters the lines of n bytes at an address have, while a state is in force: in Intel HEX 16 for a type 04 record.
+fn piece_room(format: u8, state: u16, address: u32, n: usize) -> usize
+    requires { ⌜ n ≤ 16 ⌝ }
+    ensures { λ r. ⌜ PieceRoom format state address n r ⌝ }
     ensures { λ r. ⌜ r ≤ 1044 ⌝ }
 {
-    if format == 0 {
-        return record_ihex_line::put_piece(out, state, address, bytes);
+    if format == 2 {
+        return 11 + 2 * n;
     }
-    record_srec_line::put_piece(out, format as u16, address, bytes)
+    if format != 0 {
+        return 15 + 2 * n;
+    }
+    if address / 65_536 == state as u32 {
+        return 12 + 2 * n;
+    }
+    28 + 2 * n
 }
 
-// The end record's line.
-fn put_end(format: u8, out: &mut [u8]) -> usize
-    ensures { λ r. ⌜ Puts (endBy format) (now (out .entry)) r (now (out .exit)) ⌝ }
-    ensures { λ r. ⌜ r ≤ 1044 ⌝ }
+// How many characters the end record's line has.
+fn end_room(format: u8) -> usize
+    ensures { λ r. ⌜ (r ≡ length (endBy format)) × (r ≤ 15) ⌝ }
 {
-    if format == 0 {
-        return record_ihex_line::put_end(out);
+    if format == 2 {
+        return 11;
     }
-    record_srec_line::put_end(out, format as u16)
+    if format != 0 {
+        return 15;
+    }
+    12
 }
 
-// The bytes of the image from `start` to `end` as pieces from an address on. (1,044 characters a byte is more than any format takes.)
+// How many characters so many bytes from an address on take, added up. (1,044 characters a byte is more than any format takes.)
+fn block_room(format: u8, count: usize, address: u64, place: Place) -> Place
+    requires { ⌜ (address + count ≤ 4294967296) × (place .at ≤ 1044 * address) ⌝ }
+    ensures { λ r. ⌜ BlockRoom format address count place r ⌝ }
+    ensures { λ r. ⌜ r .at ≤ 1044 * (address + count) ⌝ }
+{
+    let mut at = place.at;
+    let mut state = place.state;
+    let mut here = address;
+    let mut k = 0;
+    while k < count {
+        let n = piece_length(here, count - k);
+        at += piece_room(format, state, here as u32, n);
+        state = (here / 65_536) as u16;
+        here += n as u64;
+        k += n;
+    }
+    Place { at, state }
+}
+
+// The length of the text of all blocks and the end record.
+fn text_room(format: u8, image: &[u8], offsets: &[u64], sizes: &[u64], load: u32) -> usize
+    requires { ⌜ Ready (now image) (now offsets) (now sizes) load ⌝ }
+    ensures { λ r. ⌜ r ≡ length (text (input format (now (image .entry)) (now (offsets .entry)) (now (sizes .entry)) load)) ⌝ }
+{
+    let base = load as u64;
+    let mut place = Place { at: 0, state: 0 };
+    let mut i = 0;
+    while i < offsets.len() {
+        let count = (sizes[i] / 8) as usize;
+        place = block_room(format, count, base + offsets[i] / 8, place);
+        i += 1;
+    }
+    let at = place.at;
+    at + end_room(format)
+}
+
+// The bytes of the image from `start` to `end` as pieces from an address on.
 fn write_block(
     format: u8,
     image: &[u8],
@@ -75,6 +121,7 @@ fn write_block(
     place: Place,
 ) -> Place
     requires { ⌜ (start ≤ end) × (end ≤ length (now image)) × (address + (end - start) ≤ 4294967296) × (place .at ≤ 1044 * address) ⌝ }
+    requires { ⌜ place .at + length (linesFrom format (place .state) (cut address (take (end - start) (drop start (now image))))) ≤ length (now text) ⌝ }
     ensures { λ r. ⌜ BlockWritten format address (take (end - start) (drop start (now (image .entry)))) place (now (text .entry)) r (now (text .exit)) ⌝ }
     ensures { λ r. ⌜ r .at ≤ 1044 * (address + (end - start)) ⌝ }
 {
@@ -85,14 +132,7 @@ fn write_block(
     while k < end {
         let n = piece_length(here, end - k);
         let next = k + n;
-        let from = least(at, text.len());
-        let m = put_piece(
-            format,
-            &mut text[from..],
-            state,
-            here as u32,
-            &image[k..next],
-        );
+        let m = line::put_piece(format, &mut text[at..], state, here as u32, &image[k..next]);
         at += m;
         state = (here / 65_536) as u16;
         here += n as u64;
@@ -234,7 +274,7 @@ fn is_sound(format: u8, image: &[u8], offsets: &[u64], sizes: &[u64], load: u32)
     all_placed(offsets, sizes, load)
 }
 
-// The text of all blocks and the end record. What does not fit is left out, and the length is that of the whole.
+// The text of all blocks and the end record, where there is room for it.
 fn write_blocks(
     format: u8,
     image: &[u8],
@@ -244,6 +284,7 @@ fn write_blocks(
     text: &mut [u8],
 ) -> usize
     requires { ⌜ Ready (now image) (now offsets) (now sizes) load ⌝ }
+    requires { ⌜ length (textOf format load (now image) (blocksIn (now offsets) (now sizes))) ≤ length (now text) ⌝ }
     ensures { λ r. ⌜ PutsText (input format (now (image .entry)) (now (offsets .entry)) (now (sizes .entry)) load) (now (text .entry)) r (now (text .exit)) ⌝ }
 {
     let base = load as u64;
@@ -256,8 +297,7 @@ fn write_blocks(
         i += 1;
     }
     let at = place.at;
-    let from = least(at, text.len());
-    let m = put_end(format, &mut text[from..]);
+    let m = line::put_end(format, &mut text[at..]);
     at + m
 }
 
@@ -278,8 +318,8 @@ pub fn write(
     if !is_sound(format, image, offsets, sizes, load) {
         return Written::Refused(Refusal::Malformed(0));
     }
-    // an empty part takes nothing: the length comes first
-    let length = write_blocks(format, image, offsets, sizes, load, &mut text[0..0]);
+    // the length comes first: a refused call writes nothing
+    let length = text_room(format, image, offsets, sizes, load);
     if text.len() < length {
         return Written::Refused(Refusal::TooShort(3));
     }

@@ -1,10 +1,11 @@
 -- `record_write::write_blocks`: what holds between two blocks is `AllGoing`.
-use mathlib.Core.Path.{_≡_, refl, sym, ap, _∙_}
-use Prim.Native.Nat.{_+_, _-_, _*_, _/_}
+use Prim.Native.Nat.{_+_, _-_, _/_}
 use native.Mathlib.Omega.{arith}
 use lib.ListN.{length, getD}
 use Rattle.record_lines.specs.Laws.Puts.{puts-long}
-use Rattle.record_write.proofs.AllBlocks.{AllGoing, all-first, now-fits, now-few, all-on, last-few, all-done}
+use Rattle.record_write.specs.Text.{endBy}
+use Rattle.record_write.proofs.AllBlocks.{AllGoing, all-first, now-fits, now-few, now-room, all-on, last-few, end-room, all-done}
+use Rattle.record_write.proofs.LineLaws.{part-room, end-few}
 use borrow.Author.Needs.{needs}
 use Rattle.record_write.proofs.write_blocks.Statement.{statement}
 use Rattle.record_write.proofs.write_blocks.Tie as tie
@@ -15,11 +16,20 @@ Inv-loop format image offsets sizes load text₀ base place₀ i₀ text place i
 abbrev μ-loop : tie.MeasureT-loop
 μ-loop format image offsets sizes load text₀ base place₀ i₀ text place i = length offsets - i
 
+written : tie.Need-returns Inv-loop μ-loop
+written c =
+    let a = c .before .before .before .before .before .before .before .before .before .before .args in
+    let l = c .before .before .before .before .before .loop in
+    let r = end-room (a .format) (a .image .now) (a .offsets .now) (a .sizes .now) (a .load) (a .text .now) (c .before .before .before .before .before
+    .before .before .before .before .before .pre .0) (l .place) (l .i) (l .text) (l .inv) (c .before .before .before .before .loop-test .left) (c .before
+    .before .before .before .before .before .before .before .before .before .pre .1) in
+    all-done (a .format) (a .image .now) (a .offsets .now) (a .sizes .now) (a .load) (a .text .now) (c .before .before .before .before .before .before
+    .before .before .before .before .pre .0) (l .place) (l .i) (l .text) (l .inv) (c .before .before .before .before .loop-test .left) (omega arith) (c
+    .before .before .put-end .ensures)
+
 loop-holds : tie.Need-loop-holds Inv-loop μ-loop
-loop-holds c =
-    all-first (c .before .before .before .before .args .format) (c .before .before .before .before .args .image .now)
-    (c .before .before .before .before .args .offsets .now) (c .before .before .before .before .args .sizes .now)
-    (c .before .before .before .before .args .load) (c .before .before .before .before .args .text .now) (c .before .before .before .before .pre)
+loop-holds c = let a = c .before .before .before .before .args in all-first (a .format) (a .image .now) (a .offsets .now) (a .sizes .now) (a .load) (a
+    .text .now) (c .before .before .before .before .pre .0)
 
 mul-start : tie.Need-mul-start Inv-loop μ-loop
 mul-start c = search needs
@@ -31,41 +41,33 @@ mul-end : tie.Need-mul-end Inv-loop μ-loop
 mul-end c = search needs
 
 shared-slice-read-end : tie.Need-shared-slice-read-end Inv-loop μ-loop
-shared-slice-read-end c = let e = c .before .before .before .before .before .before .before .before .pre .paired in omega arith
+shared-slice-read-end c = let e = c .before .before .before .before .before .before .before .before .pre .0 .paired in omega arith
 
 add-end : tie.Need-add-end Inv-loop μ-loop
-add-end c =
-    omega (
-      arith,
-      c .before .shared-slice-known4 .given (c .before .before .before .loop .i),
-      c .shared-slice-known5 .given
-          (c .before .before .before .loop .i),
-    )
+add-end c = omega (
+  arith,
+  c .before .shared-slice-known4 .given (c .before .before .before .loop .i),
+  c .shared-slice-known5 .given (c .before .before
+      .before .loop .i),
+)
 
 add-write-block : tie.Need-add-write-block Inv-loop μ-loop
 add-write-block c = omega (arith, c .before .shared-slice-known4 .given (c .before .before .before .loop .i))
 
 write-block-requires : tie.Need-write-block-requires Inv-loop μ-loop
 write-block-requires c κs =
-    let f = now-fits (c .before .before .before .before .before .before .before .before .before .args .format)
-    (c .before .before .before .before .before .before .before .before .before .args .image .now)
-    (c .before .before .before .before .before .before .before .before .before .args .offsets .now)
-    (c .before .before .before .before .before .before .before .before .before .args .sizes .now)
-    (c .before .before .before .before .before .before .before .before .before .args .load)
-    (c .before .before .before .before .before .before .before .before .before .args .text .now)
-    (c .before .before .before .before .before .before .before .before .before .pre) (c .before .before .before .before .loop .place)
-    (c .before .before .before .before .loop .i) (c .before .before .before .before .loop .text) (c .before .before .before .before .loop .inv)
-    (c .before .before .before .loop-test .taken) in
-    let g = now-few (c .before .before .before .before .before .before .before .before .before .args .format)
-    (c .before .before .before .before .before .before .before .before .before .args .image .now)
-    (c .before .before .before .before .before .before .before .before .before .args .offsets .now)
-    (c .before .before .before .before .before .before .before .before .before .args .sizes .now)
-    (c .before .before .before .before .before .before .before .before .before .args .load)
-    (c .before .before .before .before .before .before .before .before .before .args .text .now)
-    (c .before .before .before .before .before .before .before .before .before .pre) (c .before .before .before .before .loop .place)
-    (c .before .before .before .before .loop .i) (c .before .before .before .before .loop .text) (c .before .before .before .before .loop .inv)
-    (c .before .before .before .loop-test .taken) in
-    (omega arith, omega (arith, f .inside), omega (arith, f .below), omega (arith, g))
+    let a = c .before .before .before .before .before .before .before .before .before .args in
+    let l = c .before .before .before .before .loop in
+    let f = now-fits (a .format) (a .image .now) (a .offsets .now) (a .sizes .now) (a .load) (a .text .now) (c .before .before .before .before .before
+    .before .before .before .before .pre .0) (l .place) (l .i) (l .text) (l .inv) (c .before .before .before .loop-test .taken) in
+    let g = now-few (a .format) (a .image .now) (a .offsets .now) (a .sizes .now) (a .load) (a .text .now) (c .before .before .before .before .before
+    .before .before .before .before .pre .0) (l .place) (l .i) (l .text) (l .inv) (c .before .before .before .loop-test .taken) in (
+      (omega arith, omega (arith, f .inside), omega (arith, f .below), omega (arith, g)),
+      now-room (a .format) (a .image .now) (a .offsets .now) (a .sizes .now) (a .load) (a .text .now) (c .before .before .before .before .before .before
+          .before .before .before .pre .0) (l .place) (l .i) (l .text) (l .inv) (c .before .before .before .loop-test .taken) (c .before .before .before
+          .before .before .before .before .before .before .pre .1)
+          (getD (a .offsets .now) (l .i) 0 / 8 + getD (a .sizes .now) (l .i) 0 / 8 - getD (a .offsets .now) (l .i) 0 / 8) (omega arith),
+    )
 
 add-i : tie.Need-add-i Inv-loop μ-loop
 add-i c = search needs
@@ -76,98 +78,58 @@ loop-less c = search needs
 loop-again : tie.Need-loop-again Inv-loop μ-loop
 loop-again c =
     let a = c .before .before .before .before .before .before .before .before .before .before .before .before .args in
-    let i = c .before .before .before .before .before .before .before .loop .i in
-    let n = getD (a .offsets .now) i 0 / 8 + getD (a .sizes .now) i 0 / 8 - getD (a .offsets .now) i 0 / 8 in
-    all-on (c .before .before .before .before .before .before .before .before .before .before .before .before .args .format)
-    (c .before .before .before .before .before .before .before .before .before .before .before .before .args .image .now)
-    (c .before .before .before .before .before .before .before .before .before .before .before .before .args .offsets .now)
-    (c .before .before .before .before .before .before .before .before .before .before .before .before .args .sizes .now)
-    (c .before .before .before .before .before .before .before .before .before .before .before .before .args .load)
-    (c .before .before .before .before .before .before .before .before .before .before .before .before .args .text .now)
-    (c .before .before .before .before .before .before .before .before .before .before .before .before .pre)
-    (c .before .before .before .before .before .before .before .loop .place) (c .before .before .before .before .before .before .before .loop .i)
-    (c .before .before .before .before .before .before .before .loop .text) (c .before .before .before .before .before .before .before .loop .inv)
-    (c .before .before .before .before .before .before .loop-test .taken) n (c .before .before .write-block .result) _ (omega arith)
+    let l = c .before .before .before .before .before .before .before .loop in
+    let n = getD (a .offsets .now) (l .i) 0 / 8 + getD (a .sizes .now) (l .i) 0 / 8 - getD (a .offsets .now) (l .i) 0 / 8 in
+    all-on (a .format) (a .image .now) (a .offsets .now) (a .sizes .now) (a .load) (a .text .now) (c .before .before .before .before .before .before
+    .before .before .before .before .before .before .pre .0) (l .place) (l .i) (l .text) (l .inv) (c .before .before .before .before .before .before
+    .loop-test .taken) n (c .before .before .write-block .result) _ (omega arith)
     (c .before .before .write-block .ensures .0) (c .before .before .write-block .ensures .1)
 
-least-requires : tie.Need-least-requires Inv-loop μ-loop
-least-requires c κs = search needs
-
 sub-put-end : tie.Need-sub-put-end Inv-loop μ-loop
-sub-put-end c = search needs
+sub-put-end c =
+    let a = c .before .before .before .before .before .before .args in
+    let l = c .before .loop in
+    let r = end-room (a .format) (a .image .now) (a .offsets .now) (a .sizes .now) (a .load) (a .text .now) (c .before .before .before .before .before
+    .before .pre .0) (l .place) (l .i) (l .text) (l .inv) (c .loop-test .left) (c .before .before .before .before .before .before .pre .1) in
+    omega arith
 
 part-put-end-start : tie.Need-part-put-end-start Inv-loop μ-loop
-part-put-end-start c = search needs
+part-put-end-start c =
+    let a = c .before .before .before .before .before .before .args in
+    let l = c .before .loop in
+    let r = end-room (a .format) (a .image .now) (a .offsets .now) (a .sizes .now) (a .load) (a .text .now) (c .before .before .before .before .before
+    .before .pre .0) (l .place) (l .i) (l .text) (l .inv) (c .loop-test .left) (c .before .before .before .before .before .before .pre .1) in
+    omega arith
 
 part-put-end-end : tie.Need-part-put-end-end Inv-loop μ-loop
 part-put-end-end c = search needs
 
 put-end-requires : tie.Need-put-end-requires Inv-loop μ-loop
-put-end-requires c κs = search needs
+put-end-requires c κs =
+    let a = c .before .before .before .before .before .before .before .args in
+    let l = c .before .before .loop in
+    part-room (l .text) (l .place .at) (length (endBy (a .format)))
+    (end-room (a .format) (a .image .now) (a .offsets .now) (a .sizes .now) (a .load) (a .text .now) (c .before .before .before .before .before .before
+    .before .pre .0) (l .place) (l .i) (l .text) (l .inv) (c .before .loop-test .left) (c .before .before .before .before .before .before .before .pre .1))
 
 add-result : tie.Need-add-result Inv-loop μ-loop
 add-result c =
-    let h = last-few (c .before .before .before .before .before .before .before .before .before .before .before .args .format)
-    (c .before .before .before .before .before .before .before .before .before .before .before .args .image .now)
-    (c .before .before .before .before .before .before .before .before .before .before .before .args .offsets .now)
-    (c .before .before .before .before .before .before .before .before .before .before .before .args .sizes .now)
-    (c .before .before .before .before .before .before .before .before .before .before .before .args .load)
-    (c .before .before .before .before .before .before .before .before .before .before .before .args .text .now)
-    (c .before .before .before .before .before .before .before .before .before .before .before .pre)
-    (c .before .before .before .before .before .before .loop .place) (c .before .before .before .before .before .before .loop .i)
-    (c .before .before .before .before .before .before .loop .text) (c .before .before .before .before .before .before .loop .inv)
-    (c .before .before .before .before .before .loop-test .left) in omega (arith, h, c .before .before .put-end .ensures .1)
+    let a = c .before .before .before .before .before .before .before .before .before .before .args in
+    let l = c .before .before .before .before .before .loop in
+    omega (
+      arith,
+      last-few (a .format) (a .image .now) (a .offsets .now) (a .sizes .now) (a .load) (a .text .now) (c .before .before .before .before .before .before
+          .before .before .before .before .pre .0) (l .place) (l .i) (l .text) (l .inv) (c .before .before .before .before .loop-test .left),
+      c .before .before .put-end .ensures .long,
+      end-few (a .format),
+    )
 
 same-length : tie.Need-same-length Inv-loop μ-loop
-same-length c =
-    puts-long (all-done (c .before .before .before .before .before .before .before .before .before .before .before .args .format)
-    (c .before .before .before .before .before .before .before .before .before .before .before .args .image .now)
-    (c .before .before .before .before .before .before .before .before .before .before .before .args .offsets .now)
-    (c .before .before .before .before .before .before .before .before .before .before .before .args .sizes .now)
-    (c .before .before .before .before .before .before .before .before .before .before .before .args .load)
-    (c .before .before .before .before .before .before .before .before .before .before .before .args .text .now)
-    (c .before .before .before .before .before .before .before .before .before .before .before .pre)
-    (c .before .before .before .before .before .before .loop .place) (c .before .before .before .before .before .before .loop .i)
-    (c .before .before .before .before .before .before .loop .text) (c .before .before .before .before .before .before .loop .inv)
-    (c .before .before .before .before .before .loop-test .left) (c .before .before .before .before .least .ensures)
-    (c .before .before .put-end .ensures .0))
+same-length c = puts-long (written c)
 
 returns : tie.Need-returns Inv-loop μ-loop
-returns c =
-    all-done (c .before .before .before .before .before .before .before .before .before .before .before .args .format)
-    (c .before .before .before .before .before .before .before .before .before .before .before .args .image .now)
-    (c .before .before .before .before .before .before .before .before .before .before .before .args .offsets .now)
-    (c .before .before .before .before .before .before .before .before .before .before .before .args .sizes .now)
-    (c .before .before .before .before .before .before .before .before .before .before .before .args .load)
-    (c .before .before .before .before .before .before .before .before .before .before .before .args .text .now)
-    (c .before .before .before .before .before .before .before .before .before .before .before .pre)
-    (c .before .before .before .before .before .before .loop .place) (c .before .before .before .before .before .before .loop .i)
-    (c .before .before .before .before .before .before .loop .text) (c .before .before .before .before .before .before .loop .inv)
-    (c .before .before .before .before .before .loop-test .left) (c .before .before .before .before .least .ensures)
-    (c .before .before .put-end .ensures .0)
+returns c = written c
 
 pub write-blocks-spec : {M : Type 1} → statement M
-write-blocks-spec =
-    tie.close
-    (tie.spec
-    Inv-loop
-    μ-loop
-    loop-holds
-    mul-start
-    shared-slice-read-start
-    mul-end
-    shared-slice-read-end
-    add-end
-    add-write-block
-    write-block-requires
-    add-i
-    loop-less
-    loop-again
-    least-requires
-    sub-put-end
-    part-put-end-start
-    part-put-end-end
-    put-end-requires
-    add-result
-    same-length
-    returns)
+write-blocks-spec = tie.close (tie.spec Inv-loop μ-loop loop-holds mul-start shared-slice-read-start mul-end shared-slice-read-end add-end add-write-block
+    write-block-requires add-i loop-less loop-again sub-put-end part-put-end-start part-put-end-end put-end-requires add-result same-length returns)

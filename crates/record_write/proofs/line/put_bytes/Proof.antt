@@ -1,0 +1,65 @@
+-- `record_write::line::put_bytes`: the digits of the bytes so far stand in the part.
+use mathlib.Core.Path.{_≡_, refl, ap, _∙_}
+use mathlib.Core.List.{List}
+use Prim.Native.Nat.{ℕ, _-_, _≤_}
+use native.Mathlib.Omega.{arith}
+use lib.ListN.{length, take}
+use lib.Seq.{sets, take-all}
+use Rattle.record_lines.specs.Digits.{bytesText}
+use Rattle.record_lines.proofs.Steps.{one-pair-more}
+use borrow.Author.Needs.{needs}
+use Rattle.record_write.proofs.line.put_bytes.Statement.{statement}
+use Rattle.record_write.proofs.line.put_bytes.Tie as tie
+
+abbrev Inv-loop : tie.InvT-loop
+Inv-loop out₀ at bytes i₀ out i = (i ≤ length bytes) × (out ≡ sets out₀ at (bytesText (take i bytes))) × (length out ≡ length out₀)
+
+abbrev μ-loop : tie.MeasureT-loop
+μ-loop out₀ at bytes i₀ out i = length bytes - i
+
+loop-holds : tie.Need-loop-holds Inv-loop μ-loop
+unfolding bytesText
+loop-holds c = (omega arith, refl, refl)
+
+mul-put-byte : tie.Need-mul-put-byte Inv-loop μ-loop
+mul-put-byte c = omega (arith, c .before .before .before .before .before .pre, c .before .before .loop .inv .0)
+
+add-put-byte : tie.Need-add-put-byte Inv-loop μ-loop
+add-put-byte c = search needs
+
+shared-slice-read-put-byte : tie.Need-shared-slice-read-put-byte Inv-loop μ-loop
+shared-slice-read-put-byte c = search needs
+
+put-byte-requires : tie.Need-put-byte-requires Inv-loop μ-loop
+put-byte-requires c κs = search needs
+
+add-i : tie.Need-add-i Inv-loop μ-loop
+add-i c = search needs
+
+loop-less : tie.Need-loop-less Inv-loop μ-loop
+loop-less c = search needs
+
+loop-again : tie.Need-loop-again Inv-loop μ-loop
+loop-again c =
+    let a = c .before .before .before .before .before .before .before .before .before .args in
+    let l = c .before .before .before .before .before .before .loop in (
+      omega arith,
+      one-pair-more (a .out .now) (a .bytes .now) (a .at) (l .i) (c .before .before .before .before .before .loop-test .taken) (l .inv .1) (c .before
+          .before .put-byte .ensures .0),
+      c .before .before .put-byte .ensures .1 ∙ l .inv .2,
+    )
+
+same-length : tie.Need-same-length Inv-loop μ-loop
+same-length c = c .before .loop .inv .2
+
+returns : tie.Need-returns Inv-loop μ-loop
+returns c =
+    let a = c .before .before .before .before .args in
+    let l = c .before .loop in
+    let all : l .i ≡ length (a .bytes .now) = omega (arith, l .inv .0) in
+    let whole : take (l .i) (a .bytes .now) ≡ a .bytes .now = take-all (l .i) (a .bytes .now) (omega arith) in
+    (l .inv .1 ∙ ap (λ (x : List ℕ). sets (a .out .now) (a .at) (bytesText x)) whole, l .inv .2)
+
+pub put-bytes-spec : {M : Type 1} → statement M
+put-bytes-spec = tie.close (tie.spec Inv-loop μ-loop loop-holds mul-put-byte add-put-byte shared-slice-read-put-byte put-byte-requires add-i loop-less
+    loop-again same-length returns)
