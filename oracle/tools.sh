@@ -103,6 +103,30 @@ is 0 tools/bench "$room/banks.hex" "$room/banks.hex" --range 0x100 5
 is 1 tools/bench "$room/banks.hex" "$room/banks.hex" --range 0x100 6
 is 1 tools/bench "$room/banks.hex" "$room/banks.s37"
 is 2 tools/bench "$room/banks.hex"
+is 2 tools/bench - -
+# one of the two from standard input, and the address in hex as well
+released=crates/prog_overlay/data/released.hex overlay=crates/prog_overlay/data/overlay.hex
+tools/bench "$released" "$overlay" >"$room/runs" && tools/bench "$released" - <"$overlay" >"$room/out" || wrong=1
+same "$room/runs" "$room/out" "tools/bench - prints other runs than for the file"
+has "$room/runs" 'run 264 0x00000108 2 0809 aabb' 'tools/bench released.hex overlay.hex'
+# a file of its own: whole, or not at all
+is 0 tools/bench "$released" "$overlay" -o "$room/own"
+same "$room/runs" "$room/own" "tools/bench -o writes another file than it prints"
+is 1 tools/bench "$released" README.md -o "$room/own"
+same "$room/runs" "$room/own" "tools/bench -o changed a file where a file was refused"
+for tool in layout map; do
+    "tools/$tool" examples/banks.form >"$room/printed" || wrong=1
+    is 0 "tools/$tool" examples/banks.form -o "$room/own"
+    same "$room/printed" "$room/own" "tools/$tool -o writes another file than it prints"
+    refused 'refused 12 0 128' overlaps "tools/$tool" examples/clamp-mark-after.form -o "$room/own"
+    same "$room/printed" "$room/own" "tools/$tool -o changed a file where the layout was refused"
+done
+is 0 tools/convert examples/banks.form --to 2 -o "$room/own"
+is 1 tools/convert examples/erased.form --to 1 -o "$room/none-made"
+[ ! -e "$room/none-made" ] || {
+    echo "tools/convert -o made a file where it was refused"
+    wrong=1
+}
 tools/convert examples/banks.form --to 2 >"$room/two" && tools/convert --to 1 "$room/two" >"$room/one" || wrong=1
 same examples/banks.form "$room/one" "a file comes back changed from form 2"
 # the one-bank file of says_convert's theorems `example-to-form2` and `example-to-form1`, by the bytes that stand in their text
@@ -148,6 +172,10 @@ done
 is 1 tools/map README.md
 is 2 tools/map examples/banks.form examples/banks.form
 is 2 tools/map examples/banks.form --fill all
+is 2 tools/map examples/banks.form --page
+is 0 tools/map examples/paged.form --page 128
+refused 'refused 19 5 2' 'its unit, 32, is neither 8 nor 16' tools/map examples/paged-unit.form --page 128
+is 0 tools/map examples/paged-unit.form
 is 0 tools/map --fill full --svg examples/lock.form
 is 0 tools/map examples/banks.form
 has "$room/out" ' *1 *8  256..287 *0x100..0x11f *0..255 *0..31 *256 *64 *24 *168  zeros' 'tools/map examples/banks.form'

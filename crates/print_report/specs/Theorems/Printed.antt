@@ -1,7 +1,7 @@
 -- What is printed of a file: K, the blocks and the image's digits of an accepted one; a refused one's number and place; of a broken one `refused 4 i`.
 use mathlib.Core.Path.{_≡_, refl, ap, ap₂, subst, _∙_}
 use mathlib.Core.List.{List, [], _∷_, _++_}
-use Prim.Native.Nat.{ℕ}
+use Prim.Native.Nat.{ℕ, _+_}
 use native.Mathlib.Omega.{arith}
 use lib.ListN.{length}
 use Rattle.refusal.specs.Refusals.{numberOf, placeOf}
@@ -16,7 +16,7 @@ use Rattle.output.specs.declared.Build.{Build}
 use Rattle.output.specs.declared.Build.the-variants.{Done, Refused}
 use Rattle.form_fields.specs.Banks.{tableOf}
 use Rattle.form_fields.specs.Kind.{kindOf}
-use Rattle.form_fields.specs.Shape.{formOf}
+use Rattle.form_fields.specs.Shape.{formOf, fieldsBeforeIn}
 use Rattle.form_fields.specs.Told.{FormTold, toldForm, long, no-head, no-values, no-limit, extra, sound}
 use Rattle.form_fields.specs.Theorems.Told.{form-told}
 use Rattle.form_fields.specs.declared.Form.{Form}
@@ -30,11 +30,11 @@ use Rattle.print_report.specs.Printed.{blocksBuilt, imageBuilt}
 use Rattle.print_report.specs.Report.{lentRoom, answerText, builtText, reportText}
 
 four-told : {k : Kind} {file : List ℕ} {t : Told Shape} → FormTold k file t → (n : ℕ) (p : Place) → t ≡ refuses n p → (i : ℕ) × (n ≡ 4) × (p ≡ One i)
-four-told (long h) n p e = (_, cc, cc)
-four-told (no-head h a) n p e = (_, cc, cc)
-four-told (no-values h a b) n p e = (_, cc, cc)
-four-told (no-limit h a b c) n p e = (_, cc, cc)
-four-told (extra h a b c d) n p e = (_, cc, cc)
+four-told (long h) n p e = (0, cc, cc)
+four-told (no-head h a) n p e = (0, cc, cc)
+four-told {k} {file} (no-values h a b) n p e = (fieldsBeforeIn k file, cc, cc)
+four-told {k} {file} (no-limit h a b c) n p e = (fieldsBeforeIn k file + 1, cc, cc)
+four-told {k} {file} (extra h a b c d) n p e = (fieldsBeforeIn k file + 2, cc, cc)
 four-told (sound h a b c d) n p e = let z : _≡_ {A = ℕ} 0 1 = cc in absurd (omega arith)
 
 module _ (file : List ℕ) (fill : ℕ) (page : Opt) where
