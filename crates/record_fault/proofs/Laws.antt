@@ -5,11 +5,13 @@ use mathlib.Core.List.{List, [], _∷_, _++_, append-nil}
 use Prim.Native.Nat.{ℕ, zero, suc, _+_, _-_, _*_, _<_, _≤_, max, min}
 use native.Mathlib.Numerals.{add-one}
 use native.Mathlib.Omega.{arith}
-use native.Mathlib.Decide.{decLt}
+use native.Mathlib.Decide.{decLt, ℕ-discrete}
 use lib.Dec.{ltb, leb, eqb}
 use lib.ListN.{length, take, drop, length-take, length-drop, drop-of-length-le}
 use lib.Seq.{drop-drop}
-use borrow.Author.Tests.{lt-ltb, le-ltb, le-leb, lt-leb, eq-eqb, ne-eqb}
+use borrow.Author.Tests.{lt-ltb, le-ltb, le-leb, lt-leb, leb-true, leb-false, eq-eqb, ne-eqb}
+use mathlib.Core.Logic.{_⊎_, inl, inr}
+use Rattle.refusal.specs.Laws.Bools.{both, neither, clash}
 use Rattle.refusal.specs.Pick.{pick}
 use Rattle.record_lines.specs.Items.{Item, gives, passes, ends, bad, Format, asLine, itemOf, Says}
 use Rattle.record_lines.specs.Lines.{isLf, isCr, lfNext, linesOf, firstLine, taken}
@@ -21,11 +23,15 @@ use Rattle.record_fault.specs.Reading.{formatBy, Read, sound, faulty, la
 use Rattle.record_fault.specs.Trail.{Trail, trail, lineAt, itemAt, nextOf}
 use Rattle.record_ihex_line.specs.Format.{hexItem}
 use Rattle.record_srec_line.specs.Srec.{srecItem, firstOf}
-use Rattle.record_fault.specs.Laws.TrailLaws.{high-append}
-use Rattle.record_fault.specs.Steps.{firstBy, highest, admitBy, closingOf, Scanned, ScanIs}
+use Rattle.record_fault.specs.Laws.TrailLaws.{high-append, new-above}
+use Rattle.record_fault.specs.Steps.{firstBy, highest, leavesBy, lowerBy, RoomAbove, FreeIs, edgeBy, freeBy, AdmitIs}
 use Rattle.record_fault.specs.Laws.Steps.{leavesOf, admits, highAfter}
 use Rattle.record_fault.specs.declared.Admit.the-variants.{No, High}
-use Rattle.record_fault.specs.declared.Scan.the-variants.{Whole, Broken}
+use Rattle.record_fault.specs.declared.Free.{Free}
+
+bool-cases : (b : Bool) → (b ≡ true) ⊎ (b ≡ false)
+bool-cases true = inl refl
+bool-cases false = inr refl
 
 -- ---- lines
 
@@ -159,33 +165,179 @@ high-new {l} {s} {f} {r} {i} given high p e =
     ap (λ (x : Line). highAfter x high) (p .answer) ∙ high-new′ s f high i ∙ ap (λ (h : ℕ). max h (highest (newPieces i))) e ∙ sym
     (high-append given (newPieces i))
 
+-- ---- what is free
+
+or-le : (a b : Bool) → (a ≡ true → ⊥) → (a || b) ≡ true → b ≡ true
+or-le true b n e = absurd (n refl)
+or-le false b n e = e
+
+-- a part of what is free
+pub new-within : (l : List Piece) (a b c d : ℕ) → a ≤ c → d ≤ b → isNew l a b ≡ true → isNew l c d ≡ true
+unfolding isNew
+new-within [] a b c d h k e = refl
+new-within (p ∷ l) a b c d h k e =
+    let two = both (leb (endOf p) a || leb b (p .address)) (isNew l a b) e in
+    let rest = new-within l a b c d h k (two .1) in
+    elim (decLt c (endOf p)) [
+      | no q ↦ rw (le-leb (endOf p) c (omega arith), rest)
+      | yes q ↦
+          let far : b ≤ p .address = leb-true b (p .address) (or-le (leb (endOf p) a) (leb b (p .address)) (λ z. let y = leb-true (endOf p) a z in omega arith) (two .0)) in
+          rw (lt-leb (endOf p) c q, le-leb d (p .address) (omega arith), rest)
+    ]
+
+pub new-none : (first end : ℕ) → isNew [] first end ≡ true
+unfolding isNew
+new-none first end = refl
+
+-- one line more, by what it leaves
+module _ (kind address count : ℕ) where
+  pub leaves-own : (end : ℕ) → leavesBy kind address count end address ≡ true
+  leaves-own end = go (eqb kind 1) (eqb count 0) (leb (address + count) end)
+    where
+      go : (a b d : Bool) → pick a (pick b true (d || leb address address)) true ≡ true
+      go true true d = refl
+      go true false true = refl
+      go true false false = le-leb address address (omega arith)
+      go false b d = refl
+
+  -- a line that leaves the bytes and does not leave those above them begins there
+  pub begins-above : (first end top : ℕ) → first ≤ end → leavesBy kind address count first end ≡ true → leavesBy kind address count end top ≡ false
+      → (end ≤ address) × (address < top)
+  begins-above first end top h e f =
+      elim (ℕ-discrete kind 1) [
+        | no k ↦ let z : _≡_ {A = Bool} true false = rw (ne-eqb kind 1 k) at f in absurd (clash refl z)
+        | yes k ↦
+            elim (ℕ-discrete count 0) [
+              | yes c ↦ let z : _≡_ {A = Bool} true false = rw (eq-eqb kind 1 k, eq-eqb count 0 c) at f in absurd (clash refl z)
+              | no c ↦
+                  let e′ : (leb (address + count) first || leb end address) ≡ true = rw (eq-eqb kind 1 k, ne-eqb count 0 c) at e in
+                  let f′ : (leb (address + count) end || leb top address) ≡ false = rw (eq-eqb kind 1 k, ne-eqb count 0 c) at f in
+                  let two = neither (leb (address + count) end) (leb top address) f′ in
+                  let past : end < address + count = leb-false (address + count) end (two .0) in
+                  let below : address < top = leb-false top address (two .1) in
+                  let far : end ≤ address = leb-true end address (or-le (leb (address + count) first) (leb end address)
+                  (λ z. let y = leb-true (address + count) first z in omega arith) e′) in
+                  (far, below)
+            ]
+      ]
+
+pub room-more : (given new : List Piece) (first end top kind address count : ℕ) → first < end → RoomAbove given first end top
+    → ((a b : ℕ) → leavesBy kind address count a b ≡ isNew new a b) → RoomAbove (given ++ new) first end (lowerBy top kind address count first end)
+room-more given new first end top kind address count h r own =
+    elim (bool-cases (leavesBy kind address count first end)) [
+      | inr off ↦
+          rw off (
+            λ z. new-append given new first end ∙ ap (λ (b : Bool). isNew given first end && b) (sym (own first end) ∙ off) ∙ and-false (isNew given first end),
+            λ z. absurd (omega arith),
+          )
+      | inl ok ↦
+          elim (bool-cases (leavesBy kind address count end top)) [
+            | inl kept ↦
+                rw (ok, kept) (
+                  λ z. new-append given new first end ∙ ap (λ (b : Bool). b && isNew new first end) (r .0 z),
+                  λ z. (
+                    more first end (r .1 z .0) ok,
+                    more end top (r .1 z .1) kept,
+                  ),
+                )
+            | inr cut ↦
+                let where′ = begins-above kind address count first end top (omega arith) ok cut in
+                let some : 0 < top = omega (arith, where′ .1) in
+                rw (ok, cut) (
+                  λ z. absurd (omega (arith, where′ .0, z)),
+                  λ z. (
+                    more first end (r .1 some .0) ok,
+                    more end address (new-within given end top end address (omega arith) (omega (arith, where′ .1)) (r .1 some .1)) (leaves-own kind address count end),
+                  ),
+                )
+          ]
+    ]
+  where
+    more : (a b : ℕ) → isNew given a b ≡ true → leavesBy kind address count a b ≡ true → isNew (given ++ new) a b ≡ true
+    more a b p q = new-append given new a b ∙ rw (p, sym (own a b) ∙ q)
+
+-- where it is known
+module _ (given : List Piece) (first end : ℕ) (some : first < end) where
+  pub room-high : (high : ℕ) → high ≡ highest given → high ≤ first → RoomAbove given first end 8589934592
+  room-high high e h = (
+    λ z. absurd (omega arith),
+    λ z. (new-above given first end (omega (arith, e)), new-above given end 8589934592 (omega (arith, e))),
+  )
+
+  pub room-low : (low : ℕ) → isNew given 0 low ≡ true → end ≤ low → RoomAbove given first end low
+  room-low low e h =
+      (λ z. absurd (omega arith), λ z. (new-within given 0 low first end (omega arith) h e, new-within given 0 low end low (omega arith) (omega arith) e))
+
+  pub room-gap : (edge top : ℕ) → isNew given edge top ≡ true → edge ≤ first → end ≤ top → RoomAbove given first end top
+  room-gap edge top e h k =
+      (λ z. absurd (omega arith), λ z. (new-within given edge top first end h k e, new-within given edge top end top (omega arith) (omega arith) e))
+
+-- behind the line
+pub free-more : (given new : List Piece) (free : Free) (top kind address count : ℕ) → FreeIs given free
+    → isNew given (edgeBy kind address count (free .edge)) top ≡ true → ((a b : ℕ) → leavesBy kind address count a b ≡ isNew new a b)
+    → FreeIs (given ++ new) (freeBy free top kind address count)
+free-more given new free top kind address count f e own =
+    elim (ℕ-discrete kind 1) [
+      | no k ↦
+          let none : (a b : ℕ) → leavesBy kind address count a b ≡ true = λ a b. rw (ne-eqb kind 1 k) in
+          rw (ne-eqb kind 1 k) (record { below = more 0 (free .low) (f .below) (none 0 (free .low)); gap = more (free .edge) top (rw (ne-eqb kind 1 k) at e) (none (free .edge) top) })
+      | yes k ↦
+          elim (ℕ-discrete count 0) [
+            | yes c ↦
+                let none : (a b : ℕ) → leavesBy kind address count a b ≡ true = λ a b. rw (eq-eqb kind 1 k, eq-eqb count 0 c) in
+                rw (eq-eqb kind 1 k, eq-eqb count 0 c)
+                (record {
+                  below = more 0 (free .low) (f .below) (none 0 (free .low));
+                  gap = more (free .edge) top (rw (eq-eqb kind 1 k, eq-eqb count 0 c) at e) (none (free .edge) top);
+                })
+            | no c ↦
+                let is : (a b : ℕ) → leavesBy kind address count a b ≡ (leb (address + count) a || leb b address) = λ a b. rw (eq-eqb kind 1 k, ne-eqb count 0 c) in
+                rw (eq-eqb kind 1 k, ne-eqb count 0 c)
+                (record {
+                  below =
+                      more 0 (min (free .low) address) (new-within given 0 (free .low) 0 (min (free .low) address) (omega arith) (omega arith) (f .below))
+                      (is 0 (min (free .low) address) ∙ or-right (leb (address + count) 0) (le-leb (min (free .low) address) address (omega arith)));
+                  gap = more (address + count) top (rw (eq-eqb kind 1 k, ne-eqb count 0 c) at e) (is (address + count) top ∙ rw (le-leb (address + count) (address + count) (omega arith)));
+                })
+          ]
+    ]
+  where
+    more : (a b : ℕ) → isNew given a b ≡ true → leavesBy kind address count a b ≡ true → isNew (given ++ new) a b ≡ true
+    more a b p q = new-append given new a b ∙ rw (p, sym (own a b) ∙ q)
+
+    or-right : (a : Bool) {b : Bool} → b ≡ true → (a || b) ≡ true
+    or-right true e = refl
+    or-right false e = e
+
 -- ---- each answer of the test
 
-module _ (load : ℕ) (given : List Piece) (kind address count high : ℕ) where
-  pub admit-pass : kind ≡ 2 → High high ≡ admitBy load given kind address count high
-  admit-pass e = rw e
+module _ (load : ℕ) (given : List Piece) (kind address count high edge : ℕ) where
+  pub admit-pass : (top : ℕ) → isNew given edge top ≡ true → kind ≡ 2 → AdmitIs load given kind address count high edge (High high top)
+  admit-pass top f e = rw e (refl, refl, f)
 
-  pub admit-other : (kind ≡ 2 → ⊥) → (kind ≡ 1 → ⊥) → No ≡ admitBy load given kind address count high
+  pub admit-other : (kind ≡ 2 → ⊥) → (kind ≡ 1 → ⊥) → AdmitIs load given kind address count high edge No
   admit-other e f = rw (ne-eqb kind 2 e, ne-eqb kind 1 f)
 
   module _ (bytes : kind ≡ 1) where
-    pub admit-empty : count ≡ 0 → High high ≡ admitBy load given kind address count high
-    admit-empty e = rw (bytes, e)
+    pub admit-empty : (top : ℕ) → isNew given edge top ≡ true → count ≡ 0 → AdmitIs load given kind address count high edge (High high top)
+    admit-empty top f e = rw (bytes, e) (refl, refl, f)
 
     module _ (some : count ≡ 0 → ⊥) where
-      pub admit-below : address < load → No ≡ admitBy load given kind address count high
+      pub admit-below : address < load → AdmitIs load given kind address count high edge No
       admit-below h = rw (bytes, ne-eqb count 0 some, lt-leb load address h)
 
       module _ (above : load ≤ address) where
-        pub admit-past : 4294967296 < address + count → No ≡ admitBy load given kind address count high
+        pub admit-past : 4294967296 < address + count → AdmitIs load given kind address count high edge No
         admit-past h = rw (bytes, ne-eqb count 0 some, le-leb load address above, lt-leb (address + count) 4294967296 h)
 
         module _ (within : address + count ≤ 4294967296) where
-          pub admit-twice : isNew given address (address + count) ≡ false → No ≡ admitBy load given kind address count high
+          pub admit-twice : isNew given address (address + count) ≡ false → AdmitIs load given kind address count high edge No
           admit-twice h = rw (bytes, ne-eqb count 0 some, le-leb load address above, le-leb (address + count) 4294967296 within, h)
 
-          pub admit-fine : isNew given address (address + count) ≡ true → High (max high (address + count)) ≡ admitBy load given kind address count high
-          admit-fine h = rw (bytes, ne-eqb count 0 some, le-leb load address above, le-leb (address + count) 4294967296 within, h)
+          pub admit-fine : (h top : ℕ) → h ≡ max high (address + count) → (isNew given address (address + count) ≡ true) × (isNew given (address + count) top ≡ true)
+              → AdmitIs load given kind address count high edge (High h top)
+          admit-fine h top e n =
+              rw (bytes, ne-eqb count 0 some, le-leb load address above, le-leb (address + count) 4294967296 within, n .0) (refl, e, n .1)
 
 -- ---- one more line
 

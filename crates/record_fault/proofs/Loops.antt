@@ -22,47 +22,64 @@ use Rattle.record_fault.specs.Reading.{formatBy, Read, sound, faulty, la
 use Rattle.record_fault.specs.Trail.{Trail, trail, lineAt, itemAt, nextOf}
 use Rattle.record_fault.specs.Laws.TrailLaws.{said, moved, next-at, next-state, next-given}
 use Rattle.record_fault.specs.Steps.{firstBy, IsGood, AllGood, Stepped, highest, rises, closingOf, Scanned, ScanIs}
-use Rattle.record_fault.specs.Laws.Steps.{leavesOf, admits, highAfter, admitOf}
+use Rattle.record_fault.specs.Steps.{lowerBy, RoomAbove, FreeIs, freeBy, AdmitIs}
+use Rattle.record_fault.specs.Laws.Steps.{leavesOf, admits}
 use Rattle.record_fault.specs.declared.Step.{Step}
-use Rattle.record_fault.specs.declared.Admit.{Admit}
+use Rattle.record_fault.specs.declared.Free.{Free}
 use Rattle.record_fault.specs.declared.Admit.the-variants.{No, High}
 use Rattle.record_fault.specs.declared.Scan.{Scan}
 use Rattle.record_fault.specs.declared.Scan.the-variants.{Whole, Broken}
-use Rattle.record_fault.proofs.Laws.{allowed-good, lines-at, lines-past, leaves-new, new-append, high-new, on′, off′, end′, laters, laters-faulty, laters-sound}
+use Rattle.record_fault.proofs.Laws.{allowed-good, new-none, room-more, free-more, lines-at, lines-past, leaves-new, high-new, on′, off′, end′, laters, laters-faulty, laters-sound}
+
+-- The line that comes next is not bad.
+pub good-at : (format : ℕ) (text : List ℕ) (n k : ℕ) {at state : ℕ} → at ≡ trail format text k .at → state ≡ trail format text k .state
+    → AllGood format text n → k < n → IsGood format state (lineAt text at)
+good-at format text n k {at} {state} p q g h =
+    subst (λ (s : ℕ). IsGood format s (lineAt text at)) (sym q)
+    (subst (λ (a : ℕ). IsGood format (trail format text k .state) (lineAt text a)) (sym p) (g k h))
 
 -- ---- whether bytes are new
 
-pub record Looking (format : ℕ) (text : List ℕ) (n first end at state : ℕ) (ok : Bool) (k : ℕ) : Type 0 where
+pub record Looking (format : ℕ) (text : List ℕ) (n first end at state top k : ℕ) : Type 0 where
   pub few : k ≤ n
   pub place : at ≡ trail format text k .at
   pub force : state ≡ trail format text k .state
-  pub kept : ok ≡ isNew (trail format text k .given) first end
+  pub room : RoomAbove (trail format text k .given) first end top
   pub inside : at ≤ length text
 
 module _ (format : ℕ) (text : List ℕ) (n first end : ℕ) where
-  pub looking-starts : Looking format text n first end 0 0 true 0
-  unfolding trail isNew
-  looking-starts = record { few = omega arith; place = refl; force = refl; kept = refl; inside = omega arith }
+  pub looking-starts : Looking format text n first end 0 0 8589934592 0
+  unfolding trail
+  looking-starts =
+      record {
+        few = omega arith;
+        place = refl;
+        force = refl;
+        room = (λ z. absurd (omega arith), λ z. (new-none first end, new-none end 8589934592));
+        inside = omega arith;
+      }
 
-  module _ {at state : ℕ} {ok : Bool} {k : ℕ} (w : Looking format text n first end at state ok k) where
-    pub looking-on : k < n → {r : Step} {found next : Bool} → Stepped format text at state r → found ≡ leavesOf (r .line) first end → next ≡ (ok && found)
+  module _ {at state top k : ℕ} (w : Looking format text n first end at state top k) where
+    pub looking-on : first < end → k < n → {r : Step} {next : ℕ} → Stepped format text at state r
+        → next ≡ lowerBy top (r .line .kind) (r .line .address) (r .line .count) first end
         → Looking format text n first end (r .next) (r .line .state) next (k + 1)
-    looking-on h {r} {found} {next} s e b =
+    looking-on some h {r} {next} s e =
         let t = moved format text k r at state (w .place) (w .force) s in
         record {
           few = omega arith;
           place = next-at format text k r t;
           force = next-state format text k r t;
-          kept =
-              b ∙ ap (λ (x : Bool). ok && x) (e ∙ leaves-new first end (t .says))
-              ∙ ap (λ (x : Bool). x && isNew (newPieces (said format text k r)) first end) (w .kept)
-              ∙ sym (new-append (trail format text k .given) (newPieces (said format text k r)) first end)
-              ∙ ap (λ (l : List Piece). isNew l first end) (next-given format text k r);
+          room =
+              subst (RoomAbove (trail format text (k + 1) .given) first end) (sym e)
+              (subst (λ (l : List Piece). RoomAbove l first end (lowerBy top (r .line .kind) (r .line .address) (r .line .count) first end))
+              (next-given format text k r)
+              (room-more (trail format text k .given) (newPieces (said format text k r)) first end top (r .line .kind) (r .line .address) (r .line .count) some
+              (w .room) (λ a b. leaves-new a b (t .says))));
           inside = s .inside (w .inside);
         }
 
-    pub looking-ends : n ≤ k → ok ≡ isNew (trail format text n .given) first end
-    looking-ends h = w .kept ∙ ap (λ (j : ℕ). isNew (trail format text j .given) first end) (le-antisymm (w .few) h)
+    pub looking-ends : n ≤ k → RoomAbove (trail format text n .given) first end top
+    looking-ends h = subst (λ (j : ℕ). RoomAbove (trail format text j .given) first end top) (le-antisymm (w .few) h) (w .room)
 
 -- ---- the scan
 
@@ -71,7 +88,7 @@ abbrev reading : ℕ → ℕ → List ℕ → ℕ → Read
 reading format load text n =
     laters n (readFrom (formatBy format) load (linesOf (drop (trail format text n .at) text)) (trail format text n .state) (trail format text n .given))
 
-pub record Scanning (format load : ℕ) (text : List ℕ) (at state high : ℕ) (ascend : Bool) (n : ℕ) : Type 0 where
+pub record Scanning (format load : ℕ) (text : List ℕ) (at state high : ℕ) (ascend : Bool) (free : Free) (n : ℕ) : Type 0 where
   pub few : n ≤ at
   pub inside : at ≤ length text
   pub place : at ≡ trail format text n .at
@@ -80,6 +97,7 @@ pub record Scanning (format load : ℕ) (text : List ℕ) (at state high : ℕ) 
   pub order : ascend ≡ rises format text n
   pub left : n + length (linesOf (drop at text)) ≡ length (linesOf text)
   pub good : AllGood format text n
+  pub freed : FreeIs (trail format text n .given) free
   pub reads : readText format load text ≡ reading format load text n
 
 read-step : (f : Format) (load : ℕ) (text : List ℕ) (at state : ℕ) (given : List Piece) → at < length text
@@ -88,20 +106,24 @@ read-step : (f : Format) (load : ℕ) (text : List ℕ) (at state : ℕ) (given 
 unfolding readFrom
 read-step f load text at state given h = ap (λ (ls : List (List ℕ)). readFrom f load ls state given) (lines-at text at h)
 
-high-of : (b : Bool) (x h : ℕ) → pick b (High x) No ≡ High h → (b ≡ true) × (x ≡ h)
-high-of true x h e = (refl, cc)
-high-of false x h e = let z : _≡_ {A = ℕ} 0 1 = cc in absurd (omega arith)
-
-no-of : (b : Bool) (x : ℕ) → pick b (High x) No ≡ No → b ≡ false
-no-of true x e = let z : _≡_ {A = ℕ} 0 1 = cc in absurd (omega arith)
-no-of false x e = refl
-
 module _ (format load : ℕ) (text : List ℕ) where
-  pub scanning-starts : Scanning format load text 0 0 0 true 0
+  pub scanning-starts : Scanning format load text 0 0 0 true (record { low = 8589934592; edge = 0; top = 8589934592 }) 0
   unfolding trail laters highest rises
-  scanning-starts = record { few = omega arith; inside = omega arith; place = refl; force = refl; top = refl; order = refl; left = omega arith; good = λ k z. absurd (omega arith); reads = refl }
+  scanning-starts =
+      record {
+        few = omega arith;
+        inside = omega arith;
+        place = refl;
+        force = refl;
+        top = refl;
+        order = refl;
+        left = omega arith;
+        good = λ k z. absurd (omega arith);
+        freed = record { below = new-none 0 8589934592; gap = new-none 0 8589934592 };
+        reads = refl;
+      }
 
-  module _ {at state high : ℕ} {ascend : Bool} {n : ℕ} (w : Scanning format load text at state high ascend n) where
+  module _ {at state high : ℕ} {ascend : Bool} {free : Free} {n : ℕ} (w : Scanning format load text at state high ascend free n) where
     abbrev now : Trail
     now = trail format text n
 
@@ -132,13 +154,15 @@ module _ (format load : ℕ) (text : List ℕ) where
           ∙ ap (λ (x : Bool). rises format text n && x) (f ∙ leaves-new 0 high (stepped .says) ∙ ap (isNew (newPieces item) 0) (w .top))
           ∙ ap (rises format text) (sym (add-one n))
 
-      pub scanning-on : (top : ℕ) → admitOf load (now .given) (r .line) high ≡ High top → {found up : Bool} → found ≡ leavesOf (r .line) 0 high
-          → up ≡ (ascend && found) → Scanning format load text (r .next) (r .line .state) top up (n + 1)
+      abbrev kind : ℕ
+      kind = r .line .kind
+
+      pub scanning-on : (h′ top : ℕ) → AdmitIs load (now .given) kind (r .line .address) (r .line .count) high (free .edge) (High h′ top)
+          → {found up : Bool} → found ≡ leavesOf (r .line) 0 high → up ≡ (ascend && found) → {after : Free}
+          → after ≡ freeBy free top kind (r .line .address) (r .line .count) → Scanning format load text (r .next) (r .line .state) h′ up after (n + 1)
       unfolding laters trail
-      scanning-on top e f u =
-          let both = high-of (admits load (now .given) (r .line)) (highAfter (r .line) high) top e in
-          let allowed : admits load (now .given) (asLine (now .state) first item) ≡ true = ap (admits load (now .given)) (sym (stepped .says .answer))
-          ∙ both .0 in
+      scanning-on h′ top e f u {after} v =
+          let allowed : admits load (now .given) (asLine (now .state) first item) ≡ true = ap (admits load (now .given)) (sym (stepped .says .answer)) ∙ e .0 in
           let ahead : readText format load text ≡ laters (suc n)
           (readFrom (formatBy format) load behind (stateAfter (now .state) item) (now .given ++ newPieces item)) =
           turn h ∙ ap (laters n) (on′ load (now .state) first (now .given) (isNone behind) (readFrom (formatBy format) load behind) item allowed) in
@@ -147,10 +171,15 @@ module _ (format load : ℕ) (text : List ℕ) where
             inside = s .inside (w .inside);
             place = next-at format text n r stepped;
             force = next-state format text n r stepped;
-            top = sym (both .1) ∙ high-new (now .given) high (stepped .says) (w .top) ∙ ap highest (next-given format text n r);
+            top = e .1 ∙ high-new (now .given) high (stepped .says) (w .top) ∙ ap highest (next-given format text n r);
             order = still f u;
             left =
                 omega (arith, w .left, ap length (lines-at text at h), ap (λ (x : ℕ). length (linesOf (drop x text))) (s .next));
+            freed =
+                subst (FreeIs (trail format text (n + 1) .given)) (sym v)
+                (subst (λ (l : List Piece). FreeIs l (freeBy free top kind (r .line .address) (r .line .count))) (next-given format text n r)
+                (free-more (now .given) (newPieces item) free top kind (r .line .address) (r .line .count) (w .freed) (e .2)
+                (λ a b. leaves-new a b (stepped .says))));
             good = λ k z.
                 elim (ℕ-discrete k n) [
                   | yes e ↦ subst (λ (j : ℕ). IsGood format (trail format text j .state) (lineAt text (trail format text j .at))) (sym e)
@@ -160,10 +189,10 @@ module _ (format load : ℕ) (text : List ℕ) where
             reads = ahead ∙ ap (reading format load text) (sym (add-one n));
           }
 
-      pub scanning-off : admitOf load (now .given) (r .line) high ≡ No → (r .line .kind ≡ 3 → ⊥) → readText format load text ≡ faulty n
+      pub scanning-off : AdmitIs load (now .given) kind (r .line .address) (r .line .count) high (free .edge) No → (kind ≡ 3 → ⊥)
+          → readText format load text ≡ faulty n
       scanning-off e k =
-          let barred : admits load (now .given) (asLine (now .state) first item) ≡ false =
-          ap (admits load (now .given)) (sym (stepped .says .answer)) ∙ no-of (admits load (now .given) (r .line)) (highAfter (r .line) high) e in
+          let barred : admits load (now .given) (asLine (now .state) first item) ≡ false = ap (admits load (now .given)) (sym (stepped .says .answer)) ∙ e in
           let other : (asLine (now .state) first item) .kind ≡ 3 → ⊥ = λ z. k (ap (λ (x : Line). x .kind) (stepped .says .answer) ∙ z) in
           turn h ∙ ap (laters n) (off′ load (now .state) first (now .given) (isNone behind) (readFrom (formatBy format) load behind) item barred other)
           ∙ laters-faulty n 0 ∙ ap faulty (omega arith)

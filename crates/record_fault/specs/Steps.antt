@@ -14,6 +14,7 @@ use Rattle.record_srec_line.specs.Srec.{firstOf}
 use Rattle.record_fault.specs.Reading.{formatBy, sound, faulty, newPieces, isNew, readText}
 use Rattle.record_fault.specs.Trail.{trail, lineAt, itemAt, nextOf}
 use Rattle.record_fault.specs.declared.Step.{Step}
+use Rattle.record_fault.specs.declared.Free.{Free}
 use Rattle.record_fault.specs.declared.Admit.{Admit}
 use Rattle.record_fault.specs.declared.Admit.the-variants.{No, High}
 use Rattle.record_fault.specs.declared.Scan.{Scan}
@@ -65,8 +66,30 @@ highest (p ∷ l) = max (endOf p) (highest l)
 abbrev pub highBy : ℕ → ℕ → ℕ → ℕ → ℕ
 highBy kind address count high = pick (eqb kind 1) (pick (eqb count 0) high (max high (address + count))) high
 
-abbrev pub admitBy : ℕ → List Piece → ℕ → ℕ → ℕ → ℕ → Admit
-admitBy load given kind address count high = pick (admitsBy load given kind address count) (High (highBy kind address count high)) No
+-- Nothing is given from `end` on and below r; 0 where a byte from `first` on and below `end` is.
+abbrev pub RoomAbove : List Piece → ℕ → ℕ → ℕ → Type 0
+RoomAbove given first end r = (r ≡ 0 → isNew given first end ≡ false) × (0 < r → (isNew given first end ≡ true) × (isNew given end r ≡ true))
+
+abbrev pub lowerBy : ℕ → ℕ → ℕ → ℕ → ℕ → ℕ → ℕ
+lowerBy top kind address count first end =
+    pick (leavesBy kind address count first end) (pick (leavesBy kind address count end top) top address) 0
+
+-- What is free, and behind a line.
+pub record FreeIs (given : List Piece) (free : Free) : Type 0 where
+  pub below : isNew given 0 (free .low) ≡ true
+  pub gap : isNew given (free .edge) (free .top) ≡ true
+
+abbrev pub edgeBy : ℕ → ℕ → ℕ → ℕ → ℕ
+edgeBy kind address count edge = pick (eqb kind 1) (pick (eqb count 0) edge (address + count)) edge
+
+abbrev pub freeBy : Free → ℕ → ℕ → ℕ → ℕ → Free
+freeBy free top kind address count =
+    record { low = pick (eqb kind 1) (pick (eqb count 0) (free .low) (min (free .low) address)) (free .low); edge = edgeBy kind address count (free .edge); top = top }
+
+abbrev pub AdmitIs : ℕ → List Piece → ℕ → ℕ → ℕ → ℕ → ℕ → Admit → Type 0
+AdmitIs load given kind address count high edge No = admitsBy load given kind address count ≡ false
+AdmitIs load given kind address count high edge (High h top) =
+    (admitsBy load given kind address count ≡ true) × (h ≡ highBy kind address count high) × (isNew given (edgeBy kind address count edge) top ≡ true)
 
 -- Records ascend: every byte of a line lies at or above the highest end of those given before it.
 unfoldable pub rises : ℕ → List ℕ → ℕ → Bool

@@ -6,9 +6,10 @@ ghost use Prim.Native.Nat.{_+_, _*_, _≤_, _<_, max, min};
 ghost use lib.ListN.{length};
 ghost use Rattle.record_lines.specs.Items.{Says};
 ghost use Rattle.record_lines.specs.Spelling.{Spells};
-ghost use Rattle.record_fault.specs.Reading.{formatBy, isNew, readText};
+ghost use Rattle.record_fault.specs.Reading.{formatBy, readText};
 ghost use Rattle.record_fault.specs.Trail.{trail, lineAt};
-ghost use Rattle.record_fault.specs.Steps.{firstBy, IsGood, longBy, stopBy, Stepped, leavesBy, highest, rises, admitBy, closingOf, ScanIs};
+ghost use Rattle.record_fault.specs.Steps.{firstBy, IsGood, AllGood, longBy, stopBy, Stepped, leavesBy, highest, rises, closingOf, ScanIs};
+ghost use Rattle.record_fault.specs.Steps.{lowerBy, RoomAbove, FreeIs, freeBy, AdmitIs};
 ghost use Rattle.record_fault.specs.Outcome.{faultOf};
 
 // A line that was read, where its characters end, and where the next one begins.
@@ -18,10 +19,20 @@ pub struct Step {
     pub next: usize,
 }
 
-// Whether a line may stand where it does: the highest end of the bytes given behind it.
+// What is known to be free between the lines that were read: nothing is given below `low`, and nothing from `edge` on and below `top`.
+pub struct Free {
+    pub low: u64,
+    pub edge: u64,
+    pub top: u64,
+}
+
+// No address is as high.
+const NOWHERE: u64 = 8_589_934_592;
+
+// Whether a line may stand where it does: the highest end of the bytes given behind it, and how far up from its own end nothing is given.
 pub enum Admit {
     No,
-    High(u64),
+    High(u64, u64),
 }
 
 // How many lines stand before the end record of a sound file, the highest end of its bytes, and whether its records ascend; or the line at fault.
@@ -173,28 +184,41 @@ fn both(a: bool, b: bool) -> bool
     false
 }
 
-// Whether no byte from `first` on and below `end` is among those that the first n lines give.
-fn is_new(format: u8, text: &[u8], t: &[u8; 256], n: usize, first: u64, end: u64) -> bool
-    requires { ⌜ Spells (now t) ⌝ }
-    ensures { λ r. ⌜ r ≡ isNew (trail format (now (text .entry)) n .given) first end ⌝ }
+// How far up from `end` nothing is given, with one line more; 0 where it gives a byte from `first` on and below `end`.
+fn lower(top: u64, kind: u8, address: u32, count: u8, first: u64, end: u64) -> u64
+    ensures { λ r. ⌜ r ≡ lowerBy top kind address count first end ⌝ }
+{
+    if !leaves(kind, address, count, first, end) {
+        return 0;
+    }
+    if leaves(kind, address, count, end, top) {
+        return top;
+    }
+    address as u64
+}
+
+// How far up from `end` nothing is among the bytes that the first n lines give; 0 where one from `first` on and below `end` is.
+fn room_above(format: u8, text: &[u8], t: &[u8; 256], n: usize, first: u64, end: u64) -> u64
+    requires { ⌜ Spells (now t) × AllGood format (now text) n × (first < end) ⌝ }
+    ensures { λ r. ⌜ RoomAbove (trail format (now (text .entry)) n .given) first end r ⌝ }
 {
     let mut at = 0usize;
     let mut state = 0u16;
-    let mut ok = true;
+    let mut top = NOWHERE;
     let mut k = 0usize;
     while k < n {
-        let s = take_line(format, text, t, at, state);
+        let s = known_line(format, text, t, at, state);
         let line = s.line;
-        ok = both(ok, leaves(line.kind, line.address, line.count, first, end));
+        top = lower(top, line.kind, line.address, line.count, first, end);
         at = s.next;
         state = line.state;
         k += 1;
     }
-    ok
+    top
 }
 
-// The same, where the highest end of those bytes is known: "while records ascend, nothing need be held against anything".
-fn is_fresh(
+// The same, where it is known what is free: the lines before are read again only where the bytes lie neither there nor above all others.
+fn room_known(
     format: u8,
     text: &[u8],
     t: &[u8; 256],
@@ -202,15 +226,25 @@ fn is_fresh(
     first: u64,
     end: u64,
     high: u64,
-) -> bool
-    requires { ⌜ Spells (now t) ⌝ }
-    requires { ⌜ high ≡ highest (trail format (now text) n .given) ⌝ }
-    ensures { λ r. ⌜ r ≡ isNew (trail format (now (text .entry)) n .given) first end ⌝ }
+    free: Free,
+) -> u64
+    requires { ⌜ Spells (now t) × AllGood format (now text) n × (first < end) ⌝ }
+    requires { ⌜ (high ≡ highest (trail format (now text) n .given)) × FreeIs (trail format (now text) n .given) free ⌝ }
+    ensures { λ r. ⌜ RoomAbove (trail format (now (text .entry)) n .given) first end r ⌝ }
 {
     if high <= first {
-        return true;
+        return NOWHERE;
     }
-    is_new(format, text, t, n, first, end)
+    if end <= free.low {
+        return free.low;
+    }
+    if first < free.edge {
+        return room_above(format, text, t, n, first, end);
+    }
+    if free.top < end {
+        return room_above(format, text, t, n, first, end);
+    }
+    free.top
 }
 
 fn larger(a: u64, b: u64) -> u64
@@ -230,19 +264,20 @@ fn may_stand(
     address: u32,
     count: u8,
     high: u64,
+    free: Free,
 ) -> Admit
-    requires { ⌜ Spells (now t) ⌝ }
-    requires { ⌜ high ≡ highest (trail format (now text) n .given) ⌝ }
-    ensures { λ r. ⌜ r ≡ admitBy load (trail format (now (text .entry)) n .given) kind address count high ⌝ }
+    requires { ⌜ Spells (now t) × AllGood format (now text) n ⌝ }
+    requires { ⌜ (high ≡ highest (trail format (now text) n .given)) × FreeIs (trail format (now text) n .given) free ⌝ }
+    ensures { λ r. ⌜ AdmitIs load (trail format (now (text .entry)) n .given) kind address count high (free .edge) r ⌝ }
 {
     if kind == record_lines::PASS {
-        return Admit::High(high);
+        return Admit::High(high, free.top);
     }
     if kind != record_lines::DATA {
         return Admit::No;
     }
     if count == 0 {
-        return Admit::High(high);
+        return Admit::High(high, free.top);
     }
     let first = address as u64;
     let end = first + count as u64;
@@ -252,10 +287,43 @@ fn may_stand(
     if end > 4_294_967_296 {
         return Admit::No;
     }
-    if !is_fresh(format, text, t, n, first, end, high) {
+    let top = room_known(format, text, t, n, first, end, high, free);
+    if top == 0 {
         return Admit::No;
     }
-    Admit::High(larger(high, end))
+    Admit::High(larger(high, end), top)
+}
+
+fn smaller(a: u64, b: u64) -> u64
+    ensures { λ r. ⌜ r ≡ min a b ⌝ }
+{
+    if a < b { a } else { b }
+}
+
+// What is free behind a line that may stand.
+fn free_after(free: Free, top: u64, kind: u8, address: u32, count: u8) -> Free
+    ensures { λ r. ⌜ r ≡ freeBy free top kind address count ⌝ }
+{
+    if kind != record_lines::DATA {
+        return Free {
+            low: free.low,
+            edge: free.edge,
+            top,
+        };
+    }
+    if count == 0 {
+        return Free {
+            low: free.low,
+            edge: free.edge,
+            top,
+        };
+    }
+    let first = address as u64;
+    Free {
+        low: smaller(free.low, first),
+        edge: first + count as u64,
+        top,
+    }
 }
 
 // The end record: nothing stands behind it.
@@ -278,6 +346,11 @@ pub fn scan_lines(format: u8, text: &[u8], t: &[u8; 256], load: u32) -> Scan
     let mut state = 0u16;
     let mut high = 0u64;
     let mut ascend = true;
+    let mut free = Free {
+        low: NOWHERE,
+        edge: 0,
+        top: NOWHERE,
+    };
     let mut n = 0usize;
     while at < text.len() {
         let s = take_line(format, text, t, at, state);
@@ -285,7 +358,7 @@ pub fn scan_lines(format: u8, text: &[u8], t: &[u8; 256], load: u32) -> Scan
         if line.kind == record_lines::END {
             return closing(n, high, ascend, s.next, text.len());
         }
-        let Admit::High(h) = may_stand(
+        let Admit::High(h, top) = may_stand(
             format,
             text,
             t,
@@ -295,11 +368,13 @@ pub fn scan_lines(format: u8, text: &[u8], t: &[u8; 256], load: u32) -> Scan
             line.address,
             line.count,
             high,
+            free,
         ) else {
             return Scan::Broken(n);
         };
         // all of its bytes lie at or above the highest end
         ascend = both(ascend, leaves(line.kind, line.address, line.count, 0, high));
+        free = free_after(free, top, line.kind, line.address, line.count);
         high = h;
         at = s.next;
         state = line.state;

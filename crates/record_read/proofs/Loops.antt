@@ -14,9 +14,9 @@ use Rattle.refusal.specs.Pick.{pick}
 use Rattle.blocks.specs.Put.{Put}
 use Rattle.record_lines.specs.Pieces.{Piece}
 use Rattle.record_fault.specs.Reading.{newPieces, isNew}
-use Rattle.record_fault.specs.Trail.{trail, lineAt, itemAt}
+use Rattle.record_fault.specs.Trail.{trail, itemAt}
 use Rattle.record_fault.specs.Laws.TrailLaws.{said, moved, next-at, next-state, next-given, high-append}
-use Rattle.record_fault.specs.Steps.{IsGood, AllGood, Stepped, highest, rises}
+use Rattle.record_fault.specs.Steps.{Stepped, highest, rises}
 use Rattle.record_fault.specs.declared.Step.{Step}
 use Rattle.record_read.specs.Given.{given}
 use Rattle.record_read.specs.Laws.BlockFacts.{none-above, all-below}
@@ -26,13 +26,6 @@ use Rattle.record_read.specs.declared.Run.{Run}
 use Rattle.record_read.proofs.LineLaws.{line-high, line-none, line-above, given-more}
 use Rattle.record_read.proofs.Walks.{closed-idle, closed-touching, closed-apart, Listed, listed-starts, listed-on, listed-idle, listed-past, listed-all}
 use Rattle.record_read.proofs.Walks.{listed-agree}
-
--- The line that comes next is not bad.
-pub good-at : (format : ℕ) (text : List ℕ) (n k : ℕ) {at state : ℕ} → at ≡ trail format text k .at → state ≡ trail format text k .state
-    → AllGood format text n → k < n → IsGood format state (lineAt text at)
-good-at format text n k {at} {state} p q g h =
-    subst (λ (s : ℕ). IsGood format s (lineAt text at)) (sym q)
-    (subst (λ (a : ℕ). IsGood format (trail format text k .state) (lineAt text a)) (sym p) (g k h))
 
 -- ---- runs by their bytes
 

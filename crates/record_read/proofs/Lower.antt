@@ -52,6 +52,25 @@ module _ (from : ℕ) (best next : Run) (first : ℕ) (is : first ≡ max (next 
           small = λ b n. n;
         }
 
+    -- one that ends where it begins
+    pub better-under : best .first < best .end → next .end ≡ best .first → Betters from best next (run first (best .end))
+    better-under held e =
+        record {
+          goes = λ test w.
+              record {
+                behind = λ h. omega arith;
+                inside = λ x l u.
+                    elim (decLt x (best .first)) [
+                      | yes p ↦ or-right (test x) (inRun next x) (in-run next x (omega arith) (omega arith))
+                      | no p ↦ or-left (test x) (inRun next x) (w .inside x (omega arith) u)
+                    ];
+                clear = λ x l u.
+                    let k : x < first = u (omega arith) in
+                    or-none (w .clear x l (λ h. omega arith)) (out x l k);
+              };
+          small = λ b n. b;
+        }
+
     module _ (held : best .first < best .end) (above : best .first ≤ first) where
       pub better-joined : first ≡ best .end → Betters from best next (run (best .first) (next .end))
       better-joined e =

@@ -146,7 +146,7 @@ fn larger(a: u64, b: u64) -> u64
     if a < b { b } else { a }
 }
 
-// The lower of two stretches from a byte on, or both where the second touches the first's end.
+// The lower of two stretches from a byte on, or both where the second touches the first.
 fn better(best: Run, next: Run, from: u64) -> Run
     ensures { λ r. ⌜ Betters from best next r ⌝ }
 {
@@ -157,6 +157,12 @@ fn better(best: Run, next: Run, from: u64) -> Run
     }
     if best.end <= best.first {
         return Run { first, end };
+    }
+    if end == best.first {
+        return Run {
+            first,
+            end: best.end,
+        };
     }
     if first < best.first {
         return Run { first, end };

@@ -1,10 +1,8 @@
 -- `record_fault::may_stand`: the definition's tests in its order.
-use mathlib.Core.Path.{sym, ap, _∙_}
 use mathlib.Core.List.{List}
-use borrow.Author.Tests.{not-true, not-false}
+use native.Mathlib.Omega.{arith}
 use Rattle.record_lines.specs.Pieces.{Piece}
 use Rattle.record_fault.specs.Trail.{trail}
-use Rattle.record_fault.specs.declared.Admit.the-variants.{High}
 use Rattle.record_fault.proofs.Laws.{admit-pass, admit-other, admit-empty, admit-below, admit-past, admit-twice, admit-fine}
 use borrow.Author.Needs.{needs}
 use Rattle.record_fault.proofs.may_stand.Statement.{statement}
@@ -18,19 +16,20 @@ returns : tie.Need-returns
 returns c =
     let s = c .before .before in
     let a = s .args in
-    admit-pass (a .load) (pieces s) (a .kind) (a .address) (a .count) (a .high) (c .if1 .taken)
+    admit-pass (a .load) (pieces s) (a .kind) (a .address) (a .count) (a .high) (a .free .edge) (a .free .top) (s .pre .1 .1 .gap) (c .if1 .taken)
 
 returns-2 : tie.Need-returns-2
 returns-2 c =
     let s = c .before .before .before in
     let a = s .args in
-    admit-other (a .load) (pieces s) (a .kind) (a .address) (a .count) (a .high) (c .before .if1 .left) (c .if2 .taken)
+    admit-other (a .load) (pieces s) (a .kind) (a .address) (a .count) (a .high) (a .free .edge) (c .before .if1 .left) (c .if2 .taken)
 
 returns-3 : tie.Need-returns-3
 returns-3 c =
     let s = c .before .before .before .before in
     let a = s .args in
-    admit-empty (a .load) (pieces s) (a .kind) (a .address) (a .count) (a .high) (c .before .if2 .left) (c .if3 .taken)
+    admit-empty (a .load) (pieces s) (a .kind) (a .address) (a .count) (a .high) (a .free .edge) (c .before .if2 .left) (a .free .top) (s .pre .1 .1 .gap)
+    (c .if3 .taken)
 
 add-end : tie.Need-add-end
 add-end c = search needs
@@ -39,40 +38,42 @@ returns-4 : tie.Need-returns-4
 returns-4 c =
     let s = c .before .before .before .before .before in
     let a = s .args in
-    admit-below (a .load) (pieces s) (a .kind) (a .address) (a .count) (a .high) (c .before .before .if2 .left) (c .before .if3 .left) (c .if4 .taken)
+    admit-below (a .load) (pieces s) (a .kind) (a .address) (a .count) (a .high) (a .free .edge) (c .before .before .if2 .left) (c .before .if3 .left)
+    (c .if4 .taken)
 
 returns-5 : tie.Need-returns-5
 returns-5 c =
     let s = c .before .before .before .before .before .before in
     let a = s .args in
-    admit-past (a .load) (pieces s) (a .kind) (a .address) (a .count) (a .high) (c .before .before .before .if2 .left) (c .before .before .if3 .left)
-    (c .before .if4 .left) (c .if5 .taken)
+    admit-past (a .load) (pieces s) (a .kind) (a .address) (a .count) (a .high) (a .free .edge) (c .before .before .before .if2 .left)
+    (c .before .before .if3 .left) (c .before .if4 .left) (c .if5 .taken)
 
-is-fresh-requires : tie.Need-is-fresh-requires
-is-fresh-requires c κs = search needs
+room-known-requires : tie.Need-room-known-requires
+room-known-requires c κs =
+    let s = c .before .before .before .before .before .before in
+    ((s .pre .0 .0, s .pre .0 .1, omega (arith, c .before .before .if3 .left)), s .pre .1)
 
 returns-6 : tie.Need-returns-6
 returns-6 c =
     let e = c .before .before in
     let s = e .before .before .before .before .before .before in
     let a = s .args in
-    admit-twice (a .load) (pieces s) (a .kind) (a .address) (a .count) (a .high) (e .before .before .before .if2 .left) (e .before .before .if3 .left)
-    (e .before .if4 .left) (e .if5 .left)
-    (sym (c .before .is-fresh .ensures) ∙ not-true _ (c .if6 .taken))
+    admit-twice (a .load) (pieces s) (a .kind) (a .address) (a .count) (a .high) (a .free .edge) (e .before .before .before .if2 .left)
+    (e .before .before .if3 .left) (e .before .if4 .left) (e .if5 .left) (c .before .room-known .ensures .0 (c .if6 .taken))
 
 larger-requires : tie.Need-larger-requires
 larger-requires c κs = search needs
 
 returns-7 : tie.Need-returns-7
 returns-7 c =
-    let f = c .before .before in
+    let i = c .before in
+    let f = i .before in
     let e = f .before in
     let s = e .before .before .before .before .before .before in
     let a = s .args in
-    ap High (c .larger .ensures)
-    ∙ admit-fine (a .load) (pieces s) (a .kind) (a .address) (a .count) (a .high) (e .before .before .before .if2 .left) (e .before .before .if3 .left)
-    (e .before .if4 .left) (e .if5 .left)
-    (sym (f .is-fresh .ensures) ∙ not-false _ (c .before .if6 .left))
+    admit-fine (a .load) (pieces s) (a .kind) (a .address) (a .count) (a .high) (a .free .edge) (e .before .before .before .if2 .left)
+    (e .before .before .if3 .left) (e .before .if4 .left) (e .if5 .left) (c .larger .result) (f .room-known .result) (c .larger .ensures)
+    (f .room-known .ensures .1 (omega (arith, i .if6 .left)))
 
 pub may-stand-spec : {M : Type 1} → statement M
 may-stand-spec =
@@ -84,7 +85,7 @@ may-stand-spec =
     add-end
     returns-4
     returns-5
-    is-fresh-requires
+    room-known-requires
     returns-6
     larger-requires
     returns-7)

@@ -1,18 +1,20 @@
 -- `record_fault::scan_lines`: after n lines the file is what they give and what the lines behind them say.
-use mathlib.Core.Path.{sym, _∙_}
-use Prim.Native.Nat.{_-_}
+use mathlib.Core.Path.{subst}
+use Prim.Native.Nat.{_-_, _<_}
 use borrow.Author.Needs.{needs}
 use native.Mathlib.Omega.{arith}
 use lib.ListN.{length}
+use Rattle.record_fault.specs.Steps.{AdmitIs}
+use Rattle.record_fault.specs.Trail.{trail}
 use Rattle.record_fault.proofs.Loops.{Scanning, scanning-starts, scanning-on, scanning-off, scanning-closes, scanning-ends}
 use Rattle.record_fault.proofs.scan_lines.Statement.{statement}
 use Rattle.record_fault.proofs.scan_lines.Tie as tie
 
 abbrev Inv-loop : tie.InvT-loop
-Inv-loop format text t load at₀ state₀ high₀ ascend₀ n₀ at state high ascend n = Scanning format load text at state high ascend n
+Inv-loop format text t load at₀ state₀ high₀ ascend₀ free₀ n₀ at state high ascend free n = Scanning format load text at state high ascend free n
 
 abbrev μ-loop : tie.MeasureT-loop
-μ-loop format text t load at₀ state₀ high₀ ascend₀ n₀ at state high ascend n = length text - at
+μ-loop format text t load at₀ state₀ high₀ ascend₀ free₀ n₀ at state high ascend free n = length text - at
 
 loop-holds : tie.Need-loop-holds Inv-loop μ-loop
 loop-holds c = let a = c .before .args in scanning-starts (a .format) (a .load) (a .text .now)
@@ -34,7 +36,7 @@ returns c =
     (scanning-closes (a .format) (a .load) (a .text .now) (l .loop .inv) (t .before .loop-test .taken) (t .take-line .ensures) (c .before .if1 .taken))
 
 may-stand-requires : tie.Need-may-stand-requires Inv-loop μ-loop
-may-stand-requires c κs = let l = c .before .before .before .before .before in (l .before .before .pre, l .loop .inv .top)
+may-stand-requires c κs = let l = c .before .before .before .before .before in ((l .before .before .pre, l .loop .inv .good), (l .loop .inv .top, l .loop .inv .freed))
 
 enum-known-h : tie.Need-enum-known-h Inv-loop μ-loop
 enum-known-h c = search needs
@@ -49,7 +51,8 @@ returns-2 c =
     let l = t .before .before in
     let a = l .before .before .args in
     scanning-off (a .format) (a .load) (a .text .now) (l .loop .inv) (t .before .loop-test .taken) (t .take-line .ensures)
-    (sym (m .may-stand .ensures) ∙ c .enum-told .given .1) (m .before .if1 .left)
+    (subst (AdmitIs (a .load) (trail (a .format) (a .text .now) (l .loop .n) .given) (t .take-line .result .line .kind) (t .take-line .result .line .address)
+    (t .take-line .result .line .count) (l .loop .high) (l .loop .free .edge)) (c .enum-told .given .1) (m .may-stand .ensures)) (m .before .if1 .left)
 
 leaves-requires : tie.Need-leaves-requires Inv-loop μ-loop
 leaves-requires c κs = search needs
@@ -57,23 +60,34 @@ leaves-requires c κs = search needs
 both-requires : tie.Need-both-requires Inv-loop μ-loop
 both-requires c κs = search needs
 
+free-after-requires : tie.Need-free-after-requires Inv-loop μ-loop
+free-after-requires c κs = search needs
+
 add-n : tie.Need-add-n Inv-loop μ-loop
-add-n c = search needs
+add-n c =
+    let i = c .before .before .before .before .before .before .before .before .before .before .before in
+    let l = i .before in
+    let long = l .before .shared-slice-known .given in
+    let below : l .loop .n < length (l .before .before .args .text .now) = omega (arith, l .loop .inv .few, i .loop-test .taken) in
+    search needs
 
 loop-less : tie.Need-loop-less Inv-loop μ-loop
 loop-less c =
-    let t = c .before .before .before .before .before .before .before .before .before in
+    let t = c .before .before .before .before .before .before .before .before .before .before in
     omega (arith, t .take-line .ensures .onward (t .before .loop-test .taken), t .take-line .ensures .inside (t .before .before .loop .inv .inside))
 
 loop-again : tie.Need-loop-again Inv-loop μ-loop
 loop-again c =
-    let h = c .before .before .before in
+    let b = c .before in
+    let h = b .before .before .before in
     let m = h .before .before in
     let t = m .before .before .before .before in
     let l = t .before .before in
     let a = l .before .before .args in
-    scanning-on (a .format) (a .load) (a .text .now) (l .loop .inv) (t .before .loop-test .taken) (t .take-line .ensures) (h .h .given .0 .0)
-    (sym (m .may-stand .ensures) ∙ h .h .given .1) (c .before .leaves .ensures) (c .both .ensures)
+    scanning-on (a .format) (a .load) (a .text .now) (l .loop .inv) (t .before .loop-test .taken) (t .take-line .ensures) _ _
+    (subst (AdmitIs (a .load) (trail (a .format) (a .text .now) (l .loop .n) .given) (t .take-line .result .line .kind) (t .take-line .result .line .address)
+    (t .take-line .result .line .count) (l .loop .high) (l .loop .free .edge)) (h .h .given .1) (m .may-stand .ensures)) (b .before .leaves .ensures)
+    (b .both .ensures) (c .free-after .ensures)
 
 returns-3 : tie.Need-returns-3 Inv-loop μ-loop
 returns-3 c =
@@ -97,6 +111,7 @@ scan-lines-spec =
     returns-2
     leaves-requires
     both-requires
+    free-after-requires
     add-n
     loop-less
     loop-again

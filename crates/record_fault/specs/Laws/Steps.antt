@@ -4,8 +4,7 @@ use mathlib.Core.List.{List}
 use Prim.Native.Nat.{ℕ}
 use Rattle.record_lines.specs.Pieces.{Piece}
 use Rattle.record_lines.specs.declared.Line.{Line}
-use Rattle.record_fault.specs.declared.Admit.{Admit}
-use Rattle.record_fault.specs.Steps.{admitBy, admitsBy, highBy, leavesBy}
+use Rattle.record_fault.specs.Steps.{admitsBy, highBy, leavesBy}
 
 abbrev pub leavesOf : Line → ℕ → ℕ → Bool
 leavesOf r first end = leavesBy (r .kind) (r .address) (r .count) first end
@@ -15,6 +14,3 @@ admits load given r = admitsBy load given (r .kind) (r .address) (r .count)
 
 abbrev pub highAfter : Line → ℕ → ℕ
 highAfter r high = highBy (r .kind) (r .address) (r .count) high
-
-abbrev pub admitOf : ℕ → List Piece → Line → ℕ → Admit
-admitOf load given r high = admitBy load given (r .kind) (r .address) (r .count) high

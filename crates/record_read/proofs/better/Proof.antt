@@ -1,6 +1,6 @@
 -- `record_read::better`: a law for each return.
 use native.Mathlib.Omega.{arith}
-use Rattle.record_read.proofs.Lower.{better-none, better-lower, better-joined, better-kept}
+use Rattle.record_read.proofs.Lower.{better-none, better-lower, better-under, better-joined, better-kept}
 use borrow.Author.Needs.{needs}
 use Rattle.record_read.proofs.better.Statement.{statement}
 use Rattle.record_read.proofs.better.Tie as tie
@@ -23,28 +23,36 @@ returns-2 c =
 
 returns-3 : tie.Need-returns-3
 returns-3 c =
-    let i = c .before .before .before .before in
-    let l = i .before in
-    let a = l .before .args in
-    better-lower (a .from) (a .best) (a .next) (l .larger .result) (l .larger .ensures) (i .if1 .left) (λ h. c .if3 .taken)
-
-returns-4 : tie.Need-returns-4
-returns-4 c =
-    let k = c .before .before in
-    let j = k .before .before in
+    let j = c .before .before in
     let i = j .before .before in
     let l = i .before in
     let a = l .before .args in
-    better-joined (a .from) (a .best) (a .next) (l .larger .result) (l .larger .ensures) (i .if1 .left) (j .if2 .left) (k .if3 .left) (c .if4 .taken)
+    better-under (a .from) (a .best) (a .next) (l .larger .result) (l .larger .ensures) (i .if1 .left) (j .if2 .left) (c .if3 .taken)
+
+returns-4 : tie.Need-returns-4
+returns-4 c =
+    let i = c .before .before .before .before .before .before in
+    let l = i .before in
+    let a = l .before .args in
+    better-lower (a .from) (a .best) (a .next) (l .larger .result) (l .larger .ensures) (i .if1 .left) (λ h. c .if4 .taken)
 
 returns-5 : tie.Need-returns-5
 returns-5 c =
     let k = c .before .before in
-    let j = k .before .before in
+    let j = k .before .before .before .before in
     let i = j .before .before in
     let l = i .before in
     let a = l .before .args in
-    better-kept (a .from) (a .best) (a .next) (l .larger .result) (l .larger .ensures) (i .if1 .left) (j .if2 .left) (k .if3 .left)
+    better-joined (a .from) (a .best) (a .next) (l .larger .result) (l .larger .ensures) (i .if1 .left) (j .if2 .left) (k .if4 .left) (c .if5 .taken)
+
+returns-6 : tie.Need-returns-6
+returns-6 c =
+    let k = c .before .before in
+    let j = k .before .before .before .before in
+    let i = j .before .before in
+    let l = i .before in
+    let a = l .before .args in
+    better-kept (a .from) (a .best) (a .next) (l .larger .result) (l .larger .ensures) (i .if1 .left) (j .if2 .left) (k .if4 .left)
 
 pub better-spec : {M : Type 1} → statement M
-better-spec = tie.close (tie.spec larger-requires returns returns-2 returns-3 returns-4 returns-5)
+better-spec = tie.close (tie.spec larger-requires returns returns-2 returns-3 returns-4 returns-5 returns-6)

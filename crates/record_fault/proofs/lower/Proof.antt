@@ -1,0 +1,28 @@
+-- `record_fault::lower`: the definition's tests.
+use mathlib.Core.Path.{sym, _∙_}
+use borrow.Author.Tests.{not-true, not-false}
+use borrow.Author.Needs.{needs}
+use Rattle.record_fault.proofs.lower.Statement.{statement}
+use Rattle.record_fault.proofs.lower.Tie as tie
+
+leaves-requires : tie.Need-leaves-requires
+leaves-requires c κs = search needs
+
+returns : tie.Need-returns
+returns c = rw (sym (c .before .leaves .ensures) ∙ not-true _ (c .if1 .taken))
+
+leaves-requires-2 : tie.Need-leaves-requires-2
+leaves-requires-2 c κs = search needs
+
+returns-2 : tie.Need-returns-2
+returns-2 c =
+    let i = c .before .before in
+    rw (sym (i .before .leaves .ensures) ∙ not-false _ (i .if1 .left), sym (c .before .leaves2 .ensures) ∙ c .if2 .taken)
+
+returns-3 : tie.Need-returns-3
+returns-3 c =
+    let i = c .before .before in
+    rw (sym (i .before .leaves .ensures) ∙ not-false _ (i .if1 .left), sym (c .before .leaves2 .ensures) ∙ c .if2 .left)
+
+pub lower-spec : {M : Type 1} → statement M
+lower-spec = tie.close (tie.spec leaves-requires returns leaves-requires-2 returns-2 returns-3)
