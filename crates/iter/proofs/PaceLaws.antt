@@ -140,7 +140,8 @@ module _ (def : Bankdef) (at : Pos) (node : Node) where
       pub paces-align-untold : {r : Paced} → tellable def ≡ false → r ≡ haltedBy at 4 → Paces def at node r
       paces-align-untold t f =
           paces-malformed (cross-stuck def at node sound at (Malformed (node .index)) sight-8
-          (moves-8 ∙ ap (λ (d : Distance). movedByDistance at d (staysKnown (at .known) node) (node .index)) (four-when def (at .position) (node .number) (node .index) t)))
+          (moves-8 ∙ ap (λ (d : Distance). movedByDistance at d (staysKnown (at .known) node) (node .index))
+          (four-when def (at .position) (node .number) (node .index) t)))
           f
 
       pub paces-align : {r : Paced} (bits : ℕ) → tellable def ≡ true → bits ≡ distanceTo (addressInBits def (at .position)) (node .number)

@@ -100,7 +100,8 @@ module _ (p : Program) (sound : Switches (p .banks .len) (p .kinds) (p .operands
           record {
             is = rw add-one (
                 ap (λ (x : Walk). stepAt p row x i .walk) (w .is)
-                ∙ ap (λ (x : Bankdef). stepOf x walk (node p row i) .walk) (sym (its-record other g ∙ ap (λ (x : Walk). bankOf (p .banks) x (node p row i)) (w .is)))
+                ∙ ap (λ (x : Bankdef). stepOf x walk (node p row i) .walk)
+                (sym (its-record other g ∙ ap (λ (x : Walk). bankOf (p .banks) x (node p row i)) (w .is)))
                 ∙ crossing-kept d walk (node p row i) in-bank in-table crosses (rw (sym (w .is)) (sums-small p row i)));
             sixteen = length-set (walk .at) b (c .after) ∙ w .sixteen;
             sums = length-set (walk .lost) b _ ∙ w .sums;

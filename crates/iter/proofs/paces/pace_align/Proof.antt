@@ -39,7 +39,8 @@ returns-2 c =
     let d = k .before in
     let e = d .before in
     let s = e .before .before in
-    paces-align _ _ _ (s .pre .0) (s .pre .1) (d .distance-in-bits .result) (tells e) (d .distance-in-bits .ensures) (rw (k .stays-known .ensures) at (c .added .ensures))
+    paces-align _ _ _ (s .pre .0) (s .pre .1) (d .distance-in-bits .result) (tells e) (d .distance-in-bits .ensures)
+    (rw (k .stays-known .ensures) at (c .added .ensures))
 
 pub pace-align-spec : {M : Type 1} → statement M
 pace-align-spec =
