@@ -1,7 +1,7 @@
 -- "Reading back our own file gives the same bytes at the same addresses, touching blocks joined."
 use mathlib.Core.Path.{_≡_}
 use mathlib.Core.List.{List}
-use Prim.Native.Nat.{ℕ, _<_}
+use Prim.Native.Nat.{ℕ, _≤_, _<_}
 use lib.ListN.{length, getD}
 use Rattle.refusal.specs.Told.{gives}
 use Rattle.blocks.specs.declared.Block.{Block}
@@ -9,6 +9,13 @@ use Rattle.blocks.specs.declared.Blocks.{Blocks}
 use Rattle.blocks.specs.Outcome.{origins, sizes, over, toldBy}
 use Rattle.record_read.specs.Outcome.{Lent}
 use Rattle.thm_records.specs.Joined.{joined, InSome}
+
+-- The room that the blocks take when they come back, and no more: a place for each of their bytes, and an element of both lists for each block, touching ones
+-- joined.
+pub record Room (blocks : List Block) (old : Lent) : Type 0 where
+  pub bytes : (x : ℕ) → InSome blocks x → x < length (old .bytes)
+  pub offsets : length (joined blocks) ≤ length (old .offsets)
+  pub sizes : length (joined blocks) ≤ length (old .sizes)
 
 -- What comes back of an image's blocks, in everything that was lent: the number of blocks, with touching ones joined; each byte of a block where it was in the
 -- image; every other byte as it was; and the blocks, with those past them as they were.

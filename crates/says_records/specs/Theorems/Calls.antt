@@ -2,8 +2,8 @@
 -- Each is its theorem over the sentences behind `meets`; an image is a list of bytes, which its type gives.
 use mathlib.Core.Path.{_≡_, ap}
 use mathlib.Core.List.{List}
-use Prim.Native.Nat.{ℕ, _≤_}
-use lib.ListN.{length, take}
+use Prim.Native.Nat.{ℕ}
+use lib.ListN.{take}
 use Rattle.bitvec.specs.Bits.{Bytes}
 use Rattle.sort.specs.Agree.{All}
 use Rattle.record_write.specs.Outcome.{input, answerOf, textAfter}
@@ -23,7 +23,7 @@ use Rattle.says_records.specs.Theorems.ReadMeets.{read-meets}
 use Rattle.says_records.specs.Theorems.FaultMeets.{fault-meets}
 use Rattle.says_records.specs.Theorems.Checksums.{SumsToZero, Complements, hex-written-sums, srec-written-sums, hex-read-sums, srec-read-sums}
 use Rattle.says_records.specs.Theorems.SameReading.{Reordered, order-free, LineEnds, cr-lf-free, cr-lf-fault}
-use Rattle.says_records.specs.Theorems.ReadBack.{Returned, hex-comes-back, srec-comes-back}
+use Rattle.says_records.specs.Theorems.ReadBack.{Returned, Room, hex-comes-back, srec-comes-back}
 use Rattle.says_records.specs.Theorems.Rewritten.{taken, read-is-written, rewritten-reads-same}
 
 -- ---- what the functions promise, of an answer and of what is lent afterwards
@@ -57,18 +57,17 @@ module _ (g : Given) (bytes : Bytes (g .image)) (old : List ℕ) (r : DkCount) (
   srec-sums width c = srec-written-sums g old (written r new) width (write-srec-meets g old bytes width r new c) accepted
 
   -- "Reading back our own file gives the same bytes at the same addresses, touching blocks joined."
-  module _ (into : Lent) (room : length (g .image) ≤ length (into .bytes)) (first : length (g .offsets) ≤ length (into .offsets))
-      (second : length (g .offsets) ≤ length (into .sizes)) (q : DkCount) (after : Lent) where
+  module _ (into : Lent) (room : Room g into) (q : DkCount) (after : Lent) where
     pub hex-back : WritesHex g old r new → Reads 0 (g .load) (take (r .count) new) into q after → Returned g into (read q after)
     hex-back c d =
-        hex-comes-back g old (written r new) (write-hex-meets g old bytes r new c) accepted into room first second (read q after)
+        hex-comes-back g old (written r new) (write-hex-meets g old bytes r new c) accepted into room (read q after)
         (read-meets 0 (g .load) (take (r .count) new) into q after d)
 
     -- "proved once over both address widths"
     pub srec-back : (width format : ℕ) → Not (format ≡ 0) → WritesSrec g width old r new → Reads format (g .load) (take (r .count) new) into q after
         → Returned g into (read q after)
     srec-back width format other c d =
-        srec-comes-back g old width format other (written r new) (write-srec-meets g old bytes width r new c) accepted into room first second (read q after)
+        srec-comes-back g old width format other (written r new) (write-srec-meets g old bytes width r new c) accepted into room (read q after)
         (read-meets format (g .load) (take (r .count) new) into q after d)
 
 -- ---- what is read

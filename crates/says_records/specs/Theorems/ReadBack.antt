@@ -1,12 +1,16 @@
 -- "Reading back our own file gives the same bytes at the same addresses, touching blocks joined": of every file that `dk_write_hex` accepts, and of every one
--- that `dk_write_srec` accepts, once over both widths; read at the same load address into lists that are long enough. Over the sentences; that a byte lies in
--- a listed block goes by the runs.
+-- that `dk_write_srec` accepts, once over both widths; read at the same load address into what has room for the blocks, and no more than that. Over the
+-- sentences; that a byte lies in a listed block goes by the runs.
 use mathlib.Core.Path.{_≡_, refl, sym, ap, _∙_, subst}
 use mathlib.Core.List.{List}
 use mathlib.Core.Logic.{_⊎_, ⊎-elim}
-use Prim.Native.Nat.{ℕ, zero, suc, _+_, _*_, _-_, _≤_, _<_, _/_}
+use Prim.Native.Nat.{ℕ, zero, suc, _+_, _*_, _-_, _≤_, _<_, _/_, _%_}
 use native.Mathlib.Omega.{arith}
+use borrow.Author.Tests.{eqb-true, eqb-false, ne-eqb}
+use lib.Dec.{eqb}
 use lib.ListN.{length, getD, take}
+use Rattle.refusal.specs.Laws.Bools.{either}
+use Rattle.refusal.specs.Pick.{pick}
 use Rattle.sort.specs.Laws.Sorted.{le-or-lt}
 use Rattle.record_lines.specs.Pieces.{Piece}
 use Rattle.blocks.specs.Outcome.{origins, sizes}
@@ -29,6 +33,19 @@ use Rattle.says_records.specs.Theorems.ReadDecides.{good-one, offsets-on
 abbrev pub InBlock : Given → ℕ → Type 0
 InBlock g x = (i : ℕ) × (i < length (g .offsets)) × (i < length (g .sizes)) × (getD (g .offsets) i 0 / 8 ≤ x)
     × (x < (getD (g .offsets) i 0 + getD (g .sizes) i 0) / 8)
+
+-- How many blocks the first n are, touching ones joined: one that starts where the one before it ends goes on with that one.
+unfoldable pub joinedTo : List ℕ → List ℕ → ℕ → ℕ
+joinedTo offsets sizes zero = 0
+joinedTo offsets sizes (suc zero) = 1
+joinedTo offsets sizes (suc (suc i)) =
+    pick (eqb (getD offsets i 0 + getD sizes i 0) (getD offsets (suc i) 0)) 0 1 + joinedTo offsets sizes (suc i)
+
+-- The room that the blocks take when they come back: each byte of a block has its place, and each block, touching ones joined, an element of both lists.
+pub record Room (g : Given) (lent : Lent) : Type 0 where
+  pub bytes : (x : ℕ) → InBlock g x → x < length (lent .bytes)
+  pub offsets : joinedTo (g .offsets) (g .sizes) (length (g .offsets)) ≤ length (lent .offsets)
+  pub sizes : joinedTo (g .offsets) (g .sizes) (length (g .offsets)) ≤ length (lent .sizes)
 
 -- A file's pieces give the blocks' bytes, each to the load address plus its place in the image, and nothing else.
 pub record Own (g : Given) (ps : List Piece) : Type 0 where
@@ -85,32 +102,53 @@ srec-own g old width format other y x e =
     (f .pieces, s.good (s.s-records other (q .3) (k .1) (k .2)) (within g old y f) (once g old y f), own g old y f)
 
 -- ---- as many blocks at most
-module _ (os qs : List ℕ) (at : (i : ℕ) → i < length os → (j : ℕ) × (j < length qs) × (getD qs j 0 / 8 ≡ getD os i 0 / 8))
-    (rises : (i j : ℕ) → i < j → j < length os → getD os i 0 / 8 < getD os j 0 / 8) (up : (i j : ℕ) → i ≤ j → j < length qs → getD qs i 0 ≤ getD qs j 0) where
-  climbs : (i : ℕ) (h : i < length os) → i ≤ at i h .0
-  climbs zero h = omega arith
-  climbs (suc i) h =
-      let here = at (suc i) h in
-      let k : i < length os = omega arith in
-      let before = at i k in
-      let below = climbs i k in
-      ⊎-elim
-      (λ le. absurd (omega (arith, rises i (suc i) (omega arith) h, up (here .0) (before .0) le (before .1), here .2, before .2)))
-      (λ lt. omega arith)
-      (le-or-lt (here .0) (before .0))
+module _ (qs ns : List ℕ) where
+  -- no block ends where this one starts
+  abbrev Fresh : ℕ → Type 0
+  Fresh j = (i : ℕ) → suc i ≡ j → getD qs i 0 + getD ns i 0 ≡ getD qs j 0 → ⊥
 
-  as-few : (n : ℕ) → length os ≡ n → n ≤ length qs
-  as-few zero e = omega arith
-  as-few (suc n) e =
-      let h : n < length os = omega arith in
-      omega (arith, climbs n h, at n h .1)
+  one-more : (j : ℕ) → joinedTo qs ns j ≤ joinedTo qs ns (suc j)
+  unfolding joinedTo
+  one-more zero = omega arith
+  one-more (suc i) = omega arith
+
+  more : (d i j : ℕ) → i + d ≡ j → joinedTo qs ns i ≤ joinedTo qs ns j
+  more zero i j e = let same : i ≡ j = omega arith in omega (arith, ap (joinedTo qs ns) same)
+  more (suc d) i j e = omega (arith, one-more i, more d (suc i) j (omega arith))
+
+  counts : (j : ℕ) → Fresh j → suc (joinedTo qs ns j) ≤ joinedTo qs ns (suc j)
+  unfolding joinedTo
+  counts zero f = omega arith
+  counts (suc i) f = rw (ne-eqb (getD qs i 0 + getD ns i 0) (getD qs (suc i) 0) (f i refl)) (omega arith)
+
+  module _ (os : List ℕ) (at : (i : ℕ) → i < length os → (j : ℕ) × (j < length qs) × (getD qs j 0 / 8 ≡ getD os i 0 / 8) × Fresh j)
+      (rises : (i j : ℕ) → i < j → j < length os → getD os i 0 / 8 < getD os j 0 / 8)
+      (up : (i j : ℕ) → i ≤ j → j < length qs → getD qs i 0 ≤ getD qs j 0) where
+    climbs : (i : ℕ) (h : i < length os) → suc i ≤ joinedTo qs ns (suc (at i h .0))
+    climbs zero h = let here = at zero h in omega (arith, counts (here .0) (here .3))
+    climbs (suc i) h =
+        let here = at (suc i) h in
+        let k : i < length os = omega arith in
+        let before = at i k in
+        let below = climbs i k in
+        ⊎-elim
+        (λ le. absurd (omega (arith, rises i (suc i) (omega arith) h, up (here .0) (before .0) le (before .1), here .2, before .2)))
+        (λ lt. omega (arith, counts (here .0) (here .3), more (here .0 - suc (before .0)) (suc (before .0)) (here .0) (omega arith)))
+        (le-or-lt (here .0) (before .0))
+
+    as-few : (n : ℕ) → length os ≡ n → n ≤ joinedTo qs ns (length qs)
+    as-few zero e = omega arith
+    as-few (suc n) e =
+        let h : n < length os = omega arith in
+        let last = at n h in
+        let within = last .1 in
+        omega (arith, climbs n h, more (length qs - suc (last .0)) (suc (last .0)) (length qs) (omega arith))
 
 -- ---- reading it
 module _ (g : Given) (format : ℕ) (text : List ℕ) (ps : List Piece) (fit : Good format (g .load) text ps) (mine : Own g ps)
     (order : Ordered g (g .offsets) (g .sizes))
-    (inside : (i : ℕ) → i < length (g .offsets) → i < length (g .sizes) → (getD (g .offsets) i 0 + getD (g .sizes) i 0) / 8 ≤ length (g .image))
-    (paired : length (g .offsets) ≡ length (g .sizes)) (old : Lent) (room : length (g .image) ≤ length (old .bytes))
-    (first : length (g .offsets) ≤ length (old .offsets)) (second : length (g .offsets) ≤ length (old .sizes)) where
+    (eight : (i : ℕ) → i < length (g .offsets) → i < length (g .sizes) → 8 ≤ getD (g .sizes) i 0)
+    (paired : length (g .offsets) ≡ length (g .sizes)) (old : Lent) (room : Room g old) where
   above : {rs : List Piece} → Good format (g .load) text rs → (a : ℕ) → GivenTo rs a → g .load ≤ a
   above (s.good x i o) a h = i (h .0) a (h .1) (h .2) .0
 
@@ -151,19 +189,28 @@ module _ (g : Given) (format : ℕ) (text : List ℕ) (ps : List Piece) (fit : G
           before = λ z h i. let next : suc (g .load + z) ≡ a = omega arith in before (g .load + z) next (given-in z i);
         }
 
-    starts : (i : ℕ) → i < length os → (j : ℕ) × (j < length (g .offsets)) × (getD (g .offsets) j 0 / 8 ≡ getD os i 0 / 8)
+    starts : (i : ℕ) → i < length os
+        → (j : ℕ) × (j < length (g .offsets)) × (getD (g .offsets) j 0 / 8 ≡ getD os i 0 / 8) × Fresh (g .offsets) (g .sizes) j
     starts i h =
         let k = block-is (b .each i h) in
         let x = k .start in
-        let some = k .some in
+        let full = k .some in
         let j = k .has x (omega arith) (omega arith) in
         let edge : getD (g .offsets) (j .0) 0 / 8 ≡ x = ⊎-elim
         (λ le. omega (arith, j .3))
         (λ lt.
         let prior : suc (x - 1) ≡ x = omega arith in
         absurd (k .before (x - 1) prior (j .0, j .1, j .2, omega arith, omega (arith, j .4))))
-        (le-or-lt x (getD (g .offsets) (j .0) 0 / 8)) in
-        (j .0, j .1, edge ∙ omega (arith, k .from))
+        (le-or-lt x (getD (g .offsets) (j .0) 0 / 8)) in (
+          j .0,
+          j .1,
+          edge ∙ omega (arith, k .from),
+          λ n e touch.
+              let p : n < length (g .offsets) = omega (arith, j .1) in
+              let q : n < length (g .sizes) = omega (arith, j .2) in
+              let prior : suc (x - 1) ≡ x = omega (arith, eight n p q) in
+              k .before (x - 1) prior (n, p, q, omega (arith, eight n p q), omega arith),
+        )
 
     rises : (i j : ℕ) → i < j → j < length os → getD os i 0 / 8 < getD os j 0 / 8
     rises i j h k =
@@ -177,8 +224,8 @@ module _ (g : Given) (format : ℕ) (text : List ℕ) (ps : List Piece) (fit : G
         (λ lt. omega (arith, order i j lt k (omega arith)))
         (le-or-lt j i)
 
-    few : length os ≤ length (g .offsets)
-    few = as-few os (g .offsets) starts rises up (length os) refl
+    few : length os ≤ joinedTo (g .offsets) (g .sizes) (length (g .offsets))
+    few = as-few (g .offsets) (g .sizes) os starts rises up (length os) refl
 
     apart : (i : ℕ) → suc i < length os → getD os i 0 + getD ss i 0 < getD os (suc i) 0
     apart i h =
@@ -249,12 +296,20 @@ module _ (g : Given) (format : ℕ) (text : List ℕ) (ps : List Piece) (fit : G
           (Accepts format (g .load) text old ps os ss)) z → Returned g old z
       tried z b (words.refused a m) =
           let k = in-block a (m .0) in
-          let j = k .1 in
-          absurd (omega (arith, m .1, k .2, j .4, inside (j .0) (j .1) (j .2)))
-      tried z b (words.passed none (words.refused x m)) = absurd (⊎-elim (λ h. omega (arith, few b)) (λ h. omega (arith, few b)) m)
+          absurd (omega (arith, m .1, k .2, room .bytes (k .0) (k .1)))
+      tried z b (words.passed none (words.refused x m)) = absurd (⊎-elim (λ h. omega (arith, few b, room .offsets)) (λ h. omega (arith, few b, room .sizes)) m)
       tried z b (words.passed none (words.passed enough (s.accepts f o n))) = returned b f o n
 
 -- ---- the two headlines
+some-of : (g : Given) → Not (w.BadPart g) → (i : ℕ) → i < length (g .offsets) → i < length (g .sizes) → 8 ≤ getD (g .sizes) i 0
+some-of g fine i h k =
+    let n = getD (g .sizes) i 0 in
+    either (eqb (n % 8) 0)
+    (λ t.
+    let edge = eqb-true (n % 8) 0 t in
+    ⊎-elim (λ le. le) (λ lt. let none : 0 ≡ n = omega arith in absurd (fine (w.empty {i = i} (h, k, refl, none)))) (le-or-lt 8 n))
+    (λ f. absurd (fine (w.size {i = i} (h, k, refl, refl) (eqb-false (n % 8) 0 f))))
+
 module _ (g : Given) (old : List ℕ) (y : w.Outcome) {Text : List Piece → List ℕ → Type 0} {top : ℕ} (f : Filed g old Text top y) where
   paired-of : length (g .offsets) ≡ length (g .sizes)
   paired-of = ⊎-elim
@@ -263,20 +318,16 @@ module _ (g : Given) (old : List ℕ) (y : w.Outcome) {Text : List Piece → Lis
       (le-or-lt (length (g .offsets)) (length (g .sizes)))
 
 pub hex-comes-back : (g : Given) (old : List ℕ) (y : w.Outcome) → HexSays g old y → y .answer .refusal ≡ 0
-    → (lent : Lent) → length (g .image) ≤ length (lent .bytes) → length (g .offsets) ≤ length (lent .offsets) → length (g .offsets) ≤ length (lent .sizes)
-    → (z : Outcome) → ReadSays 0 (g .load) (take (y .answer .count) (y .text)) lent z → Returned g lent z
-hex-comes-back g old y x e lent room first second z r =
+    → (lent : Lent) → Room g lent → (z : Outcome) → ReadSays 0 (g .load) (take (y .answer .count) (y .text)) lent z → Returned g lent z
+hex-comes-back g old y x e lent room z r =
     let f = hex-filed g old y x e in
     let k = hex-own g old y x e in
-    comes-back g 0 (file y) (k .0) (k .1) (k .2) (ordered-of g 4294967296 (f .places)) (inside-of g (f .parts))
-    (paired-of g old y f) lent room first second z r
+    comes-back g 0 (file y) (k .0) (k .1) (k .2) (ordered-of g 4294967296 (f .places)) (some-of g (f .parts)) (paired-of g old y f) lent room z r
 
 pub srec-comes-back : (g : Given) (old : List ℕ) (width format : ℕ) → Not (format ≡ 0) → (y : w.Outcome) → SrecSays g old width y → y .answer .refusal ≡ 0
-    → (lent : Lent) → length (g .image) ≤ length (lent .bytes) → length (g .offsets) ≤ length (lent .offsets) → length (g .offsets) ≤ length (lent .sizes)
-    → (z : Outcome) → ReadSays format (g .load) (take (y .answer .count) (y .text)) lent z → Returned g lent z
-srec-comes-back g old width format other y x e lent room first second z r =
+    → (lent : Lent) → Room g lent → (z : Outcome) → ReadSays format (g .load) (take (y .answer .count) (y .text)) lent z → Returned g lent z
+srec-comes-back g old width format other y x e lent room z r =
     let q = srec-filed g old width y x e in
     let f = q .4 in
     let k = srec-own g old width format other y x e in
-    comes-back g format (file y) (k .0) (k .1) (k .2) (ordered-of g (q .2) (f .places)) (inside-of g (f .parts))
-    (paired-of g old y f) lent room first second z r
+    comes-back g format (file y) (k .0) (k .1) (k .2) (ordered-of g (q .2) (f .places)) (some-of g (f .parts)) (paired-of g old y f) lent room z r

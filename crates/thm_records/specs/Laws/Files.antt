@@ -1,9 +1,8 @@
 -- Laws that Theorems/Files rests on.
 use mathlib.Core.Path.{_≡_}
 use mathlib.Core.Bool.{true}
-use mathlib.Core.List.{List, [], _∷_}
-use Prim.Native.Nat.{ℕ, _≤_}
-use native.Mathlib.Omega.{arith}
+use mathlib.Core.List.{List}
+use Prim.Native.Nat.{ℕ}
 use lib.Dec.{eqb}
 use lib.ListN.{length}
 use Rattle.refusal.specs.Laws.Bools.{both}
@@ -11,12 +10,6 @@ use Rattle.record_write.specs.Checks.{allPlaced}
 use Rattle.record_write.specs.Cut.{blocksIn}
 use Rattle.record_write.specs.Exactly.{WellPlaced}
 use Rattle.record_write.specs.Theorems.Exactly.{placed-exactly}
-
-pub few : (offsets sizes : List ℕ) → length (blocksIn offsets sizes) ≤ length offsets
-unfolding blocksIn
-few [] sizes = omega arith
-few (o ∷ offsets) [] = omega arith
-few (o ∷ offsets) (s ∷ sizes) = let h = few offsets sizes in omega arith
 
 pub placed-all : (load : ℕ) (offsets sizes : List ℕ) → WellPlaced load offsets sizes → allPlaced load (blocksIn offsets sizes) ≡ true
 placed-all load offsets sizes w =

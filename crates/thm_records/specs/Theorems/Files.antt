@@ -2,7 +2,6 @@
 use mathlib.Core.Path.{_≡_, ap, subst, _∙_}
 use mathlib.Core.List.{List}
 use Prim.Native.Nat.{ℕ, _≤_}
-use native.Mathlib.Omega.{arith}
 use lib.ListN.{length, take}
 use Rattle.refusal.specs.Told.{gives}
 use Rattle.bitvec.specs.Bits.{Bytes}
@@ -22,20 +21,19 @@ use Rattle.record_srec.specs.Writing.{srecOf, WritesSrec}
 use Rattle.record_srec.specs.Theorems.Refusals as srec
 use Rattle.record_srec.specs.Theorems.File as srec-file
 use Rattle.thm_records.specs.Theorems.Back.{hex-read, srec-read}
-use Rattle.thm_records.specs.Trip.{Back}
+use Rattle.thm_records.specs.Trip.{Room, Back}
 use Rattle.thm_records.specs.Theorems.Trip.{comes-back}
-use Rattle.thm_records.specs.Laws.Files.{few, placed-all}
+use Rattle.thm_records.specs.Laws.Files.{placed-all}
 
 module _ (image offsets sizes : List ℕ) (load : ℕ) (good : Bytes image) where
   -- Any file that gives the pieces of the blocks brings them back.
   back : (parts : AllParts (length image) offsets sizes) (places : WellPlaced load offsets sizes) (format : ℕ) (text : List ℕ)
       → readText format load text ≡ sound (piecesOf load image (blocksIn offsets sizes)) → (old : Lent) (r : Blocks) (new : Lent)
-      → Reads load (readText format load text) old r new → length image ≤ length (old .bytes) → length offsets ≤ length (old .offsets)
-      → length offsets ≤ length (old .sizes) → Back image (blocksIn offsets sizes) old r new
-  back parts places format text reads old r new c room first second =
+      → Reads load (readText format load text) old r new → Room (blocksIn offsets sizes) old → Back image (blocksIn offsets sizes) old r new
+  back parts places format text reads old r new c room =
       comes-back load image (blocksIn offsets sizes) good (parts-exactly (length image) offsets sizes .1 parts) (placed-all load offsets sizes places)
       format text
-      reads old r new c room (omega (arith, few offsets sizes)) (omega (arith, few offsets sizes))
+      reads old r new c room
 
   -- ---- Intel HEX
 
@@ -55,9 +53,9 @@ module _ (image offsets sizes : List ℕ) (load : ℕ) (good : Bytes image) wher
         (hex-file.file-rises image offsets sizes load good (f .0) (f .1)) (hex-file.file-tells image offsets sizes load good (f .0) (f .1))
 
     -- "Reading back our own file gives the same bytes at the same addresses, touching blocks joined."
-    pub hex-back : (old : Lent) (r : Blocks) (new : Lent) → Reads load (readText 0 load (take n text₁)) old r new → length image ≤ length (old .bytes)
-        → length offsets ≤ length (old .offsets) → length offsets ≤ length (old .sizes) → Back image (blocksIn offsets sizes) old r new
-    hex-back old r new c room first second = back (hex-fit .0) (hex-fit .1) 0 (take n text₁) hex-gives old r new c room first second
+    pub hex-back : (old : Lent) (r : Blocks) (new : Lent) → Reads load (readText 0 load (take n text₁)) old r new → Room (blocksIn offsets sizes) old
+        → Back image (blocksIn offsets sizes) old r new
+    hex-back old r new c room = back (hex-fit .0) (hex-fit .1) 0 (take n text₁) hex-gives old r new c room
 
   -- ---- S-records, "proved once over both address widths"
 
@@ -78,6 +76,6 @@ module _ (image offsets sizes : List ℕ) (load : ℕ) (good : Bytes image) wher
           (srec-file.file-rises image offsets sizes load width good (f .0) (f .1 .0) (f .1 .1)) format other
           (srec-file.file-tells image offsets sizes load width good (f .0) (f .1 .0) (f .1 .1))
 
-      pub srec-back : (old : Lent) (r : Blocks) (new : Lent) → Reads load (readText format load (take n text₁)) old r new → length image ≤ length (old .bytes)
-          → length offsets ≤ length (old .offsets) → length offsets ≤ length (old .sizes) → Back image (blocksIn offsets sizes) old r new
-      srec-back old r new c room first second = back (srec-fit .0) (srec-fit .1 .1) format (take n text₁) srec-gives old r new c room first second
+      pub srec-back : (old : Lent) (r : Blocks) (new : Lent) → Reads load (readText format load (take n text₁)) old r new → Room (blocksIn offsets sizes) old
+          → Back image (blocksIn offsets sizes) old r new
+      srec-back old r new c room = back (srec-fit .0) (srec-fit .1 .1) format (take n text₁) srec-gives old r new c room

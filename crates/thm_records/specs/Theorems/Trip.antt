@@ -31,11 +31,10 @@ use Rattle.record_write.specs.Bytes.{BlockByte}
 use Rattle.record_write.specs.Theorems.Bytes.{pieces-give-exactly}
 use Rattle.record_write.specs.Theorems.Rising.{pieces-rise}
 use Rattle.thm_records.specs.Joined.{joined, InSome}
-use Rattle.thm_records.specs.Theorems.Joined.{joined-few}
 use Rattle.thm_records.specs.Laws.Joined.{joined-scaled, covered, joined-runs, inBytes, covered-some, some-covered}
 use Rattle.thm_records.specs.Laws.Joined.{edges, parts-in-order}
 use Rattle.thm_records.specs.Laws.Trip.{highest-within, part-of, rises-some, starts-first}
-use Rattle.thm_records.specs.Trip.{Back}
+use Rattle.thm_records.specs.Trip.{Room, Back}
 
 module _ (load : ℕ) (image : List ℕ) (blocks : List Block) (good : Bytes image) (parts : allParts (length image) blocks ≡ true)
     (places : allPlaced load blocks ≡ true) where
@@ -84,9 +83,9 @@ module _ (load : ℕ) (image : List ℕ) (blocks : List Block) (good : Bytes ima
       let high = s .3 in
       omega arith
 
-  -- No byte is given past the image.
-  ends-inside : (p : Piece) → List·Memᴰ p pieces → endOf p ≤ load + length image
-  ends-inside p m =
+  -- No byte is given past what the blocks' bytes are below.
+  ends-within : (n : ℕ) → ((x : ℕ) → InSome blocks x → x < n) → (p : Piece) → List·Memᴰ p pieces → endOf p ≤ load + n
+  ends-within n below p m =
       let some = rises-some 4294967296 load pieces (pieces-rise load image blocks good parts places) p m in
       let i = length (p .bytes) - 1 in
       let g : GivesAt pieces (p .address + i) (getD (p .bytes) i 0) =
@@ -94,11 +93,14 @@ module _ (load : ℕ) (image : List ℕ) (blocks : List Block) (good : Bytes ima
       let y = pieces-give-exactly load image blocks parts (p .address + i) (getD (p .bytes) i 0) .0 g in
       let x = y .of .origin / 8 + y .index in
       let s : InSome blocks x = (y .of, y .among, omega arith, omega (arith, y .inside)) in
-      let low = some-inside x s in
+      let low = below x s in
       omega (arith, y .place)
 
+  reach-within : (n : ℕ) → ((x : ℕ) → InSome blocks x → x < n) → reach load pieces ≤ n
+  reach-within n below = let h = highest-within pieces (load + n) (ends-within n below) in omega arith
+
   pub reach-inside : reach load pieces ≤ length image
-  reach-inside = let h = highest-within pieces (load + length image) ends-inside in omega arith
+  reach-inside = reach-within (length image) some-inside
 
   -- The blocks that are read are those that were written, touching ones joined.
   pub blocks-back : blocksGiven load (piecesOf load image blocks) ≡ joined blocks
@@ -117,14 +119,15 @@ module _ (load : ℕ) (image : List ℕ) (blocks : List Block) (good : Bytes ima
   -- ---- the whole outcome
 
   module _ (format : ℕ) (text : List ℕ) (reads : readText format load text ≡ sound (piecesOf load image blocks)) (old : Lent) (r : Blocks) (new : Lent)
-      (c : Reads load (readText format load text) old r new) (room : length image ≤ length (old .bytes)) (first : length blocks ≤ length (old .offsets))
-      (second : length blocks ≤ length (old .sizes)) where
-    few : length (blocksGiven load pieces) ≤ length blocks
-    few = omega (arith, ap length blocks-back, joined-few blocks)
+      (c : Reads load (readText format load text) old r new) (room : Room blocks old) where
+    reached : reach load pieces ≤ length (old .bytes)
+    reached = reach-within (length (old .bytes)) (room .bytes)
+
+    listed : (length (blocksGiven load pieces) ≤ length (old .offsets)) × (length (blocksGiven load pieces) ≤ length (old .sizes))
+    listed = (omega (arith, ap length blocks-back, room .offsets), omega (arith, ap length blocks-back, room .sizes))
 
     after : new ≡ taken load pieces old
-    after =
-        found-after load old (readText format load text) r new c pieces reads (omega (arith, reach-inside)) (omega (arith, few), omega (arith, few))
+    after = found-after load old (readText format load text) r new c pieces reads reached listed
 
     byte : (j : ℕ) → getD (new .bytes) j 0 ≡ getD (filled load pieces (old .bytes)) j 0
     byte j = ap (λ (x : Lent). getD (x .bytes) j 0) after
@@ -133,10 +136,10 @@ module _ (load : ℕ) (image : List ℕ) (blocks : List Block) (good : Bytes ima
     comes-back =
         record {
           told =
-              found-when load old (readText format load text) r new c pieces reads (omega (arith, reach-inside)) (omega (arith, few), omega (arith, few))
+              found-when load old (readText format load text) r new c pieces reads reached listed
               ∙ ap (λ (l : List Block). gives (length l)) blocks-back;
           same = λ j s.
-              byte j ∙ filled-at load pieces (old .bytes) j (omega (arith, some-inside j s))
+              byte j ∙ filled-at load pieces (old .bytes) j (room .bytes j s)
               ∙ own-byte load (sound-pieces-fine format load text pieces reads) (load + j) (getD image j 0) (getD (old .bytes) j 0) (some-gives j s);
           kept = λ j h none.
               byte j ∙ filled-at load pieces (old .bytes) j h
