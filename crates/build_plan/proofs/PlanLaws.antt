@@ -6,19 +6,18 @@ use Prim.Native.Nat.{ℕ, suc, _+_, _≤_, _<_}
 use native.Mathlib.Numerals.{add-one}
 use native.Mathlib.Omega.{arith}
 use lib.ListN.{length, replicate, length-append, length-replicate}
-use Rattle.refusal.specs.Limits.{maxBanks, maxOffer, maxNodes}
+use Rattle.refusal.specs.Limits.{maxOffer, maxNodes}
 use Rattle.refusal.specs.Pick.{pick}
 use Rattle.refusal.specs.declared.Refusal.{Refusal}
 use Rattle.refusal.specs.declared.Verdict.{Verdict}
 use Rattle.refusal.specs.declared.Verdict.the-variants.{Accepted, Refused}
-use Rattle.iter.specs.Step.{origin, startOf}
-use Rattle.iter.specs.declared.Moved.the-variants.{To}
-use Rattle.iter.specs.declared.Pos.{Pos}
+use Rattle.iter.specs.Step.{startOf}
+use Rattle.iter.specs.declared.Walk.{Walk}
 use Rattle.lists.specs.Lists.{Row}
 use Rattle.resolver.specs.Once.{Program, walkTo}
-use Rattle.resolver.specs.Stands.{Stands}
-use Rattle.resolver.specs.Laws.Stands.{stands-start}
+use Rattle.resolver.specs.Laws.Walking.{walks-start}
 use Rattle.resolver.specs.Switches.{Switches}
+use Rattle.resolver.specs.Walking.{Walks}
 use Rattle.overlap_checker.specs.State.{State, emptyState}
 use Rattle.overlap_checker.specs.Folds.{stateAfter}
 use Rattle.overlap_checker.specs.Lent.{Lent as Store, lent as store, stateIn, Sound}
@@ -34,7 +33,7 @@ use Rattle.build_sights.specs.Laws.Upto.{spansTo, lengthTo, spans-next, length-
 use Rattle.build_plan.specs.declared.Plan.{Plan}
 use Rattle.build_plan.specs.declared.Sums.{Sums}
 use Rattle.build_plan.specs.Placing.{Placed, offerOf, verdictOn, holds, stops, placedIf, placedNext, placedFrom, placedAll}
-use Rattle.build_plan.specs.Laws.PlacingLaws.{placed-append, placed-last, stops-stay, seen-placing}
+use Rattle.build_plan.specs.Laws.PlacingLaws.{placed-append, placed-last, stops-stay}
 use Rattle.build_plan.specs.Steps.{Goes}
 use Rattle.build_plan.specs.Plan.{paddingsOf, maxEnd, planRefused, planAccepted, planBy, planOf}
 use Rattle.build_plan.proofs.Carried.{carried}
@@ -44,11 +43,9 @@ abbrev placedTo : Program → Row → Bool → ℕ → Placed
 placedTo p row closed n = placedAll closed (visitsTo p row n)
 
 -- The first walk before node i: the walk of the row, a sound store that holds what is placed so far, the length and the spans so far.
-pub record Going (p : Program) (row : Row) (closed : Bool) (fill i : ℕ) (at : List Pos) (lost : List ℕ) (bank : ℕ) (s : Store) (sums : Sums)
-    : Type 0 where
+pub record Going (p : Program) (row : Row) (closed : Bool) (fill i : ℕ) (walk : Walk) (s : Store) (sums : Sums) : Type 0 where
   pub within : i ≤ length (p .kinds)
-  pub stands : Stands p row i at bank
-  pub loses : lost ≡ walkTo p row i .lost
+  pub walks : Walks p row i walk
   pub sound : Sound s
   pub placed : placedTo p row closed i ≡ holds (stateIn s)
   pub reaches : sums .length ≡ lengthTo p row fill i
@@ -82,26 +79,21 @@ module _ (p : Program) (row : Row) where
       at-either true = length-append (spansTo p row i) (spanAt (visitAt p row i) ∷ [])
       at-either false = refl
 
-  start-lost : replicate maxBanks 0 ≡ walkTo p row 0 .lost
-  unfolding walkTo startOf
-  start-lost = refl
-
   start-length : (fill : ℕ) → fill ≡ lengthTo p row fill 0
   unfolding lengthOf
   start-length fill = ap (lengthOf fill) (sym (items-none p row))
 
   -- the walk begins
   pub begins : Switches (p .banks .len) (p .kinds) (p .operands) → (closed : Bool) (fill : ℕ) → fill ≤ maxOffer
-      → {at : List Pos} → at ≡ replicate maxBanks origin → {x : Offered} → x ≡ record { verdict = Accepted; count = 0; marks = 0 }
+      → {walk : Walk} → walk ≡ startOf → {x : Offered} → x ≡ record { verdict = Accepted; count = 0; marks = 0 }
       → {sums : Sums} → sums ≡ record { length = fill; spans = 0 }
-      → Going p row closed fill 0 at (replicate 16 0) 0 (store (replicate 512 0) (replicate 512 0) (x .count) (replicate 512 0) (x .marks)) sums
+      → Going p row closed fill 0 walk (store (replicate 512 0) (replicate 512 0) (x .count) (replicate 512 0) (x .marks)) sums
   begins switches closed fill b a e f =
-      rw (a, e, f)
+      rw (e, f)
       (let none = store (replicate 512 0) (replicate 512 0) 0 (replicate 512 0) 0 in
       record {
         within = omega arith;
-        stands = stands-start p switches row;
-        loses = start-lost;
+        walks = walks-start p switches row a;
         sound =
             sound-none none (length-replicate {A = ℕ} 512 0) (length-replicate {A = ℕ} 512 0) (length-replicate {A = ℕ} 512 0) refl refl;
         placed = placed-none closed ∙ ap holds (sym (state-none none refl refl));
@@ -111,8 +103,8 @@ module _ (p : Program) (row : Row) where
         few = omega arith;
       })
 
-  module _ (closed : Bool) (fill i : ℕ) {at : List Pos} {lost : List ℕ} {bank : ℕ} {s : Store} {sums : Sums}
-      (g : Going p row closed fill i at lost bank s sums) (v : Visit) (visited : v ≡ visitAt p row i) {r : Verdict}
+  module _ (closed : Bool) (fill i : ℕ) {walk : Walk} {s : Store} {sums : Sums}
+      (g : Going p row closed fill i walk s sums) (v : Visit) (visited : v ≡ visitAt p row i) {r : Verdict}
       (answer : r ≡ verdictOn closed (stateIn s) v) where
     placed-then : placedTo p row closed (suc i) ≡ placedIf r (stateAfter (stateIn s) (offerOf v))
     placed-then =
@@ -129,18 +121,15 @@ module _ (p : Program) (row : Row) where
         (placed-then ∙ ap (λ (x : Verdict). placedIf x (stateAfter (stateIn s) (offerOf v))) e)))
 
     -- an accepted node hands on
-    pub goes-on : i < length (p .kinds) → r ≡ Accepted → {at′ : List Pos} {lost′ : List ℕ} {bank′ : ℕ} {s′ : Store} {sums′ : Sums}
-        → Stands p row (i + 1) at′ bank′ → ((q : Pos) → v .seen ≡ To q → lost′ ≡ walkTo p row (i + 1) .lost)
+    pub goes-on : i < length (p .kinds) → r ≡ Accepted → {walk′ : Walk} {s′ : Store} {sums′ : Sums} → Walks p row (i + 1) walk′
         → Goes s (offerOf v) r s′
         → sums′ .length ≡ lengthOf (sums .length) (itemOf v) → sums′ .length ≤ maxEnd
         → sums′ .spans ≡ pick (isSpan (v .node)) (sums .spans + 1) (sums .spans)
-        → Going p row closed fill (i + 1) at′ lost′ bank′ s′ sums′
-    goes-on b acc stands loses goes reaches low adds =
-        let seen = seen-placing closed (stateIn s) v (v .seen) (sym answer ∙ acc) in
+        → Going p row closed fill (i + 1) walk′ s′ sums′
+    goes-on b acc walks goes reaches low adds =
         record {
           within = omega arith;
-          stands = stands;
-          loses = loses (seen .0) (seen .1);
+          walks = walks;
           sound = goes .sound;
           placed = rw add-one
               (placed-then ∙ ap (λ (x : Verdict). placedIf x (stateAfter (stateIn s) (offerOf v))) acc ∙ ap holds (sym (goes .state acc)));
@@ -161,17 +150,21 @@ module _ (p : Program) (row : Row) where
         adds-few false k = omega arith
 
   -- all nodes are placed
-  pub ends : (closed : Bool) (fill i : ℕ) {at : List Pos} {lost : List ℕ} {bank : ℕ} {s : Store} {sums : Sums}
-      → Going p row closed fill i at lost bank s sums → length (p .kinds) ≤ i → length (p .kinds) ≤ maxNodes
-      → planAccepted (sums .length) (sums .spans) lost ≡ planOf p row closed fill
-  ends closed fill i {lost = lost} {s = s} {sums = sums} g b few =
+  pub ends : (closed : Bool) (fill i : ℕ) {walk : Walk} {s : Store} {sums : Sums} → Going p row closed fill i walk s sums → length (p .kinds) ≤ i → length (p .kinds) ≤ maxNodes
+      → planAccepted (sums .length) (sums .spans) (walk .lost) ≡ planOf p row closed fill
+  ends closed fill i {walk = walk} {s = s} {sums = sums} g b few =
       let n = length (p .kinds) in
       let all : i ≡ n = omega (arith, g .within) in
       let last = subst (λ (k : ℕ). placedTo p row closed k ≡ holds (stateIn s)) all (g .placed) in
       let bits : sums .length ≡ lengthTo p row fill n = g .reaches ∙ ap (lengthTo p row fill) all in
       let many : sums .spans ≡ length (spansTo p row n) = g .counts ∙ ap (λ (k : ℕ). length (spansTo p row k)) all in
-      let paddings : lost ≡ paddingsOf p row = g .loses ∙ ap (λ (k : ℕ). walkTo p row k .lost) all ∙ carried p row closed _ few last in
-      ap (λ (k : ℕ). planAccepted k (sums .spans) lost) bits
-      ∙ ap (λ (k : ℕ). planAccepted (lengthTo p row fill n) k lost) many
+      let paddings : walk .lost ≡ paddingsOf p row = ap (λ (x : Walk). x .lost) (sym (g .walks .is)) ∙ ap (λ (k : ℕ). walkTo p row k .lost) all ∙ carried p row closed _ few last in
+      ap (λ (k : ℕ). planAccepted k (sums .spans) (walk .lost)) bits
+      ∙ ap (λ (k : ℕ). planAccepted (lengthTo p row fill n) k (walk .lost)) many
       ∙ ap (planAccepted (lengthTo p row fill n) (length (spansTo p row n))) paddings
       ∙ sym (ap (planBy (lengthTo p row fill n) (length (spansTo p row n)) (paddingsOf p row)) last)
+
+  -- and the walk is the row's
+  pub ended : (closed : Bool) (fill i : ℕ) {walk : Walk} {s : Store} {sums : Sums} → Going p row closed fill i walk s sums → length (p .kinds) ≤ i
+      → walk ≡ walkTo p row (length (p .kinds))
+  ended closed fill i g b = let all : i ≡ length (p .kinds) = omega (arith, g .within) in sym (g .walks .is) ∙ ap (walkTo p row) all

@@ -7,13 +7,14 @@ use bankdef::Bankdef;
 use bankdef::Bankdefs;
 use build_sights::is_span;
 use build_sights::is_written;
-use build_sights::origins;
 use build_sights::see_node;
 pub use checks::closes_default;
 use iter::Moved;
 use iter::Node;
+use iter::Walk;
 use iter::bank_after;
 use iter::lost_after;
+use iter::start;
 use lists::node_at;
 use overlap_checker::Offered;
 use refusal::LABEL;
@@ -28,6 +29,8 @@ ghost use Rattle.refusal.specs.Limits.{maxOffer, maxNodes};
 ghost use Rattle.refusal.specs.Pick.{pick};
 ghost use Rattle.refusal.specs.declared.Offset.the-variants.{At as Out};
 ghost use Rattle.refusal.specs.declared.Verdict.the-variants.{Accepted};
+ghost use Rattle.iter.specs.Step.{startOf};
+ghost use Rattle.resolver.specs.Once.{walkTo};
 ghost use Rattle.resolver.specs.Switches.{Switches};
 ghost use Rattle.overlap_checker.specs.Lent.{lent as store, stateIn, Sound};
 ghost use Rattle.build_sights.specs.Items.{itemAt, lengthOf};
@@ -240,7 +243,91 @@ fn none_stored() -> Offered
     }
 }
 
-// The first walk over the row of the last pass. It decides everything and writes nothing that is lent.
+// The first walk over a row, and what it leaves, handed back by value.
+struct Planned {
+    plan: Plan,
+    walk: Walk,
+}
+
+fn stopped(why: Refusal, walk: Walk) -> Planned
+    ensures { λ r. ⌜ r .plan ≡ planRefused why ⌝ }
+{
+    Planned {
+        plan: refused_plan(why),
+        walk,
+    }
+}
+
+// The first walk over the row of the last pass. It decides everything and writes nothing that is lent. "bank positions, an array of 16 in the walk's state":
+// the walk comes by value, each step is stored into it, and it goes back as the row leaves it, with the bits that each bank has lost.
+fn plan_walk(
+    banks: Bankdefs,
+    kinds: &[u8],
+    operands: &[u32],
+    first: &[u32],
+    numbers: &[u32],
+    states: &[u8],
+    begun: Walk,
+    closed: bool,
+    fill: u64,
+) -> Planned
+    requires { ⌜ (fill ≤ maxOffer) × (length (now kinds) ≤ maxNodes) ⌝ }
+    requires { ⌜ Switches (banks .len) (now kinds) (now operands) ⌝ }
+    requires { ⌜ begun ≡ startOf ⌝ }
+    ensures { λ r. ⌜
+        r .plan ≡ planOf (programOf banks (now (kinds .entry)) (now (operands .entry)) (now (first .entry)))
+        (rowOf (now (numbers .entry)) (now (states .entry))) closed fill
+        ⌝ }
+    ensures { λ r. ⌜ r .plan .length ≤ maxEnd ⌝ }
+    ensures { λ r. ⌜ (r .plan .verdict ≡ Accepted
+        → r .walk ≡ walkTo (programOf banks (now (kinds .entry)) (now (operands .entry)) (now (first .entry)))
+        (rowOf (now (numbers .entry)) (now (states .entry))) (length (now (kinds .entry)))) ⌝ }
+{
+    let mut positions = [0u64; 512];
+    let mut sizes = [0u64; 512];
+    let mut marks = [0u64; 512];
+    let mut stored = none_stored();
+    let mut walk = begun;
+    let mut sums = no_sums(fill);
+    let mut i = 0;
+    while i < kinds.len() {
+        let node = node_at(kinds, operands, first, numbers, states, i);
+        let bank = bank_after(walk.bank, node);
+        let sight = see_node(banks.defs[bank as usize], walk.at[bank as usize], node);
+        let seen = sight.seen;
+        let out = sight.out;
+        stored = place(
+            closed,
+            bank,
+            banks.defs[bank as usize],
+            node,
+            seen,
+            out,
+            &mut positions,
+            &mut sizes,
+            stored.count,
+            &mut marks,
+            stored.marks,
+        );
+        let verdict = stored.verdict;
+        if let Verdict::Refused(why) = verdict {
+            return stopped(why, walk);
+        }
+        sums = sums_after(node, out, sums);
+        let after = sight.after;
+        walk.at[bank as usize] = after;
+        walk.lost[bank as usize] = lost_after(walk.lost[bank as usize], sight.bits);
+        walk.bank = bank;
+        i += 1;
+    }
+    let lost = walk.lost;
+    Planned {
+        plan: accepted_plan(sums, lost),
+        walk,
+    }
+}
+
+// The plan of a row, whose walk begins at the start: "Each bank's position starts at 0, known .. The walk begins in bank 0."
 pub fn plan_row(
     banks: Bankdefs,
     kinds: &[u8],
@@ -259,43 +346,16 @@ pub fn plan_row(
         ⌝ }
     ensures { λ r. ⌜ r .length ≤ maxEnd ⌝ }
 {
-    let mut positions = [0u64; 512];
-    let mut sizes = [0u64; 512];
-    let mut marks = [0u64; 512];
-    let mut stored = none_stored();
-    let mut at = origins();
-    let mut lost = [0u64; 16];
-    let mut bank: u64 = 0;
-    let mut sums = no_sums(fill);
-    let mut i = 0;
-    while i < kinds.len() {
-        let node = node_at(kinds, operands, first, numbers, states, i);
-        bank = bank_after(bank, node);
-        let sight = see_node(banks.defs[bank as usize], at[bank as usize], node);
-        let seen = sight.seen;
-        let out = sight.out;
-        stored = place(
-            closed,
-            bank,
-            banks.defs[bank as usize],
-            node,
-            seen,
-            out,
-            &mut positions,
-            &mut sizes,
-            stored.count,
-            &mut marks,
-            stored.marks,
-        );
-        let verdict = stored.verdict;
-        if let Verdict::Refused(why) = verdict {
-            return refused_plan(why);
-        }
-        sums = sums_after(node, out, sums);
-        let after = sight.after;
-        at[bank as usize] = after;
-        lost[bank as usize] = lost_after(lost[bank as usize], sight.bits);
-        i += 1;
-    }
-    accepted_plan(sums, lost)
+    let planned = plan_walk(
+        banks,
+        kinds,
+        operands,
+        first,
+        numbers,
+        states,
+        start(),
+        closed,
+        fill,
+    );
+    planned.plan
 }

@@ -1,4 +1,4 @@
--- A loop that keeps the banks' positions by themselves meets the visits of its row.
+-- A loop that stores each step into its own walk meets the visits of its row.
 use Prim.Native.Nat.{ℕ, suc}
 use Rattle.bankdef.specs.declared.Bankdef.{Bankdef}
 use Rattle.iter.specs.declared.Node.{Node}

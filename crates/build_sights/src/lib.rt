@@ -11,11 +11,9 @@ use refusal::OPEN_DATA;
 use refusal::Offset;
 ghost use mathlib.Core.Path.{_≡_};
 ghost use Prim.Native.Nat.{ℕ, _≤_};
-ghost use lib.ListN.{replicate};
-ghost use Rattle.refusal.specs.Limits.{maxBanks, maxOffer};
+ghost use Rattle.refusal.specs.Limits.{maxOffer};
 ghost use Rattle.refusal.specs.declared.Offset.the-variants.{At as Out};
 ghost use Rattle.iter.specs.Address.{outputPosition};
-ghost use Rattle.iter.specs.Step.{origin};
 ghost use Rattle.build_sights.specs.Items.{isWritten};
 ghost use Rattle.build_sights.specs.Spans.{isSpan, sizeOf};
 ghost use Rattle.build_sights.specs.Visits.{programOf, rowOf, seenPos, sightOf, visitOf};
@@ -39,17 +37,6 @@ fn out_of(def: Bankdef, seen: Moved) -> Offset
         Moved::To(at) => iter::get_output_position(def, at.position),
         Moved::Refused(_) => iter::get_output_position(def, 0),
     }
-}
-
-// "Each bank's position starts at 0, known"
-pub fn origins() -> [Pos; 16]
-    ensures { λ r. ⌜ r ≡ replicate maxBanks origin ⌝ }
-{
-    let origin = Pos {
-        position: 0,
-        known: true,
-    };
-    [origin; 16]
 }
 
 // What a node shows in its bank alone: the position that it sees, where that is in the output, the bits that it loses there, and the bank's

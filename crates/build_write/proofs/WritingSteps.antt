@@ -8,22 +8,21 @@ use native.Mathlib.Numerals.{add-one}
 use native.Mathlib.Omega.{arith}
 use borrow.Author.Tests.{le-leb}
 use lib.IntN.{ℤ}
-use lib.ListN.{length, replicate, set, length-map}
-use Rattle.refusal.specs.Limits.{maxBanks}
+use lib.ListN.{length, set, length-map}
 use Rattle.refusal.specs.Pick.{pick}
 use Rattle.refusal.specs.Laws.Pick.{pick-true}
 use Rattle.refusal.specs.declared.Offset.{Offset}
 use Rattle.refusal.specs.declared.Offset.the-variants.{None as Nowhere, At as Out}
 use Rattle.bitvec.specs.Written.{written, isWritten as passesNoEnd}
 use Rattle.blocks.specs.Offsets.{wordOf}
-use Rattle.iter.specs.Step.{origin}
+use Rattle.iter.specs.Step.{startOf}
 use Rattle.iter.specs.declared.Node.{Node}
-use Rattle.iter.specs.declared.Pos.{Pos}
+use Rattle.iter.specs.declared.Walk.{Walk}
 use Rattle.lists.specs.Lists.{Row}
 use Rattle.resolver.specs.Once.{Program, node}
-use Rattle.resolver.specs.Stands.{Stands}
-use Rattle.resolver.specs.Laws.Stands.{stands-start}
+use Rattle.resolver.specs.Laws.Walking.{walks-start}
 use Rattle.resolver.specs.Switches.{Switches}
+use Rattle.resolver.specs.Walking.{Walks}
 use Rattle.build_sights.specs.declared.Visit.{Visit}
 use Rattle.build_sights.specs.Visits.{visitAt, visits}
 use Rattle.build_sights.specs.Laws.VisitLaws.{visit-member, each-member}
@@ -71,10 +70,10 @@ size-at span = span .size
 
 -- The walk of the row, the image with the items before node i over `blank`, and their spans at the front of the three lists, which held `old₁`, `old₂`
 -- and `old₃`.
-pub record Writing (p : Program) (row : Row) (values blank : List ℕ) (old₁ : List ℤ) (old₂ old₃ : List ℕ) (i : ℕ) (at : List Pos) (bank count : ℕ)
+pub record Writing (p : Program) (row : Row) (values blank : List ℕ) (old₁ : List ℤ) (old₂ old₃ : List ℕ) (i : ℕ) (walk : Walk) (count : ℕ)
     (image : List ℕ) (list₁ : List ℤ) (list₂ list₃ : List ℕ) : Type 0 where
   pub within : i ≤ length (p .kinds)
-  pub stands : Stands p row i at bank
+  pub walks : Walks p row i walk
   pub drawn : image ≡ imageTo p row values blank i
   pub counts : count ≡ length (spansTo p row i)
   pub first : list₁ ≡ over (map address-at (spansTo p row i)) old₁
@@ -143,22 +142,21 @@ module _ (p : Program) (row : Row) where
 
   module _ (values blank : List ℕ) (old₁ : List ℤ) (old₂ old₃ : List ℕ) where
     -- the walk begins
-    pub begins : Switches (p .banks .len) (p .kinds) (p .operands) → {at : List Pos} → at ≡ replicate maxBanks origin
-        → Writing p row values blank old₁ old₂ old₃ 0 at 0 0 blank old₁ old₂ old₃
+    pub begins : Switches (p .banks .len) (p .kinds) (p .operands) → {walk : Walk} → walk ≡ startOf
+        → Writing p row values blank old₁ old₂ old₃ 0 walk 0 blank old₁ old₂ old₃
     begins switches a =
-        rw a
-        (record {
+        record {
           within = omega arith;
-          stands = stands-start p switches row;
+          walks = walks-start p switches row a;
           drawn = image-start values blank;
           counts = ap length (sym (spans-none p row));
           first = list-start address-at old₁;
           second = list-start word-at old₂;
           third = list-start size-at old₃;
-        })
+        }
 
-    module _ (i : ℕ) {at : List Pos} {bank count : ℕ} {image : List ℕ} {list₁ : List ℤ} {list₂ list₃ : List ℕ}
-        (g : Writing p row values blank old₁ old₂ old₃ i at bank count image list₁ list₂ list₃)
+    module _ (i : ℕ) {walk : Walk} {count : ℕ} {image : List ℕ} {list₁ : List ℤ} {list₂ list₃ : List ℕ}
+        (g : Writing p row values blank old₁ old₂ old₃ i walk count image list₁ list₂ list₃)
         (room : HasRoom (visits p row) (length values) (length blank) (length old₁) (length old₂) (length old₃)) where
       pub same-image : length image ≡ length blank
       same-image = ap length (g .drawn) ∙ image-keeps values blank i
@@ -187,18 +185,18 @@ module _ (p : Program) (row : Row) where
         )
 
         -- a node is written
-        pub goes-on : {at′ : List Pos} {bank′ count′ : ℕ} {image′ : List ℕ} {list₁′ : List ℤ} {list₂′ list₃′ : List ℕ}
-            → Stands p row (i + 1) at′ bank′
+        pub goes-on : {walk′ : Walk} {count′ : ℕ} {image′ : List ℕ} {list₁′ : List ℤ} {list₂′ list₃′ : List ℕ}
+            → Walks p row (i + 1) walk′
             → image′ ≡ imageOf values image (itemOf v)
             → count′ ≡ pick (isSpan (v .node)) (count + 1) count
             → list₁′ ≡ pick (isSpan (v .node)) (set list₁ count (address-at (spanAt v))) list₁
             → list₂′ ≡ pick (isSpan (v .node)) (set list₂ count (word-at (spanAt v))) list₂
             → list₃′ ≡ pick (isSpan (v .node)) (set list₃ count (size-at (spanAt v))) list₃
-            → Writing p row values blank old₁ old₂ old₃ (i + 1) at′ bank′ count′ image′ list₁′ list₂′ list₃′
-        goes-on stands drawn counts first second third =
+            → Writing p row values blank old₁ old₂ old₃ (i + 1) walk′ count′ image′ list₁′ list₂′ list₃′
+        goes-on walks drawn counts first second third =
             record {
               within = omega arith;
-              stands = stands;
+              walks = walks;
               drawn = drawn ∙ ap (λ (m : List ℕ). imageOf values m (itemOf v)) (g .drawn)
                   ∙ ap (λ (w : Visit). imageOf values (imageTo p row values blank i) (itemOf w)) visited
                   ∙ rw add-one (sym (image-step p row values blank i));
@@ -209,7 +207,7 @@ module _ (p : Program) (row : Row) where
             }
 
       -- all nodes are
-      pub ends : length (p .kinds) ≤ i → Writing p row values blank old₁ old₂ old₃ (length (p .kinds)) at bank count image list₁ list₂ list₃
+      pub ends : length (p .kinds) ≤ i → Writing p row values blank old₁ old₂ old₃ (length (p .kinds)) walk count image list₁ list₂ list₃
       ends b =
           let all : i ≡ length (p .kinds) = omega (arith, g .within) in
-          subst (λ (k : ℕ). Writing p row values blank old₁ old₂ old₃ k at bank count image list₁ list₂ list₃) all g
+          subst (λ (k : ℕ). Writing p row values blank old₁ old₂ old₃ k walk count image list₁ list₂ list₃) all g

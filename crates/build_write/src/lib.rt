@@ -6,13 +6,14 @@ use bankdef::Bankdef;
 use bankdef::Bankdefs;
 use build_sights::is_span;
 use build_sights::is_written;
-use build_sights::origins;
 use build_sights::see_node;
 use build_sights::size_of;
 use iter::Address;
 use iter::Moved;
 use iter::Node;
 use iter::bank_after;
+use iter::lost_after;
+use iter::start;
 use lists::node_at;
 use refusal::Offset;
 ghost use mathlib.Core.Path.{_≡_};
@@ -139,21 +140,22 @@ pub fn write_row(
         ⌝ }
 {
     lay_blank(banks, bits, image);
-    let mut at = origins();
-    let mut bank: u64 = 0;
+    let mut walk = start();
     let mut count = 0;
     let mut i = 0;
     while i < kinds.len() {
         let node = node_at(kinds, operands, first, numbers, states, i);
-        bank = bank_after(bank, node);
+        let bank = bank_after(walk.bank, node);
         let def = banks.defs[bank as usize];
-        let sight = see_node(def, at[bank as usize], node);
+        let sight = see_node(def, walk.at[bank as usize], node);
         let seen = sight.seen;
         let out = sight.out;
         write_item(node, out, values, image);
         count = put_span(node, def, seen, out, count, addresses, offsets, sizes);
         let after = sight.after;
-        at[bank as usize] = after;
+        walk.at[bank as usize] = after;
+        walk.lost[bank as usize] = lost_after(walk.lost[bank as usize], sight.bits);
+        walk.bank = bank;
         i += 1;
     }
 }

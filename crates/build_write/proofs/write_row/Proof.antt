@@ -1,13 +1,14 @@
 -- `write_row` meets its contract. The loop's invariant is `Writing`: each node is written by a law of WritingSteps.
-use mathlib.Core.Path.{_≡_, refl, sym, ap, _∙_}
+use mathlib.Core.Path.{_≡_, refl, sym, ap, subst, _∙_}
 use mathlib.Core.List.{List}
 use Prim.Native.Nat.{ℕ, _+_, _-_, _≤_, _<_}
 use native.Mathlib.Omega.{arith}
-use lib.ListN.{length, length-map}
+use lib.ListN.{length, length-map, set}
 use borrow.Author.Needs.{needs}
 use Rattle.bankdef.specs.Check.{banksOf}
 use Rattle.lists.specs.Lists.{Row}
 use Rattle.resolver.specs.Once.{Program}
+use Rattle.resolver.specs.Walking.{Walks}
 use Rattle.build_sights.specs.Theorems.Sights.{bank-listed, sight-is-visit, sight-next}
 use Rattle.build_sights.specs.Laws.Upto.{imageTo}
 use Rattle.build_sights.specs.Visits.{programOf, rowOf, visits}
@@ -19,13 +20,13 @@ use Rattle.build_write.proofs.write_row.Statement.{statement}
 use Rattle.build_write.proofs.write_row.Tie as tie
 
 abbrev Inv-loop : tie.InvT-loop
-Inv-loop kinds operands first numbers states values bits image₀ addresses₀ offsets₀ sizes₀ banks at₀ bank₀ count₀ i₀
-    image addresses offsets sizes at bank count i =
-    Writing (programOf banks kinds operands first) (rowOf numbers states) values image₀ addresses₀ offsets₀ sizes₀ i at bank count image addresses offsets sizes
+Inv-loop kinds operands first numbers states values bits image₀ addresses₀ offsets₀ sizes₀ banks walk₀ count₀ i₀
+    image addresses offsets sizes walk count i =
+    Writing (programOf banks kinds operands first) (rowOf numbers states) values image₀ addresses₀ offsets₀ sizes₀ i walk count image addresses offsets sizes
 
 abbrev μ-loop : tie.MeasureT-loop
-μ-loop kinds operands first numbers states values bits image₀ addresses₀ offsets₀ sizes₀ banks at₀ bank₀ count₀ i₀
-    image addresses offsets sizes at bank count i =
+μ-loop kinds operands first numbers states values bits image₀ addresses₀ offsets₀ sizes₀ banks walk₀ count₀ i₀
+    image addresses offsets sizes walk count i =
     length kinds - i
 
 -- ---- the places, each from the next
@@ -100,19 +101,19 @@ roomy h = rw (same-blank (blanked h)) (start h .pre .1)
 listed : (c : Banked) → c .bank-after .result < 16
 listed c =
     let h = head c in
-    bank-listed (given h) (start h .pre .0) (table h) (row h) (h .loop .i) (h .loop .inv .stands) (c .before .node-at .ensures) (c .bank-after .ensures)
+    bank-listed (given h) (start h .pre .0) (table h) (row h) (h .loop .i) (h .loop .inv .walks) (c .before .node-at .ensures) (c .bank-after .ensures)
 
 lay-blank-requires : tie.Need-lay-blank-requires Inv-loop μ-loop
 lay-blank-requires c κs = search needs
 
-origins-requires : tie.Need-origins-requires Inv-loop μ-loop
-origins-requires c κs = search needs
+start-requires : tie.Need-start-requires Inv-loop μ-loop
+start-requires c κs = search needs
 
 loop-holds : tie.Need-loop-holds Inv-loop μ-loop
 loop-holds c =
     let a = entry (c .before .before .before) .args in
     begins (programOf (a .t1) (a .kinds .now) (a .operands .now) (a .first .now)) (rowOf (a .numbers .now) (a .states .now)) (a .values .now)
-    (blank (c .before .before .before)) (a .addresses .now) (a .offsets .now) (a .sizes .now) (entry (c .before .before .before) .pre .0) (c .origins .ensures)
+    (blank (c .before .before .before)) (a .addresses .now) (a .offsets .now) (a .sizes .now) (entry (c .before .before .before) .pre .0) (c .start .ensures)
 
 node-at-requires : tie.Need-node-at-requires Inv-loop μ-loop
 node-at-requires c κs = search needs
@@ -129,8 +130,8 @@ element-copy-out-def c = omega (arith, listed c, table (head c))
 mul-see-node : tie.Need-mul-see-node Inv-loop μ-loop
 mul-see-node c = omega (arith, listed (c .before))
 
-array-copy-out-see-node : tie.Need-array-copy-out-see-node Inv-loop μ-loop
-array-copy-out-see-node c = omega (arith, listed (c .before))
+element-copy-out-see-node : tie.Need-element-copy-out-see-node Inv-loop μ-loop
+element-copy-out-see-node c = omega (arith, listed (c .before), head (c .before) .loop .inv .walks .sixteen)
 
 see-node-requires : tie.Need-see-node-requires Inv-loop μ-loop
 see-node-requires c κs = search needs
@@ -142,7 +143,7 @@ write-item-requires c κs =
     let h = head b in
     let a = start h .args in
     item-fits (given h) (row h) (a .values .now) (blank (blanked h)) (a .addresses .now) (a .offsets .now) (a .sizes .now) (h .loop .i) (h .loop .inv) (roomy h)
-    (sight-is-visit (given h) (start h .pre .0) (table h) (row h) (h .loop .i) (h .loop .inv .stands) (b .before .node-at .ensures) (b .bank-after .ensures)
+    (sight-is-visit (given h) (start h .pre .0) (table h) (row h) (h .loop .i) (h .loop .inv .walks) (b .before .node-at .ensures) (b .bank-after .ensures)
     _ _ _ refl (g .see-node .ensures .0))
     (b .before .before .loop-test .taken)
 
@@ -153,40 +154,77 @@ put-span-requires c κs =
     let h = head b in
     let a = start h .args in
     spans-fit (given h) (row h) (a .values .now) (blank (blanked h)) (a .addresses .now) (a .offsets .now) (a .sizes .now) (h .loop .i) (h .loop .inv) (roomy h)
-    (sight-is-visit (given h) (start h .pre .0) (table h) (row h) (h .loop .i) (h .loop .inv .stands) (b .before .node-at .ensures) (b .bank-after .ensures)
+    (sight-is-visit (given h) (start h .pre .0) (table h) (row h) (h .loop .i) (h .loop .inv .walks) (b .before .node-at .ensures) (b .bank-after .ensures)
     _ _ _ refl (g .see-node .ensures .0))
     (b .before .before .loop-test .taken)
 
-mul-at : tie.Need-mul-at Inv-loop μ-loop
-mul-at c = omega (arith, listed (banked (sighted (itemed (c .before .before .before .before .before .before)))))
+-- where node i's step is stored, from the place where its span is put
+abbrev spanned : tie.After-lost-after Inv-loop μ-loop → Spanned
+spanned c = c .before .before .before .before .before .before .before .before
 
-array-set-from-at : tie.Need-array-set-from-at Inv-loop μ-loop
-array-set-from-at c = omega (arith, listed (banked (sighted (itemed (c .before .before .before .before .before .before)))))
+-- the walk after node i, with its step stored
+next : (c : tie.After-lost-after Inv-loop μ-loop) →
+    let g = sighted (itemed (c .before .before .before .before .before .before .before .before)) in
+    let b = banked g in
+    let h = head b in
+    Walks (given h) (row h) (h .loop .i + 1) (record {
+      at = set (h .loop .walk .at) (b .bank-after .result) (g .see-node .result .after);
+      lost = set (h .loop .walk .lost) (b .bank-after .result) (c .lost-after .result);
+      bank = b .bank-after .result;
+    })
+next c =
+    let g = sighted (itemed (c .before .before .before .before .before .before .before .before)) in
+    let b = banked g in
+    let h = head b in
+    subst (λ (x : ℕ). Walks (given h) (row h) (h .loop .i + 1) (record {
+      at = set (h .loop .walk .at) (b .bank-after .result) (g .see-node .result .after);
+      lost = set (h .loop .walk .lost) (b .bank-after .result) x;
+      bank = b .bank-after .result;
+    }))
+    (sym (c .lost-after .ensures))
+    (sight-next (given h) (start h .pre .0) (table h) (row h) (h .loop .i) (h .loop .inv .walks) (b .before .node-at .ensures) (b .bank-after .ensures)
+    _ _ _ refl (g .see-node .ensures .0))
+
+mul-after : tie.Need-mul-after Inv-loop μ-loop
+mul-after c = omega (arith, listed (banked (sighted (itemed (c .before .before .before .before .before .before)))))
+
+element-set-from-after : tie.Need-element-set-from-after Inv-loop μ-loop
+element-set-from-after c = let b = banked (sighted (itemed (c .before .before .before .before .before .before))) in omega (arith, listed b, head b .loop .inv .walks .sixteen)
+
+mul-lost-after : tie.Need-mul-lost-after Inv-loop μ-loop
+mul-lost-after c = omega (arith, listed (banked (sighted (itemed (c .before .before .before .before .before .before)))))
+
+element-copy-out-lost-after : tie.Need-element-copy-out-lost-after Inv-loop μ-loop
+element-copy-out-lost-after c = let b = banked (sighted (itemed (c .before .before .before .before .before .before))) in omega (arith, listed b, head b .loop .inv .walks .sums)
+
+lost-after-requires : tie.Need-lost-after-requires Inv-loop μ-loop
+lost-after-requires c κs = search needs
+
+mul-walk : tie.Need-mul-walk Inv-loop μ-loop
+mul-walk c = omega (arith, listed (banked (sighted (itemed (spanned c)))))
+
+element-write-walk : tie.Need-element-write-walk Inv-loop μ-loop
+element-write-walk c = let b = banked (sighted (itemed (spanned c))) in omega (arith, listed b, head b .loop .inv .walks .sums)
 
 add-i : tie.Need-add-i Inv-loop μ-loop
-add-i c =
-    let b = banked (sighted (itemed (c .before .before .before .before .before .before))) in
-    omega (arith, b .before .before .loop-test .taken, start (head b) .good)
+add-i c = let b = banked (sighted (itemed (spanned c))) in omega (arith, b .before .before .loop-test .taken, start (head b) .good)
 
 loop-less : tie.Need-loop-less Inv-loop μ-loop
-loop-less c =
-    let b = banked (sighted (itemed (c .before .before .before .before .before .before))) in
-    omega (arith, b .before .before .loop-test .taken)
+loop-less c = let b = banked (sighted (itemed (spanned c))) in omega (arith, b .before .before .loop-test .taken)
 
 loop-again : tie.Need-loop-again Inv-loop μ-loop
 loop-again c =
-    let n = c .before .before .before .before .before .before in
+    let n = spanned c in
     let g = sighted (itemed n) in
     let b = banked g in
     let h = head b in
     let a = start h .args in
     let put = n .put-span .ensures in
     goes-on (given h) (row h) (a .values .now) (blank (blanked h)) (a .addresses .now) (a .offsets .now) (a .sizes .now) (h .loop .i) (h .loop .inv) (roomy h)
-    (sight-is-visit (given h) (start h .pre .0) (table h) (row h) (h .loop .i) (h .loop .inv .stands) (b .before .node-at .ensures) (b .bank-after .ensures)
+    (sight-is-visit (given h) (start h .pre .0) (table h) (row h) (h .loop .i) (h .loop .inv .walks) (b .before .node-at .ensures) (b .bank-after .ensures)
     _ _ _ refl (g .see-node .ensures .0))
     (b .before .before .loop-test .taken)
-    (sight-next (given h) (start h .pre .0) (table h) (row h) (h .loop .i) (h .loop .inv .stands) (b .before .node-at .ensures) (b .bank-after .ensures)
-    _ _ _ refl (g .see-node .ensures .0))
+    (next c)
     (itemed n .write-item .ensures) (put .0) (put .1 .0) (put .1 .1 .0) (put .1 .1 .1)
 
 same-length : tie.Need-same-length Inv-loop μ-loop
@@ -237,19 +275,24 @@ write-row-spec =
     Inv-loop
     μ-loop
     lay-blank-requires
-    origins-requires
+    start-requires
     loop-holds
     node-at-requires
     bank-after-requires
     mul-def
     element-copy-out-def
     mul-see-node
-    array-copy-out-see-node
+    element-copy-out-see-node
     see-node-requires
     write-item-requires
     put-span-requires
-    mul-at
-    array-set-from-at
+    mul-after
+    element-set-from-after
+    mul-lost-after
+    element-copy-out-lost-after
+    lost-after-requires
+    mul-walk
+    element-write-walk
     add-i
     loop-less
     loop-again
