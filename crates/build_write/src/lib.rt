@@ -140,6 +140,7 @@ pub fn write_row(
         ⌝ }
 {
     lay_blank(banks, bits, image);
+    // "bank positions, an array of 16 in the walk's state": each step is stored into the walk, which begins at the start
     let mut walk = start();
     let mut count = 0;
     let mut i = 0;
