@@ -17,8 +17,8 @@ use Rattle.bitvec.specs.Theorems.Bits.{same-bits}
 use Rattle.bitvec.specs.Written.{written}
 use Rattle.bitvec.specs.Theorems.Written.{length-written, bytes-written, bitAt-written, writtenBit-inside, written-other}
 use Rattle.says_build.specs.Build as b
-use Rattle.says_build.specs.Build.{Given, Lent, Outcome, Not, nodes, kind, operand, flag, IsWritten, Number, In, Sees, Offer, Refuses, IsSpan, Spans, SpanAt}
-use Rattle.says_build.specs.Build.{OfItem, Fills}
+use Rattle.says_build.specs.Build.{Given, Lent, Outcome, Not, nodes, kind, operand, flag, IsWritten, Number, In, Sees, Offer}
+use Rattle.says_build.specs.Build.{Refuses, IsSpan, Spans, SpanAt, OfItem, Fills}
 use Rattle.says_build.specs.Laws.One.{three, offer-one}
 use Rattle.says_build.specs.InTurn as turn
 use Rattle.says_build.specs.InTurn.{Puts, Among, InTurn, Blank}
@@ -30,7 +30,7 @@ same-number : (x y : ℕ) → ((x ≡ y → ⊥) → ⊥) → x ≡ y
 same-number x y h = either (eqb x y) (λ t. eqb-true x y t) (λ f. absurd (h (eqb-false x y f)))
 
 -- a bit inside what was put
-put-own : {values image after : List ℕ} {x m from k : ℕ} → Puts values x m from image after → x ≤ k → k < x + m
+pub put-own : {values image after : List ℕ} {x m from k : ℕ} → Puts values x m from image after → x ≤ k → k < x + m
     → bitAt after k ≡ bitAt values (from + (k - x))
 put-own {values} {after = after} {x = x} {from = from} {k = k} p low high =
     let whole : x + (k - x) ≡ k = omega arith in

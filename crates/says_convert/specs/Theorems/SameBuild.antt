@@ -213,7 +213,8 @@ module _ (b : List ℕ) (nodes rows : List (List ℕ)) (values : List ℕ) (limi
   in-numbers (places.bad-start e) = built.bank-0 (inr (start-past b (rw start-is at e)))
   in-numbers (places.empty-fill u s f z) =
       let size = size-there (getD b 22 0) (four b 10) (sym size-is ∙ z) in
-      built.bank-1 (λ e. omega (arith, u, unit-is, e)) (past-start b (rw start-is at s)) (eqb-true (getD b 22 0 / 8 % 2) 1 (sym fill-is ∙ f)) (size .0) (size .1)
+      built.bank-1 (λ e. omega (arith, u, unit-is, e)) (past-start b (rw start-is at s)) (eqb-true (getD b 22 0 / 8 % 2) 1 (sym fill-is ∙ f)) (size .0)
+      (size .1)
   in-numbers (places.rows h) = built.row-count h
   in-numbers (places.fill h) = built.choice h
   in-numbers (places.four low high f i) = built.node-4 low high f i
@@ -283,7 +284,8 @@ module _ (x : Contents) (single : Single x) (fill : ℕ) (page : Opt) (old left 
       (layoutTold (raisedIn page (inputFor form1 x fill) (outputIn page (inputFor form1 x fill) room)))
   said-of room =
       subst (λ (y : Contents). Answers (RisenWith page (getD (y .banks) 0 []) (length (y .rows)) fill)
-      (layoutTold (outputIn page (inputFor form1 y fill) room)) (layoutTold (raisedIn page (inputFor form1 y fill) (outputIn page (inputFor form1 y fill) room))))
+      (layoutTold (outputIn page (inputFor form1 y fill) room))
+      (layoutTold (raisedIn page (inputFor form1 y fill) (outputIn page (inputFor form1 y fill) room))))
       (is-single x (single .one))
       (answers (getD (x .banks) 0 []) (x .nodes) (x .rows) (x .values) (x .limit) fill (single .few) (single .none) page room)
 

@@ -73,7 +73,8 @@ module _ (b : Input) (table : Bankdefs) (one : OneBank b) (two : TwoBanks (onlyB
   same-paged-build {old} {new} {r} p =
       record {
         answer = ap (profileOutput b) (p .answer) ∙ sym (same-paged-answer (roomOf old));
-        left = p .left ∙ ap (leaves b old) (p .answer) ∙ sym (same-leaves old) ∙ ap (λ (o : Output). leaves (widened b table) old (profileOutput b o)) (sym (p .answer));
+        left = p .left ∙ ap (leaves b old) (p .answer) ∙ sym (same-leaves old)
+            ∙ ap (λ (o : Output). leaves (widened b table) old (profileOutput b o)) (sym (p .answer));
       }
 
 -- ---- the places
@@ -128,7 +129,8 @@ module _ (b : Input) (one : OneBank b) (page : ℕ) (room : Room) where
   stays : checkOf (b .banks) ≡ Accepted → (rule at : ℕ) → raised b (OffProfile rule at) ≡ OffProfile rule at
   stays c rule at =
       either (bankFault (onlyBank b))
-      (λ t. absurd (let z : _≡_ {A = Verdict} (Turned _) Accepted = sym (check-here b (twoBanks (onlyBank b)) one (two-banks (onlyBank b)) ∙ pick-true _ _ t) ∙ c in
+      (λ t. absurd (let z : _≡_ {A = Verdict} (Turned _) Accepted =
+      sym (check-here b (twoBanks (onlyBank b)) one (two-banks (onlyBank b)) ∙ pick-true _ _ t) ∙ c in
       let n : _≡_ {A = ℕ} 0 1 = cc in omega arith))
       (λ f. picked (bankFault (onlyBank b)) (countsSound b) _ (OffProfile rule at) f)
 
