@@ -34,6 +34,7 @@ tested "C, the store" "$out/store"
 tested "C, stack" "$out/stack"
 tested "C, overlays" "$out/overlays"
 tested "C, reasons" "$out/reasons"
+tested "C, maps" "$out/maps"
 tested "C, structs" "$out/structs"
 if [ -x "$out/structs_cpp" ]; then
     tested "C++, structs" "$out/structs_cpp"

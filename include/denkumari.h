@@ -243,6 +243,43 @@ struct dk_layout dk_form_paged(const uint8_t *file, size_t file_len, uint8_t fil
                                uint64_t *offsets, size_t offsets_len,
                                uint64_t *sizes, size_t sizes_len);
 
+/* The node of a map that is at fault, where there is none; and the place in the output of a node that has none. */
+#define DK_NO_NODE UINT64_MAX
+
+/* The map of a layout. */
+struct dk_mapped {
+    uint64_t refusal; /* 1 to 4 where the call is refused, as dk_build refuses before its first pass; else 0 */
+    uint64_t stopped; /* 5 to 13 where the layout is refused and the map is not; else 0 */
+    uint64_t place;   /* of whichever of the two is not 0 */
+    uint64_t second;  /* of 3 and 12, else 0 */
+    uint64_t node;    /* the node at fault of 5, 7 and 9 to 13, else DK_NO_NODE */
+    uint64_t passes;  /* passes run */
+    uint64_t nodes;   /* how many nodes are shown, from node 0 on: all of them, or up to the one at fault, which is shown too except in 5 */
+    uint64_t padding[DK_MAX_BANKS]; /* of each bank: the bits that the nodes shown lost to DK_ALIGN and to label alignment */
+};
+
+/* The map of tables, given as in dk_build: where each node stands in the row of the last pass, as far as the layout goes. The four lists have DK_MAX_NODES
+ * elements each. Node i stands in bank banks_of[i], sees the position positions[i] (in bits of its bank), has its place in the output at bit outputs[i], or
+ * DK_NO_OFFSET, and takes sizes[i] bits if it is an item or a reserve. Elements past `nodes` stay. The call is refused 1, 2, 3 and 4 in this order, and then
+ * changes nothing; there is no 14, since the lists have a place for every node that a layout can have. Where dk_build refuses from 5 to 13 the map is the
+ * answer, and says it in `stopped`, with its place and the node: so the node at fault of 12 is learnt, whose own place is the interval that it meets. Time
+ * grows with passes times nodes, and with the nodes times those stored before them. It needs less than 24 KiB of stack (19.4 KiB). */
+struct dk_mapped dk_map(const uint16_t *units, size_t units_len,
+                        const int64_t *starts, size_t starts_len,
+                        const uint32_t *bank_sizes, size_t bank_sizes_len,
+                        const uint32_t *bank_offsets, size_t bank_offsets_len,
+                        const uint32_t *aligns, size_t aligns_len,
+                        const uint8_t *flags, size_t flags_len,
+                        const uint8_t *fill_bits, size_t fill_bits_len,
+                        const uint8_t *kinds, size_t kinds_len,
+                        const uint32_t *operands, size_t operands_len,
+                        const uint32_t *numbers, size_t numbers_len,
+                        const uint8_t *states, size_t states_len,
+                        uint64_t rows,
+                        const uint8_t *values, size_t values_len,
+                        uint8_t limit, uint8_t fill, uint8_t closed,
+                        uint64_t *banks_of, uint32_t *positions, uint64_t *outputs, uint32_t *sizes);
+
 /* A layout file in the other form: `count` is the length of the result, which stands at the front of `out`, and what is behind it stays. On the way to form 2
  * fill bits are zero, and a file of one bank gets a bank 1 with bank 0's record, a switch to it ahead of the first node, and every switch to bank 0 turned
  * into one to bank 1; the way back takes exactly that shape to one bank. Refused 4 for a broken file or one of the other form (place: the first broken

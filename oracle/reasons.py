@@ -1,4 +1,9 @@
-"""Why a file of records is bad, written from the table in include/denkumari.h: `reason(kind, text, load)` is the reason, the line and the two numbers."""
+#!/usr/bin/env python3
+"""Why a file of records is bad, written from the table in include/denkumari.h: the reason, the line, from 0, and the reason's two numbers.
+
+    reasons.py hex|srec LOAD <FILE    prints the four numbers; zeros of a good file
+"""
+import manners
 import records
 
 NO_START, NO_DIGIT, LENGTH, COUNT, CHECKSUM, TYPE, WIDTH, FIELD, PAST, BELOW, TWICE, BEHIND, NO_END = range(1, 14)
@@ -103,3 +108,15 @@ def in_place(load, at, given):
         if given[i] and any(a in own for a in range(given[i][0], given[i][0] + len(given[i][1]))):
             return TWICE, at, i, max(address, given[i][0])
     raise AssertionError("no reason")
+
+
+def main():
+    words = manners.parser(__doc__)
+    words.add_argument("kind", choices=("hex", "srec"))
+    words.add_argument("load", type=manners.count)
+    asked = words.parse_args()
+    print(*reason(asked.kind, manners.given(), asked.load))
+
+
+if __name__ == "__main__":
+    manners.run(main)

@@ -1,5 +1,5 @@
-/* Why a file of records is bad: a case for each reason in either format, with its numbers; and the room that records need. Its last line says how many cases there
- * were; the status is 1 where an answer is another. */
+/* Why a file of records is bad: a case for each reason in either format, with its numbers; and the room that records need. Its last line says how many cases
+ * there were; the status is 1 where an answer is another. */
 #include <inttypes.h>
 #include <stdio.h>
 #include <string.h>

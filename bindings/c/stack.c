@@ -35,6 +35,16 @@ static void build(void)
                        offsets, NODES, sizes, NODES).refusal;
 }
 
+static uint64_t map_banks[NODES], map_outputs[NODES];
+static uint32_t map_positions[NODES], map_sizes[NODES];
+
+static void map(void)
+{
+    struct dk_mapped r = dk_map(units, 2, starts, 2, bank_sizes, 2, bank_offsets, 2, aligns, 2, flags, 2, fill_bits, 2, kinds, NODES, operands, NODES,
+                             numbers, NODES, states, NODES, 1, values, sizeof values, 10, DK_FILL_FULL, 1, map_banks, map_positions, map_outputs, map_sizes);
+    refusal = r.refusal + r.stopped;
+}
+
 static void build_paged(void)
 {
     refusal = dk_build_paged(8, units, 2, starts, 2, bank_sizes, 2, bank_offsets, 2, aligns, 2, flags, 2, fill_bits, 2, kinds, NODES, operands, NODES,
@@ -84,7 +94,8 @@ static void fault(void)
     refusal = dk_record_fault(DK_S_RECORDS, text, text_length, 0xfff8).fault;
 }
 
-/* of a good file, of one that begins below the load address, and of one whose first line comes again; in the last two `refusal` is 0 where the reason is told */
+/* of a good file, of one that begins below the load address, and of one whose first line comes again; in the last two `refusal` is 0 where
+ * the reason is that */
 static void reason(void)
 {
     refusal = dk_record_reason(DK_S_RECORDS, text, text_length, 0xfff8).reason;
@@ -269,6 +280,7 @@ int main(void)
     bad |= measure("dk_blocks", blocks, 12 * 1024);
     fill_tables();
     bad |= measure("dk_build", build, 24 * 1024);
+    bad |= measure("dk_map", map, 24 * 1024);
     fill_file();
     bad |= measure("dk_profile", profile, 8 * 1024);
     bad |= measure("dk_build_paged", build_paged, 28 * 1024);

@@ -59,8 +59,41 @@ pub struct DkOverlay {
     pub length: u64,
 }
 
+#[repr(C)]
+pub struct DkMap {
+    pub refusal: u64,
+    pub stopped: u64,
+    pub place: u64,
+    pub second: u64,
+    pub node: u64,
+    pub passes: u64,
+    pub nodes: u64,
+    pub padding: [u64; 16],
+}
+
+/// What is lent to a map: each list has a place for every node that a layout can have.
+pub struct MapLists {
+    pub banks: Box<[u64; 4096]>,
+    pub positions: Box<[u32; 4096]>,
+    pub outputs: Box<[u64; 4096]>,
+    pub sizes: Box<[u32; 4096]>,
+}
+
+impl MapLists {
+    pub fn new() -> MapLists {
+        MapLists { banks: Box::new([0; 4096]), positions: Box::new([0; 4096]), outputs: Box::new([0; 4096]), sizes: Box::new([0; 4096]) }
+    }
+}
+
 #[rustfmt::skip]
 extern "C" {
+    fn dk_map(
+        units: *const u16, units_len: usize, starts: *const i64, starts_len: usize, bank_sizes: *const u32, bank_sizes_len: usize,
+        bank_offsets: *const u32, bank_offsets_len: usize, aligns: *const u32, aligns_len: usize, flags: *const u8, flags_len: usize,
+        fill_bits: *const u8, fill_bits_len: usize, kinds: *const u8, kinds_len: usize, operands: *const u32, operands_len: usize,
+        numbers: *const u32, numbers_len: usize, states: *const u8, states_len: usize, rows: u64, values: *const u8, values_len: usize,
+        limit: u8, fill: u8, closed: u8, banks_of: *mut u64, positions: *mut u32, outputs: *mut u64, sizes: *mut u32,
+    ) -> DkMap;
     fn dk_build(
         units: *const u16, units_len: usize, starts: *const i64, starts_len: usize, bank_sizes: *const u32, bank_sizes_len: usize,
         bank_offsets: *const u32, bank_offsets_len: usize, aligns: *const u32, aligns_len: usize, flags: *const u8, flags_len: usize,
@@ -237,6 +270,22 @@ pub fn to_form1(file: &[u8], out: &mut [u8]) -> DkCount {
 pub fn record_fault(format: u8, text: &[u8], load: u32) -> DkFault {
     // SAFETY: see the module
     unsafe { dk_record_fault(format, text.as_ptr(), text.len(), load) }
+}
+
+#[rustfmt::skip]
+pub fn map(b: &Banks<'_>, n: &Nodes<'_>, c: Choices, lists: &mut MapLists) -> DkMap {
+    // SAFETY: see the module; the four lists have the 4,096 elements that the call asks for
+    unsafe {
+        dk_map(
+            b.units.as_ptr(), b.units.len(), b.starts.as_ptr(), b.starts.len(), b.sizes.as_ptr(), b.sizes.len(),
+            b.offsets.as_ptr(), b.offsets.len(), b.aligns.as_ptr(), b.aligns.len(), b.flags.as_ptr(), b.flags.len(),
+            b.fill_bits.as_ptr(), b.fill_bits.len(),
+            n.kinds.as_ptr(), n.kinds.len(), n.operands.as_ptr(), n.operands.len(), n.numbers.as_ptr(), n.numbers.len(),
+            n.states.as_ptr(), n.states.len(), n.rows, n.values.as_ptr(), n.values.len(),
+            n.limit, c.fill as u8, c.closed as u8,
+            lists.banks.as_mut_ptr(), lists.positions.as_mut_ptr(), lists.outputs.as_mut_ptr(), lists.sizes.as_mut_ptr(),
+        )
+    }
 }
 
 pub fn record_reason(format: u8, text: &[u8], load: u32) -> DkReason {

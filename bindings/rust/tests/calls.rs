@@ -151,3 +151,19 @@ fn refusals_are_told_in_words() {
     let error: Box<dyn std::error::Error> = Box::new(Refusal::TooShort { buffer: Buffer::Spans, passes: 1 });
     assert_eq!(error.to_string(), "refused 14: the room for the lists of spans is too short");
 }
+
+#[test]
+fn a_map_names_the_node_at_fault_of_an_overlap() {
+    let banks = Banks { units: &[8], starts: &[0], sizes: &[0], offsets: &[0], aligns: &[0], flags: &[HAS_OFFSET], fill_bits: &[0] };
+    let numbers = [8, 0, 8];
+    let nodes = Nodes { kinds: &[5, 9, 4], operands: &[0, 0, 8], numbers: &numbers, states: &[0; 3], rows: 1, values: &[1, 2], limit: 1 };
+    let choices = Choices::default();
+    let mapped = map(&banks, &nodes, choices).unwrap();
+    let why = Refusal::Overlap { start: 0, size: 8, passes: mapped.passes };
+    assert_eq!(mapped.stopped, Some(Stopped { why, node: Some(2) }));
+    assert_eq!(mapped.nodes.len(), 3);
+    assert_eq!(mapped.nodes[2], Standing { bank: 0, position: 0, output: Some(0), size: 8 });
+    let apart = Nodes { numbers: &[8, 8, 8], ..nodes };
+    assert_eq!(map(&banks, &apart, choices).unwrap().stopped, None);
+    assert_eq!(map(&Banks { units: &[0], ..banks }, &apart, choices), Err(Refusal::BankNumber { bank: 0 }));
+}

@@ -1,6 +1,8 @@
 pub mod ConversionLaws
 pub mod ConversionUnique
 pub mod FormLaws
+pub mod MapLaws
+pub mod MapUnique
 pub mod OverlayUnique
 pub mod ProfileLaws
 pub mod ProfileUnique

@@ -1,5 +1,6 @@
 pub mod Conversions
 pub mod Forms
+pub mod Maps
 pub mod Overlays
 pub mod Parts
 pub mod Profiles

@@ -3,6 +3,7 @@
 mod builds;
 mod conversions;
 mod forms;
+mod maps;
 mod overlays;
 mod parts;
 mod profiles;

@@ -9,7 +9,7 @@ use Rattle.refusal.specs.Pick.{pick}
 use Rattle.record_lines.specs.Items.{Item, gives, passes, ends, bad, Format}
 use Rattle.record_lines.specs.Lines.{linesOf}
 use Rattle.record_lines.specs.Pieces.{Piece}
-use Rattle.record_fault.specs.Reading.{formatBy, Read, sound, faulty, newPieces, stateAfter, isNew, readText}
+use Rattle.record_fault.specs.Reading.{formatBy, Read, sound, faulty, newPieces, stateAfter, isNew}
 use Rattle.record_fault.specs.Trail.{trail, lineAt, itemAt}
 use Rattle.record_reason.specs.Spelling.{causeOf, orElse, ownCause, startBy, manyBy, topBy}
 use Rattle.record_reason.specs.declared.Cause.{Cause}

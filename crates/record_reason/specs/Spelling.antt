@@ -1,6 +1,6 @@
 -- What is wrong with a line by itself: how it is spelled, and what its type asks for. Document 02, Tickets 1 and 12; the order of the reasons is in
 -- include/denkumari.h.
-use mathlib.Core.Bool.{Bool, _||_}
+use mathlib.Core.Bool.{Bool}
 use mathlib.Core.List.{List, [], _∷_}
 use Prim.Native.Nat.{ℕ, suc, _+_, _-_, _*_, _%_}
 use lib.Dec.{ltb, leb, eqb}

@@ -3,16 +3,14 @@ mod spelling;
 
 use record_fault::Fault;
 ghost use mathlib.Core.Path.{_≡_};
-ghost use Prim.Native.Nat.{_+_, _≤_, _<_, max, min};
+ghost use Prim.Native.Nat.{_+_, _<_, max, min};
 ghost use lib.Dec.{eqb};
-ghost use lib.ListN.{length};
 ghost use Rattle.refusal.specs.Pick.{pick};
 ghost use Rattle.record_lines.specs.Spelling.{Spells};
 ghost use Rattle.record_fault.specs.Reading.{readText};
 ghost use Rattle.record_fault.specs.Steps.{leavesBy};
-ghost use Rattle.record_fault.specs.Trail.{trail};
 ghost use Rattle.record_reason.specs.Spelling.{causeOf};
-ghost use Rattle.record_reason.specs.Reasons.{lineOf, itemOf, addressIn, giver, lowest, spanCause, lineCause, causeAt, whyOf, Placed};
+ghost use Rattle.record_reason.specs.Reasons.{itemOf, addressIn, giver, lowest, spanCause, lineCause, causeAt, whyOf, Placed};
 
 // The reasons, in the order in which they are looked for in a line.
 const NO_START: u64 = 1;

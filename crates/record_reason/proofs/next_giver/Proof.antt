@@ -11,12 +11,20 @@ add-result : tie.Need-add-result
 add-result c = search needs
 
 returns-2 : tie.Need-returns-2
-returns-2 c = rw (eq-eqb (c .before .before .args .found) (c .before .before .args .k) (c .before .if1 .left), c .if2 .taken)
+returns-2 c =
+    let args′ = c .before .before .args in
+    rw (eq-eqb (args′ .found) (args′ .k) (c .before .if1 .left), c .if2 .taken)
 
 returns-3 : tie.Need-returns-3
-returns-3 c = rw (eq-eqb (c .before .before .args .found) (c .before .before .args .k) (c .before .if1 .left), c .if2 .left)
+returns-3 c =
+    let args′ = c .before .before .args in
+    rw (eq-eqb (args′ .found) (args′ .k) (c .before .if1 .left), c .if2 .left)
 
 pub next-giver-spec : {M : Type 1} → statement M
 next-giver-spec =
     tie.close
-    (tie.spec returns add-result returns-2 returns-3)
+    (tie.spec
+    returns
+    add-result
+    returns-2
+    returns-3)

@@ -12,4 +12,6 @@ returns c = record { answer = c .reason-of .ensures }
 pub dk-record-reason-spec : {M : Type 1} → statement M
 dk-record-reason-spec =
     tie.close
-    (tie.spec reason-of-requires returns)
+    (tie.spec
+    reason-of-requires
+    returns)

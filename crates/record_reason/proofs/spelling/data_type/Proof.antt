@@ -14,7 +14,9 @@ made-requires : tie.Need-made-requires
 made-requires c κs = search needs
 
 returns : tie.Need-returns
-returns c = rw (c .made .ensures, sym (c .before .before .does-agree .ensures) ∙ not-true _ (c .before .if1 .taken))
+returns c =
+    let does-agree′ = c .before .before .does-agree in
+    rw (c .made .ensures, sym (does-agree′ .ensures) ∙ not-true _ (c .before .if1 .taken))
 
 byte-requires : tie.Need-byte-requires
 byte-requires c κs = search needs
@@ -27,11 +29,15 @@ made-requires-2 c κs = search needs
 
 returns-2 : tie.Need-returns-2
 returns-2 c =
+    let args′ = c .before .before .before .before .before .before .args in
+    let does-agree′ = c .before .before .before .before .does-agree in
+    let if1′ = c .before .before .before .if1 in
+    let byte′ = c .before .before .byte in
     rw (
       c .made2 .ensures,
-      c .before .before .byte .ensures .0,
-      sym (c .before .before .before .before .does-agree .ensures) ∙ not-false _ (c .before .before .before .if1 .left),
-      le-leb (pairAt (c .before .before .before .before .before .before .args .line .now) 2) (c .before .before .before .before .before .before .args .width) (omega (arith, c .before .before .byte .ensures .0, c .before .if2 .taken)),
+      byte′ .ensures .0,
+      sym (does-agree′ .ensures) ∙ not-false _ (if1′ .left),
+      le-leb (pairAt (args′ .line .now) 2) (args′ .width) (omega (arith, byte′ .ensures .0, c .before .if2 .taken)),
     )
 
 made-requires-3 : tie.Need-made-requires-3
@@ -39,13 +45,26 @@ made-requires-3 c κs = search needs
 
 returns-3 : tie.Need-returns-3
 returns-3 c =
+    let args′ = c .before .before .before .before .before .before .args in
+    let does-agree′ = c .before .before .before .before .does-agree in
+    let if1′ = c .before .before .before .if1 in
+    let byte′ = c .before .before .byte in
     rw (
       c .made3 .ensures,
-      sym (c .before .before .before .before .does-agree .ensures) ∙ not-false _ (c .before .before .before .if1 .left),
-      lt-leb (pairAt (c .before .before .before .before .before .before .args .line .now) 2) (c .before .before .before .before .before .before .args .width) (omega (arith, c .before .before .byte .ensures .0, c .before .if2 .left)),
+      sym (does-agree′ .ensures) ∙ not-false _ (if1′ .left),
+      lt-leb (pairAt (args′ .line .now) 2) (args′ .width) (omega (arith, byte′ .ensures .0, c .before .if2 .left)),
     )
 
 pub data-type-spec : {M : Type 1} → statement M
 data-type-spec =
     tie.close
-    (tie.spec does-agree-requires made-requires returns byte-requires add-made made-requires-2 returns-2 made-requires-3 returns-3)
+    (tie.spec
+    does-agree-requires
+    made-requires
+    returns
+    byte-requires
+    add-made
+    made-requires-2
+    returns-2
+    made-requires-3
+    returns-3)

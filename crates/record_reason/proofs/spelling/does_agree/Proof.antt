@@ -1,6 +1,5 @@
 -- `record_reason::spelling::does_agree`: the definition's tests.
 use borrow.Author.Tests.{eq-eqb, ne-eqb}
-use borrow.Author.Needs.{needs}
 use Rattle.record_reason.proofs.spelling.does_agree.Statement.{statement}
 use Rattle.record_reason.proofs.spelling.does_agree.Tie as tie
 
@@ -13,4 +12,6 @@ returns-2 c = rw (ne-eqb (c .before .args .state) 0 (c .if1 .left))
 pub does-agree-spec : {M : Type 1} → statement M
 does-agree-spec =
     tie.close
-    (tie.spec returns returns-2)
+    (tie.spec
+    returns
+    returns-2)

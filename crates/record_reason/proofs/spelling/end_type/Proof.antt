@@ -12,7 +12,9 @@ made-requires : tie.Need-made-requires
 made-requires c κs = search needs
 
 returns : tie.Need-returns
-returns c = rw (c .made .ensures, sym (c .before .before .does-agree .ensures) ∙ not-true _ (c .before .if1 .taken))
+returns c =
+    let does-agree′ = c .before .before .does-agree in
+    rw (c .made .ensures, sym (does-agree′ .ensures) ∙ not-true _ (c .before .if1 .taken))
 
 byte-requires : tie.Need-byte-requires
 byte-requires c κs = search needs
@@ -24,9 +26,19 @@ made-requires-2 : tie.Need-made-requires-2
 made-requires-2 c κs = search needs
 
 returns-2 : tie.Need-returns-2
-returns-2 c = rw (c .made2 .ensures, c .before .byte .ensures .0, sym (c .before .before .before .does-agree .ensures) ∙ not-false _ (c .before .before .if1 .left))
+returns-2 c =
+    let does-agree′ = c .before .before .before .does-agree in
+    let if1′ = c .before .before .if1 in
+    rw (c .made2 .ensures, c .before .byte .ensures .0, sym (does-agree′ .ensures) ∙ not-false _ (if1′ .left))
 
 pub end-type-spec : {M : Type 1} → statement M
 end-type-spec =
     tie.close
-    (tie.spec does-agree-requires made-requires returns byte-requires add-made made-requires-2 returns-2)
+    (tie.spec
+    does-agree-requires
+    made-requires
+    returns
+    byte-requires
+    add-made
+    made-requires-2
+    returns-2)

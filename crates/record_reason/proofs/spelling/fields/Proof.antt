@@ -14,7 +14,9 @@ made-requires c κs = search needs
 
 returns : tie.Need-returns
 returns c =
-    rw (c .made .ensures, c .before .before .byte .ensures .0, ne-eqb (pairAt (c .before .before .before .before .args .line .now) 1) (c .before .before .before .before .args .count) (λ z. c .before .if1 .taken (c .before .before .byte .ensures .0 ∙ z)))
+    let args′ = c .before .before .before .before .args in
+    let byte′ = c .before .before .byte in
+    rw (c .made .ensures, byte′ .ensures .0, ne-eqb (pairAt (args′ .line .now) 1) (args′ .count) (λ z. c .before .if1 .taken (byte′ .ensures .0 ∙ z)))
 
 word-requires : tie.Need-word-requires
 word-requires c κs = search needs
@@ -24,9 +26,18 @@ made-requires-2 c κs = search needs
 
 returns-2 : tie.Need-returns-2
 returns-2 c =
-    rw (c .made2 .ensures, c .before .word .ensures .0, eq-eqb (pairAt (c .before .before .before .before .before .args .line .now) 1) (c .before .before .before .before .before .args .count) (sym (c .before .before .before .byte .ensures .0) ∙ c .before .before .if1 .left))
+    let args′ = c .before .before .before .before .before .args in
+    let byte′ = c .before .before .before .byte in
+    let if1′ = c .before .before .if1 in
+    rw (c .made2 .ensures, c .before .word .ensures .0, eq-eqb (pairAt (args′ .line .now) 1) (args′ .count) (sym (byte′ .ensures .0) ∙ if1′ .left))
 
 pub fields-spec : {M : Type 1} → statement M
 fields-spec =
     tie.close
-    (tie.spec byte-requires made-requires returns word-requires made-requires-2 returns-2)
+    (tie.spec
+    byte-requires
+    made-requires
+    returns
+    word-requires
+    made-requires-2
+    returns-2)

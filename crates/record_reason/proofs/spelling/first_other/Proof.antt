@@ -27,8 +27,11 @@ is-digit-requires c κs = search needs
 
 returns : tie.Need-returns Inv-loop μ-loop
 returns c =
-    let stops = leading-stops (c .before .before .before .before .before .before .args .line .now) (c .before .before .before .before .loop .i) (c .before .before .before .loop-test .taken) (sym (c .before .is-digit .ensures) ∙ not-true _ (c .if1 .taken)) in
-    omega (arith, c .before .before .before .before .loop .inv, stops)
+    let args′ = c .before .before .before .before .before .before .args in
+    let loop′ = c .before .before .before .before .loop in
+    let loop-test′ = c .before .before .before .loop-test in
+    let stops = leading-stops (args′ .line .now) (loop′ .i) (loop-test′ .taken) (sym (c .before .is-digit .ensures) ∙ not-true _ (c .if1 .taken)) in
+    omega (arith, loop′ .inv, stops)
 
 add-i : tie.Need-add-i Inv-loop μ-loop
 add-i c = search needs
@@ -38,13 +41,28 @@ loop-less c = search needs
 
 loop-again : tie.Need-loop-again Inv-loop μ-loop
 loop-again c =
-    let goes = leading-goes (c .before .before .before .before .before .before .args .line .now) (c .before .before .before .before .loop .i) (c .before .before .before .loop-test .taken) (sym (c .before .is-digit .ensures) ∙ not-false _ (c .if1 .left)) in
-    omega (arith, c .before .before .before .before .loop .inv, goes)
+    let args′ = c .before .before .before .before .before .before .args in
+    let loop′ = c .before .before .before .before .loop in
+    let loop-test′ = c .before .before .before .loop-test in
+    let goes = leading-goes (args′ .line .now) (loop′ .i) (loop-test′ .taken) (sym (c .before .is-digit .ensures) ∙ not-false _ (c .if1 .left)) in
+    omega (arith, loop′ .inv, goes)
 
 returns-2 : tie.Need-returns-2 Inv-loop μ-loop
-returns-2 c = omega (arith, c .before .loop .inv, leading-ends (c .before .before .before .args .line .now) (c .before .loop .i) (c .loop-test .left))
+returns-2 c =
+    let args′ = c .before .before .before .args in
+    omega (arith, c .before .loop .inv, leading-ends (args′ .line .now) (c .before .loop .i) (c .loop-test .left))
 
 pub first-other-spec : {M : Type 1} → statement M
 first-other-spec =
     tie.close
-    (tie.spec Inv-loop μ-loop loop-holds shared-slice-read-is-digit is-digit-requires returns add-i loop-less loop-again returns-2)
+    (tie.spec
+    Inv-loop
+    μ-loop
+    loop-holds
+    shared-slice-read-is-digit
+    is-digit-requires
+    returns
+    add-i
+    loop-less
+    loop-again
+    returns-2)

@@ -13,18 +13,24 @@ made-requires : tie.Need-made-requires
 made-requires c κs = search needs
 
 returns : tie.Need-returns
-returns c = rw (c .made .ensures, eq-eqb (pairAt (c .before .before .before .before .args .line .now) 7) 0 (sym (c .before .before .byte .ensures .0) ∙ c .before .if1 .taken))
+returns c =
+    let args′ = c .before .before .before .before .args in
+    let byte′ = c .before .before .byte in
+    rw (c .made .ensures, eq-eqb (pairAt (args′ .line .now) 7) 0 (sym (byte′ .ensures .0) ∙ c .before .if1 .taken))
 
 fields-requires : tie.Need-fields-requires
 fields-requires c κs = search needs
 
 returns-2 : tie.Need-returns-2
 returns-2 c =
-    let l = c .before .before .before .before .before .args .line .now in
+    let args′ = c .before .before .before .before .before .args in
+    let byte′ = c .before .before .before .byte in
+    let if1′ = c .before .before .if1 in
+    let l = args′ .line .now in
     rw (
       c .fields .ensures,
-      eq-eqb (pairAt l 7) 1 (sym (c .before .before .before .byte .ensures .0) ∙ c .before .if2 .taken),
-      ne-eqb (pairAt l 7) 0 (λ z. c .before .before .if1 .left (c .before .before .before .byte .ensures .0 ∙ z)),
+      eq-eqb (pairAt l 7) 1 (sym (byte′ .ensures .0) ∙ c .before .if2 .taken),
+      ne-eqb (pairAt l 7) 0 (λ z. if1′ .left (byte′ .ensures .0 ∙ z)),
     )
 
 fields-requires-2 : tie.Need-fields-requires-2
@@ -32,12 +38,16 @@ fields-requires-2 c κs = search needs
 
 returns-3 : tie.Need-returns-3
 returns-3 c =
-    let l = c .before .before .before .before .before .before .args .line .now in
+    let args′ = c .before .before .before .before .before .before .args in
+    let byte′ = c .before .before .before .before .byte in
+    let if1′ = c .before .before .before .if1 in
+    let if2′ = c .before .before .if2 in
+    let l = args′ .line .now in
     rw (
       c .fields2 .ensures,
-      eq-eqb (pairAt l 7) 4 (sym (c .before .before .before .before .byte .ensures .0) ∙ c .before .if3 .taken),
-      ne-eqb (pairAt l 7) 1 (λ z. c .before .before .if2 .left (c .before .before .before .before .byte .ensures .0 ∙ z)),
-      ne-eqb (pairAt l 7) 0 (λ z. c .before .before .before .if1 .left (c .before .before .before .before .byte .ensures .0 ∙ z)),
+      eq-eqb (pairAt l 7) 4 (sym (byte′ .ensures .0) ∙ c .before .if3 .taken),
+      ne-eqb (pairAt l 7) 1 (λ z. if2′ .left (byte′ .ensures .0 ∙ z)),
+      ne-eqb (pairAt l 7) 0 (λ z. if1′ .left (byte′ .ensures .0 ∙ z)),
     )
 
 made-requires-2 : tie.Need-made-requires-2
@@ -45,16 +55,29 @@ made-requires-2 c κs = search needs
 
 returns-4 : tie.Need-returns-4
 returns-4 c =
-    let l = c .before .before .before .before .before .before .args .line .now in
+    let args′ = c .before .before .before .before .before .before .args in
+    let byte′ = c .before .before .before .before .byte in
+    let if1′ = c .before .before .before .if1 in
+    let if2′ = c .before .before .if2 in
+    let l = args′ .line .now in
     rw (
       c .made2 .ensures,
-      c .before .before .before .before .byte .ensures .0,
-      ne-eqb (pairAt l 7) 4 (λ z. c .before .if3 .left (c .before .before .before .before .byte .ensures .0 ∙ z)),
-      ne-eqb (pairAt l 7) 1 (λ z. c .before .before .if2 .left (c .before .before .before .before .byte .ensures .0 ∙ z)),
-      ne-eqb (pairAt l 7) 0 (λ z. c .before .before .before .if1 .left (c .before .before .before .before .byte .ensures .0 ∙ z)),
+      byte′ .ensures .0,
+      ne-eqb (pairAt l 7) 4 (λ z. c .before .if3 .left (byte′ .ensures .0 ∙ z)),
+      ne-eqb (pairAt l 7) 1 (λ z. if2′ .left (byte′ .ensures .0 ∙ z)),
+      ne-eqb (pairAt l 7) 0 (λ z. if1′ .left (byte′ .ensures .0 ∙ z)),
     )
 
 pub hex-type-spec : {M : Type 1} → statement M
 hex-type-spec =
     tie.close
-    (tie.spec byte-requires made-requires returns fields-requires returns-2 fields-requires-2 returns-3 made-requires-2 returns-4)
+    (tie.spec
+    byte-requires
+    made-requires
+    returns
+    fields-requires
+    returns-2
+    fields-requires-2
+    returns-3
+    made-requires-2
+    returns-4)

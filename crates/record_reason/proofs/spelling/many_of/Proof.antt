@@ -11,7 +11,9 @@ byte-requires : tie.Need-byte-requires
 byte-requires c κs = search needs
 
 returns : tie.Need-returns
-returns c = (rw (eq-eqb (c .before .before .before .args .format) 0 (c .before .if1 .taken), c .byte .ensures .0), omega (arith, c .byte .ensures .1))
+returns c =
+    let args′ = c .before .before .before .args in
+    (rw (eq-eqb (args′ .format) 0 (c .before .if1 .taken), c .byte .ensures .0), omega (arith, c .byte .ensures .1))
 
 char-at-requires : tie.Need-char-at-requires
 char-at-requires c κs = search needs
@@ -23,15 +25,19 @@ left-requires : tie.Need-left-requires
 left-requires c κs = search needs
 
 returns-2 : tie.Need-returns-2
-returns-2 c = (
-  rw (
-    ne-eqb (c .before .before .before .before .before .before .args .format) 0 (c .before .before .before .before .if1 .left),
-    eq-eqb (getD (c .before .before .before .before .before .before .args .line .now) 1 0) 49 (sym (c .before .before .before .char-at .ensures) ∙ c .before .before .if2 .taken),
-    c .left .ensures .0,
-    c .before .byte2 .ensures .0,
-  ),
-  omega (arith, c .left .ensures .1, c .before .byte2 .ensures .1),
-)
+returns-2 c =
+    let args′ = c .before .before .before .before .before .before .args in
+    let if1′ = c .before .before .before .before .if1 in
+    let char-at′ = c .before .before .before .char-at in
+    let if2′ = c .before .before .if2 in (
+      rw (
+        ne-eqb (args′ .format) 0 (if1′ .left),
+        eq-eqb (getD (args′ .line .now) 1 0) 49 (sym (char-at′ .ensures) ∙ if2′ .taken),
+        c .left .ensures .0,
+        c .before .byte2 .ensures .0,
+      ),
+      omega (arith, c .left .ensures .1, c .before .byte2 .ensures .1),
+    )
 
 byte-requires-3 : tie.Need-byte-requires-3
 byte-requires-3 c κs = search needs
@@ -40,17 +46,30 @@ left-requires-2 : tie.Need-left-requires-2
 left-requires-2 c κs = search needs
 
 returns-3 : tie.Need-returns-3
-returns-3 c = (
-  rw (
-    ne-eqb (c .before .before .before .before .before .before .args .format) 0 (c .before .before .before .before .if1 .left),
-    ne-eqb (getD (c .before .before .before .before .before .before .args .line .now) 1 0) 49 (λ z. c .before .before .if2 .left (c .before .before .before .char-at .ensures ∙ z)),
-    c .left2 .ensures .0,
-    c .before .byte3 .ensures .0,
-  ),
-  omega (arith, c .left2 .ensures .1, c .before .byte3 .ensures .1),
-)
+returns-3 c =
+    let args′ = c .before .before .before .before .before .before .args in
+    let if1′ = c .before .before .before .before .if1 in
+    let char-at′ = c .before .before .before .char-at in
+    let if2′ = c .before .before .if2 in (
+      rw (
+        ne-eqb (args′ .format) 0 (if1′ .left),
+        ne-eqb (getD (args′ .line .now) 1 0) 49 (λ z. if2′ .left (char-at′ .ensures ∙ z)),
+        c .left2 .ensures .0,
+        c .before .byte3 .ensures .0,
+      ),
+      omega (arith, c .left2 .ensures .1, c .before .byte3 .ensures .1),
+    )
 
 pub many-of-spec : {M : Type 1} → statement M
 many-of-spec =
     tie.close
-    (tie.spec byte-requires returns char-at-requires byte-requires-2 left-requires returns-2 byte-requires-3 left-requires-2 returns-3)
+    (tie.spec
+    byte-requires
+    returns
+    char-at-requires
+    byte-requires-2
+    left-requires
+    returns-2
+    byte-requires-3
+    left-requires-2
+    returns-3)

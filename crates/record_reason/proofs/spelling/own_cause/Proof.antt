@@ -1,5 +1,4 @@
 -- `record_reason::spelling::own_cause`: how it is spelled, then its type.
-use mathlib.Core.Path.{_∙_}
 use borrow.Author.Tests.{eq-eqb, ne-eqb}
 use Rattle.record_reason.specs.Spelling.{ownCause}
 use Rattle.record_reason.proofs.SpellingLaws.{or-first, or-second}
@@ -12,23 +11,39 @@ spelling-in-requires c κs = search needs
 
 returns : tie.Need-returns
 unfolding ownCause
-returns c = or-first _ (c .before .before .spelling-in .ensures) (c .if1 .taken)
+returns c =
+    let spelling-in′ = c .before .before .spelling-in in
+    or-first _ (spelling-in′ .ensures) (c .if1 .taken)
 
 hex-type-requires : tie.Need-hex-type-requires
 hex-type-requires c κs = search needs
 
 returns-2 : tie.Need-returns-2
 unfolding ownCause
-returns-2 c = or-second _ (c .before .before .before .before .spelling-in .ensures) (c .before .before .if1 .left) (rw (eq-eqb (c .before .before .before .before .before .before .args .format) 0 (c .before .if2 .taken)) (c .hex-type .ensures))
+returns-2 c =
+    let args′ = c .before .before .before .before .before .before .args in
+    let spelling-in′ = c .before .before .before .before .spelling-in in
+    let if1′ = c .before .before .if1 in
+    or-second _ (spelling-in′ .ensures) (if1′ .left) (rw (eq-eqb (args′ .format) 0 (c .before .if2 .taken)) (c .hex-type .ensures))
 
 srec-type-requires : tie.Need-srec-type-requires
 srec-type-requires c κs = search needs
 
 returns-3 : tie.Need-returns-3
 unfolding ownCause
-returns-3 c = or-second _ (c .before .before .before .before .spelling-in .ensures) (c .before .before .if1 .left) (rw (ne-eqb (c .before .before .before .before .before .before .args .format) 0 (c .before .if2 .left)) (c .srec-type .ensures))
+returns-3 c =
+    let args′ = c .before .before .before .before .before .before .args in
+    let spelling-in′ = c .before .before .before .before .spelling-in in
+    let if1′ = c .before .before .if1 in
+    or-second _ (spelling-in′ .ensures) (if1′ .left) (rw (ne-eqb (args′ .format) 0 (c .before .if2 .left)) (c .srec-type .ensures))
 
 pub own-cause-spec : {M : Type 1} → statement M
 own-cause-spec =
     tie.close
-    (tie.spec spelling-in-requires returns hex-type-requires returns-2 srec-type-requires returns-3)
+    (tie.spec
+    spelling-in-requires
+    returns
+    hex-type-requires
+    returns-2
+    srec-type-requires
+    returns-3)

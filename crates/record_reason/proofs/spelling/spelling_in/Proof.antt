@@ -22,9 +22,21 @@ spelling-requires : tie.Need-spelling-requires
 spelling-requires c κs = search needs
 
 returns : tie.Need-returns
-returns c = rw (c .spelling .ensures, c .before .before .before .before .before .starts .ensures, c .before .before .before .before .choose .ensures, c .before .before .before .choose2 .ensures, c .before .before .choose3 .ensures, c .before .choose4 .ensures)
+returns c =
+    let starts′ = c .before .before .before .before .before .starts in
+    let choose′ = c .before .before .before .before .choose in
+    let choose2′ = c .before .before .before .choose2 in
+    let choose3′ = c .before .before .choose3 in
+    rw (c .spelling .ensures, starts′ .ensures, choose′ .ensures, choose2′ .ensures, choose3′ .ensures, c .before .choose4 .ensures)
 
 pub spelling-in-spec : {M : Type 1} → statement M
 spelling-in-spec =
     tie.close
-    (tie.spec starts-requires choose-requires choose-requires-2 choose-requires-3 choose-requires-4 spelling-requires returns)
+    (tie.spec
+    starts-requires
+    choose-requires
+    choose-requires-2
+    choose-requires-3
+    choose-requires-4
+    spelling-requires
+    returns)

@@ -17,7 +17,9 @@ add-result : tie.Need-add-result
 add-result c = search needs
 
 returns : tie.Need-returns
-returns c = (rw (eq-eqb (c .before .before .before .args .format) 0 (c .before .if1 .taken), c .word .ensures .0), omega (arith, c .word .ensures .1))
+returns c =
+    let args′ = c .before .before .before .args in
+    (rw (eq-eqb (args′ .format) 0 (c .before .if1 .taken), c .word .ensures .0), omega (arith, c .word .ensures .1))
 
 word-requires-2 : tie.Need-word-requires-2
 word-requires-2 c κs = search needs
@@ -26,14 +28,17 @@ char-at-requires : tie.Need-char-at-requires
 char-at-requires c κs = search needs
 
 returns-2 : tie.Need-returns-2
-returns-2 c = (
-  rw (
-    ne-eqb (c .before .before .before .before .before .args .format) 0 (c .before .before .before .if1 .left),
-    eq-eqb (getD (c .before .before .before .before .before .args .line .now) 1 0) 49 (sym (c .before .char-at .ensures) ∙ c .if2 .taken),
-    c .before .before .word2 .ensures .0,
-  ),
-  omega (arith, c .before .before .word2 .ensures .1),
-)
+returns-2 c =
+    let args′ = c .before .before .before .before .before .args in
+    let if1′ = c .before .before .before .if1 in
+    let word2′ = c .before .before .word2 in (
+      rw (
+        ne-eqb (args′ .format) 0 (if1′ .left),
+        eq-eqb (getD (args′ .line .now) 1 0) 49 (sym (c .before .char-at .ensures) ∙ c .if2 .taken),
+        word2′ .ensures .0,
+      ),
+      omega (arith, word2′ .ensures .1),
+    )
 
 mul-result-2 : tie.Need-mul-result-2
 mul-result-2 c = search needs
@@ -45,17 +50,32 @@ add-result-2 : tie.Need-add-result-2
 add-result-2 c = search needs
 
 returns-3 : tie.Need-returns-3
-returns-3 c = (
-  rw (
-    ne-eqb (c .before .before .before .before .before .before .args .format) 0 (c .before .before .before .before .if1 .left),
-    ne-eqb (getD (c .before .before .before .before .before .before .args .line .now) 1 0) 49 (λ z. c .before .if2 .left (c .before .before .char-at .ensures ∙ z)),
-    c .before .before .before .word2 .ensures .0,
-    c .word3 .ensures .0,
-  ),
-  omega (arith, c .before .before .before .word2 .ensures .1, c .word3 .ensures .1),
-)
+returns-3 c =
+    let args′ = c .before .before .before .before .before .before .args in
+    let if1′ = c .before .before .before .before .if1 in
+    let word2′ = c .before .before .before .word2 in
+    let char-at′ = c .before .before .char-at in (
+      rw (
+        ne-eqb (args′ .format) 0 (if1′ .left),
+        ne-eqb (getD (args′ .line .now) 1 0) 49 (λ z. c .before .if2 .left (char-at′ .ensures ∙ z)),
+        word2′ .ensures .0,
+        c .word3 .ensures .0,
+      ),
+      omega (arith, word2′ .ensures .1, c .word3 .ensures .1),
+    )
 
 pub start-of-spec : {M : Type 1} → statement M
 start-of-spec =
     tie.close
-    (tie.spec mul-result word-requires add-result returns word-requires-2 char-at-requires returns-2 mul-result-2 word-requires-3 add-result-2 returns-3)
+    (tie.spec
+    mul-result
+    word-requires
+    add-result
+    returns
+    word-requires-2
+    char-at-requires
+    returns-2
+    mul-result-2
+    word-requires-3
+    add-result-2
+    returns-3)

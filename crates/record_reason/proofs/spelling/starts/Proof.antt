@@ -10,20 +10,31 @@ char-at-requires : tie.Need-char-at-requires
 char-at-requires c κs = search needs
 
 returns : tie.Need-returns
-returns c = rw (c .before .char-at .ensures, eq-eqb (c .before .before .before .args .format) 0 (c .if1 .taken))
+returns c =
+    let args′ = c .before .before .before .args in
+    rw (c .before .char-at .ensures, eq-eqb (args′ .format) 0 (c .if1 .taken))
 
 returns-2 : tie.Need-returns-2
-returns-2 c = rw (ne-eqb (c .before .before .before .before .args .format) 0 (c .before .if1 .left), eq-eqb (getD (c .before .before .before .before .args .line .now) 0 0) 83 (sym (c .before .before .char-at .ensures) ∙ c .if2 .taken))
+returns-2 c =
+    let args′ = c .before .before .before .before .args in
+    let char-at′ = c .before .before .char-at in
+    rw (ne-eqb (args′ .format) 0 (c .before .if1 .left), eq-eqb (getD (args′ .line .now) 0 0) 83 (sym (char-at′ .ensures) ∙ c .if2 .taken))
 
 returns-3 : tie.Need-returns-3
 returns-3 c =
+    let args′ = c .before .before .before .before .args in
+    let char-at′ = c .before .before .char-at in
     rw (
-      c .before .before .char-at .ensures,
-      ne-eqb (c .before .before .before .before .args .format) 0 (c .before .if1 .left),
-      ne-eqb (getD (c .before .before .before .before .args .line .now) 0 0) 83 (λ z. c .if2 .left (c .before .before .char-at .ensures ∙ z)),
+      char-at′ .ensures,
+      ne-eqb (args′ .format) 0 (c .before .if1 .left),
+      ne-eqb (getD (args′ .line .now) 0 0) 83 (λ z. c .if2 .left (char-at′ .ensures ∙ z)),
     )
 
 pub starts-spec : {M : Type 1} → statement M
 starts-spec =
     tie.close
-    (tie.spec char-at-requires returns returns-2 returns-3)
+    (tie.spec
+    char-at-requires
+    returns
+    returns-2
+    returns-3)

@@ -22,7 +22,9 @@ add-result-2 : tie.Need-add-result-2
 add-result-2 c = search needs
 
 returns : tie.Need-returns
-returns c = rw (lt-ltb (length (c .before .before .args .line .now)) (c .before .before .args .from + 2) (c .if1 .taken))
+returns c =
+    let args′ = c .before .before .args in
+    rw (lt-ltb (length (args′ .line .now)) (args′ .from + 2) (c .if1 .taken))
 
 byte-requires : tie.Need-byte-requires
 byte-requires c κs = search needs
@@ -37,9 +39,22 @@ add-result-4 : tie.Need-add-result-4
 add-result-4 c = search needs
 
 returns-2 : tie.Need-returns-2
-returns-2 c = rw (le-ltb (length (c .before .before .before .args .line .now)) (c .before .before .before .args .from + 2) (c .before .if1 .left), c .byte .ensures .0)
+returns-2 c =
+    let args′ = c .before .before .before .args in
+    rw (le-ltb (length (args′ .line .now)) (args′ .from + 2) (c .before .if1 .left), c .byte .ensures .0)
 
 pub wanted-spec : {M : Type 1} → statement M
 wanted-spec =
     tie.close
-    (tie.spec add-rest add-if1 add-result mul-result add-result-2 returns byte-requires add-result-3 mul-result-2 add-result-4 returns-2)
+    (tie.spec
+    add-rest
+    add-if1
+    add-result
+    mul-result
+    add-result-2
+    returns
+    byte-requires
+    add-result-3
+    mul-result-2
+    add-result-4
+    returns-2)

@@ -1,0 +1,39 @@
+-- `denkumari::maps::tell_map`: case by case.
+use mathlib.Core.Path.{refl}
+use borrow.Author.Needs.{needs}
+use Rattle.denkumari.proofs.maps.tell_map.Statement.{statement}
+use Rattle.denkumari.proofs.maps.tell_map.Tie as tie
+
+node-of-requires : tie.Need-node-of-requires
+node-of-requires c κs = search needs
+
+enum-told : tie.Need-enum-told
+enum-told c = search needs
+
+enum-known-verdict : tie.Need-enum-known-verdict
+enum-known-verdict c = search needs
+
+tell-refused-requires : tie.Need-tell-refused-requires
+tell-refused-requires c κs = search needs
+
+returns : tie.Need-returns
+returns c =
+    let node-of′ = c .before .before .node-of in
+    rw (c .enum-told .given .1, node-of′ .ensures) refl
+
+returns-2 : tie.Need-returns-2
+returns-2 c =
+    let node-of′ = c .before .before .before .before .node-of in
+    let verdict′ = c .before .before .verdict in
+    rw (verdict′ .given .1, c .tell-refused .ensures, node-of′ .ensures) refl
+
+pub tell-map-spec : {M : Type 1} → statement M
+tell-map-spec =
+    tie.close
+    (tie.spec
+    node-of-requires
+    enum-told
+    enum-known-verdict
+    tell-refused-requires
+    returns
+    returns-2)
