@@ -94,10 +94,24 @@ tools/ihex examples/banks.form --load 256 >"$room/banks.hex" && tools/srec examp
 tools/rehex "$room/banks.hex" --to srec >"$room/s37" && tools/rehex --to hex - <"$room/banks.s37" >"$room/hex" || wrong=1
 same "$room/banks.s37" "$room/s37" "S-records from Intel HEX are not those from the layout"
 same "$room/banks.hex" "$room/hex" "Intel HEX from S-records is not that from the layout"
-is 1 tools/rehex "$room/banks.hex" --to hex
 is 1 tools/rehex "$room/banks.hex" --to srec --load 257
-is 2 tools/rehex "$room/banks.hex"
 is 2 tools/rehex "$room/banks.hex" --to hex --width 2
+is 2 tools/rehex "$room/banks.s37" --width 2
+# the kind by the first character, and the other one without --to
+tools/rehex "$room/banks.hex" >"$room/s37" && tools/rehex "$room/banks.s37" -o "$room/hex" || wrong=1
+same "$room/banks.s37" "$room/s37" "S-records from Intel HEX without --to are others"
+same "$room/banks.hex" "$room/hex" "Intel HEX from S-records without --to is another"
+is 1 tools/rehex "$room/banks.hex" --to hex
+# far above 1,048,576: the lowest address that the file gives is the load address unless it is said
+tools/ihex examples/banks.form --load 0xFFFF0000 >"$room/far.hex" && tools/srec examples/banks.form --load 0xFFFF0000 >"$room/far.s37" || wrong=1
+tools/rehex "$room/far.hex" >"$room/s37" && tools/rehex "$room/far.s37" >"$room/hex" || wrong=1
+same "$room/far.s37" "$room/s37" "S-records from Intel HEX at a high address are others"
+same "$room/far.hex" "$room/hex" "Intel HEX from S-records at a high address is another"
+is 1 tools/rehex "$room/far.hex" --load 0
+printf 'S\n' >"$room/broken"
+is 1 tools/rehex "$room/broken"
+printf '' >"$room/broken"
+is 1 tools/rehex "$room/broken"
 is 0 tools/bench "$room/banks.hex" "$room/banks.hex"
 is 0 tools/bench "$room/banks.hex" "$room/banks.hex" --range 0x100 5
 is 1 tools/bench "$room/banks.hex" "$room/banks.hex" --range 0x100 6
