@@ -71,17 +71,26 @@ def damaged(rng, text):
 
 
 def rehex_case(rng):
-    """A file of records, good or damaged, as records of the other kind."""
+    """A file of records, good or damaged, as records of either kind."""
     kind, load, text = damage.random_good(rng)[:3]
     text, load = damaged(rng, text), rng.choice((load, load, load + 1, 0))
-    width = 0 if kind == "srec" else rng.choice((2, 4, 4, 3))
+    width = rng.choice((0, 0, 2, 4, 4, 3))
     try:
         count, image, starts, sizes = records.read(kind, text, load, bytes(REACH), [0] * BLOCKS, [0] * BLOCKS)
         told = written("srec" if width else "hex", width, image, list(zip(starts[:count], sizes[:count])), load)
     except records.Refused as refused:
-        why, *rest = reasons.reason(kind, text, load)
-        told = (f"{refused}\n" + (f"line {rest[0]} {why} {rest[1]} {rest[2]}\n" if why else "")).encode()
-    return [str(width), str(load)], text, told
+        line = records.fault(kind, text, load)
+        told = (f"{refused}\n" + ("" if line is None else f"line {line}\n")).encode()
+    return [str(int(kind == "srec")), str(width), str(load)], text, told
+
+
+def reason_case(rng):
+    """A file of records, good or damaged, and why it is bad."""
+    kind, load, text = damage.random_good(rng)[:3]
+    text, load = damaged(rng, text), rng.choice((load, load, load + 1, 0))
+    why, *rest = reasons.reason(kind, text, load)
+    told = f"reason {why} {rest[0]} {rest[1]} {rest[2]}\n"
+    return [str(int(kind == "srec")), str(load)], text, told.encode()
 
 
 def some_bytes(rng, load, span):
@@ -162,7 +171,7 @@ def main():
     parser.add_argument("--cases", type=manners.some, default=1000)
     parser.add_argument("--seed", type=manners.count, default=1)
     asked = parser.parse_args()
-    makers = {"station": station_case, "rehex": rehex_case, "bencher": bencher_case, "converter": converter_case, "mapper": mapper_case}
+    makers = {"station": station_case, "rehex": rehex_case, "reason": reason_case, "bencher": bencher_case, "converter": converter_case, "mapper": mapper_case}
     for name in set(asked.names) - set(makers):
         parser.error(f"there is no program {name}: {', '.join(makers)}")
     wrong = 0

@@ -97,11 +97,13 @@ same "$room/banks.hex" "$room/hex" "Intel HEX from S-records is not that from th
 is 1 tools/rehex "$room/banks.hex" --to srec --load 257
 is 2 tools/rehex "$room/banks.hex" --to hex --width 2
 is 2 tools/rehex "$room/banks.s37" --width 2
-# the kind by the first character, and the other one without --to
+# the kind by the first character, and the other one without --to; a file of its own kind comes back as it was
 tools/rehex "$room/banks.hex" >"$room/s37" && tools/rehex "$room/banks.s37" -o "$room/hex" || wrong=1
 same "$room/banks.s37" "$room/s37" "S-records from Intel HEX without --to are others"
 same "$room/banks.hex" "$room/hex" "Intel HEX from S-records without --to is another"
-is 1 tools/rehex "$room/banks.hex" --to hex
+tools/rehex "$room/banks.hex" --to hex >"$room/hex" && tools/rehex "$room/banks.s37" --to srec >"$room/s37" || wrong=1
+same "$room/banks.hex" "$room/hex" "Intel HEX does not come back from Intel HEX"
+same "$room/banks.s37" "$room/s37" "S-records do not come back from S-records"
 # far above 1,048,576: the lowest address that the file gives is the load address unless it is said
 tools/ihex examples/banks.form --load 0xFFFF0000 >"$room/far.hex" && tools/srec examples/banks.form --load 0xFFFF0000 >"$room/far.s37" || wrong=1
 tools/rehex "$room/far.hex" >"$room/s37" && tools/rehex "$room/far.s37" >"$room/hex" || wrong=1

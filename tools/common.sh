@@ -130,7 +130,7 @@ ask() {
     [ -s "$room/said" ] || say "the program gave no answer"
     case $(head -c 8 "$room/said" | tr -d '\000') in
     'refused ')
-        # the line of a file that is at fault, from 0, where the program names one, with its reason and the reason's numbers
+        # the line of a file that is at fault, from 0, where the program names one; why, another program tells
         line=$(sed -n 's/^line //p' "$room/said")
         read -r _ number place _ <"$room/said" || say "the program gave no answer"
         text=$(words "$number" "$place")
@@ -190,8 +190,7 @@ records_words() {
     case $1 in
     4)
         if [ -n "$line" ]; then
-            # shellcheck disable=SC2086
-            reason_words $line
+            reason_of "$from" "${kind:-0}" "${load:-0}"
         elif [ "$(wc -c <"$from")" -gt "$2" ]; then
             echo "the file is longer than $2 bytes"
         else

@@ -5,6 +5,7 @@ crate_layout=layout
 crate_mapper=prog_map
 crate_station=prog_records
 crate_rehex=prog_rehex
+crate_reason=prog_reason
 crate_bencher=prog_overlay
 crate_converter=prog_convert
 crate_library=denkumari

@@ -1,7 +1,15 @@
 # shellcheck shell=sh disable=SC2154
-# Why a file of records was refused, in words; the tools read it, nobody runs it. The program's line is `line N REASON FIRST SECOND`, N from 0, the reason and
-# its numbers as include/denkumari.h has them.
+# Why a file of records was refused, in words; the tools read it, nobody runs it. The program's line is `reason REASON N FIRST SECOND`, N from 0, the reason
+# and its numbers as include/denkumari.h has them.
 [ "${0##*/}" != reasons.sh ] || . "$(dirname "$(readlink -f -- "$0")")/start.sh"
+
+# reason_of FILE KIND LOAD: the words for a bad file, by the program that tells the reason
+reason_of() {
+    build_program "$crate_reason"
+    launch "$crate_reason" "$2" "$3" <"$1" >"$room/reason" || say "the program failed"
+    read -r _ why at first second <"$room/reason" || say "the program gave no answer"
+    reason_words "$at" "$why" "$first" "$second"
+}
 
 # reason_words N REASON FIRST SECOND: one cause, and the line as it stands in the file
 reason_words() {

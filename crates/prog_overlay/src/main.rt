@@ -5,12 +5,12 @@
 //     bencher RELEASED OVERLAY LOAD ADDRESS COUNT    `overlay` or `released`, whichever the range comes from, and its bytes
 //
 // Bytes that a file does not give read as FF, as erased flash does. A refusal is one line, `refused` with its number and place; where a file was refused,
-// one more says which, and one more the line at fault, from 0, if there is one, with its reason (include/denkumari.h) and the reason's two numbers.
+// one more says which, and one more the line at fault, from 0, if there is one.
 use bitvec::Hex;
 use blocks::Blocks;
 use overlay::Listed;
 use overlay::Source;
-use record_reason::Why;
+use record_fault::Fault;
 use refusal::Opt;
 use refusal::Refusal;
 ghost use lib.ListN.{length};
@@ -60,21 +60,6 @@ fn refuse(why: Refusal, name: &[u8]) {
     io::write_all(1, b"\n");
 }
 
-// The line at fault, its reason and the reason's two numbers, where there is one.
-fn tell_reason(found: Why) {
-    if found.reason != 0 {
-        io::write_all(1, b"line ");
-        io::print_decimal(1, found.line);
-        io::write_all(1, b" ");
-        io::print_decimal(1, found.reason);
-        io::write_all(1, b" ");
-        io::print_decimal(1, found.first);
-        io::write_all(1, b" ");
-        io::print_decimal(1, found.second);
-        io::write_all(1, b"\n");
-    }
-}
-
 // What a file's text gives, in what is lent.
 fn load_text(
     load: u32,
@@ -87,7 +72,9 @@ fn load_text(
     let found = record_read::read(0, text, load, bytes, offsets, sizes);
     if let Blocks::Refused(why) = found {
         refuse(why, name);
-        tell_reason(record_reason::reason_of(0, text, load));
+        if let Fault::At(line) = record_fault::line_at_fault(0, text, load) {
+            tell_number(b"line", line);
+        }
     }
     found
 }

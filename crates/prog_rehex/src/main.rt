@@ -1,16 +1,26 @@
-// The program behind tools/rehex: reads a file of records from standard input and writes its bytes as records of the other kind.
+// The program behind tools/rehex: reads a file of records from standard input and writes its bytes as records of the kind that is asked for.
 //
-//     rehex FORMAT LOAD    FORMAT 0 writes Intel HEX from S-records, 2 and 4 write S-records of that address width from Intel HEX
+//     prog_rehex KIND FORMAT LOAD    KIND 0 reads Intel HEX, 1 S-records; FORMAT 0 writes Intel HEX, 2 and 4 S-records of that address width
 //
-// A refusal is one line on standard output, `refused` with its number and place, and where a line of the file is at fault one more: `line`, its
-// number, from 0, the reason (include/denkumari.h) and the reason's two numbers.
+// LOAD is the lowest address at which the file may give bytes. A refusal is one line on standard output, `refused` with its number and place, and where a
+// line of the file is at fault one more with its number, from 0.
 use blocks::Blocks;
+use record_fault::Fault;
 use record_write::Written;
 use refusal::Opt;
 use refusal::Refusal;
-ghost use Prim.Native.Nat.{_≤_};
+ghost use mathlib.Core.List.{_++_};
+ghost use mathlib.Core.Path.{_≡_};
+ghost use Prim.Native.Nat.{_≤_, min};
 ghost use lib.ListN.{length};
-ghost use Rattle.thm_record_room.specs.Calls.{NotShort};
+ghost use Rattle.print_text.specs.Lines.{refusalText};
+ghost use Rattle.print_text.specs.Puts.{Puts};
+ghost use Rattle.print_text.specs.declared.Written.the-variants.{To};
+ghost use Rattle.prog_args.specs.Text.{lineRoom, Stands, Shows};
+ghost use Rattle.record_fault.specs.Reading.{faulty, readText};
+ghost use Rattle.record_write.specs.Cut.{blocksIn};
+ghost use Rattle.prog_rehex.specs.Program.{bytesRoom, blocksRoom, faultText, turnedText, Turned};
+ghost use Rattle.prog_rehex.specs.Steps.{textRoom, Records, Turns};
 
 // The longest file that is read, and a byte more, so that nothing is cut to a sound file.
 const SOURCE: usize = 3_276_801;
@@ -32,10 +42,13 @@ fn put(
     sizes: &[u64],
     out: &mut [u8],
 ) -> Written
-    requires { ⌜ length (now bytes) ≤ 1048576 ⌝ }
-    requires { ⌜ length (now offsets) ≤ 4096 ⌝ }
-    requires { ⌜ 3145728 ≤ length (now out) ⌝ }
-    ensures { λ r. ⌜ NotShort r ⌝ }
+    requires { ⌜ length (now bytes) ≤ bytesRoom ⌝ }
+    requires { ⌜ length (now offsets) ≤ blocksRoom ⌝ }
+    requires { ⌜ length (now offsets) ≡ length (now sizes) ⌝ }
+    requires { ⌜ textRoom ≤ length (now out) ⌝ }
+    ensures { λ r. ⌜
+        Records format load (now (bytes .entry)) (blocksIn (now (offsets .entry)) (now (sizes .entry))) (now (out .entry)) r (now (out .exit))
+        ⌝ }
 {
     if format == 0 {
         return record_ihex::write_ihex(bytes, offsets, sizes, load, out);
@@ -43,12 +56,9 @@ fn put(
     record_srec::write_srec(bytes, offsets, sizes, load, format, out)
 }
 
-// The kind that is read for the one that is written.
-fn other(format: u8) -> u8 {
-    if format == 0 { 1 } else { 0 }
-}
-
-fn rewrite(
+// What a file of a kind gives, as records.
+fn turn(
+    kind: u8,
     format: u8,
     load: u32,
     source: &[u8],
@@ -57,77 +67,125 @@ fn rewrite(
     sizes: &mut [u64],
     out: &mut [u8],
 ) -> Written
-    requires { ⌜ length (now bytes) ≤ 1048576 ⌝ }
-    requires { ⌜ length (now offsets) ≤ 4096 ⌝ }
-    requires { ⌜ 3145728 ≤ length (now out) ⌝ }
+    requires { ⌜ length (now bytes) ≡ bytesRoom ⌝ }
+    requires { ⌜ length (now offsets) ≡ blocksRoom ⌝ }
+    requires { ⌜ length (now sizes) ≡ blocksRoom ⌝ }
+    requires { ⌜ textRoom ≤ length (now out) ⌝ }
+    ensures { λ r. ⌜
+        Turns format load (now (bytes .entry)) (readText kind load (now (source .entry))) (now (out .entry)) r (now (out .exit))
+        ⌝ }
 {
-    match record_read::read(other(format), source, load, bytes, offsets, sizes) {
+    let found = record_read::read(kind, source, load, bytes, offsets, sizes);
+    match found {
         Blocks::Refused(why) => Written::Refused(why),
         Blocks::Found(count) => {
-            let n = prog_args::within(count, offsets);
-            let m = prog_args::within(count, sizes);
-            put(format, load, bytes, &offsets[..n], &sizes[..m], out)
+            let n = count as usize;
+            put(format, load, bytes, &offsets[..n], &sizes[..n], out)
         }
     }
 }
 
-// A number behind others.
-fn tell_number(number: u64) {
-    io::write_all(1, b" ");
-    io::print_decimal(1, number);
+// The line that is at fault, behind a refusal's.
+fn put_line(at: usize, line: u64, out: &mut [u8]) -> usize
+    requires { ⌜ at ≤ lineRoom ⌝ }
+    requires { ⌜ textRoom ≤ length (now out) ⌝ }
+    ensures { λ r. ⌜ Puts (faultText (faulty line)) (now (out .entry)) at (To r) (now (out .exit)) ⌝ }
+{
+    let numbers = [line];
+    let print_text::Written::To(end) = print_text::put_line(out, at, b"line", &numbers) else {
+        return 0;
+    };
+    end
 }
 
-// A refusal, and the line at fault where there is one, with its reason and the reason's two numbers.
-fn refuse(format: u8, load: u32, source: &[u8], why: Refusal) {
-    prog_args::refuse(why);
-    let found = record_reason::reason_of(other(format), source, load);
-    if found.reason != 0 {
-        io::write_all(1, b"line ");
-        io::print_decimal(1, found.line);
-        tell_number(found.reason);
-        tell_number(found.first);
-        tell_number(found.second);
-        io::write_all(1, b"\n");
+// A refusal's line, and one with the line at fault where there is one.
+fn put_fault(why: Refusal, kind: u8, load: u32, source: &[u8], out: &mut [u8]) -> usize
+    requires { ⌜ textRoom ≤ length (now out) ⌝ }
+    ensures { λ r. ⌜
+        Stands (refusalText why ++ faultText (readText kind load (now (source .entry)))) (now (out .entry)) r (now (out .exit))
+        ⌝ }
+{
+    let at = prog_args::put_refusal(why, out);
+    let fault = record_fault::line_at_fault(kind, source, load);
+    match fault {
+        Fault::Good => at,
+        Fault::At(line) => put_line(at, line, out),
     }
 }
 
-fn write(
+// The text of a file: its records, or why not.
+fn put_file(
+    kind: u8,
     format: u8,
     load: u32,
     source: &[u8],
-    bytes: &mut [u8; BYTES],
-    offsets: &mut [u64; BLOCKS],
-    sizes: &mut [u64; BLOCKS],
-    out: &mut [u8; TEXT],
-) {
-    let text: &mut [u8] = out;
-    match rewrite(format, load, source, bytes, offsets, sizes, text) {
-        Written::Refused(why) => refuse(format, load, source, why),
-        Written::Length(length) => {
-            prog_args::print(text, length);
-        }
+    bytes: &mut [u8],
+    offsets: &mut [u64],
+    sizes: &mut [u64],
+    out: &mut [u8],
+) -> usize
+    requires { ⌜ length (now bytes) ≡ bytesRoom ⌝ }
+    requires { ⌜ length (now offsets) ≡ blocksRoom ⌝ }
+    requires { ⌜ length (now sizes) ≡ blocksRoom ⌝ }
+    requires { ⌜ textRoom ≤ length (now out) ⌝ }
+    ensures { λ r. ⌜ Stands (turnedText kind format load (now (bytes .entry)) (now (source .entry))) (now (out .entry)) r (now (out .exit)) ⌝ }
+{
+    if source.len() >= SOURCE {
+        return prog_args::put_refusal(Refusal::Malformed(0), out);
+    }
+    let written = turn(kind, format, load, source, bytes, offsets, sizes, out);
+    match written {
+        Written::Refused(why) => put_fault(why, kind, load, source, out),
+        Written::Length(length) => length as usize,
     }
 }
 
+// The text of a file, handed to standard output from the front of `out`: how many bytes it is.
+fn write(
+    kind: u8,
+    format: u8,
+    load: u32,
+    source: &[u8],
+    bytes: &mut [u8],
+    offsets: &mut [u64],
+    sizes: &mut [u64],
+    out: &mut [u8],
+) -> usize
+    requires { ⌜ length (now bytes) ≡ bytesRoom ⌝ }
+    requires { ⌜ length (now offsets) ≡ blocksRoom ⌝ }
+    requires { ⌜ length (now sizes) ≡ blocksRoom ⌝ }
+    requires { ⌜ textRoom ≤ length (now out) ⌝ }
+    ensures { λ r. ⌜ Shows (turnedText kind format load (now (bytes .entry)) (now (source .entry))) r (now (out .exit)) ⌝ }
+{
+    let count = put_file(kind, format, load, source, bytes, offsets, sizes, out);
+    prog_args::print(out, count as u64)
+}
+
+// Reads a file and hands its text to standard output: how many bytes that is.
 fn run(
+    kind: u8,
     format: u8,
     load: u32,
     source: &mut [u8],
-    bytes: &mut [u8; BYTES],
-    offsets: &mut [u64; BLOCKS],
-    sizes: &mut [u64; BLOCKS],
-    out: &mut [u8; TEXT],
-) {
+    bytes: &mut [u8],
+    offsets: &mut [u64],
+    sizes: &mut [u64],
+    out: &mut [u8],
+) -> usize
+    requires { ⌜ length (now source) ≡ 3276801 ⌝ }
+    requires { ⌜ length (now bytes) ≡ bytesRoom ⌝ }
+    requires { ⌜ length (now offsets) ≡ blocksRoom ⌝ }
+    requires { ⌜ length (now sizes) ≡ blocksRoom ⌝ }
+    requires { ⌜ textRoom ≤ length (now out) ⌝ }
+    ensures { λ r. ⌜ Turned kind format load r ⌝ }
+{
     let n = io::read_full(0, source);
-    if n == source.len() {
-        prog_args::refuse(Refusal::Malformed(0));
-        return;
-    }
-    write(format, load, &source[..n], bytes, offsets, sizes, out);
+    write(kind, format, load, &source[..n], bytes, offsets, sizes, out)
 }
 
 // The arrays go by reference, with their lengths, and are not looked at one by one.
 fn start(
+    kind: u8,
     format: u8,
     load: u32,
     source: &mut [u8; SOURCE],
@@ -135,27 +193,41 @@ fn start(
     offsets: &mut [u64; BLOCKS],
     sizes: &mut [u64; BLOCKS],
     out: &mut [u8; TEXT],
-) {
-    run(format, load, source, bytes, offsets, sizes, out);
+) -> usize
+    ensures { λ r. ⌜ Turned kind format load r ⌝ }
+{
+    run(kind, format, load, source, bytes, offsets, sizes, out)
+}
+
+// A kind or a format that no byte holds is as unknown as 255.
+fn choice(n: u32) -> u8
+    ensures { λ r. ⌜ r ≡ min n 255 ⌝ }
+{
+    if n < 255 { n as u8 } else { 255 }
 }
 
 fn main() {
-    let Opt::Some(format) = prog_args::number_at(1) else {
-        return;
-    };
-    let Opt::Some(load) = prog_args::number_at(2) else {
-        return;
-    };
-    if format > 4 {
+    let count = os::arg_count();
+    if count > 4 {
         return;
     }
+    let Opt::Some(kind) = prog_args::number_at(1) else {
+        return;
+    };
+    let Opt::Some(format) = prog_args::number_at(2) else {
+        return;
+    };
+    let Opt::Some(load) = prog_args::number_at(3) else {
+        return;
+    };
     let mut source = [0u8; SOURCE];
     let mut bytes = [0u8; BYTES];
     let mut offsets = [0u64; BLOCKS];
     let mut sizes = [0u64; BLOCKS];
     let mut out = [0u8; TEXT];
     start(
-        format as u8,
+        choice(kind),
+        choice(format),
         load,
         &mut source,
         &mut bytes,

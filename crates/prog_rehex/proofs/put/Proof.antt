@@ -1,5 +1,5 @@
 -- `put` meets its contract: every file of 1,048,576 bytes in 4,096 blocks fits the text.
-use Rattle.thm_record_room.specs.Theorems.Calls.{turned-hex, turned-srec}
+use Rattle.prog_rehex.specs.Laws.Turned.{hex-puts, srec-puts}
 use borrow.Author.Needs.{needs}
 use Rattle.prog_rehex.proofs.put.Statement.{statement}
 use Rattle.prog_rehex.proofs.put.Tie as tie
@@ -15,9 +15,10 @@ returns c =
     let d = c .before .before .before .before .before .before .before .before in
     let a = d .before .args in
     let p = d .before .pre in
-    turned-hex (a .bytes .now) (a .offsets .now) (a .sizes .now) (a .load) (a .out .now) (λ i. d .shared-slice-known .given i .fits)
-    (p .1 .0) (p .0) (p .1 .1)
-    (c .before .before .write-ihex .ensures)
+    rw (c .before .before .before .before .if1 .taken)
+    (hex-puts (a .bytes .now) (a .offsets .now) (a .sizes .now) (a .load) (a .out .now) (λ i. d .shared-slice-known .given i .fits)
+    (p .0) (p .1 .0) (p .1 .1 .0) (p .1 .1 .1)
+    (c .before .before .write-ihex .ensures))
 
 write-srec-requires : tie.Need-write-srec-requires
 write-srec-requires c κs = search needs
@@ -30,11 +31,9 @@ returns-2 c =
     let d = c .before .before .before .before .before .before .before .before in
     let a = d .before .args in
     let p = d .before .pre in
-    turned-srec (a .bytes .now) (a .offsets .now) (a .sizes .now) (a .load) (a .out .now) (λ i. d .shared-slice-known .given i .fits)
-    (p .1 .0) (p .0) (p .1 .1)
+    srec-puts (a .bytes .now) (a .offsets .now) (a .sizes .now) (a .load) (a .out .now) (λ i. d .shared-slice-known .given i .fits)
+    (p .0) (p .1 .0) (p .1 .1 .0) (p .1 .1 .1) (c .before .before .before .before .if1 .left)
     (c .before .before .write-srec .ensures)
 
 pub put-spec : {M : Type 1} → statement M
-put-spec =
-    tie.close
-    (tie.spec write-ihex-requires same-length returns write-srec-requires same-length-2 returns-2)
+put-spec = tie.close (tie.spec write-ihex-requires same-length returns write-srec-requires same-length-2 returns-2)

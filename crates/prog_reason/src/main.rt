@@ -1,0 +1,77 @@
+// The program behind the words for a bad file of records: reads the file from standard input and writes which line is at fault, and why.
+//
+//     prog_reason KIND LOAD    KIND 0 reads Intel HEX, 1 S-records; LOAD is the lowest address at which the file may give bytes
+//
+// One line on standard output: `reason`, the reason (include/denkumari.h), 0 for a good file, the line, from 0, and the reason's two numbers.
+use print_text::Written;
+use refusal::Opt;
+ghost use mathlib.Core.Path.{_≡_};
+ghost use Prim.Native.Nat.{_≤_, min};
+ghost use lib.ListN.{length};
+ghost use Rattle.prog_args.specs.Text.{lineRoom, Stands, Shows};
+ghost use Rattle.prog_reason.specs.Program.{reasonText, Told};
+
+// The longest file that tools/rehex and tools/bench read, and a byte more.
+const SOURCE: usize = 3_276_801;
+
+// The line for a file, put at the front of a buffer that holds every such line: how long it is.
+fn put(kind: u8, load: u32, source: &[u8], out: &mut [u8]) -> usize
+    requires { ⌜ lineRoom ≤ length (now out) ⌝ }
+    ensures { λ r. ⌜ Stands (reasonText kind load (now (source .entry))) (now (out .entry)) r (now (out .exit)) ⌝ }
+{
+    let w = record_reason::reason_of(kind, source, load);
+    let numbers = [w.reason, w.line, w.first, w.second];
+    let Written::To(end) = print_text::put_line(out, 0, b"reason", &numbers) else {
+        return 0;
+    };
+    end
+}
+
+// The line for a file, handed to standard output from the front of `out`: how many bytes it is.
+fn write(kind: u8, load: u32, source: &[u8], out: &mut [u8]) -> usize
+    requires { ⌜ lineRoom ≤ length (now out) ⌝ }
+    ensures { λ r. ⌜ Shows (reasonText kind load (now (source .entry))) r (now (out .exit)) ⌝ }
+{
+    let count = put(kind, load, source, out);
+    prog_args::print(out, count as u64)
+}
+
+// Reads a file and hands its line to standard output: how many bytes that is.
+fn run(kind: u8, load: u32, source: &mut [u8], out: &mut [u8]) -> usize
+    requires { ⌜ length (now source) ≡ 3276801 ⌝ }
+    requires { ⌜ lineRoom ≤ length (now out) ⌝ }
+    ensures { λ r. ⌜ Told kind load r ⌝ }
+{
+    let n = io::read_full(0, source);
+    write(kind, load, &source[..n], out)
+}
+
+// The arrays go by reference, with their lengths, and are not looked at one by one.
+fn start(kind: u8, load: u32, source: &mut [u8; SOURCE], out: &mut [u8; 128]) -> usize
+    ensures { λ r. ⌜ Told kind load r ⌝ }
+{
+    run(kind, load, source, out)
+}
+
+// A kind that no byte holds is as unknown as 255.
+fn choice(n: u32) -> u8
+    ensures { λ r. ⌜ r ≡ min n 255 ⌝ }
+{
+    if n < 255 { n as u8 } else { 255 }
+}
+
+fn main() {
+    let count = os::arg_count();
+    if count > 3 {
+        return;
+    }
+    let Opt::Some(kind) = prog_args::number_at(1) else {
+        return;
+    };
+    let Opt::Some(load) = prog_args::number_at(2) else {
+        return;
+    };
+    let mut source = [0u8; SOURCE];
+    let mut out = [0u8; 128];
+    start(choice(kind), load, &mut source, &mut out);
+}

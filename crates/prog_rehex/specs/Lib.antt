@@ -1,0 +1,3 @@
+pub mod Program
+pub mod Steps
+pub mod Laws
