@@ -1,5 +1,6 @@
 pub mod Cells
 pub mod Marks
+pub mod ReadBack
 pub mod Steps
 pub mod Text
 pub mod Theorems
