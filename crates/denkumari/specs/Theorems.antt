@@ -1,4 +1,5 @@
 pub mod Conversions
+pub mod Maps
 pub mod Profiles
 pub mod RecordFiles
 pub mod Stores
