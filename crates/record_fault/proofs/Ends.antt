@@ -20,9 +20,9 @@ use Rattle.record_lines.specs.Lines.{firstLine, taken}
 use Rattle.record_lines.specs.Sums.{sumOf}
 use Rattle.record_lines.specs.declared.Line.{Line}
 use Rattle.record_ihex_line.specs.Format.{countOf, goodLine, hexItem}
-use Rattle.record_ihex_line.proofs.LineLaws.{bad-line, good-long}
+use Rattle.record_ihex_line.specs.Laws.Lines.{bad-line, good-long}
 use Rattle.record_srec_line.specs.Srec.{isS, isSound, typed, srecItem}
-use Rattle.record_srec_line.proofs.Laws.{item-bad, item-sound, sound-long, typed-bad}
+use Rattle.record_srec_line.specs.Laws.Lines.{item-bad, item-sound, sound-long, typed-bad}
 use Rattle.record_fault.specs.Reading.{formatBy}
 use Rattle.record_fault.specs.Steps.{firstBy, IsGood, longBy, stopBy, Stepped}
 use Rattle.record_fault.specs.Trail.{lineAt, nextOf}
@@ -155,7 +155,8 @@ stop-known format state text at h g =
       | yes e ↦
           let long = good-long l (good-hex format state l e g) in
           let same = same-pair text at 1 (omega arith) in
-          rw (eq-eqb format 0 e) (stops (length text - at) at (length l) (11 + 2 * pairAt text (at + 1)) (length text) (omega (arith, long, same)) (omega arith) room
+          rw (eq-eqb format 0 e) (stops (length text - at) at (length l) (11 + 2 * pairAt text (at + 1)) (length text) (omega (arith, long, same))
+              (omega arith) room
           (omega arith))
       | no e ↦
           let long = sound-long l (good-srec format state l e g) in

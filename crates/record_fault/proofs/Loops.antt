@@ -29,14 +29,8 @@ use Rattle.record_fault.specs.declared.Free.{Free}
 use Rattle.record_fault.specs.declared.Admit.the-variants.{No, High}
 use Rattle.record_fault.specs.declared.Scan.{Scan}
 use Rattle.record_fault.specs.declared.Scan.the-variants.{Whole, Broken}
-use Rattle.record_fault.proofs.Laws.{allowed-good, new-none, room-more, free-more, lines-at, lines-past, leaves-new, high-new, on′, off′, end′, laters, laters-faulty, laters-sound}
-
--- The line that comes next is not bad.
-pub good-at : (format : ℕ) (text : List ℕ) (n k : ℕ) {at state : ℕ} → at ≡ trail format text k .at → state ≡ trail format text k .state
-    → AllGood format text n → k < n → IsGood format state (lineAt text at)
-good-at format text n k {at} {state} p q g h =
-    subst (λ (s : ℕ). IsGood format s (lineAt text at)) (sym q)
-    (subst (λ (a : ℕ). IsGood format (trail format text k .state) (lineAt text a)) (sym p) (g k h))
+use Rattle.record_fault.proofs.Laws.{allowed-good, new-none, room-more, free-more, lines-at, lines-past, leaves-new, high-new, on′, off′, end′}
+use Rattle.record_fault.proofs.Laws.{laters, laters-faulty, laters-sound}
 
 -- ---- whether bytes are new
 

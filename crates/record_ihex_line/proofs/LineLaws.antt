@@ -1,10 +1,10 @@
 -- What a line says, by the tests on the way to each return.
 use mathlib.Core.Path.{_≡_, refl, sym, ap, _∙_}
-use mathlib.Core.Bool.{Bool, true, false, _&&_, and-eq-true-iff}
+use mathlib.Core.Bool.{Bool, true, false, _&&_}
 use mathlib.Core.List.{List}
 use Prim.Native.Nat.{ℕ, _+_, _*_, _%_, _≤_}
 use native.Mathlib.Omega.{arith}
-use borrow.Author.Tests.{eq-eqb, ne-eqb, eqb-true}
+use borrow.Author.Tests.{eq-eqb, ne-eqb}
 use lib.Dec.{eqb}
 use lib.ListN.{length, drop, getD}
 use Rattle.bitvec.specs.Laws.Lists.{length-listOf}
@@ -42,22 +42,7 @@ module _ (line : List ℕ) where
           (ap (λ (n : ℕ). eqb n 0) (e ∙ ap (λ (n : ℕ). checkedSum line 1 (5 + n)) ek)
           ∙ checked (allDigits (drop 1 line)) (sumOf (bytesAt line 1 (5 + countOf line)) % 256))
 
-  -- a good line is as long as its count says
-  pub good-long : goodLine line ≡ true → length line ≡ 11 + 2 * countOf line
-  unfolding goodLine
-  good-long g =
-      let a = eqb (getD line 0 0) 58 in
-      let b = eqb (length line) (11 + 2 * countOf line) in
-      let d = allDigits (drop 1 line) in
-      let four = and-eq-true-iff (a && b && d) (eqb (sumOf (bytesAt line 1 (5 + countOf line)) % 256) 0) .0 g in
-      let three = and-eq-true-iff (a && b) d .0 (four .0) in
-      eqb-true (length line) (11 + 2 * countOf line) (and-eq-true-iff a b .0 (three .0) .1)
-
   module _ (upper : ℕ) where
-    pub bad-line : goodLine line ≡ false → hexItem upper line ≡ bad
-    unfolding hexItem
-    bad-line g = rw g
-
     module _ (g : goodLine line ≡ true) (t f n : ℕ) (et : t ≡ typeOf line) (ef : f ≡ fieldOf line) (en : n ≡ countOf line) where
       pub data-line : t ≡ 0 → hexItem upper line ≡ gives (65536 * upper + f) (bytesAt line 9 n) upper
       unfolding hexItem byType

@@ -1,15 +1,11 @@
-// Intel HEX, one line at a time: what a line says, and the lines of a piece of bytes. Document 02, Ticket 1.
+// Intel HEX, one line at a time: what a line says. Document 02, Ticket 1.
 use record_lines::Line;
 ghost use mathlib.Core.Path.{_≡_};
 ghost use mathlib.Core.Bool.{Bool, true};
-ghost use mathlib.Core.List.{[], _∷_};
-ghost use Prim.Native.Nat.{_+_, _*_, _/_, _%_, _≤_, _<_, min};
-ghost use lib.ListN.{length, take};
+ghost use Prim.Native.Nat.{_<_};
 ghost use Rattle.record_lines.specs.Items.{plainLine, Says};
-ghost use Rattle.record_lines.specs.Pieces.{piece};
-ghost use Rattle.record_lines.specs.Puts.{Puts};
 ghost use Rattle.record_lines.specs.Spelling.{Spells};
-ghost use Rattle.record_ihex_line.specs.Format.{wordAt, goodLine, hexItem, recordText, upperText, hexText, endText};
+ghost use Rattle.record_ihex_line.specs.Format.{wordAt, goodLine, hexItem};
 
 // "types 00, 01 and 04": data, the end, and the upper half of the addresses that follow
 const TYPE_DATA: u8 = 0;
@@ -106,69 +102,4 @@ pub fn line_of(line: &[u8], t: &[u8; 256], state: u16) -> Line
         return plain(record_lines::BAD, state);
     }
     known_line(line, t, state)
-}
-
-// A record has at most 255 bytes.
-fn at_most_255(n: usize) -> u8
-    ensures { λ r. ⌜ r ≡ min n 255 ⌝ }
-{
-    if n < 255 { n as u8 } else { 255 }
-}
-
-// The line of a record at the front of the part. "Bytes of a record, checksum included, sum to zero and wrap at 256": written.
-fn put_record(out: &mut [u8], kind: u8, field: u16, bytes: &[u8]) -> usize
-    ensures { λ r. ⌜ Puts (recordText kind field (take 255 (now (bytes .entry)))) (now (out .entry)) r (now (out .exit)) ⌝ }
-    ensures { λ r. ⌜ r ≤ 522 ⌝ }
-{
-    let n = at_most_255(bytes.len());
-    let head = [n, (field / 256) as u8, (field % 256) as u8, kind];
-    let sum = std::num::wrapping_add_u8(record_lines::sum(&head, 4), record_lines::sum(bytes, n));
-    let check = [std::num::wrapping_sub_u8(0, sum)];
-    let end = 9 + 2 * (n as u16);
-    record_lines::put(out, 0, b':');
-    record_lines::put_pairs(out, 1, &head, 4);
-    record_lines::put_pairs(out, 9, bytes, n);
-    record_lines::put_pairs(out, end, &check, 1);
-    let last = (end as usize) + 2;
-    record_lines::put(out, last, b'\n');
-    last + 1
-}
-
-// "a type 04 record when the upper half differs from that in force", and nothing otherwise.
-fn put_upper(out: &mut [u8], in_force: u16, upper: u16) -> usize
-    ensures { λ r. ⌜ Puts (upperText in_force upper) (now (out .entry)) r (now (out .exit)) ⌝ }
-    ensures { λ r. ⌜ r ≤ 522 ⌝ }
-{
-    if upper == in_force {
-        return 0;
-    }
-    let bytes = [(upper / 256) as u8, (upper % 256) as u8];
-    put_record(out, 4, 0, &bytes)
-}
-
-// The lower of two lengths.
-fn least(a: usize, b: usize) -> usize
-    ensures { λ r. ⌜ r ≡ min a b ⌝ }
-{
-    if a < b { a } else { b }
-}
-
-// The lines of a piece at the front of the part.
-pub fn put_piece(out: &mut [u8], in_force: u16, address: u32, bytes: &[u8]) -> usize
-    ensures { λ r. ⌜ Puts (hexText in_force (piece address (take 255 (now (bytes .entry))))) (now (out .entry)) r (now (out .exit)) ⌝ }
-    ensures { λ r. ⌜ r ≤ 1044 ⌝ }
-{
-    let n = put_upper(out, in_force, (address / 65_536) as u16);
-    let from = least(n, out.len());
-    let m = put_record(&mut out[from..], 0, (address % 65_536) as u16, bytes);
-    n + m
-}
-
-// The end record's line at the front of the part.
-pub fn put_end(out: &mut [u8]) -> usize
-    ensures { λ r. ⌜ Puts endText (now (out .entry)) r (now (out .exit)) ⌝ }
-    ensures { λ r. ⌜ r ≤ 522 ⌝ }
-{
-    let none = [0u8; 1];
-    put_record(out, 1, 0, &none[0..0])
 }

@@ -29,8 +29,8 @@ pub digits-one : (l : List ℕ) (from i : ℕ) → i < length l → valueOf (get
     → allDigits (drop from l) ≡ allDigits (drop (i + 1) l)
 digits-one l from i h e inv = inv ∙ digits-on l i h (omega arith)
 
-pub pair-more : (l : List ℕ) (from j s h w : ℕ) → s ≡ sumOf (bytesAt l from j) → h ≡ valueOf (getD l (from + 2 * j) 0) → w ≡ valueOf (getD l (from + 2 * j + 1) 0)
-    → h ≤ 15 → w ≤ 15 → s + (16 * h + w) ≡ sumOf (bytesAt l from (j + 1))
+pub pair-more : (l : List ℕ) (from j s h w : ℕ) → s ≡ sumOf (bytesAt l from j) → h ≡ valueOf (getD l (from + 2 * j) 0)
+    → w ≡ valueOf (getD l (from + 2 * j + 1) 0) → h ≤ 15 → w ≤ 15 → s + (16 * h + w) ≡ sumOf (bytesAt l from (j + 1))
 pair-more l from j s h w e f g hb wb =
     let p : pairAt l (from + 2 * j) ≡ 16 * h + w = omega (arith, f, g) in
     omega (arith, e, p, sum-list-more j (λ k. pairAt l (from + 2 * k)))

@@ -1,13 +1,17 @@
--- Uniqueness: the contract of each public function has one outcome, over its own clause: the answer, and the lent part afterwards. `Learnt` is what
--- the check reads off a function's `ensures`.
+-- Uniqueness: the contract of each public function has one outcome, over its own clause. `Learnt` is what the check reads off a function's `ensures`.
 use mathlib.Core.Path.{_≡_, ap₂}
-use mathlib.Core.List.{List}
-use Prim.Native.Nat.{ℕ}
-use Rattle.refusal.specs.Laws.Outcome.{OneOutcome, OneView}
+use Prim.Native.Nat.{ℕ, _<_}
+use borrow.Fn.Kinds.{Dens, resT, endedOf}
+use contract.Lifetimes.{Lfts}
+use denote.Triple.Clauses.{AtExit}
+use lib.ListN.{getD}
+use Rattle.refusal.specs.Laws.Outcome.{OneOutcome}
 use Rattle.refusal.specs.Laws.Pick.{determined}
 use Rattle.record_lines.specs.declared.Cut.{Cut}
 use Rattle.record_lines.proofs.char_at.Kinds as char-at-kinds
 use Rattle.record_lines.proofs.char_at.Reads as char-at-reads
+use Rattle.record_lines.proofs.digit_table.Kinds as digit-table-kinds
+use Rattle.record_lines.proofs.digit_table.Reads as digit-table-reads
 use Rattle.record_lines.proofs.pair.Kinds as pair-kinds
 use Rattle.record_lines.proofs.pair.Reads as pair-reads
 use Rattle.record_lines.proofs.byte_at.Kinds as byte-at-kinds
@@ -22,12 +26,6 @@ use Rattle.record_lines.proofs.sum_checked.Kinds as sum-checked-kinds
 use Rattle.record_lines.proofs.sum_checked.Reads as sum-checked-reads
 use Rattle.record_lines.proofs.end_at.Kinds as end-at-kinds
 use Rattle.record_lines.proofs.end_at.Reads as end-at-reads
-use Rattle.record_lines.proofs.sum.Kinds as sum-kinds
-use Rattle.record_lines.proofs.sum.Reads as sum-reads
-use Rattle.record_lines.proofs.put.Kinds as put-kinds
-use Rattle.record_lines.proofs.put.Reads as put-reads
-use Rattle.record_lines.proofs.put_pairs.Kinds as put-pairs-kinds
-use Rattle.record_lines.proofs.put_pairs.Reads as put-pairs-reads
 use Rattle.record_lines.proofs.line_from.Kinds as line-from-kinds
 use Rattle.record_lines.proofs.line_from.Reads as line-from-reads
 
@@ -55,15 +53,11 @@ sum-checked-unique κs a x y e f p q = determined p q
 pub end-at-unique : OneOutcome 1 end-at-kinds.ps end-at-kinds.r end-at-reads.Learnt
 end-at-unique κs a x y e f p q = determined p q
 
-pub sum-unique : OneOutcome 1 sum-kinds.ps sum-kinds.r sum-reads.Learnt
-sum-unique κs a x y e f p q = determined p q
-
--- the part afterwards
-pub put-unique : OneView 1 put-kinds.ps put-kinds.r put-reads.Learnt (List ℕ) (λ κs x e. e .0 .now)
-put-unique κs a x y e f p q = determined p q
-
-pub put-pairs-unique : OneView 2 put-pairs-kinds.ps put-pairs-kinds.r put-pairs-reads.Learnt (List ℕ) (λ κs x e. e .0 .now)
-put-pairs-unique κs a x y e f p q = determined p q
+-- the table's 256 entries
+pub digit-table-unique : (κs : Lfts 0) (a : Dens κs digit-table-kinds.ps) (x y : resT digit-table-kinds.r κs .Denot)
+    (e f : AtExit (endedOf 0 digit-table-kinds.ps digit-table-kinds.r) κs) → digit-table-reads.Learnt κs a x e → digit-table-reads.Learnt κs a y f
+    → (c : ℕ) → c < 256 → getD x c 0 ≡ getD y c 0
+digit-table-unique κs a x y e f p q c h = determined (p c h) (q c h)
 
 -- where the line ends, and where the next one begins
 pub line-from-unique : OneOutcome 1 line-from-kinds.ps line-from-kinds.r line-from-reads.Learnt

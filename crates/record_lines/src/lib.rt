@@ -1,9 +1,8 @@
 // What Intel HEX and S-records have in common: hex digits, lines, sums of bytes, and what a line of a file says.
 ghost use mathlib.Core.Path.{_≡_};
 ghost use Prim.Native.Nat.{_+_, _*_, _%_, _≤_, _<_};
-ghost use lib.ListN.{length, take, drop, getD, set};
-ghost use lib.Seq.{sets};
-ghost use Rattle.record_lines.specs.Digits.{letterOf, valueOf, allDigits, byteText, bytesText, pairAt, bytesAt};
+ghost use lib.ListN.{length, drop, getD};
+ghost use Rattle.record_lines.specs.Digits.{valueOf, allDigits, pairAt, bytesAt};
 ghost use Rattle.record_lines.specs.Sums.{sumOf};
 ghost use mathlib.Core.Bool.{_&&_};
 ghost use Rattle.record_lines.specs.Lines.{isCr, lfNext};
@@ -33,14 +32,6 @@ pub struct Line {
 pub struct Cut {
     pub stop: usize,
     pub next: usize,
-}
-
-// The letter of a number below 16; of a larger one, that of its remainder by 16.
-fn letter(n: u8) -> u8
-    ensures { λ r. ⌜ r ≡ letterOf (n % 16) ⌝ }
-{
-    let d = n % 16;
-    if d < 10 { b'0' + d } else { 55 + d }
 }
 
 // What a character stands for, in either case; 16 is no digit.
@@ -191,58 +182,6 @@ pub fn sum_checked(line: &[u8], t: &[u8; 256], from: usize, n: usize) -> u32
         j += 1;
     }
     sum % 256
-}
-
-// The same sum, of bytes that are to be written: the first n.
-pub fn sum(bytes: &[u8], n: u8) -> u8
-    ensures { λ r. ⌜ r ≡ sumOf (take n (now (bytes .entry))) % 256 ⌝ }
-{
-    let count = n as usize;
-    let mut sum = 0u8;
-    let mut i = 0;
-    while i < count {
-        if bytes.len() <= i {
-            return sum;
-        }
-        sum = std::num::wrapping_add_u8(sum, bytes[i]);
-        i += 1;
-    }
-    sum
-}
-
-// Stores a character; past the end of the part it is left out.
-pub fn put(out: &mut [u8], at: usize, c: u8)
-    ensures { λ _. ⌜ now (out .exit) ≡ set (now (out .entry)) at c ⌝ }
-{
-    if at < out.len() {
-        out[at] = c;
-    }
-}
-
-// Two digits.
-fn put_pair(out: &mut [u8], at: u32, b: u8)
-    ensures { λ _. ⌜ now (out .exit) ≡ sets (now (out .entry)) at (byteText b) ⌝ }
-{
-    let place = at as usize;
-    put(out, place, letter(b / 16));
-    put(out, place + 1, letter(b % 16));
-}
-
-// The digits of the first n bytes, from a place on.
-pub fn put_pairs(out: &mut [u8], at: u16, bytes: &[u8], n: u8)
-    ensures { λ _. ⌜ now (out .exit) ≡ sets (now (out .entry)) at (bytesText (take n (now (bytes .entry)))) ⌝ }
-{
-    let start = at as u32;
-    let count = n as u32;
-    let mut i = 0u32;
-    while i < count {
-        let k = i as usize;
-        if bytes.len() <= k {
-            return;
-        }
-        put_pair(out, start + 2 * i, bytes[k]);
-        i += 1;
-    }
 }
 
 // Whether CR LF stands at a place.

@@ -7,7 +7,7 @@ use Prim.Native.Nat.{ℕ, suc, _+_, _-_, _*_, _%_, _^_, _<_, _≤_}
 use native.Mathlib.Omega.{arith}
 use lib.Dec.{ltb, leb, eqb}
 use lib.ListN.{length, getD, drop}
-use borrow.Author.Tests.{lt-ltb, le-ltb, le-leb, lt-leb, eq-eqb, ne-eqb, eqb-true}
+use borrow.Author.Tests.{lt-ltb, le-ltb, le-leb, lt-leb, eq-eqb, ne-eqb}
 use Rattle.bitvec.specs.Lists.{listOf}
 use Rattle.bitvec.specs.Laws.Lists.{length-listOf}
 use Rattle.record_lines.specs.Digits.{allDigits, pairAt, bytesAt}
@@ -17,7 +17,7 @@ use Rattle.record_lines.specs.Spelling.{checkedSum}
 use Rattle.record_lines.specs.Sums.{sumOf}
 use Rattle.record_lines.specs.declared.Line.{Line}
 use Rattle.record_srec_line.specs.Srec.{isS, isSound, agrees, numberFrom, countOf, addressOf, dataOf, fits, dataLine, endLine}
-use Rattle.record_srec_line.specs.Srec.{headerLine, typed, srecItem}
+use Rattle.record_srec_line.specs.Srec.{headerLine, typed}
 
 -- ---- what a line's fields say
 
@@ -72,31 +72,15 @@ module _ (l : List ℕ) where
     module _ (s : isS (getD l 0 0) ≡ true) where
       pub sound-count : (length l ≡ 4 + 2 * countOf l → ⊥) → isSound l ≡ false
       unfolding isSound
-      sound-count h = rw (le-leb 4 (length l) long, s, ne-eqb (length l) (4 + 2 * countOf l) h) (no-more (allDigits (drop 2 l)) (eqb (sumOf (bytesAt l 2 (countOf l + 1)) % 256) 255))
+      sound-count h =
+          rw (le-leb 4 (length l) long, s, ne-eqb (length l) (4 + 2 * countOf l) h)
+          (no-more (allDigits (drop 2 l)) (eqb (sumOf (bytesAt l 2 (countOf l + 1)) % 256) 255))
 
       pub sound-sum : length l ≡ 4 + 2 * countOf l → isSound l ≡ eqb (checkedSum l 2 (countOf l + 1)) 255
       unfolding isSound
       sound-sum h =
           rw (le-leb 4 (length l) long, s, eq-eqb (length l) (4 + 2 * countOf l) h)
           (checked (allDigits (drop 2 l)) (sumOf (bytesAt l 2 (countOf l + 1)) % 256))
-
--- A sound line is as long as its count says.
-and-both : (a b : Bool) → a && b ≡ true → (a ≡ true) × (b ≡ true)
-and-both true true e = (refl, refl)
-and-both true false e = (refl, e)
-and-both false b e = (e, go b e)
-  where
-    go : (x : Bool) → false ≡ true → x ≡ true
-    go true p = refl
-    go false p = p
-
-pub sound-long : (l : List ℕ) → isSound l ≡ true → length l ≡ 4 + 2 * countOf l
-unfolding isSound
-sound-long l h =
-    let three = leb 4 (length l) && isS (getD l 0 0) && allDigits (drop 2 l) in
-    let four = three && eqb (length l) (4 + 2 * countOf l) in
-    let both = and-both four (eqb (sumOf (bytesAt l 2 (countOf l + 1)) % 256) 255) h in
-    eqb-true (length l) (4 + 2 * countOf l) (and-both three (eqb (length l) (4 + 2 * countOf l)) (both .0) .1)
 
 -- ---- the types
 
@@ -183,15 +167,3 @@ module _ (t state : ℕ) (l : List ℕ) where
   pub typed-s9 : t ≡ 57 → typed t state l ≡ endLine 2 state l
   unfolding typed
   typed-s9 e = rw e
-
-  pub typed-bad : (t ≡ 48 → ⊥) → (t ≡ 49 → ⊥) → (t ≡ 51 → ⊥) → (t ≡ 55 → ⊥) → (t ≡ 57 → ⊥) → typed t state l ≡ bad
-  unfolding typed
-  typed-bad a b c d e = rw (ne-eqb t 48 a, ne-eqb t 49 b, ne-eqb t 51 c, ne-eqb t 55 d, ne-eqb t 57 e)
-
-pub item-bad : (state : ℕ) (l : List ℕ) → isSound l ≡ false → srecItem state l ≡ bad
-unfolding srecItem
-item-bad state l h = rw h
-
-pub item-sound : (state : ℕ) (l : List ℕ) → isSound l ≡ true → srecItem state l ≡ typed (getD l 1 0) state l
-unfolding srecItem
-item-sound state l h = rw h

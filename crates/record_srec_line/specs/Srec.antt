@@ -37,9 +37,6 @@ unfoldable pub lineText : ℕ → ℕ → ℕ → List ℕ → List ℕ
 lineText t w a bytes = 83 ∷ t ∷ bytesText (bodyOf w a bytes ++ (checksumOf (bodyOf w a bytes) ∷ []))
 
 -- "LF ends"
-abbrev pub partsOf : ℕ → List ℕ → ℕ → List ℕ
-partsOf t body check = (83 ∷ t ∷ bytesText (body ++ (check ∷ []))) ++ (10 ∷ [])
-
 abbrev pub endedLine : ℕ → ℕ → ℕ → List ℕ → List ℕ
 endedLine t w a bytes = lineText t w a bytes ++ (10 ∷ [])
 

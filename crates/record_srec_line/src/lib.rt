@@ -1,21 +1,15 @@
-// One S-record, a line of text: written for a piece of an image, and read. No file is walked here.
+// One S-record, a line of text: what it says. No file is walked here.
 use record_lines::Line;
 ghost use mathlib.Core.Path.{_≡_};
 ghost use mathlib.Core.Bool.{true};
-ghost use mathlib.Core.List.{[], _++_};
 ghost use mathlib.Core.Logic.{_⊎_};
-ghost use Prim.Native.Nat.{_+_, _*_, _/_, _%_, _^_, _≤_, _<_, min};
-ghost use lib.ListN.{length, take};
-ghost use lib.Seq.{sets};
-ghost use Rattle.record_lines.specs.Digits.{bytesText, pairAt};
+ghost use Prim.Native.Nat.{_+_, _*_, _^_, _≤_, _<_};
+ghost use lib.ListN.{length};
+ghost use Rattle.record_lines.specs.Digits.{pairAt};
 ghost use Rattle.record_lines.specs.Items.{plainLine, Says};
-ghost use Rattle.record_lines.specs.Pieces.{piece};
-ghost use Rattle.record_lines.specs.Puts.{Puts};
 ghost use Rattle.record_lines.specs.Spelling.{Spells};
-ghost use Rattle.record_lines.specs.Sums.{sumOf};
 ghost use Rattle.record_srec_line.specs.Srec.{isS, isSound, agrees, countOf, addressOf, dataLine, endLine, headerLine, typed};
 ghost use Rattle.record_srec_line.specs.Srec.{srecItem, firstFor, firstOf};
-ghost use Rattle.record_srec_line.specs.Srec.{headOf, widthOf, partsOf, endedLine, srecText, srecEnd};
 
 fn is_s(c: u8) -> bool
     ensures { λ r. ⌜ r ≡ isS c ⌝ }
@@ -188,104 +182,4 @@ pub fn line_of(line: &[u8], t: &[u8; 256], state: u16) -> Line
         return plain(record_lines::BAD, state);
     }
     known_line(line, t, state)
-}
-
-// The width that is written: 2, or 4 for every other number.
-fn width_of(width: u16) -> u8
-    ensures { λ r. ⌜ (r ≡ widthOf width) × ((r ≡ 2) ⊎ (r ≡ 4)) ⌝ }
-{
-    if width == 2 {
-        return 2;
-    }
-    4
-}
-
-// A record has at most 250 data bytes, so that its count is a byte at either width.
-fn at_most_250(n: usize) -> u8
-    ensures { λ r. ⌜ (r ≡ min n 250) × (r ≤ 250) ⌝ }
-{
-    if n < 250 { n as u8 } else { 250 }
-}
-
-// One byte of a number.
-fn byte_of(n: u32, scale: u32) -> u8
-    requires { ⌜ 0 < scale ⌝ }
-    ensures { λ r. ⌜ r ≡ n / scale % 256 ⌝ }
-{
-    (n / scale % 256) as u8
-}
-
-// The count and the address, in 5 bytes of which the first 1 + width are the line's.
-fn head_of(width: u8, address: u32, n: u8) -> [u8; 5]
-    requires { ⌜ (((width ≡ 2) ⊎ (width ≡ 4)) × (n ≤ 250)) ⌝ }
-    ensures { λ r. ⌜ take (width + 1) r ≡ headOf width address n ⌝ }
-{
-    let count = width + n + 1;
-    if width == 2 {
-        return [count, byte_of(address, 256), byte_of(address, 1), 0, 0];
-    }
-    [
-        count,
-        byte_of(address, 16_777_216),
-        byte_of(address, 65_536),
-        byte_of(address, 256),
-        byte_of(address, 1),
-    ]
-}
-
-// The letter, the digit, the first h bytes of the head, n bytes, the checksum and LF, at the front of the part.
-fn put_parts(out: &mut [u8], digit: u8, head: &[u8], h: u8, bytes: &[u8], n: u8, check: u8) -> usize
-    requires { ⌜ (h ≤ 5) × (n ≤ 250) × (h ≤ length (now head)) × (n ≤ length (now bytes)) ⌝ }
-    ensures { λ r. ⌜ Puts (partsOf digit (take h (now (head .entry)) ++ take n (now (bytes .entry))) check) (now (out .entry)) r (now (out .exit)) ⌝ }
-    ensures { λ r. ⌜ r ≤ 522 ⌝ }
-{
-    let middle = 2 + 2 * (h as u16);
-    let end = middle + 2 * (n as u16);
-    let last = (end as usize) + 2;
-    let sum = [check];
-    record_lines::put(out, 0, b'S');
-    record_lines::put(out, 1, digit);
-    record_lines::put_pairs(out, 2, head, h);
-    record_lines::put_pairs(out, middle, bytes, n);
-    record_lines::put_pairs(out, end, &sum, 1);
-    record_lines::put(out, last, b'\n');
-    last + 1
-}
-
-// The line of a record at the front of the part, and its LF. The 8-bit wrapping sum of count, address and data bytes, written as its ones' complement.
-fn put_line(out: &mut [u8], digit: u8, width: u16, address: u32, bytes: &[u8]) -> usize
-    ensures { λ r. ⌜ Puts (endedLine digit (widthOf width) address (take 250 (now (bytes .entry)))) (now (out .entry)) r (now (out .exit)) ⌝ }
-    ensures { λ r. ⌜ r ≤ 522 ⌝ }
-{
-    let w = width_of(width);
-    let n = at_most_250(bytes.len());
-    let head = head_of(w, address, n);
-    let sum = std::num::wrapping_add_u8(
-        record_lines::sum(&head, w + 1),
-        record_lines::sum(bytes, n),
-    );
-    put_parts(out, digit, &head, w + 1, bytes, n, 255 - sum)
-}
-
-// The line of a piece at the front of the part: S1 for width 2, S3 otherwise.
-pub fn put_piece(out: &mut [u8], width: u16, address: u32, bytes: &[u8]) -> usize
-    ensures { λ r. ⌜ Puts (srecText width (piece address (take 250 (now (bytes .entry))))) (now (out .entry)) r (now (out .exit)) ⌝ }
-    ensures { λ r. ⌜ r ≤ 522 ⌝ }
-{
-    if width == 2 {
-        return put_line(out, b'1', width, address, bytes);
-    }
-    put_line(out, b'3', width, address, bytes)
-}
-
-// The end record's line at the front of the part: S9 for width 2, S7 otherwise.
-pub fn put_end(out: &mut [u8], width: u16) -> usize
-    ensures { λ r. ⌜ Puts (srecEnd width) (now (out .entry)) r (now (out .exit)) ⌝ }
-    ensures { λ r. ⌜ r ≤ 522 ⌝ }
-{
-    let none = [0u8; 1];
-    if width == 2 {
-        return put_line(out, b'9', width, 0, &none[0..0]);
-    }
-    put_line(out, b'7', width, 0, &none[0..0])
 }

@@ -18,7 +18,7 @@ use Rattle.record_lines.specs.Laws.Puts.{sets-then}
 use Rattle.record_lines.specs.Sums.{sumOf}
 use Rattle.record_lines.specs.Laws.Sums.{sum-append}
 use Rattle.record_ihex_line.specs.Format.{checkOf, recordText, upperText, hexText, endText}
-use Rattle.record_ihex_line.proofs.RecordLaws.{check-byte, record-put}
+use Rattle.record_ihex_line.specs.Laws.Writes.{check-byte, record-put}
 use Rattle.record_srec_line.specs.Srec.{headOf, bodyOf, checksumOf, lineText, endedLine, addressBytes}
 use Rattle.record_srec_line.specs.Laws.ReadBack.{length-address}
 use Rattle.record_write.specs.Going.{tailText}

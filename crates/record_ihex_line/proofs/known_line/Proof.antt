@@ -1,7 +1,8 @@
 -- `record_ihex_line::known_line`: a law for each return.
 use native.Mathlib.Omega.{arith}
 use Rattle.record_ihex_line.proofs.LineLaws.{data-line, field-bad, end-line, end-bad, upper-line, upper-bad, other-bad}
-use Rattle.record_ihex_line.proofs.LineLaws.{good-long, says-bad, says-end, says-pass, says-data}
+use Rattle.record_ihex_line.specs.Laws.Lines.{good-long}
+use Rattle.record_ihex_line.proofs.LineLaws.{says-bad, says-end, says-pass, says-data}
 use borrow.Author.Needs.{needs}
 use Rattle.record_ihex_line.proofs.known_line.Statement.{statement}
 use Rattle.record_ihex_line.proofs.known_line.Tie as tie

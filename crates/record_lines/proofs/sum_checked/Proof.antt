@@ -2,9 +2,9 @@
 use mathlib.Core.Path.{_≡_, refl, ap, _∙_}
 use Prim.Native.Nat.{ℕ, _+_, _*_, _-_, _≤_}
 use native.Mathlib.Omega.{arith}
-use lib.ListN.{drop}
+use lib.ListN.{drop, getD}
 use Rattle.bitvec.specs.Lists.{listOf}
-use Rattle.record_lines.specs.Digits.{allDigits, bytesAt}
+use Rattle.record_lines.specs.Digits.{valueOf, allDigits, bytesAt}
 use Rattle.record_lines.specs.Sums.{sumOf}
 use Rattle.record_lines.proofs.SpellLaws.{sum-bad, digits-one, pair-more, sum-good}
 use borrow.Author.Needs.{needs}
@@ -96,7 +96,8 @@ loop-again c =
     let at = a .from + 2 * j in
     let hb : w .wide .result ≤ 15 = omega (arith, c .before .if1 .left) in
     let wb : v .wide2 .result ≤ 15 = omega (arith, c .if2 .left) in
-    let one = digits-one (a .line .now) (a .from) at (search needs) (omega (arith, hb, w .wide .ensures, w .before .value-by .ensures)) (h .loop .inv .1 .1 .1) in
+    let few : valueOf (getD (a .line .now) at 0) ≤ 15 = omega (arith, hb, w .wide .ensures, w .before .value-by .ensures) in
+    let one = digits-one (a .line .now) (a .from) at (search needs) few (h .loop .inv .1 .1 .1) in
     let two = digits-one (a .line .now) (a .from) (at + 1) (search needs) (omega (arith, wb, v .wide2 .ensures, v .before .value-by2 .ensures)) one in
     let e : at + 1 + 1 ≡ a .from + 2 * (j + 1) = omega arith in (
       omega arith,

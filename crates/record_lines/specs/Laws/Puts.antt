@@ -1,13 +1,16 @@
 -- Laws that proofs about Puts need.
 use mathlib.Core.Path.{_≡_, refl, sym, ap, ap₂, _∙_}
 use mathlib.Core.List.{List, [], _∷_, _++_, append-nil}
-use Prim.Native.Nat.{ℕ, suc, _+_, _-_, min}
+use Prim.Native.Nat.{ℕ, suc, _+_, _-_, _*_, _<_, min}
 use native.Mathlib.Decide.{decLe}
 use native.Mathlib.Nat.{add-zero, add-suc, suc-add}
+use native.Mathlib.Numerals.{add-one}
 use native.Mathlib.Omega.{arith}
-use lib.ListN.{length, take, drop, set, length-append, length-drop, take-append-drop, drop-of-length-le}
+use lib.ListN.{length, take, drop, getD, set, length-append, length-drop, take-append-drop, drop-of-length-le}
 use Rattle.refusal.specs.Laws.Pick.{determined}
-use lib.Seq.{sets, take-all, take-set-le, drop-set-add, length-sets}
+use lib.Seq.{sets, take-all, take-suc, take-set-le, drop-set-add, length-sets, length-take-le}
+use Rattle.record_lines.specs.Digits.{byteText, bytesText}
+use Rattle.record_lines.specs.Laws.DigitLaws.{length-bytesText, bytesText-append}
 use Rattle.record_lines.specs.Puts.{Puts}
 
 -- A run of stores and another behind it are one run.
@@ -21,6 +24,18 @@ sets-behind l i (x ∷ xs) ys =
 pub sets-then : (l : List ℕ) (i k : ℕ) (xs ys : List ℕ) {m n : List ℕ} → m ≡ sets l i xs → n ≡ sets m k ys → k ≡ i + length xs → n ≡ sets l i (xs ++ ys)
 sets-then l i k xs ys {m} p q e =
     q ∙ ap (λ (x : List ℕ). sets x k ys) p ∙ ap (λ (j : ℕ). sets (sets l i xs) j ys) e ∙ sets-behind l i xs ys
+
+-- the digits of one byte more
+pub one-pair-more : (old bytes : List ℕ) (at i : ℕ) {mid new : List ℕ} → i < length bytes → mid ≡ sets old at (bytesText (take i bytes))
+    → new ≡ sets mid (at + 2 * i) (byteText (getD bytes i 0)) → new ≡ sets old at (bytesText (take (i + 1) bytes))
+unfolding bytesText
+one-pair-more old bytes at i h p q =
+    let text = bytesText (take i bytes) in
+    let b = byteText (getD bytes i 0) in
+    let long : length text ≡ 2 * i = length-bytesText (take i bytes) ∙ ap (λ (n : ℕ). 2 * n) (length-take-le i bytes (omega arith)) in
+    q ∙ ap (λ (l : List ℕ). sets l (at + 2 * i) b) p ∙ ap (λ (k : ℕ). sets (sets old at text) (at + k) b) (sym long)
+    ∙ sets-behind old at text b ∙ ap (sets old at) (sym (bytesText-append (take i bytes) (getD bytes i 0 ∷ [])))
+    ∙ ap (λ (l : List ℕ). sets old at (bytesText l)) (sym (take-suc bytes i 0 h) ∙ ap (λ (k : ℕ). take k bytes) (sym (add-one i)))
 
 -- A run of stores from a place on is made in the part that begins there.
 pub sets-split : (b l : List ℕ) (n m : ℕ) → sets l (n + m) b ≡ take n l ++ sets (drop n l) m b

@@ -1,5 +1,5 @@
 -- `record_srec_line::known_line`: a sound line by its type.
-use Rattle.record_srec_line.proofs.Laws.{sound-long, item-sound}
+use Rattle.record_srec_line.specs.Laws.Lines.{sound-long, item-sound}
 use borrow.Author.Needs.{needs}
 use Rattle.record_srec_line.proofs.known_line.Statement.{statement}
 use Rattle.record_srec_line.proofs.known_line.Tie as tie

@@ -6,7 +6,7 @@ use native.Mathlib.Omega.{arith}
 use lib.ListN.{length, take}
 use lib.Seq.{sets, take-all}
 use Rattle.record_lines.specs.Digits.{bytesText}
-use Rattle.record_lines.proofs.Steps.{one-pair-more}
+use Rattle.record_lines.specs.Laws.Puts.{one-pair-more}
 use borrow.Author.Needs.{needs}
 use Rattle.record_write.proofs.line.put_bytes.Statement.{statement}
 use Rattle.record_write.proofs.line.put_bytes.Tie as tie
