@@ -53,7 +53,8 @@ loop-again c =
     let l = p .before .before .before in
     let a = l .before .before .before .args in (
       search needs,
-      spelled-more (a .line .now) (a .first) (a .address) (a .load) (a .bytes .now) (l .loop .j) (l .loop .inv .1) (p .pair-inside .ensures) (b .put-byte .ensures),
+      spelled-more (a .line .now) (a .first) (a .address) (a .load) (a .bytes .now) (l .loop .j) (l .loop .inv .1) (p .pair-inside .ensures)
+          (b .put-byte .ensures),
     )
 
 same-length : tie.Need-same-length Inv-loop μ-loop

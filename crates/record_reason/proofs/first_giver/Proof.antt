@@ -31,7 +31,8 @@ loop-less : tie.Need-loop-less Inv-loop μ-loop
 loop-less c = search needs
 
 loop-again : tie.Need-loop-again Inv-loop μ-loop
-loop-again c = seeking-on _ _ _ _ _ (c .before .before .before .before .before .loop .inv) (c .before .before .before .before .loop-test .taken) (c .before .before .before .search-line .ensures) (c .before .leaves .ensures) (c .next-giver .ensures)
+loop-again c = seeking-on _ _ _ _ _ (c .before .before .before .before .before .loop .inv) (c .before .before .before .before .loop-test .taken)
+    (c .before .before .before .search-line .ensures) (c .before .leaves .ensures) (c .next-giver .ensures)
 
 returns : tie.Need-returns Inv-loop μ-loop
 returns c = seeking-ends _ _ _ _ _ (c .before .loop .inv) (c .loop-test .left)

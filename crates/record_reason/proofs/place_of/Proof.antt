@@ -27,7 +27,8 @@ loop-less : tie.Need-loop-less Inv-loop μ-loop
 loop-less c = search needs
 
 loop-again : tie.Need-loop-again Inv-loop μ-loop
-loop-again c = walking-on _ _ _ (c .before .before .before .before .loop .inv) (c .before .before .before .loop-test .taken) (c .before .before .search-line .ensures) (c .is-end .ensures)
+loop-again c = walking-on _ _ _ (c .before .before .before .before .loop .inv) (c .before .before .before .loop-test .taken)
+    (c .before .before .search-line .ensures) (c .is-end .ensures)
 
 returns : tie.Need-returns Inv-loop μ-loop
 returns c = walking-ends _ _ _ (c .before .loop .inv) (c .loop-test .left)
