@@ -156,7 +156,7 @@ stop-known format state text at h g =
           let long = good-long l (good-hex format state l e g) in
           let same = same-pair text at 1 (omega arith) in
           rw (eq-eqb format 0 e) (stops (length text - at) at (length l) (11 + 2 * pairAt text (at + 1)) (length text) (omega (arith, long, same))
-              (omega arith) room
+          (omega arith) room
           (omega arith))
       | no e ↦
           let long = sound-long l (good-srec format state l e g) in

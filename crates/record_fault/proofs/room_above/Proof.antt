@@ -1,7 +1,8 @@
 -- `record_fault::room_above`: after k lines it is known of their pieces.
 use borrow.Author.Needs.{needs}
 use Prim.Native.Nat.{_-_}
-use Rattle.record_fault.proofs.Loops.{good-at, Looking, looking-starts, looking-on, looking-ends}
+use Rattle.record_fault.specs.Laws.Steps.{good-at}
+use Rattle.record_fault.proofs.Loops.{Looking, looking-starts, looking-on, looking-ends}
 use Rattle.record_fault.proofs.room_above.Statement.{statement}
 use Rattle.record_fault.proofs.room_above.Tie as tie
 

@@ -3,7 +3,7 @@ use Prim.Native.Nat.{_-_}
 use mathlib.Core.Path.{_∙_}
 use Rattle.record_read.specs.Runs.{isGiven}
 use Rattle.record_fault.specs.Trail.{trail}
-use Rattle.record_fault.proofs.Loops.{good-at}
+use Rattle.record_fault.specs.Laws.Steps.{good-at}
 use Rattle.record_read.proofs.Loops.{Rising, rising-starts, rising-on, rising-ends}
 use Rattle.record_read.proofs.Walks.{listed-few, listed-long, put-long}
 use borrow.Author.Needs.{needs}

@@ -26,12 +26,16 @@ made-requires-2 c κs = search needs
 returns-2 : tie.Need-returns-2
 returns-2 c =
     let t = trail (c .before .before .before .before .before .args .format) (c .before .before .before .before .before .args .text .now)
-        (c .before .before .before .before .before .args .n) in
+    (c .before .before .before .before .before .args .n) in
     let past : length (c .before .before .before .before .before .args .text .now) ≤ t .at = subst
-        (λ (x : ℕ). length (c .before .before .before .before .before .args .text .now) ≤ x) (c .before .before .before .place-of .ensures .at)
-        (c .before .if2 .taken) in
-    rw (c .made2 .ensures, sym (c .before .before .before .place-of .ensures .ended) ∙ c .before .before .if1 .left, le-leb
-        (length (c .before .before .before .before .before .args .text .now)) (t .at) past)
+    (λ (x : ℕ). length (c .before .before .before .before .before .args .text .now) ≤ x) (c .before .before .before .place-of .ensures .at)
+    (c .before .if2 .taken) in
+    rw (
+      c .made2 .ensures,
+      sym (c .before .before .before .place-of .ensures .ended) ∙ c .before .before .if1 .left,
+      le-leb
+          (length (c .before .before .before .before .before .args .text .now)) (t .at) past,
+    )
 
 search-line-requires : tie.Need-search-line-requires
 search-line-requires c κs = c .before .before .before .before .pre
@@ -58,7 +62,7 @@ returns-3 c =
     rw (sym (p .ended) ∙ c .before .before .before .before .if1 .left, lt-leb (length l) (t .at) before)
     (c .line-cause .ensures
     ∙ ap (λ (s : List ℕ). lineCause (a .format) (a .load) l (a .n) (c .before .before .before .before .before .place-of .result .state) s)
-        (c .before .before .search-line .ensures .part)
+    (c .before .before .search-line .ensures .part)
     ∙ ap (λ (s : ℕ). lineCause (a .format) (a .load) l (a .n) s (lineAt l (c .before .before .before .before .before .place-of .result .at))) (p .state)
     ∙ ap (λ (x : ℕ). lineCause (a .format) (a .load) l (a .n) (t .state) (lineAt l x)) (p .at))
 
@@ -66,4 +70,4 @@ pub cause-at-spec : {M : Type 1} → statement M
 cause-at-spec =
     tie.close
     (tie.spec place-of-requires made-requires returns made-requires-2 returns-2 search-line-requires sub-line-cause part-line-cause-start
-        part-line-cause-end line-cause-requires returns-3)
+    part-line-cause-end line-cause-requires returns-3)

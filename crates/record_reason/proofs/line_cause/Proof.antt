@@ -21,9 +21,10 @@ top-of-requires : tie.Need-top-of-requires
 top-of-requires c κs = search needs
 
 span-cause-requires : tie.Need-span-cause-requires
-span-cause-requires c κs =
-    (c .before .before .before .before .before .before .before .before .pre,
-        (c .before .before .start-of .ensures .1, c .before .many-of .ensures .1, c .top-of .ensures .1))
+span-cause-requires c κs = (
+  c .before .before .before .before .before .before .before .before .pre,
+  (c .before .before .start-of .ensures .1, c .before .many-of .ensures .1, c .top-of .ensures .1),
+)
 
 returns-2 : tie.Need-returns-2
 returns-2 c =

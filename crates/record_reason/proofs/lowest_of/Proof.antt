@@ -23,8 +23,11 @@ lower-of-requires : tie.Need-lower-of-requires Inv-loop μ-loop
 lower-of-requires c κs = search needs
 
 loop-less : tie.Need-loop-less Inv-loop μ-loop
-loop-less c = omega (arith, c .before .before .search-line .ensures .onward (c .before .before .before .loop-test .taken),
-    c .before .before .search-line .ensures .inside (c .before .before .before .before .loop .inv .inside))
+loop-less c = omega (
+  arith,
+  c .before .before .search-line .ensures .onward (c .before .before .before .loop-test .taken),
+  c .before .before .search-line .ensures .inside (c .before .before .before .before .loop .inv .inside),
+)
 
 loop-again : tie.Need-loop-again Inv-loop μ-loop
 loop-again c = sinking-on _ _ (c .before .before .before .before .loop .inv) (c .before .before .before .loop-test .taken)

@@ -27,14 +27,14 @@ returns : tie.Need-returns
 returns c =
     let a = c .before .before .before .before .args in
     why-good (a .format) (a .load) (a .text .now) (readText (a .format) (a .load) (a .text .now))
-        (sym (c .before .before .line-at-fault .ensures) ∙ c .enum-told .given .1)
+    (sym (c .before .before .line-at-fault .ensures) ∙ c .enum-told .given .1)
 
 returns-2 : tie.Need-returns-2
 returns-2 c =
     let a = c .before .before .before .before .before .before .before .before .args in
     ap (toldOf _) (c .cause-at .ensures)
     ∙ why-at (a .format) (a .load) (a .text .now) (readText (a .format) (a .load) (a .text .now)) _
-        (sym (c .before .before .before .before .before .before .line-at-fault .ensures) ∙ c .before .before .before .before .line .given .1)
+    (sym (c .before .before .before .before .before .before .line-at-fault .ensures) ∙ c .before .before .before .before .line .given .1)
 
 pub reason-of-spec : {M : Type 1} → statement M
 reason-of-spec =

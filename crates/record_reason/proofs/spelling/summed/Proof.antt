@@ -27,8 +27,8 @@ returns : tie.Need-returns
 returns c =
     c .made .ensures
     ∙ sum-right (c .before .before .before .before .before .args .line .now) (c .before .before .before .before .before .args .from)
-        (c .before .before .before .before .before .args .body) (c .before .before .before .before .before .args .target)
-        (c .before .before .before .byte-at .ensures) (c .before .before .sum-pairs .ensures) (c .before .if1 .taken)
+    (c .before .before .before .before .before .args .body) (c .before .before .before .before .before .args .target)
+    (c .before .before .before .byte-at .ensures) (c .before .before .sum-pairs .ensures) (c .before .if1 .taken)
 
 cast-byte : tie.Need-cast-byte
 cast-byte c = search needs
@@ -61,14 +61,14 @@ returns-2 : tie.Need-returns-2
 returns-2 c =
     c .made2 .ensures
     ∙ sum-wrong (c .before .before .before .before .before .before .before .args .line .now)
-        (c .before .before .before .before .before .before .before .args .from)
-        (c .before .before .before .before .before .before .before .args .body)
-        (c .before .before .before .before .before .before .before .args .target) (c .before .before .before .before .before .byte-at .ensures)
-        (c .before .before .before .before .sum-pairs .ensures) (c .before .before .before .if1 .left) (c .before .before .byte .ensures .0)
+    (c .before .before .before .before .before .before .before .args .from)
+    (c .before .before .before .before .before .before .before .args .body)
+    (c .before .before .before .before .before .before .before .args .target) (c .before .before .before .before .before .byte-at .ensures)
+    (c .before .before .before .before .sum-pairs .ensures) (c .before .before .before .if1 .left) (c .before .before .byte .ensures .0)
     (c .before .sum-pairs2 .ensures)
 
 pub summed-spec : {M : Type 1} → statement M
 summed-spec =
     tie.close
     (tie.spec byte-at-requires cast-n add-n add-sum-pairs sum-pairs-requires made-requires returns cast-byte mul-byte add-byte byte-requires
-        sum-pairs-requires-2 cast-others add-made sub-made made-requires-2 returns-2)
+    sum-pairs-requires-2 cast-others add-made sub-made made-requires-2 returns-2)
