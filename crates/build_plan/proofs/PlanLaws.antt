@@ -150,7 +150,8 @@ module _ (p : Program) (row : Row) where
         adds-few false k = omega arith
 
   -- all nodes are placed
-  pub ends : (closed : Bool) (fill i : ℕ) {walk : Walk} {s : Store} {sums : Sums} → Going p row closed fill i walk s sums → length (p .kinds) ≤ i → length (p .kinds) ≤ maxNodes
+  pub ends : (closed : Bool) (fill i : ℕ) {walk : Walk} {s : Store} {sums : Sums} → Going p row closed fill i walk s sums
+      → length (p .kinds) ≤ i → length (p .kinds) ≤ maxNodes
       → planAccepted (sums .length) (sums .spans) (walk .lost) ≡ planOf p row closed fill
   ends closed fill i {walk = walk} {s = s} {sums = sums} g b few =
       let n = length (p .kinds) in
@@ -158,7 +159,8 @@ module _ (p : Program) (row : Row) where
       let last = subst (λ (k : ℕ). placedTo p row closed k ≡ holds (stateIn s)) all (g .placed) in
       let bits : sums .length ≡ lengthTo p row fill n = g .reaches ∙ ap (lengthTo p row fill) all in
       let many : sums .spans ≡ length (spansTo p row n) = g .counts ∙ ap (λ (k : ℕ). length (spansTo p row k)) all in
-      let paddings : walk .lost ≡ paddingsOf p row = ap (λ (x : Walk). x .lost) (sym (g .walks .is)) ∙ ap (λ (k : ℕ). walkTo p row k .lost) all ∙ carried p row closed _ few last in
+      let paddings : walk .lost ≡ paddingsOf p row = ap (λ (x : Walk). x .lost) (sym (g .walks .is)) ∙ ap (λ (k : ℕ). walkTo p row k .lost) all
+      ∙ carried p row closed _ few last in
       ap (λ (k : ℕ). planAccepted k (sums .spans) (walk .lost)) bits
       ∙ ap (λ (k : ℕ). planAccepted (lengthTo p row fill n) k (walk .lost)) many
       ∙ ap (planAccepted (lengthTo p row fill n) (length (spansTo p row n))) paddings

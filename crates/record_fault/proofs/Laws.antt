@@ -181,7 +181,8 @@ new-within (p ∷ l) a b c d h k e =
     elim (decLt c (endOf p)) [
       | no q ↦ rw (le-leb (endOf p) c (omega arith), rest)
       | yes q ↦
-          let far : b ≤ p .address = leb-true b (p .address) (or-le (leb (endOf p) a) (leb b (p .address)) (λ z. let y = leb-true (endOf p) a z in omega arith) (two .0)) in
+          let far : b ≤ p .address = leb-true b (p .address)
+          (or-le (leb (endOf p) a) (leb b (p .address)) (λ z. let y = leb-true (endOf p) a z in omega arith) (two .0)) in
           rw (lt-leb (endOf p) c q, le-leb d (p .address) (omega arith), rest)
     ]
 
@@ -247,7 +248,8 @@ room-more given new first end top kind address count h r own =
                   λ z. absurd (omega (arith, where′ .0, z)),
                   λ z. (
                     more first end (r .1 some .0) ok,
-                    more end address (new-within given end top end address (omega arith) (omega (arith, where′ .1)) (r .1 some .1)) (leaves-own kind address count end),
+                    more end address (new-within given end top end address (omega arith) (omega (arith, where′ .1)) (r .1 some .1))
+                        (leaves-own kind address count end),
                   ),
                 )
           ]
@@ -280,7 +282,11 @@ free-more given new free top kind address count f e own =
     elim (ℕ-discrete kind 1) [
       | no k ↦
           let none : (a b : ℕ) → leavesBy kind address count a b ≡ true = λ a b. rw (ne-eqb kind 1 k) in
-          rw (ne-eqb kind 1 k) (record { below = more 0 (free .low) (f .below) (none 0 (free .low)); gap = more (free .edge) top (rw (ne-eqb kind 1 k) at e) (none (free .edge) top) })
+          rw (ne-eqb kind 1 k) (record {
+            below = more 0 (free .low) (f .below) (none 0 (free .low));
+            gap = more (free .edge) top
+                (rw (ne-eqb kind 1 k) at e) (none (free .edge) top);
+          })
       | yes k ↦
           elim (ℕ-discrete count 0) [
             | yes c ↦
@@ -291,13 +297,15 @@ free-more given new free top kind address count f e own =
                   gap = more (free .edge) top (rw (eq-eqb kind 1 k, eq-eqb count 0 c) at e) (none (free .edge) top);
                 })
             | no c ↦
-                let is : (a b : ℕ) → leavesBy kind address count a b ≡ (leb (address + count) a || leb b address) = λ a b. rw (eq-eqb kind 1 k, ne-eqb count 0 c) in
+                let is : (a b : ℕ) → leavesBy kind address count a b ≡ (leb (address + count) a || leb b address) = λ a b. rw
+                (eq-eqb kind 1 k, ne-eqb count 0 c) in
                 rw (eq-eqb kind 1 k, ne-eqb count 0 c)
                 (record {
                   below =
                       more 0 (min (free .low) address) (new-within given 0 (free .low) 0 (min (free .low) address) (omega arith) (omega arith) (f .below))
                       (is 0 (min (free .low) address) ∙ or-right (leb (address + count) 0) (le-leb (min (free .low) address) address (omega arith)));
-                  gap = more (address + count) top (rw (eq-eqb kind 1 k, ne-eqb count 0 c) at e) (is (address + count) top ∙ rw (le-leb (address + count) (address + count) (omega arith)));
+                  gap = more (address + count) top (rw (eq-eqb kind 1 k, ne-eqb count 0 c) at e)
+                      (is (address + count) top ∙ rw (le-leb (address + count) (address + count) (omega arith)));
                 })
           ]
     ]
@@ -334,7 +342,8 @@ module _ (load : ℕ) (given : List Piece) (kind address count high edge : ℕ) 
           pub admit-twice : isNew given address (address + count) ≡ false → AdmitIs load given kind address count high edge No
           admit-twice h = rw (bytes, ne-eqb count 0 some, le-leb load address above, le-leb (address + count) 4294967296 within, h)
 
-          pub admit-fine : (h top : ℕ) → h ≡ max high (address + count) → (isNew given address (address + count) ≡ true) × (isNew given (address + count) top ≡ true)
+          pub admit-fine : (h top : ℕ) → h ≡ max high (address + count)
+              → (isNew given address (address + count) ≡ true) × (isNew given (address + count) top ≡ true)
               → AdmitIs load given kind address count high edge (High h top)
           admit-fine h top e n =
               rw (bytes, ne-eqb count 0 some, le-leb load address above, le-leb (address + count) 4294967296 within, n .0) (refl, e, n .1)

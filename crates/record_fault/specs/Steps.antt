@@ -84,7 +84,12 @@ edgeBy kind address count edge = pick (eqb kind 1) (pick (eqb count 0) edge (add
 
 abbrev pub freeBy : Free → ℕ → ℕ → ℕ → ℕ → Free
 freeBy free top kind address count =
-    record { low = pick (eqb kind 1) (pick (eqb count 0) (free .low) (min (free .low) address)) (free .low); edge = edgeBy kind address count (free .edge); top = top }
+    record {
+      low = pick (eqb kind 1) (pick (eqb count 0) (free .low) (min (free .low) address)) (free .low);
+      edge = edgeBy kind address count
+          (free .edge);
+      top = top;
+    }
 
 abbrev pub AdmitIs : ℕ → List Piece → ℕ → ℕ → ℕ → ℕ → ℕ → Admit → Type 0
 AdmitIs load given kind address count high edge No = admitsBy load given kind address count ≡ false

@@ -29,16 +29,21 @@ pub digits-one : (l : List ℕ) (from i : ℕ) → i < length l → valueOf (get
     → allDigits (drop from l) ≡ allDigits (drop (i + 1) l)
 digits-one l from i h e inv = inv ∙ digits-on l i h (omega arith)
 
-pub pair-more : (l : List ℕ) (from j s h w : ℕ) → s ≡ sumOf (bytesAt l from j) → h ≡ valueOf (getD l (from + 2 * j) 0)
-    → w ≡ valueOf (getD l (from + 2 * j + 1) 0) → h ≤ 15 → w ≤ 15 → s + (16 * h + w) ≡ sumOf (bytesAt l from (j + 1))
-pair-more l from j s h w e f g hb wb =
+low-sum : (m b : ℕ) → (m % 256 + b) % 256 ≡ (m + b) % 256
+low-sum m b = omega arith
+
+pub pair-more : (l : List ℕ) (from j s h w r : ℕ) → s ≡ sumOf (bytesAt l from j) % 256 → h ≡ valueOf (getD l (from + 2 * j) 0)
+    → w ≡ valueOf (getD l (from + 2 * j + 1) 0) → h ≤ 15 → w ≤ 15 → r ≡ (s + (16 * h + w)) % 256 → r ≡ sumOf (bytesAt l from (j + 1)) % 256
+pair-more l from j s h w r e f g hb wb k =
     let p : pairAt l (from + 2 * j) ≡ 16 * h + w = omega (arith, f, g) in
-    omega (arith, e, p, sum-list-more j (λ k. pairAt l (from + 2 * k)))
+    k ∙ ap (λ (x : ℕ). (x + (16 * h + w)) % 256) e ∙ low-sum (sumOf (bytesAt l from j)) (16 * h + w)
+    ∙ ap (λ (b : ℕ). (sumOf (bytesAt l from j) + b) % 256) (sym p)
+    ∙ ap (λ (x : ℕ). x % 256) (sym (sum-list-more j (λ k. pairAt l (from + 2 * k))))
 
 pub sum-good : (l : List ℕ) (from n j s : ℕ) → allDigits (drop from l) ≡ allDigits (drop (from + 2 * j) l) → length l ≤ from + 2 * j → j ≡ n
-    → s ≡ sumOf (bytesAt l from j) → s % 256 ≡ checkedSum l from n
+    → s ≡ sumOf (bytesAt l from j) % 256 → s ≡ checkedSum l from n
 sum-good l from n j s inv h e f =
-    ap (λ (x : ℕ). x % 256) (f ∙ ap (λ (k : ℕ). sumOf (bytesAt l from k)) e) ∙ sym (pick-true _ _ (inv ∙ digits-done l (from + 2 * j) h))
+    f ∙ ap (λ (k : ℕ). sumOf (bytesAt l from k) % 256) e ∙ sym (pick-true _ _ (inv ∙ digits-done l (from + 2 * j) h))
 
 -- One entry more of the table.
 pub table-more : (t : List ℕ) (i v : ℕ) → i < length t → v ≡ valueOf i → ((c : ℕ) → c < i → getD t c 0 ≡ valueOf c)

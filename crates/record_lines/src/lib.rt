@@ -166,22 +166,22 @@ pub fn sum_checked(line: &[u8], t: &[u8; 256], from: usize, n: usize) -> u32
     requires { ⌜ (length (now line) ≡ from + 2 * n) × (n ≤ 1000) ⌝ }
     ensures { λ r. ⌜ r ≡ checkedSum (now (line .entry)) from n ⌝ }
 {
-    let mut sum = 0u32;
+    let mut sum = 0u8;
     let mut j = 0;
     while j < n {
         let i = from + 2 * j;
-        let high = wide(value_by(t, line[i]));
-        let low = wide(value_by(t, line[i + 1]));
+        let high = value_by(t, line[i]);
+        let low = value_by(t, line[i + 1]);
         if 15 < high {
             return 256;
         }
         if 15 < low {
             return 256;
         }
-        sum += 16 * high + low;
+        sum = std::num::wrapping_add_u8(sum, 16 * high + low);
         j += 1;
     }
-    sum % 256
+    wide(sum)
 }
 
 // Whether CR LF stands at a place.

@@ -75,9 +75,6 @@ module _ (node : Node) (label : ℕ) where
 
 -- what a node adds to the states merged so far
 module _ (def : Bankdef) (node : Node) (before : Moved) (isFirst isLast : Bool) (merged : ℕ) where
-  pub met-stopped : {seen : Moved} {why : Refusal} → seen ≡ Stopped why → Refused why ≡ met def node before isFirst isLast merged seen
-  met-stopped e = rw e
-
   module _ {seen : Moved} {now : Pos} (sees : seen ≡ To now) {t : Bool} (edge : t ≡ offBoundary def node now isLast) where
     pub met-off : t ≡ true → Refused (LabelOffBoundary (node .index)) ≡ met def node before isFirst isLast merged seen
     met-off y = rw (sees, sym edge ∙ y)

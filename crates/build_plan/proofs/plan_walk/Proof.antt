@@ -207,7 +207,8 @@ loop-again c =
     _ _ _ refl (g .see-node .ensures .0) in
     let sums = c .before .before .before .sums-after .ensures in
     goes-on (given h) (row h) (entry h .args .closed) (entry h .args .fill) (h .loop .i) (h .loop .inv) _ v (o .place .ensures .0)
-    (b .before .before .loop-test .taken) (c .before .before .before .before .enum-told .given .1) (next c) (o .place .ensures .1) (sums .0) (sums .1 .0) (sums .1 .1)
+    (b .before .before .loop-test .taken) (c .before .before .before .before .enum-told .given .1) (next c) (o .place .ensures .1) (sums .0)
+    (sums .1 .0) (sums .1 .1)
 
 accepted-plan-requires : tie.Need-accepted-plan-requires Inv-loop μ-loop
 accepted-plan-requires c κs = search needs

@@ -189,13 +189,15 @@ mul-after : tie.Need-mul-after Inv-loop μ-loop
 mul-after c = omega (arith, listed (banked (sighted (itemed (c .before .before .before .before .before .before)))))
 
 element-set-from-after : tie.Need-element-set-from-after Inv-loop μ-loop
-element-set-from-after c = let b = banked (sighted (itemed (c .before .before .before .before .before .before))) in omega (arith, listed b, head b .loop .inv .walks .sixteen)
+element-set-from-after c = let b = banked (sighted (itemed (c .before .before .before .before .before .before))) in omega
+    (arith, listed b, head b .loop .inv .walks .sixteen)
 
 mul-lost-after : tie.Need-mul-lost-after Inv-loop μ-loop
 mul-lost-after c = omega (arith, listed (banked (sighted (itemed (c .before .before .before .before .before .before)))))
 
 element-copy-out-lost-after : tie.Need-element-copy-out-lost-after Inv-loop μ-loop
-element-copy-out-lost-after c = let b = banked (sighted (itemed (c .before .before .before .before .before .before))) in omega (arith, listed b, head b .loop .inv .walks .sums)
+element-copy-out-lost-after c = let b = banked (sighted (itemed (c .before .before .before .before .before .before))) in omega
+    (arith, listed b, head b .loop .inv .walks .sums)
 
 lost-after-requires : tie.Need-lost-after-requires Inv-loop μ-loop
 lost-after-requires c κs = search needs

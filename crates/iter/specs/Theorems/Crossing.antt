@@ -70,27 +70,6 @@ module _ (def : Bankdef) (walk : Walk) (node : Node) {bank : ℕ} (b : bank ≡ 
         put-seen (To p) = refl
         put-seen (Refused why) = refl
 
-    -- The positions after a step, refused ones too: the bank's is the one after the crossing.
-    pub crossing-places : stepOf def walk node .walk .at ≡ set (walk .at) bank (c .after)
-    crossing-places = ap (λ (s : Stepped). s .walk .at) crossing-in ∙ put-places (c .seen) refl
-      where
-        put-places : (m : Moved) → c .seen ≡ m → putBy walk bank c m .walk .at ≡ set (walk .at) bank (c .after)
-        put-places (To p) f = refl
-        put-places (Refused why) f =
-            sym (set-getD (walk .at) bank origin)
-            ∙ ap (set (walk .at) bank) (sym (halts def (getD (walk .at) bank origin) node why e f))
-
-    -- And the walk goes on in the node's bank, since a switch is never refused in one of the banks.
-    pub crossing-stands : stepOf def walk node .walk .bank ≡ bank
-    crossing-stands = ap (λ (s : Stepped). s .walk .bank) crossing-in ∙ put-bank (c .seen) refl
-      where
-        put-bank : (m : Moved) → c .seen ≡ m → putBy walk bank c m .walk .bank ≡ bank
-        put-bank (To p) f = refl
-        put-bank (Refused why) f =
-            either (eqb (node .kind) 1)
-            (λ t. absurd (switch-made def (getD (walk .at) bank origin) node (eqb-true (node .kind) 1 t) why (ap (λ (x : Crossing). x .seen) (sym e) ∙ f)))
-            (λ t. sym (stands-in (walk .bank) node (eqb-false (node .kind) 1 t)) ∙ sym b)
-
     -- The walk after a step, refused ones too, is the one that has the crossing's position and bits stored: so a loop may store them as they come.
     pub crossing-kept : Fits walk → stepOf def walk node .walk ≡ kept walk bank (c .after) (c .skipped .bits)
     crossing-kept fits = ap (λ (s : Stepped). s .walk) crossing-in ∙ put-kept (c .seen) refl

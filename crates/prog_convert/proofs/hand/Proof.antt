@@ -30,10 +30,13 @@ write-refusal-requires c κs = omega (arith, c .before .before .before .before .
 returns : tie.Need-returns
 returns c =
     let w = c .before .before .before .before .write-refusal .ensures in
-    rw (c .before .before .before .before .before .before .before .answer .given .1) (shows-written (c .print .result) (w .0) (omega (arith, w .1, c .before .before .before .before .before .before .before .before .before .before .pre)) (c .print .ensures))
+    rw (c .before .before .before .before .before .before .before .answer .given .1)
+    (shows-written (c .print .result) (w .0)
+    (omega (arith, w .1, c .before .before .before .before .before .before .before .before .before .before .pre)) (c .print .ensures))
 
 returns-2 : tie.Need-returns-2
 returns-2 c = rw (c .before .before .before .answer2 .given .1) (c .print2 .ensures, refl)
 
 pub hand-spec : {M : Type 1} → statement M
-hand-spec = tie.close (tie.spec enum-known-answer write-refusal-requires print-requires enum-known-answer-2 print-requires-2 same-length returns same-length-2 returns-2)
+hand-spec = tie.close
+    (tie.spec enum-known-answer write-refusal-requires print-requires enum-known-answer-2 print-requires-2 same-length returns same-length-2 returns-2)

@@ -33,4 +33,6 @@ returns c =
     )
 
 pub run-spec : {M : Type 1} → statement M
-run-spec = tie.close (tie.spec slice-aggregate-read-full read-full-requires array-share-prefix-file slice-aggregate-write slice-aggregate-write-2 write-requires returns)
+run-spec =
+    tie.close
+    (tie.spec slice-aggregate-read-full read-full-requires array-share-prefix-file slice-aggregate-write slice-aggregate-write-2 write-requires returns)

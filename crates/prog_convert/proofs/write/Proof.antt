@@ -23,7 +23,8 @@ returns : tie.Need-returns
 returns c = rw (c .before .before .before .before .if1 .taken) (c .before .before .write-form1 .ensures)
 
 returns-2 : tie.Need-returns-2
-returns-2 c = rw (ne-eqb (c .before .before .before .before .before .before .before .args .form) 1 (c .before .before .before .before .if1 .left)) (c .before .before .write-form2 .ensures)
+returns-2 c = rw (ne-eqb (c .before .before .before .before .before .before .before .args .form) 1 (c .before .before .before .before .if1 .left))
+    (c .before .before .write-form2 .ensures)
 
 pub write-spec : {M : Type 1} → statement M
 write-spec = tie.close (tie.spec write-form1-requires same-length returns write-form2-requires same-length-2 returns-2)

@@ -21,7 +21,8 @@ returns : tie.Need-returns
 unfolding form1Text
 returns c =
     let s = c .before .before .before .before .before .before .before .before .before .before in
-    handed-shows form2 form1 toForm1 dropsBit (s .args .file .now) (s .args .out .now) _ is1 (s .pre) (c .before .before .before .before .before .before .to-form1 .ensures .0)
+    handed-shows form2 form1 toForm1 dropsBit (s .args .file .now) (s .args .out .now) _ is1 (s .pre)
+    (c .before .before .before .before .before .before .to-form1 .ensures .0)
     (c .before .before .hand .ensures)
 
 pub write-form1-spec : {M : Type 1} → statement M

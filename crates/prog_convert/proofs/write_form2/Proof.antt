@@ -22,7 +22,8 @@ returns : tie.Need-returns
 unfolding form2Text
 returns c =
     let s = c .before .before .before .before .before .before .before .before .before .before in
-    handed-shows form1 form2 toForm2 dropsNone (s .args .file .now) (s .args .out .now) _ is2 (s .pre) (c .before .before .before .before .before .before .to-form2 .ensures .0)
+    handed-shows form1 form2 toForm2 dropsNone (s .args .file .now) (s .args .out .now) _ is2 (s .pre)
+    (c .before .before .before .before .before .before .to-form2 .ensures .0)
     (c .before .before .hand .ensures)
 
 pub write-form2-spec : {M : Type 1} → statement M

@@ -26,8 +26,11 @@ slice-aggregate-put-done-2 c =
 
 put-done-requires : tie.Need-put-done-requires
 put-done-requires c κs =
-    let f = rw (c .before .before .before .before .build2 .given .1) at (c .before .before .before .before .before .before .before .before .before .before .pre .0) in
-    (c .before .before .before .before .before .before .before .before .before .before .pre .1 .0, (f .1, (f .4, c .before .before .before .before .before .before .before .before .before .before .pre .1 .1)))
+    let f = rw (c .before .before .before .before .build2 .given .1) at
+    (c .before .before .before .before .before .before .before .before .before .before .pre .0) in (
+      c .before .before .before .before .before .before .before .before .before .before .pre .1 .0,
+      (f .1, (f .4, c .before .before .before .before .before .before .before .before .before .before .pre .1 .1)),
+    )
 
 same-length : tie.Need-same-length
 same-length c = search needs

@@ -67,16 +67,31 @@ enum-known-found-2 : tie.Need-enum-known-found-2
 enum-known-found-2 c = search needs
 
 slice-reshare-prefix-put-records : tie.Need-slice-reshare-prefix-put-records
-slice-reshare-prefix-put-records c = omega (arith, few (c .before .before .before .before .before .before .before) _ (c .before .found2 .given .1), c .before .before .before .before .before .before .block-offsets .given, begin (c .before .before .before .before .before .before .before) .pre .1 .1 .0)
+slice-reshare-prefix-put-records c = omega (
+  arith,
+  few (c .before .before .before .before .before .before .before) _
+      (c .before .found2 .given .1),
+  c .before .before .before .before .before .before .block-offsets .given,
+  begin
+      (c .before .before .before .before .before .before .before) .pre .1 .1 .0,
+)
 
 slice-aggregate-put-records : tie.Need-slice-aggregate-put-records
 slice-aggregate-put-records c = sym (long (c .before .before .before .before .before .before .before .before) _ (c .before .before .found2 .given .1))
 
 slice-reshare-prefix-put-records-2 : tie.Need-slice-reshare-prefix-put-records-2
-slice-reshare-prefix-put-records-2 c = omega (arith, few (c .before .before .before .before .before .before .before .before) _ (c .before .before .found2 .given .1), c .before .before .before .before .before .block-sizes .given, begin (c .before .before .before .before .before .before .before .before) .pre .1 .1 .1 .0)
+slice-reshare-prefix-put-records-2 c = omega (
+  arith,
+  few (c .before .before .before .before .before .before .before .before) _
+      (c .before .before .found2 .given .1),
+  c .before .before .before .before .before .block-sizes .given,
+  begin
+      (c .before .before .before .before .before .before .before .before) .pre .1 .1 .1 .0,
+)
 
 slice-aggregate-put-records-2 : tie.Need-slice-aggregate-put-records-2
-slice-aggregate-put-records-2 c = sym (wide (c .before .before .before .before .before .before .before .before .before) _ (c .before .before .before .found2 .given .1))
+slice-aggregate-put-records-2 c = sym
+    (wide (c .before .before .before .before .before .before .before .before .before) _ (c .before .before .before .found2 .given .1))
 
 put-records-requires : tie.Need-put-records-requires
 put-records-requires c κs =
@@ -110,7 +125,8 @@ same-length-6 c = search needs
 returns-2 : tie.Need-returns-2
 returns-2 c =
     let f = c .before .before .before .before .before .before .before .found2 .given in
-    rw (← told (c .before .before .before .before .before .before .before .before .before .before .before .before .before) (f .0 .0) (f .1)) (c .before .before .put-records .ensures)
+    rw (← told (c .before .before .before .before .before .before .before .before .before .before .before .before .before) (f .0 .0) (f .1))
+    (c .before .before .put-records .ensures)
 
 pub put-blocks-spec : {M : Type 1} → statement M
 put-blocks-spec =

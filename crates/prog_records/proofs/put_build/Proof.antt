@@ -40,7 +40,10 @@ put-answer-requires c κs =
     let a = begin d .args in
     let p = begin d .pre in (
       file-fits (a .file .now) (a .fill) (a .page) (bytes d) (old (begin d)) (p .0) (p .1 .0) (p .1 .1 .0) (p .1 .1 .1 .0)
-          (d .build-file .result) (new d) (built d) (c .before .before .before .before .before .before .before .before .before .before .image .given ∙ p .0) (c .before .before .before .before .before .before .before .offsets .given ∙ p .1 .1 .0) (c .before .before .before .before .before .sizes .given ∙ p .1 .1 .1 .0),
+          (d .build-file .result) (new d) (built d)
+          (c .before .before .before .before .before .before .before .before .before .before .image .given ∙ p .0)
+          (c .before .before .before .before .before .before .before .offsets .given ∙ p .1 .1 .0)
+          (c .before .before .before .before .before .sizes .given ∙ p .1 .1 .1 .0),
       (omega (arith, c .before .before .before .before .before .before .before .before .before .before .image .given, p .0), p .1 .1 .1 .1),
     )
 

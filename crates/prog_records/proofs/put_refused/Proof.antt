@@ -14,7 +14,8 @@ abbrev asked : tie.After-put-word → tie.After-put-refusal
 asked d = d .before .before .before .before .before
 
 -- a refusal's line fits 128 bytes, in front of which nothing stands
-roomy : (d : tie.After-put-word) → length (refusalText (asked d .before .before .before .args .why)) + length (ascii "records\n") ≤ length (asked d .before .before .before .args .out .now)
+roomy : (d : tie.After-put-word)
+    → length (refusalText (asked d .before .before .before .args .why)) + length (ascii "records\n") ≤ length (asked d .before .before .before .args .out .now)
 roomy d = omega (arith, asked d .put-refusal .ensures .0 .counted, asked d .put-refusal .ensures .1, asked d .before .before .before .pre)
 
 put-refusal-requires : tie.Need-put-refusal-requires

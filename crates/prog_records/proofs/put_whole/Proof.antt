@@ -35,8 +35,10 @@ put-records-requires c κs =
     let n = c .before .before .before .block-count in
     let low : n .result ≤ 1 = omega (arith, n .ensures) in
     let one = length-take-le {A = ℕ} (n .result) (0 ∷ []) (omega (arith, low)) in
-    let two = length-take-le {A = ℕ} (n .result) (8 * ((c .before .before .before .before .before .before .args .bits + 7) / 8) ∷ []) (omega (arith, low)) in
-    (c .before .before .before .before .before .before .pre .0, (omega (arith, one, low), (one ∙ sym two, c .before .before .before .before .before .before .pre .1 .1)))
+    let two = length-take-le {A = ℕ} (n .result) (8 * ((c .before .before .before .before .before .before .args .bits + 7) / 8) ∷ []) (omega (arith, low)) in (
+      c .before .before .before .before .before .before .pre .0,
+      (omega (arith, one, low), (one ∙ sym two, c .before .before .before .before .before .before .pre .1 .1)),
+    )
 
 same-length : tie.Need-same-length
 same-length c = search needs
@@ -44,7 +46,8 @@ same-length c = search needs
 returns : tie.Need-returns
 returns c =
     let n = c .before .before .before .before .before .before .block-count in
-    rw (← whole-is (c .before .before .before .before .before .before .before .before .before .args .bits)) (rw (n .ensures) at (c .before .before .put-records .ensures))
+    rw (← whole-is (c .before .before .before .before .before .before .before .before .before .args .bits))
+    (rw (n .ensures) at (c .before .before .put-records .ensures))
 
 pub put-whole-spec : {M : Type 1} → statement M
 put-whole-spec =

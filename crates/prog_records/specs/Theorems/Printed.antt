@@ -152,7 +152,8 @@ module _ (w : Wanted) (file : List ℕ) (fill : ℕ) (page : Opt) where
           (srec-file.file-tells (imageIn bits) os ss (w .load) (w .format) image-good in-parts fits in-places))
 
       -- and these pieces give exactly the image's bytes where a block is, counted from the load address.
-      pub prints-the-image : (a b : ℕ) → GivesAt (piecesOf (w .load) (imageIn bits) bs) a b ↔ (Covers (w .load) bs a × (getD (imageIn bits) (a - w .load) 0 ≡ b))
+      pub prints-the-image : (a b : ℕ)
+          → GivesAt (piecesOf (w .load) (imageIn bits) bs) a b ↔ (Covers (w .load) bs a × (getD (imageIn bits) (a - w .load) 0 ≡ b))
       prints-the-image = pieces-give-image (w .load) (imageIn bits) bs parts
 
 -- ---- the whole image

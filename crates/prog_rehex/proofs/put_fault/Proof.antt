@@ -48,10 +48,13 @@ returns-2 c =
     let p = c .before .before .before .before .before .before .before .before .before .before .put-refusal .ensures in
     let n = c .before .before .before .before .before .fault .given .0 .0 in
     let read = readText (s .args .kind) (s .args .load) (s .args .source .now) in
-    let some = fault-behind read n (sym (c .before .before .before .before .before .fault .given .1) ∙ c .before .before .before .before .before .before .before .line-at-fault .ensures) in
+    let some = fault-behind read n
+    (sym (c .before .before .before .before .before .fault .given .1)
+    ∙ c .before .before .before .before .before .before .before .line-at-fault .ensures) in
     let puts = c .before .before .put-line .ensures in
     let short = line-words (ascii "line") (n ∷ []) (search needs, tt) in
-    let room : length (refusalText (s .args .why)) + length (line (ascii "line") (n ∷ [])) ≤ length (s .args .out .now) = omega (arith, short, p .0 .counted, p .1, s .pre) in
+    let room : length (refusalText (s .args .why)) + length (line (ascii "line") (n ∷ [])) ≤ length (s .args .out .now) = omega
+    (arith, short, p .0 .counted, p .1, s .pre) in
     rw (← some) (then-stands (p .0) puts room (to-same (then-ends (p .0) puts room)))
 
 pub put-fault-spec : {M : Type 1} → statement M

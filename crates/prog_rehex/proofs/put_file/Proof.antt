@@ -43,9 +43,20 @@ same-length-5 c = search needs
 
 returns-2 : tie.Need-returns-2
 returns-2 c =
-    let a = c .before .before .before .before .before .before .before .before .before .before .before .before .before .before .before .before .before .before .before .before .before .before .before .before .before .before .args in
-    let told = rw (c .before .before .before .before .before .written .given .1) at (c .before .before .before .before .before .before .before .before .before .before .before .before .before .before .before .turn .ensures) in
-    rw (not-long (a .kind) (a .format) (a .load) (a .bytes .now) (a .source .now) (omega (arith, c .before .before .before .before .before .before .before .before .before .before .before .before .before .before .before .before .before .before .before .before .if1 .left)), told .0, ← told .1)
+    let a = c .before .before .before .before .before .before .before .before .before .before .before .before .before .before .before .before
+    .before .before .before .before .before .before .before .before .before .before .args in
+    let told = rw (c .before .before .before .before .before .written .given .1) at
+    (c .before .before .before .before .before .before .before .before .before .before .before .before .before .before .before .turn .ensures) in
+    rw (
+      not-long (a .kind) (a .format) (a .load) (a .bytes .now) (a .source .now)
+          (omega (
+            arith,
+            c .before .before .before .before .before .before .before .before .before .before .before .before .before .before .before .before
+                .before .before .before .before .if1 .left,
+          )),
+      told .0,
+      ← told .1,
+    )
     (c .before .before .put-fault .ensures)
 
 same-length-6 : tie.Need-same-length-6
@@ -62,8 +73,14 @@ same-length-9 c = search needs
 
 returns-3 : tie.Need-returns-3
 returns-3 c =
-    let a = c .before .before .before .before .before .before .before .before .before .before .before .before .before .before .before .before .before .before .before .before .before .before .args in
-    rw (not-long (a .kind) (a .format) (a .load) (a .bytes .now) (a .source .now) (omega (arith, c .before .before .before .before .before .before .before .before .before .before .before .before .before .before .before .before .if1 .left)))
+    let a = c .before .before .before .before .before .before .before .before .before .before .before .before .before .before .before .before
+    .before .before .before .before .before .before .args in
+    rw (not-long (a .kind) (a .format) (a .load) (a .bytes .now) (a .source .now)
+    (omega (
+      arith,
+      c .before .before .before .before .before .before .before .before .before .before .before .before .before .before .before .before
+          .if1 .left,
+    )))
     (rw (c .before .written2 .given .1) at (c .before .before .before .before .before .before .before .before .before .before .before .turn .ensures))
 
 pub put-file-spec : {M : Type 1} → statement M

@@ -34,11 +34,19 @@ same-length-5 c = search needs
 
 returns : tie.Need-returns
 returns c =
-    let s = c .before .before .before .before .before .before .before .before .before .before .before .before .before .before .before .before .before .before .before .before .before .before .before in
+    let s = c .before .before .before .before .before .before .before .before .before .before .before .before .before .before .before .before
+    .before .before .before .before .before .before .before in
     let read = c .before .before .before .before .before .before .before .before .before .before .before .before .before .before .before .before .read-full in (
       s .args .bytes .now,
       take (read .result) (read .last .1 .0),
-      omega (arith, length-take (read .result) (read .last .1 .0), c .before .before .before .before .before .before .before .before .before .before .before .before .before .before .before .source .given, s .pre .0),
+      omega (
+        arith,
+        length-take (read .result)
+            (read .last .1 .0),
+        c .before .before .before .before .before .before .before .before .before .before .before .before .before .before .before
+            .source .given,
+        s .pre .0,
+      ),
       c .before .before .before .before .before .before .before .before .write .ensures .counted,
     )
 

@@ -48,16 +48,33 @@ enum-known-found-2 : tie.Need-enum-known-found-2
 enum-known-found-2 c = search needs
 
 slice-reshare-prefix-put : tie.Need-slice-reshare-prefix-put
-slice-reshare-prefix-put c = omega (arith, small (c .before .before .before .before .before .before .before .before .before .before) _ (c .before .before .found2 .given .1), c .before .before .before .before .before .before .before .offsets .given, begin (c .before .before .before .before .before .before .before .before .before .before) .pre .1 .0)
+slice-reshare-prefix-put c = omega (
+  arith,
+  small (c .before .before .before .before .before .before .before .before .before .before) _
+      (c .before .before .found2 .given .1),
+  c .before .before .before .before .before .before .before .offsets .given,
+  begin
+      (c .before .before .before .before .before .before .before .before .before .before) .pre .1 .0,
+)
 
 slice-aggregate-put : tie.Need-slice-aggregate-put
-slice-aggregate-put c = sym (long (c .before .before .before .before .before .before .before .before .before .before .before) _ (c .before .before .before .found2 .given .1))
+slice-aggregate-put c = sym
+    (long (c .before .before .before .before .before .before .before .before .before .before .before) _ (c .before .before .before .found2 .given .1))
 
 slice-reshare-prefix-put-2 : tie.Need-slice-reshare-prefix-put-2
-slice-reshare-prefix-put-2 c = omega (arith, small (c .before .before .before .before .before .before .before .before .before .before .before) _ (c .before .before .before .found2 .given .1), c .before .before .before .before .before .before .sizes .given, begin (c .before .before .before .before .before .before .before .before .before .before .before) .pre .1 .1 .0)
+slice-reshare-prefix-put-2 c = omega (
+  arith,
+  small (c .before .before .before .before .before .before .before .before .before .before .before) _
+      (c .before .before .before .found2 .given .1),
+  c .before .before .before .before .before .before .sizes .given,
+  begin
+      (c .before .before .before .before .before .before .before .before .before .before .before) .pre .1 .1 .0,
+)
 
 slice-aggregate-put-2 : tie.Need-slice-aggregate-put-2
-slice-aggregate-put-2 c = sym (wide (c .before .before .before .before .before .before .before .before .before .before .before .before) _ (c .before .before .before .before .found2 .given .1))
+slice-aggregate-put-2 c = sym
+    (wide (c .before .before .before .before .before .before .before .before .before .before .before .before) _
+    (c .before .before .before .before .found2 .given .1))
 
 put-requires : tie.Need-put-requires
 put-requires c κs =
@@ -102,8 +119,10 @@ returns-2 : tie.Need-returns-2
 returns-2 c =
     let d = c .before .before .before .before .before .before .before .before .before .before .before .before .before .before .before .before in
     let s = begin d in
-    turns (s .args .kind) (s .args .format) (s .args .load) (s .args .source .now) (old d) (s .pre .0) (s .pre .1 .0) (s .pre .1 .1 .0) (d .read .result) (new d)
-    (d .read .ensures) _ (c .before .before .before .before .before .before .before .before .found2 .given .1) (c .before .before .put .result) _ _ (c .before .before .put .ensures)
+    turns (s .args .kind) (s .args .format) (s .args .load) (s .args .source .now) (old d) (s .pre .0) (s .pre .1 .0) (s .pre .1 .1 .0)
+    (d .read .result) (new d)
+    (d .read .ensures) _ (c .before .before .before .before .before .before .before .before .found2 .given .1) (c .before .before .put .result) _ _
+    (c .before .before .put .ensures)
 
 pub turn-spec : {M : Type 1} → statement M
 turn-spec =

@@ -23,7 +23,8 @@ same-length-4 : tie.Need-same-length-4
 same-length-4 c = search needs
 
 returns : tie.Need-returns
-returns c = shown-whole (c .before .before .before .before .before .before .before .before .before .before .put-file .ensures) (c .print .result) (c .print .ensures)
+returns c = shown-whole (c .before .before .before .before .before .before .before .before .before .before .put-file .ensures) (c .print .result)
+    (c .print .ensures)
 
 pub write-spec : {M : Type 1} → statement M
 write-spec = tie.close (tie.spec put-file-requires print-requires same-length same-length-2 same-length-3 same-length-4 returns)

@@ -36,7 +36,8 @@ returns-5 : tie.Need-returns-5
 returns-5 c =
     let i = c .before .before in
     let s = i .before .before .before .before .before .before in
-    room-gap (pieces s) (s .args .first) (s .args .end) (s .pre .0 .2) (s .args .free .edge) (s .args .free .top) (s .pre .1 .1 .gap) (i .if3 .left) (c .if4 .left)
+    room-gap (pieces s) (s .args .first) (s .args .end) (s .pre .0 .2) (s .args .free .edge) (s .args .free .top) (s .pre .1 .1 .gap) (i .if3 .left)
+    (c .if4 .left)
 
 pub room-known-spec : {M : Type 1} → statement M
 room-known-spec = tie.close (tie.spec returns returns-2 room-above-requires returns-3 room-above-requires-2 returns-4 returns-5)

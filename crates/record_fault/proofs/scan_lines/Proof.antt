@@ -36,7 +36,8 @@ returns c =
     (scanning-closes (a .format) (a .load) (a .text .now) (l .loop .inv) (t .before .loop-test .taken) (t .take-line .ensures) (c .before .if1 .taken))
 
 may-stand-requires : tie.Need-may-stand-requires Inv-loop μ-loop
-may-stand-requires c κs = let l = c .before .before .before .before .before in ((l .before .before .pre, l .loop .inv .good), (l .loop .inv .top, l .loop .inv .freed))
+may-stand-requires c κs = let l = c .before .before .before .before .before in
+    ((l .before .before .pre, l .loop .inv .good), (l .loop .inv .top, l .loop .inv .freed))
 
 enum-known-h : tie.Need-enum-known-h Inv-loop μ-loop
 enum-known-h c = search needs

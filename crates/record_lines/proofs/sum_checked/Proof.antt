@@ -1,6 +1,6 @@
--- `record_lines::sum_checked`: the sum so far, and that what is left decides as the whole does.
+-- `record_lines::sum_checked`: the low byte of the sum so far, and that what is left decides as the whole does.
 use mathlib.Core.Path.{_≡_, refl, ap, _∙_}
-use Prim.Native.Nat.{ℕ, _+_, _*_, _-_, _≤_}
+use Prim.Native.Nat.{ℕ, _+_, _*_, _-_, _%_, _≤_}
 use native.Mathlib.Omega.{arith}
 use lib.ListN.{drop, getD}
 use Rattle.bitvec.specs.Lists.{listOf}
@@ -13,7 +13,7 @@ use Rattle.record_lines.proofs.sum_checked.Tie as tie
 
 abbrev Inv-loop : tie.InvT-loop
 Inv-loop line t from n sum₀ j₀ sum j =
-    (j ≤ n) × ((sum ≤ 255 * j) × ((sum ≡ sumOf (bytesAt line from j)) × (allDigits (drop from line) ≡ allDigits (drop (from + 2 * j) line))))
+    (j ≤ n) × ((sum ≡ sumOf (bytesAt line from j) % 256) × (allDigits (drop from line) ≡ allDigits (drop (from + 2 * j) line)))
 
 abbrev μ-loop : tie.MeasureT-loop
 μ-loop line t from n sum₀ j₀ sum j = n - j
@@ -23,7 +23,7 @@ unfolding sumOf listOf
 loop-holds c =
     let a = c .before .args in
     let e : a .from ≡ a .from + 0 = omega arith in
-    (omega arith, (omega arith, (refl, ap (λ (k : ℕ). allDigits (drop k (a .line .now))) e)))
+    (omega arith, (refl, ap (λ (k : ℕ). allDigits (drop k (a .line .now))) e))
 
 mul-i : tie.Need-mul-i Inv-loop μ-loop
 mul-i c = search needs
@@ -37,9 +37,6 @@ shared-slice-read-value-by c = search needs
 value-by-requires : tie.Need-value-by-requires Inv-loop μ-loop
 value-by-requires c κs = search needs
 
-wide-requires : tie.Need-wide-requires Inv-loop μ-loop
-wide-requires c κs = search needs
-
 add-value-by : tie.Need-add-value-by Inv-loop μ-loop
 add-value-by c = search needs
 
@@ -49,36 +46,33 @@ shared-slice-read-value-by-2 c = search needs
 value-by-requires-2 : tie.Need-value-by-requires-2 Inv-loop μ-loop
 value-by-requires-2 c κs = search needs
 
-wide-requires-2 : tie.Need-wide-requires-2 Inv-loop μ-loop
-wide-requires-2 c κs = search needs
-
 returns : tie.Need-returns Inv-loop μ-loop
 returns c =
-    let w = c .before .before .before .before in
-    let h = w .before .before .before .before in
+    let w = c .before .before .before in
+    let h = w .before .before .before in
     let a = h .before .before .args in
-    sum-bad (a .line .now) (a .from) (a .n) (a .from + 2 * h .loop .j) (h .loop .inv .1 .1 .1) (search needs)
-    (omega (arith, c .if1 .taken, w .wide .ensures, w .before .value-by .ensures))
+    sum-bad (a .line .now) (a .from) (a .n) (a .from + 2 * h .loop .j) (h .loop .inv .1 .1) (search needs)
+    (omega (arith, c .if1 .taken, w .value-by .ensures))
 
 returns-2 : tie.Need-returns-2 Inv-loop μ-loop
 returns-2 c =
     let v = c .before .before in
-    let w = v .before .before .before in
-    let h = w .before .before .before .before in
+    let w = v .before .before in
+    let h = w .before .before .before in
     let a = h .before .before .args in
     sum-bad (a .line .now) (a .from) (a .n) (a .from + 2 * h .loop .j + 1)
     (digits-one (a .line .now) (a .from) (a .from + 2 * h .loop .j) (search needs)
-    (omega (arith, c .before .if1 .left, w .wide .ensures, w .before .value-by .ensures)) (h .loop .inv .1 .1 .1))
-    (search needs) (omega (arith, c .if2 .taken, v .wide2 .ensures, v .before .value-by2 .ensures))
+    (omega (arith, c .before .if1 .left, w .value-by .ensures)) (h .loop .inv .1 .1))
+    (search needs) (omega (arith, c .if2 .taken, v .value-by2 .ensures))
 
-mul-sum : tie.Need-mul-sum Inv-loop μ-loop
-mul-sum c = search needs
+wrapping-add-u8-requires : tie.Need-wrapping-add-u8-requires Inv-loop μ-loop
+wrapping-add-u8-requires c κs = search needs
 
-add-sum : tie.Need-add-sum Inv-loop μ-loop
-add-sum c = search needs
+mul-wrapping-add-u8 : tie.Need-mul-wrapping-add-u8 Inv-loop μ-loop
+mul-wrapping-add-u8 c = search needs
 
-add-sum-2 : tie.Need-add-sum-2 Inv-loop μ-loop
-add-sum-2 c = search needs
+add-wrapping-add-u8 : tie.Need-add-wrapping-add-u8 Inv-loop μ-loop
+add-wrapping-add-u8 c = search needs
 
 add-j : tie.Need-add-j Inv-loop μ-loop
 add-j c = search needs
@@ -88,34 +82,36 @@ loop-less c = search needs
 
 loop-again : tie.Need-loop-again Inv-loop μ-loop
 loop-again c =
-    let v = c .before .before in
-    let w = v .before .before .before in
-    let h = w .before .before .before .before in
+    let d = c .before in
+    let v = d .before .before in
+    let w = v .before .before in
+    let h = w .before .before .before in
     let a = h .before .before .args in
     let j = h .loop .j in
     let at = a .from + 2 * j in
-    let hb : w .wide .result ≤ 15 = omega (arith, c .before .if1 .left) in
-    let wb : v .wide2 .result ≤ 15 = omega (arith, c .if2 .left) in
-    let few : valueOf (getD (a .line .now) at 0) ≤ 15 = omega (arith, hb, w .wide .ensures, w .before .value-by .ensures) in
-    let one = digits-one (a .line .now) (a .from) at (search needs) few (h .loop .inv .1 .1 .1) in
-    let two = digits-one (a .line .now) (a .from) (at + 1) (search needs) (omega (arith, wb, v .wide2 .ensures, v .before .value-by2 .ensures)) one in
+    let hb : w .value-by .result ≤ 15 = omega (arith, d .before .if1 .left) in
+    let wb : v .value-by2 .result ≤ 15 = omega (arith, d .if2 .left) in
+    let few : valueOf (getD (a .line .now) at 0) ≤ 15 = omega (arith, hb, w .value-by .ensures) in
+    let one = digits-one (a .line .now) (a .from) at (search needs) few (h .loop .inv .1 .1) in
+    let two = digits-one (a .line .now) (a .from) (at + 1) (search needs) (omega (arith, wb, v .value-by2 .ensures)) one in
     let e : at + 1 + 1 ≡ a .from + 2 * (j + 1) = omega arith in (
       omega arith,
       (
-        omega (arith, hb, wb, h .loop .inv .1 .0),
-        (
-          pair-more (a .line .now) (a .from) j (h .loop .sum) (w .wide .result) (v .wide2 .result) (h .loop .inv .1 .1 .0)
-              (w .wide .ensures .0 ∙ w .before .value-by .ensures) (v .wide2 .ensures .0 ∙ v .before .value-by2 .ensures) hb wb,
-          two ∙ ap (λ (k : ℕ). allDigits (drop k (a .line .now))) e,
-        ),
+        pair-more (a .line .now) (a .from) j (h .loop .sum) (w .value-by .result) (v .value-by2 .result) (c .wrapping-add-u8 .result) (h .loop .inv .1 .0)
+            (w .value-by .ensures) (v .value-by2 .ensures) hb wb (c .wrapping-add-u8 .ensures),
+        two ∙ ap (λ (k : ℕ). allDigits (drop k (a .line .now))) e,
       ),
     )
 
+wide-requires : tie.Need-wide-requires Inv-loop μ-loop
+wide-requires c κs = search needs
+
 returns-3 : tie.Need-returns-3 Inv-loop μ-loop
 returns-3 c =
-    let h = c .before in
+    let h = c .before .before in
     let a = h .before .before .args in
-    sum-good (a .line .now) (a .from) (a .n) (h .loop .j) (h .loop .sum) (h .loop .inv .1 .1 .1) (omega arith) (omega arith) (h .loop .inv .1 .1 .0)
+    c .wide .ensures .0
+    ∙ sum-good (a .line .now) (a .from) (a .n) (h .loop .j) (h .loop .sum) (h .loop .inv .1 .1) (omega arith) (omega arith) (h .loop .inv .1 .0)
 
 pub sum-checked-spec : {M : Type 1} → statement M
 sum-checked-spec =
@@ -128,17 +124,16 @@ sum-checked-spec =
     add-i
     shared-slice-read-value-by
     value-by-requires
-    wide-requires
     add-value-by
     shared-slice-read-value-by-2
     value-by-requires-2
-    wide-requires-2
     returns
     returns-2
-    mul-sum
-    add-sum
-    add-sum-2
+    mul-wrapping-add-u8
+    add-wrapping-add-u8
+    wrapping-add-u8-requires
     add-j
     loop-less
     loop-again
+    wide-requires
     returns-3)

@@ -13,7 +13,7 @@ use Rattle.refusal.specs.Laws.Pick.{pick-true, pick-false}
 use Rattle.bankdef.specs.Check.{noBank}
 use Rattle.bankdef.specs.declared.Bankdef.{Bankdef}
 use Rattle.iter.specs.Crossing.{crossingOf}
-use Rattle.iter.specs.Theorems.Crossing.{crossing-sees, crossing-places, crossing-stands, crossing-made}
+use Rattle.iter.specs.Theorems.Crossing.{crossing-sees}
 use Rattle.iter.specs.Laws.Crossing.{any-default}
 use Rattle.iter.specs.Step.{origin, startOf, bankAfter, lostAfter, stepOf}
 use Rattle.iter.specs.declared.Crossing.{Crossing}
@@ -28,10 +28,6 @@ use Rattle.resolver.specs.Switches.{Switches}
 use Rattle.resolver.specs.Stands.{Stands}
 
 module _ (p : Program) (sound : Switches (p .banks .len) (p .kinds) (p .operands)) where
-  pub stands-start : (row : Row) → Stands p row 0 (replicate maxBanks origin) 0
-  unfolding walkTo startOf
-  stands-start row = record { places = refl; stood = refl; sixteen = refl; listed = sound .some }
-
   -- the bank that a node stands in, which no row tells
   pub stands-in : (row : Row) (i bank : ℕ) {b : ℕ} {n : Node} → n ≡ node p row i → b ≡ bankAfter bank n → b ≡ bankAfter bank (node p row i)
   stands-in row i bank k f = f ∙ ap (λ (x : Node). bankAfter bank x) k
@@ -74,25 +70,3 @@ module _ (p : Program) (sound : Switches (p .banks .len) (p .kinds) (p .operands
       sees =
           sym (crossing-sees d (walkTo p row i) (node p row i) here one-of-sixteen crosses)
           ∙ ap (λ (s : Stepped). s .seen) same-step
-
-      -- and the walk after it
-      pub stands-next : Stands p row (i + 1) (set at b (c .after)) b
-      unfolding walkTo
-      stands-next =
-          record {
-            places = rw add-one (ap (λ (s : Stepped). s .walk .at) (sym same-step)
-                ∙ crossing-places d (walkTo p row i) (node p row i) here one-of-sixteen crosses
-                ∙ ap (λ (l : List Pos). set l b (c .after)) (w .places));
-            stood = rw add-one (ap (λ (s : Stepped). s .walk .bank) (sym same-step)
-                ∙ crossing-stands d (walkTo p row i) (node p row i) here one-of-sixteen crosses);
-            sixteen = length-set at b (c .after) ∙ w .sixteen;
-            listed = still-listed;
-          }
-
-      -- a bank that the node is seen in has lost what the crossing skips
-      pub loses-next : {q : Pos} → c .seen ≡ To q
-          → walkTo p row (i + 1) .lost ≡ set (walkTo p row i .lost) b (lostAfter (getD (walkTo p row i .lost) b 0) (c .skipped .bits))
-      unfolding walkTo
-      loses-next e =
-          rw add-one (ap (λ (s : Stepped). s .walk .lost) (sym same-step
-          ∙ crossing-made d (walkTo p row i) (node p row i) here one-of-sixteen crosses e))

@@ -30,83 +30,145 @@ slice-aggregate-map-nodes : tie.Need-slice-aggregate-map-nodes
 slice-aggregate-map-nodes c = sym (length-take-le _ _ (c .before .before .before .before .before .before .before .before .before .before .pre .0 .kinds-fit))
 
 slice-aggregate-map-nodes-2 : tie.Need-slice-aggregate-map-nodes-2
-slice-aggregate-map-nodes-2 c = sym (length-take-le _ _ (c .before .before .before .before .before .before .before .before .before .before .before .pre .0 .operands-fit))
+slice-aggregate-map-nodes-2 c = sym
+    (length-take-le _ _ (c .before .before .before .before .before .before .before .before .before .before .before .pre .0 .operands-fit))
 
 slice-aggregate-map-nodes-3 : tie.Need-slice-aggregate-map-nodes-3
-slice-aggregate-map-nodes-3 c = sym (length-take-le _ _ (c .before .before .before .before .before .before .before .before .before .before .before .before .pre .0 .numbers-fit))
+slice-aggregate-map-nodes-3 c = sym
+    (length-take-le _ _ (c .before .before .before .before .before .before .before .before .before .before .before .before .pre .0 .numbers-fit))
 
 slice-aggregate-map-nodes-4 : tie.Need-slice-aggregate-map-nodes-4
-slice-aggregate-map-nodes-4 c = sym (length-take-le _ _ (c .before .before .before .before .before .before .before .before .before .before .before .before .before .pre .0 .states-fit))
+slice-aggregate-map-nodes-4 c = sym
+    (length-take-le _ _ (c .before .before .before .before .before .before .before .before .before .before .before .before .before .pre .0 .states-fit))
 
 map-nodes-requires : tie.Need-map-nodes-requires
 map-nodes-requires c κs = search needs
 
 slice-aggregate-in-profile : tie.Need-slice-aggregate-in-profile
-slice-aggregate-in-profile c = sym (length-take-le _ _ (c .before .before .before .before .before .before .before .before .before .before .before .before .before .before .before .before .before .before .before .pre .0 .kinds-fit))
+slice-aggregate-in-profile c = sym
+    (length-take-le _ _
+    (c .before .before .before .before .before .before .before .before .before .before .before .before .before .before .before .before .before
+    .before .before .pre .0 .kinds-fit))
 
 slice-aggregate-in-profile-2 : tie.Need-slice-aggregate-in-profile-2
-slice-aggregate-in-profile-2 c = sym (length-take-le _ _ (c .before .before .before .before .before .before .before .before .before .before .before .before .before .before .before .before .before .before .before .before .pre .0 .operands-fit))
+slice-aggregate-in-profile-2 c = sym
+    (length-take-le _ _
+    (c .before .before .before .before .before .before .before .before .before .before .before .before .before .before .before .before .before
+    .before .before .before .pre .0 .operands-fit))
 
 slice-aggregate-in-profile-3 : tie.Need-slice-aggregate-in-profile-3
-slice-aggregate-in-profile-3 c = sym (length-take-le _ _ (c .before .before .before .before .before .before .before .before .before .before .before .before .before .before .before .before .before .before .before .before .before .pre .0 .numbers-fit))
+slice-aggregate-in-profile-3 c = sym
+    (length-take-le _ _
+    (c .before .before .before .before .before .before .before .before .before .before .before .before .before .before .before .before .before
+    .before .before .before .before .pre .0 .numbers-fit))
 
 slice-aggregate-in-profile-4 : tie.Need-slice-aggregate-in-profile-4
-slice-aggregate-in-profile-4 c = sym (length-take-le _ _ (c .before .before .before .before .before .before .before .before .before .before .before .before .before .before .before .before .before .before .before .before .before .before .pre .0 .states-fit))
+slice-aggregate-in-profile-4 c = sym
+    (length-take-le _ _
+    (c .before .before .before .before .before .before .before .before .before .before .before .before .before .before .before .before .before
+    .before .before .before .before .before .pre .0 .states-fit))
 
 in-profile-requires : tie.Need-in-profile-requires
 in-profile-requires c κs = search needs
 
 slice-aggregate-write-all : tie.Need-slice-aggregate-write-all
-slice-aggregate-write-all c = sym (length-take-le _ _ (c .before .before .before .before .before .before .before .before .before .before .before .before .before .before .before .before .before .before .before .before .before .before .before .before .before .pre .0 .kinds-fit))
+slice-aggregate-write-all c = sym
+    (length-take-le _ _
+    (c .before .before .before .before .before .before .before .before .before .before .before .before .before .before .before .before .before
+    .before .before .before .before .before .before .before .before .pre .0 .kinds-fit))
 
 slice-aggregate-write-all-2 : tie.Need-slice-aggregate-write-all-2
 slice-aggregate-write-all-2 c =
-    let s = c .before .before .before .before .before .before .before .before .before .before .before .before .before .before .before .before .before .before .before .before .before .before .before .before .before .before in
+    let s = c .before .before .before .before .before .before .before .before .before .before .before .before .before .before .before .before
+    .before .before .before .before .before .before .before .before .before .before in
     let a = s .args in
     let h = s .pre .0 in
     arrays-long (a .file .now) (a .fill) (a .shape) (h .sound) _ (a .kinds .now) (a .operands .now) (a .numbers .now) (a .states .now) _ _ h
-    (c .before .before .before .before .before .before .before .before .before .before .before .before .before .before .before .before .before .before .before .chosen .ensures) (c .before .before .before .before .before .before .before .before .before .before .before .before .before .before .before .before .before .before .read-banks .ensures) (c .before .before .before .before .before .before .before .before .before .before .before .before .before .before .before .before .before .read-values .ensures) _ _ _ (c .before .before .before .before .before .before .before .before .map-nodes .ensures)
+    (c .before .before .before .before .before .before .before .before .before .before .before .before .before .before .before .before .before
+    .before .before .chosen .ensures)
+    (c .before .before .before .before .before .before .before .before .before .before .before .before .before .before .before .before .before
+    .before .read-banks .ensures)
+    (c .before .before .before .before .before .before .before .before .before .before .before .before .before .before .before .before .before
+    .read-values .ensures) _ _ _ (c .before .before .before .before .before .before .before .before .map-nodes .ensures)
     (long, long, long, long) .0
 
 slice-aggregate-write-all-3 : tie.Need-slice-aggregate-write-all-3
 slice-aggregate-write-all-3 c =
-    let s = c .before .before .before .before .before .before .before .before .before .before .before .before .before .before .before .before .before .before .before .before .before .before .before .before .before .before .before in
+    let s = c .before .before .before .before .before .before .before .before .before .before .before .before .before .before .before .before
+    .before .before .before .before .before .before .before .before .before .before .before in
     let a = s .args in
     let h = s .pre .0 in
     arrays-long (a .file .now) (a .fill) (a .shape) (h .sound) _ (a .kinds .now) (a .operands .now) (a .numbers .now) (a .states .now) _ _ h
-    (c .before .before .before .before .before .before .before .before .before .before .before .before .before .before .before .before .before .before .before .before .chosen .ensures) (c .before .before .before .before .before .before .before .before .before .before .before .before .before .before .before .before .before .before .before .read-banks .ensures) (c .before .before .before .before .before .before .before .before .before .before .before .before .before .before .before .before .before .before .read-values .ensures) _ _ _ (c .before .before .before .before .before .before .before .before .before .map-nodes .ensures)
+    (c .before .before .before .before .before .before .before .before .before .before .before .before .before .before .before .before .before
+    .before .before .before .chosen .ensures)
+    (c .before .before .before .before .before .before .before .before .before .before .before .before .before .before .before .before .before
+    .before .before .read-banks .ensures)
+    (c .before .before .before .before .before .before .before .before .before .before .before .before .before .before .before .before .before
+    .before .read-values .ensures) _ _ _ (c .before .before .before .before .before .before .before .before .before .map-nodes .ensures)
     (long, long, long, long) .1
 
 slice-aggregate-write-all-4 : tie.Need-slice-aggregate-write-all-4
 slice-aggregate-write-all-4 c =
-    let s = c .before .before .before .before .before .before .before .before .before .before .before .before .before .before .before .before .before .before .before .before .before .before .before .before .before .before .before .before in
+    let s = c .before .before .before .before .before .before .before .before .before .before .before .before .before .before .before .before
+    .before .before .before .before .before .before .before .before .before .before .before .before in
     let a = s .args in
     let h = s .pre .0 in
     arrays-long (a .file .now) (a .fill) (a .shape) (h .sound) _ (a .kinds .now) (a .operands .now) (a .numbers .now) (a .states .now) _ _ h
-    (c .before .before .before .before .before .before .before .before .before .before .before .before .before .before .before .before .before .before .before .before .before .chosen .ensures) (c .before .before .before .before .before .before .before .before .before .before .before .before .before .before .before .before .before .before .before .before .read-banks .ensures) (c .before .before .before .before .before .before .before .before .before .before .before .before .before .before .before .before .before .before .before .read-values .ensures) _ _ _ (c .before .before .before .before .before .before .before .before .before .before .map-nodes .ensures)
+    (c .before .before .before .before .before .before .before .before .before .before .before .before .before .before .before .before .before
+    .before .before .before .before .chosen .ensures)
+    (c .before .before .before .before .before .before .before .before .before .before .before .before .before .before .before .before .before
+    .before .before .before .read-banks .ensures)
+    (c .before .before .before .before .before .before .before .before .before .before .before .before .before .before .before .before .before
+    .before .before .read-values .ensures) _ _ _ (c .before .before .before .before .before .before .before .before .before .before .map-nodes .ensures)
     (long, long, long, long) .2
 
 slice-aggregate-write-all-5 : tie.Need-slice-aggregate-write-all-5
 slice-aggregate-write-all-5 c =
-    let s = c .before .before .before .before .before .before .before .before .before .before .before .before .before .before .before .before .before .before .before .before .before .before .before .before .before .before .before .before .before in
+    let s = c .before .before .before .before .before .before .before .before .before .before .before .before .before .before .before .before
+    .before .before .before .before .before .before .before .before .before .before .before .before .before in
     let a = s .args in
     let h = s .pre .0 in
     arrays-long (a .file .now) (a .fill) (a .shape) (h .sound) _ (a .kinds .now) (a .operands .now) (a .numbers .now) (a .states .now) _ _ h
-    (c .before .before .before .before .before .before .before .before .before .before .before .before .before .before .before .before .before .before .before .before .before .before .chosen .ensures) (c .before .before .before .before .before .before .before .before .before .before .before .before .before .before .before .before .before .before .before .before .before .read-banks .ensures) (c .before .before .before .before .before .before .before .before .before .before .before .before .before .before .before .before .before .before .before .before .read-values .ensures) _ _ _ (c .before .before .before .before .before .before .before .before .before .before .before .map-nodes .ensures)
+    (c .before .before .before .before .before .before .before .before .before .before .before .before .before .before .before .before .before
+    .before .before .before .before .before .chosen .ensures)
+    (c .before .before .before .before .before .before .before .before .before .before .before .before .before .before .before .before .before
+    .before .before .before .before .read-banks .ensures)
+    (c .before .before .before .before .before .before .before .before .before .before .before .before .before .before .before .before .before
+    .before .before .before .read-values .ensures) _ _ _
+    (c .before .before .before .before .before .before .before .before .before .before .before .map-nodes .ensures)
     (long, long, long, long) .3
 
 write-all-requires : tie.Need-write-all-requires
 write-all-requires c κs =
-    let s = c .before .before .before .before .before .before .before .before .before .before .before .before .before .before .before .before .before .before .before .before .before .before .before .before .before .before .before .before .before in
+    let s = c .before .before .before .before .before .before .before .before .before .before .before .before .before .before .before .before
+    .before .before .before .before .before .before .before .before .before .before .before .before .before in
     let a = s .args in
     let h = s .pre .0 in
     let less = shown-fewer (a .file .now) (a .fill) (a .shape) (h .sound) _ (a .kinds .now) (a .operands .now) (a .numbers .now) (a .states .now) _ _ h
-    (c .before .before .before .before .before .before .before .before .before .before .before .before .before .before .before .before .before .before .before .before .before .before .chosen .ensures) (c .before .before .before .before .before .before .before .before .before .before .before .before .before .before .before .before .before .before .before .before .before .read-banks .ensures) (c .before .before .before .before .before .before .before .before .before .before .before .before .before .before .before .before .before .before .before .before .read-values .ensures) _ _ _ (c .before .before .before .before .before .before .before .before .before .before .before .map-nodes .ensures)
+    (c .before .before .before .before .before .before .before .before .before .before .before .before .before .before .before .before .before
+    .before .before .before .before .before .chosen .ensures)
+    (c .before .before .before .before .before .before .before .before .before .before .before .before .before .before .before .before .before
+    .before .before .before .before .read-banks .ensures)
+    (c .before .before .before .before .before .before .before .before .before .before .before .before .before .before .before .before .before
+    .before .before .before .read-values .ensures) _ _ _
+    (c .before .before .before .before .before .before .before .before .before .before .before .map-nodes .ensures)
     (a .page) _ (c .before .before .before .before .before .before .in-profile .ensures) in
     let few = nodes-few (a .file .now) (a .fill) (a .shape) (h .sound) _ (a .kinds .now) (a .operands .now) (a .numbers .now) (a .states .now) _ _ h
-    (c .before .before .before .before .before .before .before .before .before .before .before .before .before .before .before .before .before .before .before .before .before .before .chosen .ensures) (c .before .before .before .before .before .before .before .before .before .before .before .before .before .before .before .before .before .before .before .before .before .read-banks .ensures) (c .before .before .before .before .before .before .before .before .before .before .before .before .before .before .before .before .before .before .before .before .read-values .ensures) _ _ _ (c .before .before .before .before .before .before .before .before .before .before .before .map-nodes .ensures) in
+    (c .before .before .before .before .before .before .before .before .before .before .before .before .before .before .before .before .before
+    .before .before .before .before .before .chosen .ensures)
+    (c .before .before .before .before .before .before .before .before .before .before .before .before .before .before .before .before .before
+    .before .before .before .before .read-banks .ensures)
+    (c .before .before .before .before .before .before .before .before .before .before .before .before .before .before .before .before .before
+    .before .before .before .read-values .ensures) _ _ _
+    (c .before .before .before .before .before .before .before .before .before .before .before .map-nodes .ensures) in
     let listed = nodes-listed (a .file .now) (a .fill) (a .shape) (h .sound) _ (a .kinds .now) (a .operands .now) (a .numbers .now) (a .states .now) _ _ h
-    (c .before .before .before .before .before .before .before .before .before .before .before .before .before .before .before .before .before .before .before .before .before .before .chosen .ensures) (c .before .before .before .before .before .before .before .before .before .before .before .before .before .before .before .before .before .before .before .before .before .read-banks .ensures) (c .before .before .before .before .before .before .before .before .before .before .before .before .before .before .before .before .before .before .before .before .read-values .ensures) _ _ _ (c .before .before .before .before .before .before .before .before .before .before .before .map-nodes .ensures) in
+    (c .before .before .before .before .before .before .before .before .before .before .before .before .before .before .before .before .before
+    .before .before .before .before .before .chosen .ensures)
+    (c .before .before .before .before .before .before .before .before .before .before .before .before .before .before .before .before .before
+    .before .before .before .before .read-banks .ensures)
+    (c .before .before .before .before .before .before .before .before .before .before .before .before .before .before .before .before .before
+    .before .before .before .read-values .ensures) _ _ _
+    (c .before .before .before .before .before .before .before .before .before .before .before .map-nodes .ensures) in
     let fit = nodes-fit (c .before .before .before .before .before .before .before .before .before .before .before .map-nodes .ensures) in (
       s .pre .1,
       (
@@ -120,12 +182,19 @@ same-length c = search needs
 
 returns : tie.Need-returns
 returns c =
-    let s = c .before .before .before .before .before .before .before .before .before .before .before .before .before .before .before .before .before .before .before .before .before .before .before .before .before .before .before .before .before .before .before .before in
+    let s = c .before .before .before .before .before .before .before .before .before .before .before .before .before .before .before .before
+    .before .before .before .before .before .before .before .before .before .before .before .before .before .before .before .before in
     let a = s .args in
     let h = s .pre .0 in (
       written-as
           (read-text (a .file .now) (a .fill) (a .shape) (h .sound) _ (a .kinds .now) (a .operands .now) (a .numbers .now) (a .states .now) _ _ h
-          (c .before .before .before .before .before .before .before .before .before .before .before .before .before .before .before .before .before .before .before .before .before .before .before .before .before .chosen .ensures) (c .before .before .before .before .before .before .before .before .before .before .before .before .before .before .before .before .before .before .before .before .before .before .before .before .read-banks .ensures) (c .before .before .before .before .before .before .before .before .before .before .before .before .before .before .before .before .before .before .before .before .before .before .before .read-values .ensures) _ _ _ (c .before .before .before .before .before .before .before .before .before .before .before .before .before .before .map-nodes .ensures)
+          (c .before .before .before .before .before .before .before .before .before .before .before .before .before .before .before .before .before
+          .before .before .before .before .before .before .before .before .chosen .ensures)
+          (c .before .before .before .before .before .before .before .before .before .before .before .before .before .before .before .before .before
+          .before .before .before .before .before .before .before .read-banks .ensures)
+          (c .before .before .before .before .before .before .before .before .before .before .before .before .before .before .before .before .before
+          .before .before .before .before .before .before .read-values .ensures) _ _ _
+          (c .before .before .before .before .before .before .before .before .before .before .before .before .before .before .map-nodes .ensures)
           (a .page) _ (c .before .before .before .before .before .before .before .before .before .in-profile .ensures))
           (c .before .before .write-all .ensures .0),
       c .before .before .write-all .ensures .1,
