@@ -57,6 +57,15 @@ static void profile(void)
     told = r.pages[1];
 }
 
+static void mapped(void)
+{
+    static uint64_t banks_of[DK_MAX_NODES], outputs[DK_MAX_NODES];
+    static uint32_t positions[DK_MAX_NODES], extents[DK_MAX_NODES];
+    struct dk_mapped r = dk_map(TABLES, limit(), DK_FILL_INHERITED, form == 2, banks_of, positions, outputs, extents);
+    refusal = r.refusal;
+    told = r.nodes;
+}
+
 static void laid_file(void)
 {
     laid(dk_form(file, file_length, DK_FILL_INHERITED, OUTPUT));
@@ -229,6 +238,17 @@ static void fault_srec(void)
     refusal = dk_record_fault(DK_S_RECORDS, text, text_length, 0).fault;
 }
 
+/* The file's end record is missing: the whole of it is gone through. */
+static void reason_hex(void)
+{
+    told = dk_record_reason(DK_INTEL_HEX, text, text_length - 12, 0).reason;
+}
+
+static void reason_srec(void)
+{
+    told = dk_record_reason(DK_S_RECORDS, text, text_length - 15, 0).reason;
+}
+
 /* What the compiler must not leave out. */
 static void used(void *bytes)
 {
@@ -266,6 +286,7 @@ static const struct { const char *name, *order; void (*make)(const char *); void
     {"dk_write_hex", "hex", make_text, write_hex}, {"dk_write_srec", "srec", make_text, write_srec},
     {"dk_read_records", "hex", make_text, read_hex}, {"dk_read_records", "srec", make_text, read_srec},
     {"dk_record_fault", "hex", make_text, fault_hex}, {"dk_record_fault", "srec", make_text, fault_srec},
+    {"dk_map", "", NULL, mapped}, {"dk_record_reason", "hex", make_text, reason_hex}, {"dk_record_reason", "srec", make_text, reason_srec},
     {"memcmp", "last", make_overlay, compare_bytes}, {"memcpy", "", NULL, copy_file}, {"memset", "", NULL, set_image}};
 
 static int is_about_records(size_t asked)
