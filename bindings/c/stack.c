@@ -301,8 +301,8 @@ int main(void)
     bad |= measure("dk_write_srec", write_srec, 1024);
     bad |= measure("dk_read_records, S-records", read_srec, 1024);
     bad |= measure("dk_record_fault", fault, 1024);
-    bad |= measure("dk_record_reason", reason, 1024);
-    bad |= measure("dk_record_reason, below", reason_below, 1024);
-    bad |= measure("dk_record_reason, twice", reason_twice, 1024);
+    bad |= measure("dk_record_reason", reason, 2048);
+    bad |= measure("dk_record_reason, below", reason_below, 2048);
+    bad |= measure("dk_record_reason, twice", reason_twice, 2048);
     return bad;
 }
