@@ -138,6 +138,8 @@ def tool_command(tool, kind, source, target, writes):
 
 
 def ratio(ours, theirs):
+    if not theirs:
+        return ""
     return f"{ours / theirs:.3f}" if ours < theirs / 50 else f"{ours / theirs:.2f}"
 
 

@@ -22,7 +22,7 @@ SIZES = (16_384, 1_048_576)
 def commands(program, room):
     """The three: S-records in a file or from standard input, Intel HEX to a file or to standard output."""
     source = room / "in.s37"
-    return [([*program, "0", "0"], source.read_bytes()),
+    return [([*program, "1", "0", "0"], source.read_bytes()),
             (["srec_cat", source, "-motorola", "-o", room / "srec_cat.hex", "-intel", "-address-length=4", "-output_block_size=16"], b""),
             (["objcopy", "-I", "srec", "-O", "ihex", source, room / "objcopy.hex"], b"")]
 
