@@ -36,6 +36,8 @@ def layouts():
             "filled with ones": filled(1, True), "filled with zeros": filled(0, True), "no fill": filled(0, False)}
 
 
+# calls that read what they come to need, so that no limit is told of them
+UNBOUND = ("dk_part", "dk_offer")
 ORDERS = {"rising": "in order", "falling": "in reverse", "shuffled": "shuffled"}
 ROWS = (
     [Row("dk_build", name, name, "the Rust's own functions", "build") for name in ("wide", "offers", "mixed A", "mixed B")]
@@ -112,6 +114,12 @@ class Bench:
             raise Differ(f"{row.call}: other bytes")
         return read - instructions(tool_command(row.tool, kind, few_text, back, False))[0]
 
+    def once(self, row):
+        """Instructions of reading once what a call must read and writing once what it must write; None where that depends on what the call finds."""
+        if row.call.split(":")[0] in UNBOUND:
+            return None
+        return self.counted(self.run(self.ours / "calls_time", f"once:{row.call}", row.layout))[0]
+
     def beside(self, row, said):
         """Instructions of what stands beside a call, and how to run it, if it can be timed."""
         if row.tool:
@@ -151,8 +159,8 @@ def call_rows(ours, rust, turns):
     missing = set(promised()) - {row.call.split(":")[0] for row in ROWS}
     if missing:
         raise Differ(f"bindings/benchmark_calls.py has no row for {sorted(missing)}")
-    yield "| call | on | instructions | beside it | instructions | ratio | µs | beside it, µs | ratio |"
-    yield "|---|---|---|---|---|---|---|---|---|"
+    yield "| call | on | instructions | once | beside it | instructions | ratio | µs | beside it, µs | ratio |"
+    yield "|---|---|---|---|---|---|---|---|---|---|"
     with manners.room() as room:
         bench = Bench(ours, rust, room)
         for row in ROWS:
@@ -160,7 +168,8 @@ def call_rows(ours, rust, turns):
             cost, said = bench.counted(run)
             other, run_other = bench.beside(row, said) if row.beside else (None, None)
             spent = bench.timed([(run, cost)] + [(run_other, other)] * bool(run_other), turns)
-            cells = [row.call.split(":")[0], row.given, f"{cost:,.0f}", row.beside]
+            once = bench.once(row)
+            cells = [row.call.split(":")[0], row.given, f"{cost:,.0f}", f"{once:,.0f}" if once else "", row.beside]
             cells += [f"{other:,.0f}", ratio(cost, other)] if other else ["", ""]
             cells += [number(spent[0])] + ([number(spent[1]), ratio(*spent)] if run_other else ["", ""])
             yield f"| {' | '.join(cells)} |"

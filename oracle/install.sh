@@ -55,6 +55,11 @@ cp "$room/here" "$room/banks.hex"
 as srec "$examples/banks.form" --width 2
 as rehex "$room/banks.hex" --to srec
 as bench "$room/banks.hex" "$room/banks.hex"
+# a bad file is explained there too
+sed '1s/.$/!/' "$room/banks.hex" >"$room/bad.hex"
+as rehex "$room/bad.hex"
+grep -q 'line 1' "$room/err" || fault "denkumari rehex of a bad file names no line: $(cat "$room/err")"
+as bench "$room/banks.hex" "$room/bad.hex"
 as convert "$examples/banks.form" --to 2
 as layout "$room/none"
 if command -v python3 >/dev/null 2>&1; then

@@ -1,7 +1,8 @@
 /* One exported call, made again and again, to be counted or timed: calls_time CALL TIMES [FILE]. Prints a number that depends on what the call
  * gave, and ends with 1 where it was refused. CALL is NAME or NAME:ORDER of the list at the end. FILE is a layout for the calls about layouts; the calls about
- * records write to it what they made. memcmp, memcpy and memset are there for scale. bindings/benchmark.py runs it once with one call and once with many:
- * the difference is the calls'. */
+ * records write to it what they made. memcmp, memcpy and memset are there for scale. With `once:` ahead of CALL the call is made one time, and what is made
+ * again and again is a limit to it: every word that it must read is read once and every word that it must write is written once, eight bytes a step.
+ * bindings/benchmark.py runs it once with one call and once with many: the difference is the calls'. */
 #include <inttypes.h>
 #include <stdio.h>
 #include <stdlib.h>
@@ -21,12 +22,17 @@ static uint64_t offsets[SPANS], sizes[SPANS], block_offsets[SPANS], block_sizes[
 /* What the last call said: its refusal, and a number for the rest. */
 static uint64_t refusal, told;
 
+/* How long the last layout's image is, in bits, and how many spans it has. */
+static uint64_t length, spans;
+
 #define OUTPUT image, IMAGE, addresses, SPANS, offsets, SPANS, sizes, SPANS
 
 static void laid(struct dk_layout r)
 {
     refusal = r.refusal;
-    told = r.length + r.spans;
+    length = r.length;
+    spans = r.spans;
+    told = length + spans;
 }
 
 static void counted(struct dk_count r)
@@ -57,10 +63,11 @@ static void profile(void)
     told = r.pages[1];
 }
 
+static uint64_t banks_of[DK_MAX_NODES], outputs[DK_MAX_NODES];
+static uint32_t positions[DK_MAX_NODES], extents[DK_MAX_NODES];
+
 static void mapped(void)
 {
-    static uint64_t banks_of[DK_MAX_NODES], outputs[DK_MAX_NODES];
-    static uint32_t positions[DK_MAX_NODES], extents[DK_MAX_NODES];
     struct dk_mapped r = dk_map(TABLES, limit(), DK_FILL_INHERITED, form == 2, banks_of, positions, outputs, extents);
     refusal = r.refusal;
     told = r.nodes;
@@ -273,21 +280,129 @@ static void set_image(void)
     used(image);
 }
 
-static const struct { const char *name, *order; void (*make)(const char *); void (*call)(void); } calls[] = {
-    {"dk_build", "", NULL, build}, {"dk_form", "", NULL, laid_file}, {"dk_build_paged", "", NULL, build_paged},
-    {"dk_form_paged", "", NULL, laid_file_paged}, {"dk_profile", "", NULL, profile},
-    {"dk_to_form1", "", NULL, to_form1}, {"dk_to_form2", "", NULL, to_form2},
-    {"dk_blocks", "rising", make_spans, blocks}, {"dk_blocks", "falling", make_spans, blocks},
-    {"dk_blocks", "shuffled", make_spans, blocks}, {"dk_blocks", "one", make_spans, blocks},
-    {"dk_hex", "", make_image, digits}, {"dk_part", "", NULL, part},
-    {"dk_offer", "rising", make_offers, offer}, {"dk_offer", "falling", make_offers, offer}, {"dk_offer", "shuffled", make_offers, offer},
-    {"dk_overlay_range", "last", make_overlay, range}, {"dk_overlay_runs", "last", make_overlay, runs},
-    {"dk_overlay_runs", "every", make_overlay, runs}, {"dk_overlay_runs", "sixteenth", make_overlay, runs},
-    {"dk_write_hex", "hex", make_text, write_hex}, {"dk_write_srec", "srec", make_text, write_srec},
-    {"dk_read_records", "hex", make_text, read_hex}, {"dk_read_records", "srec", make_text, read_srec},
-    {"dk_record_fault", "hex", make_text, fault_hex}, {"dk_record_fault", "srec", make_text, fault_srec},
-    {"dk_map", "", NULL, mapped}, {"dk_record_reason", "hex", make_text, reason_hex}, {"dk_record_reason", "srec", make_text, reason_srec},
-    {"memcmp", "last", make_overlay, compare_bytes}, {"memcpy", "", NULL, copy_file}, {"memset", "", NULL, set_image}};
+/* What `once` goes over, each by words of eight bytes, the last of a list whole. */
+static void reads(const void *from, size_t bytes)
+{
+    uint64_t sum = 0, word;
+    for (size_t i = 0; i < (bytes + 7) / 8; i++) {
+        memcpy(&word, (const uint8_t *)from + 8 * i, 8);
+        sum += word;
+    }
+    told += sum;
+}
+
+static void writes(void *to, size_t bytes)
+{
+    for (size_t i = 0; i < (bytes + 7) / 8; i++)
+        memcpy((uint8_t *)to + 8 * i, &told, 8);
+    used(to);
+}
+
+static void reads_tables(void)
+{
+    reads(kinds, nodes);
+    reads(operands, 4 * nodes);
+    reads(numbers, 4 * rows * nodes);
+    reads(states, rows * nodes);
+    reads(file + values_at, values_size);
+}
+
+static void writes_layout(void)
+{
+    writes(image, (length + 7) / 8);
+    writes(addresses, 8 * spans);
+    writes(offsets, 8 * spans);
+    writes(sizes, 8 * spans);
+}
+
+static void once_build(void)
+{
+    reads_tables();
+    writes_layout();
+}
+
+static void once_form(void)
+{
+    reads(file, file_length);
+    writes_layout();
+}
+
+static void once_map(void)
+{
+    reads_tables();
+    writes(banks_of, 8 * nodes);
+    writes(outputs, 8 * nodes);
+    writes(positions, 4 * nodes);
+    writes(extents, 4 * nodes);
+}
+
+static void once_convert(void)
+{
+    reads(file, file_length);
+    writes(other, file_length);
+}
+
+static void once_blocks(void)
+{
+    reads(offsets, 8 * SPANS);
+    reads(sizes, 8 * SPANS);
+    writes(block_offsets, 8 * SPANS);
+    writes(block_sizes, 8 * SPANS);
+}
+
+static void once_hex(void)
+{
+    reads(image, IMAGE);
+    writes(hex, sizeof hex);
+}
+
+/* The covered bytes of both images. */
+static void once_runs(void)
+{
+    reads(trial, block_sizes[0] / 8 * RUNS);
+    reads(issued, block_sizes[0] / 8 * RUNS);
+}
+
+static void once_blocks_of_overlay(void)
+{
+    reads(block_offsets, 8 * RUNS);
+    reads(block_sizes, 8 * RUNS);
+}
+
+static void once_write(void)
+{
+    reads(loaded, LOADED);
+    writes(text, text_length);
+}
+
+static void once_read(void)
+{
+    reads(text, text_length);
+    writes(fetched, LOADED);
+}
+
+static void once_fault(void)
+{
+    reads(text, text_length);
+}
+
+static const struct { const char *name, *order; void (*make)(const char *); void (*call)(void); void (*once)(void); } calls[] = {
+    {"dk_build", "", NULL, build, once_build}, {"dk_form", "", NULL, laid_file, once_form}, {"dk_build_paged", "", NULL, build_paged, once_build},
+    {"dk_form_paged", "", NULL, laid_file_paged, once_form}, {"dk_profile", "", NULL, profile, reads_tables},
+    {"dk_to_form1", "", NULL, to_form1, once_convert}, {"dk_to_form2", "", NULL, to_form2, once_convert},
+    {"dk_blocks", "rising", make_spans, blocks, once_blocks}, {"dk_blocks", "falling", make_spans, blocks, once_blocks},
+    {"dk_blocks", "shuffled", make_spans, blocks, once_blocks}, {"dk_blocks", "one", make_spans, blocks, once_blocks},
+    {"dk_hex", "", make_image, digits, once_hex}, {"dk_part", "", NULL, part, NULL},
+    {"dk_offer", "rising", make_offers, offer, NULL}, {"dk_offer", "falling", make_offers, offer, NULL},
+    {"dk_offer", "shuffled", make_offers, offer, NULL}, {"dk_overlay_range", "last", make_overlay, range, once_blocks_of_overlay},
+    {"dk_overlay_runs", "last", make_overlay, runs, once_runs}, {"dk_overlay_runs", "every", make_overlay, runs, once_runs},
+    {"dk_overlay_runs", "sixteenth", make_overlay, runs, once_runs},
+    {"dk_write_hex", "hex", make_text, write_hex, once_write}, {"dk_write_srec", "srec", make_text, write_srec, once_write},
+    {"dk_read_records", "hex", make_text, read_hex, once_read}, {"dk_read_records", "srec", make_text, read_srec, once_read},
+    {"dk_record_fault", "hex", make_text, fault_hex, once_fault}, {"dk_record_fault", "srec", make_text, fault_srec, once_fault},
+    {"dk_map", "", NULL, mapped, once_map}, {"dk_record_reason", "hex", make_text, reason_hex, once_fault},
+    {"dk_record_reason", "srec", make_text, reason_srec, once_fault}, {"memcmp", "last", make_overlay, compare_bytes, NULL},
+    {"memcpy", "", NULL, copy_file, NULL}, {"memset", "", NULL, set_image, NULL}};
 
 static int is_about_records(size_t asked)
 {
@@ -331,13 +446,21 @@ int main(int argc, char **argv)
 {
     if (argc < 3)
         return 2;
-    size_t asked = find(argv[1]);
+    int once = strncmp(argv[1], "once:", 5) == 0;
+    size_t asked = find(argv[1] + (once ? 5 : 0));
     if (argc > 3 && !is_about_records(asked) && !take(argv[3]))
         return 2;
     if (calls[asked].make)
         calls[asked].make(calls[asked].order);
+    void (*made)(void) = calls[asked].call;
+    if (once) {
+        made();
+        made = calls[asked].once;
+        if (!made || refusal != 0)
+            return 2;
+    }
     for (long times = atol(argv[2]); times > 0; times--)
-        calls[asked].call();
+        made();
     if (calls[asked].call == blocks)
         for (size_t i = 0; i < SPANS; i++)
             told += block_offsets[i] * (i + 1);
