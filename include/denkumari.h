@@ -13,7 +13,47 @@
  * the fill bits of filled banks.
  *
  * Stack. What a call needs, all its frames included, is said of each, with what was measured on the longest lists, rounded up. bindings/c/stack.c measures
- * it by painting a thread's stack, and the tests fail where a call needs more; docs/BENCHMARK.md has the bytes. */
+ * it by painting a thread's stack, and the tests fail where a call needs more; docs/BENCHMARK.md has the bytes.
+ *
+ * Statements. What a call promises is written in sentences, from the documents and in their numerals; proved are that the function says them (`.. meets`), that
+ * they leave one outcome, everything lent included (`.. decides`), and from them what people look for. crate/File.name is a name of a file in
+ * crates/crate/specs; docs/STATEMENTS.md quotes each below the document's sentence, and docs/READING.md says how to read them.
+ *
+ * dk_build          sentences `says_build/Build.BuildSays`; `says_meets/Meets.build-meets`, `says_build/Decides.build-decides`. Refused, nothing has changed:
+ *                   `says_build/Outcomes.refused-changes-nothing`. No shared bit: `says_build/Image.accepted-offers-apart`; the item's own bit:
+ *                   `says_build/Image.item-own-bit`; every other: `says_build/Image.other-bit-fill`, `says_build/Image.other-bit-zero`. Padding:
+ *                   `says_build/Padding.padding-is-the-sum`. A raised limit: `says_meets/RaisedLimit.raised-limit-is-harmless`
+ * dk_form           sentences `says_form/Form.FormSays`; `says_form/FormMeets.form-meets`, `says_form/FormDecides.form-decides`. A broken file:
+ *                   `says_form/Forms.broken-file`; bank 0: `says_form/Forms.form-2-closes-bank-0`, `says_form/Forms.form-1-opens-bank-0`
+ * dk_profile        sentences `says_profile/Profile.ProfileSays`; `says_profile/Meets.profile-meets`, `says_profile/Decides.profile-decides`. Yes and 19:
+ *                   `says_profile/Ticket9.yes-exactly`, `says_profile/Ticket9.nineteen-exactly`
+ * dk_build_paged    sentences `says_profile/Paged.PagedSays`; `says_profile/Meets.paged-meets`, `says_profile/Decides.paged-decides`. After a yes the ordinary
+ *                   build: `says_profile/Meets.paged-is-build`
+ * dk_form_paged     sentences `says_form_paged/FormPaged.FormPagedSays`; `says_form_paged/Meets.form-paged-meets`, `says_form_paged/Decides.form-paged-decides`
+ * dk_map            by its contract: `denkumari/Maps.MapTold`. Refused as the build is but for 14: `build_map/AsBuilt.refused-exactly-as-built`; the node:
+ *                   `build_map/AsBuilt.fault-is-where-refused`; elements past what is shown: `build_map/Entries.past-entries-kept`
+ * dk_to_form2       sentences `says_convert/Convert.ConvertSays`; `says_convert/Meets.to-form2-meets`, `says_convert/Decides.to-form2-decides`. There and
+ *                   back: `says_convert/Trips.form-1-and-back`; the same build: `says_convert/SameBuild.other-banks-same-build`,
+ *                   `says_convert/SameBuild.one-bank-same-build`
+ * dk_to_form1       the same sentences; `says_convert/Meets.to-form1-meets`, `says_convert/Decides.to-form1-decides`. And again:
+ *                   `says_convert/Trips.form-2-and-again`; the same build: `says_convert/SameBuild.plain-same-build`, `says_convert/SameBuild.shape-same-build`
+ * dk_blocks         sentences `says_bits/Blocks.DkBlocksSay`; `says_bits/Blocks.dk-blocks-meets`, `says_bits/Blocks.dk-blocks-decides`
+ * dk_hex            sentences `says_bits/Hex.HexSays`; `says_bits/Hex.hex-meets`, `says_bits/Hex.hex-decides`
+ * dk_offer          sentences `says_store/Store.OfferSays`; `says_store/Meets.offer-meets`, `says_store/Decides.offer-decides`. Calls one after the other,
+ *                   from an empty store: `says_store/Demand3.stored-exactly`, `says_store/Demand3.marked-exactly`; in any order:
+ *                   `says_store/Order.reordered-accepted`
+ * dk_part           sentences `says_bits/Part.PartSays`; `says_bits/Part.part-meets`, `says_bits/Part.part-decides`
+ * dk_overlay_range  sentences `says_overlay/Overlay.RangeSays`; `says_overlay/Range.range-meets`, `says_overlay/Range.range-decides`
+ * dk_overlay_runs   sentences `says_overlay/Overlay.RunsSay`; `says_overlay/Runs.runs-meet`, `says_overlay/Runs.runs-decide`
+ * dk_write_hex      sentences `says_records/Write.HexSays`; `says_records/WriteMeets.write-hex-meets`, `says_records/WriteDecides.write-hex-decides`. Read back:
+ *                   `says_records/Calls.hex-back`; every line sums to zero: `says_records/Calls.hex-sums`
+ * dk_write_srec     sentences `says_records/Write.SrecSays`; `says_records/WriteMeets.write-srec-meets`, `says_records/WriteDecides.write-srec-decides`. Read
+ *                   back: `says_records/Calls.srec-back`; checksums: `says_records/Calls.srec-sums`
+ * dk_read_records   sentences `says_records/Read.ReadSays`; `says_records/ReadMeets.read-meets`, `says_records/ReadDecides.read-decides`. Records in any order:
+ *                   `says_records/Calls.any-order`; LF or CR LF: `says_records/Calls.either-end`
+ * dk_record_fault   sentences `says_records/Read.FaultSays`; `says_records/FaultMeets.fault-meets`, `says_records/FaultDecides.fault-decides`
+ * dk_record_reason  by its contract: `denkumari/Reasons.ReasonTold`
+ */
 #ifndef DENKUMARI_H
 #define DENKUMARI_H
 
