@@ -14,6 +14,19 @@ pub record Puts (values : List ℕ) (x m from : ℕ) (image after : List ℕ) : 
   pub own : (bit : ℕ) → bit < m → bitAt after (x + bit) ≡ bitAt values (from + bit)
   pub others : (bit : ℕ) → (x ≤ bit → bit < x + m → ⊥) → bitAt after bit ≡ bitAt image bit
 
+-- An item by itself: where its bits go, how many they are, and the value bits that they are, from `from` on.
+pub record Item : Type 0 where
+  pub position : ℕ
+  pub size : ℕ
+  pub values : List ℕ
+  pub from : ℕ
+
+-- The bits of these items are written one item after the other, in this order: the image before, and afterwards.
+pub data AllPut : List Item → List ℕ → List ℕ → Type 0 where
+  none-left : {image : List ℕ} → AllPut [] image image
+  item-put : {it : Item} {items : List Item} {image after last : List ℕ} → Puts (it .values) (it .position) (it .size) (it .from) image after
+      → AllPut items after last → AllPut (it ∷ items) image last
+
 -- a number stands in a list
 pub data Among (i : ℕ) : List ℕ → Type 0 where
   here : {l : List ℕ} → Among i (i ∷ l)

@@ -1,3 +1,4 @@
 pub mod One
 pub mod First
 pub mod Largest
+pub mod Items

@@ -3,6 +3,7 @@ use mathlib.Core.Path.{_≡_}
 use mathlib.Core.List.{List, [], _∷_, List·Memᴰ}
 use Prim.Native.Nat.{ℕ, _≤_, _<_}
 use Rattle.overlap_checker.specs.declared.Entry.{Entry}
+use Rattle.says_build.specs.InTurn.{Item}
 use Rattle.says_store.specs.Store.{Not, Store, Arrays, Outcome, Covers, Inside, OfferSays}
 
 -- what a call leaves, as the next one is given it
@@ -47,3 +48,7 @@ pub data Apart : List Entry → List Entry → List ℕ → Type 0 where
   none : Apart [] [] []
   block : {e : Entry} {l blocks : List Entry} {marks : List ℕ} → 0 < e .size → Apart l blocks marks → Apart (e ∷ l) (e ∷ blocks) marks
   mark : {e : Entry} {l blocks : List Entry} {marks : List ℕ} → e .size ≡ 0 → Apart l blocks marks → Apart (e ∷ l) blocks (e .position ∷ marks)
+
+-- an item's offer: its position and its size
+abbrev pub offerOf : Item → Entry
+offerOf it = record { position = it .position; size = it .size }

@@ -5,3 +5,4 @@ pub mod Held
 pub mod Faults
 pub mod Call
 pub mod Turns
+pub mod Separate

@@ -8,3 +8,4 @@ pub mod Order
 pub mod Cases
 pub mod Exactly
 pub mod Named
+pub mod AnyOrder

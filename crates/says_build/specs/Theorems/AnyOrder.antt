@@ -1,7 +1,7 @@
 -- Ticket 11, the image: "writing the accepted items' bits in any order gives the same image". Of an accepted build, from the sentences alone: no two offers
 -- share a bit, so that a bit of an item keeps the value that the item gives it, whatever is written before and after it.
 use mathlib.Core.Path.{_≡_, refl, sym, ap, ap₂, subst, _∙_}
-use mathlib.Core.List.{List, [], _∷_}
+use mathlib.Core.List.{List, [], _∷_, List·Memᴰ, List·Memᴰ·head, List·Memᴰ·tail, List·Memᴰ·cases-cons, List·Memᴰ·not-nil}
 use mathlib.Core.Bool.{Bool}
 use mathlib.Core.Logic.{_⊎_, inl, inr, ⊎-elim}
 use Prim.Native.Nat.{ℕ, zero, suc, _+_, _-_, _*_, _/_, _%_, _≤_, _<_}
@@ -15,13 +15,14 @@ use Rattle.sort.specs.Laws.Sorted.{le-or-lt}
 use Rattle.bitvec.specs.Bits.{bitAt}
 use Rattle.bitvec.specs.Theorems.Bits.{same-bits}
 use Rattle.bitvec.specs.Written.{written}
-use Rattle.bitvec.specs.Theorems.Written.{length-written, bytes-written, bitAt-written, writtenBit-inside, written-other}
+use Rattle.bitvec.specs.Theorems.Written.{length-written}
 use Rattle.says_build.specs.Build as b
 use Rattle.says_build.specs.Build.{Given, Lent, Outcome, Not, nodes, kind, operand, flag, IsWritten, Number, In, Sees, Offer}
 use Rattle.says_build.specs.Build.{Refuses, IsSpan, Spans, SpanAt, OfItem, Fills}
 use Rattle.says_build.specs.Laws.One.{three, offer-one}
+use Rattle.says_build.specs.Laws.Items.{Holds, Alone, its-own, free, as-long, in-bytes, puts-there}
 use Rattle.says_build.specs.InTurn as turn
-use Rattle.says_build.specs.InTurn.{Puts, Among, InTurn, Blank}
+use Rattle.says_build.specs.InTurn.{Item, AllPut, Among, InTurn, Blank}
 use Rattle.says_build.specs.Theorems.Outcomes.{AcceptedSo}
 use Rattle.says_build.specs.Theorems.Decides.{spans-less}
 use Rattle.says_build.specs.Theorems.Image.{offers-share-no-bit, offer-listed, item-within}
@@ -29,59 +30,66 @@ use Rattle.says_build.specs.Theorems.Image.{offers-share-no-bit, offer-l
 same-number : (x y : ℕ) → ((x ≡ y → ⊥) → ⊥) → x ≡ y
 same-number x y h = either (eqb x y) (λ t. eqb-true x y t) (λ f. absurd (h (eqb-false x y f)))
 
--- a bit inside what was put
-pub put-own : {values image after : List ℕ} {x m from k : ℕ} → Puts values x m from image after → x ≤ k → k < x + m
-    → bitAt after k ≡ bitAt values (from + (k - x))
-put-own {values} {after = after} {x = x} {from = from} {k = k} p low high =
-    let whole : x + (k - x) ≡ k = omega arith in
-    subst (λ (n : ℕ). bitAt after n ≡ bitAt values (from + (k - x))) whole (p .own (k - x) (omega arith))
+module _ (g : Given) where
+  -- the item of node i, whose offer is of m bits at bit x
+  abbrev itemOf : (i x m : ℕ) → Item
+  itemOf i x m = record { position = x; size = m; values = g .values; from = operand g i }
 
-module _ (g : Given) (r : ℕ) (clear : (i : ℕ) → Not (Refuses g r i)) where
-  -- the bit that item i, whose first bit is x, has at bit k of the image
-  abbrev itsBit : (i x k : ℕ) → ℕ
-  itsBit i x k = bitAt (g .values) (operand g i + (k - x))
+  -- The items that are written, in their order.
+  record Items (r : ℕ) (order image last : List ℕ) : Type 0 where
+    pub items : List Item
+    pub run : AllPut items image last
+    pub of-node : (it : Item) → List·Memᴰ it items → (i : ℕ) × (x : ℕ) × (m : ℕ) × IsWritten g i × Offer g r i x m × (it ≡ itemOf i x m)
+    pub listed : (i x m : ℕ) → Among i order → Offer g r i x m → List·Memᴰ (itemOf i x m) items
 
-  -- another item is put: a bit of item i that has its value keeps it
-  after-put : {i x m j y n k : ℕ} {image after : List ℕ} → Offer g r i x m → x ≤ k → k < x + m → Offer g r j y n
-      → Puts (g .values) y n (operand g j) image after → bitAt image k ≡ itsBit i x k → bitAt after k ≡ itsBit i x k
-  after-put {i} {x} {m} {j} {y} {n} {k} {image} {after} o low high q p e =
-      ⊎-elim
-      (λ (above : y ≤ k). ⊎-elim
-      (λ (past : y + n ≤ k). p .others k (λ _ h. omega arith) ∙ e)
-      (λ (inside : k < y + n).
-      let same : j ≡ i = sym (offers-share-no-bit g r clear o q low high above inside) in
-      let at : y ≡ x = sym (offer-one g o (subst (λ (z : ℕ). Offer g r z y n) same q) .0) in
-      put-own p above inside ∙ ap₂ (λ (z w : ℕ). itsBit z w k) same at)
-      (le-or-lt (y + n) k))
-      (λ (below : k < y). p .others k (λ h _. omega arith) ∙ e)
-      (le-or-lt y k)
+  among-cases : {i j : ℕ} {order : List ℕ} → Among i (j ∷ order) → (i ≡ j) ⊎ Among i order
+  among-cases turn.here = inl refl
+  among-cases (turn.later a) = inr a
 
-  keeps : {i x m k : ℕ} {order image last : List ℕ} → Offer g r i x m → x ≤ k → k < x + m → InTurn g r order image last → bitAt image k ≡ itsBit i x k
-      → bitAt last k ≡ itsBit i x k
-  keeps o low high turn.all-put e = e
-  keeps o low high (turn.one-more w q p rest) e = keeps o low high rest (after-put o low high q p e)
+  -- a node has one item
+  one-item : {r i j x m y n : ℕ} → i ≡ j → Offer g r i x m → Offer g r j y n → itemOf i x m ≡ itemOf j y n
+  one-item {r} {i} {x = x} {m = m} {y = y} {n = n} same o q =
+      let e = offer-one g o (subst (λ (z : ℕ). Offer g r z y n) (sym same) q) in
+      ap₂ (itemOf i) (e .0) (e .1) ∙ ap (λ (z : ℕ). itemOf z y n) same
 
-  -- a bit of an item that is among those written
-  its-own : {i x m k : ℕ} {order image last : List ℕ} → Among i order → Offer g r i x m → x ≤ k → k < x + m → InTurn g r order image last
-      → bitAt last k ≡ itsBit i x k
-  its-own {i} {x} {m} {k} turn.here o low high (turn.one-more {x = y} {m = n} w q p rest) =
-      let e = offer-one g o q in
-      keeps o low high rest (put-own p (omega (arith, e .0)) (omega (arith, e .0, e .1)) ∙ ap (λ (z : ℕ). itsBit i z k) (sym (e .0)))
-  its-own (turn.later a) o low high (turn.one-more w q p rest) = its-own a o low high rest
+  items-of : {r : ℕ} {order image last : List ℕ} → InTurn g r order image last → Items r order image last
+  items-of turn.all-put =
+      record { items = []; run = turn.none-left; of-node = λ it m. absurd (List·Memᴰ·not-nil m); listed = λ i x m a. absurd (none a) }
+    where
+      none : {i : ℕ} → Among i [] → ⊥
+      none a = elim a [ ]
+  items-of (turn.one-more {i = i} {x = x} {m = m} w q p rest) =
+      let later = items-of rest in
+      record {
+        items = itemOf i x m ∷ later .items;
+        run = turn.item-put p (later .run);
+        of-node = λ it k. ⊎-elim (λ same. (i, x, m, w, q, same)) (λ l. later .of-node it l) (List·Memᴰ·cases-cons k);
+        listed = λ j y n a o.
+            ⊎-elim (λ same. List·Memᴰ·head (one-item same o q)) (λ l. List·Memᴰ·tail (later .listed j y n l o)) (among-cases a);
+      }
 
-  -- a bit of none of them
-  free : {k : ℕ} {order image last : List ℕ} → InTurn g r order image last
-      → ((i x m : ℕ) → IsWritten g i → Offer g r i x m → x ≤ k → k < x + m → ⊥) → bitAt last k ≡ bitAt image k
-  free turn.all-put none = refl
-  free {k} (turn.one-more {i = i} {x = x} {m = m} w q p rest) none = free rest none ∙ p .others k (λ low high. none i x m w q low high)
+  module _ (r : ℕ) (clear : (i : ℕ) → Not (Refuses g r i)) {order image last : List ℕ} (run : InTurn g r order image last) where
+    abbrev all : Items r order image last
+    all = items-of run
 
-  as-long : {order image last : List ℕ} → InTurn g r order image last → length last ≡ length image
-  as-long turn.all-put = refl
-  as-long (turn.one-more w q p rest) = as-long rest ∙ p .as-long
+    -- no other item has a bit of this one
+    item-alone : {i x m : ℕ} → Offer g r i x m → Alone (all .items) (itemOf i x m)
+    item-alone {i} {x} {m} o other k member held own =
+        let (j, y, n, w, q, is) = all .of-node other member in
+        let (low, high) = subst (λ (it : Item). Holds it k) is held in
+        is ∙ one-item (offers-share-no-bit g r clear q o low high (own .0) (own .1)) q o
 
-  in-bytes : {order image last : List ℕ} → InTurn g r order image last → ((j : ℕ) → getD image j 0 < 256) → (j : ℕ) → getD last j 0 < 256
-  in-bytes turn.all-put h = h
-  in-bytes (turn.one-more w q p rest) h = in-bytes rest (p .bytes)
+    -- a bit of an item that is among those written
+    own-bit : {i x m k : ℕ} → Among i order → Offer g r i x m → x ≤ k → k < x + m → bitAt last k ≡ bitAt (g .values) (operand g i + (k - x))
+    own-bit {i} {x} {m} a o low high = its-own (item-alone o) (all .listed i x m a o) (low, high) (all .run)
+
+    -- a bit of none of them
+    other-bit : {k : ℕ} → ((i x m : ℕ) → IsWritten g i → Offer g r i x m → x ≤ k → k < x + m → ⊥) → bitAt last k ≡ bitAt image k
+    other-bit {k} none =
+        free (all .run) (λ it member held.
+        let (i, x, m, w, q, is) = all .of-node it member in
+        let (low, high) = subst (λ (a : Item). Holds a k) is held in
+        none i x m w q low high)
 
 module _ (g : Given) (old : Lent) (o : Outcome) (a : AcceptedSo g old o) where
   -- Every written item of the build is among these nodes; one that stands there twice is written twice.
@@ -95,17 +103,17 @@ module _ (g : Given) (old : Lent) (o : Outcome) (a : AcceptedSo g old o) where
       let r = a .row in
       let left = a .left in
       let clear = a .none-refused in
-      same-bits last (o .lent .image) (in-bytes g r clear run (blank .bytes)) (left .bytes)
-      (as-long g r clear run ∙ blank .as-long ∙ sym (left .as-long .0)) (λ k lt.
+      let put = items-of g run .run in
+      same-bits last (o .lent .image) (in-bytes put (blank .bytes)) (left .bytes) (as-long put ∙ blank .as-long ∙ sym (left .as-long .0)) (λ k lt.
       same-number (bitAt last k) (bitAt (o .lent .image) k) (λ differ.
       let none : Not (OfItem g old r k) = λ it.
       let x = it .1 in
       let whole : x + (k - x) ≡ k = omega (arith, it .5) in
       let own : bitAt (o .lent .image) (x + (k - x)) ≡ bitAt (g .values) (operand g (it .0) + (k - x)) =
       left .item-bit (it .0) x (it .2) (k - x) (it .3) (it .4) (omega (arith, it .5, it .6)) in
-      differ (its-own g r clear (all (it .0) (offer-listed g (it .4)) (it .3)) (it .4) (it .5) (it .6) run
+      differ (own-bit g r clear run (all (it .0) (offer-listed g (it .4)) (it .3)) (it .4) (it .5) (it .6)
       ∙ sym (subst (λ (n : ℕ). bitAt (o .lent .image) n ≡ bitAt (g .values) (operand g (it .0) + (k - x))) whole own)) in
-      let same : bitAt last k ≡ bitAt image k = free g r clear run (λ i x m w q low high. none (i, x, m, w, q, low, high)) in
+      let same : bitAt last k ≡ bitAt image k = other-bit g r clear run (λ i x m w q low high. none (i, x, m, w, q, low, high)) in
       let bare : (n : ℕ) → Not (Fills g old (o .answer .length) n k) = λ n range.
       differ (same ∙ blank .fill-bit k n range ∙ sym (left .fill-bit k n none range)) in
       differ (same ∙ blank .zero-bit k bare ∙ sym (left .zero-bit k none bare))))
@@ -164,24 +172,7 @@ module _ (g : Given) (old : Lent) (o : Outcome) (a : AcceptedSo g old o) where
       (λ t. (getD (g .bankOffsets) c 0 + p, m, b.offer h (w .0) (omega (arith, w .1)) x (eqb-true (flag g c / 2 % 2) 1 t, refl) q))
       (λ f. absurd (a .none-refused i (b.eleven (h, w, (c, stands-in g x, λ _ offset. eqb-false (flag g c / 2 % 2) 1 f (offset .0))))))
 
-  -- Its bits can be written into an image as long as the build's,
-  puts-there : {i x m : ℕ} (image : List ℕ) → length image ≡ length (old .image) → IsWritten g i → Offer g (a .row) i x m
-      → Puts (g .values) x m (operand g i) image (written image x (g .values) (operand g i) m)
-  puts-there {i} {x} {m} image long w q =
-      let values = g .values in
-      let from = operand g i in
-      let within = item-within g old o a w q in
-      record {
-        as-long = length-written image x values from m;
-        bytes = bytes-written image x values from m;
-        own = λ bit h.
-            bitAt-written image x values from m (x + bit) (omega (arith, within, a .image-room, long))
-            ∙ writtenBit-inside image x values from m (x + bit) (omega arith) (omega arith)
-            ∙ ap (λ (n : ℕ). bitAt values (from + n)) {x = x + bit - x} {y = bit} (omega arith);
-        others = λ bit out. written-other image x values from m bit out;
-      }
-
-  -- and so can those of any of them, in any order.
+  -- The bits of any of them can be written into an image as long as the build's, in any order.
   pub some-writing : (order : List ℕ) → ((i : ℕ) → Among i order → (i < nodes g) × IsWritten g i) → (image : List ℕ) → length image ≡ length (old .image)
       → (last : List ℕ) × InTurn g (a .row) order image last
   some-writing [] each image long = (image, turn.all-put)
@@ -190,4 +181,4 @@ module _ (g : Given) (old : Lent) (o : Outcome) (a : AcceptedSo g old o) where
       let (x, m, q) = written-is-offered i h w in
       let after = written image x (g .values) (operand g i) m in
       let (last, rest) = some-writing order (λ j there. each j (turn.later there)) after (length-written image x (g .values) (operand g i) m ∙ long) in
-      (last, turn.one-more w q (puts-there image long w q) rest)
+      (last, turn.one-more w q (puts-there (itemOf g i x m) image (omega (arith, item-within g old o a w q, a .image-room, long))) rest)
