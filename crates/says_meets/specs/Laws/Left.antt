@@ -93,6 +93,14 @@ unfolding spansAmong
 node-of c zero at h = absurd (let b : ⊥ = omega arith in b)
 node-of c (suc n) at h = node-by c n at (node-of c n at) (isSpan (visitIn c n .node)) refl h
 
+-- "the output position is offset plus position", as a word: of a position in a bank
+pub word-told : (g : Given) {b : ℕ} {def : Bankdef} → Tells g b def → (p : ℕ) (o : Opt) → def .offset ≡ o → OffsetWord g b p (wordOf (outAt o p))
+word-told g {b} tells p None e = says.nowhere (λ f. apart (sym e ∙ tells .has-offset (getD (g .bankOffsets) b 0) (f, refl)))
+  where
+    apart : {n : ℕ} → None ≡ Some n → ⊥
+    apart e = let z : _≡_ {A = ℕ} 0 1 = cc in omega arith
+word-told g tells p (Some o) e = says.at (tells .placed o e)
+
 module _ (g : Given) (typed : Typed g) (shown : Shown g (table g)) (ck : Checked (table g) (listed g) (g .fill)) (old : out.Lent) (answer : Output)
     (new : out.Lent) (meets : Builds (inputOf g typed) old answer new)
     (all : Goes g (table g) shown ck (rowHere g typed shown ck old answer new meets) (nodes g))
@@ -196,15 +204,8 @@ module _ (g : Given) (typed : Typed g) (shown : Shown g (table g)) (ck : Checked
         ∙ ap (λ (z : ℤ). z +ℤ pos (positionOf v / v .def .unit)) (here .of-start)
         ∙ ap (λ (u : ℕ). start g (v .bank) +ℤ pos (positionOf v / u)) (here .of-unit)
 
-    word-by : (o : Opt) → v .def .offset ≡ o → OffsetWord g (v .bank) (positionOf v) (wordOf (outAt o (positionOf v)))
-    word-by None e = says.nowhere (λ f. apart (sym e ∙ here .has-offset (getD (g .bankOffsets) (v .bank) 0) (f, refl)))
-      where
-        apart : {n : ℕ} → None ≡ Some n → ⊥
-        apart e = let z : _≡_ {A = ℕ} 0 1 = cc in omega arith
-    word-by (Some o) e = says.at (here .placed o e)
-
     word-is : OffsetWord g (v .bank) (positionOf v) (getD (new .offsets) (spansAmong (a .call) i) 0)
-    word-is = subst (OffsetWord g (v .bank) (positionOf v)) (sym (span-offset a i h s)) (word-by (v .def .offset) refl)
+    word-is = subst (OffsetWord g (v .bank) (positionOf v)) (sym (span-offset a i h s)) (word-told g here (positionOf v) (v .def .offset) refl)
 
     size-is : Extent g r i (getD (new .sizes) (spansAmong (a .call) i) 0)
     size-is =

@@ -57,7 +57,7 @@ module _ (g : Given) where
   offered-listed : {r i x m : ℕ} → Offer g r i x m → i < nodes g
   offered-listed (says.offer h k l s f n) = h
 
-  refuses-listed : {r i : ℕ} → Refuses g r i → i < nodes g
+  pub refuses-listed : {r i : ℕ} → Refuses g r i → i < nodes g
   refuses-listed (says.nine t) = t .0 .0
   refuses-listed (says.ten t) = t .0 .0
   refuses-listed (says.eleven t) = t .0
@@ -167,7 +167,7 @@ module _ (g : Given) where
           (spans-meet g (table g) is ck row (goes-all g typed old r new answer built k settled) (nodes g))
           after)
 
-    stopped-build : (why : Refusal) → placedAll (closedIn c) (visitsIn c) ≡ stops why → given .build ≡ Refused why
+    pub stopped-build : (why : Refusal) → placedAll (closedIn c) (visitsIn c) ≡ stops why → given .build ≡ Refused why
     unfolding buildOf
     stopped-build why e =
         ap (settledBuild (inputOf g typed) (roomOf old) (passesOf (inputOf g typed))) settled ∙ ap (placedBuild (roomOf old) k bits count) e

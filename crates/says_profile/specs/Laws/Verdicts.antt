@@ -71,7 +71,7 @@ module _ (g : Given) (old : Lent) where
       toldAs Accepted = yes
       toldAs (Refused why) = refusing (numberOf why) (told.firstOf (placeOf why)) (told.secondOf (placeOf why))
 
-      early : (After : Z → Type 0) (why : Refusal)
+      pub early : (After : Z → Type 0) (why : Refusal)
           → layoutOf (table g) (listed g) (choicesBy (g .limit) (g .fill) (g .closed)) ≡ record { settled = Unsettled why; passes = 0 }
           → Checks g refusing After (toldAs (Refused why))
       early After why e =

@@ -1,0 +1,4 @@
+pub mod Map
+pub mod Places
+pub mod Theorems
+pub mod Laws
