@@ -9,6 +9,7 @@ pub mod LayoutPadding
 pub mod ListsExactly
 pub mod NodeOrder
 pub mod Once
+pub mod OneWalk
 pub mod Padding
 pub mod PassStates
 pub mod Passes

@@ -11,6 +11,7 @@ pub mod Listed
 pub mod ListsExactly
 pub mod NeverFour
 pub mod NodeOrder
+pub mod OneWalk
 pub mod Padding
 pub mod PassStates
 pub mod PositionPast

@@ -8,17 +8,21 @@ use crate::once::pass_beside;
 use bankdef::Bankdefs;
 use bankdef::check;
 use lists::check_lists;
+use refusal::RESOLVED;
 use refusal::Refusal;
+use refusal::STABLE;
 use refusal::Verdict;
 ghost use mathlib.Core.Path.{_≡_};
-ghost use mathlib.Core.Bool.{true};
+ghost use mathlib.Core.Bool.{true, false};
 ghost use mathlib.Core.List.{[]};
-ghost use Prim.Native.Nat.{_-_, _<_, _≤_, min};
+ghost use Prim.Native.Nat.{_+_, _-_, _<_, _≤_, min};
 ghost use lib.ListN.{length};
 ghost use Rattle.resolver.specs.Layout.{layoutOf};
 ghost use Rattle.lists.specs.Lists.{lists, Rows};
 ghost use Rattle.resolver.specs.Figures.{Figures};
+ghost use Rattle.resolver.specs.OneWalk.{inDoubt};
 ghost use Rattle.resolver.specs.Passes.{passAt, lastOf, resolutionOf};
+ghost use Rattle.resolver.specs.declared.Pass.the-variants.{State};
 ghost use Rattle.resolver.specs.Switches.{Switches};
 
 // "Pass n reads row n, or the last row if there are fewer." Rows are counted from 0 and passes from 1.
@@ -36,7 +40,18 @@ fn row_of_pass(rows: u64, n: u64) -> u64
     n - 1
 }
 
-// Pass n, as the last one or not.
+// Whether a pass that was held against its own row has to be held against the row of the pass before: where it is stable. Refused, resolved or unresolved,
+// it comes to the same beside every row (`resolver/OneWalk.told-alone`).
+fn in_doubt(alone: Pass) -> bool
+    ensures { λ r. ⌜ r ≡ inDoubt alone ⌝ }
+{
+    match alone {
+        Pass::Refused(_) => false,
+        Pass::State(state) => state == STABLE,
+    }
+}
+
+// Pass n, as the last one or not. Its row is walked alone, which nearly always tells it; beside the row of the pass before where a label may be stable.
 fn pass_at(
     banks: Bankdefs,
     kinds: &[u8],
@@ -60,17 +75,21 @@ fn pass_at(
     let first = &numbers[0..count];
     let its_numbers = &numbers[a..e];
     let its_states = &states[a..e];
+    let alone = pass_alone(
+        banks,
+        kinds,
+        operands,
+        first,
+        its_numbers,
+        its_states,
+        n == 1,
+        is_last,
+    );
     if row == row_before {
-        return pass_alone(
-            banks,
-            kinds,
-            operands,
-            first,
-            its_numbers,
-            its_states,
-            n == 1,
-            is_last,
-        );
+        return alone;
+    }
+    if !in_doubt(alone) {
+        return alone;
     }
     let b = (row_before as usize) * count;
     let f = b + count;
@@ -137,6 +156,41 @@ fn last_pass(
     settle(k, last, n)
 }
 
+// "If K is below M, pass K + 1 runs as the last", where pass k has come to `state`. Where pass k read the last row and all of it is resolved, the next pass
+// reads that row again and is resolved as well (`resolver/OneWalk.resolved-again`), and need not be walked.
+fn pass_after(
+    banks: Bankdefs,
+    kinds: &[u8],
+    operands: &[u32],
+    numbers: &[u32],
+    states: &[u8],
+    rows: u64,
+    k: u64,
+    state: u8,
+) -> Resolution
+    requires { ⌜ Rows (length (now kinds)) rows (now numbers) (now states) ⌝ }
+    requires { ⌜ Switches (banks .len) (now kinds) (now operands) ⌝ }
+    requires { ⌜ (1 ≤ k) × (k < 256) ⌝ }
+    requires { ⌜ passAt banks (lists (now kinds) (now operands) (now numbers) (now states) rows []) k false ≡ State state ⌝ }
+    ensures { λ r. ⌜ r ≡ record {
+      settled = lastOf k (passAt banks
+          (lists (now (kinds .entry)) (now (operands .entry)) (now (numbers .entry)) (now (states .entry)) rows [])
+          (k + 1) true);
+      passes = k + 1;
+    } ⌝ }
+{
+    let next = k + 1;
+    if state == RESOLVED {
+        if rows <= k {
+            return Resolution {
+                settled: Settled::At(k),
+                passes: next,
+            };
+        }
+    }
+    last_pass(banks, kinds, operands, numbers, states, rows, k, next)
+}
+
 // The passes of document 01. "the number of passes run, a count that equals the passes": the pass limit bounds the loop, and each way out tells the pass
 // that it stands at.
 fn resolve_iteratively(
@@ -173,7 +227,7 @@ fn resolve_iteratively(
             }
             Pass::State(state) => {
                 if state != 2 {
-                    return last_pass(banks, kinds, operands, numbers, states, rows, n, n + 1);
+                    return pass_after(banks, kinds, operands, numbers, states, rows, n, state);
                 }
             }
         }

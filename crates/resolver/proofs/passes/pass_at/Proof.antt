@@ -1,9 +1,11 @@
 -- Rows lent as parts: each ends within the lists, and each is the row that the definition reads. One walk where the pass and the pass before it read
--- one row.
+-- one row, or where that walk tells what the pass comes to beside any other.
 use Prim.Native.Nat.{_+_, _*_, _≤_}
+use mathlib.Core.Path.{sym, _∙_}
 use native.Mathlib.Omega.{arith}
 use lib.ListN.{length}
-use Rattle.resolver.proofs.Parts.{row-ends, part-alone, part-beside}
+use borrow.Author.Tests.{not-true}
+use Rattle.resolver.proofs.Parts.{row-ends, part-alone, part-beside, part-told}
 use borrow.Author.Needs.{needs}
 use Rattle.resolver.proofs.passes.pass_at.Statement.{statement}
 use Rattle.resolver.proofs.passes.pass_at.Tie as tie
@@ -74,23 +76,36 @@ part-its-states-end : tie.Need-part-its-states-end
 part-its-states-end c = let r = c .before .before .before in omega (arith, ends r, begun r .pre .0 .stated)
 
 pass-alone-requires : tie.Need-pass-alone-requires
-pass-alone-requires c κs = c .before .before .before .before .before .before .before .before .before .before .pre .1 .0
+pass-alone-requires c κs = c .before .before .before .before .before .before .before .before .before .pre .1 .0
 
+-- one row
 returns : tie.Need-returns
 returns c =
     let r = c .before .before .before .before .before in
     let a = begun (r .before) .args in
     part-alone (a .banks) (a .kinds .now) (a .operands .now) (a .numbers .now) (a .states .now) (a .rows) (a .n) (a .is-last)
-    (r .before .row-of-pass .ensures .0) (r .row-of-pass2 .ensures .0) (c .before .if1 .taken) (c .pass-alone .ensures)
+    (r .before .row-of-pass .ensures .0) (r .row-of-pass2 .ensures .0) (c .if1 .taken) (c .before .pass-alone .ensures)
+
+in-doubt-requires : tie.Need-in-doubt-requires
+in-doubt-requires c κs = search needs
+
+-- two rows, and no doubt
+returns-2 : tie.Need-returns-2
+returns-2 c =
+    let r = c .before .before .before .before .before .before .before in
+    let a = begun (r .before) .args in
+    part-told (a .banks) (a .kinds .now) (a .operands .now) (a .numbers .now) (a .states .now) (a .rows) (a .n) (a .is-last)
+    (r .before .row-of-pass .ensures .0) (r .row-of-pass2 .ensures .0) (c .before .before .if1 .left) (c .before .before .before .pass-alone .ensures)
+    (sym (c .before .in-doubt .ensures) ∙ not-true _ (c .if2 .taken))
 
 mul-b : tie.Need-mul-b
-mul-b c = let r = c .before .before .before .before in omega (arith, before-ends r, begun (r .before) .pre .0 .numbered)
+mul-b c = let r = c .before .before .before .before .before .before .before in omega (arith, before-ends r, begun (r .before) .pre .0 .numbered)
 
 add-f : tie.Need-add-f
-add-f c = let r = c .before .before .before .before in omega (arith, before-ends r, begun (r .before) .pre .0 .numbered)
+add-f c = let r = c .before .before .before .before .before .before .before in omega (arith, before-ends r, begun (r .before) .pre .0 .numbered)
 
 mul-pass-beside : tie.Need-mul-pass-beside
-mul-pass-beside c = let r = c .before .before .before .before in omega (arith, before-ends r, begun (r .before) .pre .0 .numbered)
+mul-pass-beside c = let r = c .before .before .before .before .before .before .before in omega (arith, before-ends r, begun (r .before) .pre .0 .numbered)
 
 sub-pass-beside : tie.Need-sub-pass-beside
 sub-pass-beside c = search needs
@@ -99,7 +114,7 @@ part-pass-beside-start : tie.Need-part-pass-beside-start
 part-pass-beside-start c = search needs
 
 part-pass-beside-end : tie.Need-part-pass-beside-end
-part-pass-beside-end c = let r = c .before .before .before .before in omega (arith, before-ends r, begun (r .before) .pre .0 .numbered)
+part-pass-beside-end c = let r = c .before .before .before .before .before .before .before in omega (arith, before-ends r, begun (r .before) .pre .0 .numbered)
 
 sub-pass-beside-2 : tie.Need-sub-pass-beside-2
 sub-pass-beside-2 c = search needs
@@ -108,17 +123,17 @@ part-pass-beside-start-2 : tie.Need-part-pass-beside-start-2
 part-pass-beside-start-2 c = search needs
 
 part-pass-beside-end-2 : tie.Need-part-pass-beside-end-2
-part-pass-beside-end-2 c = let r = c .before .before .before .before .before in omega (arith, before-ends r, begun (r .before) .pre .0 .stated)
+part-pass-beside-end-2 c = let r = c .before .before .before .before .before .before .before .before in omega (arith, before-ends r, begun (r .before) .pre .0 .stated)
 
 pass-beside-requires : tie.Need-pass-beside-requires
-pass-beside-requires c κs = c .before .before .before .before .before .before .before .before .before .before .before .before .pre .1 .0
+pass-beside-requires c κs = c .before .before .before .before .before .before .before .before .before .before .before .before .before .before .before .pre .1 .0
 
-returns-2 : tie.Need-returns-2
-returns-2 c =
-    let r = c .before .before .before .before .before .before .before in
+returns-3 : tie.Need-returns-3
+returns-3 c =
+    let r = c .before .before .before .before .before .before .before .before .before .before in
     let a = begun (r .before) .args in
     part-beside (a .banks) (a .kinds .now) (a .operands .now) (a .numbers .now) (a .states .now) (a .rows) (a .n) (a .is-last)
-    (r .before .row-of-pass .ensures .0) (r .row-of-pass2 .ensures .0) (c .before .before .before .if1 .left) (c .pass-beside .ensures)
+    (r .before .row-of-pass .ensures .0) (r .row-of-pass2 .ensures .0) (c .before .before .before .before .before .if1 .left) (c .pass-beside .ensures)
 
 pub pass-at-spec : {M : Type 1} → statement M
 pass-at-spec =
@@ -141,6 +156,8 @@ pass-at-spec =
     part-its-states-end
     pass-alone-requires
     returns
+    in-doubt-requires
+    returns-2
     mul-b
     add-f
     mul-pass-beside
@@ -151,4 +168,4 @@ pass-at-spec =
     part-pass-beside-start-2
     part-pass-beside-end-2
     pass-beside-requires
-    returns-2)
+    returns-3)

@@ -1,6 +1,7 @@
 -- Every pass before n is unresolved. Past the rows the passes repeat themselves, so that the loop may end before the limit.
 use mathlib.Core.Bool.{Bool, false}
-use Prim.Native.Nat.{ℕ, _+_, _-_, _≤_}
+use mathlib.Core.Path.{sym, _∙_}
+use Prim.Native.Nat.{ℕ, _+_, _-_, _<_, _≤_}
 use mathlib.Core.List.{[]}
 use native.Mathlib.Omega.{arith}
 use borrow.Author.Needs.{needs}
@@ -73,19 +74,12 @@ returns-3 c =
 enum-known-state : tie.Need-enum-known-state Inv-loop μ-loop
 enum-known-state c = search needs
 
-add-last-pass : tie.Need-add-last-pass Inv-loop μ-loop
-add-last-pass c = omega (
-  arith,
-  c .before .before .before .before .before .before .loop-test .taken,
-  c .before .before .before .before .before .before
-      .before .before .before .before .before .before .before .fits .limit,
-)
-
-last-pass-requires-3 : tie.Need-last-pass-requires-3 Inv-loop μ-loop
-last-pass-requires-3 c κs = let h = c .before .before .before .before .before .before .before .before .before .before .before .before .before .pre in (
-  h .0,
-  (h .1, omega arith),
-)
+pass-after-requires : tie.Need-pass-after-requires Inv-loop μ-loop
+pass-after-requires c κs =
+    let s = c .before .before .before .before .before .before .before .before .before .before .before .before .before in
+    let l = c .before .before .before .before .before .before .before .loop in
+    let few : l .n < 256 = omega (arith, c .before .before .before .before .before .before .loop-test .taken, s .fits .limit) in
+    (s .pre .0, (s .pre .1, ((l .inv .0, few), sym (c .before .before .before .before .pass-at .ensures) ∙ c .before .before .state .given .1)))
 
 returns-4 : tie.Need-returns-4 Inv-loop μ-loop
 returns-4 c =
@@ -93,7 +87,7 @@ returns-4 c =
     let l = c .before .before .before .before .before .before .before .before .loop in
     settled-pass (passes s) (s .args .limit) (l .n) (l .inv .0) (c .before .before .before .before .before .before .before .loop-test .taken) (l .inv .3)
     (c .before .before .before .before .before .pass-at .ensures) (c .before .before .before .state .given .1)
-    (c .before .if3 .taken) (c .last-pass3 .ensures)
+    (c .before .if3 .taken) (c .pass-after .ensures)
 
 add-n : tie.Need-add-n Inv-loop μ-loop
 add-n c = omega (
@@ -118,8 +112,8 @@ loop-again c =
       nor-this (passes s) (l .n) (l .inv .3) (c .before .before .before .before .pass-at .ensures) (c .before .before .state .given .1) (c .if3 .left),
     )
 
-last-pass-requires-4 : tie.Need-last-pass-requires-4 Inv-loop μ-loop
-last-pass-requires-4 c κs = let h = c .before .before .before .before .before .before .before .pre in (
+last-pass-requires-3 : tie.Need-last-pass-requires-3 Inv-loop μ-loop
+last-pass-requires-3 c κs = let h = c .before .before .before .before .before .before .before .pre in (
   h .0,
   (
     h .1,
@@ -134,7 +128,7 @@ returns-5 c =
     let l = c .before .before .loop in
     limit-pass (passes s) (s .args .limit) (s .args .rows) (l .n) (c .before .before .before .if1 .left)
     (λ p. λ h. repeats (s .args .banks) (given s) p false (s .pre .0 .some) h)
-    (omega (arith, c .before .loop-test .left, l .inv .1, l .inv .2)) (l .inv .3) (c .last-pass4 .ensures)
+    (omega (arith, c .before .loop-test .left, l .inv .1, l .inv .2)) (l .inv .3) (c .last-pass3 .ensures)
 
 pub resolve-iteratively-spec : {M : Type 1} → statement M
 resolve-iteratively-spec =
@@ -152,11 +146,10 @@ resolve-iteratively-spec =
     enum-known-why
     returns-3
     enum-known-state
-    add-last-pass
-    last-pass-requires-3
+    pass-after-requires
     returns-4
     add-n
     loop-less
     loop-again
-    last-pass-requires-4
+    last-pass-requires-3
     returns-5)
