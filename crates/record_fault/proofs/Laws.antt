@@ -3,6 +3,7 @@ use mathlib.Core.Path.{_≡_, refl, sym, ap, ap₂, subst, _∙_}
 use mathlib.Core.Bool.{Bool, true, false, _&&_, _||_}
 use mathlib.Core.List.{List, [], _∷_, _++_, append-nil}
 use Prim.Native.Nat.{ℕ, zero, suc, _+_, _-_, _*_, _<_, _≤_, max, min}
+use native.Mathlib.Nat.{add-zero}
 use native.Mathlib.Numerals.{add-one}
 use native.Mathlib.Omega.{arith}
 use native.Mathlib.Decide.{decLt, ℕ-discrete}
@@ -23,8 +24,8 @@ use Rattle.record_fault.specs.Reading.{formatBy, Read, sound, faulty, la
 use Rattle.record_fault.specs.Trail.{Trail, trail, lineAt, itemAt, nextOf}
 use Rattle.record_ihex_line.specs.Format.{hexItem}
 use Rattle.record_srec_line.specs.Srec.{srecItem, firstOf}
-use Rattle.record_fault.specs.Laws.TrailLaws.{high-append, new-above}
-use Rattle.record_fault.specs.Steps.{firstBy, highest, leavesBy, lowerBy, RoomAbove, FreeIs, edgeBy, freeBy, AdmitIs}
+use Rattle.record_fault.specs.Laws.TrailLaws.{high-append, new-above, last-append, parts-append}
+use Rattle.record_fault.specs.Steps.{firstBy, highest, leavesBy, lowerBy, RoomAbove, FreeIs, edgeBy, freeBy, AdmitIs, lastEnd, partsOf, beginsBy}
 use Rattle.record_fault.specs.Laws.Steps.{leavesOf, admits, highAfter}
 use Rattle.record_fault.specs.declared.Admit.the-variants.{No, High}
 use Rattle.record_fault.specs.declared.Free.{Free}
@@ -164,6 +165,44 @@ pub high-new : {l : List ℕ} {s f : ℕ} {r : Line} {i : Item} (given : List Pi
 high-new {l} {s} {f} {r} {i} given high p e =
     ap (λ (x : Line). highAfter x high) (p .answer) ∙ high-new′ s f high i ∙ ap (λ (h : ℕ). max h (highest (newPieces i))) e ∙ sym
     (high-append given (newPieces i))
+
+-- ---- pieces that touch
+
+abbrev beginsOf : Line → ℕ → ℕ
+beginsOf r edge = beginsBy (r .kind) (r .address) (r .count) edge
+
+abbrev edgeOf : Line → ℕ → ℕ
+edgeOf r edge = edgeBy (r .kind) (r .address) (r .count) edge
+
+begins-new′ : (s f edge : ℕ) (i : Item) → beginsOf (asLine s f i) edge ≡ partsOf edge (newPieces i)
+unfolding partsOf
+begins-new′ s f edge (gives a [] t) = refl
+begins-new′ s f edge (gives a (b ∷ l) t) = rw (ne-eqb (suc (length l)) 0 (λ e. omega arith)) (sym (add-zero (pick (eqb a edge) 0 1)))
+begins-new′ s f edge (passes t) = refl
+begins-new′ s f edge ends = refl
+begins-new′ s f edge bad = refl
+
+edge-new′ : (s f edge : ℕ) (i : Item) → edgeOf (asLine s f i) edge ≡ lastEnd edge (newPieces i)
+unfolding lastEnd
+edge-new′ s f edge (gives a [] t) = refl
+edge-new′ s f edge (gives a (b ∷ l) t) = rw (ne-eqb (suc (length l)) 0 (λ e. omega arith))
+edge-new′ s f edge (passes t) = refl
+edge-new′ s f edge ends = refl
+edge-new′ s f edge bad = refl
+
+-- behind one line more
+module _ {l : List ℕ} {s f : ℕ} {r : Line} {i : Item} (p : Says l s f r i) (given : List Piece) (first edge : ℕ) (e : edge ≡ lastEnd first given) where
+  pub edge-new : edgeBy (r .kind) (r .address) (r .count) edge ≡ lastEnd first (given ++ newPieces i)
+  edge-new =
+      ap (λ (x : Line). edgeOf x edge) (p .answer) ∙ edge-new′ s f edge i ∙ ap (λ (n : ℕ). lastEnd n (newPieces i)) e
+      ∙ sym (last-append given (newPieces i) first)
+
+  pub parts-new : (parts more : ℕ) → parts ≡ partsOf first given → more ≡ beginsBy (r .kind) (r .address) (r .count) edge
+      → parts + more ≡ partsOf first (given ++ newPieces i)
+  parts-new parts more q m =
+      let own : more ≡ partsOf (lastEnd first given) (newPieces i) =
+      m ∙ ap (λ (x : Line). beginsOf x edge) (p .answer) ∙ begins-new′ s f edge i ∙ ap (λ (n : ℕ). partsOf n (newPieces i)) e in
+      omega (arith, parts-append given (newPieces i) first)
 
 -- ---- what is free
 

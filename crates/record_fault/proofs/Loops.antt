@@ -22,7 +22,7 @@ use Rattle.record_fault.specs.Reading.{formatBy, Read, sound, faulty, la
 use Rattle.record_fault.specs.Trail.{Trail, trail, lineAt, itemAt, nextOf}
 use Rattle.record_fault.specs.Laws.TrailLaws.{said, moved, next-at, next-state, next-given}
 use Rattle.record_fault.specs.Steps.{firstBy, IsGood, AllGood, Stepped, highest, rises, closingOf, Scanned, ScanIs}
-use Rattle.record_fault.specs.Steps.{lowerBy, RoomAbove, FreeIs, freeBy, AdmitIs}
+use Rattle.record_fault.specs.Steps.{lowerBy, RoomAbove, FreeIs, freeBy, AdmitIs, lastEnd, partsOf, beginsBy, nowhere}
 use Rattle.record_fault.specs.Laws.Steps.{leavesOf, admits}
 use Rattle.record_fault.specs.declared.Step.{Step}
 use Rattle.record_fault.specs.declared.Free.{Free}
@@ -30,7 +30,7 @@ use Rattle.record_fault.specs.declared.Admit.the-variants.{No, High}
 use Rattle.record_fault.specs.declared.Scan.{Scan}
 use Rattle.record_fault.specs.declared.Scan.the-variants.{Whole, Broken}
 use Rattle.record_fault.proofs.Laws.{allowed-good, new-none, room-more, free-more, lines-at, lines-past, leaves-new, high-new, on′, off′, end′}
-use Rattle.record_fault.proofs.Laws.{laters, laters-faulty, laters-sound}
+use Rattle.record_fault.proofs.Laws.{laters, laters-faulty, laters-sound, edge-new, parts-new}
 
 -- ---- whether bytes are new
 
@@ -82,7 +82,7 @@ abbrev reading : ℕ → ℕ → List ℕ → ℕ → Read
 reading format load text n =
     laters n (readFrom (formatBy format) load (linesOf (drop (trail format text n .at) text)) (trail format text n .state) (trail format text n .given))
 
-pub record Scanning (format load : ℕ) (text : List ℕ) (at state high : ℕ) (ascend : Bool) (free : Free) (n : ℕ) : Type 0 where
+pub record Scanning (format load : ℕ) (text : List ℕ) (at state high : ℕ) (ascend : Bool) (parts : ℕ) (free : Free) (n : ℕ) : Type 0 where
   pub few : n ≤ at
   pub inside : at ≤ length text
   pub place : at ≡ trail format text n .at
@@ -92,6 +92,9 @@ pub record Scanning (format load : ℕ) (text : List ℕ) (at state high : ℕ) 
   pub left : n + length (linesOf (drop at text)) ≡ length (linesOf text)
   pub good : AllGood format text n
   pub freed : FreeIs (trail format text n .given) free
+  pub edge : free .edge ≡ lastEnd nowhere (trail format text n .given)
+  pub begun : parts ≡ partsOf nowhere (trail format text n .given)
+  pub fewer : parts ≤ n
   pub reads : readText format load text ≡ reading format load text n
 
 read-step : (f : Format) (load : ℕ) (text : List ℕ) (at state : ℕ) (given : List Piece) → at < length text
@@ -101,8 +104,8 @@ unfolding readFrom
 read-step f load text at state given h = ap (λ (ls : List (List ℕ)). readFrom f load ls state given) (lines-at text at h)
 
 module _ (format load : ℕ) (text : List ℕ) where
-  pub scanning-starts : Scanning format load text 0 0 0 true (record { low = 8589934592; edge = 0; top = 8589934592 }) 0
-  unfolding trail laters highest rises
+  pub scanning-starts : Scanning format load text 0 0 0 true 0 (record { low = nowhere; edge = nowhere; top = nowhere }) 0
+  unfolding trail laters highest rises lastEnd partsOf
   scanning-starts =
       record {
         few = omega arith;
@@ -113,11 +116,14 @@ module _ (format load : ℕ) (text : List ℕ) where
         order = refl;
         left = omega arith;
         good = λ k z. absurd (omega arith);
-        freed = record { below = new-none 0 8589934592; gap = new-none 0 8589934592 };
+        freed = record { below = new-none 0 nowhere; gap = new-none nowhere nowhere };
+        edge = refl;
+        begun = refl;
+        fewer = omega arith;
         reads = refl;
       }
 
-  module _ {at state high : ℕ} {ascend : Bool} {free : Free} {n : ℕ} (w : Scanning format load text at state high ascend free n) where
+  module _ {at state high : ℕ} {ascend : Bool} {parts : ℕ} {free : Free} {n : ℕ} (w : Scanning format load text at state high ascend parts free n) where
     abbrev now : Trail
     now = trail format text n
 
@@ -152,10 +158,12 @@ module _ (format load : ℕ) (text : List ℕ) where
       kind = r .line .kind
 
       pub scanning-on : (h′ top : ℕ) → AdmitIs load (now .given) kind (r .line .address) (r .line .count) high (free .edge) (High h′ top)
-          → {found up : Bool} → found ≡ leavesOf (r .line) 0 high → up ≡ (ascend && found) → {after : Free}
-          → after ≡ freeBy free top kind (r .line .address) (r .line .count) → Scanning format load text (r .next) (r .line .state) h′ up after (n + 1)
+          → {found up : Bool} → found ≡ leavesOf (r .line) 0 high → up ≡ (ascend && found) → {more : ℕ}
+          → (more ≡ beginsBy kind (r .line .address) (r .line .count) (free .edge)) × (more ≤ 1) → {after : Free}
+          → after ≡ freeBy free top kind (r .line .address) (r .line .count)
+          → Scanning format load text (r .next) (r .line .state) h′ up (parts + more) after (n + 1)
       unfolding laters trail
-      scanning-on h′ top e f u {after} v =
+      scanning-on h′ top e f u {more} m {after} v =
           let allowed : admits load (now .given) (asLine (now .state) first item) ≡ true = ap (admits load (now .given)) (sym (stepped .says .answer)) ∙ e .0 in
           let ahead : readText format load text ≡ laters (suc n)
           (readFrom (formatBy format) load behind (stateAfter (now .state) item) (now .given ++ newPieces item)) =
@@ -174,6 +182,13 @@ module _ (format load : ℕ) (text : List ℕ) where
                 (subst (λ (l : List Piece). FreeIs l (freeBy free top kind (r .line .address) (r .line .count))) (next-given format text n r)
                 (free-more (now .given) (newPieces item) free top kind (r .line .address) (r .line .count) (w .freed) (e .2)
                 (λ a b. leaves-new a b (stepped .says))));
+            edge =
+                ap (λ (x : Free). x .edge) v ∙ edge-new (stepped .says) (now .given) nowhere (free .edge) (w .edge)
+                ∙ ap (lastEnd nowhere) (next-given format text n r);
+            begun =
+                parts-new (stepped .says) (now .given) nowhere (free .edge) (w .edge) parts more (w .begun) (m .0)
+                ∙ ap (partsOf nowhere) (next-given format text n r);
+            fewer = omega (arith, w .fewer, m .1);
             good = λ k z.
                 elim (ℕ-discrete k n) [
                   | yes e ↦ subst (λ (j : ℕ). IsGood format (trail format text j .state) (lineAt text (trail format text j .at))) (sym e)
@@ -198,17 +213,17 @@ module _ (format load : ℕ) (text : List ℕ) where
           (end′ load (now .state) first (now .given) (isNone behind) (readFrom (formatBy format) load behind) item
           (ap (λ (x : Line). x .kind) (sym (stepped .says .answer)) ∙ k))
 
-      pub scanning-closes : r .line .kind ≡ 3 → ScanIs format load text (closingOf n high ascend (r .next) (length text))
+      pub scanning-closes : r .line .kind ≡ 3 → ScanIs format load text (closingOf n high ascend parts (r .next) (length text))
       scanning-closes k =
           elim (decLt (r .next) (length text)) [
             | yes p ↦
-                subst (ScanIs format load text) (sym (pick-true (Broken (n + 1)) (Whole n high ascend) (lt-ltb (r .next) (length text) p)))
+                subst (ScanIs format load text) (sym (pick-true (Broken (n + 1)) (Whole n high ascend parts) (lt-ltb (r .next) (length text) p)))
                 (closed k
                 ∙ ap (λ (ls : List (List ℕ)). laters n (pick (isNone ls) (sound (now .given)) (faulty 1)))
                 (lines-at text (nextOf text (now .at)) (subst (λ (x : ℕ). x < length text) (stepped .next) p))
                 ∙ laters-faulty n 1)
             | no p ↦
-                subst (ScanIs format load text) (sym (pick-false (Broken (n + 1)) (Whole n high ascend) (le-ltb (r .next) (length text) (omega arith))))
+                subst (ScanIs format load text) (sym (pick-false (Broken (n + 1)) (Whole n high ascend parts) (le-ltb (r .next) (length text) (omega arith))))
                 (record {
                   reads =
                       closed k
@@ -217,6 +232,7 @@ module _ (format load : ℕ) (text : List ℕ) where
                       ∙ laters-sound n (now .given);
                   top = w .top;
                   order = w .order;
+                  begun = w .begun;
                   good = w .good;
                   all =
                       omega
@@ -235,8 +251,9 @@ module _ (format load : ℕ) (text : List ℕ) where
 -- ---- what is answered
 
 module _ (format load : ℕ) (text : List ℕ) (r : Scan) (p : ScanIs format load text r) where
-  pub fault-none : (lines high : ℕ) (ascend : Bool) → r ≡ Whole lines high ascend → Good ≡ faultOf (readText format load text)
-  fault-none lines high ascend e = let w : Scanned format load text lines high ascend = subst (ScanIs format load text) e p in sym (ap faultOf (w .reads))
+  pub fault-none : (lines high : ℕ) (ascend : Bool) (parts : ℕ) → r ≡ Whole lines high ascend parts → Good ≡ faultOf (readText format load text)
+  fault-none lines high ascend parts e =
+      let w : Scanned format load text lines high ascend parts = subst (ScanIs format load text) e p in sym (ap faultOf (w .reads))
 
   pub fault-some : (line : ℕ) → r ≡ Broken line → At line ≡ faultOf (readText format load text)
   fault-some line e = let w : readText format load text ≡ faulty line = subst (ScanIs format load text) e p in sym (ap faultOf w)

@@ -10,7 +10,7 @@ use Rattle.record_lines.specs.declared.Line.{Line}
 use Rattle.record_lines.specs.Laws.Items.{one-line}
 use Rattle.record_lines.specs.Pieces.{Piece}
 use Rattle.record_fault.specs.Reading.{Read, sound, faulty, readText}
-use Rattle.record_fault.specs.Steps.{highest, rises, Stepped, ScanIs, Scanned}
+use Rattle.record_fault.specs.Steps.{highest, rises, nowhere, partsOf, Stepped, ScanIs, Scanned}
 use Rattle.record_fault.specs.Trail.{trail}
 use Rattle.record_fault.specs.declared.Step.{Step}
 use Rattle.record_fault.specs.declared.Scan.{Scan}
@@ -50,17 +50,18 @@ module _ (format load : ℕ) (text : List ℕ) where
   sound-or-faulty : {l : List Piece} {n : ℕ} → readText format load text ≡ sound l → readText format load text ≡ faulty n → ⊥
   sound-or-faulty p q = let e = sym p ∙ q in let z : _≡_ {A = ℕ} 0 1 = cc in omega arith
 
-  one-whole : (n m h k : ℕ) (a b : Bool) → Scanned format load text n h a → Scanned format load text m k b → Whole n h a ≡ Whole m k b
-  one-whole n m h k a b p q =
+  one-whole : (n m h k : ℕ) (a b : Bool) (x y : ℕ) → Scanned format load text n h a x → Scanned format load text m k b y → Whole n h a x ≡ Whole m k b y
+  one-whole n m h k a b x y p q =
       let lines : n ≡ m = omega (arith, p .all, q .all) in
       let tops : h ≡ k = p .top ∙ ap (λ (j : ℕ). highest (trail format text j .given)) lines ∙ sym (q .top) in
       let orders : a ≡ b = p .order ∙ ap (rises format text) lines ∙ sym (q .order) in
-      ap₂ (λ (j : ℕ) (i : ℕ). Whole j i a) lines tops ∙ ap (Whole m k) orders
+      let begun : x ≡ y = p .begun ∙ ap (λ (j : ℕ). partsOf nowhere (trail format text j .given)) lines ∙ sym (q .begun) in
+      ap₂ (λ (j : ℕ) (i : ℕ). Whole j i a x) lines tops ∙ ap₂ (Whole m k) orders begun
 
   one-scan : (r s : Scan) → ScanIs format load text r → ScanIs format load text s → r ≡ s
-  one-scan (Whole n h a) (Whole m k b) p q = one-whole n m h k a b p q
-  one-scan (Whole n h a) (Broken m) p q = absurd (sound-or-faulty (p .reads) q)
-  one-scan (Broken n) (Whole m k b) p q = absurd (sound-or-faulty (q .reads) p)
+  one-scan (Whole n h a x) (Whole m k b y) p q = one-whole n m h k a b x y p q
+  one-scan (Whole n h a x) (Broken m) p q = absurd (sound-or-faulty (p .reads) q)
+  one-scan (Broken n) (Whole m k b y) p q = absurd (sound-or-faulty (q .reads) p)
   one-scan (Broken n) (Broken m) p q = let e = sym p ∙ q in let same : n ≡ m = cc in ap Broken same
 
 pub scan-lines-unique : OneOutcome 2 scan-lines-kinds.ps scan-lines-kinds.r scan-lines-reads.Learnt

@@ -91,6 +91,23 @@ freeBy free top kind address count =
       top = top;
     }
 
+-- Where the last of pieces ends, and how many of them do not begin where the one before them ends; `edge` is where the one before all of them ended.
+unfoldable pub lastEnd : ℕ → List Piece → ℕ
+lastEnd edge [] = edge
+lastEnd edge (p ∷ l) = lastEnd (endOf p) l
+
+unfoldable pub partsOf : ℕ → List Piece → ℕ
+partsOf edge [] = 0
+partsOf edge (p ∷ l) = pick (eqb (p .address) edge) 0 1 + partsOf (endOf p) l
+
+-- One line, by its kind, address and count.
+abbrev pub beginsBy : ℕ → ℕ → ℕ → ℕ → ℕ
+beginsBy kind address count edge = pick (eqb kind 1) (pick (eqb count 0) 0 (pick (eqb address edge) 0 1)) 0
+
+-- Before the first line: no address is as high.
+abbrev pub nowhere : ℕ
+nowhere = 8589934592
+
 abbrev pub AdmitIs : ℕ → List Piece → ℕ → ℕ → ℕ → ℕ → ℕ → Admit → Type 0
 AdmitIs load given kind address count high edge No = admitsBy load given kind address count ≡ false
 AdmitIs load given kind address count high edge (High h top) =
@@ -108,17 +125,18 @@ abbrev pub AllGood : ℕ → List ℕ → ℕ → Type 0
 AllGood format text n = (k : ℕ) → k < n → IsGood format (trail format text k .state) (lineAt text (trail format text k .at))
 
 -- The end record, with `next` the place behind it.
-abbrev pub closingOf : ℕ → ℕ → Bool → ℕ → ℕ → Scan
-closingOf n high ascend next len = pick (ltb next len) (Broken (n + 1)) (Whole n high ascend)
+abbrev pub closingOf : ℕ → ℕ → Bool → ℕ → ℕ → ℕ → Scan
+closingOf n high ascend parts next len = pick (ltb next len) (Broken (n + 1)) (Whole n high ascend parts)
 
 -- All lines up to the end record.
-pub record Scanned (format load : ℕ) (text : List ℕ) (lines high : ℕ) (ascend : Bool) : Type 0 where
+pub record Scanned (format load : ℕ) (text : List ℕ) (lines high : ℕ) (ascend : Bool) (parts : ℕ) : Type 0 where
   pub reads : readText format load text ≡ sound (trail format text lines .given)
   pub top : high ≡ highest (trail format text lines .given)
   pub order : ascend ≡ rises format text lines
+  pub begun : parts ≡ partsOf nowhere (trail format text lines .given)
   pub all : suc lines ≡ length (linesOf text)
   pub good : AllGood format text lines
 
 abbrev pub ScanIs : ℕ → ℕ → List ℕ → Scan → Type 0
-ScanIs format load text (Whole lines high ascend) = Scanned format load text lines high ascend
+ScanIs format load text (Whole lines high ascend parts) = Scanned format load text lines high ascend parts
 ScanIs format load text (Broken line) = readText format load text ≡ faulty line

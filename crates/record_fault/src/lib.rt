@@ -9,7 +9,7 @@ ghost use Rattle.record_lines.specs.Spelling.{Spells};
 ghost use Rattle.record_fault.specs.Reading.{formatBy, readText};
 ghost use Rattle.record_fault.specs.Trail.{trail, lineAt};
 ghost use Rattle.record_fault.specs.Steps.{firstBy, IsGood, AllGood, longBy, stopBy, Stepped, leavesBy, highest, rises, closingOf, ScanIs};
-ghost use Rattle.record_fault.specs.Steps.{lowerBy, RoomAbove, FreeIs, freeBy, AdmitIs};
+ghost use Rattle.record_fault.specs.Steps.{lowerBy, RoomAbove, FreeIs, freeBy, AdmitIs, beginsBy};
 ghost use Rattle.record_fault.specs.Outcome.{faultOf};
 
 // A line that was read, where its characters end, and where the next one begins.
@@ -35,9 +35,10 @@ pub enum Admit {
     High(u64, u64),
 }
 
-// How many lines stand before the end record of a sound file, the highest end of its bytes, and whether its records ascend; or the line at fault.
+// How many lines stand before the end record of a sound file, the highest end of its bytes, whether its records ascend, and how many of those with bytes
+// do not begin where the one before them ends; or the line at fault.
 pub enum Scan {
-    Whole(usize, u64, bool),
+    Whole(usize, u64, bool, u64),
     Broken(usize),
 }
 
@@ -326,15 +327,31 @@ fn free_after(free: Free, top: u64, kind: u8, address: u32, count: u8) -> Free
     }
 }
 
+// 1 for a line with bytes that does not begin at `edge`.
+fn begins(kind: u8, address: u32, count: u8, edge: u64) -> u64
+    ensures { λ r. ⌜ (r ≡ beginsBy kind address count edge) × (r ≤ 1) ⌝ }
+{
+    if kind != record_lines::DATA {
+        return 0;
+    }
+    if count == 0 {
+        return 0;
+    }
+    if address as u64 == edge {
+        return 0;
+    }
+    1
+}
+
 // The end record: nothing stands behind it.
-fn closing(n: usize, high: u64, ascend: bool, next: usize, len: usize) -> Scan
+fn closing(n: usize, high: u64, ascend: bool, parts: u64, next: usize, len: usize) -> Scan
     requires { ⌜ n < len ⌝ }
-    ensures { λ r. ⌜ r ≡ closingOf n high ascend next len ⌝ }
+    ensures { λ r. ⌜ r ≡ closingOf n high ascend parts next len ⌝ }
 {
     if next < len {
         return Scan::Broken(n + 1);
     }
-    Scan::Whole(n, high, ascend)
+    Scan::Whole(n, high, ascend, parts)
 }
 
 // Reads the lines up to the end record, or to the first at fault.
@@ -346,9 +363,10 @@ pub fn scan_lines(format: u8, text: &[u8], t: &[u8; 256], load: u32) -> Scan
     let mut state = 0u16;
     let mut high = 0u64;
     let mut ascend = true;
+    let mut parts = 0u64;
     let mut free = Free {
         low: NOWHERE,
-        edge: 0,
+        edge: NOWHERE,
         top: NOWHERE,
     };
     let mut n = 0usize;
@@ -356,7 +374,7 @@ pub fn scan_lines(format: u8, text: &[u8], t: &[u8; 256], load: u32) -> Scan
         let s = take_line(format, text, t, at, state);
         let line = s.line;
         if line.kind == record_lines::END {
-            return closing(n, high, ascend, s.next, text.len());
+            return closing(n, high, ascend, parts, s.next, text.len());
         }
         let Admit::High(h, top) = may_stand(
             format,
@@ -374,6 +392,7 @@ pub fn scan_lines(format: u8, text: &[u8], t: &[u8; 256], load: u32) -> Scan
         };
         // all of its bytes lie at or above the highest end
         ascend = both(ascend, leaves(line.kind, line.address, line.count, 0, high));
+        parts += begins(line.kind, line.address, line.count, free.edge);
         free = free_after(free, top, line.kind, line.address, line.count);
         high = h;
         at = s.next;
@@ -389,7 +408,7 @@ pub fn line_at_fault(format: u8, text: &[u8], load: u32) -> Fault
 {
     let t = record_lines::digit_table();
     match scan_lines(format, text, &t, load) {
-        Scan::Whole(_, _, _) => Fault::Good,
+        Scan::Whole(_, _, _, _) => Fault::Good,
         Scan::Broken(line) => Fault::At(line as u64),
     }
 }

@@ -53,10 +53,10 @@ or-true : (b : Bool) → (b || true) ≡ true
 or-true true = refl
 or-true false = refl
 
-or-out : (a : Bool) {b : Bool} → b ≡ false → (a || b) ≡ a
+pub or-out : (a : Bool) {b : Bool} → b ≡ false → (a || b) ≡ a
 or-out a e = ap (λ (x : Bool). a || x) e ∙ or-false a
 
-or-in : (a : Bool) {b : Bool} → b ≡ true → (a || b) ≡ true
+pub or-in : (a : Bool) {b : Bool} → b ≡ true → (a || b) ≡ true
 or-in a e = ap (λ (x : Bool). a || x) e ∙ or-true a
 
 -- ---- the lowest stretch
@@ -141,7 +141,7 @@ top-low h m load k = elim (decLt h m) [
   | no p ↦ let e : max h m ≡ h = omega arith in ap (λ (x : ℕ). x - load) e
 ]
 
-joined-end : (r next : Run) → next .first < next .end → (joinedBy r next) .end ≡ next .end
+pub joined-end : (r next : Run) → next .first < next .end → (joinedBy r next) .end ≡ next .end
 joined-end r next h =
     elim (ℕ-discrete (next .first) (r .end)) [
       | yes e ↦ ap (λ (q : Run). q .end) (closed-touching r next h e .1)

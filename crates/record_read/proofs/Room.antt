@@ -1,7 +1,7 @@
 -- Whether there is room, and what is written.
 use mathlib.Core.Path.{_≡_, refl, sym, ap, ap₂, subst, _∙_}
 use mathlib.Core.Bool.{Bool, true, false}
-use mathlib.Core.List.{List, [], _++_}
+use mathlib.Core.List.{List}
 use Prim.Native.Nat.{ℕ, _-_, _≤_, _<_}
 use native.Mathlib.Nat.{zero-add}
 use borrow.Author.Tests.{le-leb, lt-leb}
@@ -15,15 +15,16 @@ use Rattle.blocks.specs.declared.Blocks.the-variants.{Found, Refused}
 use Rattle.blocks.specs.Outcome.{origins, sizes, over}
 use Rattle.blocks.specs.Put.{Put}
 use Rattle.record_lines.specs.Pieces.{Piece}
-use Rattle.record_lines.specs.Laws.Puts.{sets-none}
 use Rattle.record_fault.specs.Reading.{Read, sound, faulty, readText}
 use Rattle.record_fault.specs.Trail.{trail}
 use Rattle.record_fault.specs.Steps.{AllGood, rises, Scanned, ScanIs}
+use Rattle.record_fault.specs.Theorems.Sound.{sound-pieces-fine}
 use Rattle.record_fault.specs.declared.Scan.{Scan}
 use Rattle.record_fault.specs.declared.Scan.the-variants.{Whole, Broken}
 use Rattle.record_read.specs.Given.{filled}
 use Rattle.record_read.specs.Runs.{reach, blocksGiven}
 use Rattle.record_read.specs.Outcome.{Lent, lent, Reads}
+use Rattle.record_read.proofs.Parts.{within-fine, parts-are-blocks}
 
 -- What is stored from the start on.
 sets-over : (l v : List ℕ) → length v ≤ length l → sets l 0 v ≡ over v l
@@ -41,48 +42,33 @@ module _ (load : ℕ) (pieces : List Piece) (bytes os ss : List ℕ) (end : ℕ)
       let e : leb (reach load pieces) (length bytes) ≡ false = lt-leb (reach load pieces) (length bytes) (rw is at h) in
       record { answer = rw e; figures = rw e; after = rw e }
 
-  -- There is room for the bytes; a walk that is lent no room counts the blocks and writes nothing.
-  module _ (room : end ≤ length bytes) (count : ℕ) (os₁ ss₁ : List ℕ) (counted : Put blocks 0 [] [] count os₁ ss₁) where
+  -- There is room for the bytes, and the blocks are counted.
+  module _ (room : end ≤ length bytes) (count : ℕ) (is-all : count ≡ length blocks) where
     e : leb (reach load pieces) (length bytes) ≡ true
     e = le-leb (reach load pieces) (length bytes) (rw is at room)
 
-    is-all : count ≡ length blocks
-    is-all = counted .counted ∙ zero-add (length blocks)
-
-    os-kept : os₁ ++ os ≡ os
-    os-kept = rw (counted .first ∙ sets-none (origins blocks) 0)
-
-    ss-kept : ss₁ ++ ss ≡ ss
-    ss-kept = rw (counted .second ∙ sets-none (sizes blocks) 0)
-
-    kept : lent bytes (os₁ ++ os) (ss₁ ++ ss) ≡ lent bytes os ss
-    kept = ap₂ (lent bytes) os-kept ss-kept
-
-    pub reads-short-first : length (os₁ ++ os) < count
-        → Reads load (sound pieces) (lent bytes os ss) (Refused (TooShort 2)) (lent bytes (os₁ ++ os) (ss₁ ++ ss))
+    pub reads-short-first : length os < count → Reads load (sound pieces) (lent bytes os ss) (Refused (TooShort 2)) (lent bytes os ss)
     reads-short-first h =
-        let f : leb (length blocks) (length os) ≡ false = lt-leb (length blocks) (length os) (rw (os-kept, is-all) at h) in
-        record { answer = rw (e, f); figures = rw (e, f); after = kept ∙ rw (e, f) }
+        let f : leb (length blocks) (length os) ≡ false = lt-leb (length blocks) (length os) (rw is-all at h) in
+        record { answer = rw (e, f); figures = rw (e, f); after = rw (e, f) }
 
-    module _ (first : count ≤ length (os₁ ++ os)) where
+    module _ (first : count ≤ length os) where
       f : leb (length blocks) (length os) ≡ true
-      f = le-leb (length blocks) (length os) (rw (os-kept, is-all) at first)
+      f = le-leb (length blocks) (length os) (rw is-all at first)
 
-      pub reads-short-second : length (ss₁ ++ ss) < count
-          → Reads load (sound pieces) (lent bytes os ss) (Refused (TooShort 2)) (lent bytes (os₁ ++ os) (ss₁ ++ ss))
+      pub reads-short-second : length ss < count → Reads load (sound pieces) (lent bytes os ss) (Refused (TooShort 2)) (lent bytes os ss)
       reads-short-second h =
-          let g : leb (length blocks) (length ss) ≡ false = lt-leb (length blocks) (length ss) (rw (ss-kept, is-all) at h) in
-          record { answer = rw (e, f, g); figures = rw (e, f, g); after = kept ∙ rw (e, f, g) }
+          let g : leb (length blocks) (length ss) ≡ false = lt-leb (length blocks) (length ss) (rw is-all at h) in
+          record { answer = rw (e, f, g); figures = rw (e, f, g); after = rw (e, f, g) }
 
-      -- A second walk, over what is lent, and the bytes.
-      pub reads-all : count ≤ length (ss₁ ++ ss) → {r : ℕ} {os₂ ss₂ new : List ℕ} → Put blocks 0 (os₁ ++ os) (ss₁ ++ ss) r os₂ ss₂
-          → new ≡ filled load pieces bytes → Reads load (sound pieces) (lent bytes os ss) (Found count) (lent new os₂ ss₂)
-      reads-all h {r} {os₂} {ss₂} {new} p n =
-          let k : length blocks ≤ length ss = rw (ss-kept, is-all) at h in
+      pub reads-all : count ≤ length ss → {r : ℕ} {os₂ ss₂ new : List ℕ} → (new ≡ filled load pieces bytes) × Put blocks 0 os ss r os₂ ss₂
+          → Reads load (sound pieces) (lent bytes os ss) (Found count) (lent new os₂ ss₂)
+      reads-all h {r} {os₂} {ss₂} {new} p =
+          let k : length blocks ≤ length ss = rw is-all at h in
           let g : leb (length blocks) (length ss) ≡ true = le-leb (length blocks) (length ss) k in
-          let o : os₂ ≡ over (origins blocks) os = p .first ∙ rw os-kept (sets-over os (origins blocks) (rw length-map (rw (os-kept, is-all) at first))) in
-          let s : ss₂ ≡ over (sizes blocks) ss = p .second ∙ rw ss-kept (sets-over ss (sizes blocks) (rw length-map k)) in
-          record { answer = rw (e, f, g, is-all); figures = rw (e, f, g, is-all); after = rw (e, f, g, n, o, s) }
+          let o : os₂ ≡ over (origins blocks) os = p .1 .first ∙ sets-over os (origins blocks) (rw length-map (rw is-all at first)) in
+          let s : ss₂ ≡ over (sizes blocks) ss = p .1 .second ∙ sets-over ss (sizes blocks) (rw length-map k) in
+          record { answer = rw (e, f, g, is-all); figures = rw (e, f, g, is-all); after = rw (e, f, g, p .0, o, s) }
 
 -- ---- what the scan found
 
@@ -90,13 +76,20 @@ module _ (format load : ℕ) (text : List ℕ) (r : Scan) (p : ScanIs format loa
   pub scan-bad : (line : ℕ) → r ≡ Broken line → readText format load text ≡ faulty line
   scan-bad line e = subst (ScanIs format load text) e p
 
-  pub scan-whole : (lines high : ℕ) (ascend : Bool) → r ≡ Whole lines high ascend → Scanned format load text lines high ascend
-  scan-whole lines high ascend e = subst (ScanIs format load text) e p
+  pub scan-whole : (lines high : ℕ) (ascend : Bool) (parts : ℕ) → r ≡ Whole lines high ascend parts → Scanned format load text lines high ascend parts
+  scan-whole lines high ascend parts e = subst (ScanIs format load text) e p
 
-module _ {format load : ℕ} {text : List ℕ} {lines high : ℕ} {ascend : Bool} (s : Scanned format load text lines high ascend) where
+module _ {format load : ℕ} {text : List ℕ} {lines high : ℕ} {ascend : Bool} {parts : ℕ} (s : Scanned format load text lines high ascend parts) where
   pub scanned-ready : {end : ℕ} → end ≡ high - load
       → (end ≡ reach load (trail format text lines .given)) × (ascend ≡ rises format text lines)
-  scanned-ready e = (e ∙ ap (λ (h : ℕ). h - load) (s .top), s .order)
+      × (ascend ≡ true → parts ≡ length (blocksGiven load (trail format text lines .given)))
+  scanned-ready e = (
+    e ∙ ap (λ (h : ℕ). h - load) (s .top),
+    s .order,
+    λ up. s .begun
+        ∙ parts-are-blocks format load text lines (sym (s .order) ∙ up)
+        (within-fine (sound-pieces-fine format load text (trail format text lines .given) (s .reads))),
+  )
 
   pub scanned-good : AllGood format text lines
   scanned-good = s .good

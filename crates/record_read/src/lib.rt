@@ -107,39 +107,6 @@ fn join(run: Run, next: Run) -> Run
     next
 }
 
-// The blocks of a file whose records ascend, written as far as the lent slices go, in one pass. Counts all of them.
-fn walk_up(
-    format: u8,
-    text: &[u8],
-    t: &[u8; 256],
-    n: usize,
-    load: u32,
-    offsets: &mut [u64],
-    sizes: &mut [u64],
-) -> u64
-    requires { ⌜ Spells (now t) × AllGood format (now text) n ⌝ }
-    requires { ⌜ rises format (now text) n ≡ true ⌝ }
-    ensures { λ r. ⌜ Put (blocksGiven load (trail format (now (text .entry)) n .given)) 0
-        (now (offsets .entry)) (now (sizes .entry)) r (now (offsets .exit)) (now (sizes .exit)) ⌝ }
-{
-    let mut at = 0usize;
-    let mut state = 0u16;
-    let mut run = Run { first: 0, end: 0 };
-    let mut count = 0u64;
-    let mut k = 0usize;
-    while k < n {
-        let s = record_fault::known_line(format, text, t, at, state);
-        let line = s.line;
-        let next = extent(line.address, line.count, load);
-        count = close(run, next, count, offsets, sizes);
-        run = join(run, next);
-        at = s.next;
-        state = line.state;
-        k += 1;
-    }
-    push(run, count, offsets, sizes)
-}
-
 fn larger(a: u64, b: u64) -> u64
     ensures { λ r. ⌜ r ≡ max a b ⌝ }
 {
@@ -234,28 +201,6 @@ fn walk_any(
     push(run, count, offsets, sizes)
 }
 
-fn walk(
-    format: u8,
-    text: &[u8],
-    t: &[u8; 256],
-    n: usize,
-    load: u32,
-    end: u64,
-    ascend: bool,
-    offsets: &mut [u64],
-    sizes: &mut [u64],
-) -> u64
-    requires { ⌜ Spells (now t) × AllGood format (now text) n ⌝ }
-    requires { ⌜ (end ≡ reach load (trail format (now text) n .given)) × (ascend ≡ rises format (now text) n) ⌝ }
-    ensures { λ r. ⌜ Put (blocksGiven load (trail format (now (text .entry)) n .given)) 0
-        (now (offsets .entry)) (now (sizes .entry)) r (now (offsets .exit)) (now (sizes .exit)) ⌝ }
-{
-    if ascend {
-        return walk_up(format, text, t, n, load, offsets, sizes);
-    }
-    walk_any(format, text, t, n, load, end, offsets, sizes)
-}
-
 // Stores the byte of an address, if there is room for it.
 fn put_byte(bytes: &mut [u8], address: u64, load: u32, value: u8)
     ensures { λ _. ⌜ now (bytes .exit) ≡ filled load (piece address (value ∷ []) ∷ []) (now (bytes .entry)) ⌝ }
@@ -325,8 +270,53 @@ fn fill(format: u8, text: &[u8], t: &[u8; 256], n: usize, load: u32, bytes: &mut
     }
 }
 
-// A sound file's bytes and blocks, if there is room for both: a walk that is lent no room counts the blocks first.
-fn take(
+// The bytes and the blocks of a file whose records ascend, in one pass; the blocks as far as the lent slices go. Counts all of them.
+fn store_up(
+    format: u8,
+    text: &[u8],
+    t: &[u8; 256],
+    n: usize,
+    load: u32,
+    bytes: &mut [u8],
+    offsets: &mut [u64],
+    sizes: &mut [u64],
+) -> u64
+    requires { ⌜ Spells (now t) × AllGood format (now text) n ⌝ }
+    requires { ⌜ rises format (now text) n ≡ true ⌝ }
+    ensures { λ r. ⌜ (now (bytes .exit) ≡ filled load (trail format (now (text .entry)) n .given) (now (bytes .entry)))
+        × Put (blocksGiven load (trail format (now (text .entry)) n .given)) 0
+        (now (offsets .entry)) (now (sizes .entry)) r (now (offsets .exit)) (now (sizes .exit)) ⌝ }
+{
+    let mut at = 0usize;
+    let mut state = 0u16;
+    let mut run = Run { first: 0, end: 0 };
+    let mut count = 0u64;
+    let mut k = 0usize;
+    while k < n {
+        let s = record_fault::known_line(format, text, t, at, state);
+        let line = s.line;
+        let stop = s.stop;
+        fill_line(
+            &text[at..stop],
+            t,
+            line.first,
+            line.count,
+            line.address,
+            load,
+            bytes,
+        );
+        let next = extent(line.address, line.count, load);
+        count = close(run, next, count, offsets, sizes);
+        run = join(run, next);
+        at = s.next;
+        state = line.state;
+        k += 1;
+    }
+    push(run, count, offsets, sizes)
+}
+
+// The bytes and the blocks of a sound file. Counts the blocks.
+fn store(
     format: u8,
     text: &[u8],
     t: &[u8; 256],
@@ -337,34 +327,75 @@ fn take(
     bytes: &mut [u8],
     offsets: &mut [u64],
     sizes: &mut [u64],
-) -> Blocks
+) -> u64
     requires { ⌜ Spells (now t) × AllGood format (now text) n ⌝ }
     requires { ⌜ (end ≡ reach load (trail format (now text) n .given)) × (ascend ≡ rises format (now text) n) ⌝ }
+    ensures { λ r. ⌜ (now (bytes .exit) ≡ filled load (trail format (now (text .entry)) n .given) (now (bytes .entry)))
+        × Put (blocksGiven load (trail format (now (text .entry)) n .given)) 0
+        (now (offsets .entry)) (now (sizes .entry)) r (now (offsets .exit)) (now (sizes .exit)) ⌝ }
+{
+    if ascend {
+        return store_up(format, text, t, n, load, bytes, offsets, sizes);
+    }
+    fill(format, text, t, n, load, bytes);
+    walk_any(format, text, t, n, load, end, offsets, sizes)
+}
+
+// How many blocks there are: where records ascend, as many as the scan found parts; otherwise a walk writes its blocks nowhere.
+fn count_blocks(
+    format: u8,
+    text: &[u8],
+    t: &[u8; 256],
+    n: usize,
+    load: u32,
+    end: u64,
+    ascend: bool,
+    parts: u64,
+) -> u64
+    requires { ⌜ Spells (now t) × AllGood format (now text) n ⌝ }
+    requires { ⌜ (end ≡ reach load (trail format (now text) n .given))
+        × (ascend ≡ true → parts ≡ length (blocksGiven load (trail format (now text) n .given))) ⌝ }
+    ensures { λ r. ⌜ r ≡ length (blocksGiven load (trail format (now (text .entry)) n .given)) ⌝ }
+{
+    if ascend {
+        return parts;
+    }
+    let mut offsets = [0u64; 1];
+    let mut sizes = [0u64; 1];
+    walk_any(format, text, t, n, load, end, &mut offsets, &mut sizes)
+}
+
+// A sound file's bytes and blocks, if there is room for both.
+fn take(
+    format: u8,
+    text: &[u8],
+    t: &[u8; 256],
+    n: usize,
+    load: u32,
+    end: u64,
+    ascend: bool,
+    parts: u64,
+    bytes: &mut [u8],
+    offsets: &mut [u64],
+    sizes: &mut [u64],
+) -> Blocks
+    requires { ⌜ Spells (now t) × AllGood format (now text) n ⌝ }
+    requires { ⌜ (end ≡ reach load (trail format (now text) n .given)) × (ascend ≡ rises format (now text) n)
+        × (ascend ≡ true → parts ≡ length (blocksGiven load (trail format (now text) n .given))) ⌝ }
     ensures { λ r. ⌜ Reads load (sound (trail format (now (text .entry)) n .given)) (lent (now (bytes .entry)) (now (offsets .entry)) (now (sizes .entry))) r
         (lent (now (bytes .exit)) (now (offsets .exit)) (now (sizes .exit))) ⌝ }
 {
     if (bytes.len() as u64) < end {
         return Blocks::Refused(Refusal::TooShort(BYTES));
     }
-    let count = walk(
-        format,
-        text,
-        t,
-        n,
-        load,
-        end,
-        ascend,
-        &mut offsets[..0],
-        &mut sizes[..0],
-    );
+    let count = count_blocks(format, text, t, n, load, end, ascend, parts);
     if (offsets.len() as u64) < count {
         return Blocks::Refused(Refusal::TooShort(BLOCKS));
     }
     if (sizes.len() as u64) < count {
         return Blocks::Refused(Refusal::TooShort(BLOCKS));
     }
-    walk(format, text, t, n, load, end, ascend, offsets, sizes);
-    fill(format, text, t, n, load, bytes);
+    store(format, text, t, n, load, end, ascend, bytes, offsets, sizes);
     Blocks::Found(count)
 }
 
@@ -382,7 +413,8 @@ pub fn read(
         (lent (now (bytes .exit)) (now (offsets .exit)) (now (sizes .exit))) ⌝ }
 {
     let t = record_lines::digit_table();
-    let Scan::Whole(n, high, ascend) = record_fault::scan_lines(format, text, &t, load) else {
+    let Scan::Whole(n, high, ascend, parts) = record_fault::scan_lines(format, text, &t, load)
+    else {
         return Blocks::Refused(Refusal::Malformed(0));
     };
     let end = above(high, load);
@@ -394,6 +426,7 @@ pub fn read(
         load,
         end,
         ascend,
+        parts,
         bytes,
         offsets,
         sizes,

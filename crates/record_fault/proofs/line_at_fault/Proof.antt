@@ -20,7 +20,7 @@ returns : tie.Need-returns
 returns c =
     let m = c .before .before in
     let a = m .before .before .before .before .args in
-    fault-none (a .format) (a .load) (a .text .now) (m .scan-lines .result) (m .scan-lines .ensures) _ _ _ (c .enum-told .given .1)
+    fault-none (a .format) (a .load) (a .text .now) (m .scan-lines .result) (m .scan-lines .ensures) _ _ _ _ (c .enum-told .given .1)
 
 returns-2 : tie.Need-returns-2
 returns-2 c =

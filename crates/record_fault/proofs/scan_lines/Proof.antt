@@ -1,6 +1,6 @@
 -- `record_fault::scan_lines`: after n lines the file is what they give and what the lines behind them say.
 use mathlib.Core.Path.{subst}
-use Prim.Native.Nat.{_-_, _<_}
+use Prim.Native.Nat.{_+_, _-_, _<_, _≤_}
 use borrow.Author.Needs.{needs}
 use native.Mathlib.Omega.{arith}
 use lib.ListN.{length}
@@ -11,10 +11,11 @@ use Rattle.record_fault.proofs.scan_lines.Statement.{statement}
 use Rattle.record_fault.proofs.scan_lines.Tie as tie
 
 abbrev Inv-loop : tie.InvT-loop
-Inv-loop format text t load at₀ state₀ high₀ ascend₀ free₀ n₀ at state high ascend free n = Scanning format load text at state high ascend free n
+Inv-loop format text t load at₀ state₀ high₀ ascend₀ parts₀ free₀ n₀ at state high ascend parts free n =
+    Scanning format load text at state high ascend parts free n
 
 abbrev μ-loop : tie.MeasureT-loop
-μ-loop format text t load at₀ state₀ high₀ ascend₀ free₀ n₀ at state high ascend free n = length text - at
+μ-loop format text t load at₀ state₀ high₀ ascend₀ parts₀ free₀ n₀ at state high ascend parts free n = length text - at
 
 loop-holds : tie.Need-loop-holds Inv-loop μ-loop
 loop-holds c = let a = c .before .args in scanning-starts (a .format) (a .load) (a .text .now)
@@ -61,25 +62,36 @@ leaves-requires c κs = search needs
 both-requires : tie.Need-both-requires Inv-loop μ-loop
 both-requires c κs = search needs
 
+begins-requires : tie.Need-begins-requires Inv-loop μ-loop
+begins-requires c κs = search needs
+
+-- no more lines than characters, and no more parts than lines
+add-parts : tie.Need-add-parts Inv-loop μ-loop
+add-parts c =
+    let l = c .before .before .before .before .before .before .before .before .before .before .before .before in
+    let long = l .before .shared-slice-known .given in
+    let sum : l .loop .parts + c .begins .result ≤ length (l .before .before .args .text .now) =
+    omega (arith, l .loop .inv .few, l .loop .inv .fewer, c .before .before .before .before .before .before .before .before .before .before .before .loop-test .taken, c .begins .ensures .1) in
+    search needs
+
 free-after-requires : tie.Need-free-after-requires Inv-loop μ-loop
 free-after-requires c κs = search needs
 
 add-n : tie.Need-add-n Inv-loop μ-loop
 add-n c =
-    let i = c .before .before .before .before .before .before .before .before .before .before .before in
-    let l = i .before in
+    let l = c .before .before .before .before .before .before .before .before .before .before .before .before .before in
     let long = l .before .shared-slice-known .given in
-    let below : l .loop .n < length (l .before .before .args .text .now) = omega (arith, l .loop .inv .few, i .loop-test .taken) in
+    let below : l .loop .n < length (l .before .before .args .text .now) = omega (arith, l .loop .inv .few, c .before .before .before .before .before .before .before .before .before .before .before .before .loop-test .taken) in
     search needs
 
 loop-less : tie.Need-loop-less Inv-loop μ-loop
 loop-less c =
-    let t = c .before .before .before .before .before .before .before .before .before .before in
+    let t = c .before .before .before .before .before .before .before .before .before .before .before in
     omega (arith, t .take-line .ensures .onward (t .before .loop-test .taken), t .take-line .ensures .inside (t .before .before .loop .inv .inside))
 
 loop-again : tie.Need-loop-again Inv-loop μ-loop
 loop-again c =
-    let b = c .before in
+    let b = c .before .before in
     let h = b .before .before .before in
     let m = h .before .before in
     let t = m .before .before .before .before in
@@ -88,7 +100,7 @@ loop-again c =
     scanning-on (a .format) (a .load) (a .text .now) (l .loop .inv) (t .before .loop-test .taken) (t .take-line .ensures) _ _
     (subst (AdmitIs (a .load) (trail (a .format) (a .text .now) (l .loop .n) .given) (t .take-line .result .line .kind) (t .take-line .result .line .address)
     (t .take-line .result .line .count) (l .loop .high) (l .loop .free .edge)) (h .h .given .1) (m .may-stand .ensures)) (b .before .leaves .ensures)
-    (b .both .ensures) (c .free-after .ensures)
+    (b .both .ensures) (c .before .begins .ensures) (c .free-after .ensures)
 
 returns-3 : tie.Need-returns-3 Inv-loop μ-loop
 returns-3 c =
@@ -112,6 +124,8 @@ scan-lines-spec =
     returns-2
     leaves-requires
     both-requires
+    begins-requires
+    add-parts
     free-after-requires
     add-n
     loop-less

@@ -1,4 +1,4 @@
--- A trail, one line more; and the highest end of pieces.
+-- A trail, one line more; the highest end of pieces, and those that touch.
 use mathlib.Core.Path.{_≡_, refl, sym, ap, subst, _∙_}
 use mathlib.Core.Bool.{true}
 use mathlib.Core.List.{List, [], _∷_, _++_}
@@ -11,7 +11,7 @@ use Rattle.record_lines.specs.Pieces.{Piece, endOf}
 use Rattle.record_lines.specs.declared.Line.{Line}
 use Rattle.record_fault.specs.Reading.{newPieces, stateAfter, isNew}
 use Rattle.record_fault.specs.Trail.{Trail, trail, itemAt}
-use Rattle.record_fault.specs.Steps.{Stepped, highest}
+use Rattle.record_fault.specs.Steps.{Stepped, highest, lastEnd, partsOf}
 use Rattle.record_fault.specs.declared.Step.{Step}
 
 says-state′ : (s f : ℕ) (i : Item) → (asLine s f i) .state ≡ stateAfter s i
@@ -56,3 +56,14 @@ pub new-above : (l : List Piece) (first end : ℕ) → highest l ≤ first → i
 unfolding isNew highest
 new-above [] first end h = refl
 new-above (p ∷ l) first end h = rw (le-leb (endOf p) first (omega arith)) (new-above l first end (omega arith))
+
+-- Pieces behind pieces: where the last ends, and how many do not touch the one before them.
+pub last-append : (a b : List Piece) (edge : ℕ) → lastEnd edge (a ++ b) ≡ lastEnd (lastEnd edge a) b
+unfolding lastEnd
+last-append [] b edge = refl
+last-append (p ∷ a) b edge = last-append a b (endOf p)
+
+pub parts-append : (a b : List Piece) (edge : ℕ) → partsOf edge (a ++ b) ≡ partsOf edge a + partsOf (lastEnd edge a) b
+unfolding lastEnd partsOf
+parts-append [] b edge = omega arith
+parts-append (p ∷ a) b edge = omega (arith, parts-append a b (endOf p))

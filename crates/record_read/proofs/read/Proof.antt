@@ -34,7 +34,7 @@ take-requires c κs =
     let n = b .before .before in
     let m = n .before .before in
     let a = m .before .before .before .before .before .before .before .args in
-    let s = scan-whole (a .format) (a .load) (a .text .now) (m .scan-lines .result) (m .scan-lines .ensures) _ _ _ (n .n .given .1) in
+    let s = scan-whole (a .format) (a .load) (a .text .now) (m .scan-lines .result) (m .scan-lines .ensures) _ _ _ _ (n .n .given .1) in
     ((m .before .before .digit-table .ensures, scanned-good s), scanned-ready s (b .above .ensures .0))
 
 same-length : tie.Need-same-length
@@ -53,7 +53,7 @@ returns-2 c =
     let n = b .before .before in
     let m = n .before .before in
     let a = m .before .before .before .before .before .before .before .args in
-    scanned-reads (scan-whole (a .format) (a .load) (a .text .now) (m .scan-lines .result) (m .scan-lines .ensures) _ _ _ (n .n .given .1)) (t .take .ensures)
+    scanned-reads (scan-whole (a .format) (a .load) (a .text .now) (m .scan-lines .result) (m .scan-lines .ensures) _ _ _ _ (n .n .given .1)) (t .take .ensures)
 
 pub read-spec : {M : Type 1} → statement M
 read-spec =

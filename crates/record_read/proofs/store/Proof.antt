@@ -1,0 +1,61 @@
+-- `record_read::store`: one pass where records ascend.
+use mathlib.Core.Path.{sym, ap, _∙_}
+use lib.ListN.{length}
+use Rattle.record_fault.specs.Trail.{trail}
+use Rattle.record_read.specs.Theorems.GivenLaws.{filled-long}
+use Rattle.record_read.proofs.Walks.{put-long}
+use Rattle.record_read.proofs.store.Statement.{statement}
+use Rattle.record_read.proofs.store.Tie as tie
+
+store-up-requires : tie.Need-store-up-requires
+store-up-requires c κs = let s = c .before .before .before .before .before .before .before .before in (s .pre .0, sym (s .pre .1 .1) ∙ c .before .before .before .if1 .taken)
+
+same-length : tie.Need-same-length
+same-length c =
+    let a = c .before .before .before .before .before .before .before .before .before .before .before .before .before .before .before .args in
+    ap length (c .before .before .before .before .before .before .store-up .ensures .0) ∙ filled-long (a .load) (trail (a .format) (a .text .now) (a .n) .given) (a .bytes .now)
+
+same-length-2 : tie.Need-same-length-2
+same-length-2 c = put-long (c .before .before .before .before .before .before .store-up .ensures .1) .0
+
+same-length-3 : tie.Need-same-length-3
+same-length-3 c = put-long (c .before .before .before .before .before .before .store-up .ensures .1) .1
+
+returns : tie.Need-returns
+returns c = c .before .before .before .before .before .before .store-up .ensures
+
+fill-requires : tie.Need-fill-requires
+fill-requires c κs = c .before .before .before .before .before .before .pre .0
+
+walk-any-requires : tie.Need-walk-any-requires
+walk-any-requires c κs = let s = c .before .before .before .before .before .before .before .before .before .before .before in (s .pre .0, s .pre .1 .0)
+
+same-length-4 : tie.Need-same-length-4
+same-length-4 c =
+    let a = c .before .before .before .before .before .before .before .before .before .before .before .before .before .before .before .before .args in
+    ap length (c .before .before .before .before .before .before .before .before .before .fill .ensures) ∙ filled-long (a .load) (trail (a .format) (a .text .now) (a .n) .given) (a .bytes .now)
+
+same-length-5 : tie.Need-same-length-5
+same-length-5 c = put-long (c .before .before .before .before .walk-any .ensures) .0
+
+same-length-6 : tie.Need-same-length-6
+same-length-6 c = put-long (c .before .before .before .before .walk-any .ensures) .1
+
+returns-2 : tie.Need-returns-2
+returns-2 c = (c .before .before .before .before .before .before .before .before .before .fill .ensures, c .before .before .before .before .walk-any .ensures)
+
+pub store-spec : {M : Type 1} → statement M
+store-spec =
+    tie.close
+    (tie.spec
+    store-up-requires
+    same-length
+    same-length-2
+    same-length-3
+    returns
+    fill-requires
+    walk-any-requires
+    same-length-4
+    same-length-5
+    same-length-6
+    returns-2)
