@@ -1,0 +1,9 @@
+pub mod Bytes
+pub mod Chain
+pub mod Items
+pub mod One
+pub mod Span
+pub mod Spelling
+pub mod Stops
+pub mod Trails
+pub mod Typed

@@ -1,0 +1,3 @@
+pub mod Laws
+pub mod Reason
+pub mod Theorems
