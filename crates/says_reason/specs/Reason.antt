@@ -103,8 +103,8 @@ module _ (format : ℕ) where
 
     -- "the address of the line's first byte, and the lowest that a line of the file gives a byte at"
     pub data Below (load : ℕ) (ls : List (List ℕ)) (s : ℕ) : (first lowest : ℕ) → Type 0 where
-      below : {after lowest : ℕ} {p : Piece} → LineGives s l after p → p .address < load → First (λ (a : ℕ). (k : ℕ) × GivesTo ls k a) lowest
-          → Below load ls s (p .address) lowest
+      below : {after lowest : ℕ} {p : Piece} → LineGives s l after p → 0 < length (p .bytes) → p .address < load
+          → First (λ (a : ℕ). (k : ℕ) × GivesTo ls k a) lowest → Below load ls s (p .address) lowest
 
   -- ---- the line at fault, and the first reason in this order
   module _ (load : ℕ) (ls : List (List ℕ)) (n : ℕ) where

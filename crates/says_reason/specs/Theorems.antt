@@ -1,2 +1,4 @@
+pub mod Calls
 pub mod Decides
 pub mod Meets
+pub mod Told

@@ -98,7 +98,7 @@ module _ (format load : ℕ) (text : List ℕ) (n : ℕ) (l : List ℕ) (rest : 
           omega (arith, same .1, ap (λ (y : Piece). y .address + length (y .bytes)) (same .2))
 
       not-below : (x : ℕ × ℕ) → Below format l load ls st (x .0) (x .1) → end ≤ top → load ≤ p .address → ⊥
-      not-below (a, b) (s.below {p = q} g h f) k low = omega (arith, ap (λ (y : Piece). y .address) (gives-one format g (fits-in k) .1))
+      not-below (a, b) (s.below {p = q} g i h f) k low = omega (arith, ap (λ (y : Piece). y .address) (gives-one format g (fits-in k) .1))
 
       given-twice : end ≤ top → load ≤ p .address → Twice format load ls n
           (toldOf n (causeOf 11 (giver format text (p .address) end n) (max (p .address) (addressIn (itemOf format text (giver format text (p .address) end n))))))
@@ -116,5 +116,5 @@ module _ (format load : ℕ) (text : List ℕ) (n : ℕ) (l : List ℕ) (rest : 
           (λ t.
           let some = some-byte load (p .address) (p .bytes) after given (unfit-here k fault) in
           let low = lowest-first format text n (p .address) (own-byte k (p .address) (omega arith) (omega arith)) (omega (arith, top-low line)) in
-          rw t (w.refused (p .address, lowest format text) (s.below (fits-in k) (ltb-true (p .address) load t) low)))
+          rw t (w.refused (p .address, lowest format text) (s.below (fits-in k) some (ltb-true (p .address) load t) low)))
           (λ f. rw f (w.passed (λ x h. not-below x h k (ltb-false (p .address) load f)) (given-twice k (ltb-false (p .address) load f))))

@@ -91,8 +91,7 @@ module _ (format load : ℕ) (text : List ℕ) (ls : List (List ℕ)) (n : ℕ) 
         → (((typeOf l ≡ 1) × (x .1 ≡ 0)) ⊎ ((typeOf l ≡ 4) × (x .1 ≡ 2))) × (countOf l ≡ x .1 → ⊥)
     counts (c, d) (s.hex {b = b} g h o e m) =
         let same = hex-one h line in
-        let size : length b ≡ countOf l = ap (λ (k : List ℕ). length k) (same .2) ∙ few in
-        (
+        let size : length b ≡ countOf l = ap (λ (k : List ℕ). length k) (same .2) ∙ few in (
           ⊎-elim (λ z. inl (sym (same .0) ∙ z .0, z .1)) (λ z. inr (sym (same .0) ∙ z .0, z .1)) o,
           λ z. m (e ∙ size ∙ z),
         )

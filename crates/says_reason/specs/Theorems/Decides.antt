@@ -23,7 +23,7 @@ module _ (format load : ℕ) (ls : List (List ℕ)) (n : ℕ) where
       (ap (λ (p : Piece). p .address + length (p .bytes) - 1) (same .2), ap (λ (m : ℕ). m - 1) (same .1))
 
   below-one : {l : List ℕ} {st a b c d : ℕ} → Below format l load ls st a b → Below format l load ls st c d → (a ≡ c) × (b ≡ d)
-  below-one (s.below {lowest = b} x h f) (s.below {lowest = d} y k g) =
+  below-one (s.below {lowest = b} x i h f) (s.below {lowest = d} y j k g) =
       (ap (λ (p : Piece). p .address) (gives-one format x y .1), first-one (λ (a : ℕ). (k : ℕ) × GivesTo format ls k a) b d f g)
 
   twice-one : OneOnly (Twice format load ls n)
@@ -61,16 +61,18 @@ module _ (format load : ℕ) (ls : List (List ℕ)) (n : ℕ) where
   fault-line-decides = tries-one _ _ _ (λ a b h k. refl) (tries-one _ _ _ (λ a b h k. refl) line-decides)
 
 module _ (format load : ℕ) (text : List ℕ) where
-  not-both : {ps : List Piece} {i : ℕ} → r.Good format load text ps → r.GoesOn format load text i → (r.GoesOn format load text (suc i) → ⊥) → ⊥
+  -- a good file is told no line
+  pub not-both : {ps : List Piece} {i : ℕ} {X : Type 0} → r.Good format load text ps → r.GoesOn format load text i
+      → (r.GoesOn format load text (suc i) → ⊥) → X
   not-both g on never =
       let e = fault-decides format load text _ _ (r.none g) (r.at on never) in
       let z : _≡_ {A = ℕ} 0 1 = ap (λ (f : DkFault). f .fault) e in
-      omega arith
+      absurd (omega arith)
 
   pub reason-decides : OneOnly (ReasonSays format load text)
   reason-decides y z (s.good g) (s.good h) = refl
-  reason-decides y z (s.good g) (s.bad on never x t) = absurd (not-both g on never)
-  reason-decides y z (s.bad on never x t) (s.good g) = absurd (not-both g on never)
+  reason-decides y z (s.good g) (s.bad on never x t) = not-both g on never
+  reason-decides y z (s.bad on never x t) (s.good g) = not-both g on never
   reason-decides y z (s.bad {n = n} {ls} on never x t) (s.bad {n = m} {ls = ms} on′ never′ x′ t′) =
       let same : m ≡ n = ap (λ (f : DkFault). f .line) (fault-decides format load text _ _ (r.at on′ never′) (r.at on never)) in
       fault-line-decides format load ls n y z t (rw (same, lines-one x′ x) at t′)
