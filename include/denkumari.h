@@ -30,8 +30,8 @@
  * dk_build_paged    sentences `says_profile/Paged.PagedSays`; `says_profile/Meets.paged-meets`, `says_profile/Decides.paged-decides`. After a yes the ordinary
  *                   build: `says_profile/Meets.paged-is-build`
  * dk_form_paged     sentences `says_form_paged/FormPaged.FormPagedSays`; `says_form_paged/Meets.form-paged-meets`, `says_form_paged/Decides.form-paged-decides`
- * dk_map            by its contract: `denkumari/Maps.MapTold`. Refused as the build is but for 14: `build_map/AsBuilt.refused-exactly-as-built`; the node:
- *                   `build_map/AsBuilt.fault-is-where-refused`; elements past what is shown: `build_map/Entries.past-entries-kept`
+ * dk_map            sentences `says_map/Map.MapSays`; `says_map/Meets.map-meets`, `says_map/Decides.map-decides`. Refused as the build is but for 14:
+ *                   `build_map/AsBuilt.refused-exactly-as-built`; the node at fault: `build_map/AsBuilt.fault-is-where-refused`
  * dk_to_form2       sentences `says_convert/Convert.ConvertSays`; `says_convert/Meets.to-form2-meets`, `says_convert/Decides.to-form2-decides`. There and
  *                   back: `says_convert/Trips.form-1-and-back`; the same build: `says_convert/SameBuild.other-banks-same-build`,
  *                   `says_convert/SameBuild.one-bank-same-build`
@@ -52,7 +52,8 @@
  * dk_read_records   sentences `says_records/Read.ReadSays`; `says_records/ReadMeets.read-meets`, `says_records/ReadDecides.read-decides`. Records in any order:
  *                   `says_records/Calls.any-order`; LF or CR LF: `says_records/Calls.either-end`
  * dk_record_fault   sentences `says_records/Read.FaultSays`; `says_records/FaultMeets.fault-meets`, `says_records/FaultDecides.fault-decides`
- * dk_record_reason  by its contract: `denkumari/Reasons.ReasonTold`
+ * dk_record_reason  sentences `says_reason/Reason.ReasonSays`; `says_reason/Meets.reason-meets`, `says_reason/Decides.reason-decides`. A reason exactly where
+ *                   dk_read_records refuses 4: `says_reason/Calls.reason-exactly`; dk_record_fault's line: `says_reason/Calls.same-line`
  */
 #ifndef DENKUMARI_H
 #define DENKUMARI_H
