@@ -7,14 +7,16 @@ use bankdef::Bankdef;
 use bankdef::Bankdefs;
 use build_sights::is_span;
 use build_sights::is_written;
-use build_sights::see_node;
 pub use checks::closes_default;
 use iter::Moved;
 use iter::Node;
 use iter::Walk;
 use iter::bank_after;
+use iter::get_output_position;
 use iter::lost_after;
+use iter::pace;
 use iter::start;
+use iter::why_refused;
 use lists::node_at;
 use overlap_checker::Offered;
 use refusal::LABEL;
@@ -39,6 +41,9 @@ ghost use Rattle.build_sights.specs.Visits.{programOf, rowOf};
 ghost use Rattle.build_plan.specs.Placing.{isPlaced, offerAt, answered, verdictSeen};
 ghost use Rattle.build_plan.specs.Plan.{maxEnd, planRefused, planAccepted, planOf};
 ghost use Rattle.build_plan.specs.Steps.{Goes};
+
+// A step that is made: `Paced`'s number of no refusal.
+const MADE: u8 = 0;
 
 // The offer of a node that is placed: a label makes none, and neither does what stands nowhere in the output.
 fn offer_node(
@@ -293,15 +298,19 @@ fn plan_walk(
     while i < kinds.len() {
         let node = node_at(kinds, operands, first, numbers, states, i);
         let bank = bank_after(walk.bank, node);
-        let sight = see_node(banks.defs[bank as usize], walk.at[bank as usize], node);
-        let seen = sight.seen;
-        let out = sight.out;
+        let def = banks.defs[bank as usize];
+        let step = pace(def, walk.at[bank as usize], node);
+        if step.fault != MADE {
+            return stopped(why_refused(step.fault, node.index), walk);
+        }
+        let now = step.seen;
+        let out = get_output_position(def, now.position);
         stored = place(
             closed,
             bank,
-            banks.defs[bank as usize],
+            def,
             node,
-            seen,
+            Moved::To(now),
             out,
             &mut positions,
             &mut sizes,
@@ -314,9 +323,9 @@ fn plan_walk(
             return stopped(why, walk);
         }
         sums = sums_after(node, out, sums);
-        let after = sight.after;
+        let after = step.after;
         walk.at[bank as usize] = after;
-        walk.lost[bank as usize] = lost_after(walk.lost[bank as usize], sight.bits);
+        walk.lost[bank as usize] = lost_after(walk.lost[bank as usize], step.bits);
         walk.bank = bank;
         i += 1;
     }

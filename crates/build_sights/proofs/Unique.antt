@@ -7,8 +7,6 @@ use Rattle.build_sights.proofs.is_written.Kinds as is-written-kinds
 use Rattle.build_sights.proofs.is_written.Reads as is-written-reads
 use Rattle.build_sights.proofs.is_span.Kinds as is-span-kinds
 use Rattle.build_sights.proofs.is_span.Reads as is-span-reads
-use Rattle.build_sights.proofs.see_node.Kinds as see-node-kinds
-use Rattle.build_sights.proofs.see_node.Reads as see-node-reads
 use Rattle.build_sights.proofs.size_of.Kinds as size-of-kinds
 use Rattle.build_sights.proofs.size_of.Reads as size-of-reads
 
@@ -23,6 +21,3 @@ is-span-unique κs a x y e f p q = determined p q
 
 pub size-of-unique : OneOutcome 0 size-of-kinds.ps size-of-kinds.r size-of-reads.Learnt
 size-of-unique κs a x y e f p q = determined (p .0) (q .0)
-
-pub see-node-unique : OneOutcome 0 see-node-kinds.ps see-node-kinds.r see-node-reads.Learnt
-see-node-unique κs a x y e f p q = determined (p .0) (q .0)

@@ -5,7 +5,6 @@ use lib.ListN.{length}
 use Rattle.bankdef.specs.declared.Bankdef.{Bankdef}
 use Rattle.bankdef.specs.declared.Bankdefs.{Bankdefs}
 use Rattle.iter.specs.Address.{outputPosition}
-use Rattle.iter.specs.Crossing.{crossingOf}
 use Rattle.iter.specs.Step.{origin, bankAfter}
 use Rattle.iter.specs.declared.Node.{Node}
 use Rattle.iter.specs.declared.Pos.{Pos}
@@ -14,7 +13,6 @@ use Rattle.iter.specs.declared.Moved.{Moved}
 use Rattle.iter.specs.declared.Moved.the-variants.{To, Refused as Stopped}
 use Rattle.lists.specs.Lists.{Row}
 use Rattle.resolver.specs.Once.{Program, node, bankOf, stepAt, walkTo}
-use Rattle.build_sights.specs.declared.Sight.{Sight}
 use Rattle.build_sights.specs.declared.Visit.{Visit}
 
 -- what lists of nodes say of them, with the numbers of the first row; and a row
@@ -31,17 +29,6 @@ seenPos (Stopped why) = origin
 
 abbrev pub positionOf : Visit → ℕ
 positionOf v = seenPos (v .seen) .position
-
--- what a node shows in its bank alone, whose position is `at`: the position that it sees, "offset plus position", the bits that it loses, and the bank's
--- position after it
-abbrev pub sightOf : Bankdef → Pos → Node → Sight
-sightOf def at n =
-    record {
-      seen = crossingOf def at n .seen;
-      out = outputPosition def (seenPos (crossingOf def at n .seen) .position);
-      bits = crossingOf def at n .skipped .bits;
-      after = crossingOf def at n .after;
-    }
 
 -- node i, met by a walk: the bank that it stands in, the position that it sees, "offset plus position", and the walk after it
 abbrev pub visitOf : Program → Row → Walk → ℕ → Visit

@@ -3,7 +3,6 @@ use bankdef::Bankdef;
 use bankdef::Bankdefs;
 use iter::Moved;
 use iter::Node;
-use iter::Pos;
 use iter::Walk;
 use refusal::INSTRUCTION;
 use refusal::LABEL;
@@ -16,7 +15,7 @@ ghost use Rattle.refusal.specs.declared.Offset.the-variants.{At as Out};
 ghost use Rattle.iter.specs.Address.{outputPosition};
 ghost use Rattle.build_sights.specs.Items.{isWritten};
 ghost use Rattle.build_sights.specs.Spans.{isSpan, sizeOf};
-ghost use Rattle.build_sights.specs.Visits.{programOf, rowOf, seenPos, sightOf, visitOf};
+ghost use Rattle.build_sights.specs.Visits.{programOf, rowOf, seenPos, visitOf};
 
 // A node, the bank that it stands in, the position that it sees, where that is in the output, and the walk after it.
 pub struct Visit {
@@ -36,33 +35,6 @@ fn out_of(def: Bankdef, seen: Moved) -> Offset
     match seen {
         Moved::To(at) => iter::get_output_position(def, at.position),
         Moved::Refused(_) => iter::get_output_position(def, 0),
-    }
-}
-
-// What a node shows in its bank alone: the position that it sees, where that is in the output, the bits that it loses there, and the bank's
-// position afterwards.
-pub struct Sight {
-    pub seen: Moved,
-    pub out: Offset,
-    pub bits: u32,
-    pub after: Pos,
-}
-
-// A node seen in the bank that it stands in, whose position is `at`.
-pub fn see_node(def: Bankdef, at: Pos, node: Node) -> Sight
-    ensures { λ r. ⌜ r ≡ sightOf def at node ⌝ }
-    ensures { λ r. ⌜ ((o : ℕ) → r .out ≡ Out o → o ≤ maxOffer) ⌝ }
-{
-    let crossing = iter::cross(def, at, node);
-    let seen = crossing.seen;
-    let skipped = crossing.skipped;
-    let out = out_of(def, seen);
-    let after = crossing.after;
-    Sight {
-        seen,
-        out,
-        bits: skipped.bits,
-        after,
     }
 }
 

@@ -6,13 +6,14 @@ use bankdef::Bankdef;
 use bankdef::Bankdefs;
 use build_sights::is_span;
 use build_sights::is_written;
-use build_sights::see_node;
 use build_sights::size_of;
 use iter::Address;
-use iter::Moved;
 use iter::Node;
+use iter::Walk;
 use iter::bank_after;
+use iter::get_output_position;
 use iter::lost_after;
+use iter::pace;
 use iter::start;
 use lists::node_at;
 use refusal::Offset;
@@ -24,10 +25,12 @@ ghost use Rattle.refusal.specs.Pick.{pick};
 ghost use Rattle.bankdef.specs.Check.{banksOf};
 ghost use Rattle.blocks.specs.Offsets.{wordOf};
 ghost use Rattle.iter.specs.Address.{addressOf};
+ghost use Rattle.iter.specs.Step.{startOf};
+ghost use Rattle.resolver.specs.Once.{walkTo};
 ghost use Rattle.resolver.specs.Switches.{Switches};
 ghost use Rattle.build_sights.specs.Items.{itemAt, itemsOf, imageOf};
 ghost use Rattle.build_sights.specs.Spans.{isSpan, sizeOf, addressTold, spansOf, over, addresses as addressesOf, words as wordsOf, sizes as sizesOf};
-ghost use Rattle.build_sights.specs.Visits.{programOf, rowOf, seenPos, visits};
+ghost use Rattle.build_sights.specs.Visits.{programOf, rowOf, visits};
 ghost use Rattle.build_write.specs.Blank.{blankOf};
 ghost use Rattle.build_write.specs.Writes.{Fit, HasRoom};
 
@@ -47,22 +50,12 @@ fn write_item(node: Node, out: Offset, values: &[u8], image: &mut [u8])
     }
 }
 
-// The position that a node sees, in bits.
-fn position_of(seen: Moved) -> u32
-    ensures { λ r. ⌜ r ≡ seenPos seen .position ⌝ }
-{
-    match seen {
-        Moved::To(at) => at.position,
-        Moved::Refused(_) => 0,
-    }
-}
-
 // The address of the position that a node sees, in whole units. A sound table has one for every bank, and an accepted walk one
 // for every node.
-fn address_of(def: Bankdef, seen: Moved, index: u64) -> i64
-    ensures { λ r. ⌜ r ≡ addressTold (addressOf def (seenPos seen .position) index) ⌝ }
+fn address_of(def: Bankdef, position: u32, index: u64) -> i64
+    ensures { λ r. ⌜ r ≡ addressTold (addressOf def position index) ⌝ }
 {
-    match iter::get_address(def, position_of(seen), index) {
+    match iter::get_address(def, position, index) {
         Address::At(address) => address,
         Address::Refused(_) => 0,
     }
@@ -72,7 +65,7 @@ fn address_of(def: Bankdef, seen: Moved, index: u64) -> i64
 fn put_span(
     node: Node,
     def: Bankdef,
-    seen: Moved,
+    position: u32,
     out: Offset,
     count: usize,
     addresses: &mut [i64],
@@ -83,7 +76,7 @@ fn put_span(
     ensures count { λ r. ⌜ r ≡ pick (isSpan node) (count + 1) count ⌝ }
     ensures addresses { λ r. ⌜
         now (addresses .exit) ≡ pick (isSpan node)
-        (set (now (addresses .entry)) count (addressTold (addressOf def (seenPos seen .position) (node .index)))) (now (addresses .entry))
+        (set (now (addresses .entry)) count (addressTold (addressOf def position (node .index)))) (now (addresses .entry))
         ⌝ }
     ensures offsets { λ r. ⌜ now (offsets .exit) ≡ pick (isSpan node) (set (now (offsets .entry)) count (wordOf out)) (now (offsets .entry)) ⌝ }
     ensures sizes { λ r. ⌜ now (sizes .exit) ≡ pick (isSpan node) (set (now (sizes .entry)) count (sizeOf node)) (now (sizes .entry)) ⌝ }
@@ -91,10 +84,88 @@ fn put_span(
     if !is_span(node) {
         return count;
     }
-    addresses[count] = address_of(def, seen, node.index);
+    addresses[count] = address_of(def, position, node.index);
     offsets[count] = blocks::word_of(out);
     sizes[count] = size_of(node);
     count + 1
+}
+
+// The walk over a row that writes, each written item's bits into the image and the spans into their lists, in node order. "bank positions, an array of 16 in
+// the walk's state": the walk comes by value, each step is stored into it, and it goes back as the row leaves it. The first walk has met every refusal: a
+// position that is seen is all that is asked of a step.
+fn write_walk(
+    banks: Bankdefs,
+    kinds: &[u8],
+    operands: &[u32],
+    first: &[u32],
+    numbers: &[u32],
+    states: &[u8],
+    begun: Walk,
+    values: &[u8],
+    image: &mut [u8],
+    addresses: &mut [i64],
+    offsets: &mut [u64],
+    sizes: &mut [u64],
+) -> Walk
+    requires { ⌜ Switches (banks .len) (now kinds) (now operands) ⌝ }
+    requires { ⌜
+        HasRoom (visits (programOf banks (now kinds) (now operands) (now first)) (rowOf (now numbers) (now states))) (length (now values))
+        (length (now image)) (length (now addresses)) (length (now offsets)) (length (now sizes))
+        ⌝ }
+    requires { ⌜ begun ≡ startOf ⌝ }
+    ensures walk { λ r. ⌜
+        r ≡ walkTo (programOf banks (now (kinds .entry)) (now (operands .entry)) (now (first .entry)))
+        (rowOf (now (numbers .entry)) (now (states .entry))) (length (now (kinds .entry)))
+        ⌝ }
+    ensures image { λ r. ⌜
+        now (image .exit) ≡ imageOf (now (values .entry)) (now (image .entry))
+        (itemsOf (visits (programOf banks (now (kinds .entry)) (now (operands .entry)) (now (first .entry)))
+        (rowOf (now (numbers .entry)) (now (states .entry)))))
+        ⌝ }
+    ensures addresses { λ r. ⌜
+        now (addresses .exit) ≡ over (addressesOf (spansOf (visits (programOf banks (now (kinds .entry)) (now (operands .entry)) (now (first .entry)))
+        (rowOf (now (numbers .entry)) (now (states .entry))))))
+        (now (addresses .entry))
+        ⌝ }
+    ensures offsets { λ r. ⌜
+        now (offsets .exit) ≡ over (wordsOf (spansOf (visits (programOf banks (now (kinds .entry)) (now (operands .entry)) (now (first .entry)))
+        (rowOf (now (numbers .entry)) (now (states .entry))))))
+        (now (offsets .entry))
+        ⌝ }
+    ensures sizes { λ r. ⌜
+        now (sizes .exit) ≡ over (sizesOf (spansOf (visits (programOf banks (now (kinds .entry)) (now (operands .entry)) (now (first .entry)))
+        (rowOf (now (numbers .entry)) (now (states .entry))))))
+        (now (sizes .entry))
+        ⌝ }
+{
+    let mut walk = begun;
+    let mut count = 0;
+    let mut i = 0;
+    while i < kinds.len() {
+        let node = node_at(kinds, operands, first, numbers, states, i);
+        let bank = bank_after(walk.bank, node);
+        let def = banks.defs[bank as usize];
+        let step = pace(def, walk.at[bank as usize], node);
+        let now = step.seen;
+        let out = get_output_position(def, now.position);
+        write_item(node, out, values, image);
+        count = put_span(
+            node,
+            def,
+            now.position,
+            out,
+            count,
+            addresses,
+            offsets,
+            sizes,
+        );
+        let after = step.after;
+        walk.at[bank as usize] = after;
+        walk.lost[bank as usize] = lost_after(walk.lost[bank as usize], step.bits);
+        walk.bank = bank;
+        i += 1;
+    }
+    walk
 }
 
 // What a row leaves in everything lent: the image, the blank one and each written item's bits in it; and the spans, in node order, where the lists keep
@@ -140,23 +211,18 @@ pub fn write_row(
         ⌝ }
 {
     lay_blank(banks, bits, image);
-    // "bank positions, an array of 16 in the walk's state": each step is stored into the walk, which begins at the start
-    let mut walk = start();
-    let mut count = 0;
-    let mut i = 0;
-    while i < kinds.len() {
-        let node = node_at(kinds, operands, first, numbers, states, i);
-        let bank = bank_after(walk.bank, node);
-        let def = banks.defs[bank as usize];
-        let sight = see_node(def, walk.at[bank as usize], node);
-        let seen = sight.seen;
-        let out = sight.out;
-        write_item(node, out, values, image);
-        count = put_span(node, def, seen, out, count, addresses, offsets, sizes);
-        let after = sight.after;
-        walk.at[bank as usize] = after;
-        walk.lost[bank as usize] = lost_after(walk.lost[bank as usize], sight.bits);
-        walk.bank = bank;
-        i += 1;
-    }
+    write_walk(
+        banks,
+        kinds,
+        operands,
+        first,
+        numbers,
+        states,
+        start(),
+        values,
+        image,
+        addresses,
+        offsets,
+        sizes,
+    );
 }

@@ -36,6 +36,10 @@ use Rattle.iter.specs.declared.Pos.{Pos}
 use Rattle.iter.specs.declared.Skipped.{Skipped}
 use Rattle.iter.proofs.Advanced.{sight-plain, sight-unaligned, sight-aligned, advance-still, advance-aligned}
 
+-- a node of kind 0 or 1 is no symbol
+pub early-plain : (node : Node) → node .kind < 2 → outermostSymbol node ≡ false
+early-plain node h = rw (ne-eqb (node .kind) 2 (λ e. omega arith), ne-eqb (node .kind) 3 (λ e. omega arith))
+
 none-skips : (def : Bankdef) → skipsOf def 0 ≡ noSkip
 none-skips def = ap (λ (u : ℕ). record { bits = 0; units = u }) (zero-div (def .unit))
 

@@ -24,8 +24,6 @@ use Rattle.iter.proofs.paces.why_refused.Kinds as why-refused-kinds
 use Rattle.iter.proofs.paces.why_refused.Reads as why-refused-reads
 use Rattle.iter.proofs.steps.lost_after.Kinds as lost-after-kinds
 use Rattle.iter.proofs.steps.lost_after.Reads as lost-after-reads
-use Rattle.iter.proofs.steps.seen.Kinds as seen-kinds
-use Rattle.iter.proofs.steps.seen.Reads as seen-reads
 use Rattle.iter.proofs.steps.start.Kinds as start-kinds
 use Rattle.iter.proofs.steps.start.Reads as start-reads
 use Rattle.iter.proofs.steps.step.Kinds as step-kinds
@@ -63,9 +61,6 @@ why-refused-unique κs a x y e f p q = determined p q
 
 pub lost-after-unique : OneOutcome 0 lost-after-kinds.ps lost-after-kinds.r lost-after-reads.Learnt
 lost-after-unique κs a x y e f p q = determined p q
-
-pub seen-unique : OneOutcome 0 seen-kinds.ps seen-kinds.r seen-reads.Learnt
-seen-unique κs a x y e f p q = determined (p .0) (q .0)
 
 pub start-unique : OneOutcome 0 start-kinds.ps start-kinds.r start-reads.Learnt
 start-unique κs a x y e f p q = determined p q

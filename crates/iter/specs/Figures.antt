@@ -125,11 +125,7 @@ pub data OwnSkips (def : Bankdef) (at : Pos) (node : Node) : Moved → Skipped �
   other : {m : Moved} → (node .kind ≡ 8 → ⊥) → OwnSkips def at node m noSkip
   aligns : {m : Moved} {s : Skipped} → node .kind ≡ 8 → Skipping def at (node .number) (node .index) m s → OwnSkips def at node m s
 
--- The figures of `seen` and of `advance`: of the position, and of what is skipped.
-pub record SightTold (def : Bankdef) (at : Pos) (node : Node) (r : Motion) : Type 0 where
-  pub sees : Sees def at node (toldMoved (r .to))
-  pub skips : SightSkips def at node (r .to) (r .skipped)
-
+-- The figures of `advance_address`: of the position, and of what is skipped.
 pub record AdvanceTold (def : Bankdef) (at : Pos) (node : Node) (r : Motion) : Type 0 where
   pub moves : Advances def at node (toldMoved (r .to))
   pub skips : OwnSkips def at node (r .to) (r .skipped)

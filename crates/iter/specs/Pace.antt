@@ -70,3 +70,7 @@ addedBy at bits known lost = pick (leb (at .position + bits) maxPosition) (madeB
 -- "a symbol (label or constant) of depth 0 in a bank with label alignment is aligned first": the node sees the position after it
 abbrev pub alignedBy : Pos → ℕ → Paced
 alignedBy at bits = pick (leb (at .position + bits) maxPosition) (madeBy (onward at bits (at .known)) (onward at bits (at .known)) bits) (haltedBy at 5)
+
+-- a node that sees its bank's position wherever it is, leaves it so and skips nothing
+abbrev pub Still : Bankdef → Node → Type 0
+Still def node = (at : Pos) → Paces def at node (madeBy at at 0)

@@ -16,7 +16,6 @@ use refusal::Refusal;
 pub use steps::advance_address;
 pub use steps::bank_after;
 pub use steps::lost_after;
-pub use steps::seen;
 pub use steps::start;
 pub use steps::step;
 

@@ -10,7 +10,6 @@ use crate::Walk;
 use crate::alignment::bits_until_alignment;
 use crate::paces::cross;
 use crate::paces::is_bad_state;
-use crate::paces::is_outermost_symbol;
 use crate::paces::stays_known;
 use bankdef::Bankdef;
 use refusal::ADDR;
@@ -19,7 +18,6 @@ use refusal::ASSERT;
 use refusal::CONSTANT;
 use refusal::INSTRUCTION;
 use refusal::NOTHING;
-use refusal::Opt;
 use refusal::RESERVE;
 use refusal::RESOLVED;
 use refusal::Refusal;
@@ -28,8 +26,8 @@ ghost use mathlib.Core.Path.{_≡_};
 ghost use Prim.Native.Nat.{_<_};
 ghost use Rattle.refusal.specs.Limits.{maxBanks};
 ghost use Rattle.iter.specs.Step.{movedBy, startOf, bankAfter};
-ghost use Rattle.iter.specs.Step.{still, motionOf, alignedMotion, seenMotion, advanceMotion, lostAfter, kept, stopped, stepOf};
-ghost use Rattle.iter.specs.Figures.{SightTold, AdvanceTold};
+ghost use Rattle.iter.specs.Step.{still, motionOf, alignedMotion, advanceMotion, lostAfter, kept, stopped, stepOf};
+ghost use Rattle.iter.specs.Figures.{AdvanceTold};
 ghost use Rattle.iter.specs.StepFigures.{StepTold};
 
 // A sum of bits stops here: it is the largest number of 64 bits.
@@ -106,22 +104,6 @@ pub fn bank_after(bank: u64, node: Node) -> u64
         node.operand as u64
     } else {
         bank
-    }
-}
-
-// The position that a node sees, and what is skipped. In a bank with label alignment a symbol of depth 0, label or constant, is
-// aligned first.
-pub fn seen(def: Bankdef, at: Pos, node: Node) -> Motion
-    ensures { λ r. ⌜ r ≡ seenMotion def at node ⌝ }
-    ensures told { λ r. ⌜ SightTold def at node r ⌝ }
-{
-    if !is_outermost_symbol(node) {
-        return unskipped(Moved::To(at));
-    }
-    let align = def.align;
-    match align {
-        Opt::Some(a) => aligned_to(def, at, a, at.known, node.index),
-        Opt::None => unskipped(Moved::To(at)),
     }
 }
 

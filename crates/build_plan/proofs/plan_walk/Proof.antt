@@ -4,6 +4,8 @@ use Prim.Native.Nat.{ℕ, _+_, _-_, _≤_, _<_}
 use native.Mathlib.Omega.{arith}
 use lib.ListN.{length, length-map, set}
 use borrow.Author.Needs.{needs}
+use borrow.Author.Tests.{eq-eqb, ne-eqb}
+use Rattle.refusal.specs.Laws.Pick.{pick-true, pick-false}
 use Rattle.refusal.specs.Limits.{maxNodes}
 use Rattle.refusal.specs.declared.Refusal.{Refusal}
 use Rattle.refusal.specs.declared.Verdict.the-variants.{Accepted, Refused}
@@ -11,8 +13,9 @@ use Rattle.lists.specs.Lists.{Row}
 use Rattle.resolver.specs.Once.{Program}
 use Rattle.resolver.specs.Walking.{Walks}
 use Rattle.overlap_checker.specs.Lent.{lent as store}
-use Rattle.build_sights.specs.Theorems.Sights.{bank-listed, sight-is-visit, sight-next}
+use Rattle.build_sights.specs.Theorems.Sights.{bank-listed, paced-is-visit, paced-next}
 use Rattle.build_sights.specs.Visits.{programOf, rowOf}
+use Rattle.build_plan.specs.Plan.{planRefused}
 use Rattle.build_plan.specs.declared.Plan.{Plan}
 use Rattle.build_plan.proofs.PlanLaws.{Going, begins, settles, goes-on, ends, ended}
 use Rattle.build_plan.proofs.plan_walk.Statement.{statement}
@@ -37,8 +40,8 @@ Head = tie.At-loop Inv-loop μ-loop
 abbrev Banked : Type 0
 Banked = tie.After-bank-after Inv-loop μ-loop
 
-abbrev Sighted : Type 0
-Sighted = tie.After-see-node Inv-loop μ-loop
+abbrev Paced : Type 0
+Paced = tie.After-pace Inv-loop μ-loop
 
 abbrev Offering : Type 0
 Offering = tie.After-place Inv-loop μ-loop
@@ -49,11 +52,11 @@ entry c = c .before .before .before .before .before .before .before .before
 abbrev head : Banked → Head
 head c = c .before .before .before
 
-abbrev banked : Sighted → Banked
+abbrev banked : Paced → Banked
 banked c = c .before .before .before
 
-abbrev sighted : Offering → Sighted
-sighted c = c .before .before .before .before .before
+abbrev paced : Offering → Paced
+paced c = c .before .before .before .before .before .before .before .before
 
 -- what the walk is given
 abbrev given : Head → Program
@@ -77,21 +80,21 @@ few c = entry c .pre .0 .1
 
 -- the walk after node i, with its step stored
 next : (c : tie.After-lost-after Inv-loop μ-loop) →
-    let g = sighted (c .before .before .before .before .before .before) in
+    let g = paced (c .before .before .before .before .before .before) in
     let b = banked g in
     let h = head b in
     Walks (given h) (row h) (h .loop .i + 1) (record {
-      at = set (h .loop .walk .at) (b .bank-after .result) (g .see-node .result .after);
+      at = set (h .loop .walk .at) (b .bank-after .result) (g .pace .result .after);
       lost = set (h .loop .walk .lost) (b .bank-after .result) (c .lost-after .result);
       bank = b .bank-after .result;
     })
 next c =
-    let g = sighted (c .before .before .before .before .before .before) in
+    let g = paced (c .before .before .before .before .before .before) in
     let b = banked g in
     let h = head b in
     rw (c .lost-after .ensures)
-    (sight-next (given h) (entry h .pre .1 .0) (room h) (row h) (h .loop .i) (h .loop .inv .walks) (b .before .node-at .ensures) (b .bank-after .ensures)
-    _ _ _ refl (g .see-node .ensures .0))
+    (paced-next (given h) (entry h .pre .1 .0) (room h) (row h) (h .loop .i) (h .loop .inv .walks) (b .before .node-at .ensures) (b .bank-after .ensures)
+    _ _ _ refl (g .pace .ensures))
 
 never-accepted : {why : Refusal} → Refused why ≡ Accepted → ⊥
 never-accepted e = let z : _≡_ {A = ℕ} 0 1 = cc in omega arith
@@ -114,50 +117,70 @@ node-at-requires c κs = search needs
 bank-after-requires : tie.Need-bank-after-requires Inv-loop μ-loop
 bank-after-requires c κs = search needs
 
-mul-see-node : tie.Need-mul-see-node Inv-loop μ-loop
-mul-see-node c = omega (arith, listed c)
+mul-def : tie.Need-mul-def Inv-loop μ-loop
+mul-def c = omega (arith, listed c)
 
-element-copy-out-see-node : tie.Need-element-copy-out-see-node Inv-loop μ-loop
-element-copy-out-see-node c = omega (arith, listed c, room (head c))
+element-copy-out-def : tie.Need-element-copy-out-def Inv-loop μ-loop
+element-copy-out-def c = omega (arith, listed c, room (head c))
 
-mul-see-node-2 : tie.Need-mul-see-node-2 Inv-loop μ-loop
-mul-see-node-2 c = omega (arith, listed (c .before))
+mul-pace : tie.Need-mul-pace Inv-loop μ-loop
+mul-pace c = omega (arith, listed (c .before))
 
-element-copy-out-see-node-2 : tie.Need-element-copy-out-see-node-2 Inv-loop μ-loop
-element-copy-out-see-node-2 c = omega (arith, listed (c .before), head (c .before) .loop .inv .walks .sixteen)
+element-copy-out-pace : tie.Need-element-copy-out-pace Inv-loop μ-loop
+element-copy-out-pace c = omega (arith, listed (c .before), head (c .before) .loop .inv .walks .sixteen)
 
-see-node-requires : tie.Need-see-node-requires Inv-loop μ-loop
-see-node-requires c κs = search needs
+pace-requires : tie.Need-pace-requires Inv-loop μ-loop
+pace-requires c κs = search needs
 
-mul-place : tie.Need-mul-place Inv-loop μ-loop
-mul-place c = omega (arith, listed (banked c))
-
-element-copy-out-place : tie.Need-element-copy-out-place Inv-loop μ-loop
-element-copy-out-place c = omega (arith, listed (banked c), room (head (banked c)))
-
-place-requires : tie.Need-place-requires Inv-loop μ-loop
-place-requires c κs = (head (banked (c .before .before .before .before)) .loop .inv .sound, c .before .before .before .before .see-node .ensures .1)
-
-enum-known-verdict : tie.Need-enum-known-verdict Inv-loop μ-loop
-enum-known-verdict c = search needs
+why-refused-requires : tie.Need-why-refused-requires Inv-loop μ-loop
+why-refused-requires c κs = search needs
 
 stopped-requires : tie.Need-stopped-requires Inv-loop μ-loop
 stopped-requires c κs = search needs
 
+-- a node that the walk stops at
 returns : tie.Need-returns Inv-loop μ-loop
 returns c =
-    let o = c .before .before .before .before in
-    let g = sighted o in
+    let g = c .before .before .before .before in
     let b = banked g in
     let h = head b in
     let v =
-    sight-is-visit (given h) (entry h .pre .1 .0) (room h) (row h) (h .loop .i) (h .loop .inv .walks) (b .before .node-at .ensures) (b .bank-after .ensures)
-    _ _ _ refl (g .see-node .ensures .0) in
-    let why = c .before .before .verdict .given in (
+    paced-is-visit (given h) (entry h .pre .1 .0) (room h) (row h) (h .loop .i) (h .loop .inv .walks) (b .before .node-at .ensures) (b .bank-after .ensures)
+    _ _ _ refl (g .pace .ensures) refl (pick-false _ _ (ne-eqb (g .pace .result .fault) 0 (c .before .before .if1 .taken))) in (
       c .stopped .ensures
+          ∙ ap planRefused (c .before .why-refused .ensures)
+          ∙ settles (given h) (row h) (entry h .args .closed) (entry h .args .fill) (h .loop .i) (h .loop .inv) _ v refl
+          _ (b .before .before .loop-test .taken) refl,
+      (rw (c .stopped .ensures) (omega arith), λ e. absurd (never-accepted (sym (ap (λ (x : Plan). x .verdict) (c .stopped .ensures)) ∙ e))),
+    )
+
+get-output-position-requires : tie.Need-get-output-position-requires Inv-loop μ-loop
+get-output-position-requires c κs = search needs
+
+place-requires : tie.Need-place-requires Inv-loop μ-loop
+place-requires c κs = (head (banked (c .before .before .before .before .before .before .before)) .loop .inv .sound, c .before .before .before .get-output-position .ensures .1)
+
+enum-known-verdict : tie.Need-enum-known-verdict Inv-loop μ-loop
+enum-known-verdict c = search needs
+
+stopped-requires-2 : tie.Need-stopped-requires-2 Inv-loop μ-loop
+stopped-requires-2 c κs = search needs
+
+returns-2 : tie.Need-returns-2 Inv-loop μ-loop
+returns-2 c =
+    let o = c .before .before .before .before in
+    let g = paced o in
+    let b = banked g in
+    let h = head b in
+    let v =
+    paced-is-visit (given h) (entry h .pre .1 .0) (room h) (row h) (h .loop .i) (h .loop .inv .walks) (b .before .node-at .ensures) (b .bank-after .ensures)
+    _ _ _ refl (g .pace .ensures) (o .before .before .before .before .get-output-position .ensures .0)
+    (pick-true _ _ (eq-eqb (g .pace .result .fault) 0 (o .before .before .before .before .before .before .if1 .left))) in
+    let why = c .before .before .verdict .given in (
+      c .stopped2 .ensures
           ∙ settles (given h) (row h) (entry h .args .closed) (entry h .args .fill) (h .loop .i) (h .loop .inv) _ v (o .place .ensures .0)
           (why .0 .0) (b .before .before .loop-test .taken) (why .1),
-      (rw (c .stopped .ensures) (omega arith), λ e. absurd (never-accepted (sym (ap (λ (x : Plan). x .verdict) (c .stopped .ensures)) ∙ e))),
+      (rw (c .stopped2 .ensures) (omega arith), λ e. absurd (never-accepted (sym (ap (λ (x : Plan). x .verdict) (c .stopped2 .ensures)) ∙ e))),
     )
 
 enum-told : tie.Need-enum-told Inv-loop μ-loop
@@ -165,46 +188,47 @@ enum-told c = search needs
 
 sums-after-requires : tie.Need-sums-after-requires Inv-loop μ-loop
 sums-after-requires c κs =
-    let g = sighted (c .before .before) in
-    let h = head (banked g) in
-    (g .see-node .ensures .1, (h .loop .inv .low, omega (arith, h .loop .inv .few, h .loop .inv .within, few h)))
+    let o = c .before .before in
+    let h = head (banked (paced o)) in
+    (o .before .before .before .before .get-output-position .ensures .1, (h .loop .inv .low, omega (arith, h .loop .inv .few, h .loop .inv .within, few h)))
 
 mul-after : tie.Need-mul-after Inv-loop μ-loop
-mul-after c = omega (arith, listed (banked (sighted (c .before .before .before .before))))
+mul-after c = omega (arith, listed (banked (paced (c .before .before .before .before))))
 
 element-set-from-after : tie.Need-element-set-from-after Inv-loop μ-loop
-element-set-from-after c = let b = banked (sighted (c .before .before .before .before)) in omega (arith, listed b, head b .loop .inv .walks .sixteen)
+element-set-from-after c = let b = banked (paced (c .before .before .before .before)) in omega (arith, listed b, head b .loop .inv .walks .sixteen)
 
 mul-lost-after : tie.Need-mul-lost-after Inv-loop μ-loop
-mul-lost-after c = omega (arith, listed (banked (sighted (c .before .before .before .before))))
+mul-lost-after c = omega (arith, listed (banked (paced (c .before .before .before .before))))
 
 element-copy-out-lost-after : tie.Need-element-copy-out-lost-after Inv-loop μ-loop
-element-copy-out-lost-after c = let b = banked (sighted (c .before .before .before .before)) in omega (arith, listed b, head b .loop .inv .walks .sums)
+element-copy-out-lost-after c = let b = banked (paced (c .before .before .before .before)) in omega (arith, listed b, head b .loop .inv .walks .sums)
 
 lost-after-requires : tie.Need-lost-after-requires Inv-loop μ-loop
 lost-after-requires c κs = search needs
 
 mul-walk : tie.Need-mul-walk Inv-loop μ-loop
-mul-walk c = omega (arith, listed (banked (sighted (c .before .before .before .before .before .before))))
+mul-walk c = omega (arith, listed (banked (paced (c .before .before .before .before .before .before))))
 
 element-write-walk : tie.Need-element-write-walk Inv-loop μ-loop
-element-write-walk c = let b = banked (sighted (c .before .before .before .before .before .before)) in omega (arith, listed b, head b .loop .inv .walks .sums)
+element-write-walk c = let b = banked (paced (c .before .before .before .before .before .before)) in omega (arith, listed b, head b .loop .inv .walks .sums)
 
 add-i : tie.Need-add-i Inv-loop μ-loop
-add-i c = let b = banked (sighted (c .before .before .before .before .before .before)) in omega (arith, b .before .before .loop-test .taken, few (head b))
+add-i c = let b = banked (paced (c .before .before .before .before .before .before)) in omega (arith, b .before .before .loop-test .taken, few (head b))
 
 loop-less : tie.Need-loop-less Inv-loop μ-loop
-loop-less c = let b = banked (sighted (c .before .before .before .before .before .before)) in omega (arith, b .before .before .loop-test .taken)
+loop-less c = let b = banked (paced (c .before .before .before .before .before .before)) in omega (arith, b .before .before .loop-test .taken)
 
 loop-again : tie.Need-loop-again Inv-loop μ-loop
 loop-again c =
     let o = c .before .before .before .before .before .before in
-    let g = sighted o in
+    let g = paced o in
     let b = banked g in
     let h = head b in
     let v =
-    sight-is-visit (given h) (entry h .pre .1 .0) (room h) (row h) (h .loop .i) (h .loop .inv .walks) (b .before .node-at .ensures) (b .bank-after .ensures)
-    _ _ _ refl (g .see-node .ensures .0) in
+    paced-is-visit (given h) (entry h .pre .1 .0) (room h) (row h) (h .loop .i) (h .loop .inv .walks) (b .before .node-at .ensures) (b .bank-after .ensures)
+    _ _ _ refl (g .pace .ensures) (o .before .before .before .before .get-output-position .ensures .0)
+    (pick-true _ _ (eq-eqb (g .pace .result .fault) 0 (o .before .before .before .before .before .before .if1 .left))) in
     let sums = c .before .before .before .sums-after .ensures in
     goes-on (given h) (row h) (entry h .args .closed) (entry h .args .fill) (h .loop .i) (h .loop .inv) _ v (o .place .ensures .0)
     (b .before .before .loop-test .taken) (c .before .before .before .before .enum-told .given .1) (next c) (o .place .ensures .1) (sums .0)
@@ -213,8 +237,8 @@ loop-again c =
 accepted-plan-requires : tie.Need-accepted-plan-requires Inv-loop μ-loop
 accepted-plan-requires c κs = search needs
 
-returns-2 : tie.Need-returns-2 Inv-loop μ-loop
-returns-2 c =
+returns-3 : tie.Need-returns-3 Inv-loop μ-loop
+returns-3 c =
     let h = c .before .before .before in (
       c .accepted-plan .ensures
           ∙ ends (given h) (row h) (entry h .args .closed) (entry h .args .fill) (h .loop .i) (h .loop .inv) (c .before .before .loop-test .left) (few h),
@@ -236,17 +260,19 @@ plan-walk-spec =
     loop-holds
     node-at-requires
     bank-after-requires
-    mul-see-node
-    element-copy-out-see-node
-    mul-see-node-2
-    element-copy-out-see-node-2
-    see-node-requires
-    mul-place
-    element-copy-out-place
-    place-requires
-    enum-known-verdict
+    mul-def
+    element-copy-out-def
+    mul-pace
+    element-copy-out-pace
+    pace-requires
+    why-refused-requires
     stopped-requires
     returns
+    get-output-position-requires
+    place-requires
+    enum-known-verdict
+    stopped-requires-2
+    returns-2
     enum-told
     sums-after-requires
     mul-after
@@ -260,4 +286,4 @@ plan-walk-spec =
     loop-less
     loop-again
     accepted-plan-requires
-    returns-2)
+    returns-3)

@@ -1,21 +1,11 @@
--- An address: what `get_address` tells at the position that the node sees.
-use mathlib.Core.Path.{_≡_, sym, ap, _∙_}
+-- An address: what `get_address` tells.
+use mathlib.Core.Path.{sym, ap, _∙_}
 use mir.Syntax.{w64}
 use mir.ValLaws.{toZ-ofZ}
-use Rattle.iter.specs.Address.{addressOf}
-use Rattle.build_sights.specs.Visits.{seenPos}
 use Rattle.build_sights.specs.Spans.{addressTold}
 use borrow.Author.Needs.{needs}
 use Rattle.build_write.proofs.address_of.Statement.{statement}
 use Rattle.build_write.proofs.address_of.Tie as tie
-
--- the address of that position
-found : (c : tie.After-get-address) → let a = c .before .before .args in
-    c .get-address .result ≡ addressOf (a .def) (seenPos (a .seen) .position) (a .index)
-found c = rw (← c .before .position-of .ensures) (c .get-address .ensures .0)
-
-position-of-requires : tie.Need-position-of-requires
-position-of-requires c κs = search needs
 
 get-address-requires : tie.Need-get-address-requires
 get-address-requires c κs = search needs
@@ -29,16 +19,15 @@ enum-told c = search needs
 returns : tie.Need-returns
 returns c =
     toZ-ofZ w64 (c .before .address .given .0 .0) (record { sfits = c .known-told .given .0 .1 })
-    ∙ ap addressTold (sym (c .before .address .given .1) ∙ found (c .before .before .before))
+    ∙ ap addressTold (sym (c .before .address .given .1) ∙ c .before .before .before .get-address .ensures .0)
 
 returns-2 : tie.Need-returns-2
-returns-2 c = ap addressTold (sym (c .enum-told .given .1) ∙ found (c .before .before))
+returns-2 c = ap addressTold (sym (c .enum-told .given .1) ∙ c .before .before .get-address .ensures .0)
 
 pub address-of-spec : {M : Type 1} → statement M
 address-of-spec =
     tie.close
     (tie.spec
-    position-of-requires
     get-address-requires
     enum-known-address
     enum-told

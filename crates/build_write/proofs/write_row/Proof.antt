@@ -1,303 +1,62 @@
--- `write_row` meets its contract. The loop's invariant is `Writing`: each node is written by a law of WritingSteps.
-use mathlib.Core.Path.{_≡_, refl, sym, ap, subst, _∙_}
+-- The blank image, then the walk that writes over it, begun at the start.
+use mathlib.Core.Path.{_≡_, ap, _∙_}
 use mathlib.Core.List.{List}
-use Prim.Native.Nat.{ℕ, _+_, _-_, _≤_, _<_}
-use native.Mathlib.Omega.{arith}
-use lib.ListN.{length, length-map, set}
+use Prim.Native.Nat.{ℕ}
+use lib.ListN.{length}
 use borrow.Author.Needs.{needs}
-use Rattle.bankdef.specs.Check.{banksOf}
-use Rattle.lists.specs.Lists.{Row}
-use Rattle.resolver.specs.Once.{Program}
-use Rattle.resolver.specs.Walking.{Walks}
-use Rattle.build_sights.specs.Theorems.Sights.{bank-listed, sight-is-visit, sight-next}
-use Rattle.build_sights.specs.Laws.Upto.{imageTo}
+use Rattle.build_sights.specs.Items.{imageOf, itemsOf}
 use Rattle.build_sights.specs.Visits.{programOf, rowOf, visits}
-use Rattle.build_write.specs.Blank.{blankOf}
 use Rattle.build_write.specs.Laws.Blank.{blank-length}
-use Rattle.build_write.specs.Writes.{HasRoom}
-use Rattle.build_write.proofs.WritingSteps.{Writing, begins, goes-on, ends, item-fits, spans-fit, same-image, same-first, same-second, same-third}
 use Rattle.build_write.proofs.write_row.Statement.{statement}
 use Rattle.build_write.proofs.write_row.Tie as tie
 
-abbrev Inv-loop : tie.InvT-loop
-Inv-loop kinds operands first numbers states values bits image₀ addresses₀ offsets₀ sizes₀ banks walk₀ count₀ i₀
-    image addresses offsets sizes walk count i =
-    Writing (programOf banks kinds operands first) (rowOf numbers states) values image₀ addresses₀ offsets₀ sizes₀ i walk count image addresses offsets sizes
-
-abbrev μ-loop : tie.MeasureT-loop
-μ-loop kinds operands first numbers states values bits image₀ addresses₀ offsets₀ sizes₀ banks walk₀ count₀ i₀
-    image addresses offsets sizes walk count i =
-    length kinds - i
-
--- ---- the places, each from the next
-
-abbrev Entry : Type 0
-Entry = tie.Start Inv-loop μ-loop
-
-abbrev Blanked : Type 0
-Blanked = tie.After-lay-blank Inv-loop μ-loop
-
-abbrev Head : Type 0
-Head = tie.At-loop Inv-loop μ-loop
-
-abbrev Banked : Type 0
-Banked = tie.After-bank-after Inv-loop μ-loop
-
-abbrev Sighted : Type 0
-Sighted = tie.After-see-node Inv-loop μ-loop
-
-abbrev entry : tie.After-lay-blank Inv-loop μ-loop → Entry
+abbrev entry : tie.After-lay-blank → tie.Start
 entry c = c .before .before .before .before .before .before .before .before .before .before .before
 
-abbrev blanked : tie.At-loop Inv-loop μ-loop → Blanked
-blanked c = c .before .before .before .before
-
-abbrev head : tie.After-bank-after Inv-loop μ-loop → Head
-head c = c .before .before .before
-
-abbrev banked : tie.After-see-node Inv-loop μ-loop → Banked
-banked c = c .before .before .before
-
-abbrev Spanned : Type 0
-Spanned = tie.After-put-span Inv-loop μ-loop
-
-abbrev Itemed : Type 0
-Itemed = tie.After-write-item Inv-loop μ-loop
-
-abbrev itemed : Spanned → Itemed
-itemed c = c .before .before .before .before .before .before
-
-abbrev sighted : Itemed → Sighted
-sighted c = c .before .before
-
-abbrev start : Head → Entry
-start h = entry (blanked h)
-
--- what the walk is given
-abbrev given : Head → Program
-given h = programOf (start h .args .t1) (start h .args .kinds .now) (start h .args .operands .now) (start h .args .first .now)
-
-abbrev row : Head → Row
-row h = rowOf (start h .args .numbers .now) (start h .args .states .now)
-
--- the blank image, and its length
-abbrev blank : Blanked → List ℕ
-blank c = c .lay-blank .last .1 .1 .0
-
-same-blank : (c : Blanked) → length (blank c) ≡ length (entry c .args .image .now)
+-- the blank image is as long as the one lent
+same-blank : (c : tie.After-lay-blank) → length (c .lay-blank .last .1 .1 .0) ≡ length (entry c .args .image .now)
 same-blank c = ap length (c .lay-blank .ensures) ∙ blank-length _ _ _
 
--- owning a table tells that it has 16 records
-table : (h : Head) → length (start h .args .t1 .defs) ≡ 16
-table h = simp length-map at (start h .good .0 .1 .1 .0 .1 .0 .1)
-
--- there is room in the blank image and in the lists
-roomy : (h : Head) → let a = start h .args in
-    HasRoom (visits (given h) (row h)) (length (a .values .now)) (length (blank (blanked h))) (length (a .addresses .now)) (length (a .offsets .now))
-    (length (a .sizes .now))
-roomy h = rw (same-blank (blanked h)) (start h .pre .1)
-
--- the bank of node i is one of the table's
-listed : (c : Banked) → c .bank-after .result < 16
-listed c =
-    let h = head c in
-    bank-listed (given h) (start h .pre .0) (table h) (row h) (h .loop .i) (h .loop .inv .walks) (c .before .node-at .ensures) (c .bank-after .ensures)
-
-lay-blank-requires : tie.Need-lay-blank-requires Inv-loop μ-loop
+lay-blank-requires : tie.Need-lay-blank-requires
 lay-blank-requires c κs = search needs
 
-start-requires : tie.Need-start-requires Inv-loop μ-loop
+start-requires : tie.Need-start-requires
 start-requires c κs = search needs
 
-loop-holds : tie.Need-loop-holds Inv-loop μ-loop
-loop-holds c =
-    let a = entry (c .before .before .before) .args in
-    begins (programOf (a .t1) (a .kinds .now) (a .operands .now) (a .first .now)) (rowOf (a .numbers .now) (a .states .now)) (a .values .now)
-    (blank (c .before .before .before)) (a .addresses .now) (a .offsets .now) (a .sizes .now) (entry (c .before .before .before) .pre .0) (c .start .ensures)
+write-walk-requires : tie.Need-write-walk-requires
+write-walk-requires c κs =
+    let l = c .before .before .before .before .before .before .before in
+    let s = entry l in
+    (s .pre .0, (rw (same-blank l) (s .pre .1), c .before .before .before .before .start .ensures))
 
-node-at-requires : tie.Need-node-at-requires Inv-loop μ-loop
-node-at-requires c κs = search needs
+same-length : tie.Need-same-length
+same-length c = search needs
 
-bank-after-requires : tie.Need-bank-after-requires Inv-loop μ-loop
-bank-after-requires c κs = search needs
+same-length-2 : tie.Need-same-length-2
+same-length-2 c = search needs
 
-mul-def : tie.Need-mul-def Inv-loop μ-loop
-mul-def c = omega (arith, listed c)
+same-length-3 : tie.Need-same-length-3
+same-length-3 c = search needs
 
-element-copy-out-def : tie.Need-element-copy-out-def Inv-loop μ-loop
-element-copy-out-def c = omega (arith, listed c, table (head c))
+same-length-4 : tie.Need-same-length-4
+same-length-4 c = search needs
 
-mul-see-node : tie.Need-mul-see-node Inv-loop μ-loop
-mul-see-node c = omega (arith, listed (c .before))
-
-element-copy-out-see-node : tie.Need-element-copy-out-see-node Inv-loop μ-loop
-element-copy-out-see-node c = omega (arith, listed (c .before), head (c .before) .loop .inv .walks .sixteen)
-
-see-node-requires : tie.Need-see-node-requires Inv-loop μ-loop
-see-node-requires c κs = search needs
-
-write-item-requires : tie.Need-write-item-requires Inv-loop μ-loop
-write-item-requires c κs =
-    let g = c .before in
-    let b = banked g in
-    let h = head b in
-    let a = start h .args in
-    item-fits (given h) (row h) (a .values .now) (blank (blanked h)) (a .addresses .now) (a .offsets .now) (a .sizes .now) (h .loop .i) (h .loop .inv) (roomy h)
-    (sight-is-visit (given h) (start h .pre .0) (table h) (row h) (h .loop .i) (h .loop .inv .walks) (b .before .node-at .ensures) (b .bank-after .ensures)
-    _ _ _ refl (g .see-node .ensures .0))
-    (b .before .before .loop-test .taken)
-
-put-span-requires : tie.Need-put-span-requires Inv-loop μ-loop
-put-span-requires c κs =
-    let g = c .before .before .before .before .before .before .before in
-    let b = banked g in
-    let h = head b in
-    let a = start h .args in
-    spans-fit (given h) (row h) (a .values .now) (blank (blanked h)) (a .addresses .now) (a .offsets .now) (a .sizes .now) (h .loop .i) (h .loop .inv) (roomy h)
-    (sight-is-visit (given h) (start h .pre .0) (table h) (row h) (h .loop .i) (h .loop .inv .walks) (b .before .node-at .ensures) (b .bank-after .ensures)
-    _ _ _ refl (g .see-node .ensures .0))
-    (b .before .before .loop-test .taken)
-
--- where node i's step is stored, from the place where its span is put
-abbrev spanned : tie.After-lost-after Inv-loop μ-loop → Spanned
-spanned c = c .before .before .before .before .before .before .before .before
-
--- the walk after node i, with its step stored
-next : (c : tie.After-lost-after Inv-loop μ-loop) →
-    let g = sighted (itemed (c .before .before .before .before .before .before .before .before)) in
-    let b = banked g in
-    let h = head b in
-    Walks (given h) (row h) (h .loop .i + 1) (record {
-      at = set (h .loop .walk .at) (b .bank-after .result) (g .see-node .result .after);
-      lost = set (h .loop .walk .lost) (b .bank-after .result) (c .lost-after .result);
-      bank = b .bank-after .result;
-    })
-next c =
-    let g = sighted (itemed (c .before .before .before .before .before .before .before .before)) in
-    let b = banked g in
-    let h = head b in
-    subst (λ (x : ℕ). Walks (given h) (row h) (h .loop .i + 1) (record {
-      at = set (h .loop .walk .at) (b .bank-after .result) (g .see-node .result .after);
-      lost = set (h .loop .walk .lost) (b .bank-after .result) x;
-      bank = b .bank-after .result;
-    }))
-    (sym (c .lost-after .ensures))
-    (sight-next (given h) (start h .pre .0) (table h) (row h) (h .loop .i) (h .loop .inv .walks) (b .before .node-at .ensures) (b .bank-after .ensures)
-    _ _ _ refl (g .see-node .ensures .0))
-
-mul-after : tie.Need-mul-after Inv-loop μ-loop
-mul-after c = omega (arith, listed (banked (sighted (itemed (c .before .before .before .before .before .before)))))
-
-element-set-from-after : tie.Need-element-set-from-after Inv-loop μ-loop
-element-set-from-after c = let b = banked (sighted (itemed (c .before .before .before .before .before .before))) in omega
-    (arith, listed b, head b .loop .inv .walks .sixteen)
-
-mul-lost-after : tie.Need-mul-lost-after Inv-loop μ-loop
-mul-lost-after c = omega (arith, listed (banked (sighted (itemed (c .before .before .before .before .before .before)))))
-
-element-copy-out-lost-after : tie.Need-element-copy-out-lost-after Inv-loop μ-loop
-element-copy-out-lost-after c = let b = banked (sighted (itemed (c .before .before .before .before .before .before))) in omega
-    (arith, listed b, head b .loop .inv .walks .sums)
-
-lost-after-requires : tie.Need-lost-after-requires Inv-loop μ-loop
-lost-after-requires c κs = search needs
-
-mul-walk : tie.Need-mul-walk Inv-loop μ-loop
-mul-walk c = omega (arith, listed (banked (sighted (itemed (spanned c)))))
-
-element-write-walk : tie.Need-element-write-walk Inv-loop μ-loop
-element-write-walk c = let b = banked (sighted (itemed (spanned c))) in omega (arith, listed b, head b .loop .inv .walks .sums)
-
-add-i : tie.Need-add-i Inv-loop μ-loop
-add-i c = let b = banked (sighted (itemed (spanned c))) in omega (arith, b .before .before .loop-test .taken, start (head b) .good)
-
-loop-less : tie.Need-loop-less Inv-loop μ-loop
-loop-less c = let b = banked (sighted (itemed (spanned c))) in omega (arith, b .before .before .loop-test .taken)
-
-loop-again : tie.Need-loop-again Inv-loop μ-loop
-loop-again c =
-    let n = spanned c in
-    let g = sighted (itemed n) in
-    let b = banked g in
-    let h = head b in
-    let a = start h .args in
-    let put = n .put-span .ensures in
-    goes-on (given h) (row h) (a .values .now) (blank (blanked h)) (a .addresses .now) (a .offsets .now) (a .sizes .now) (h .loop .i) (h .loop .inv) (roomy h)
-    (sight-is-visit (given h) (start h .pre .0) (table h) (row h) (h .loop .i) (h .loop .inv .walks) (b .before .node-at .ensures) (b .bank-after .ensures)
-    _ _ _ refl (g .see-node .ensures .0))
-    (b .before .before .loop-test .taken)
-    (next c)
-    (itemed n .write-item .ensures) (put .0) (put .1 .0) (put .1 .1 .0) (put .1 .1 .1)
-
-same-length : tie.Need-same-length Inv-loop μ-loop
-same-length c =
-    let h = c .before in
-    let a = start h .args in
-    same-image (given h) (row h) (a .values .now) (blank (blanked h)) (a .addresses .now) (a .offsets .now) (a .sizes .now)
-    (h .loop .i) (h .loop .inv) (roomy h)
-    ∙ same-blank (blanked h)
-
-same-length-2 : tie.Need-same-length-2 Inv-loop μ-loop
-same-length-2 c =
-    let h = c .before in
-    let a = start h .args in
-    same-first (given h) (row h) (a .values .now) (blank (blanked h)) (a .addresses .now) (a .offsets .now) (a .sizes .now)
-    (h .loop .i) (h .loop .inv) (roomy h)
-
-same-length-3 : tie.Need-same-length-3 Inv-loop μ-loop
-same-length-3 c =
-    let h = c .before in
-    let a = start h .args in
-    same-second (given h) (row h) (a .values .now) (blank (blanked h)) (a .addresses .now) (a .offsets .now) (a .sizes .now)
-    (h .loop .i) (h .loop .inv) (roomy h)
-
-same-length-4 : tie.Need-same-length-4 Inv-loop μ-loop
-same-length-4 c =
-    let h = c .before in
-    let a = start h .args in
-    same-third (given h) (row h) (a .values .now) (blank (blanked h)) (a .addresses .now) (a .offsets .now) (a .sizes .now)
-    (h .loop .i) (h .loop .inv) (roomy h)
-
-returns : tie.Need-returns Inv-loop μ-loop
+returns : tie.Need-returns
 returns c =
-    let h = c .before in
-    let a = start h .args in
-    let done =
-    ends (given h) (row h) (a .values .now) (blank (blanked h)) (a .addresses .now) (a .offsets .now) (a .sizes .now) (h .loop .i) (h .loop .inv) (roomy h)
-    (c .loop-test .left) in (
-      done .drawn
-          ∙ ap (λ (m : List ℕ). imageTo (given h) (row h) (a .values .now) m (length (a .kinds .now))) (blanked h .lay-blank .ensures),
-      (done .first, (done .second, done .third)),
-    )
+    let w = c .before .before .before .before .before .before .before in
+    let l = c .before .before .before .before .before .before .before .before .before .before .before .before .before .before .before in
+    let a = entry l .args in
+    let vs = visits (programOf (a .banks) (a .kinds .now) (a .operands .now) (a .first .now)) (rowOf (a .numbers .now) (a .states .now)) in
+    let left = w .write-walk .ensures .1 in
+    (left .0 ∙ ap (λ (m : List ℕ). imageOf (a .values .now) m (itemsOf vs)) (l .lay-blank .ensures), left .1)
 
 pub write-row-spec : {M : Type 1} → statement M
 write-row-spec =
     tie.close
     (tie.spec
-    Inv-loop
-    μ-loop
     lay-blank-requires
     start-requires
-    loop-holds
-    node-at-requires
-    bank-after-requires
-    mul-def
-    element-copy-out-def
-    mul-see-node
-    element-copy-out-see-node
-    see-node-requires
-    write-item-requires
-    put-span-requires
-    mul-after
-    element-set-from-after
-    mul-lost-after
-    element-copy-out-lost-after
-    lost-after-requires
-    mul-walk
-    element-write-walk
-    add-i
-    loop-less
-    loop-again
+    write-walk-requires
     same-length
     same-length-2
     same-length-3

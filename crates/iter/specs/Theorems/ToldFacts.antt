@@ -21,10 +21,10 @@ use Rattle.iter.specs.Theorems.Aligned.{distance-aligns}
 use Rattle.iter.specs.Distance.{tellable, addressInBits, distanceTo, skipsOf, distanceOf}
 use Rattle.iter.specs.Figures as told
 use Rattle.iter.specs.Figures.{toldDistance, toldAddress, toldMoved, WholeUnits, Measures, Stands, OuterSymbol, Sees, Keeps}
-use Rattle.iter.specs.Figures.{SoundState, Advances, SightSkips, OwnSkips, SightTold, AdvanceTold}
+use Rattle.iter.specs.Figures.{SoundState, Advances, SightSkips, OwnSkips, AdvanceTold}
 use Rattle.iter.specs.Known.{staysKnown}
 use Rattle.iter.specs.Step.{outermostSymbol, labelAligned, seenOf, resolved, badState, movedOn, advancedOf}
-use Rattle.iter.specs.Step.{whenMade, labelSkips, seenSkips, seenMotion, advanceSkips, advanceMotion}
+use Rattle.iter.specs.Step.{whenMade, labelSkips, seenSkips, advanceSkips, advanceMotion}
 use Rattle.iter.specs.declared.Distance.{Distance}
 use Rattle.iter.specs.declared.Distance.the-variants.{Skips, Refused as NoDistance}
 use Rattle.iter.specs.declared.Motion.{Motion}
@@ -125,9 +125,6 @@ module _ (def : Bankdef) (at : Pos) (node : Node) where
       either (outermostSymbol node)
       (λ e. rw e (by-alignment (def .align) refl (outer-symbol node .0 e) (seenOf def at node)))
       (λ e. rw (e, none-skipped (seenOf def at node)) (told.other (λ s. clash (outer-symbol node .1 s) e)))
-
-  pub sight-answers : {r : Motion} → r ≡ seenMotion def at node → (r ≡ seenMotion def at node) × SightTold def at node r
-  sight-answers e = (e, subst (λ (r : Motion). SightTold def at node r) (sym e) (record { sees = sight-told; skips = sight-skips }))
 
 -- ---- known-ness
 

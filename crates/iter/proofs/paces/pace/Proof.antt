@@ -1,50 +1,20 @@
--- The step in numbers: each arm is a law of PaceLaws.
+-- A node that stands still, an item or a reserve, and else the step kind by kind.
 use borrow.Author.Needs.{needs}
-use Prim.Native.Nat.{ℕ, _≤_, _<_}
-use mathlib.Core.Path.{_≡_, _∙_, sym}
-use mathlib.Core.Bool.{false}
-use native.Mathlib.Omega.{arith}
-use lib.Dec.{eqb}
-use borrow.Author.Tests.{ne-eqb}
-use Rattle.iter.specs.Step.{outermostSymbol, badState}
-use Rattle.iter.specs.declared.Node.{Node}
-use Rattle.iter.proofs.PaceLaws.{paces-bad, paces-plain, paces-assert, paces-addr, paces-item, paces-other}
+use Rattle.iter.proofs.PaceLaws.{paces-item}
 use Rattle.iter.proofs.paces.pace.Statement.{statement}
 use Rattle.iter.proofs.paces.pace.Tie as tie
 
-past-ten : (k : ℕ) → 8 ≤ k → (k ≡ 8 → ⊥) → (k ≡ 9 → ⊥) → (k ≡ 10 → ⊥) → 10 < k
-past-ten k h not8 not9 not10 = omega (arith, not8, not9, not10)
-
-no-symbol : (node : Node) → node .kind < 2 → outermostSymbol node ≡ false
-no-symbol node h = rw (ne-eqb (node .kind) 2 (λ e. omega arith), ne-eqb (node .kind) 3 (λ e. omega arith))
-
--- past the test of the state
-sound : (c : tie.Else1) → badState (c .before .before .args .node) ≡ false
-sound c = sym (c .before .is-bad-state .ensures) ∙ c .if1 .left
-
-is-bad-state-requires : tie.Need-is-bad-state-requires
-is-bad-state-requires c κs = search needs
-
-halted-requires : tie.Need-halted-requires
-halted-requires c κs = search needs
-
-returns : tie.Need-returns
-returns c = paces-bad _ _ _ (sym (c .before .before .is-bad-state .ensures) ∙ c .before .if1 .taken) (c .halted .ensures)
-
-pace-align-requires : tie.Need-pace-align-requires
-pace-align-requires c κs = (sound (c .before), c .match .keys1)
+stands-still-requires : tie.Need-stands-still-requires
+stands-still-requires c κs = search needs
 
 made-requires : tie.Need-made-requires
 made-requires c κs = search needs
 
-made-requires-2 : tie.Need-made-requires-2
-made-requires-2 c κs = search needs
+returns : tie.Need-returns
+returns c = rw (c .made .ensures) (c .before .before .stands-still .ensures (c .before .if1 .taken) _)
 
-made-requires-3 : tie.Need-made-requires-3
-made-requires-3 c κs = search needs
-
-pace-symbol-requires : tie.Need-pace-symbol-requires
-pace-symbol-requires c κs = (sound (c .before .before .before), omega (arith, c .if3 .taken))
+adds-number-requires : tie.Need-adds-number-requires
+adds-number-requires c κs = search needs
 
 stays-known-requires : tie.Need-stays-known-requires
 stays-known-requires c κs = search needs
@@ -52,61 +22,28 @@ stays-known-requires c κs = search needs
 added-requires : tie.Need-added-requires
 added-requires c κs = search needs
 
-halted-requires-2 : tie.Need-halted-requires-2
-halted-requires-2 c κs = search needs
-
 returns-2 : tie.Need-returns-2
-returns-2 c = search needs
+returns-2 c =
+    let k = c .before in
+    let item = k .before .before .adds-number .ensures (k .before .if2 .taken) in
+    paces-item _ _ _ (item .0) (item .1) (item .2) (rw (k .stays-known .ensures) at (c .added .ensures))
+
+pace-by-kind-requires : tie.Need-pace-by-kind-requires
+pace-by-kind-requires c κs = search needs
 
 returns-3 : tie.Need-returns-3
-returns-3 c =
-    let m = c .before .before in
-    paces-addr _ _ _ (sound (m .before)) (m .match .keys2) (c .made .ensures)
-
-returns-4 : tie.Need-returns-4
-returns-4 c = paces-assert _ _ _ (sound (c .before .before)) (c .before .match .keys3) (c .made2 .ensures)
-
-returns-5 : tie.Need-returns-5
-returns-5 c =
-    let t = c .before in
-    let few : _ < 2 = t .if2 .taken in
-    paces-plain _ _ _ (sound (t .before .before)) (no-symbol (t .before .before .before .before .args .node) (t .if2 .taken)) (omega arith) (c .made3 .ensures)
-
-returns-6 : tie.Need-returns-6
-returns-6 c = search needs
-
-returns-7 : tie.Need-returns-7
-returns-7 c =
-    let k = c .before in
-    let t = k .before in
-    let less : _ < 8 = t .if4 .taken in
-    paces-item _ _ _ (sound (t .before .before .before .before)) (t .before .if3 .left) (omega arith) (rw (k .stays-known .ensures) at (c .added .ensures))
-
-returns-8 : tie.Need-returns-8
-returns-8 c =
-    let t = c .before in
-    let r = t .before .before .before in
-    paces-other _ _ _ (sound (r .before)) (past-ten _ (t .if4 .left) (r .match .rest .0 .0 .1) (r .match .rest .0 .1) (r .match .rest .1)) (c .halted2 .ensures)
+returns-3 c = c .pace-by-kind .ensures
 
 pub pace-spec : {M : Type 1} → statement M
 pace-spec =
     tie.close
     (tie.spec
-    is-bad-state-requires
-    halted-requires
-    returns
-    pace-align-requires
+    stands-still-requires
     made-requires
-    made-requires-2
-    made-requires-3
-    pace-symbol-requires
+    returns
+    adds-number-requires
     stays-known-requires
     added-requires
-    halted-requires-2
     returns-2
-    returns-3
-    returns-4
-    returns-5
-    returns-6
-    returns-7
-    returns-8)
+    pace-by-kind-requires
+    returns-3)

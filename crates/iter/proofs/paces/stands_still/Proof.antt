@@ -1,0 +1,59 @@
+-- Each kind that stands still is a law of PaceLaws.
+use borrow.Author.Needs.{needs}
+use Prim.Native.Nat.{_<_}
+use mathlib.Core.Path.{_≡_, refl, _∙_, sym}
+use mathlib.Core.Bool.{false}
+use native.Mathlib.Omega.{arith}
+use Rattle.refusal.specs.Laws.Bools.{clash}
+use Rattle.iter.specs.Step.{badState}
+use Rattle.iter.proofs.PaceLaws.{early-plain, paces-plain, paces-unaligned, paces-assert}
+use Rattle.iter.proofs.paces.stands_still.Statement.{statement}
+use Rattle.iter.proofs.paces.stands_still.Tie as tie
+
+-- past the test of the state
+sound : (c : tie.Else1) → badState (c .before .before .args .node) ≡ false
+sound c = sym (c .before .is-bad-state .ensures) ∙ c .if1 .left
+
+is-bad-state-requires : tie.Need-is-bad-state-requires
+is-bad-state-requires c κs = search needs
+
+returns : tie.Need-returns
+returns c e = absurd (clash e refl)
+
+is-outermost-symbol-requires : tie.Need-is-outermost-symbol-requires
+is-outermost-symbol-requires c κs = search needs
+
+aligns-no-label-requires : tie.Need-aligns-no-label-requires
+aligns-no-label-requires c κs = search needs
+
+returns-2 : tie.Need-returns-2
+returns-2 c e at = paces-assert _ at _ (sound (c .before)) (c .match .keys1) refl
+
+returns-3 : tie.Need-returns-3
+returns-3 c e at =
+    let few : _ < 2 = c .if2 .taken in
+    paces-plain _ at _ (sound (c .before .before)) (early-plain (c .before .before .before .before .args .node) (c .if2 .taken)) (omega arith) refl
+
+returns-4 : tie.Need-returns-4
+returns-4 c e at = paces-unaligned _ at _ (sound (c .before .before .before .before .before .before)) (c .aligns-no-label .ensures e) (c .before .before .before .if3 .taken) refl
+
+returns-5 : tie.Need-returns-5
+returns-5 c e at =
+    paces-plain _ at _ (sound (c .before .before .before .before .before)) (sym (c .before .is-outermost-symbol .ensures) ∙ c .if4 .left) (c .before .before .if3 .taken) refl
+
+returns-6 : tie.Need-returns-6
+returns-6 c e = absurd (clash e refl)
+
+pub stands-still-spec : {M : Type 1} → statement M
+stands-still-spec =
+    tie.close
+    (tie.spec
+    is-bad-state-requires
+    returns
+    is-outermost-symbol-requires
+    aligns-no-label-requires
+    returns-2
+    returns-3
+    returns-4
+    returns-5
+    returns-6)
