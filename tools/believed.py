@@ -20,6 +20,7 @@ SENTENCES = {
                        'says_build/Typed.Typed'),
     'dk_profile': ('says_profile/Profile.ProfileSays', 'says_profile/Meets.profile-meets', 'says_profile/Decides.profile-decides',
                    'says_build/Typed.Typed'),
+    'dk_map': ('says_map/Map.MapSays', 'says_map/Meets.map-meets', 'says_map/Decides.map-decides', 'says_build/Typed.Typed', 'says_map/Places.Places'),
     'dk_form': ('says_form/Form.FormSays', 'says_form/FormMeets.form-meets', 'says_form/FormDecides.form-decides',
                 'form_fields/Whole.Bytes'),
     'dk_form_paged': ('says_form_paged/FormPaged.FormPagedSays', 'says_form_paged/Meets.form-paged-meets',

@@ -1,2 +1,4 @@
+pub mod AsBuilt
 pub mod Decides
 pub mod Meets
+pub mod Promised

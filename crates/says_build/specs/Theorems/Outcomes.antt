@@ -54,7 +54,7 @@ module _ (g : Given) (old : Lent) where
   last-bounded (b.below o l go r u) = omega arith
   last-bounded (b.at-limit o go) = omega arith
 
-  stops-five-or-seven : {n i number : ℕ} {last : Bool} → Stops g n last i number → (number ≡ 5) ⊎ (number ≡ 7)
+  pub stops-five-or-seven : {n i number : ℕ} {last : Bool} → Stops g n last i number → (number ≡ 5) ⊎ (number ≡ 7)
   stops-five-or-seven (b.lead-past h r x i l p) = inl refl
   stops-five-or-seven (b.move-past h r s a p) = inl refl
   stops-five-or-seven (b.off-boundary h t e r s o) = inr refl

@@ -42,7 +42,8 @@ use Rattle.denkumari.specs.Maps.{MapTold, toldBy, nodeTold}
 use Rattle.denkumari.specs.Tables.{TablesTold}
 use Rattle.denkumari.specs.declared.maps.DkMap.{DkMap}
 use Rattle.says_build.specs.Build as build
-use Rattle.says_build.specs.Build.{Given, nodes, Reads, Stops, Refuses, AtNode}
+use Rattle.says_build.specs.Build.{Given, nodes, Reads, AtNode}
+use Rattle.says_build.specs.Theorems.Outcomes.{stops-five-or-seven}
 use Rattle.says_build.specs.Typed.{Typed}
 use Rattle.says_meets.specs.Laws.AtNode.{call}
 use Rattle.says_meets.specs.Laws.Checks.{answered}
@@ -66,11 +67,6 @@ use Rattle.says_map.specs.Laws.Shown.{lentOf, outcome, rowNow, shows-of}
 -- ---- from the sentences alone
 
 module _ (g : Given) where
-  five-or-seven : {n i number : ℕ} {last : Bool} → Stops g n last i number → (number ≡ 5) ⊎ (number ≡ 7)
-  five-or-seven (build.lead-past h q x s l past) = inl refl
-  five-or-seven (build.move-past h q s a past) = inl refl
-  five-or-seven (build.off-boundary h l k q s off) = inr refl
-
   -- what a node is refused for is 9 or more
   abbrev High : build.Outcome → Type 0
   High y = 9 ≤ y .answer .refusal
@@ -127,8 +123,8 @@ module _ (g : Given) (typed : Typed g) (old : Lent) (places : Places old) (r : D
     stop-shows i place (inl five) = (
       i,
       subst (λ (x : ℕ). UpTo g i x i) (sym five) m.before,
-      shows-of g typed old r new told places is ck (record { verdict = Refused why; nodes = i; fault = AtFault i }) (reach-met ∙ rw (five, place)) (numberOf why)
-          i 0 i (λ p c l. told-stopped why i (omega arith) p c l ∙ rw place),
+      shows-of g typed old r new told places is ck (record { verdict = Refused why; nodes = i; fault = AtFault i }) (reach-met ∙ rw (five, place))
+          (numberOf why) i 0 i (λ p c l. told-stopped why i (omega arith) p c l ∙ rw place),
     )
     stop-shows i place (inr seven) = (
       suc i,
@@ -139,10 +135,10 @@ module _ (g : Given) (typed : Typed g) (old : Lent) (places : Places old) (r : D
 
     halted : Halts g (table g) is ck why n → Mapped g old (outcome g typed old r new told)
     halted (run.early {i = i} h l go f s p) =
-        let x = stop-shows i p (five-or-seven g s) in
+        let x = stop-shows i p (stops-five-or-seven g nothing s) in
         m.stops h l go f s reads (x .1) (x .2)
     halted (run.at-last {i = i} l f s p) =
-        let x = stop-shows i p (five-or-seven g s) in
+        let x = stop-shows i p (stops-five-or-seven g nothing s) in
         m.last-stops l f s reads (x .1) (x .2)
     halted (run.unsettled l runs u e) =
         m.unresolved l runs u reads
@@ -201,7 +197,8 @@ module _ (g : Given) (typed : Typed g) (old : Lent) (places : Places old) (r : D
         ∙ at (f .n) (add-one (f .n)) (let back : f .n + 1 - 1 ≡ f .n = omega arith in back)
       where
         at : (i : ℕ) {x y : ℕ} → x ≡ suc i → y ≡ i
-            → _≡_ {A = Reach} (record { verdict = Refused why; nodes = x; fault = AtFault y }) (record { verdict = Refused why; nodes = suc i; fault = AtFault i })
+            → _≡_ {A = Reach} (record { verdict = Refused why; nodes = x; fault = AtFault y })
+            (record { verdict = Refused why; nodes = suc i; fault = AtFault i })
         at i e f = rw (e, f)
 
     placed-stops : (why : Refusal) → FirstRefused c why → Tried g old n row (outcome g typed old r new told)

@@ -66,7 +66,7 @@ unfolding listOf
 none-left p row old = refl
 
 -- what is lent, in the sentences
-abbrev lentSo : map.Lent → Lent
+abbrev pub lentSo : map.Lent → Lent
 lentSo l = record { banks = l .banks; positions = l .positions; outputs = l .outputs; sizes = l .sizes }
 
 module _ (g : Given) (typed : Typed g) (old : Lent) (places : Places old) (r : DkMap) (new : Lent) (told : Contract g old r new) where
