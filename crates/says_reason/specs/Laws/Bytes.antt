@@ -6,7 +6,7 @@ use mathlib.Core.Logic.{_⊎_, inl, inr, ⊎-elim}
 use Prim.Native.Nat.{ℕ, zero, suc, _+_, _≤_, _<_, max, min}
 use native.Mathlib.Decide.{decLt}
 use native.Mathlib.Omega.{arith}
-use borrow.Author.Tests.{leb-true, leb-false, le-leb, lt-leb}
+use borrow.Author.Tests.{leb-true, leb-false}
 use lib.Dec.{leb}
 use lib.ListN.{length, drop}
 use Rattle.refusal.specs.Laws.Bools.{either, both, clash, neither}
@@ -20,7 +20,7 @@ use Rattle.record_reason.specs.Theorems.Reasons as why
 use Rattle.record_reason.specs.Theorems.Reasons.{giver-is-first}
 use Rattle.says.specs.Words.{First, FirstPair}
 use Rattle.says_reason.specs.Reason as s
-use Rattle.says_reason.specs.Reason.{LineGives, After, LineAt, GivesTo}
+use Rattle.says_reason.specs.Reason.{LineGives, LineAt, GivesTo}
 use Rattle.says_reason.specs.Laws.One.{after-one, line-one}
 use Rattle.says_reason.specs.Laws.Items.{gives-item, item-gives, after-is}
 use Rattle.says_reason.specs.Laws.Trails.{lines, line-is, line-at, drop-line, drop-long, drop-some}

@@ -1,10 +1,9 @@
 -- The definitions' reasons, one test behind the other, and the sentences' `Tries`: the same order.
-use mathlib.Core.Path.{_≡_, refl, sym, _∙_, subst}
+use mathlib.Core.Path.{_≡_, refl, sym, subst}
 use mathlib.Core.Bool.{Bool, true, false}
 use Prim.Native.Nat.{ℕ}
 use lib.Dec.{eqb}
-use Rattle.refusal.specs.Laws.Bools.{either}
-use Rattle.refusal.specs.Laws.Pick.{pick-true, pick-false}
+use Rattle.refusal.specs.Laws.Pick.{pick-false}
 use Rattle.refusal.specs.Pick.{pick}
 use Rattle.record_reason.specs.Spelling.{orElse}
 use Rattle.record_reason.specs.Reasons.{toldOf}

@@ -2,13 +2,13 @@
 use mathlib.Core.Path.{_≡_, refl, sym, ap, _∙_, subst}
 use mathlib.Core.List.{List, [], _∷_, _++_}
 use mathlib.Core.Logic.{_⊎_, inl, inr, ⊎-elim}
-use Prim.Native.Nat.{ℕ, zero, suc, _+_, _*_, _-_, _<_, _%_}
+use Prim.Native.Nat.{ℕ, zero, suc, _+_, _-_, _<_}
 use native.Mathlib.Omega.{arith}
 use lib.ListN.{length, getD, take, drop, length-append}
 use Rattle.record_lines.specs.Pieces.{Piece}
 use Rattle.says.specs.Words.{At}
 use Rattle.says_records.specs.Records as r
-use Rattle.says_records.specs.Records.{Spells, Hex, Srec, Width, total}
+use Rattle.says_records.specs.Records.{Spells, Hex, Width, total}
 use Rattle.says_records.specs.Laws.One.{apart, front, spells-bytes, hex-one, srec-kind, srec-one, width-one}
 use Rattle.says_records.specs.Laws.Spelled.{length-of}
 use Rattle.says_records.specs.Theorems.WriteDecides.{same-piece}

@@ -1,12 +1,12 @@
 -- The reasons that lie in a line's bytes: past the last address, below the load address, given twice.
 use mathlib.Core.Path.{_≡_, refl, sym, ap, _∙_, subst}
-use mathlib.Core.Bool.{Bool, true, false, _&&_}
+use mathlib.Core.Bool.{false}
 use mathlib.Core.List.{List, [], _∷_}
-use mathlib.Core.Logic.{_⊎_, inl, inr}
+use mathlib.Core.Logic.{inr}
 use Prim.Native.Nat.{ℕ, _+_, _-_, _≤_, _<_, max}
 use native.Mathlib.Omega.{arith}
-use borrow.Author.Tests.{ltb-true, ltb-false, leb-true, leb-false, le-leb}
-use lib.Dec.{ltb, leb}
+use borrow.Author.Tests.{ltb-true, ltb-false, le-leb}
+use lib.Dec.{ltb}
 use lib.ListN.{length, drop}
 use Rattle.refusal.specs.Laws.Bools.{either, clash}
 use Rattle.refusal.specs.Pick.{pick}
@@ -16,11 +16,11 @@ use Rattle.record_fault.specs.Reading.{formatBy, newPieces, fine, isNew}
 use Rattle.record_fault.specs.Trail.{trail}
 use Rattle.record_reason.specs.Spelling.{causeOf}
 use Rattle.record_reason.specs.Reasons.{itemOf, addressIn, giver, lowest, spanCause, toldOf}
+use Rattle.record_reason.specs.declared.Cause.{Cause}
 use Rattle.record_reason.specs.declared.Why.{Why}
 use Rattle.says.specs.Words as w
 use Rattle.says.specs.Words.{Tries}
 use Rattle.says_records.specs.Records as r
-use Rattle.says_records.specs.Records.{Width}
 use Rattle.says_reason.specs.Reason as s
 use Rattle.says_reason.specs.Reason.{DataLine, LineGives, GivesTo, Past, Below, why, Twice}
 use Rattle.says_reason.specs.Laws.One.{data-one, gives-one}
@@ -70,6 +70,12 @@ module _ (format load : ℕ) (text : List ℕ) (n : ℕ) (l : List ℕ) (rest : 
   abbrev end : ℕ
   end = p .address + length (p .bytes)
 
+  -- the line that gave a byte first, and where
+  abbrev told : Cause
+  told =
+      let first = giver format text (p .address) end n in
+      causeOf 11 first (max (p .address) (addressIn (itemOf format text first)))
+
   fits-in : end ≤ top → LineGives format st l after p
   fits-in h = s.line-gives line (inr h)
 
@@ -100,8 +106,7 @@ module _ (format load : ℕ) (text : List ℕ) (n : ℕ) (l : List ℕ) (rest : 
       not-below : (x : ℕ × ℕ) → Below format l load ls st (x .0) (x .1) → end ≤ top → load ≤ p .address → ⊥
       not-below (a, b) (s.below {p = q} g i h f) k low = omega (arith, ap (λ (y : Piece). y .address) (gives-one format g (fits-in k) .1))
 
-      given-twice : end ≤ top → load ≤ p .address → Twice format load ls n
-          (toldOf n (causeOf 11 (giver format text (p .address) end n) (max (p .address) (addressIn (itemOf format text (giver format text (p .address) end n))))))
+      given-twice : end ≤ top → load ≤ p .address → Twice format load ls n (toldOf n told)
       given-twice k low =
           let f = unfit-here k fault in
           let some = some-byte load (p .address) (p .bytes) after given f in
@@ -110,8 +115,7 @@ module _ (format load : ℕ) (text : List ℕ) (n : ℕ) (l : List ℕ) (rest : 
 
       inside : end ≤ top
           → Tries (λ (x : ℕ × ℕ). Below format l load ls st (x .0) (x .1)) (λ x. why format load ls n 10 (x .0) (x .1)) (Twice format load ls n)
-          (toldOf n (pick (ltb (p .address) load) (causeOf 10 (p .address) (lowest format text))
-          (causeOf 11 (giver format text (p .address) end n) (max (p .address) (addressIn (itemOf format text (giver format text (p .address) end n)))))))
+          (toldOf n (pick (ltb (p .address) load) (causeOf 10 (p .address) (lowest format text)) told))
       inside k = either (ltb (p .address) load)
           (λ t.
           let some = some-byte load (p .address) (p .bytes) after given (unfit-here k fault) in

@@ -1,12 +1,12 @@
 -- How a line is spelled, by the definitions' tests and by the sentences, once over both formats: its digits begin at the character `from`.
 use mathlib.Core.Path.{_≡_, refl, sym, ap, ap₂, _∙_, subst}
-use mathlib.Core.Bool.{Bool, true, false, _&&_}
+use mathlib.Core.Bool.{true, false}
 use mathlib.Core.List.{List, [], _∷_, _++_}
-use mathlib.Core.Logic.{_⊎_, inl, inr, ⊎-elim}
+use mathlib.Core.Logic.{_⊎_, ⊎-elim}
 use Prim.Native.Nat.{ℕ, zero, suc, _+_, _*_, _-_, _≤_, _<_, _%_}
 use native.Mathlib.Decide.{decLt}
 use native.Mathlib.Omega.{arith}
-use borrow.Author.Tests.{ltb-true, ltb-false, eqb-true, eqb-false, eq-eqb}
+use borrow.Author.Tests.{ltb-true, ltb-false, eqb-true, eq-eqb}
 use lib.Dec.{ltb, eqb}
 use lib.ListN.{length, getD, take, drop, length-drop}
 use lib.Seq.{getD-drop}
@@ -21,10 +21,10 @@ use Rattle.says.specs.Words.{First}
 use Rattle.says_records.specs.Records as r
 use Rattle.says_records.specs.Records.{Digit, Spells, total}
 use Rattle.says_records.specs.Laws.One.{spells-bytes}
-use Rattle.says_records.specs.Laws.Spelled.{total-is, digits-of, pairs-of, spelled-by}
+use Rattle.says_records.specs.Laws.Spelled.{total-is, digits-of, spelled-by}
 use Rattle.says_reason.specs.Reason as s
 use Rattle.says_reason.specs.Reason.{NoDigit, Count, Long, Checksum, WrongSum}
-use Rattle.says_reason.specs.Laws.One.{last-one, count-one, counted-long, long-one, checksum-one}
+use Rattle.says_reason.specs.Laws.One.{last-one, long-one, checksum-one}
 
 -- ---- one digit
 is-digit : {c v : ℕ} → Digit r.either c v → isDigit c ≡ true
@@ -177,9 +177,6 @@ module _ (format : ℕ) (l : List ℕ) (from : ℕ) where
             (λ x. let z : target ≡ 0 = x .1 in s.hex (x .0) (omega arith) (omega arith))
             (λ x. let z : target ≡ 255 = x .1 in s.s-record (x .0) (omega arith))
             is
-
-        test : Bool
-        test = eqb (sumOf (bytesAt l from (many + 1)) % 256) target
 
         low : target < 256
         low = ⊎-elim (λ x. omega (arith, x .1)) (λ x. omega (arith, x .1)) is

@@ -1,16 +1,16 @@
 -- Where a reader stops: what is known of the line at fault and of the line before it.
-use mathlib.Core.Path.{_≡_, refl, sym, ap, _∙_, subst}
+use mathlib.Core.Path.{_≡_, refl, ap, _∙_}
 use mathlib.Core.Bool.{Bool, true, false}
 use mathlib.Core.List.{List, [], _∷_, _++_, append-nil}
 use Prim.Native.Nat.{ℕ, zero, suc, _+_, _≤_, _<_}
 use native.Mathlib.Omega.{arith}
 use lib.ListN.{length, drop}
 use Rattle.refusal.specs.Pick.{pick}
-use Rattle.record_lines.specs.Items.{Item, gives, passes, ends, bad, Format}
+use Rattle.record_lines.specs.Items.{Item, gives, passes, ends, bad}
 use Rattle.record_lines.specs.Pieces.{Piece}
 use Rattle.record_fault.specs.Reading.{formatBy, Read, sound, faulty, later, newPieces, stateAfter, fine, isNone, goOn, readFrom, readText}
 use Rattle.record_fault.specs.Trail.{trail}
-use Rattle.record_reason.specs.Reasons.{lineOf, itemOf, isEnd, endsBefore}
+use Rattle.record_reason.specs.Reasons.{itemOf, isEnd, endsBefore}
 use Rattle.says_records.specs.Laws.Faults.{later-fault}
 use Rattle.says_reason.specs.Laws.Trails.{lines, line-is, drop-next, drop-long}
 

@@ -1,22 +1,16 @@
 -- A text's lines one after the other, by the definitions' walk over the text and by the sentences' lines; and what is known where a reader stops.
 use mathlib.Core.Path.{_≡_, refl, sym, ap, _∙_, subst}
-use mathlib.Core.Bool.{Bool, true, false}
-use mathlib.Core.List.{List, [], _∷_, _++_, append-nil}
-use mathlib.Core.Logic.{_⊎_, inl, inr, ⊎-elim}
+use mathlib.Core.List.{List, [], _∷_}
 use Prim.Native.Nat.{ℕ, zero, suc, _+_, _≤_, _<_}
 use native.Mathlib.Omega.{arith}
-use lib.ListN.{length, getD, drop, length-drop}
-use lib.Seq.{drop-drop, drop-nil}
-use Rattle.refusal.specs.Pick.{pick}
-use Rattle.record_lines.specs.Items.{Item, gives, passes, ends, bad}
+use lib.ListN.{length, drop}
+use lib.Seq.{drop-drop}
 use Rattle.record_lines.specs.Lines.{linesOf, firstLine, taken}
 use Rattle.record_lines.specs.Theorems.Lines.{lines-first}
-use Rattle.record_lines.specs.Pieces.{Piece}
-use Rattle.record_fault.specs.Reading.{formatBy, Read, sound, faulty, later, newPieces, stateAfter, fine, isNone, goOn, readFrom, readText}
+use Rattle.record_fault.specs.Reading.{later, stateAfter}
 use Rattle.record_fault.specs.Trail.{trail}
-use Rattle.record_reason.specs.Reasons.{lineOf, itemOf, isEnd, endsBefore}
+use Rattle.record_reason.specs.Reasons.{lineOf, itemOf}
 use Rattle.says.specs.Words.{At}
-use Rattle.says_records.specs.Laws.Faults.{later-fault}
 use Rattle.says_reason.specs.Reason as s
 use Rattle.says_reason.specs.Reason.{After, LineAt}
 use Rattle.says_reason.specs.Laws.Items.{after-is}

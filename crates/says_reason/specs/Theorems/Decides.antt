@@ -1,5 +1,5 @@
 -- The sentences of `dk_record_reason` leave one answer. From the sentences alone.
-use mathlib.Core.Path.{_≡_, refl, sym, ap, ap₂, _∙_, subst}
+use mathlib.Core.Path.{_≡_, refl, ap, ap₂}
 use mathlib.Core.List.{List}
 use Prim.Native.Nat.{ℕ, suc, _+_, _-_}
 use native.Mathlib.Omega.{arith}
@@ -7,12 +7,12 @@ use lib.ListN.{length, getD}
 use Rattle.record_lines.specs.Pieces.{Piece}
 use Rattle.record_reason.specs.declared.Why.{Why}
 use Rattle.c_answers.specs.declared.DkFault.{DkFault}
-use Rattle.says.specs.Words.{OneOnly, tries-one, First, first-one, first-pair-one}
+use Rattle.says.specs.Words.{OneOnly, tries-one, first-one, first-pair-one}
 use Rattle.says_records.specs.Read as r
 use Rattle.says_records.specs.Laws.One.{lines-one}
 use Rattle.says_records.specs.Theorems.FaultDecides.{fault-decides}
 use Rattle.says_reason.specs.Reason as s
-use Rattle.says_reason.specs.Reason.{Form, GivesTo, NoDigit, Past, Below, why, Twice, LineAt, LineSays, FaultLine, ReasonSays}
+use Rattle.says_reason.specs.Reason.{Form, GivesTo, NoDigit, Past, Below, why, Twice, LineSays, FaultLine, ReasonSays}
 use Rattle.says_reason.specs.Laws.One.{data-one, gives-one, line-one, count-one, long-one, sum-one, type-one, other-width-one, other-count-one}
 use Rattle.says_reason.specs.Laws.One.{other-field-one}
 
@@ -41,7 +41,7 @@ module _ (format load : ℕ) (ls : List (List ℕ)) (n : ℕ) where
   form-one (s.s-records m) (s.s-records k) = (refl, refl, refl)
 
   line-decides : OneOnly (LineSays format load ls n)
-  line-decides y z (s.line-says {s = st} {from} {bare} {least} {l} x f t) (s.line-says {s = st′} {from = from′} {bare = bare′} {least = least′} {l = l′} x′ f′ t′) =
+  line-decides y z (s.line-says {s = st} {from} {bare} {least} {l} x f t) (s.line-says x′ f′ t′) =
       let at = line-one format x′ x in
       let form = form-one f′ f in
       let u = rw (at .0, at .1, form .0, form .1, form .2) at t′ in

@@ -1,15 +1,14 @@
 -- What `dk_record_reason` promises says its sentences, for Intel HEX and for S-records.
-use mathlib.Core.Path.{_≡_, refl, sym, ap, ap₂, _∙_, subst}
-use mathlib.Core.Bool.{Bool, true, false, _&&_}
+use mathlib.Core.Path.{_≡_, refl, sym, ap, _∙_, subst}
+use mathlib.Core.Bool.{Bool, true, false}
 use mathlib.Core.List.{List, [], _∷_}
 use mathlib.Core.Logic.{_⊎_, inl, inr, ⊎-elim}
 use Prim.Native.Nat.{ℕ, zero, suc, _+_, _*_, _-_, _≤_, _<_, _%_, _^_}
 use native.Mathlib.Omega.{arith}
 use borrow.Author.Tests.{ltb-true, ltb-false, eqb-true, eqb-false, eq-eqb, ne-eqb, le-leb, lt-leb}
-use lib.Dec.{ltb, leb, eqb}
+use lib.Dec.{ltb, eqb}
 use lib.ListN.{length, getD, drop, length-drop}
-use lib.Seq.{drop-nil}
-use Rattle.refusal.specs.Laws.Bools.{either, both, clash}
+use Rattle.refusal.specs.Laws.Bools.{either, clash}
 use Rattle.refusal.specs.Pick.{pick}
 use Rattle.bitvec.specs.Lists.{listOf}
 use Rattle.bitvec.specs.Laws.Lists.{length-listOf}
@@ -19,14 +18,14 @@ use Rattle.record_lines.specs.Lines.{linesOf}
 use Rattle.record_lines.specs.Theorems.Lines.{lines-first}
 use Rattle.record_lines.specs.Pieces.{Piece, piece}
 use Rattle.record_lines.specs.Sums.{sumOf}
-use Rattle.record_ihex_line.specs.Format.{wordAt, goodLine, typeOf, fieldOf, countOf}
+use Rattle.record_ihex_line.specs.Format.{goodLine, typeOf, fieldOf, countOf}
 use Rattle.record_srec_line.specs.Srec.{isS, isSound, addressOf, dataOf, dataDigit, agrees, numberFrom}
 use Rattle.record_srec_line.specs.ReadBack as back
 use Rattle.record_fault.specs.Reading.{Read, sound, faulty, readText}
 use Rattle.record_fault.specs.Trail.{trail}
-use Rattle.record_reason.specs.Spelling.{causeOf, orElse, leading, wantedOf, sumCause, spelled, spelledBy, startsBy, hexTyped, srecTyped, ownCause}
+use Rattle.record_reason.specs.Spelling.{causeOf, orElse, leading, wantedOf, sumCause, spelled, hexTyped, srecTyped, ownCause}
 use Rattle.record_reason.specs.Spelling.{startBy, manyBy, topBy}
-use Rattle.record_reason.specs.Reasons.{lineOf, itemOf, isEnd, endsBefore, spanCause, lineCause, causeAt, toldOf, whyOf}
+use Rattle.record_reason.specs.Reasons.{itemOf, isEnd, endsBefore, spanCause, lineCause, causeAt, toldOf, whyOf}
 use Rattle.record_reason.specs.declared.Cause.{Cause}
 use Rattle.record_reason.specs.declared.Why.{Why}
 use Rattle.c_answers.specs.Parts.{lineTold}
@@ -44,7 +43,7 @@ use Rattle.says_records.specs.Laws.HexLine.{good-hex}
 use Rattle.says_records.specs.Laws.SrecLine.{width-is, good-srec}
 use Rattle.says_records.specs.Theorems.FaultMeets.{sound-good, fault-meets}
 use Rattle.says_reason.specs.Reason as s
-use Rattle.says_reason.specs.Reason.{DataLine, EndRecord, Form, Starts, NoDigit, Count, Long, WrongSum, why, LineSays, FaultLine, ReasonSays}
+use Rattle.says_reason.specs.Reason.{DataLine, EndRecord, Starts, NoDigit, Count, Long, WrongSum, why, LineSays, FaultLine, ReasonSays}
 use Rattle.says_reason.specs.Laws.One.{inside, count-one}
 use Rattle.says_reason.specs.Laws.Items.{own-width, said, end-item}
 use Rattle.says_reason.specs.Laws.Items as items
@@ -75,6 +74,9 @@ module _ (format load : ℕ) (ls : List (List ℕ)) (n st from body least target
   abbrev digits : Bool
   digits = allDigits (drop from l)
 
+  abbrev odd : ℕ
+  odd = from + leading (drop from l)
+
   abbrev sums : Bool
   sums = eqb (sumOf (bytesAt l from (body + pairAt l from + 1)) % 256) target
 
@@ -82,7 +84,7 @@ module _ (format load : ℕ) (ls : List (List ℕ)) (n st from body least target
     spelled-says : LineChain format load ls n st from bare least l (toldOf n (orElse (spelled begun from body least target l) rest))
     spelled-says =
         unless n begun tt (causeOf 1 0 0) _ rest refl refl (λ b. never b) (λ b x h. h (starts b))
-        (λ b. unless n digits (from + leading (drop from l)) (causeOf 2 (from + leading (drop from l)) (getD l (from + leading (drop from l)) 0)) _ rest refl refl
+        (λ b. unless n digits odd (causeOf 2 odd (getD l odd 0)) _ rest refl refl
         (λ d. no-digit format l from d) (λ d. all-digits format l from d)
         (λ d. unless n (eqb (length l) wanted) wanted (causeOf 3 (length l) wanted) _ rest refl refl
         (λ e. (long-is format l from body least bare sizes d, eqb-false (length l) wanted e))

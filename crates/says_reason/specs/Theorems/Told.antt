@@ -1,22 +1,22 @@
 -- What a caller has of the sentences of `dk_record_reason`: the line is that of `dk_record_fault`, a file has a reason exactly when it is bad, the checksum
 -- with both values, a byte given twice and by which line, the lowest address. From the sentences alone.
-use mathlib.Core.Path.{_≡_, refl, sym, ap, _∙_}
+use mathlib.Core.Path.{_≡_, refl, ap, _∙_}
 use mathlib.Core.List.{List, [], _∷_, _++_}
 use mathlib.Core.Logic.{_⊎_, inl, inr, ⊎-elim}
-use Prim.Native.Nat.{ℕ, suc, _≤_, _<_}
+use Prim.Native.Nat.{ℕ, _≤_, _<_}
 use native.Mathlib.Omega.{arith}
-use lib.ListN.{length, drop}
+use lib.ListN.{drop}
 use Rattle.record_lines.specs.Pieces.{Piece}
 use Rattle.record_reason.specs.declared.Why.{Why}
 use Rattle.c_answers.specs.declared.DkFault.{DkFault}
 use Rattle.says.specs.Words as w
-use Rattle.says.specs.Words.{Tries, First, FirstPair, At}
+use Rattle.says.specs.Words.{Tries, At}
 use Rattle.says_records.specs.Records.{Not, either, Lines, Spells, total}
 use Rattle.says_records.specs.Read as r
 use Rattle.says_records.specs.Read.{Good, Bad, FaultSays, ReadSays, Lent, Outcome}
 use Rattle.says_records.specs.Theorems.FaultDecides.{fault-decides}
 use Rattle.says_reason.specs.Reason as s
-use Rattle.says_reason.specs.Reason.{GivesTo, Form, LineAt, Checksum, why, Twice, LineSays, FaultLine, ReasonSays}
+use Rattle.says_reason.specs.Reason.{GivesTo, LineAt, Checksum, why, Twice, LineSays, FaultLine, ReasonSays}
 use Rattle.says_reason.specs.Theorems.Decides.{not-both}
 
 tries-all : {X Y : Type 0} {Met : X → Type 0} {refusal : X → Y} {Then : Y → Type 0} (P : Y → Type 0) → ((x : X) → Met x → P (refusal x))
