@@ -406,8 +406,8 @@ struct dk_count dk_write_srec(const uint8_t *image, size_t image_len,
 enum dk_format { DK_INTEL_HEX = 0, DK_S_RECORDS = 1 };
 
 /* Reads a file of records: the byte at address a goes to bytes[a - load], and every other byte stays as it was. Block i is the sizes[i] bits from bit
- * offsets[i] on, ascending, touching ones joined; `count` is how many there are. Any format other than DK_INTEL_HEX is read as S-records of either width.
- * Refused 4 (place 0) where the file is bad: a line, a byte given twice or below `load`; then 14 where `bytes` (place 0) or a list (place 2) is too short.
+ * offsets[i] on, ascending, touching ones joined; `count` is how many there are. S-records may have either width.
+ * Refused 4 (place 0) where the format is neither, or the file bad: a line, a byte given twice or below `load`; then 14 where `bytes` (place 0) or a list (place 2) is too short.
  * Time grows with the text where records ascend, descend, or stand in a few blocks in any order; with the square of the number of lines where many records
  * jump. It needs less than 1 KiB of stack. */
 struct dk_count dk_read_records(uint8_t format, const uint8_t *text, size_t text_len, uint32_t load,
@@ -421,7 +421,7 @@ struct dk_fault {
     uint64_t line;  /* the first line at which no good file can go on, from 0 */
 };
 
-/* The same file, asked why it is refused with 4, in the same time. It needs less than 1 KiB of stack. */
+/* The same file, asked why it is refused with 4, in the same time. In a format that is neither no file is good: line 0. It needs less than 1 KiB of stack. */
 struct dk_fault dk_record_fault(uint8_t format, const uint8_t *text, size_t text_len, uint32_t load);
 
 /* Why a file of records is bad, in the order in which a line is looked at: the first of these that there is. `first` and `second` with it. */
@@ -451,7 +451,8 @@ struct dk_reason {
     uint64_t second;
 };
 
-/* The same file, asked what is wrong with the line at fault. Nothing is refused: every text has an answer, 0 where the file is good. It takes the time of
+/* The same file, asked what is wrong with the line at fault. Nothing is refused: every text has an answer, 0 where the file is good. (A format that is
+ * neither is taken for S-records here.) It takes the time of
  * dk_record_fault and of reading the lines before the one at fault once or twice more, and where a line is below `load` those of the whole text. It needs less
  * than 2 KiB of stack (1.1 KiB). */
 struct dk_reason dk_record_reason(uint8_t format, const uint8_t *text, size_t text_len, uint32_t load);

@@ -155,6 +155,9 @@ def requests(options):
     files = list(good_files())
     for kind, load, text in files:
         yield from requests_for(kind, load, text)
+        for neither in ("2", "255"):
+            yield read_request(neither, load, text)
+            yield f"fault {neither} {load} {text.hex()}"
     yield from every_byte(files[:options.every])
     rng = random.Random(options.seed)
     for _ in range(options.random):

@@ -5,7 +5,8 @@ which line is at fault.
     records.py --selftest     round trips on random images, and records from the formats' public descriptions
     records.py --batch        a request a line on standard input, its answer a line on standard output (oracle/README.md, "Records")
 
-Kinds: `hex`, `s2` (S1 and S9), `s4` (S3 and S7); a reader of S-records, `srec`, finds the width itself.
+Kinds: `hex`, `s2` (S1 and S9), `s4` (S3 and S7); a reader of S-records, `srec`, finds the width itself. A number is a format that is neither: it reads
+nothing, and the fault is at line 0.
 """
 import random
 
@@ -179,6 +180,8 @@ class SrecFile(File):
 
 def parse(kind, text, load):
     """The bytes by address, or BadLine."""
+    if kind.isdigit():
+        raise BadLine(0)
     file = HexFile(load) if kind == "hex" else SrecFile(load)
     n = 0
     for n, line in enumerate(lines_of(text), 1):

@@ -56,8 +56,11 @@ static void print_count(struct dk_count r)
         printf("refused %" PRIu64 " %" PRIu64, r.refusal, r.place);
 }
 
+/* `hex`, `srec`, or a number that is no format */
 static uint8_t format(const char *kind)
 {
+    if (*kind >= '0' && *kind <= '9')
+        return (uint8_t)strtoul(kind, NULL, 10);
     return strcmp(kind, "hex") == 0 ? DK_INTEL_HEX : DK_S_RECORDS;
 }
 

@@ -180,6 +180,12 @@ static void records(void)
         expect(n.refusal == DK_TOO_SHORT && n.place == 0 && untouched(), "a byte short");
         n = dk_read_records((uint8_t)kind, text, r.count, 0x1fffe, lent.image, 8, lent.offsets, 1, lent.sizes, 4);
         expect(n.refusal == DK_TOO_SHORT && n.place == 2 && untouched(), "a block short");
+        for (int neither = 2; neither < 256; neither++) {
+            n = dk_read_records((uint8_t)neither, text, r.count, 0x1fffe, lent.image, 8, lent.offsets, 4, lent.sizes, 4);
+            fault = dk_record_fault((uint8_t)neither, text, r.count, 0x1fffe);
+            expect(n.refusal == DK_MALFORMED && n.place == 0 && n.count == 0 && untouched() && fault.fault == 1 && fault.line == 0,
+                   "a format that is neither");
+        }
     }
     memset(text, 0xa5, sizeof text);
     r = dk_write_srec(image, 8, at, 2, size, 2, 0x1fffe, 2, text, sizeof text);

@@ -2,8 +2,10 @@
 use mathlib.Core.Path.{_≡_}
 use mathlib.Core.List.{List}
 use Prim.Native.Nat.{ℕ}
+use lib.Dec.{ltb}
+use Rattle.refusal.specs.Pick.{pick}
 use Rattle.record_write.specs.declared.Written.{Written}
-use Rattle.record_fault.specs.Reading.{Read}
+use Rattle.record_fault.specs.Reading.{Read, faulty, readText}
 use Rattle.record_fault.specs.Outcome.{faultOf}
 use Rattle.record_read.specs.Outcome.{Lent, answerOf, lentAfter}
 use Rattle.c_answers.specs.Counts.{blocksCount, writtenCount}
@@ -15,6 +17,10 @@ use Rattle.c_answers.specs.declared.DkFault.{DkFault}
 pub record WriteTold (answer : Written) (after : List ℕ) (r : DkCount) (new : List ℕ) : Type 0 where
   pub told : r ≡ writtenCount answer
   pub text : new ≡ after
+
+-- What a file says to a caller: format 0 is Intel HEX, 1 is S-records, and in a format that is neither no file is good, from its first line on.
+abbrev pub readAs : ℕ → ℕ → List ℕ → Read
+readAs format load text = pick (ltb format 2) (readText format load text) (faulty 0)
 
 -- What `dk_read_records` promises: the reader's answer, told in numbers, and the bytes and blocks lent.
 pub record ReadTold (load : ℕ) (read : Read) (old : Lent) (r : DkCount) (new : Lent) : Type 0 where

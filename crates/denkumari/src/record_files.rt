@@ -1,15 +1,20 @@
 // Files of Intel HEX and of S-records: the blocks of an image written, and a file read into bytes and blocks.
+use blocks::Blocks;
 use c_answers::DkCount;
 use c_answers::DkFault;
 use c_answers::tell_blocks;
 use c_answers::tell_fault;
 use c_answers::tell_written;
+use record_fault::Fault;
+use refusal::Refusal;
 ghost use mathlib.Core.Path.{_≡_};
 ghost use Rattle.record_write.specs.Outcome.{input, answerOf, textAfter};
 ghost use Rattle.record_srec.specs.Writing.{answerSrec, lentSrec};
-ghost use Rattle.record_fault.specs.Reading.{readText};
 ghost use Rattle.record_read.specs.Outcome.{lent};
-ghost use Rattle.denkumari.specs.RecordFiles.{WriteTold, ReadTold, FaultTold};
+ghost use Rattle.denkumari.specs.RecordFiles.{WriteTold, readAs, ReadTold, FaultTold};
+
+// Format 0 is Intel HEX, 1 S-records. There is no other.
+const FORMATS: u8 = 2;
 
 // The blocks of an image as Intel HEX from a load address on.
 #[no_mangle]
@@ -50,7 +55,7 @@ pub extern "C" fn dk_write_srec(
     tell_written(record_srec::write_srec(image, offsets, sizes, load, width, text))
 }
 
-// A file's bytes and blocks, from a load address on. Format 0 is Intel HEX, every other number S-records.
+// A file's bytes and blocks, from a load address on.
 #[no_mangle]
 pub extern "C" fn dk_read_records(
     format: u8,
@@ -61,18 +66,24 @@ pub extern "C" fn dk_read_records(
     sizes: &mut [u64],
 ) -> DkCount
     ensures { λ r. ⌜
-        ReadTold load (readText format load (now (text .entry)))
+        ReadTold load (readAs format load (now (text .entry)))
         (lent (now (bytes .entry)) (now (offsets .entry)) (now (sizes .entry))) r
         (lent (now (bytes .exit)) (now (offsets .exit)) (now (sizes .exit)))
         ⌝ }
 {
+    if format >= FORMATS {
+        return tell_blocks(Blocks::Refused(Refusal::Malformed(0)));
+    }
     tell_blocks(record_read::read(format, text, load, bytes, offsets, sizes))
 }
 
 // The line at which a file that is read so is at fault.
 #[no_mangle]
 pub extern "C" fn dk_record_fault(format: u8, text: &[u8], load: u32) -> DkFault
-    ensures { λ r. ⌜ FaultTold (readText format load (now (text .entry))) r ⌝ }
+    ensures { λ r. ⌜ FaultTold (readAs format load (now (text .entry))) r ⌝ }
 {
+    if format >= FORMATS {
+        return tell_fault(Fault::At(0));
+    }
     tell_fault(record_fault::line_at_fault(format, text, load))
 }

@@ -15,13 +15,15 @@ returns-2 c =
 
 returns-3 : tie.Need-returns-3
 returns-3 c =
-    let a = c .before .before .before .args in
-    (rw (eq-eqb (a .kind) 1 (c .before .before .if1 .left), ne-eqb (a .count) 0 (c .before .if2 .left), eq-eqb (a .address) (a .edge) (c .if3 .taken)), omega arith)
+    let i = c .before in
+    let a = i .before .before .args in
+    (rw (eq-eqb (a .kind) 1 (i .before .if1 .left), ne-eqb (a .count) 0 (i .if2 .left), eq-eqb (a .address) (a .edge) (c .if3 .taken)), omega arith)
 
 returns-4 : tie.Need-returns-4
 returns-4 c =
-    let a = c .before .before .before .args in
-    (rw (eq-eqb (a .kind) 1 (c .before .before .if1 .left), ne-eqb (a .count) 0 (c .before .if2 .left), ne-eqb (a .address) (a .edge) (c .if3 .left)), omega arith)
+    let i = c .before in
+    let a = i .before .before .args in
+    (rw (eq-eqb (a .kind) 1 (i .before .if1 .left), ne-eqb (a .count) 0 (i .if2 .left), ne-eqb (a .address) (a .edge) (c .if3 .left)), omega arith)
 
 pub begins-spec : {M : Type 1} → statement M
 begins-spec = tie.close (tie.spec returns returns-2 returns-3 returns-4)

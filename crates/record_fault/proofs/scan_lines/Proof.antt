@@ -68,10 +68,11 @@ begins-requires c κs = search needs
 -- no more lines than characters, and no more parts than lines
 add-parts : tie.Need-add-parts Inv-loop μ-loop
 add-parts c =
-    let l = c .before .before .before .before .before .before .before .before .before .before .before .before in
+    let i = c .before .before .before .before .before .before .before .before .before .before .before in
+    let l = i .before in
     let long = l .before .shared-slice-known .given in
     let sum : l .loop .parts + c .begins .result ≤ length (l .before .before .args .text .now) =
-    omega (arith, l .loop .inv .few, l .loop .inv .fewer, c .before .before .before .before .before .before .before .before .before .before .before .loop-test .taken, c .begins .ensures .1) in
+    omega (arith, l .loop .inv .few, l .loop .inv .fewer, i .loop-test .taken, c .begins .ensures .1) in
     search needs
 
 free-after-requires : tie.Need-free-after-requires Inv-loop μ-loop
@@ -79,9 +80,10 @@ free-after-requires c κs = search needs
 
 add-n : tie.Need-add-n Inv-loop μ-loop
 add-n c =
-    let l = c .before .before .before .before .before .before .before .before .before .before .before .before .before in
+    let i = c .before .before .before .before .before .before .before .before .before .before .before .before in
+    let l = i .before in
     let long = l .before .shared-slice-known .given in
-    let below : l .loop .n < length (l .before .before .args .text .now) = omega (arith, l .loop .inv .few, c .before .before .before .before .before .before .before .before .before .before .before .before .loop-test .taken) in
+    let below : l .loop .n < length (l .before .before .args .text .now) = omega (arith, l .loop .inv .few, i .loop-test .taken) in
     search needs
 
 loop-less : tie.Need-loop-less Inv-loop μ-loop

@@ -8,12 +8,16 @@ use Rattle.record_read.proofs.store.Statement.{statement}
 use Rattle.record_read.proofs.store.Tie as tie
 
 store-up-requires : tie.Need-store-up-requires
-store-up-requires c κs = let s = c .before .before .before .before .before .before .before .before in (s .pre .0, sym (s .pre .1 .1) ∙ c .before .before .before .if1 .taken)
+store-up-requires c κs =
+    let i = c .before .before .before in
+    let s = i .before .before .before .before .before in
+    (s .pre .0, sym (s .pre .1 .1) ∙ i .if1 .taken)
 
 same-length : tie.Need-same-length
 same-length c =
-    let a = c .before .before .before .before .before .before .before .before .before .before .before .before .before .before .before .args in
-    ap length (c .before .before .before .before .before .before .store-up .ensures .0) ∙ filled-long (a .load) (trail (a .format) (a .text .now) (a .n) .given) (a .bytes .now)
+    let u = c .before .before .before .before .before .before in
+    let a = u .before .before .before .before .before .before .before .before .before .args in
+    ap length (u .store-up .ensures .0) ∙ filled-long (a .load) (trail (a .format) (a .text .now) (a .n) .given) (a .bytes .now)
 
 same-length-2 : tie.Need-same-length-2
 same-length-2 c = put-long (c .before .before .before .before .before .before .store-up .ensures .1) .0
@@ -32,8 +36,9 @@ walk-any-requires c κs = let s = c .before .before .before .before .before .bef
 
 same-length-4 : tie.Need-same-length-4
 same-length-4 c =
-    let a = c .before .before .before .before .before .before .before .before .before .before .before .before .before .before .before .before .args in
-    ap length (c .before .before .before .before .before .before .before .before .before .fill .ensures) ∙ filled-long (a .load) (trail (a .format) (a .text .now) (a .n) .given) (a .bytes .now)
+    let f = c .before .before .before .before .before .before .before .before .before in
+    let a = f .before .before .before .before .before .before .before .args in
+    ap length (f .fill .ensures) ∙ filled-long (a .load) (trail (a .format) (a .text .now) (a .n) .given) (a .bytes .now)
 
 same-length-5 : tie.Need-same-length-5
 same-length-5 c = put-long (c .before .before .before .before .walk-any .ensures) .0

@@ -71,8 +71,9 @@ join-requires c κs = search needs
 
 add-k : tie.Need-add-k Inv-loop μ-loop
 add-k c =
-    let wide = c .before .before .before .before .before .before .before .before .before .before .before .before .before .before .before .before .before .before .before .before .before .before .fits .n in
-    let less = c .before .before .before .before .before .before .before .before .before .before .before .before .before .before .before .before .loop-test .taken in
+    let t = c .before .before .before .before .before .before .before .before .before .before .before .before .before .before .before in
+    let less = t .before .loop-test .taken in
+    let wide = start (t .before .before) .fits .n in
     search needs
 
 loop-less : tie.Need-loop-less Inv-loop μ-loop
@@ -80,14 +81,17 @@ loop-less c = search needs
 
 loop-again : tie.Need-loop-again Inv-loop μ-loop
 loop-again c =
-    let t = c .before .before .before .before .before .before .before .before .before .before .before .before .before .before .before in
+    let d = c .before .before .before .before .before in
+    let x = d .before .before .before in
+    let f = x .before .before .before in
+    let t = f .before .before .before .before in
     let i = t .before in
     let l = i .before in
     let a = start l .args in (
       filling-on (a .format) (a .text .now) (a .n) (a .load) (a .bytes .now) (l .loop .inv .0) (i .loop-test .taken) (t .known-line .ensures)
-          (t .known-line .ensures .part) (c .before .before .before .before .before .before .before .before .before .before .before .fill-line .ensures),
+          (t .known-line .ensures .part) (f .fill-line .ensures),
       rising-on (a .format) (a .text .now) (a .n) (a .load) (a .offsets .now) (a .sizes .now) (l .loop .inv .1) (start l .pre .1) (i .loop-test .taken)
-          (t .known-line .ensures) (c .before .before .before .before .before .before .before .before .extent .ensures) (c .before .before .before .before .before .close .ensures) (c .join .ensures),
+          (t .known-line .ensures) (x .extent .ensures) (d .close .ensures) (c .join .ensures),
     )
 
 push-requires : tie.Need-push-requires Inv-loop μ-loop
@@ -120,11 +124,12 @@ same-length-3 c =
 
 returns : tie.Need-returns Inv-loop μ-loop
 returns c =
-    let e = c .before .before .before .before .before .before .before in
+    let p = c .before .before .before .before in
+    let e = p .before .before .before in
     let l = e .before in
     let a = start l .args in (
       filling-ends (a .format) (a .text .now) (a .n) (a .load) (a .bytes .now) (l .loop .inv .0) (e .loop-test .left),
-      rising-ends (a .format) (a .text .now) (a .n) (a .load) (a .offsets .now) (a .sizes .now) (l .loop .inv .1) (e .loop-test .left) (c .before .before .before .before .push .ensures),
+      rising-ends (a .format) (a .text .now) (a .n) (a .load) (a .offsets .now) (a .sizes .now) (l .loop .inv .1) (e .loop-test .left) (p .push .ensures),
     )
 
 pub store-up-spec : {M : Type 1} → statement M

@@ -36,7 +36,9 @@ returns-3 c =
     (w .count-blocks .result) (w .count-blocks .ensures) (c .before .if2 .left) (c .if3 .taken)
 
 store-requires : tie.Need-store-requires
-store-requires c κs = let s = c .before .before .before .before .before .before .before .before .before .before .before in (s .pre .0, (s .pre .1 .0, s .pre .1 .1))
+store-requires c κs =
+    let s = c .before .before .before .before .before .before .before .before .before .before .before in
+    (s .pre .0, (s .pre .1 .0, s .pre .1 .1))
 
 same-length : tie.Need-same-length
 same-length c = search needs
@@ -49,11 +51,14 @@ same-length-3 c = search needs
 
 returns-4 : tie.Need-returns-4
 returns-4 c =
-    let w = c .before .before .before .before .before .before .before .before .before .before .before .before in
-    let s = c .before .before .before .before .before .before .before .before .before .before .before .before .before .before .before .before .before .before in
+    let u = c .before .before .before .before .before .before in
+    let j = u .before .before .before .before in
+    let w = j .before .before in
+    let i = w .before in
+    let s = i .before .before .before .before .before in
     let a = s .args in
-    reads-all (a .load) (pieces s) (a .bytes .now) (a .offsets .now) (a .sizes .now) (a .end) (s .pre .1 .0) (c .before .before .before .before .before .before .before .before .before .before .before .before .before .if1 .left)
-    (w .count-blocks .result) (w .count-blocks .ensures) (c .before .before .before .before .before .before .before .before .before .before .before .if2 .left) (c .before .before .before .before .before .before .before .before .before .before .if3 .left) (c .before .before .before .before .before .before .store .ensures)
+    reads-all (a .load) (pieces s) (a .bytes .now) (a .offsets .now) (a .sizes .now) (a .end) (s .pre .1 .0) (i .if1 .left)
+    (w .count-blocks .result) (w .count-blocks .ensures) (j .before .if2 .left) (j .if3 .left) (u .store .ensures)
 
 pub take-spec : {M : Type 1} → statement M
 take-spec =

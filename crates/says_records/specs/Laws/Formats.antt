@@ -2,13 +2,13 @@
 use mathlib.Core.Path.{_≡_, refl, sym, ap, _∙_, subst}
 use mathlib.Core.Bool.{true}
 use mathlib.Core.List.{List, [], _∷_, _++_}
-use mathlib.Core.Logic.{_⊎_, inl, inr}
+use mathlib.Core.Logic.{_⊎_, inl, inr, ⊎-elim}
 use Prim.Native.Nat.{ℕ, zero, suc, _+_, _*_, _-_, _≤_, _<_, _^_}
+use native.Mathlib.Decide.{ℕ-discrete}
 use native.Mathlib.Omega.{arith}
-use borrow.Author.Tests.{eq-eqb, ne-eqb, eqb-true, eqb-false}
-use lib.Dec.{eqb}
+use borrow.Author.Tests.{eq-eqb, ne-eqb}
 use lib.ListN.{length, getD}
-use Rattle.refusal.specs.Laws.Bools.{either, clash}
+use Rattle.refusal.specs.Laws.Bools.{clash}
 use Rattle.record_lines.specs.Items.{Item, gives, passes, ends, Format}
 use Rattle.record_lines.specs.Lines.{linesOf}
 use Rattle.record_lines.specs.Pieces.{Piece, piece}
@@ -252,15 +252,19 @@ module _ (format : ℕ) where
   as-hex : format ≡ 0 → (state : ℕ) (line : List ℕ) → here state line ≡ hexItem state line
   as-hex f state line = rw (eq-eqb format 0 f)
 
-  as-srec : (format ≡ 0 → ⊥) → (state : ℕ) (line : List ℕ) → here state line ≡ srecItem state line
-  as-srec n state line = rw (ne-eqb format 0 n)
+  as-srec : format ≡ 1 → (state : ℕ) (line : List ℕ) → here state line ≡ srecItem state line
+  as-srec n state line = rw (ne-eqb format 0 (λ z. omega arith))
+
+  -- there are two
+  pub one-of : format < 2 → (format ≡ 0) ⊎ (format ≡ 1)
+  one-of h = elim (ℕ-discrete format 0) [ yes e ↦ inl e | no e ↦ inr (omega arith) ]
 
   -- the states that come
   abbrev pub Comes : ℕ → Type 0
-  Comes st = (format ≡ 0) ⊎ ((format ≡ 0 → ⊥) × ((st ≡ 0) ⊎ back.Width st))
+  Comes st = (format ≡ 0) ⊎ ((format ≡ 1) × ((st ≡ 0) ⊎ back.Width st))
 
-  pub comes-first : Comes 0
-  comes-first = either (eqb format 0) (λ t. inl (eqb-true format 0 t)) (λ f. inr (eqb-false format 0 f, inl refl))
+  pub comes-first : format < 2 → Comes 0
+  comes-first h = ⊎-elim inl (λ n. inr (n, inl refl)) (one-of h)
 
   width-closing : {w : ℕ} → back.Width w → (st : ℕ) → agrees st w ≡ true → (l : List ℕ) × (srecItem st l ≡ ends)
   width-closing {w} v st own = (lineText (endDigit w) w 0 [], srec.item-end v st (srec-written v (endDigit w) 0 [] bytes-none (few v) (some v)) own)
@@ -291,25 +295,24 @@ module _ (format : ℕ) where
       let same : after ≡ st = srec-passes (srec.said st l) (sym (as-srec (n .0) st l) ∙ e) .3 in
       inr (n .0, subst (λ (u : ℕ). (u ≡ 0) ⊎ back.Width u) (sym same) (n .1))
 
-  pub all-above : {ls : List (List ℕ)} {ps : List Piece} → Tells (formatBy format) 0 ls ps → AllAbove ls
-  all-above t = either (eqb format 0)
-      (λ f. hex-lines-above (told-hex (tells-alike here hexItem (as-hex (eqb-true format 0 f)) t)))
-      (λ n. let k = told-srec (tells-alike here srecItem (as-srec (eqb-false format 0 n)) t) .1 in srec-lines-above (k .0) (k .2))
+  pub all-above : format < 2 → {ls : List (List ℕ)} {ps : List Piece} → Tells (formatBy format) 0 ls ps → AllAbove ls
+  all-above h t = ⊎-elim
+      (λ f. hex-lines-above (told-hex (tells-alike here hexItem (as-hex f) t)))
+      (λ n. let k = told-srec (tells-alike here srecItem (as-srec n) t) .1 in srec-lines-above (k .0) (k .2))
+      (one-of h)
 
   -- ---- a good file, by the sentences and by the definitions
   module _ (load : ℕ) where
-    pub good-of : {text : List ℕ} {ls : List (List ℕ)} {ps : List Piece} → Lines text ls → Tells (formatBy format) 0 ls ps → Sits load [] ps
+    pub good-of : format < 2 → {text : List ℕ} {ls : List (List ℕ)} {ps : List Piece} → Lines text ls → Tells (formatBy format) 0 ls ps → Sits load [] ps
         → Good format load text ps
-    good-of {ps = ps} lines t y = either (eqb format 0)
-        (λ f.
-        let e = eqb-true format 0 f in
-        s.good (s.hex e lines (told-hex (tells-alike here hexItem (as-hex e) t)))
+    good-of known {ps = ps} lines t y = ⊎-elim
+        (λ e. s.good (s.hex e lines (told-hex (tells-alike here hexItem (as-hex e) t)))
         (λ i a b g. let h = sat load ps [] y i a b g in (h .0, h .1)) (sits-apart load ps [] y))
-        (λ f.
-        let n = eqb-false format 0 f in
+        (λ n.
         let k = told-srec (tells-alike here srecItem (as-srec n) t) in
         s.good (s.s-records n (width-is (k .1 .0)) lines (k .1 .2))
         (λ i a b g. (sat load ps [] y i a b g .0, fits-below (256 ^ k .0) ps (k .1 .3) i a b g)) (sits-apart load ps [] y))
+        (one-of known)
 
     top-low : {w : ℕ} → back.Width w → 256 ^ w ≤ 4294967296
     top-low back.two = omega arith

@@ -74,11 +74,11 @@ srec-lines {w} v (p ∷ ps) all =
       s.piece {p = p} (srec-written v (dataDigit w) (p .address) (p .bytes) (f .0 .bytes) (omega (arith, f .1)) (f .0 .low)) (rest .1),
     )
 
-pub srec-any : {w : ℕ} → back.Width w → (format : ℕ) → Not (format ≡ 0) → (load : ℕ) (ps : List Piece)
-    → All (λ p. Fits (256 ^ w) 255 p × (w + length (p .bytes) + 1 ≤ 255)) ps → Sound load (256 ^ w) ps → (text : List ℕ) × Good format load text ps
-srec-any v format other load ps all sound =
+pub srec-any : {w : ℕ} → back.Width w → (load : ℕ) (ps : List Piece)
+    → All (λ p. Fits (256 ^ w) 255 p × (w + length (p .bytes) + 1 ≤ 255)) ps → Sound load (256 ^ w) ps → (text : List ℕ) × Good 1 load text ps
+srec-any v load ps all sound =
     let k = srec-lines v ps all in
-    (ended (k .0), s.good (s.s-records other (width-is v) (lines-ended (k .0) (srec-lines-above v (k .1))) (k .1)) (sound .0) (sound .1))
+    (ended (k .0), s.good (s.s-records refl (width-is v) (lines-ended (k .0) (srec-lines-above v (k .1))) (k .1)) (sound .0) (sound .1))
 
 pub srec-no-more : {k : Case} {line bytes : List ℕ} {kind width address : ℕ} → Srec k line kind width address bytes → width + length bytes + 1 ≤ 255
 srec-no-more x = omega (arith, spells-below (x .spelled) 0 (omega arith), x .counts)

@@ -8,11 +8,10 @@ use Rattle.bitvec.specs.Bits.{Bytes}
 use Rattle.sort.specs.Agree.{All}
 use Rattle.record_write.specs.Outcome.{input, answerOf, textAfter}
 use Rattle.record_srec.specs.Writing.{answerSrec, lentSrec}
-use Rattle.record_fault.specs.Reading.{readText}
 use Rattle.record_read.specs.Outcome.{lent}
 use Rattle.c_answers.specs.declared.DkCount.{DkCount}
 use Rattle.c_answers.specs.declared.DkFault.{DkFault}
-use Rattle.denkumari.specs.RecordFiles.{WriteTold, ReadTold, FaultTold}
+use Rattle.denkumari.specs.RecordFiles.{WriteTold, readAs, ReadTold, FaultTold}
 use Rattle.says_records.specs.Records.{Not, Lines}
 use Rattle.says_records.specs.Write as w
 use Rattle.says_records.specs.Write.{Given}
@@ -38,7 +37,7 @@ WritesSrec g width old r new =
 
 abbrev pub Reads : ℕ → ℕ → List ℕ → Lent → DkCount → Lent → Type 0
 Reads format load text old r new =
-    ReadTold load (readText format load text) (lent (old .bytes) (old .offsets) (old .sizes)) r (lent (new .bytes) (new .offsets) (new .sizes))
+    ReadTold load (readAs format load text) (lent (old .bytes) (old .offsets) (old .sizes)) r (lent (new .bytes) (new .offsets) (new .sizes))
 
 abbrev written : DkCount → List ℕ → w.Outcome
 written r new = record { answer = r; text = new }
@@ -64,19 +63,19 @@ module _ (g : Given) (bytes : Bytes (g .image)) (old : List ℕ) (r : DkCount) (
         (read-meets 0 (g .load) (take (r .count) new) into q after d)
 
     -- "proved once over both address widths"
-    pub srec-back : (width format : ℕ) → Not (format ≡ 0) → WritesSrec g width old r new → Reads format (g .load) (take (r .count) new) into q after
+    pub srec-back : (width : ℕ) → WritesSrec g width old r new → Reads 1 (g .load) (take (r .count) new) into q after
         → Returned g into (read q after)
-    srec-back width format other c d =
-        srec-comes-back g old width format other (written r new) (write-srec-meets g old bytes width r new c) accepted into room (read q after)
-        (read-meets format (g .load) (take (r .count) new) into q after d)
+    srec-back width c d =
+        srec-comes-back g old width (written r new) (write-srec-meets g old bytes width r new c) accepted into room (read q after)
+        (read-meets 1 (g .load) (take (r .count) new) into q after d)
 
 -- ---- what is read
 module _ (load : ℕ) (text : List ℕ) (old : Lent) (r : DkCount) (new : Lent) (fine : Not (r .refusal ≡ 4)) where
   pub hex-lines-sum : Reads 0 load text old r new → (ls : List (List ℕ)) × Lines text ls × All SumsToZero ls
   hex-lines-sum c = hex-read-sums load text old (read r new) (read-meets 0 load text old r new c) fine
 
-  pub srec-lines-sum : (format : ℕ) → Not (format ≡ 0) → Reads format load text old r new → (ls : List (List ℕ)) × Lines text ls × All Complements ls
-  srec-lines-sum format other c = srec-read-sums load text old format (read r new) other (read-meets format load text old r new c) fine
+  pub srec-lines-sum : Reads 1 load text old r new → (ls : List (List ℕ)) × Lines text ls × All Complements ls
+  srec-lines-sum c = srec-read-sums load text old (read r new) (read-meets 1 load text old r new c) fine
 
 module _ (format load : ℕ) (text other : List ℕ) (old : Lent) (r q : DkCount) (new after : Lent) where
   both : read r new ≡ read q after → (r ≡ q) × (new ≡ after)
@@ -95,7 +94,7 @@ module _ (format load : ℕ) (text other : List ℕ) (old : Lent) (r q : DkCount
       both (cr-lf-free a x old (read r new) (read q after) (read-meets format load text old r new c) (read-meets format load other old q after d))
 
 pub either-end-fault : (format load : ℕ) (text other : List ℕ) (r q : DkFault) {ls : List (List ℕ)} → Lines text ls → LineEnds text other
-    → FaultTold (readText format load text) r → FaultTold (readText format load other) q → r ≡ q
+    → FaultTold (readAs format load text) r → FaultTold (readAs format load other) q → r ≡ q
 either-end-fault format load text other r q a x c d =
     cr-lf-fault a x r q (fault-meets format load text r c) (fault-meets format load other q d)
 

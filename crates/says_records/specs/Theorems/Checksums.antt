@@ -3,6 +3,7 @@
 use mathlib.Core.Path.{_≡_, refl, sym, subst}
 use mathlib.Core.List.{List, [], _∷_, _++_, append-assoc}
 use Prim.Native.Nat.{ℕ, _+_, _-_, _%_}
+use native.Mathlib.Omega.{arith}
 use lib.ListN.{length, take}
 use Rattle.sort.specs.Agree.{All}
 use Rattle.record_lines.specs.Pieces.{Piece}
@@ -81,10 +82,10 @@ module _ (g : Given) (old : List ℕ) (y : w.Outcome) where
 module _ (load : ℕ) (text : List ℕ) (old : Lent) where
   hex-good : {format : ℕ} {ps : List Piece} → format ≡ 0 → Good format load text ps → (ls : List (List ℕ)) × Lines text ls × All SumsToZero ls
   hex-good e (s.good (s.hex {ls = ls} f lines x) i o) = (ls, lines, hex-all x)
-  hex-good e (s.good (s.s-records n v lines x) i o) = absurd (n e)
+  hex-good e (s.good (s.s-records n v lines x) i o) = absurd (omega arith)
 
-  srec-good : {format : ℕ} {ps : List Piece} → Not (format ≡ 0) → Good format load text ps → (ls : List (List ℕ)) × Lines text ls × All Complements ls
-  srec-good n (s.good (s.hex f lines x) i o) = absurd (n f)
+  srec-good : {format : ℕ} {ps : List Piece} → format ≡ 1 → Good format load text ps → (ls : List (List ℕ)) × Lines text ls × All Complements ls
+  srec-good n (s.good (s.hex f lines x) i o) = absurd (omega arith)
   srec-good n (s.good (s.s-records {ls = ls} m v lines x) i o) = (ls, lines, srec-all x)
 
   -- a file that is no bad file
@@ -92,7 +93,7 @@ module _ (load : ℕ) (text : List ℕ) (old : Lent) where
   hex-read-sums y (s.bad b words.is) n = absurd (n refl)
   hex-read-sums y (s.read g b t) n = hex-good refl g
 
-  pub srec-read-sums : (format : ℕ) (y : s.Outcome) → Not (format ≡ 0) → ReadSays format load text old y → Not (y .answer .refusal ≡ 4)
+  pub srec-read-sums : (y : s.Outcome) → ReadSays 1 load text old y → Not (y .answer .refusal ≡ 4)
       → (ls : List (List ℕ)) × Lines text ls × All Complements ls
-  srec-read-sums format y other (s.bad b words.is) n = absurd (n refl)
-  srec-read-sums format y other (s.read g b t) n = srec-good other g
+  srec-read-sums y (s.bad b words.is) n = absurd (n refl)
+  srec-read-sums y (s.read g b t) n = srec-good refl g

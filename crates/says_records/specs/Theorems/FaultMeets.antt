@@ -1,15 +1,17 @@
 -- What `dk_record_fault` promises says its sentences, for Intel HEX and for S-records.
 use mathlib.Core.Path.{_≡_, refl, sym, ap, _∙_, subst}
 use mathlib.Core.List.{List, []}
-use Prim.Native.Nat.{ℕ, suc}
+use Prim.Native.Nat.{ℕ, suc, _<_}
+use native.Mathlib.Decide.{decLt}
 use native.Mathlib.Omega.{arith}
+use borrow.Author.Tests.{lt-ltb, le-ltb}
 use Rattle.record_lines.specs.Lines.{linesOf}
 use Rattle.record_lines.specs.Pieces.{Piece}
 use Rattle.record_fault.specs.Reading.{formatBy, Read, sound, faulty, readFrom, readText}
 use Rattle.record_fault.specs.Outcome.{faultOf}
 use Rattle.c_answers.specs.Parts.{lineTold}
 use Rattle.c_answers.specs.declared.DkFault.{DkFault}
-use Rattle.denkumari.specs.RecordFiles.{FaultTold}
+use Rattle.denkumari.specs.RecordFiles.{readAs, FaultTold}
 use Rattle.says_records.specs.Read as s
 use Rattle.says_records.specs.Read.{Good, GoesOn, FaultSays}
 use Rattle.says_records.specs.Laws.One.{lines-one}
@@ -24,18 +26,18 @@ module _ (format load : ℕ) (text : List ℕ) where
   pub good-sound : {ps : List Piece} → Good format load text ps → readText format load text ≡ sound (solid ps)
   good-sound g = let k = of-good format load g in told-sound (formatBy format) load (k .0) [] (k .1)
 
-  pub sound-good : (out : List Piece) → readText format load text ≡ sound out → (ps : List Piece) × Good format load text ps × (out ≡ solid ps)
-  sound-good out e =
+  pub sound-good : format < 2 → (out : List Piece) → readText format load text ≡ sound out → (ps : List Piece) × Good format load text ps × (out ≡ solid ps)
+  sound-good known out e =
       let m = sound-told (formatBy format) load (linesOf text) 0 [] out e in
-      (m .0, good-of format load (lines-meet text) (m .1) (m .2), m .3)
+      (m .0, good-of format load known (lines-meet text) (m .1) (m .2), m .3)
 
   -- up to the line at fault some good file goes on
-  goes-before : (i : ℕ) → readText format load text ≡ faulty i → GoesOn format load text i
-  goes-before i e =
+  goes-before : format < 2 → (i : ℕ) → readText format load text ≡ faulty i → GoesOn format load text i
+  goes-before known i e =
       let m = fault-told (formatBy format) load (Comes format) (closing format) (given-on format) (passed-on format) (linesOf text) 0 i []
-      (comes-first format) e in
-      let lines = lines-ended (m .0) (all-above format (m .2)) in
-      s.goes-on (good-of format load lines (m .2) (m .3)) (lines-meet text) lines (m .4)
+      (comes-first format known) e in
+      let lines = lines-ended (m .0) (all-above format known (m .2)) in
+      s.goes-on (good-of format load known lines (m .2) (m .3)) (lines-meet text) lines (m .4)
 
 module _ (format load : ℕ) where
   differ : {l : List Piece} {j : ℕ} → sound l ≡ faulty j → ⊥
@@ -51,9 +53,14 @@ module _ (format load : ℕ) where
       differ (sym (good-sound format load other fit) ∙ read)
 
   module _ (text : List ℕ) where
-    fault-says : (x : Read) → readText format load text ≡ x → FaultSays format load text (lineTold (faultOf x))
-    fault-says (sound out) e = s.none (sound-good format load text out e .1)
-    fault-says (faulty i) e = s.at (goes-before format load text i e) (no-good-file text i e)
+    fault-says : format < 2 → (x : Read) → readText format load text ≡ x → FaultSays format load text (lineTold (faultOf x))
+    fault-says known (sound out) e = s.none (sound-good format load text known out e .1)
+    fault-says known (faulty i) e = s.at (goes-before format load text known i e) (no-good-file text i e)
 
-    pub fault-meets : (r : DkFault) → FaultTold (readText format load text) r → FaultSays format load text r
-    fault-meets r c = subst (FaultSays format load text) (sym (c .answer)) (fault-says (readText format load text) refl)
+    pub fault-meets : (r : DkFault) → FaultTold (readAs format load text) r → FaultSays format load text r
+    fault-meets r c =
+        subst (FaultSays format load text) (sym (c .answer))
+        (elim (decLt format 2) [
+          | yes h ↦ rw (lt-ltb format 2 h) (fault-says h (readText format load text) refl)
+          | no h ↦ rw (le-ltb format 2 (omega arith)) (s.no-format (λ z. omega arith) (λ z. omega arith))
+        ])

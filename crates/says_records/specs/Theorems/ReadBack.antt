@@ -93,13 +93,13 @@ hex-own g old y x e =
     let k = hex-back (f .text) in
     (f .pieces, s.good (s.hex refl (k .1) (k .2)) (within g old y f) (once g old y f), own g old y f)
 
-pub srec-own : (g : Given) (old : List ℕ) (width format : ℕ) → Not (format ≡ 0) → (y : w.Outcome) → SrecSays g old width y → y .answer .refusal ≡ 0
-    → (ps : List Piece) × Good format (g .load) (file y) ps × Own g ps
-srec-own g old width format other y x e =
+pub srec-own : (g : Given) (old : List ℕ) (width : ℕ) (y : w.Outcome) → SrecSays g old width y → y .answer .refusal ≡ 0
+    → (ps : List Piece) × Good 1 (g .load) (file y) ps × Own g ps
+srec-own g old width y x e =
     let q = srec-filed g old width y x e in
     let f = q .4 in
     let k = srec-back (q .3) (f .text) in
-    (f .pieces, s.good (s.s-records other (q .3) (k .1) (k .2)) (within g old y f) (once g old y f), own g old y f)
+    (f .pieces, s.good (s.s-records refl (q .3) (k .1) (k .2)) (within g old y f) (once g old y f), own g old y f)
 
 -- ---- as many blocks at most
 module _ (qs ns : List ℕ) where
@@ -324,10 +324,10 @@ hex-comes-back g old y x e lent room z r =
     let k = hex-own g old y x e in
     comes-back g 0 (file y) (k .0) (k .1) (k .2) (ordered-of g 4294967296 (f .places)) (some-of g (f .parts)) (paired-of g old y f) lent room z r
 
-pub srec-comes-back : (g : Given) (old : List ℕ) (width format : ℕ) → Not (format ≡ 0) → (y : w.Outcome) → SrecSays g old width y → y .answer .refusal ≡ 0
-    → (lent : Lent) → Room g lent → (z : Outcome) → ReadSays format (g .load) (take (y .answer .count) (y .text)) lent z → Returned g lent z
-srec-comes-back g old width format other y x e lent room z r =
+pub srec-comes-back : (g : Given) (old : List ℕ) (width : ℕ) (y : w.Outcome) → SrecSays g old width y → y .answer .refusal ≡ 0
+    → (lent : Lent) → Room g lent → (z : Outcome) → ReadSays 1 (g .load) (take (y .answer .count) (y .text)) lent z → Returned g lent z
+srec-comes-back g old width y x e lent room z r =
     let q = srec-filed g old width y x e in
     let f = q .4 in
-    let k = srec-own g old width format other y x e in
-    comes-back g format (file y) (k .0) (k .1) (k .2) (ordered-of g (q .2) (f .places)) (some-of g (f .parts)) (paired-of g old y f) lent room z r
+    let k = srec-own g old width y x e in
+    comes-back g 1 (file y) (k .0) (k .1) (k .2) (ordered-of g (q .2) (f .places)) (some-of g (f .parts)) (paired-of g old y f) lent room z r

@@ -4,8 +4,9 @@ use mathlib.Core.Bool.{Bool, true, false, _&&_}
 use mathlib.Core.List.{List}
 use mathlib.Core.Logic.{_⊎_, inl, inr, ⊎-elim}
 use Prim.Native.Nat.{ℕ, _+_, _-_, _≤_, _<_}
+use native.Mathlib.Decide.{decLt}
 use native.Mathlib.Omega.{arith}
-use borrow.Author.Tests.{leb-true, leb-false}
+use borrow.Author.Tests.{leb-true, leb-false, lt-ltb, le-ltb}
 use lib.ListN.{length, getD, length-map, List·getD-eq-default}
 use Rattle.refusal.specs.Laws.Bools.{either}
 use Rattle.refusal.specs.Pick.{pick}
@@ -29,7 +30,7 @@ use Rattle.record_read.specs.Outcome as fill
 use Rattle.record_read.specs.Outcome.{lent, bytesFit, blocksFit, answerOf, lentAfter}
 use Rattle.c_answers.specs.Counts.{blocksCount}
 use Rattle.c_answers.specs.declared.DkCount.{DkCount}
-use Rattle.denkumari.specs.RecordFiles.{ReadTold}
+use Rattle.denkumari.specs.RecordFiles.{readAs, ReadTold}
 use Rattle.says.specs.Words.{Tries, refused, passed, is}
 use Rattle.says_records.specs.Read as s
 use Rattle.says_records.specs.Read.{GivenTo, Good, Lent, Outcome, Filled, Accepts, ReadSays, refusal}
@@ -132,20 +133,32 @@ module _ (format load : ℕ) (text : List ℕ) (old : Lent) where
     good-says = s.read fit (blocks-are format load text ps (above fit)) (tried (bytesFit load out before) (blocksFit load out before) refl refl)
 
   -- ---- any file
-  read-says : (x : Read) → readText format load text ≡ x → ReadSays format load text old (outcome x)
-  read-says (faulty i) e = s.bad (λ ps g. differ (sym (good-sound format load text g) ∙ e)) is
-  read-says (sound out) e =
-      let k = sound-good format load text out e in
+  read-says : format < 2 → (x : Read) → readText format load text ≡ x → ReadSays format load text old (outcome x)
+  read-says known (faulty i) e = s.bad (λ ps g. differ (sym (good-sound format load text g) ∙ e)) is
+  read-says known (sound out) e =
+      let k = sound-good format load text known out e in
       let fine = subst (Fine load) (k .2) (sound-pieces-fine format load text out e) in
       subst (λ (l : List Piece). ReadSays format load text old (outcome (sound l))) (sym (k .2)) (good-says (k .0) (k .1) fine)
 
+  -- a format that is neither
+  never-good : 2 ≤ format → (ps : List Piece) → Good format load text ps → ⊥
+  never-good h ps (s.good (s.hex e lines x) i o) = omega arith
+  never-good h ps (s.good (s.s-records e v lines x) i o) = omega arith
+
+  says-all : ReadSays format load text old (outcome (readAs format load text))
+  says-all =
+      elim (decLt format 2) [
+        | yes h ↦ rw (lt-ltb format 2 h) (read-says h (readText format load text) refl)
+        | no h ↦ rw (le-ltb format 2 (omega arith)) (s.bad (never-good (omega arith)) is)
+      ]
+
   pub read-meets : (r : DkCount) (new : Lent)
-      → ReadTold load (readText format load text) (lent (old .bytes) (old .offsets) (old .sizes)) r (lent (new .bytes) (new .offsets) (new .sizes))
+      → ReadTold load (readAs format load text) (lent (old .bytes) (old .offsets) (old .sizes)) r (lent (new .bytes) (new .offsets) (new .sizes))
       → ReadSays format load text old (record { answer = r; lent = new })
   read-meets r new c =
-      let same : new ≡ outcome (readText format load text) .lent = ap
+      let same : new ≡ outcome (readAs format load text) .lent = ap
       (λ (l : fill.Lent). record { bytes = l .bytes; offsets = l .offsets; sizes = l .sizes }) (c .left) in
       subst (λ (y : DkCount). ReadSays format load text old (record { answer = y; lent = new })) (sym (c .answer))
       (subst (λ (y : Lent). ReadSays format load text old
-      (record { answer = blocksCount (answerOf load before (readText format load text)); lent = y })) (sym same)
-      (read-says (readText format load text) refl))
+      (record { answer = blocksCount (answerOf load before (readAs format load text)); lent = y })) (sym same)
+      says-all)

@@ -99,7 +99,7 @@ alike format load text other old to back y z (s.read {ps = ps} g b t) u =
 -- ---- any order: data records that change places, anywhere in a file, as often as one likes (in Intel HEX not across a type 04 record)
 pub data DataRecord (format : ℕ) (line : List ℕ) : Type 0 where
   hex : {field : ℕ} {bytes : List ℕ} → format ≡ 0 → Hex r.either line 0 field bytes → DataRecord format line
-  s-record : {d e width top address : ℕ} {bytes : List ℕ} → Not (format ≡ 0) → Width d e width top → Srec r.either line d width address bytes
+  s-record : {d e width top address : ℕ} {bytes : List ℕ} → format ≡ 1 → Width d e width top → Srec r.either line d width address bytes
       → DataRecord format line
 
 pub data Reordered (format : ℕ) : List (List ℕ) → List (List ℕ) → Type 0 where
@@ -132,7 +132,7 @@ module _ {format : ℕ} where
 
   is-hex : format ≡ 0 → {l : List ℕ} → DataRecord format l → (f : ℕ) × (b : List ℕ) × Hex r.either l 0 f b
   is-hex e (hex {field} {bytes} f h) = (field, bytes, h)
-  is-hex e (s-record n v h) = absurd (n e)
+  is-hex e (s-record n v h) = absurd (omega arith)
 
   module _ (z : format ≡ 0) where
     hex-swap : {u : ℕ} {l m : List ℕ} {ls : List (List ℕ)} {ps : List Piece} → DataRecord format l → DataRecord format m → HexLines u (l ∷ m ∷ ls) ps
@@ -155,12 +155,12 @@ module _ {format : ℕ} where
         let m = hex-reordered y (k .1) in
         (m .0, m .1, shuffle.chain (k .2) (m .2))
 
-  is-srec : Not (format ≡ 0) → {l : List ℕ} → DataRecord format l
+  is-srec : format ≡ 1 → {l : List ℕ} → DataRecord format l
       → (d : ℕ) × (e : ℕ) × (w : ℕ) × (top : ℕ) × (a : ℕ) × (b : List ℕ) × Width d e w top × Srec r.either l d w a b
-  is-srec n (hex e h) = absurd (n e)
+  is-srec n (hex e h) = absurd (omega arith)
   is-srec n (s-record {d} {e} {width} {top} {address} {bytes} m v h) = (d, e, width, top, address, bytes, v, h)
 
-  module _ (n : Not (format ≡ 0)) {d e w top : ℕ} (v : Width d e w top) where
+  module _ (n : format ≡ 1) {d e w top : ℕ} (v : Width d e w top) where
     no-end : {l : List ℕ} {a : ℕ} {b : List ℕ} → DataRecord format l → Srec r.either l e w a b → ⊥
     no-end x h = let k = is-srec n x in distinct (k .6) v .0 (srec-kind (k .7) h)
 
@@ -219,6 +219,7 @@ module _ {format load : ℕ} {text other : List ℕ} {ls : List (List ℕ)} (a :
   fault-free y z (s.none g) x = fault-decides format load other y z (s.none (same-lines a b g)) x
   fault-free y z (s.at {i} on never) x =
       fault-decides format load other y z (s.at {i = i} (goes-there a b i on) (λ o. never (goes-there b a (suc i) o))) x
+  fault-free y z (s.no-format p q) x = fault-decides format load other y z (s.no-format p q) x
 
 -- CR LF in the place of LF, at any lines of a text without CR.
 pub data LineEnds : List ℕ → List ℕ → Type 0 where
