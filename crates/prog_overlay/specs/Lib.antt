@@ -1,2 +1,3 @@
-pub mod Shown
-pub mod Theorems
+pub mod Images
+pub mod Program
+pub mod Steps

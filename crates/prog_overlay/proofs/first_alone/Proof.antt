@@ -1,0 +1,103 @@
+-- `first_alone` meets its contract: what is left of the overlay's blocks leads to the same byte.
+use mathlib.Core.Path.{_≡_, refl, sym, _∙_}
+use Prim.Native.Nat.{_-_}
+use native.Mathlib.Omega.{arith}
+use lib.ListN.{length, drop}
+use Rattle.prog_overlay.specs.Images.{aloneIn}
+use Rattle.prog_overlay.proofs.Laws.{alone-end, alone-here, alone-on, alone-nowhere}
+use borrow.Author.Needs.{needs}
+use Rattle.prog_overlay.proofs.first_alone.Statement.{statement}
+use Rattle.prog_overlay.proofs.first_alone.Tie as tie
+
+abbrev Inv-loop : tie.InvT-loop
+Inv-loop released-offsets released-sizes offsets sizes end i₀ i =
+    aloneIn released-offsets released-sizes offsets sizes end ≡ aloneIn released-offsets released-sizes (drop i offsets) (drop i sizes) end
+
+abbrev μ-loop : tie.MeasureT-loop
+μ-loop released-offsets released-sizes offsets sizes end i₀ i = length offsets - i
+
+loop-holds : tie.Need-loop-holds Inv-loop μ-loop
+loop-holds c = refl
+
+returns : tie.Need-returns Inv-loop μ-loop
+returns c =
+    let a = c .before .before .before .before .before .before .before .args in
+    let l = c .before .before .loop in (
+      sym (l .inv ∙ alone-nowhere (a .released-offsets .now) (a .released-sizes .now) (a .offsets .now) (a .sizes .now) (l .i) (a .end)
+          (omega (arith, c .if1 .taken))),
+      omega arith,
+    )
+
+mul-offset : tie.Need-mul-offset Inv-loop μ-loop
+mul-offset c = search needs
+
+shared-slice-read-offset : tie.Need-shared-slice-read-offset Inv-loop μ-loop
+shared-slice-read-offset c = search needs
+
+first-free-requires : tie.Need-first-free-requires Inv-loop μ-loop
+first-free-requires c κs = search needs
+
+mul-end-of : tie.Need-mul-end-of Inv-loop μ-loop
+mul-end-of c = search needs
+
+shared-slice-read-end-of : tie.Need-shared-slice-read-end-of Inv-loop μ-loop
+shared-slice-read-end-of c = search needs
+
+end-of-requires : tie.Need-end-of-requires Inv-loop μ-loop
+end-of-requires c κs = search needs
+
+returns-2 : tie.Need-returns-2 Inv-loop μ-loop
+returns-2 c =
+    let a = c .before .before .before .before .before .before .before .before .before .before .before .before .args in
+    let l = c .before .before .before .before .before .before .before .loop in
+    let f = c .before .before .before .first-free .ensures in
+    let e = c .before .end-of .ensures in (
+      f .0
+          ∙ sym (l .inv ∙ alone-here (a .released-offsets .now) (a .released-sizes .now) (a .offsets .now) (a .sizes .now) (l .i) (a .end)
+          (c .before .before .before .before .before .before .loop-test .taken) (omega (arith, c .before .before .before .before .before .if1 .left)) (omega (arith, f .0, e .0, c .if2 .taken))),
+      omega (arith, e .1, c .if2 .taken),
+    )
+
+add-i : tie.Need-add-i Inv-loop μ-loop
+add-i c = search needs
+
+loop-less : tie.Need-loop-less Inv-loop μ-loop
+loop-less c = search needs
+
+loop-again : tie.Need-loop-again Inv-loop μ-loop
+loop-again c =
+    let a = c .before .before .before .before .before .before .before .before .before .before .before .before .args in
+    let l = c .before .before .before .before .before .before .before .loop in
+    let f = c .before .before .before .first-free .ensures in
+    let e = c .before .end-of .ensures in
+    l .inv ∙ alone-on (a .released-offsets .now) (a .released-sizes .now) (a .offsets .now) (a .sizes .now) (l .i) (a .end)
+    (c .before .before .before .before .before .before .loop-test .taken) (omega (arith, c .before .before .before .before .before .if1 .left)) (omega (arith, f .0, e .0, c .if2 .left))
+
+returns-3 : tie.Need-returns-3 Inv-loop μ-loop
+returns-3 c =
+    let a = c .before .before .before .before .before .before .args in
+    let l = c .before .loop in (
+      sym (l .inv ∙ alone-end (a .released-offsets .now) (a .released-sizes .now) (a .offsets .now) (a .sizes .now) (l .i) (a .end)
+          (omega (arith, c .loop-test .left))),
+      omega arith,
+    )
+
+pub first-alone-spec : {M : Type 1} → statement M
+first-alone-spec =
+    tie.close
+    (tie.spec
+    Inv-loop
+    μ-loop
+    loop-holds
+    returns
+    mul-offset
+    shared-slice-read-offset
+    first-free-requires
+    mul-end-of
+    shared-slice-read-end-of
+    end-of-requires
+    returns-2
+    add-i
+    loop-less
+    loop-again
+    returns-3)

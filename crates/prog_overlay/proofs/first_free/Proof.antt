@@ -1,0 +1,81 @@
+-- `first_free` meets its contract: what is left of the blocks leads from the byte that is reached to the same one.
+use mathlib.Core.Path.{_≡_, refl, sym, ap, _∙_}
+use Prim.Native.Nat.{_+_, _-_, _≤_, max}
+use native.Mathlib.Omega.{arith}
+use lib.ListN.{length, drop}
+use Rattle.prog_overlay.specs.Images.{freeFrom}
+use Rattle.prog_overlay.specs.Steps.{far}
+use Rattle.prog_overlay.proofs.Laws.{free-on, free-end, free-none}
+use borrow.Author.Needs.{needs}
+use Rattle.prog_overlay.proofs.first_free.Statement.{statement}
+use Rattle.prog_overlay.proofs.first_free.Tie as tie
+
+abbrev Inv-loop : tie.InvT-loop
+Inv-loop offsets sizes at free₀ i₀ free i = (freeFrom offsets sizes at ≡ freeFrom (drop i offsets) (drop i sizes) free) × (free ≤ max at far)
+
+abbrev μ-loop : tie.MeasureT-loop
+μ-loop offsets sizes at free₀ i₀ free i = length offsets - i
+
+loop-holds : tie.Need-loop-holds Inv-loop μ-loop
+loop-holds c = (refl, omega arith)
+
+returns : tie.Need-returns Inv-loop μ-loop
+returns c =
+    let a = c .before .before .before .before .before .args in
+    let l = c .before .before .loop in
+    (sym (l .inv .0 ∙ free-none (a .offsets .now) (a .sizes .now) (l .i) (l .free) (omega (arith, c .if1 .taken))), l .inv .1)
+
+mul-beyond : tie.Need-mul-beyond Inv-loop μ-loop
+mul-beyond c = search needs
+
+shared-slice-read-beyond : tie.Need-shared-slice-read-beyond Inv-loop μ-loop
+shared-slice-read-beyond c = search needs
+
+mul-beyond-2 : tie.Need-mul-beyond-2 Inv-loop μ-loop
+mul-beyond-2 c = search needs
+
+shared-slice-read-beyond-2 : tie.Need-shared-slice-read-beyond-2 Inv-loop μ-loop
+shared-slice-read-beyond-2 c = search needs
+
+beyond-requires : tie.Need-beyond-requires Inv-loop μ-loop
+beyond-requires c κs = search needs
+
+add-i : tie.Need-add-i Inv-loop μ-loop
+add-i c = search needs
+
+loop-less : tie.Need-loop-less Inv-loop μ-loop
+loop-less c = search needs
+
+loop-again : tie.Need-loop-again Inv-loop μ-loop
+loop-again c =
+    let a = c .before .before .before .before .before .before .before .before .args in
+    let l = c .before .before .before .before .before .loop in
+    let b = c .beyond .ensures in (
+      l .inv .0 ∙ free-on (a .offsets .now) (a .sizes .now) (l .i) (l .free) (c .before .before .before .before .loop-test .taken) (omega (arith, c .before .before .before .if1 .left))
+          ∙ ap (freeFrom (drop (l .i + 1) (a .offsets .now)) (drop (l .i + 1) (a .sizes .now))) (sym (b .0)),
+      omega (arith, b .1, l .inv .1),
+    )
+
+returns-2 : tie.Need-returns-2 Inv-loop μ-loop
+returns-2 c =
+    let a = c .before .before .before .before .args in
+    let l = c .before .loop in
+    (sym (l .inv .0 ∙ free-end (a .offsets .now) (a .sizes .now) (l .i) (l .free) (omega (arith, c .loop-test .left))), l .inv .1)
+
+pub first-free-spec : {M : Type 1} → statement M
+first-free-spec =
+    tie.close
+    (tie.spec
+    Inv-loop
+    μ-loop
+    loop-holds
+    returns
+    mul-beyond
+    shared-slice-read-beyond
+    mul-beyond-2
+    shared-slice-read-beyond-2
+    beyond-requires
+    add-i
+    loop-less
+    loop-again
+    returns-2)

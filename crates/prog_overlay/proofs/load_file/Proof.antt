@@ -1,0 +1,43 @@
+-- `load_file` meets its contract: a file that is too long is refused at once, and every other one is read.
+use native.Mathlib.Omega.{arith}
+use Rattle.record_read.specs.Outcome.{lent}
+use Rattle.prog_overlay.proofs.Loading.{too-long, loaded}
+use borrow.Author.Needs.{needs}
+use Rattle.prog_overlay.proofs.load_file.Statement.{statement}
+use Rattle.prog_overlay.proofs.load_file.Tie as tie
+
+returns : tie.Need-returns
+returns c =
+    let a = c .before .before .before .before .before .args in
+    too-long (a .load) (a .bytes .now) (a .source .now) (omega (arith, c .if1 .taken))
+
+read-requires : tie.Need-read-requires
+read-requires c κs = search needs
+
+same-length : tie.Need-same-length
+same-length c = search needs
+
+same-length-2 : tie.Need-same-length-2
+same-length-2 c = search needs
+
+same-length-3 : tie.Need-same-length-3
+same-length-3 c = search needs
+
+returns-2 : tie.Need-returns-2
+returns-2 c =
+    let s = c .before .before .before .before .before .before .before .before .before .before .before .before .before .before .before in
+    let a = s .args in
+    loaded (a .load) (lent (a .bytes .now) (a .offsets .now) (a .sizes .now)) (s .pre .0) (s .pre .1 .0) (s .pre .1 .1) (a .source .now)
+    (omega (arith, c .before .before .before .before .before .before .before .before .before .before .if1 .left)) (c .before .before .before .before .before .before .read .result)
+    (lent (c .before .before .before .before .before .before .read .last .1 .1 .1 .0) (c .before .before .before .before .before .before .read .last .1 .1 .1 .1 .0) (c .before .before .before .before .before .before .read .last .1 .1 .1 .1 .1 .0)) (c .before .before .before .before .before .before .read .ensures)
+
+pub load-file-spec : {M : Type 1} → statement M
+load-file-spec =
+    tie.close
+    (tie.spec
+    returns
+    read-requires
+    same-length
+    same-length-2
+    same-length-3
+    returns-2)

@@ -1,0 +1,58 @@
+-- `put_alone` meets its contract: a word and a number of at most twenty digits fit.
+use mathlib.Core.List.{[], _∷_}
+use Prim.Native.Nat.{_+_, _≤_}
+use native.Mathlib.Omega.{arith}
+use lib.ListN.{length}
+use Rattle.print_text.specs.Ascii.{ascii}
+use Rattle.print_text.specs.Lines.{line}
+use Rattle.prog_args.specs.Theorems.Text.{line-words}
+use Rattle.prog_overlay.proofs.Laws.{writes-as, writes-none, alone-some, alone-none}
+use borrow.Author.Needs.{needs}
+use Rattle.prog_overlay.proofs.put_alone.Statement.{statement}
+use Rattle.prog_overlay.proofs.put_alone.Tie as tie
+
+short : (s : tie.Start) → length (line (ascii "alone") ((s .args .load + s .args .first) ∷ [])) ≤ 27
+short s =
+    let bound = s .pre .0 in
+    omega (arith, line-words (ascii "alone") ((s .args .load + s .args .first) ∷ []) (search needs, tt))
+
+add-t10 : tie.Need-add-t10
+add-t10 c = search needs
+
+slice-aggregate-put-line : tie.Need-slice-aggregate-put-line
+slice-aggregate-put-line c = search needs
+
+slice-aggregate-put-line-2 : tie.Need-slice-aggregate-put-line-2
+slice-aggregate-put-line-2 c = search needs
+
+put-line-requires : tie.Need-put-line-requires
+put-line-requires c κs =
+    omega (arith, short (c .before .before .before .before .before), c .before .before .before .before .before .pre .1)
+
+same-length : tie.Need-same-length
+same-length c = search needs
+
+returns : tie.Need-returns
+returns c =
+    let s = c .before .before .before .before .before .before .before .before in
+    let w = c .before .before .put-line .ensures in (
+      writes-as (alone-some (s .args .load) (s .args .end) (s .args .first) (c .before .before .before .before .before .before .if1 .taken)) w,
+      omega (arith, w .place, short s),
+    )
+
+returns-2 : tie.Need-returns-2
+returns-2 c =
+    let s = c .before .before in
+    (writes-as (alone-none (s .args .load) (s .args .end) (s .args .first) (omega (arith, c .if1 .left))) (writes-none (s .args .at)), omega arith)
+
+pub put-alone-spec : {M : Type 1} → statement M
+put-alone-spec =
+    tie.close
+    (tie.spec
+    add-t10
+    slice-aggregate-put-line
+    slice-aggregate-put-line-2
+    put-line-requires
+    same-length
+    returns
+    returns-2)

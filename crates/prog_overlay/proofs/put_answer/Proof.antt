@@ -1,0 +1,73 @@
+-- `put_answer` meets its contract: by what is asked.
+use mathlib.Core.Path.{sym, ap, _∙_}
+use Prim.Native.Nat.{ℕ}
+use Rattle.overlay.specs.Trial.{Trial, trial}
+use Rattle.prog_overlay.specs.declared.Asked.{Asked}
+use Rattle.prog_overlay.specs.Program.{listText, answerText}
+use Rattle.prog_overlay.proofs.Laws.{stands-as}
+use borrow.Author.Needs.{needs}
+use Rattle.prog_overlay.proofs.put_answer.Statement.{statement}
+use Rattle.prog_overlay.proofs.put_answer.Tie as tie
+
+abbrev trialOf : tie.Start → Trial
+trialOf s = trial (s .args .overlay .now) (s .args .released .now) (s .args .offsets .now) (s .args .sizes .now)
+
+enum-told : tie.Need-enum-told
+enum-told c = search needs
+
+first-alone-requires : tie.Need-first-alone-requires
+first-alone-requires c κs = search needs
+
+put-list-requires : tie.Need-put-list-requires
+put-list-requires c κs = search needs
+
+enum-known-asked : tie.Need-enum-known-asked
+enum-known-asked c = search needs
+
+put-range-requires : tie.Need-put-range-requires
+put-range-requires c κs = search needs
+
+same-length : tie.Need-same-length
+same-length c = search needs
+
+same-length-2 : tie.Need-same-length-2
+same-length-2 c = search needs
+
+same-length-3 : tie.Need-same-length-3
+same-length-3 c = search needs
+
+returns : tie.Need-returns
+returns c =
+    let s = c .before .before .before .before .before .before .before .before .before .before .before .before .before .before .before .before .before .before .before .before .before .before in
+    stands-as
+    (ap (λ (k : ℕ). listText (s .args .load) k (trialOf s)) (c .before .before .before .before .before .before .before .before .before .before .first-alone .ensures .0)
+    ∙ sym (ap (λ (a : Asked). answerText (s .args .load) a (trialOf s) (s .args .released-offsets .now) (s .args .released-sizes .now))
+    (c .before .before .before .before .before .before .before .before .before .before .before .enum-told .given .1)))
+    (c .before .before .before .before .before .before .put-list .ensures)
+
+same-length-4 : tie.Need-same-length-4
+same-length-4 c = search needs
+
+returns-2 : tie.Need-returns-2
+returns-2 c =
+    let s = c .before .before .before .before .before .before .before .before .before .before .before .before .before .before .before .before in
+    stands-as
+    (sym (ap (λ (a : Asked). answerText (s .args .load) a (trialOf s) (s .args .released-offsets .now) (s .args .released-sizes .now))
+    (c .before .before .before .before .before .asked .given .1)))
+    (c .before .before .put-range .ensures)
+
+pub put-answer-spec : {M : Type 1} → statement M
+put-answer-spec =
+    tie.close
+    (tie.spec
+    enum-told
+    first-alone-requires
+    put-list-requires
+    enum-known-asked
+    put-range-requires
+    same-length
+    same-length-2
+    same-length-3
+    returns
+    same-length-4
+    returns-2)

@@ -1,0 +1,58 @@
+-- `put_bytes` meets its contract: a word, the bytes and LF, one behind the other.
+use native.Mathlib.Omega.{arith}
+use Rattle.prog_overlay.proofs.Laws.{writes-then, writes-long, stands-of, length-field}
+use borrow.Author.Needs.{needs}
+use Rattle.prog_overlay.proofs.put_bytes.Statement.{statement}
+use Rattle.prog_overlay.proofs.put_bytes.Tie as tie
+
+write-word-requires : tie.Need-write-word-requires
+write-word-requires c κs = search needs
+
+put-field-requires : tie.Need-put-field-requires
+put-field-requires c κs =
+    let s = c .before .before .before .before .before .before .before .before in
+    let w = c .before .before .before .write-word .ensures in
+    (s .pre .1 .0, omega (arith, length-field (s .args .bytes .now), w .place, writes-long w, s .pre .0, s .pre .1 .0, s .pre .1 .1))
+
+slice-aggregate-write-word : tie.Need-slice-aggregate-write-word
+slice-aggregate-write-word c = search needs
+
+write-word-requires-2 : tie.Need-write-word-requires-2
+write-word-requires-2 c κs =
+    let s = c .before .before .before .before .before .before .before .before .before .before .before .before .before in
+    let w = c .before .before .before .before .before .before .before .before .write-word .ensures in
+    let f = c .before .before .before .before .put-field .ensures in
+    omega (
+      arith,
+      length-field (s .args .bytes .now),
+      w .place,
+      writes-long w,
+      f .place,
+      writes-long f,
+      s .pre .0,
+      s .pre .1 .0,
+      s .pre .1 .1,
+    )
+
+same-length : tie.Need-same-length
+same-length c = search needs
+
+returns : tie.Need-returns
+returns c =
+    let s = c .before .before .before .before .before .before .before .before .before .before .before .before .before .before .before .before in
+    let w = c .before .before .before .before .before .before .before .before .before .before .before .write-word .ensures in
+    let f = c .before .before .before .before .before .before .before .put-field .ensures in
+    let v = c .before .before .write-word2 .ensures in
+    stands-of (writes-then (writes-then w f) v)
+    (omega (arith, length-field (s .args .bytes .now), w .place, f .place, v .place, s .pre .0, s .pre .1 .0, s .pre .1 .1))
+
+pub put-bytes-spec : {M : Type 1} → statement M
+put-bytes-spec =
+    tie.close
+    (tie.spec
+    write-word-requires
+    put-field-requires
+    slice-aggregate-write-word
+    write-word-requires-2
+    same-length
+    returns)

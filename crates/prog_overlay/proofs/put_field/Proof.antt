@@ -1,0 +1,93 @@
+-- `put_field` meets its contract: two digits for each byte have room, so that the hex call is never refused.
+use mathlib.Core.Path.{_≡_}
+use Prim.Native.Nat.{_+_, _*_, _≤_}
+use native.Mathlib.Omega.{arith}
+use lib.ListN.{length}
+use Rattle.prog_overlay.specs.Program.{field}
+use Rattle.prog_overlay.proofs.Laws.{writes-then, writes-long, length-field, hex-count, hex-never, hex-writes}
+use borrow.Author.Needs.{needs}
+use Rattle.prog_overlay.proofs.put_field.Statement.{statement}
+use Rattle.prog_overlay.proofs.put_field.Tie as tie
+
+abbrev begin : tie.After-write-word → tie.Start
+begin d = d .before .before .before .before .before
+
+roomy : (d : tie.After-write-word) → d .write-word .result + 2 * length (begin d .args .bytes .now) ≤ length (d .write-word .last .0)
+roomy d = omega (arith, length-field (begin d .args .bytes .now), begin d .pre .1, d .write-word .ensures .place, writes-long (d .write-word .ensures))
+
+slice-aggregate-write-word : tie.Need-slice-aggregate-write-word
+slice-aggregate-write-word c = search needs
+
+write-word-requires : tie.Need-write-word-requires
+write-word-requires c κs =
+    omega (arith, length-field (c .before .before .before .before .args .bytes .now), c .before .before .before .before .pre .1)
+
+mul-bits : tie.Need-mul-bits
+mul-bits c = search needs
+
+sub-write-hex : tie.Need-sub-write-hex
+sub-write-hex c = omega (arith, roomy (c .before .before))
+
+part-write-hex-start : tie.Need-part-write-hex-start
+part-write-hex-start c = omega (arith, roomy (c .before .before))
+
+part-write-hex-end : tie.Need-part-write-hex-end
+part-write-hex-end c = search needs
+
+write-hex-requires : tie.Need-write-hex-requires
+write-hex-requires c κs = search needs
+
+enum-known-n : tie.Need-enum-known-n
+enum-known-n c = search needs
+
+enum-told : tie.Need-enum-told
+enum-told c = search needs
+
+same-length : tie.Need-same-length
+same-length c = search needs
+
+returns : tie.Need-returns
+returns c =
+    let d = c .before .before .before .before .before .before .before .before in
+    absurd (hex-never (begin d .args .bytes .now) (d .write-word .last .0) (d .write-word .result) (roomy d) (c .before .before .before .before .write-hex .result)
+    (c .before .before .before .before .write-hex .last .1 .1 .0) (c .before .before .before .before .write-hex .ensures) (c .enum-told .given .1))
+
+add-result : tie.Need-add-result
+add-result c =
+    let d = c .before .before .before .before .before .before .before .before .before in
+    omega (
+      arith,
+      hex-count (begin d .args .bytes .now) (d .write-word .last .0) (d .write-word .result) (roomy d) (c .before .before .before .before .before .write-hex .result)
+          (c .before .before .before .before .before .write-hex .last .1 .1 .0) (c .before .before .before .before .before .write-hex .ensures) (c .before .n .given .1),
+      roomy d,
+    )
+
+same-length-2 : tie.Need-same-length-2
+same-length-2 c = search needs
+
+returns-2 : tie.Need-returns-2
+unfolding field
+returns-2 c =
+    let d = c .before .before .before .before .before .before .before .before .before in
+    writes-then (d .write-word .ensures)
+    (hex-writes (begin d .args .bytes .now) (d .write-word .last .0) (d .write-word .result) (roomy d) (c .before .before .before .before .before .write-hex .result)
+    (c .before .before .before .before .before .write-hex .last .1 .1 .0) (c .before .before .before .before .before .write-hex .ensures) (c .before .n .given .1))
+
+pub put-field-spec : {M : Type 1} → statement M
+put-field-spec =
+    tie.close
+    (tie.spec
+    slice-aggregate-write-word
+    write-word-requires
+    mul-bits
+    sub-write-hex
+    part-write-hex-start
+    part-write-hex-end
+    write-hex-requires
+    enum-known-n
+    enum-told
+    same-length
+    returns
+    add-result
+    same-length-2
+    returns-2)

@@ -1,0 +1,60 @@
+-- `put_images` meets its contract: the front of a room for bytes up to the last block's end is the image.
+use mathlib.Core.List.{List}
+use mathlib.Core.Path.{ap₂}
+use Prim.Native.Nat.{ℕ}
+use Rattle.overlay.specs.Trial.{trial}
+use Rattle.prog_overlay.specs.Images.{extentOf}
+use Rattle.prog_overlay.specs.Program.{answerText}
+use Rattle.prog_overlay.proofs.Laws.{stands-as, take-min}
+use borrow.Author.Needs.{needs}
+use Rattle.prog_overlay.proofs.put_images.Statement.{statement}
+use Rattle.prog_overlay.proofs.put_images.Tie as tie
+
+extent-requires : tie.Need-extent-requires
+extent-requires c κs = search needs
+
+extent-requires-2 : tie.Need-extent-requires-2
+extent-requires-2 c κs = search needs
+
+slice-aggregate-put-answer : tie.Need-slice-aggregate-put-answer
+slice-aggregate-put-answer c = search needs
+
+slice-aggregate-put-answer-2 : tie.Need-slice-aggregate-put-answer-2
+slice-aggregate-put-answer-2 c = search needs
+
+put-answer-requires : tie.Need-put-answer-requires
+put-answer-requires c κs = search needs
+
+same-length : tie.Need-same-length
+same-length c = search needs
+
+same-length-2 : tie.Need-same-length-2
+same-length-2 c = search needs
+
+same-length-3 : tie.Need-same-length-3
+same-length-3 c = search needs
+
+returns : tie.Need-returns
+returns c =
+    let a = c .before .before .before .before .before .before .before .before .before .before .before .before .before .before .before .before .before .before .before .before .before .before .before .args in
+    stands-as
+    (ap₂
+    (λ (x y : List ℕ).
+    answerText (a .load) (a .asked) (trial x y (a .offsets .now) (a .sizes .now)) (a .released-offsets .now) (a .released-sizes .now))
+    (take-min (a .overlay .now) (c .before .before .before .before .before .before .before .before .before .before .before .before .extent2 .result) (extentOf (a .offsets .now) (a .sizes .now)) (c .before .before .before .before .before .before .before .before .before .before .before .before .extent2 .ensures .0))
+    (take-min (a .released .now) (c .before .before .before .before .before .before .before .before .before .before .before .before .before .extent .result) (extentOf (a .released-offsets .now) (a .released-sizes .now)) (c .before .before .before .before .before .before .before .before .before .before .before .before .before .extent .ensures .0)))
+    (c .before .before .before .before .before .before .put-answer .ensures)
+
+pub put-images-spec : {M : Type 1} → statement M
+put-images-spec =
+    tie.close
+    (tie.spec
+    extent-requires
+    extent-requires-2
+    slice-aggregate-put-answer
+    slice-aggregate-put-answer-2
+    put-answer-requires
+    same-length
+    same-length-2
+    same-length-3
+    returns)

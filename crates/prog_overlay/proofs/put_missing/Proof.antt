@@ -1,0 +1,58 @@
+-- `put_missing` meets its contract: by its test.
+use mathlib.Core.Path.{sym}
+use native.Mathlib.Omega.{arith}
+use borrow.Author.Tests.{le-leb, lt-leb}
+use Rattle.refusal.specs.Laws.Pick.{pick-true, pick-false}
+use Rattle.prog_overlay.proofs.Laws.{stands-as}
+use borrow.Author.Needs.{needs}
+use Rattle.prog_overlay.proofs.put_missing.Statement.{statement}
+use Rattle.prog_overlay.proofs.put_missing.Tie as tie
+
+slice-aggregate-put-named : tie.Need-slice-aggregate-put-named
+slice-aggregate-put-named c = search needs
+
+add-put-named : tie.Need-add-put-named
+add-put-named c = search needs
+
+put-named-requires : tie.Need-put-named-requires
+put-named-requires c κs = search needs
+
+same-length : tie.Need-same-length
+same-length c = search needs
+
+returns : tie.Need-returns
+returns c =
+    let a = c .before .before .before .before .before .before .before .args in
+    stands-as (sym (pick-true _ _ (le-leb (a .end) (a .size) (c .before .before .before .before .before .if1 .taken)))) (c .before .before .put-named .ensures)
+
+slice-aggregate-put-named-2 : tie.Need-slice-aggregate-put-named-2
+slice-aggregate-put-named-2 c = search needs
+
+add-put-named-2 : tie.Need-add-put-named-2
+add-put-named-2 c = search needs
+
+put-named-requires-2 : tie.Need-put-named-requires-2
+put-named-requires-2 c κs = search needs
+
+same-length-2 : tie.Need-same-length-2
+same-length-2 c = search needs
+
+returns-2 : tie.Need-returns-2
+returns-2 c =
+    let a = c .before .before .before .before .before .before .before .args in
+    stands-as (sym (pick-false _ _ (lt-leb (a .end) (a .size) (omega (arith, c .before .before .before .before .before .if1 .left))))) (c .before .before .put-named2 .ensures)
+
+pub put-missing-spec : {M : Type 1} → statement M
+put-missing-spec =
+    tie.close
+    (tie.spec
+    slice-aggregate-put-named
+    add-put-named
+    put-named-requires
+    same-length
+    returns
+    slice-aggregate-put-named-2
+    add-put-named-2
+    put-named-requires-2
+    same-length-2
+    returns-2)

@@ -1,0 +1,172 @@
+-- `put_run` meets its contract: the line's parts, one behind the other, each with room for those behind it.
+use mathlib.Core.Path.{_≡_}
+use mathlib.Core.List.{List, [], _∷_, _++_}
+use Prim.Native.Nat.{ℕ, _+_, _-_, _*_, _≤_}
+use native.Mathlib.Omega.{arith}
+use lib.ListN.{length, take, drop, length-append}
+use Rattle.print_text.specs.Ascii.{ascii}
+use Rattle.print_text.specs.Lines.{spaced}
+use Rattle.prog_overlay.specs.Program.{field, runText}
+use Rattle.prog_overlay.proofs.Laws.{writes-then, writes-long, length-field, length-run, part-long, same-run}
+use borrow.Author.Needs.{needs}
+use Rattle.prog_overlay.proofs.put_run.Statement.{statement}
+use Rattle.prog_overlay.proofs.put_run.Tie as tie
+
+abbrev long : tie.Start → ℕ
+long s = length (spaced ((s .args .load + s .args .first) ∷ s .args .count ∷ []))
+
+roomy : (s : tie.Start) → s .args .at + long s + 4 * s .args .count + 6 ≤ length (s .args .out .now)
+roomy s = omega (
+  arith,
+  length-run (s .args .load) (s .args .released .now) (s .args .overlay .now) (s .args .first) (s .args .count) (s .pre .0 .issued) (s .pre .0 .overlaid),
+  s .pre .1,
+)
+
+add-end : tie.Need-add-end
+add-end c = omega (arith, c .before .before .before .pre .0 .near)
+
+add-t19 : tie.Need-add-t19
+add-t19 c = omega (arith, c .before .before .before .pre .0 .near)
+
+slice-aggregate-write-word : tie.Need-slice-aggregate-write-word
+slice-aggregate-write-word c = search needs
+
+write-word-requires : tie.Need-write-word-requires
+write-word-requires c κs = omega (arith, roomy (c .before .before .before .before .before))
+
+slice-aggregate-write-numbers : tie.Need-slice-aggregate-write-numbers
+slice-aggregate-write-numbers c = search needs
+
+write-numbers-requires : tie.Need-write-numbers-requires
+write-numbers-requires c κs =
+    let w = c .before .before .before .before .write-word .ensures in
+    omega (arith, roomy (c .before .before .before .before .before .before .before .before .before .before), w .place, writes-long w)
+
+sub-put-field : tie.Need-sub-put-field
+sub-put-field c = omega arith
+
+part-put-field-start : tie.Need-part-put-field-start
+part-put-field-start c = omega arith
+
+part-put-field-end : tie.Need-part-put-field-end
+part-put-field-end c =
+    omega (arith, c .before .before .before .before .before .before .before .before .before .before .before .before .before .pre .0 .issued)
+
+put-field-requires : tie.Need-put-field-requires
+put-field-requires c κs =
+    let s = c .before .before .before .before .before .before .before .before .before .before .before .before .before .before .before in
+    let w = c .before .before .before .before .before .before .before .before .before .write-word .ensures in
+    let v = c .before .before .before .before .write-numbers .ensures in
+    let l = part-long (s .args .released .now) (s .args .first) (s .args .count) (s .pre .0 .issued) in (
+      omega (arith, l, s .pre .0 .near),
+      omega (
+        arith,
+        l,
+        length-field (take (s .args .first + s .args .count - s .args .first) (drop (s .args .first) (s .args .released .now))),
+        roomy s,
+        w .place,
+        writes-long w,
+        v .place,
+        writes-long v,
+      ),
+    )
+
+sub-put-field-2 : tie.Need-sub-put-field-2
+sub-put-field-2 c = omega arith
+
+part-put-field-start-2 : tie.Need-part-put-field-start-2
+part-put-field-start-2 c = omega arith
+
+part-put-field-end-2 : tie.Need-part-put-field-end-2
+part-put-field-end-2 c =
+    omega (arith, c .before .before .before .before .before .before .before .before .before .before .before .before .before .before .before .before .before .before .pre .0 .overlaid)
+
+put-field-requires-2 : tie.Need-put-field-requires-2
+put-field-requires-2 c κs =
+    let s = c .before .before .before .before .before .before .before .before .before .before .before .before .before .before .before .before .before .before .before .before in
+    let w = c .before .before .before .before .before .before .before .before .before .before .before .before .before .before .write-word .ensures in
+    let v = c .before .before .before .before .before .before .before .before .before .write-numbers .ensures in
+    let f = c .before .before .before .before .put-field .ensures in
+    let k = part-long (s .args .released .now) (s .args .first) (s .args .count) (s .pre .0 .issued) in
+    let l = part-long (s .args .overlay .now) (s .args .first) (s .args .count) (s .pre .0 .overlaid) in (
+      omega (arith, l, s .pre .0 .near),
+      omega (
+        arith,
+        k,
+        l,
+        length-field (take (s .args .first + s .args .count - s .args .first) (drop (s .args .first) (s .args .released .now))),
+        length-field (take (s .args .first + s .args .count - s .args .first) (drop (s .args .first) (s .args .overlay .now))),
+        roomy s,
+        w .place,
+        writes-long w,
+        v .place,
+        writes-long v,
+        f .place,
+        writes-long f,
+      ),
+    )
+
+slice-aggregate-write-word-2 : tie.Need-slice-aggregate-write-word-2
+slice-aggregate-write-word-2 c = search needs
+
+write-word-requires-2 : tie.Need-write-word-requires-2
+write-word-requires-2 c κs =
+    let s = c .before .before .before .before .before .before .before .before .before .before .before .before .before .before .before .before .before .before .before .before .before .before .before .before .before in
+    let w = c .before .before .before .before .before .before .before .before .before .before .before .before .before .before .before .before .before .before .before .write-word .ensures in
+    let v = c .before .before .before .before .before .before .before .before .before .before .before .before .before .before .write-numbers .ensures in
+    let f = c .before .before .before .before .before .before .before .before .before .put-field .ensures in
+    let g = c .before .before .before .before .put-field2 .ensures in
+    let k = part-long (s .args .released .now) (s .args .first) (s .args .count) (s .pre .0 .issued) in
+    let l = part-long (s .args .overlay .now) (s .args .first) (s .args .count) (s .pre .0 .overlaid) in
+    omega (
+      arith,
+      k,
+      l,
+      length-field (take (s .args .first + s .args .count - s .args .first) (drop (s .args .first) (s .args .released .now))),
+      length-field (take (s .args .first + s .args .count - s .args .first) (drop (s .args .first) (s .args .overlay .now))),
+      roomy s,
+      w .place,
+      writes-long w,
+      v .place,
+      writes-long v,
+      f .place,
+      writes-long f,
+      g .place,
+      writes-long g,
+    )
+
+same-length : tie.Need-same-length
+same-length c = search needs
+
+returns : tie.Need-returns
+returns c =
+    let s = c .before .before .before .before .before .before .before .before .before .before .before .before .before .before .before .before .before .before .before .before .before .before .before .before .before .before .before .before in
+    same-run (s .args .load) (s .args .released .now) (s .args .overlay .now) (s .args .first) (s .args .count)
+    (writes-then
+    (writes-then
+    (writes-then (writes-then (c .before .before .before .before .before .before .before .before .before .before .before .before .before .before .before .before .before .before .before .before .before .before .write-word .ensures) (c .before .before .before .before .before .before .before .before .before .before .before .before .before .before .before .before .before .write-numbers .ensures)) (c .before .before .before .before .before .before .before .before .before .before .before .before .put-field .ensures))
+    (c .before .before .before .before .before .before .before .put-field2 .ensures))
+    (c .before .before .write-word2 .ensures))
+
+pub put-run-spec : {M : Type 1} → statement M
+put-run-spec =
+    tie.close
+    (tie.spec
+    add-end
+    add-t19
+    slice-aggregate-write-word
+    write-word-requires
+    slice-aggregate-write-numbers
+    write-numbers-requires
+    sub-put-field
+    part-put-field-start
+    part-put-field-end
+    put-field-requires
+    sub-put-field-2
+    part-put-field-start-2
+    part-put-field-end-2
+    put-field-requires-2
+    slice-aggregate-write-word-2
+    write-word-requires-2
+    same-length
+    returns)

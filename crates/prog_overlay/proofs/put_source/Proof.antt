@@ -1,0 +1,119 @@
+-- `put_source` meets its contract: the text of each answer, with the bytes that go with it.
+use mathlib.Core.Path.{_≡_, sym, ap, _∙_}
+use Prim.Native.Nat.{ℕ, _+_, _≤_}
+use native.Mathlib.Omega.{arith}
+use lib.ListN.{length}
+use Rattle.overlay.specs.Range.{sourceOf, bytesOf}
+use Rattle.overlay.specs.Trial.{Trial, trial}
+use Rattle.print_text.specs.Ascii.{ascii}
+use Rattle.prog_overlay.specs.Images.{bytesRoom}
+use Rattle.prog_overlay.specs.Program.{bytesText, givenText}
+use Rattle.prog_overlay.proofs.Laws.{stands-as, told-as, few-bytes}
+use borrow.Author.Needs.{needs}
+use Rattle.prog_overlay.proofs.put_source.Statement.{statement}
+use Rattle.prog_overlay.proofs.put_source.Tie as tie
+
+abbrev begin : tie.After-pick → tie.Start
+begin d = d .before .before .before .before .before .before .before
+
+abbrev trialOf : tie.Start → Trial
+trialOf s = trial (s .args .overlay .now) (s .args .released .now) (s .args .offsets .now) (s .args .sizes .now)
+
+few : (d : tie.After-pick) → length (bytesOf (trialOf (begin d)) (begin d .args .first) (begin d .args .count)
+    (sourceOf (trialOf (begin d)) (begin d .args .first) (begin d .args .count))) ≤ bytesRoom
+few d =
+    let s = begin d in
+    few-bytes (s .args .load) (s .args .first) (s .args .count) (s .args .free) (s .args .lack) (trialOf s) bytesRoom (s .pre .1 .0 .1) (s .pre .1 .0 .0)
+    (sourceOf (trialOf s) (s .args .first) (s .args .count))
+
+which-requires : tie.Need-which-requires
+which-requires c κs = search needs
+
+pick-requires : tie.Need-pick-requires
+pick-requires c κs = search needs
+
+add-end : tie.Need-add-end
+add-end c = search needs
+
+enum-known-source : tie.Need-enum-known-source
+enum-known-source c = search needs
+
+put-missing-requires : tie.Need-put-missing-requires
+put-missing-requires c κs = search needs
+
+enum-told : tie.Need-enum-told
+enum-told c = search needs
+
+slice-aggregate-put-bytes : tie.Need-slice-aggregate-put-bytes
+slice-aggregate-put-bytes c = search needs
+
+put-bytes-requires : tie.Need-put-bytes-requires
+put-bytes-requires c κs =
+    let d = c .before .before .before .before in
+    (omega arith, (omega (arith, few d, ap length (d .pick .ensures .bytes)), begin d .pre .1 .1))
+
+enum-told-2 : tie.Need-enum-told-2
+enum-told-2 c = search needs
+
+put-given-requires : tie.Need-put-given-requires
+put-given-requires c κs =
+    let d = c .before .before .before in
+    let s = begin d in
+    (s .pre .0 .1, (omega (arith, few d, ap length (d .pick .ensures .bytes)), s .pre .1 .1))
+
+same-length : tie.Need-same-length
+same-length c = search needs
+
+returns : tie.Need-returns
+returns c =
+    let s = c .before .before .before .before .before .before .before .before .before .before .before .before .before .before in
+    stands-as
+    (told-as (s .args .load) (s .args .first) (s .args .count) (s .args .free) (s .args .lack) (trialOf s)
+    (sym (c .before .before .before .before .before .source .given .1) ∙ c .before .before .before .before .before .before .before .before .which .ensures .answer))
+    (c .before .before .put-missing .ensures)
+
+same-length-2 : tie.Need-same-length-2
+same-length-2 c = search needs
+
+returns-2 : tie.Need-returns-2
+returns-2 c =
+    let s = c .before .before .before .before .before .before .before .before .before .before .before .before .before .before in
+    let e = sym (c .before .before .before .before .before .enum-told .given .1) ∙ c .before .before .before .before .before .before .before .before .which .ensures .answer in
+    stands-as
+    (ap (bytesText (ascii "overlay")) (c .before .before .before .before .before .before .before .pick .ensures .bytes ∙ ap (bytesOf (trialOf s) (s .args .first) (s .args .count)) (sym e))
+    ∙ told-as (s .args .load) (s .args .first) (s .args .count) (s .args .free) (s .args .lack) (trialOf s) e)
+    (c .before .before .put-bytes .ensures)
+
+same-length-3 : tie.Need-same-length-3
+same-length-3 c = search needs
+
+returns-3 : tie.Need-returns-3
+returns-3 c =
+    let s = c .before .before .before .before .before .before .before .before .before .before .before .before .before in
+    let e = sym (c .before .before .before .before .enum-told2 .given .1) ∙ c .before .before .before .before .before .before .before .which .ensures .answer in
+    stands-as
+    (ap (givenText (s .args .load) (s .args .first + s .args .count) (s .args .free))
+    (c .before .before .before .before .before .before .pick .ensures .bytes ∙ ap (bytesOf (trialOf s) (s .args .first) (s .args .count)) (sym e))
+    ∙ told-as (s .args .load) (s .args .first) (s .args .count) (s .args .free) (s .args .lack) (trialOf s) e)
+    (c .before .before .put-given .ensures)
+
+pub put-source-spec : {M : Type 1} → statement M
+put-source-spec =
+    tie.close
+    (tie.spec
+    which-requires
+    pick-requires
+    add-end
+    enum-known-source
+    put-missing-requires
+    enum-told
+    slice-aggregate-put-bytes
+    put-bytes-requires
+    enum-told-2
+    put-given-requires
+    same-length
+    returns
+    same-length-2
+    returns-2
+    same-length-3
+    returns-3)

@@ -1,0 +1,36 @@
+-- `put_unread` meets its contract: the refusal's line, the name, and the line at fault.
+use native.Mathlib.Omega.{arith}
+use Rattle.prog_overlay.proofs.Laws.{writes-then, stands-of}
+use borrow.Author.Needs.{needs}
+use Rattle.prog_overlay.proofs.put_unread.Statement.{statement}
+use Rattle.prog_overlay.proofs.put_unread.Tie as tie
+
+write-refusal-requires : tie.Need-write-refusal-requires
+write-refusal-requires c κs = search needs
+
+write-word-requires : tie.Need-write-word-requires
+write-word-requires c κs = search needs
+
+put-fault-requires : tie.Need-put-fault-requires
+put-fault-requires c κs = search needs
+
+same-length : tie.Need-same-length
+same-length c = search needs
+
+returns : tie.Need-returns
+returns c =
+    let s = c .before .before .before .before .before .before .before .before .before .before .before .before .before .before .before in
+    let w = c .before .before .before .before .before .before .before .before .before .before .write-refusal .ensures in
+    let v = c .before .before .before .before .before .before .write-word .ensures in
+    let f = c .before .before .put-fault .ensures in
+    stands-of (writes-then (writes-then (w .0) v) (f .0)) (omega (arith, w .1, v .place, f .1, s .pre .0, s .pre .1))
+
+pub put-unread-spec : {M : Type 1} → statement M
+put-unread-spec =
+    tie.close
+    (tie.spec
+    write-refusal-requires
+    write-word-requires
+    put-fault-requires
+    same-length
+    returns)
