@@ -3,21 +3,19 @@ use mathlib.Core.Path.{_≡_, refl, sym, ap, _∙_}
 use mathlib.Core.Bool.{true, false}
 use mathlib.Core.List.{List}
 use mathlib.Core.Logic.{inl, inr, ⊎-elim}
-use Prim.Native.Nat.{ℕ, _+_, _≤_, _<_, min}
+use Prim.Native.Nat.{ℕ, _≤_, _<_, min}
 use native.Mathlib.Omega.{arith}
-use lib.Dec.{ltb, leb}
-use borrow.Author.Tests.{ltb-true, lt-ltb, leb-true, leb-false}
+use lib.Dec.{leb}
+use borrow.Author.Tests.{leb-true, leb-false}
 use lib.ListN.{length, getD, length-take}
 use lib.Seq.{getD-take}
 use Rattle.refusal.specs.Laws.Bools.{either, both}
 use Rattle.refusal.specs.Told.{gives, refuses, nothing, toldVerdict}
-use Rattle.refusal.specs.declared.Opt.{Opt}
-use Rattle.refusal.specs.declared.Opt.the-variants.{None, Some}
+use Rattle.refusal.specs.declared.Opt.the-variants.{Some}
 use Rattle.refusal.specs.declared.Place.the-variants.{One, Two}
 use Rattle.refusal.specs.declared.Verdict.{Verdict}
 use Rattle.bankdef.specs.declared.Bankdef.{Bankdef}
 use Rattle.bankdef.specs.declared.Bankdefs.{Bankdefs}
-use Rattle.bankdef.specs.Overlap.{rangesOverlap}
 use Rattle.bankdef.specs.Check.{noBank, banksOf, countSound, checkOf}
 use Rattle.bankdef.specs.Numbers as numbers
 use Rattle.bankdef.specs.Numbers.{Faulty, faultAt}
@@ -27,8 +25,9 @@ use Rattle.bankdef.specs.Refused as by
 use Rattle.bankdef.specs.Refused.{NoFault, Decided}
 use Rattle.bankdef.specs.Theorems.Refused.{decided}
 use Rattle.says.specs.Banks as says
-use Rattle.says.specs.Banks.{Fault, Meet, Bank, CountOutside, AtFault, Overlapping, CheckSays}
+use Rattle.says.specs.Banks.{Fault, Has, Bank, CountOutside, AtFault, Overlapping, CheckSays}
 use Rattle.says.specs.Laws.Lists.{any-default}
+use Rattle.says.specs.Laws.Meets.{itself, meet, met}
 use Rattle.says.specs.Words.{OneOnly, refused, passed, tries-one, is, is-one, First, first-one, FirstPair, first-pair-one}
 
 -- ---- they leave one answer
@@ -51,7 +50,11 @@ pub record Held (b : Bankdef) : Type 0 where
   pub offset : (o : ℕ) → b .offset ≡ Some o → o ≤ 4294967295
   pub align : (a : ℕ) → b .align ≡ Some a → a ≤ 4294967295
 
-faulty : (i : ℕ) (b : Bankdef) → Held b → Fault i b → Faulty i b
+-- bank i of this record is refused
+abbrev FaultIn : ℕ → Bankdef → Type 0
+FaultIn i b = Fault i (b .unit) (b .start) (Has (b .size)) (Has (b .offset)) (Has (b .align)) (b .fill ≡ true) (b .«fill_bit»)
+
+faulty : (i : ℕ) (b : Bankdef) → Held b → FaultIn i b → Faulty i b
 faulty i b h (says.unit-zero e) = numbers.no-unit e
 faulty i b h (says.unit-past e) = absurd (omega (arith, h .unit))
 faulty i b h (says.start-far e) = numbers.far-start e
@@ -62,32 +65,12 @@ faulty i b h (says.filled-empty e f) = numbers.filled-empty e f
 faulty i b h (says.bit-past e) = numbers.no-bit e
 faulty i b h (says.bit-of-bank-0 e f) = numbers.bank-0-one e f
 
-fault : (i : ℕ) (b : Bankdef) → Faulty i b → Fault i b
+fault : (i : ℕ) (b : Bankdef) → Faulty i b → FaultIn i b
 fault i b (numbers.no-unit e) = says.unit-zero e
 fault i b (numbers.far-start e) = says.start-far e
 fault i b (numbers.no-bit e) = says.bit-past e
 fault i b (numbers.filled-empty e f) = says.filled-empty e f
 fault i b (numbers.bank-0-one e f) = says.bit-of-bank-0 e f
-
-meet : (o : ℕ) (m : Opt) (p : ℕ) (n : Opt) → rangesOverlap o m p n ≡ true → Meet (Some o) m (Some p) n
-meet o None p None e = says.two-open
-meet o None p (Some n) e = says.second-sized (ltb-true o (p + n) e)
-meet o (Some m) p None e = says.first-sized (ltb-true p (o + m) e)
-meet o (Some m) p (Some n) e =
-    let h = both (ltb p (o + m)) (ltb o (p + n)) e in
-    let first = ltb-true p (o + m) (h .0) in
-    let second = ltb-true o (p + n) (h .1) in
-    says.two-sized {o = o} {m = m} {p = p} {n = n} (omega arith) (omega arith)
-
--- what two banks that meet have, by the definition
-abbrev Met : Opt → Opt → Opt → Opt → Type 0
-Met a m b n = (o : ℕ) × (p : ℕ) × (a ≡ Some o) × (b ≡ Some p) × (rangesOverlap o m p n ≡ true)
-
-met : {a m b n : Opt} → Meet a m b n → Met a m b n
-met (says.two-open {o} {p}) = (o, p, refl, refl, refl)
-met (says.first-sized {o} {m} {p} h) = (o, p, refl, refl, lt-ltb p (o + m) h)
-met (says.second-sized {o} {p} {n} h) = (o, p, refl, refl, lt-ltb o (p + n) h)
-met (says.two-sized {o} {m} {p} {n} h k) = (o, p, refl, refl, rw (lt-ltb p (o + m) (omega arith), lt-ltb o (p + n) (omega arith)))
 
 module _ (t : Bankdefs) (held : (i : ℕ) (b : Bankdef) → Bank t i b → Held b) where
   abbrev l : List Bankdef
@@ -123,14 +106,15 @@ module _ (t : Bankdefs) (held : (i : ℕ) (b : Bankdef) → Bank t i b → Held 
     m .rising,
     bank i (omega (arith, m .rising, m .there)),
     bank j (m .there),
-    rw (m .first-offset, m .second-offset) (meet (m .o) (at i .size) (m .p) (at j .size) (m .overlap)),
+    meet (itself (at i .offset)) (itself (at i .size)) (itself (at j .offset)) (itself (at j .size)) (m .o) (m .p) (m .first-offset) (m .second-offset)
+        (m .overlap),
   )
 
   overlaps : (i j : ℕ) → Overlapping t i j → OverlapAt l i j
   overlaps i j s =
       let a = there i (s .0) (s .4) in
       let b = there j (s .1) (s .5) in
-      let m = met (s .6) in
+      let m = met (itself (s .0 .offset)) (itself (s .0 .size)) (itself (s .1 .offset)) (itself (s .1 .size)) (s .6) in
       record {
         not-bank-0 = s .2;
         rising = s .3;

@@ -10,9 +10,10 @@ use lib.ListN.{length, getD}
 use Rattle.sort.specs.Laws.Sorted.{le-or-lt}
 use Rattle.says.specs.Words as w
 use Rattle.says.specs.Words.{First, FirstPair, first-one, first-pair-one}
+use Rattle.says.specs.Banks as bank
+use Rattle.says.specs.Banks.{Meet}
 use Rattle.says_build.specs.Build as b
 use Rattle.says_build.specs.Build.{Given, Lent, Outcome, Not, banks, start, flag, Size, Offset, Filled, Unsized, NoBanks, BadBank, Overlap}
-use Rattle.says_build.specs.Build.{EndsAfter}
 use Rattle.says_build.specs.Build.{nodes, BadField, BadNode, Sees, Extent, Placed, Ten, Inherited, Ends, Unresolved, Last, refusal, BuildSays}
 use Rattle.says_build.specs.Build.{Interval, Clash, Names, Overlaps}
 use Rattle.says_build.specs.Laws.One.{sees-one, extent-one, inherited-one}
@@ -71,7 +72,7 @@ module _ (g : Given) where
     pub start-one-past : (o : Outcome) → BuildSays g old o → Not (NoBanks g) → (c : ℕ) → c < banks g → natAbs (start g c) ≡ 1099511627777
         → ((d : ℕ) → d < c → Not (BadBank g d)) → o ≡ refusal g old 2 c 0 0
     start-one-past o s n c h e before =
-        refused-2 o s n c (record { so = (h, b.start-far (omega arith)); none-below = λ k x. least k (x .1) })
+        refused-2 o s n c (record { so = (h, b.beyond (bank.start-far (omega arith))); none-below = λ k x. least k (x .1) })
       where
         least : (k : ℕ) → BadBank g k → c ≤ k
         least k x = ⊎-elim (λ (l : c ≤ k). l) (λ (l : k < c). absurd (before k l x)) (le-or-lt c k)
@@ -80,7 +81,7 @@ module _ (g : Given) where
     pub filled-of-size-0 : (o : Outcome) → BuildSays g old o → Not (NoBanks g) → (c : ℕ) → c < banks g → Filled g c → Size g c 0
         → ((d : ℕ) → d < c → Not (BadBank g d)) → o ≡ refusal g old 2 c 0 0
     filled-of-size-0 o s n c h f z before =
-        refused-2 o s n c (record { so = (h, b.filled-empty f z); none-below = λ k x. least k (x .1) })
+        refused-2 o s n c (record { so = (h, b.beyond (bank.filled-empty f z)); none-below = λ k x. least k (x .1) })
       where
         least : (k : ℕ) → BadBank g k → c ≤ k
         least k x = ⊎-elim (λ (l : c ≤ k). l) (λ (l : k < c). absurd (before k l x)) (le-or-lt c k)
@@ -116,29 +117,28 @@ module _ (g : Given) where
   -- ---- "P banks": pairs that are apart and pairs that overlap; banks c and d, both with an offset
 
   module _ (c d : ℕ) where
-    ends-at : (x f m y : ℕ) → Size g x m → Offset g x f → EndsAfter g x y → y < f + m
-    ends-at x f m y s o (b.open-end none) = absurd (none m s)
-    ends-at x f m y s o (b.sized t p h) = omega (arith, s .1, t .1, o .1, p .1)
+    -- the first of two that meet, with a size, ends past the other's offset
+    ends-past : {o m : ℕ} → Offset g c o → Size g c m → Meet (Offset g c) (Size g c) (Offset g d) (Size g d) → (p : ℕ) × Offset g d p × (p < o + m)
+    ends-past {m = m} o s (bank.two-open e none f alone) = absurd (none m s)
+    ends-past o s (bank.first-sized {p = p} e t f none h) = (p, f, omega (arith, o .1, e .1, s .1, t .1))
+    ends-past {m = m} o s (bank.second-sized e none f u h) = absurd (none m s)
+    ends-past o s (bank.two-sized {p = p} e t f u h k) = (p, f, omega (arith, o .1, e .1, s .1, t .1))
 
     -- (0, 8), (8, 8): apart
     pub banks-touching : Size g c 8 → Offset g c 0 → Size g d 8 → Offset g d 8 → Not (Overlap g c d)
-    banks-touching s o t p (b.overlap h l m o′ p′ e f) =
-        let past = ends-at c 0 8 _ s o e in
-        omega (arith, p .1, p′ .1)
+    banks-touching s o t p (b.overlap h l m x) = let past = ends-past o s x in omega (arith, p .1, past .1 .1, past .2)
 
     -- (0, 9), (8, 8): 3
     pub banks-one-bit-over : 0 < c → c < d → d < banks g → Size g c 9 → Offset g c 0 → Size g d 8 → Offset g d 8 → Overlap g c d
-    banks-one-bit-over h l m s o t p = b.overlap h l m o p (b.sized s o (omega arith)) (b.sized t p (omega arith))
+    banks-one-bit-over h l m s o t p = b.overlap h l m (bank.two-sized o s p t (omega arith) (omega arith))
 
     -- (8, 8), (0, no size): 3
     pub banks-before-unsized : 0 < c → c < d → d < banks g → Size g c 8 → Offset g c 8 → Unsized g d → Offset g d 0 → Overlap g c d
-    banks-before-unsized h l m s o t p = b.overlap h l m o p (b.sized s o (omega arith)) (b.open-end t)
+    banks-before-unsized h l m s o t p = b.overlap h l m (bank.first-sized o s p t (omega arith))
 
     -- (0, 8), (8, no size): apart
     pub banks-unsized-behind : Size g c 8 → Offset g c 0 → Unsized g d → Offset g d 8 → Not (Overlap g c d)
-    banks-unsized-behind s o t p (b.overlap h l m o′ p′ e f) =
-        let past = ends-at c 0 8 _ s o e in
-        omega (arith, p .1, p′ .1)
+    banks-unsized-behind s o t p (b.overlap h l m x) = let past = ends-past o s x in omega (arith, p .1, past .1 .1, past .2)
 
   -- ---- "P bank size 40: position 30, size 10 passes, position 31 gives 10", over any node i that is placed there
 

@@ -14,6 +14,7 @@ use Rattle.build_sights.specs.Laws.ItemLaws.{zeros-bit, zeros-bytes}
 use Rattle.sort.specs.Laws.Sorted.{le-or-lt}
 use Rattle.says.specs.Words as w
 use Rattle.says.specs.Words.{First}
+use Rattle.says.specs.Banks as bank
 use Rattle.says_build.specs.Build as b
 use Rattle.says_build.specs.Build.{Given, Lent, Outcome, Not, banks, unit, start, flag, fillBit, NoBanks, BadBank, Overlap, nodes, kind}
 use Rattle.says_build.specs.Build.{operand, BadField}
@@ -87,19 +88,22 @@ module _ (count : ℕ) (from : ℤ) (size rows limit fill closed : ℕ) where
   there h l (b.bits n) = n (length-replicate count 0 ∙ sym as-many)
 
   good : natAbs from ≤ 1099511627776 → (c : ℕ) → c < count → Not (BadBank g c)
-  good s c h (b.unit-zero e) = omega (arith, unit-is c h)
-  good s c h (b.unit-past e) = omega (arith, unit-is c h)
-  good s c h (b.start-far e) = let same = ap natAbs (getD-replicate count c from (pos 0) h) in omega arith
-  good s c h (b.size-past m e) = omega (arith, no-flag c, m .0)
-  good s c h (b.offset-past m e) = omega (arith, no-flag c, m .0)
-  good s c h (b.align-past m e) = omega (arith, no-flag c, m .0)
+  good s c h (b.beyond (bank.unit-zero e)) = omega (arith, unit-is c h)
+  good s c h (b.beyond (bank.unit-past e)) = omega (arith, unit-is c h)
+  good s c h (b.beyond (bank.start-far e)) = let same = ap natAbs (getD-replicate count c from (pos 0) h) in omega arith
+  good s c h (b.beyond (bank.size-past m e)) = omega (arith, no-flag c, m .0)
+  good s c h (b.beyond (bank.offset-past m e)) = omega (arith, no-flag c, m .0)
+  good s c h (b.beyond (bank.align-past m e)) = omega (arith, no-flag c, m .0)
+  good s c h (b.beyond (bank.filled-empty f m)) = omega (arith, no-flag c)
+  good s c h (b.beyond (bank.bit-past e)) = omega (arith, zeros count c)
+  good s c h (b.beyond (bank.bit-of-bank-0 z e)) = omega (arith, zeros count c)
   good s c h (b.flags-past e) = omega (arith, no-flag c)
-  good s c h (b.filled-empty f m) = omega (arith, no-flag c)
-  good s c h (b.bit-past e) = omega (arith, zeros count c)
-  good s c h (b.bit-of-bank-0 z e) = omega (arith, zeros count c)
 
   apart : (c d : ℕ) → Not (Overlap g c d)
-  apart c d (b.overlap h l m o p e f) = omega (arith, no-flag c, o .0)
+  apart c d (b.overlap h l m (bank.two-open o s p t)) = omega (arith, no-flag c, o .0)
+  apart c d (b.overlap h l m (bank.first-sized o s p t e)) = omega (arith, no-flag c, o .0)
+  apart c d (b.overlap h l m (bank.second-sized o s p t e)) = omega (arith, no-flag c, o .0)
+  apart c d (b.overlap h l m (bank.two-sized o s p t e f)) = omega (arith, no-flag c, o .0)
 
   -- ---- 4
 
@@ -277,7 +281,7 @@ module _ (count : ℕ) (from : ℤ) (size rows limit fill closed : ℕ) where
     pub refused-start : 1 ≤ count → count ≤ 16 → 1099511627776 < natAbs from → (o : Outcome) → BuildSays g old o → o ≡ refusal g old 2 0 0 0
     refused-start h l far o s =
         let same = ap natAbs (getD-replicate count 0 from (pos 0) h) in
-        refused-2 g old o s (there h l) 0 (record { so = (omega (arith, as-many), b.start-far (omega arith)); none-below = λ k x. omega arith })
+        refused-2 g old o s (there h l) 0 (record { so = (omega (arith, as-many), b.beyond (bank.start-far (omega arith))); none-below = λ k x. omega arith })
 
     module _ (least : 1 ≤ count) (most : count ≤ 16) (near : natAbs from ≤ 1099511627776) where
       pass : BanksPass g old

@@ -9,6 +9,7 @@ use lib.ListN.{getD}
 use native.Mathlib.Omega.{arith}
 use Rattle.sort.specs.Laws.Sorted.{le-or-lt}
 use Rattle.bitvec.specs.Bits.{bitAt}
+use Rattle.says.specs.Banks as bank
 use Rattle.says_build.specs.Build as b
 use Rattle.says_build.specs.Build.{Given, Lent, Outcome, Not, banks, nodes, kind, operand, fillBit, Filled, Size, Offset, Offer, IsWritten}
 use Rattle.says_build.specs.Build.{OfItem, Fills}
@@ -97,8 +98,8 @@ module _ (g : Given) where
     pub bank-0-bit-zero : fillBit g 0 ≡ 0
     bank-0-bit-zero =
         let listed : Not (banks g < 1) = λ h. a .banks-there (b.too-few h) in
-        let not-one : Not (fillBit g 0 ≡ 1) = λ e. a .banks-good 0 (omega arith) (b.bit-of-bank-0 refl e) in
-        let not-past : Not (1 < fillBit g 0) = λ h. a .banks-good 0 (omega arith) (b.bit-past h) in
+        let not-one : Not (fillBit g 0 ≡ 1) = λ e. a .banks-good 0 (omega arith) (b.beyond (bank.bit-of-bank-0 refl e)) in
+        let not-past : Not (1 < fillBit g 0) = λ h. a .banks-good 0 (omega arith) (b.beyond (bank.bit-past h)) in
         omega arith
 
     -- "Image length is .. the furthest end of a written item": no item ends past it.

@@ -14,7 +14,7 @@ use Rattle.bitvec.specs.Theorems.Written.{length-written}
 use Rattle.overlap_checker.specs.declared.Entry.{Entry}
 use Rattle.says_build.specs.InTurn as turn
 use Rattle.says_build.specs.InTurn.{Item, AllPut}
-use Rattle.says_build.specs.Laws.Items.{Holds, Alone, itsBit, its-own, free, as-long, in-bytes, held-or-free, puts-there}
+use Rattle.says_build.specs.Laws.Items.{Holds, itsBit, its-own, free, as-long, in-bytes, held-or-free, puts-there}
 use Rattle.says_store.specs.Store.{Not, Store, Covers}
 use Rattle.says_store.specs.Calls.{Empty, Calls, offerOf}
 use Rattle.says_store.specs.Laws.Separate as sep
