@@ -1,11 +1,14 @@
 -- A step in numbers: a node's crossing told by numbers alone, so that a loop may hold it and store it into its own walk.
 use Prim.Native.Nat.{ℕ, _+_}
 use mathlib.Core.Path.{_≡_}
-use mathlib.Core.Bool.{Bool}
+use mathlib.Core.Bool.{Bool, false}
 use lib.Dec.{eqb, leb}
+use lib.IntN.{ℤ}
 use Rattle.refusal.specs.Limits.{maxPosition}
 use Rattle.refusal.specs.Pick.{pick}
 use Rattle.refusal.specs.Refusals.{numberOf}
+use Rattle.refusal.specs.declared.Opt.{Opt}
+use Rattle.refusal.specs.declared.Opt.the-variants.{None}
 use Rattle.refusal.specs.declared.Refusal.{Refusal}
 use Rattle.refusal.specs.declared.Refusal.the-variants.{Malformed, PositionPast}
 use Rattle.bankdef.specs.declared.Bankdef.{Bankdef}
@@ -74,3 +77,13 @@ alignedBy at bits = pick (leb (at .position + bits) maxPosition) (madeBy (onward
 -- a node that sees its bank's position wherever it is, leaves it so and skips nothing
 abbrev pub Still : Bankdef → Node → Type 0
 Still def node = (at : Pos) → Paces def at node (madeBy at at 0)
+
+-- ---- a step's parts
+
+-- what a step reads of a bank's record: its address unit, its start and its label alignment
+abbrev pub bankRead : ℕ → ℤ → Opt → Bankdef
+bankRead unit start align = record { unit = unit; start = start; size = None; offset = None; align = align; fill = false; «fill_bit» = 0 }
+
+-- a node by its parts
+abbrev pub nodeWith : ℕ → ℕ → ℕ → ℕ → ℕ → Node
+nodeWith index kind operand number state = record { index = index; kind = kind; operand = operand; number = number; state = state }

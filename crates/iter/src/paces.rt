@@ -29,7 +29,7 @@ ghost use lib.Dec.{eqb};
 ghost use Rattle.refusal.specs.declared.Opt.the-variants.{None};
 ghost use Rattle.iter.specs.Crossing.{crossingOf};
 ghost use Rattle.iter.specs.Known.{staysKnown};
-ghost use Rattle.iter.specs.Pace.{Paces, Still, madeBy, haltedBy, addedBy, alignedBy, seenBy, whyBy, crossedBy};
+ghost use Rattle.iter.specs.Pace.{Paces, Still, bankRead, nodeWith, madeBy, haltedBy, addedBy, alignedBy, seenBy, whyBy, crossedBy};
 ghost use Rattle.iter.specs.Step.{outermostSymbol, badState};
 
 // A step is made, or is refused for one of two of document 01's numbers.
@@ -191,6 +191,40 @@ fn pace_by_kind(def: Bankdef, at: Pos, node: Node) -> Paced
     }
 }
 
+// The same of what it reads of a bank's record and of a node, each part by itself. A struct that is handed to a function is stored first, and what only the
+// rare step reads need not be stored at each node.
+fn pace_of_parts(
+    unit: u16,
+    start: i64,
+    align: Opt,
+    at: Pos,
+    index: u64,
+    kind: u8,
+    operand: u32,
+    number: u32,
+    state: u8,
+) -> Paced
+    ensures { λ r. ⌜ Paces (bankRead unit start align) at (nodeWith index kind operand number state) r ⌝ }
+{
+    let def = Bankdef {
+        unit,
+        start,
+        size: Opt::None,
+        offset: Opt::None,
+        align,
+        fill: false,
+        fill_bit: 0,
+    };
+    let node = Node {
+        index,
+        kind,
+        operand,
+        number,
+        state,
+    };
+    pace_by_kind(def, at, node)
+}
+
 // Whether a bank has no label alignment.
 fn aligns_no_label(def: Bankdef) -> bool
     ensures { λ r. ⌜ (r ≡ true → def .align ≡ None) ⌝ }
@@ -249,7 +283,18 @@ pub fn pace(def: Bankdef, at: Pos, node: Node) -> Paced
     if adds_number(node) {
         return added(at, node.number, stays_known(at.known, node), 0);
     }
-    pace_by_kind(def, at, node)
+    let align = def.align;
+    pace_of_parts(
+        def.unit,
+        def.start,
+        align,
+        at,
+        node.index,
+        node.kind,
+        node.operand,
+        node.number,
+        node.state,
+    )
 }
 
 // What a step is refused for, by its number.
@@ -291,5 +336,17 @@ fn crossing_of(def: Bankdef, p: Paced, node: u64) -> Crossing
 pub fn cross(def: Bankdef, at: Pos, node: Node) -> Crossing
     ensures { λ r. ⌜ r ≡ crossingOf def at node ⌝ }
 {
-    crossing_of(def, pace_by_kind(def, at, node), node.index)
+    let align = def.align;
+    let p = pace_of_parts(
+        def.unit,
+        def.start,
+        align,
+        at,
+        node.index,
+        node.kind,
+        node.operand,
+        node.number,
+        node.state,
+    );
+    crossing_of(def, p, node.index)
 }

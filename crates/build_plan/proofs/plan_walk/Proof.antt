@@ -158,7 +158,9 @@ get-output-position-requires : tie.Need-get-output-position-requires Inv-loop μ
 get-output-position-requires c κs = search needs
 
 place-requires : tie.Need-place-requires Inv-loop μ-loop
-place-requires c κs = (head (banked (c .before .before .before .before .before .before .before)) .loop .inv .sound, c .before .before .before .get-output-position .ensures .1)
+place-requires c κs =
+    let o = c .before .before .before in
+    (head (banked (o .before .before .before .before)) .loop .inv .sound, o .get-output-position .ensures .1)
 
 enum-known-verdict : tie.Need-enum-known-verdict Inv-loop μ-loop
 enum-known-verdict c = search needs

@@ -17,7 +17,7 @@ use Rattle.iter.specs.declared.Paced.{Paced}
 use Rattle.iter.specs.declared.Pos.{Pos}
 use Rattle.iter.specs.declared.Walk.{Walk}
 use Rattle.lists.specs.Lists.{Row}
-use Rattle.resolver.specs.Once.{Program, node, stepAt, walkTo}
+use Rattle.resolver.specs.Once.{Program, node, walkTo}
 use Rattle.resolver.specs.Laws.Walking.{in-table, its-record, sees, walks-next}
 use Rattle.resolver.specs.Switches.{Switches}
 use Rattle.resolver.specs.Walking.{Walks}

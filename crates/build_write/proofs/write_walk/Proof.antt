@@ -1,6 +1,6 @@
 -- `write_walk` meets its contract. The loop's invariant is `Writing`: each node is written by a law of WritingSteps.
 use mathlib.Core.Path.{_≡_, refl, sym, subst}
-use Prim.Native.Nat.{ℕ, _+_, _-_, _≤_, _<_}
+use Prim.Native.Nat.{ℕ, _+_, _-_, _<_}
 use native.Mathlib.Omega.{arith}
 use lib.ListN.{length, length-map, set}
 use borrow.Author.Needs.{needs}

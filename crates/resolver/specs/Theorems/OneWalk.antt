@@ -1,12 +1,12 @@
 -- Theorems about what OneWalk defines: what a pass over a row comes to, whatever the pass before reads.
-use Prim.Native.Nat.{ℕ, _+_, _-_, _/_, _<_, _≤_, min}
+use Prim.Native.Nat.{ℕ, _+_, _/_, _<_, _≤_, min}
 use mathlib.Core.Path.{_≡_, refl, sym, ap, _∙_}
 use mathlib.Core.Bool.{Bool, true, false, not, _&&_}
 use mathlib.Core.Logic.{⊎-elim}
 use native.Mathlib.Omega.{arith}
 use lib.Dec.{eqb, leb, ltb}
-use lib.ListN.{getD, length}
-use borrow.Author.Tests.{eqb-true, eqb-false, leb-false, ltb-false, lt-ltb, ne-eqb, eq-eqb}
+use lib.ListN.{length}
+use borrow.Author.Tests.{eqb-true, eqb-false, ltb-false, lt-ltb, eq-eqb}
 use Rattle.refusal.specs.Pick.{pick}
 use Rattle.refusal.specs.Limits.{maxBanks}
 use Rattle.refusal.specs.Laws.Bools.{either, neither}
@@ -37,7 +37,8 @@ use Rattle.resolver.specs.declared.Pass.the-variants.{State, Refused}
 
 module _ (n : Node) (def : Bankdef) (now : Pos) where
   -- a label's state where it is resolved
-  held : (before : Moved) (isFirst : Bool) → n .kind ≡ 2 → stateOf n (labelState def now before isFirst) ≡ 0 → (now .known && onBoundary def (now .position)) ≡ true
+  held : (before : Moved) (isFirst : Bool) → n .kind ≡ 2 → stateOf n (labelState def now before isFirst) ≡ 0
+      → (now .known && onBoundary def (now .position)) ≡ true
   held before isFirst k e =
       resolved-of (now .known && onBoundary def (now .position)) (not isFirst && sameAddress def now before) (rw k at e)
 
@@ -108,7 +109,8 @@ module _ (p : Program) (row : Row) where
         λ i h. record {
           now = past i h .now;
           seen = past i h .seen;
-          on = λ l k. settled-told (defAt p row i) (past i h .now) (held (node p row i) (defAt p row i) (past i h .now) (seenAt p before i) isFirst k (zero i h)) .1;
+          on = λ l k. settled-told (defAt p row i) (past i h .now)
+              (held (node p row i) (defAt p row i) (past i h .now) (seenAt p before i) isFirst k (zero i h)) .1;
         } in
         let r = runs-to-end p row other again last goes in
         let same : r .0 ≡ 0 =

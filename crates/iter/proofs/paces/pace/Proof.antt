@@ -1,6 +1,9 @@
--- A node that stands still, an item or a reserve, and else the step kind by kind.
+-- A node that stands still, an item or a reserve, and else the step kind by kind, of its parts.
 use borrow.Author.Needs.{needs}
-use Rattle.iter.proofs.PaceLaws.{paces-item}
+use mir.Syntax.{w64}
+use mir.Val.{SFits}
+use mir.ValLaws.{toZ-ofZ}
+use Rattle.iter.proofs.PaceLaws.{paces-read, paces-item}
 use Rattle.iter.proofs.paces.pace.Statement.{statement}
 use Rattle.iter.proofs.paces.pace.Tie as tie
 
@@ -28,11 +31,14 @@ returns-2 c =
     let item = k .before .before .adds-number .ensures (k .before .if2 .taken) in
     paces-item _ _ _ (item .0) (item .1) (item .2) (rw (k .stays-known .ensures) at (c .added .ensures))
 
-pace-by-kind-requires : tie.Need-pace-by-kind-requires
-pace-by-kind-requires c κs = search needs
+pace-of-parts-requires : tie.Need-pace-of-parts-requires
+pace-of-parts-requires c κs = search needs
 
 returns-3 : tie.Need-returns-3
-returns-3 c = c .pace-by-kind .ensures
+returns-3 c =
+    let a = c .before .before .before .before .before .before .args in
+    let fits : SFits w64 (a .def .start) = search needs in
+    paces-read (a .def) (a .at) (a .node) (rw (toZ-ofZ w64 _ fits) at (c .pace-of-parts .ensures))
 
 pub pace-spec : {M : Type 1} → statement M
 pace-spec =
@@ -45,5 +51,5 @@ pace-spec =
     stays-known-requires
     added-requires
     returns-2
-    pace-by-kind-requires
+    pace-of-parts-requires
     returns-3)

@@ -64,7 +64,8 @@ returns-5 : tie.Need-returns-5
 returns-5 c =
     let t = c .before in
     let few : _ < 2 = t .if2 .taken in
-    paces-plain _ _ _ (sound (t .before .before)) (early-plain (t .before .before .before .before .args .node) (t .if2 .taken)) (omega arith) (c .made3 .ensures)
+    paces-plain _ _ _ (sound (t .before .before)) (early-plain (t .before .before .before .before .args .node) (t .if2 .taken)) (omega arith)
+    (c .made3 .ensures)
 
 returns-6 : tie.Need-returns-6
 returns-6 c = search needs

@@ -35,11 +35,14 @@ returns-3 c e at =
     paces-plain _ at _ (sound (c .before .before)) (early-plain (c .before .before .before .before .args .node) (c .if2 .taken)) (omega arith) refl
 
 returns-4 : tie.Need-returns-4
-returns-4 c e at = paces-unaligned _ at _ (sound (c .before .before .before .before .before .before)) (c .aligns-no-label .ensures e) (c .before .before .before .if3 .taken) refl
+returns-4 c e at =
+    let t = c .before .before .before in
+    paces-unaligned _ at _ (sound (t .before .before .before)) (c .aligns-no-label .ensures e) (t .if3 .taken) refl
 
 returns-5 : tie.Need-returns-5
 returns-5 c e at =
-    paces-plain _ at _ (sound (c .before .before .before .before .before)) (sym (c .before .is-outermost-symbol .ensures) ∙ c .if4 .left) (c .before .before .if3 .taken) refl
+    let t = c .before .before in
+    paces-plain _ at _ (sound (t .before .before .before)) (sym (c .before .is-outermost-symbol .ensures) ∙ c .if4 .left) (t .if3 .taken) refl
 
 returns-6 : tie.Need-returns-6
 returns-6 c e = absurd (clash e refl)

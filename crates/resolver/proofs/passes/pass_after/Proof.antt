@@ -1,11 +1,8 @@
 -- Where pass k read the last row and is resolved, so is the pass behind it; else that one is walked.
-use Prim.Native.Nat.{ℕ}
-use mathlib.Core.Path.{_≡_, sym, _∙_, ap}
+use mathlib.Core.Path.{_∙_, ap}
 use mathlib.Core.List.{[]}
 use native.Mathlib.Omega.{arith}
-use borrow.Author.Needs.{needs}
 use Rattle.lists.specs.Lists.{lists}
-use Rattle.resolver.specs.Passes.{lastOf}
 use Rattle.resolver.specs.Theorems.OneWalk.{resolved-again}
 use Rattle.resolver.specs.declared.Pass.the-variants.{State}
 use Rattle.resolver.proofs.passes.pass_after.Statement.{statement}

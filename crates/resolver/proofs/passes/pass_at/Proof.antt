@@ -123,7 +123,9 @@ part-pass-beside-start-2 : tie.Need-part-pass-beside-start-2
 part-pass-beside-start-2 c = search needs
 
 part-pass-beside-end-2 : tie.Need-part-pass-beside-end-2
-part-pass-beside-end-2 c = let r = c .before .before .before .before .before .before .before .before in omega (arith, before-ends r, begun (r .before) .pre .0 .stated)
+part-pass-beside-end-2 c =
+    let r = c .before .before .before .before .before .before .before .before in
+    omega (arith, before-ends r, begun (r .before) .pre .0 .stated)
 
 pass-beside-requires : tie.Need-pass-beside-requires
 pass-beside-requires c κs = c .before .before .before .before .before .before .before .before .before .before .before .before .before .before .before .pre .1 .0
