@@ -406,10 +406,10 @@ struct dk_count dk_write_srec(const uint8_t *image, size_t image_len,
 enum dk_format { DK_INTEL_HEX = 0, DK_S_RECORDS = 1 };
 
 /* Reads a file of records: the byte at address a goes to bytes[a - load], and every other byte stays as it was. Block i is the sizes[i] bits from bit
- * offsets[i] on, ascending, touching ones joined; `count` is how many there are. S-records may have either width.
- * Refused 4 (place 0) where the format is neither, or the file bad: a line, a byte given twice or below `load`; then 14 where `bytes` (place 0) or a list (place 2) is too short.
+ * offsets[i] on, ascending, touching ones joined; `count` is how many there are. S-records may have either width. Refused 4 (place 0) where the format is
+ * neither of the two or the file bad: a line, a byte given twice or below `load`; then 14 where `bytes` (place 0) or a list (place 2) is too short.
  * Time grows with the text where records ascend, descend, or stand in a few blocks in any order; with the square of the number of lines where many records
- * jump. It needs less than 1 KiB of stack. */
+ * jump. It needs less than 2 KiB of stack (1.2 KiB). */
 struct dk_count dk_read_records(uint8_t format, const uint8_t *text, size_t text_len, uint32_t load,
                                 uint8_t *bytes, size_t bytes_len,
                                 uint64_t *offsets, size_t offsets_len,

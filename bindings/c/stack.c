@@ -297,9 +297,9 @@ int main(void)
     bad |= measure("dk_overlay_range", range, 1024);
     bad |= measure("dk_overlay_runs", runs, 1024);
     bad |= measure("dk_write_hex", write_hex, 1024);
-    bad |= measure("dk_read_records, Intel HEX", read_hex, 1024);
+    bad |= measure("dk_read_records, Intel HEX", read_hex, 2048);
     bad |= measure("dk_write_srec", write_srec, 1024);
-    bad |= measure("dk_read_records, S-records", read_srec, 1024);
+    bad |= measure("dk_read_records, S-records", read_srec, 2048);
     bad |= measure("dk_record_fault", fault, 1024);
     bad |= measure("dk_record_reason", reason, 2048);
     bad |= measure("dk_record_reason, below", reason_below, 2048);
