@@ -107,33 +107,47 @@ def some_bytes(rng, load, span):
     return given, written("hex", 0, image, blocks, load)
 
 
+def bench_range(released, overlay, load, first, count):
+    """What is printed for a range: an image goes from the load address to its file's last byte, and a byte that a file does not give is outside it."""
+    if count == 0:
+        return "refused 16 0\n"
+    if first < load:
+        return f"refused 16 0\nreleased {first}\n"
+    span = range(first, first + count)
+    absent = lambda given: next(a for a in range(first, first + count + 1) if a not in given)
+    for name, given in (("released", released), ("overlay", overlay)):
+        if first + count > max(given, default=load - 1) + 1:
+            return f"refused 16 0\n{name} {absent(given)}\n"
+    covered = {a in overlay for a in span}
+    if len(covered) == 2:
+        return f"refused 17 0\noverlay {absent(overlay)}\n"
+    name, given = ("overlay", overlay) if covered == {True} else ("released", released)
+    if not all(a in given for a in span):
+        return f"refused 16 0\n{name} {absent(given)}\n"
+    return f"{name} {bytes(given[a] for a in span).hex()}\n"
+
+
 def bench_told(released, overlay, asked):
     """What is printed of two sound files."""
     if asked:
-        load, first, count = asked
-        if first < load or count == 0 or first - load + count > BENCH_REACH:
-            return "refused 16 0\n"
-        covered = {a in overlay for a in range(first, first + count)}
-        if len(covered) == 2:
-            return "refused 17 0\n"
-        name, given = ("overlay", overlay) if covered == {True} else ("released", released)
-        return f"{name} {bytes(given.get(a, 255) for a in range(first, first + count)).hex()}\n"
-    runs = records.runs(a for a in overlay if overlay[a] != released.get(a, 255))
-    shown = lambda given, first, count: bytes(given.get(a, 255) for a in range(first, first + count)).hex()
-    return "".join(f"run {a} {n} {shown(released, a, n)} {shown(overlay, a, n)}\n" for a, n in runs) + f"runs {len(runs)}\n"
+        return bench_range(released, overlay, *asked)
+    runs = records.runs(a for a in overlay if a in released and overlay[a] != released[a])
+    shown = lambda given, first, count: bytes(given[a] for a in range(first, first + count)).hex()
+    alone = [f"alone {a}\n" for a in sorted(overlay) if a not in released][:1]
+    return "".join([f"run {a} {n} {shown(released, a, n)} {shown(overlay, a, n)}\n" for a, n in runs] + alone) + f"runs {len(runs)}\n"
 
 
 def bencher_case(rng, room):
     """Two files, and every run or a range of bytes."""
     load, span = rng.choice((0, 5, 0x10000 - 20, 0x8000_0000)), rng.choice((10, 40, 80))
-    (released, first_text), (overlay, second_text) = some_bytes(rng, load, span), some_bytes(rng, load, span)
+    (released, first_text), (overlay, second_text) = some_bytes(rng, load, span), some_bytes(rng, load, rng.choice((span, span, 10, 30)))
     paths = room / "released.hex", room / "overlay.hex"
     lowest = rng.choice((load, load, load, max(0, load - 3), load + 1))
     asked = None
     if rng.random() < 0.5:
         asked = lowest, max(0, load + rng.randrange(-3, span)), rng.choice((0, 1, 1, 2, 4, 10, BENCH_REACH))
     told = bench_told(released, overlay, asked)
-    for path, text, name in reversed(tuple(zip(paths, (first_text, second_text), ("released", "overlay")))):
+    for path, text, name in zip(paths, (first_text, second_text), ("released", "overlay")):
         path.write_bytes(text)
         line = records.fault("hex", text, lowest)
         if line is not None:

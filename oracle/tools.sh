@@ -125,6 +125,20 @@ released=crates/prog_overlay/data/released.hex overlay=crates/prog_overlay/data/
 tools/bench "$released" "$overlay" >"$room/runs" && tools/bench "$released" - <"$overlay" >"$room/out" || wrong=1
 same "$room/runs" "$room/out" "tools/bench - prints other runs than for the file"
 has "$room/runs" 'run 264 0x00000108 2 0809 aabb' 'tools/bench released.hex overlay.hex'
+has "$room/runs" 'alone 288 0x00000120' 'tools/bench released.hex overlay.hex'
+# a range that is refused names the file that does not give it, and the address
+is 0 tools/bench "$released" "$overlay" --range 0x108 8
+is 0 tools/bench "$released" "$overlay" --range 0x110 16
+for asked in '0x118 0x10 released.hex.*0x00000120' '0x120 2 released.hex.*0x00000120' '0x100 0 empty' '0x10e 4 overlay.hex.*0x00000110'; do
+    # shellcheck disable=SC2086
+    set -- $asked
+    is 1 tools/bench "$released" "$overlay" --range "$1" "$2"
+    tools/bench "$released" "$overlay" --range "$1" "$2" 2>"$room/why"
+    grep -q "$3" "$room/why" || {
+        echo "tools/bench --range $1 $2 says: $(cat "$room/why")"
+        wrong=1
+    }
+done
 # a file of its own: whole, or not at all
 is 0 tools/bench "$released" "$overlay" -o "$room/own"
 same "$room/runs" "$room/own" "tools/bench -o writes another file than it prints"

@@ -228,15 +228,6 @@ free-short (o ∷ os) at = refl
 pub free-none : (os ss : List ℕ) (i at : ℕ) → length ss ≤ i → freeFrom (drop i os) (drop i ss) at ≡ at
 free-none os ss i at h = ap (λ (l : List ℕ). freeFrom (drop i os) l at) (drop-of-length-le ss {i = i} h) ∙ free-short (drop i os) at
 
-pub stays-below : (offset size at : ℕ) → at < offset / 8 → beyondOf offset size at ≡ at
-stays-below offset size at h = rw (lt-leb (offset / 8) at h)
-
-pub stays-above : (offset size at : ℕ) → offset / 8 ≤ at → offset / 8 + size / 8 ≤ at → beyondOf offset size at ≡ at
-stays-above offset size at h k = rw (le-leb (offset / 8) at h, le-ltb at (offset / 8 + size / 8) k)
-
-pub goes-past : (offset size at : ℕ) → offset / 8 ≤ at → at < offset / 8 + size / 8 → beyondOf offset size at ≡ offset / 8 + size / 8
-goes-past offset size at h k = rw (le-leb (offset / 8) at h, lt-ltb at (offset / 8 + size / 8) k)
-
 -- ---- what is said of a range
 
 pub alone-some : (load end first : ℕ) → first < end → line (ascii "alone") ((load + first) ∷ []) ≡ aloneText load end first

@@ -1,7 +1,7 @@
 -- `beyond` meets its contract: the two tests, one after the other.
 use mathlib.Core.Path.{sym, ap, _∙_}
 use native.Mathlib.Omega.{arith}
-use Rattle.prog_overlay.proofs.Laws.{stays-below, stays-above, goes-past}
+use Rattle.prog_overlay.specs.Laws.Free.{stays-below, stays-above, goes-past}
 use borrow.Author.Needs.{needs}
 use Rattle.prog_overlay.proofs.beyond.Statement.{statement}
 use Rattle.prog_overlay.proofs.beyond.Tie as tie

@@ -21,7 +21,8 @@ loop-holds c = refl
 
 returns : tie.Need-returns Inv-loop μ-loop
 returns c =
-    let a = c .before .before .before .before .before .before .before .args in
+    let start = c .before .before .before .before .before .before .before in
+    let a = start .args in
     let l = c .before .before .loop in (
       sym (l .inv ∙ alone-nowhere (a .released-offsets .now) (a .released-sizes .now) (a .offsets .now) (a .sizes .now) (l .i) (a .end)
           (omega (arith, c .if1 .taken))),
@@ -48,13 +49,18 @@ end-of-requires c κs = search needs
 
 returns-2 : tie.Need-returns-2 Inv-loop μ-loop
 returns-2 c =
-    let a = c .before .before .before .before .before .before .before .before .before .before .before .before .args in
-    let l = c .before .before .before .before .before .before .before .loop in
-    let f = c .before .before .before .first-free .ensures in
+    let at-first-free = c .before .before .before in
+    let at-if1 = at-first-free .before .before in
+    let at-loop-test = at-if1 .before in
+    let at-loop = at-loop-test .before in
+    let start = at-loop .before .before .before .before .before in
+    let a = start .args in
+    let l = at-loop .loop in
+    let f = at-first-free .first-free .ensures in
     let e = c .before .end-of .ensures in (
       f .0
           ∙ sym (l .inv ∙ alone-here (a .released-offsets .now) (a .released-sizes .now) (a .offsets .now) (a .sizes .now) (l .i) (a .end)
-          (c .before .before .before .before .before .before .loop-test .taken) (omega (arith, c .before .before .before .before .before .if1 .left)) (omega (arith, f .0, e .0, c .if2 .taken))),
+          (at-loop-test .loop-test .taken) (omega (arith, at-if1 .if1 .left)) (omega (arith, f .0, e .0, c .if2 .taken))),
       omega (arith, e .1, c .if2 .taken),
     )
 
@@ -66,16 +72,22 @@ loop-less c = search needs
 
 loop-again : tie.Need-loop-again Inv-loop μ-loop
 loop-again c =
-    let a = c .before .before .before .before .before .before .before .before .before .before .before .before .args in
-    let l = c .before .before .before .before .before .before .before .loop in
-    let f = c .before .before .before .first-free .ensures in
+    let at-first-free = c .before .before .before in
+    let at-if1 = at-first-free .before .before in
+    let at-loop-test = at-if1 .before in
+    let at-loop = at-loop-test .before in
+    let start = at-loop .before .before .before .before .before in
+    let a = start .args in
+    let l = at-loop .loop in
+    let f = at-first-free .first-free .ensures in
     let e = c .before .end-of .ensures in
     l .inv ∙ alone-on (a .released-offsets .now) (a .released-sizes .now) (a .offsets .now) (a .sizes .now) (l .i) (a .end)
-    (c .before .before .before .before .before .before .loop-test .taken) (omega (arith, c .before .before .before .before .before .if1 .left)) (omega (arith, f .0, e .0, c .if2 .left))
+    (at-loop-test .loop-test .taken) (omega (arith, at-if1 .if1 .left)) (omega (arith, f .0, e .0, c .if2 .left))
 
 returns-3 : tie.Need-returns-3 Inv-loop μ-loop
 returns-3 c =
-    let a = c .before .before .before .before .before .before .args in
+    let start = c .before .before .before .before .before .before in
+    let a = start .args in
     let l = c .before .loop in (
       sym (l .inv ∙ alone-end (a .released-offsets .now) (a .released-sizes .now) (a .offsets .now) (a .sizes .now) (l .i) (a .end)
           (omega (arith, c .loop-test .left))),

@@ -21,7 +21,8 @@ loop-holds c = (refl, omega arith)
 
 returns : tie.Need-returns Inv-loop μ-loop
 returns c =
-    let a = c .before .before .before .before .before .args in
+    let start = c .before .before .before .before .before in
+    let a = start .args in
     let l = c .before .before .loop in
     (sym (l .inv .0 ∙ free-none (a .offsets .now) (a .sizes .now) (l .i) (l .free) (omega (arith, c .if1 .taken))), l .inv .1)
 
@@ -48,17 +49,22 @@ loop-less c = search needs
 
 loop-again : tie.Need-loop-again Inv-loop μ-loop
 loop-again c =
-    let a = c .before .before .before .before .before .before .before .before .args in
-    let l = c .before .before .before .before .before .loop in
+    let at-if1 = c .before .before .before in
+    let at-loop-test = at-if1 .before in
+    let at-loop = at-loop-test .before in
+    let start = at-loop .before .before .before in
+    let a = start .args in
+    let l = at-loop .loop in
     let b = c .beyond .ensures in (
-      l .inv .0 ∙ free-on (a .offsets .now) (a .sizes .now) (l .i) (l .free) (c .before .before .before .before .loop-test .taken) (omega (arith, c .before .before .before .if1 .left))
+      l .inv .0 ∙ free-on (a .offsets .now) (a .sizes .now) (l .i) (l .free) (at-loop-test .loop-test .taken) (omega (arith, at-if1 .if1 .left))
           ∙ ap (freeFrom (drop (l .i + 1) (a .offsets .now)) (drop (l .i + 1) (a .sizes .now))) (sym (b .0)),
       omega (arith, b .1, l .inv .1),
     )
 
 returns-2 : tie.Need-returns-2 Inv-loop μ-loop
 returns-2 c =
-    let a = c .before .before .before .before .args in
+    let start = c .before .before .before .before in
+    let a = start .args in
     let l = c .before .loop in
     (sym (l .inv .0 ∙ free-end (a .offsets .now) (a .sizes .now) (l .i) (l .free) (omega (arith, c .loop-test .left))), l .inv .1)
 

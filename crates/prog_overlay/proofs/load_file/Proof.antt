@@ -8,7 +8,8 @@ use Rattle.prog_overlay.proofs.load_file.Tie as tie
 
 returns : tie.Need-returns
 returns c =
-    let a = c .before .before .before .before .before .args in
+    let start = c .before .before .before .before .before in
+    let a = start .args in
     too-long (a .load) (a .bytes .now) (a .source .now) (omega (arith, c .if1 .taken))
 
 read-requires : tie.Need-read-requires
@@ -25,11 +26,13 @@ same-length-3 c = search needs
 
 returns-2 : tie.Need-returns-2
 returns-2 c =
-    let s = c .before .before .before .before .before .before .before .before .before .before .before .before .before .before .before in
+    let at-read = c .before .before .before .before .before .before in
+    let at-if1 = at-read .before .before .before .before in
+    let s = at-if1 .before .before .before .before .before in
     let a = s .args in
     loaded (a .load) (lent (a .bytes .now) (a .offsets .now) (a .sizes .now)) (s .pre .0) (s .pre .1 .0) (s .pre .1 .1) (a .source .now)
-    (omega (arith, c .before .before .before .before .before .before .before .before .before .before .if1 .left)) (c .before .before .before .before .before .before .read .result)
-    (lent (c .before .before .before .before .before .before .read .last .1 .1 .1 .0) (c .before .before .before .before .before .before .read .last .1 .1 .1 .1 .0) (c .before .before .before .before .before .before .read .last .1 .1 .1 .1 .1 .0)) (c .before .before .before .before .before .before .read .ensures)
+    (omega (arith, at-if1 .if1 .left)) (at-read .read .result)
+    (lent (at-read .read .last .1 .1 .1 .0) (at-read .read .last .1 .1 .1 .1 .0) (at-read .read .last .1 .1 .1 .1 .1 .0)) (at-read .read .ensures)
 
 pub load-file-spec : {M : Type 1} → statement M
 load-file-spec =

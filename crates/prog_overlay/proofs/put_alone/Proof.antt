@@ -27,16 +27,18 @@ slice-aggregate-put-line-2 c = search needs
 
 put-line-requires : tie.Need-put-line-requires
 put-line-requires c κs =
-    omega (arith, short (c .before .before .before .before .before), c .before .before .before .before .before .pre .1)
+    let start = c .before .before .before .before .before in
+    omega (arith, short start, start .pre .1)
 
 same-length : tie.Need-same-length
 same-length c = search needs
 
 returns : tie.Need-returns
 returns c =
-    let s = c .before .before .before .before .before .before .before .before in
+    let at-if1 = c .before .before .before .before .before .before in
+    let s = at-if1 .before .before in
     let w = c .before .before .put-line .ensures in (
-      writes-as (alone-some (s .args .load) (s .args .end) (s .args .first) (c .before .before .before .before .before .before .if1 .taken)) w,
+      writes-as (alone-some (s .args .load) (s .args .end) (s .args .first) (at-if1 .if1 .taken)) w,
       omega (arith, w .place, short s),
     )
 

@@ -38,22 +38,26 @@ same-length-3 c = search needs
 
 returns : tie.Need-returns
 returns c =
-    let s = c .before .before .before .before .before .before .before .before .before .before .before .before .before .before .before .before .before .before .before .before .before .before in
+    let at-put-list = c .before .before .before .before .before .before in
+    let at-first-alone = at-put-list .before .before .before .before in
+    let at-enum-told = at-first-alone .before in
+    let s = at-enum-told .before .before .before .before .before .before .before .before .before .before .before in
     stands-as
-    (ap (λ (k : ℕ). listText (s .args .load) k (trialOf s)) (c .before .before .before .before .before .before .before .before .before .before .first-alone .ensures .0)
+    (ap (λ (k : ℕ). listText (s .args .load) k (trialOf s)) (at-first-alone .first-alone .ensures .0)
     ∙ sym (ap (λ (a : Asked). answerText (s .args .load) a (trialOf s) (s .args .released-offsets .now) (s .args .released-sizes .now))
-    (c .before .before .before .before .before .before .before .before .before .before .before .enum-told .given .1)))
-    (c .before .before .before .before .before .before .put-list .ensures)
+    (at-enum-told .enum-told .given .1)))
+    (at-put-list .put-list .ensures)
 
 same-length-4 : tie.Need-same-length-4
 same-length-4 c = search needs
 
 returns-2 : tie.Need-returns-2
 returns-2 c =
-    let s = c .before .before .before .before .before .before .before .before .before .before .before .before .before .before .before .before in
+    let at-asked = c .before .before .before .before .before in
+    let s = at-asked .before .before .before .before .before .before .before .before .before .before .before in
     stands-as
     (sym (ap (λ (a : Asked). answerText (s .args .load) a (trialOf s) (s .args .released-offsets .now) (s .args .released-sizes .now))
-    (c .before .before .before .before .before .asked .given .1)))
+    (at-asked .asked .given .1)))
     (c .before .before .put-range .ensures)
 
 pub put-answer-spec : {M : Type 1} → statement M

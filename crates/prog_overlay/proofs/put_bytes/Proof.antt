@@ -10,8 +10,9 @@ write-word-requires c κs = search needs
 
 put-field-requires : tie.Need-put-field-requires
 put-field-requires c κs =
-    let s = c .before .before .before .before .before .before .before .before in
-    let w = c .before .before .before .write-word .ensures in
+    let at-write-word = c .before .before .before in
+    let s = at-write-word .before .before .before .before .before in
+    let w = at-write-word .write-word .ensures in
     (s .pre .1 .0, omega (arith, length-field (s .args .bytes .now), w .place, writes-long w, s .pre .0, s .pre .1 .0, s .pre .1 .1))
 
 slice-aggregate-write-word : tie.Need-slice-aggregate-write-word
@@ -19,9 +20,11 @@ slice-aggregate-write-word c = search needs
 
 write-word-requires-2 : tie.Need-write-word-requires-2
 write-word-requires-2 c κs =
-    let s = c .before .before .before .before .before .before .before .before .before .before .before .before .before in
-    let w = c .before .before .before .before .before .before .before .before .write-word .ensures in
-    let f = c .before .before .before .before .put-field .ensures in
+    let at-put-field = c .before .before .before .before in
+    let at-write-word = at-put-field .before .before .before .before in
+    let s = at-write-word .before .before .before .before .before in
+    let w = at-write-word .write-word .ensures in
+    let f = at-put-field .put-field .ensures in
     omega (
       arith,
       length-field (s .args .bytes .now),
@@ -39,9 +42,11 @@ same-length c = search needs
 
 returns : tie.Need-returns
 returns c =
-    let s = c .before .before .before .before .before .before .before .before .before .before .before .before .before .before .before .before in
-    let w = c .before .before .before .before .before .before .before .before .before .before .before .write-word .ensures in
-    let f = c .before .before .before .before .before .before .before .put-field .ensures in
+    let at-put-field = c .before .before .before .before .before .before .before in
+    let at-write-word = at-put-field .before .before .before .before in
+    let s = at-write-word .before .before .before .before .before in
+    let w = at-write-word .write-word .ensures in
+    let f = at-put-field .put-field .ensures in
     let v = c .before .before .write-word2 .ensures in
     stands-of (writes-then (writes-then w f) v)
     (omega (arith, length-field (s .args .bytes .now), w .place, f .place, v .place, s .pre .0, s .pre .1 .0, s .pre .1 .1))

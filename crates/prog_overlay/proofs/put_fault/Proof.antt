@@ -1,8 +1,11 @@
 -- `put_fault` meets its contract: a word and a number of at most twenty digits fit.
 use mathlib.Core.List.{[], _∷_}
 use mathlib.Core.Path.{sym, _∙_}
+use Prim.Native.Nat.{_≤_}
 use native.Mathlib.Omega.{arith}
+use lib.ListN.{length}
 use Rattle.print_text.specs.Ascii.{ascii}
+use Rattle.print_text.specs.Lines.{line}
 use Rattle.prog_args.specs.Theorems.Text.{line-words}
 use Rattle.prog_overlay.proofs.Laws.{writes-as, writes-none}
 use Rattle.prog_overlay.proofs.Loading.{fault-long, fault-good, fault-at}
@@ -10,9 +13,13 @@ use borrow.Author.Needs.{needs}
 use Rattle.prog_overlay.proofs.put_fault.Statement.{statement}
 use Rattle.prog_overlay.proofs.put_fault.Tie as tie
 
+short : (k : tie.After-known-told) → length (line (ascii "line") (k .before .fault .given .0 .0 ∷ [])) ≤ 26
+short k = omega (arith, line-words (ascii "line") (k .before .fault .given .0 .0 ∷ []) (search needs, tt))
+
 returns : tie.Need-returns
 returns c =
-    let a = c .before .before .before .args in
+    let start = c .before .before .before in
+    let a = start .args in
     (writes-as (fault-long (a .load) (a .source .now) (omega (arith, c .if1 .taken))) (writes-none (a .at)), omega arith)
 
 line-at-fault-requires : tie.Need-line-at-fault-requires
@@ -32,13 +39,17 @@ slice-aggregate-put-line-2 c = search needs
 
 put-line-requires : tie.Need-put-line-requires
 put-line-requires c κs =
-    omega (arith, line-words (ascii "line") (c .before .before .before .before .fault .given .0 .0 ∷ []) (search needs, tt), c .before .before .before .before .before .before .before .before .before .before .pre)
+    let at-known-told = c .before .before .before in
+    let start = at-known-told .before .before .before .before .before .before .before in
+    omega (arith, short at-known-told, start .pre)
 
 returns-2 : tie.Need-returns-2
 returns-2 c =
-    let a = c .before .before .before .before .before .before .args in (
+    let at-if1 = c .before .before .before in
+    let start = at-if1 .before .before .before in
+    let a = start .args in (
       writes-as
-          (fault-good (a .load) (a .source .now) (omega (arith, c .before .before .before .if1 .left)) (sym (c .enum-told .given .1) ∙ c .before .before .line-at-fault .ensures))
+          (fault-good (a .load) (a .source .now) (omega (arith, at-if1 .if1 .left)) (sym (c .enum-told .given .1) ∙ c .before .before .line-at-fault .ensures))
           (writes-none (a .at)),
       omega arith,
     )
@@ -48,13 +59,19 @@ same-length c = search needs
 
 returns-3 : tie.Need-returns-3
 returns-3 c =
-    let a = c .before .before .before .before .before .before .before .before .before .before .before .before .before .args in
-    let n = c .before .before .before .before .before .before .before .fault .given .0 .0 in
+    let at-known-told = c .before .before .before .before .before .before in
+    let at-fault = at-known-told .before in
+    let at-line-at-fault = at-fault .before .before in
+    let at-if1 = at-line-at-fault .before in
+    let start = at-if1 .before .before .before in
+    let a = start .args in
+    let n = at-fault .fault .given .0 .0 in
     let w = c .before .before .put-line .ensures in (
       writes-as
-          (fault-at (a .load) (a .source .now) (omega (arith, c .before .before .before .before .before .before .before .before .before .before .if1 .left)) n (sym (c .before .before .before .before .before .before .before .fault .given .1) ∙ c .before .before .before .before .before .before .before .before .before .line-at-fault .ensures))
+          (fault-at (a .load) (a .source .now) (omega (arith, at-if1 .if1 .left)) n
+          (sym (at-fault .fault .given .1) ∙ at-line-at-fault .line-at-fault .ensures))
           w,
-      omega (arith, w .place, line-words (ascii "line") (n ∷ []) (search needs, tt)),
+      omega (arith, w .place, short at-known-told),
     )
 
 pub put-fault-spec : {M : Type 1} → statement M

@@ -20,7 +20,8 @@ slice-aggregate-write-word c = search needs
 
 write-word-requires : tie.Need-write-word-requires
 write-word-requires c κs =
-    omega (arith, length-field (c .before .before .before .before .args .bytes .now), c .before .before .before .before .pre .1)
+    let start = c .before .before .before .before in
+    omega (arith, length-field (start .args .bytes .now), start .pre .1)
 
 mul-bits : tie.Need-mul-bits
 mul-bits c = search needs
@@ -48,17 +49,19 @@ same-length c = search needs
 
 returns : tie.Need-returns
 returns c =
-    let d = c .before .before .before .before .before .before .before .before in
-    absurd (hex-never (begin d .args .bytes .now) (d .write-word .last .0) (d .write-word .result) (roomy d) (c .before .before .before .before .write-hex .result)
-    (c .before .before .before .before .write-hex .last .1 .1 .0) (c .before .before .before .before .write-hex .ensures) (c .enum-told .given .1))
+    let at-write-hex = c .before .before .before .before in
+    let d = at-write-hex .before .before .before .before in
+    absurd (hex-never (begin d .args .bytes .now) (d .write-word .last .0) (d .write-word .result) (roomy d) (at-write-hex .write-hex .result)
+    (at-write-hex .write-hex .last .1 .1 .0) (at-write-hex .write-hex .ensures) (c .enum-told .given .1))
 
 add-result : tie.Need-add-result
 add-result c =
-    let d = c .before .before .before .before .before .before .before .before .before in
+    let at-write-hex = c .before .before .before .before .before in
+    let d = at-write-hex .before .before .before .before in
     omega (
       arith,
-      hex-count (begin d .args .bytes .now) (d .write-word .last .0) (d .write-word .result) (roomy d) (c .before .before .before .before .before .write-hex .result)
-          (c .before .before .before .before .before .write-hex .last .1 .1 .0) (c .before .before .before .before .before .write-hex .ensures) (c .before .n .given .1),
+      hex-count (begin d .args .bytes .now) (d .write-word .last .0) (d .write-word .result) (roomy d) (at-write-hex .write-hex .result)
+          (at-write-hex .write-hex .last .1 .1 .0) (at-write-hex .write-hex .ensures) (c .before .n .given .1),
       roomy d,
     )
 
@@ -68,10 +71,11 @@ same-length-2 c = search needs
 returns-2 : tie.Need-returns-2
 unfolding field
 returns-2 c =
-    let d = c .before .before .before .before .before .before .before .before .before in
+    let at-write-hex = c .before .before .before .before .before in
+    let d = at-write-hex .before .before .before .before in
     writes-then (d .write-word .ensures)
-    (hex-writes (begin d .args .bytes .now) (d .write-word .last .0) (d .write-word .result) (roomy d) (c .before .before .before .before .before .write-hex .result)
-    (c .before .before .before .before .before .write-hex .last .1 .1 .0) (c .before .before .before .before .before .write-hex .ensures) (c .before .n .given .1))
+    (hex-writes (begin d .args .bytes .now) (d .write-word .last .0) (d .write-word .result) (roomy d) (at-write-hex .write-hex .result)
+    (at-write-hex .write-hex .last .1 .1 .0) (at-write-hex .write-hex .ensures) (c .before .n .given .1))
 
 pub put-field-spec : {M : Type 1} → statement M
 put-field-spec =

@@ -19,8 +19,10 @@ same-length c = search needs
 
 returns : tie.Need-returns
 returns c =
-    let a = c .before .before .before .before .before .before .before .before .args in
-    stands-as (sym (pick-true _ _ (le-leb (a .end) (a .free) (c .before .before .before .before .before .if1 .taken)))) (c .before .before .put-bytes .ensures)
+    let at-if1 = c .before .before .before .before .before in
+    let start = at-if1 .before .before .before in
+    let a = start .args in
+    stands-as (sym (pick-true _ _ (le-leb (a .end) (a .free) (at-if1 .if1 .taken)))) (c .before .before .put-bytes .ensures)
 
 slice-aggregate-put-named : tie.Need-slice-aggregate-put-named
 slice-aggregate-put-named c = search needs
@@ -36,8 +38,10 @@ same-length-2 c = search needs
 
 returns-2 : tie.Need-returns-2
 returns-2 c =
-    let a = c .before .before .before .before .before .before .before .before .args in
-    stands-as (sym (pick-false _ _ (lt-leb (a .end) (a .free) (omega (arith, c .before .before .before .before .before .if1 .left))))) (c .before .before .put-named .ensures)
+    let at-if1 = c .before .before .before .before .before in
+    let start = at-if1 .before .before .before in
+    let a = start .args in
+    stands-as (sym (pick-false _ _ (lt-leb (a .end) (a .free) (omega (arith, at-if1 .if1 .left))))) (c .before .before .put-named .ensures)
 
 pub put-given-spec : {M : Type 1} → statement M
 put-given-spec =

@@ -36,14 +36,18 @@ same-length-3 c = search needs
 
 returns : tie.Need-returns
 returns c =
-    let a = c .before .before .before .before .before .before .before .before .before .before .before .before .before .before .before .before .before .before .before .before .before .before .before .args in
+    let at-put-answer = c .before .before .before .before .before .before in
+    let at-extent2 = at-put-answer .before .before .before .before .before .before in
+    let at-extent = at-extent2 .before in
+    let start = at-extent .before .before .before .before .before .before .before .before .before .before in
+    let a = start .args in
     stands-as
     (ap₂
     (λ (x y : List ℕ).
     answerText (a .load) (a .asked) (trial x y (a .offsets .now) (a .sizes .now)) (a .released-offsets .now) (a .released-sizes .now))
-    (take-min (a .overlay .now) (c .before .before .before .before .before .before .before .before .before .before .before .before .extent2 .result) (extentOf (a .offsets .now) (a .sizes .now)) (c .before .before .before .before .before .before .before .before .before .before .before .before .extent2 .ensures .0))
-    (take-min (a .released .now) (c .before .before .before .before .before .before .before .before .before .before .before .before .before .extent .result) (extentOf (a .released-offsets .now) (a .released-sizes .now)) (c .before .before .before .before .before .before .before .before .before .before .before .before .before .extent .ensures .0)))
-    (c .before .before .before .before .before .before .put-answer .ensures)
+    (take-min (a .overlay .now) (at-extent2 .extent2 .result) (extentOf (a .offsets .now) (a .sizes .now)) (at-extent2 .extent2 .ensures .0))
+    (take-min (a .released .now) (at-extent .extent .result) (extentOf (a .released-offsets .now) (a .released-sizes .now)) (at-extent .extent .ensures .0)))
+    (at-put-answer .put-answer .ensures)
 
 pub put-images-spec : {M : Type 1} → statement M
 put-images-spec =

@@ -8,24 +8,30 @@ use Rattle.prog_overlay.proofs.put_line.Tie as tie
 
 write-word-requires : tie.Need-write-word-requires
 write-word-requires c κs =
-    omega (arith, line-length (c .before .before .before .before .args .word .now) (c .before .before .before .before .args .numbers .now), c .before .before .before .before .pre)
+    let start = c .before .before .before .before in
+    omega (arith, line-length (start .args .word .now) (start .args .numbers .now), start .pre)
 
 write-numbers-requires : tie.Need-write-numbers-requires
 write-numbers-requires c κs =
-    let w = c .before .before .before .write-word .ensures in
-    omega (arith, line-length (c .before .before .before .before .before .before .before .before .args .word .now) (c .before .before .before .before .before .before .before .before .args .numbers .now), c .before .before .before .before .before .before .before .before .pre, w .place, writes-long w)
+    let at-write-word = c .before .before .before in
+    let start = at-write-word .before .before .before .before .before in
+    let w = at-write-word .write-word .ensures in
+    omega (arith, line-length (start .args .word .now) (start .args .numbers .now), start .pre, w .place, writes-long w)
 
 slice-aggregate-write-word : tie.Need-slice-aggregate-write-word
 slice-aggregate-write-word c = search needs
 
 write-word-requires-2 : tie.Need-write-word-requires-2
 write-word-requires-2 c κs =
-    let w = c .before .before .before .before .before .before .before .before .write-word .ensures in
-    let v = c .before .before .before .before .write-numbers .ensures in
+    let at-write-numbers = c .before .before .before .before in
+    let at-write-word = at-write-numbers .before .before .before .before in
+    let start = at-write-word .before .before .before .before .before in
+    let w = at-write-word .write-word .ensures in
+    let v = at-write-numbers .write-numbers .ensures in
     omega (
       arith,
-      line-length (c .before .before .before .before .before .before .before .before .before .before .before .before .before .args .word .now) (c .before .before .before .before .before .before .before .before .before .before .before .before .before .args .numbers .now),
-      c .before .before .before .before .before .before .before .before .before .before .before .before .before .pre,
+      line-length (start .args .word .now) (start .args .numbers .now),
+      start .pre,
       w .place,
       writes-long w,
       v .place,
@@ -37,7 +43,9 @@ same-length c = search needs
 
 returns : tie.Need-returns
 returns c =
-    writes-then (writes-then (c .before .before .before .before .before .before .before .before .before .before .before .write-word .ensures) (c .before .before .before .before .before .before .before .write-numbers .ensures)) (c .before .before .write-word2 .ensures)
+    let at-write-numbers = c .before .before .before .before .before .before .before in
+    let at-write-word = at-write-numbers .before .before .before .before in
+    writes-then (writes-then (at-write-word .write-word .ensures) (at-write-numbers .write-numbers .ensures)) (c .before .before .write-word2 .ensures)
 
 pub put-line-spec : {M : Type 1} → statement M
 put-line-spec =

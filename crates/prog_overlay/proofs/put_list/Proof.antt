@@ -76,33 +76,41 @@ enum-known-listed-2 c = search needs
 
 slice-reshare-prefix-put-runs : tie.Need-slice-reshare-prefix-put-runs
 slice-reshare-prefix-put-runs c =
-    let d = c .before .before .before .before .before .before .before in
-    omega (arith, small d _ (c .before .listed2 .given .1), c .before .before .before .before .before .before .firsts .given, s d .pre .1 .1 .0 .0)
+    let at-firsts = c .before .before .before .before .before .before in
+    let d = at-firsts .before in
+    omega (arith, small d _ (c .before .listed2 .given .1), at-firsts .firsts .given, s d .pre .1 .1 .0 .0)
 
 slice-aggregate-put-runs : tie.Need-slice-aggregate-put-runs
 slice-aggregate-put-runs c =
-    sym (one (c .before .before .before .before .before .before .before .before) _ (c .before .before .listed2 .given .1))
+    let at-differences = c .before .before .before .before .before .before .before .before in
+    sym (one at-differences _ (c .before .before .listed2 .given .1))
 
 slice-reshare-prefix-put-runs-2 : tie.Need-slice-reshare-prefix-put-runs-2
 slice-reshare-prefix-put-runs-2 c =
-    let d = c .before .before .before .before .before .before .before .before in
-    omega (arith, small d _ (c .before .before .listed2 .given .1), c .before .before .before .before .before .counts .given, s d .pre .1 .1 .0 .1)
+    let at-counts = c .before .before .before .before .before in
+    let d = at-counts .before .before .before in
+    omega (arith, small d _ (c .before .before .listed2 .given .1), at-counts .counts .given, s d .pre .1 .1 .0 .1)
 
 slice-aggregate-put-runs-2 : tie.Need-slice-aggregate-put-runs-2
 slice-aggregate-put-runs-2 c =
-    sym (two (c .before .before .before .before .before .before .before .before .before) _ (c .before .before .before .listed2 .given .1))
+    let at-listed2 = c .before .before .before in
+    let at-differences = at-listed2 .before .before .before .before .before .before in
+    sym (two at-differences _ (at-listed2 .listed2 .given .1))
 
 put-runs-requires : tie.Need-put-runs-requires
 put-runs-requires c κs =
-    let d = c .before .before .before .before .before .before .before .before .before .before in
-    let e = c .before .before .before .before .listed2 .given .1 in
+    let at-listed2 = c .before .before .before .before in
+    let d = at-listed2 .before .before .before .before .before .before in
+    let e = at-listed2 .listed2 .given .1 in
     (one d _ e ∙ sym (two d _ e), (each d _ e, omega (arith, fit d _ e, s d .pre .1 .1 .1)))
 
 put-alone-requires : tie.Need-put-alone-requires
 put-alone-requires c κs =
-    let d = c .before .before .before .before .before .before .before .before .before .before .before .before .before .before in
-    let e = c .before .before .before .before .before .before .before .before .listed2 .given .1 in
-    let w = c .before .before .before .put-runs .ensures in
+    let at-put-runs = c .before .before .before in
+    let at-listed2 = at-put-runs .before .before .before .before .before in
+    let d = at-listed2 .before .before .before .before .before .before in
+    let e = at-listed2 .listed2 .given .1 in
+    let w = at-put-runs .put-runs .ensures in
     (s d .pre .1 .0, omega (arith, fit d _ e, w .place, writes-long w, s d .pre .1 .1 .1))
 
 slice-aggregate-put-line : tie.Need-slice-aggregate-put-line
@@ -113,10 +121,13 @@ slice-aggregate-put-line-2 c = search needs
 
 put-line-requires : tie.Need-put-line-requires
 put-line-requires c κs =
-    let d = c .before .before .before .before .before .before .before .before .before .before .before .before .before .before .before .before .before .before .before .before in
-    let e = c .before .before .before .before .before .before .before .before .before .before .before .before .before .before .listed2 .given .1 in
-    let w = c .before .before .before .before .before .before .before .before .before .put-runs .ensures in
-    let v = c .before .before .before .before .before .put-alone .ensures in
+    let at-put-alone = c .before .before .before .before .before in
+    let at-put-runs = at-put-alone .before .before .before .before in
+    let at-listed2 = at-put-runs .before .before .before .before .before in
+    let d = at-listed2 .before .before .before .before .before .before in
+    let e = at-listed2 .listed2 .given .1 in
+    let w = at-put-runs .put-runs .ensures in
+    let v = at-put-alone .put-alone .ensures in
     omega (arith, fit d _ e, last-line d _ e, w .place, writes-long w, v .1, writes-long (v .0), s d .pre .1 .1 .1)
 
 same-length : tie.Need-same-length
@@ -130,10 +141,11 @@ same-length-3 c = search needs
 
 returns : tie.Need-returns
 returns c =
-    let d = c .before .before .before .before .before .before .before .before .before .before .before in
+    let at-listed = c .before .before .before .before .before in
+    let d = at-listed .before .before .before .before .before .before in
     stands-as
     (list-refused (t d) (s d .pre .0 .0) (s d .pre .0 .1) (s d .args .firsts .now) (s d .args .counts .now) (d .differences .result) (fs d) (cs d)
-    (d .differences .ensures) (s d .pre .1 .1 .0 .0) (s d .pre .1 .1 .0 .1) (s d .args .load) (s d .args .alone) _ (c .before .before .before .before .before .listed .given .1))
+    (d .differences .ensures) (s d .pre .1 .1 .0 .0) (s d .pre .1 .1 .0 .1) (s d .args .load) (s d .args .alone) _ (at-listed .listed .given .1))
     (c .before .before .put-refusal .ensures .0)
 
 same-length-4 : tie.Need-same-length-4
@@ -147,10 +159,13 @@ same-length-6 c = search needs
 
 returns-2 : tie.Need-returns-2
 returns-2 c =
-    let d = c .before .before .before .before .before .before .before .before .before .before .before .before .before .before .before .before .before .before .before .before .before .before .before in
-    let e = c .before .before .before .before .before .before .before .before .before .before .before .before .before .before .before .before .before .listed2 .given .1 in
-    let w = c .before .before .before .before .before .before .before .before .before .before .before .before .put-runs .ensures in
-    let v = c .before .before .before .before .before .before .before .before .put-alone .ensures in
+    let at-put-alone = c .before .before .before .before .before .before .before .before in
+    let at-put-runs = at-put-alone .before .before .before .before in
+    let at-listed2 = at-put-runs .before .before .before .before .before in
+    let d = at-listed2 .before .before .before .before .before .before in
+    let e = at-listed2 .listed2 .given .1 in
+    let w = at-put-runs .put-runs .ensures in
+    let v = at-put-alone .put-alone .ensures in
     let u = c .before .before .put-line .ensures in
     stands-as
     (list-is (t d) (s d .pre .0 .0) (s d .pre .0 .1) (s d .args .firsts .now) (s d .args .counts .now) (d .differences .result) (fs d) (cs d)

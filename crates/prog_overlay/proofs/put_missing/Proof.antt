@@ -22,8 +22,10 @@ same-length c = search needs
 
 returns : tie.Need-returns
 returns c =
-    let a = c .before .before .before .before .before .before .before .args in
-    stands-as (sym (pick-true _ _ (le-leb (a .end) (a .size) (c .before .before .before .before .before .if1 .taken)))) (c .before .before .put-named .ensures)
+    let at-if1 = c .before .before .before .before .before in
+    let start = at-if1 .before .before in
+    let a = start .args in
+    stands-as (sym (pick-true _ _ (le-leb (a .end) (a .size) (at-if1 .if1 .taken)))) (c .before .before .put-named .ensures)
 
 slice-aggregate-put-named-2 : tie.Need-slice-aggregate-put-named-2
 slice-aggregate-put-named-2 c = search needs
@@ -39,8 +41,10 @@ same-length-2 c = search needs
 
 returns-2 : tie.Need-returns-2
 returns-2 c =
-    let a = c .before .before .before .before .before .before .before .args in
-    stands-as (sym (pick-false _ _ (lt-leb (a .end) (a .size) (omega (arith, c .before .before .before .before .before .if1 .left))))) (c .before .before .put-named2 .ensures)
+    let at-if1 = c .before .before .before .before .before in
+    let start = at-if1 .before .before in
+    let a = start .args in
+    stands-as (sym (pick-false _ _ (lt-leb (a .end) (a .size) (omega (arith, at-if1 .if1 .left))))) (c .before .before .put-named2 .ensures)
 
 pub put-missing-spec : {M : Type 1} → statement M
 put-missing-spec =

@@ -21,17 +21,21 @@ slice-aggregate-put-line c = search needs
 
 put-line-requires : tie.Need-put-line-requires
 put-line-requires c κs =
-    let w = c .before .before .before .before .write-refusal .ensures in
-    omega (arith, short (c .before .before .before .before .before .before .before .before), c .before .before .before .before .before .before .before .before .pre .1, w .1, writes-long (w .0))
+    let at-write-refusal = c .before .before .before .before in
+    let start = at-write-refusal .before .before .before .before in
+    let w = at-write-refusal .write-refusal .ensures in
+    omega (arith, short start, start .pre .1, w .1, writes-long (w .0))
 
 same-length : tie.Need-same-length
 same-length c = search needs
 
 returns : tie.Need-returns
 returns c =
-    let w = c .before .before .before .before .before .before .before .write-refusal .ensures in
+    let at-write-refusal = c .before .before .before .before .before .before .before in
+    let start = at-write-refusal .before .before .before .before in
+    let w = at-write-refusal .write-refusal .ensures in
     let v = c .before .before .put-line .ensures in
-    stands-of (writes-then (w .0) v) (omega (arith, short (c .before .before .before .before .before .before .before .before .before .before .before), c .before .before .before .before .before .before .before .before .before .before .before .pre .1, w .1, v .place))
+    stands-of (writes-then (w .0) v) (omega (arith, short start, start .pre .1, w .1, v .place))
 
 pub put-named-spec : {M : Type 1} → statement M
 put-named-spec =

@@ -17,10 +17,11 @@ same-length c = search needs
 
 returns : tie.Need-returns
 returns c =
-    let s = c .before .before .before .before .before .before .before .before .before .before .before .before in
+    let at-if1 = c .before .before .before .before in
+    let s = at-if1 .before .before .before .before .before .before .before .before in
     stands-as
     (range-empty (s .args .load) (s .args .address) (s .args .count) (trialOf s) (s .args .released-offsets .now) (s .args .released-sizes .now)
-    (c .before .before .before .before .if1 .taken))
+    (at-if1 .if1 .taken))
     (c .before .before .put-refusal .ensures .0)
 
 slice-aggregate-put-named : tie.Need-slice-aggregate-put-named
@@ -34,10 +35,12 @@ same-length-2 c = search needs
 
 returns-2 : tie.Need-returns-2
 returns-2 c =
-    let s = c .before .before .before .before .before .before .before .before .before .before .before .before .before .before in
+    let at-if2 = c .before .before .before .before .before in
+    let at-if1 = at-if2 .before in
+    let s = at-if1 .before .before .before .before .before .before .before .before in
     stands-as
     (range-below (s .args .load) (s .args .address) (s .args .count) (trialOf s) (s .args .released-offsets .now) (s .args .released-sizes .now)
-    (c .before .before .before .before .before .before .if1 .left) (c .before .before .before .before .before .if2 .taken))
+    (at-if1 .if1 .left) (at-if2 .if2 .taken))
     (c .before .before .put-named .ensures)
 
 cast-first : tie.Need-cast-first
@@ -57,10 +60,14 @@ same-length-3 c = search needs
 
 returns-3 : tie.Need-returns-3
 returns-3 c =
-    let s = c .before .before .before .before .before .before .before .before .before .before .before .before .before .before .before in
+    let at-first-free2 = c .before .before .before .before in
+    let at-first-free = at-first-free2 .before in
+    let at-if2 = at-first-free .before in
+    let at-if1 = at-if2 .before in
+    let s = at-if1 .before .before .before .before .before .before .before .before in
     stands-as
     (range-at (s .args .load) (s .args .address) (s .args .count) (trialOf s) (s .args .released-offsets .now) (s .args .released-sizes .now)
-    (c .before .before .before .before .before .before .before .if1 .left) (omega (arith, c .before .before .before .before .before .before .if2 .left)) (c .before .before .before .before .before .first-free .ensures .0) (c .before .before .before .before .first-free2 .ensures .0))
+    (at-if1 .if1 .left) (omega (arith, at-if2 .if2 .left)) (at-first-free .first-free .ensures .0) (at-first-free2 .first-free2 .ensures .0))
     (c .before .before .put-source .ensures)
 
 pub put-range-spec : {M : Type 1} → statement M

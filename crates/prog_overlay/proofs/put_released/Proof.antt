@@ -53,7 +53,8 @@ slice-aggregate-put-unread c = search needs
 
 put-unread-requires : tie.Need-put-unread-requires
 put-unread-requires c κs =
-    let s = s (c .before .before .before .before .before .before .before .before .before .before .before) in
+    let at-load-file = c .before .before .before .before .before .before .before .before .before .before .before in
+    let s = s at-load-file in
     (omega arith, s .pre .1 .1 .1 .1)
 
 enum-known-found-2 : tie.Need-enum-known-found-2
@@ -61,32 +62,38 @@ enum-known-found-2 c = search needs
 
 slice-reshare-prefix-put-images : tie.Need-slice-reshare-prefix-put-images
 slice-reshare-prefix-put-images c =
-    let l = told (c .before .before .before .before .before .before .before .before .before .before) (Found _) (c .before .before .found2 .given .1) in
+    let at-load-file = c .before .before .before .before .before .before .before .before .before .before in
+    let l = told at-load-file (Found _) (c .before .before .found2 .given .1) in
     omega (arith, l .1, l .3)
 
 slice-aggregate-put-images : tie.Need-slice-aggregate-put-images
 slice-aggregate-put-images c =
-    let d = c .before .before .before .before .before .before .before .before .before .before .before in
-    let l = told d (Found _) (c .before .before .before .found2 .given .1) in
+    let at-found2 = c .before .before .before in
+    let d = at-found2 .before .before .before .before .before .before .before .before in
+    let l = told d (Found _) (at-found2 .found2 .given .1) in
     sym (length-take-le _ (os d) (omega (arith, l .1, l .3)))
 
 slice-reshare-prefix-put-images-2 : tie.Need-slice-reshare-prefix-put-images-2
 slice-reshare-prefix-put-images-2 c =
-    let l = told (c .before .before .before .before .before .before .before .before .before .before .before) (Found _) (c .before .before .before .found2 .given .1) in
+    let at-found2 = c .before .before .before in
+    let at-load-file = at-found2 .before .before .before .before .before .before .before .before in
+    let l = told at-load-file (Found _) (at-found2 .found2 .given .1) in
     omega (arith, l .1, l .4)
 
 slice-aggregate-put-images-2 : tie.Need-slice-aggregate-put-images-2
 slice-aggregate-put-images-2 c =
-    let d = c .before .before .before .before .before .before .before .before .before .before .before .before in
-    let l = told d (Found _) (c .before .before .before .before .found2 .given .1) in
+    let at-found2 = c .before .before .before .before in
+    let d = at-found2 .before .before .before .before .before .before .before .before in
+    let l = told d (Found _) (at-found2 .found2 .given .1) in
     sym (length-take-le _ (ss d) (omega (arith, l .1, l .4)))
 
 put-images-requires : tie.Need-put-images-requires
 put-images-requires c κs =
-    let d = c .before .before .before .before .before .before .before .before .before .before .before .before .before .before .before in
-    let l = told d (Found _) (c .before .before .before .before .before .before .before .found2 .given .1) in
+    let at-found2 = c .before .before .before .before .before .before .before in
+    let d = at-found2 .before .before .before .before .before .before .before .before in
+    let l = told d (Found _) (at-found2 .found2 .given .1) in
     let p = s d .pre in
-    let n = c .before .before .before .before .before .before .before .found2 .given .0 .0 in (
+    let n = at-found2 .found2 .given .0 .0 in (
       (l .2, p .0 .1),
       (
         (length-take-le n (os d) (omega (arith, l .1, l .3)) ∙ sym (length-take-le n (ss d) (omega (arith, l .1, l .4))), p .1 .1 .0),
@@ -108,11 +115,12 @@ same-length-4 c = search needs
 
 returns : tie.Need-returns
 returns c =
-    let d = c .before .before .before .before .before .before .before .before .before .before .before .before .before .before in
+    let at-found = c .before .before .before .before .before .before in
+    let d = at-found .before .before .before .before .before .before .before .before in
     let a = s d .args in
     stands-as
     (released-unread (a .load) (a .asked) (a .overlay .now) (a .offsets .now) (a .sizes .now) (a .source .now)
-    (told d (Refused _) (c .before .before .before .before .before .before .found .given .1)))
+    (told d (Refused _) (at-found .found .given .1)))
     (c .before .before .put-unread .ensures)
 
 same-length-5 : tie.Need-same-length-5
@@ -135,12 +143,14 @@ same-length-10 c = search needs
 
 returns-2 : tie.Need-returns-2
 returns-2 c =
-    let d = c .before .before .before .before .before .before .before .before .before .before .before .before .before .before .before .before .before .before .before .before .before .before in
+    let at-put-images = c .before .before .before .before .before .before in
+    let at-found2 = at-put-images .before .before .before .before .before .before .before .before in
+    let d = at-found2 .before .before .before .before .before .before .before .before in
     let a = s d .args in
     stands-as
     (released-read (a .load) (a .asked) (a .overlay .now) (a .offsets .now) (a .sizes .now) (a .source .now)
-    (told d (Found _) (c .before .before .before .before .before .before .before .before .before .before .before .before .before .before .found2 .given .1) .0))
-    (c .before .before .before .before .before .before .put-images .ensures)
+    (told d (Found _) (at-found2 .found2 .given .1) .0))
+    (at-put-images .put-images .ensures)
 
 pub put-released-spec : {M : Type 1} → statement M
 put-released-spec =

@@ -23,24 +23,32 @@ roomy s = omega (
 )
 
 add-end : tie.Need-add-end
-add-end c = omega (arith, c .before .before .before .pre .0 .near)
+add-end c =
+    let start = c .before .before .before in
+    omega (arith, start .pre .0 .near)
 
 add-t19 : tie.Need-add-t19
-add-t19 c = omega (arith, c .before .before .before .pre .0 .near)
+add-t19 c =
+    let start = c .before .before .before in
+    omega (arith, start .pre .0 .near)
 
 slice-aggregate-write-word : tie.Need-slice-aggregate-write-word
 slice-aggregate-write-word c = search needs
 
 write-word-requires : tie.Need-write-word-requires
-write-word-requires c κs = omega (arith, roomy (c .before .before .before .before .before))
+write-word-requires c κs =
+    let start = c .before .before .before .before .before in
+    omega (arith, roomy start)
 
 slice-aggregate-write-numbers : tie.Need-slice-aggregate-write-numbers
 slice-aggregate-write-numbers c = search needs
 
 write-numbers-requires : tie.Need-write-numbers-requires
 write-numbers-requires c κs =
-    let w = c .before .before .before .before .write-word .ensures in
-    omega (arith, roomy (c .before .before .before .before .before .before .before .before .before .before), w .place, writes-long w)
+    let at-write-word = c .before .before .before .before in
+    let start = at-write-word .before .before .before .before .before .before in
+    let w = at-write-word .write-word .ensures in
+    omega (arith, roomy start, w .place, writes-long w)
 
 sub-put-field : tie.Need-sub-put-field
 sub-put-field c = omega arith
@@ -50,13 +58,16 @@ part-put-field-start c = omega arith
 
 part-put-field-end : tie.Need-part-put-field-end
 part-put-field-end c =
-    omega (arith, c .before .before .before .before .before .before .before .before .before .before .before .before .before .pre .0 .issued)
+    let start = c .before .before .before .before .before .before .before .before .before .before .before .before .before in
+    omega (arith, start .pre .0 .issued)
 
 put-field-requires : tie.Need-put-field-requires
 put-field-requires c κs =
-    let s = c .before .before .before .before .before .before .before .before .before .before .before .before .before .before .before in
-    let w = c .before .before .before .before .before .before .before .before .before .write-word .ensures in
-    let v = c .before .before .before .before .write-numbers .ensures in
+    let at-write-numbers = c .before .before .before .before in
+    let at-write-word = at-write-numbers .before .before .before .before .before in
+    let s = at-write-word .before .before .before .before .before .before in
+    let w = at-write-word .write-word .ensures in
+    let v = at-write-numbers .write-numbers .ensures in
     let l = part-long (s .args .released .now) (s .args .first) (s .args .count) (s .pre .0 .issued) in (
       omega (arith, l, s .pre .0 .near),
       omega (
@@ -79,14 +90,19 @@ part-put-field-start-2 c = omega arith
 
 part-put-field-end-2 : tie.Need-part-put-field-end-2
 part-put-field-end-2 c =
-    omega (arith, c .before .before .before .before .before .before .before .before .before .before .before .before .before .before .before .before .before .before .pre .0 .overlaid)
+    let start = c .before .before .before .before .before .before .before .before .before .before .before .before .before
+    .before .before .before .before .before in
+    omega (arith, start .pre .0 .overlaid)
 
 put-field-requires-2 : tie.Need-put-field-requires-2
 put-field-requires-2 c κs =
-    let s = c .before .before .before .before .before .before .before .before .before .before .before .before .before .before .before .before .before .before .before .before in
-    let w = c .before .before .before .before .before .before .before .before .before .before .before .before .before .before .write-word .ensures in
-    let v = c .before .before .before .before .before .before .before .before .before .write-numbers .ensures in
-    let f = c .before .before .before .before .put-field .ensures in
+    let at-put-field = c .before .before .before .before in
+    let at-write-numbers = at-put-field .before .before .before .before .before in
+    let at-write-word = at-write-numbers .before .before .before .before .before in
+    let s = at-write-word .before .before .before .before .before .before in
+    let w = at-write-word .write-word .ensures in
+    let v = at-write-numbers .write-numbers .ensures in
+    let f = at-put-field .put-field .ensures in
     let k = part-long (s .args .released .now) (s .args .first) (s .args .count) (s .pre .0 .issued) in
     let l = part-long (s .args .overlay .now) (s .args .first) (s .args .count) (s .pre .0 .overlaid) in (
       omega (arith, l, s .pre .0 .near),
@@ -111,11 +127,15 @@ slice-aggregate-write-word-2 c = search needs
 
 write-word-requires-2 : tie.Need-write-word-requires-2
 write-word-requires-2 c κs =
-    let s = c .before .before .before .before .before .before .before .before .before .before .before .before .before .before .before .before .before .before .before .before .before .before .before .before .before in
-    let w = c .before .before .before .before .before .before .before .before .before .before .before .before .before .before .before .before .before .before .before .write-word .ensures in
-    let v = c .before .before .before .before .before .before .before .before .before .before .before .before .before .before .write-numbers .ensures in
-    let f = c .before .before .before .before .before .before .before .before .before .put-field .ensures in
-    let g = c .before .before .before .before .put-field2 .ensures in
+    let at-put-field2 = c .before .before .before .before in
+    let at-put-field = at-put-field2 .before .before .before .before .before in
+    let at-write-numbers = at-put-field .before .before .before .before .before in
+    let at-write-word = at-write-numbers .before .before .before .before .before in
+    let s = at-write-word .before .before .before .before .before .before in
+    let w = at-write-word .write-word .ensures in
+    let v = at-write-numbers .write-numbers .ensures in
+    let f = at-put-field .put-field .ensures in
+    let g = at-put-field2 .put-field2 .ensures in
     let k = part-long (s .args .released .now) (s .args .first) (s .args .count) (s .pre .0 .issued) in
     let l = part-long (s .args .overlay .now) (s .args .first) (s .args .count) (s .pre .0 .overlaid) in
     omega (
@@ -140,12 +160,16 @@ same-length c = search needs
 
 returns : tie.Need-returns
 returns c =
-    let s = c .before .before .before .before .before .before .before .before .before .before .before .before .before .before .before .before .before .before .before .before .before .before .before .before .before .before .before .before in
+    let at-put-field2 = c .before .before .before .before .before .before .before in
+    let at-put-field = at-put-field2 .before .before .before .before .before in
+    let at-write-numbers = at-put-field .before .before .before .before .before in
+    let at-write-word = at-write-numbers .before .before .before .before .before in
+    let s = at-write-word .before .before .before .before .before .before in
     same-run (s .args .load) (s .args .released .now) (s .args .overlay .now) (s .args .first) (s .args .count)
     (writes-then
     (writes-then
-    (writes-then (writes-then (c .before .before .before .before .before .before .before .before .before .before .before .before .before .before .before .before .before .before .before .before .before .before .write-word .ensures) (c .before .before .before .before .before .before .before .before .before .before .before .before .before .before .before .before .before .write-numbers .ensures)) (c .before .before .before .before .before .before .before .before .before .before .before .before .put-field .ensures))
-    (c .before .before .before .before .before .before .before .put-field2 .ensures))
+    (writes-then (writes-then (at-write-word .write-word .ensures) (at-write-numbers .write-numbers .ensures)) (at-put-field .put-field .ensures))
+    (at-put-field2 .put-field2 .ensures))
     (c .before .before .write-word2 .ensures))
 
 pub put-run-spec : {M : Type 1} → statement M

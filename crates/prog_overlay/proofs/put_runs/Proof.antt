@@ -75,7 +75,8 @@ loop-less c = search needs
 
 loop-again : tie.Need-loop-again Inv-loop μ-loop
 loop-again c =
-    going-on (turn (c .before .before .before .before .before .before)) (c .before .before .put-run .ensures)
+    let at-loop-test = c .before .before .before .before .before .before in
+    going-on (turn at-loop-test) (c .before .before .put-run .ensures)
 
 same-length : tie.Need-same-length Inv-loop μ-loop
 same-length c = search needs

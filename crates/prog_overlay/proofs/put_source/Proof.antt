@@ -66,10 +66,12 @@ same-length c = search needs
 
 returns : tie.Need-returns
 returns c =
-    let s = c .before .before .before .before .before .before .before .before .before .before .before .before .before .before in
+    let at-source = c .before .before .before .before .before in
+    let at-which = at-source .before .before .before in
+    let s = at-which .before .before .before .before .before .before in
     stands-as
     (told-as (s .args .load) (s .args .first) (s .args .count) (s .args .free) (s .args .lack) (trialOf s)
-    (sym (c .before .before .before .before .before .source .given .1) ∙ c .before .before .before .before .before .before .before .before .which .ensures .answer))
+    (sym (at-source .source .given .1) ∙ at-which .which .ensures .answer))
     (c .before .before .put-missing .ensures)
 
 same-length-2 : tie.Need-same-length-2
@@ -77,10 +79,13 @@ same-length-2 c = search needs
 
 returns-2 : tie.Need-returns-2
 returns-2 c =
-    let s = c .before .before .before .before .before .before .before .before .before .before .before .before .before .before in
-    let e = sym (c .before .before .before .before .before .enum-told .given .1) ∙ c .before .before .before .before .before .before .before .before .which .ensures .answer in
+    let at-enum-told = c .before .before .before .before .before in
+    let at-pick = at-enum-told .before .before in
+    let at-which = at-pick .before in
+    let s = at-which .before .before .before .before .before .before in
+    let e = sym (at-enum-told .enum-told .given .1) ∙ at-which .which .ensures .answer in
     stands-as
-    (ap (bytesText (ascii "overlay")) (c .before .before .before .before .before .before .before .pick .ensures .bytes ∙ ap (bytesOf (trialOf s) (s .args .first) (s .args .count)) (sym e))
+    (ap (bytesText (ascii "overlay")) (at-pick .pick .ensures .bytes ∙ ap (bytesOf (trialOf s) (s .args .first) (s .args .count)) (sym e))
     ∙ told-as (s .args .load) (s .args .first) (s .args .count) (s .args .free) (s .args .lack) (trialOf s) e)
     (c .before .before .put-bytes .ensures)
 
@@ -89,11 +94,14 @@ same-length-3 c = search needs
 
 returns-3 : tie.Need-returns-3
 returns-3 c =
-    let s = c .before .before .before .before .before .before .before .before .before .before .before .before .before in
-    let e = sym (c .before .before .before .before .enum-told2 .given .1) ∙ c .before .before .before .before .before .before .before .which .ensures .answer in
+    let at-enum-told2 = c .before .before .before .before in
+    let at-pick = at-enum-told2 .before .before in
+    let at-which = at-pick .before in
+    let s = at-which .before .before .before .before .before .before in
+    let e = sym (at-enum-told2 .enum-told2 .given .1) ∙ at-which .which .ensures .answer in
     stands-as
     (ap (givenText (s .args .load) (s .args .first + s .args .count) (s .args .free))
-    (c .before .before .before .before .before .before .pick .ensures .bytes ∙ ap (bytesOf (trialOf s) (s .args .first) (s .args .count)) (sym e))
+    (at-pick .pick .ensures .bytes ∙ ap (bytesOf (trialOf s) (s .args .first) (s .args .count)) (sym e))
     ∙ told-as (s .args .load) (s .args .first) (s .args .count) (s .args .free) (s .args .lack) (trialOf s) e)
     (c .before .before .put-given .ensures)
 

@@ -19,9 +19,11 @@ same-length c = search needs
 
 returns : tie.Need-returns
 returns c =
-    let s = c .before .before .before .before .before .before .before .before .before .before .before .before .before .before .before in
-    let w = c .before .before .before .before .before .before .before .before .before .before .write-refusal .ensures in
-    let v = c .before .before .before .before .before .before .write-word .ensures in
+    let at-write-word = c .before .before .before .before .before .before in
+    let at-write-refusal = at-write-word .before .before .before .before in
+    let s = at-write-refusal .before .before .before .before .before in
+    let w = at-write-refusal .write-refusal .ensures in
+    let v = at-write-word .write-word .ensures in
     let f = c .before .before .put-fault .ensures in
     stands-of (writes-then (writes-then (w .0) v) (f .0)) (omega (arith, w .1, v .place, f .1, s .pre .0, s .pre .1))
 

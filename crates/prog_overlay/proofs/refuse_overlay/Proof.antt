@@ -18,7 +18,8 @@ same-length c = search needs
 
 returns : tie.Need-returns
 returns c =
-    shown-whole (c .before .before .before .before .put-unread .ensures) (c .print .result) (c .print .ensures)
+    let at-put-unread = c .before .before .before .before in
+    shown-whole (at-put-unread .put-unread .ensures) (c .print .result) (c .print .ensures)
 
 pub refuse-overlay-spec : {M : Type 1} → statement M
 refuse-overlay-spec =

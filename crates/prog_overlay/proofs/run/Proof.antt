@@ -59,7 +59,8 @@ slice-aggregate-refuse-overlay c = search needs
 
 refuse-overlay-requires : tie.Need-refuse-overlay-requires
 refuse-overlay-requires c κs =
-    let p = s (c .before .before .before .before .before .before .before .before .before .before .before) .pre in
+    let at-load-file = c .before .before .before .before .before .before .before .before .before .before .before in
+    let p = s at-load-file .pre in
     p .1 .1 .1 .1 .1
 
 enum-known-found-2 : tie.Need-enum-known-found-2
@@ -67,33 +68,41 @@ enum-known-found-2 c = search needs
 
 slice-reshare-prefix-run-released : tie.Need-slice-reshare-prefix-run-released
 slice-reshare-prefix-run-released c =
-    let l = told (c .before .before .before .before .before .before .before .before .before .before .before .before .before .before) (Found _) (c .before .before .before .before .before .before .found2 .given .1) in
+    let at-found2 = c .before .before .before .before .before .before in
+    let at-load-file = at-found2 .before .before .before .before .before .before .before .before in
+    let l = told at-load-file (Found _) (at-found2 .found2 .given .1) in
     omega (arith, l .1, l .3)
 
 slice-aggregate-run-released : tie.Need-slice-aggregate-run-released
 slice-aggregate-run-released c =
-    let d = c .before .before .before .before .before .before .before .before .before .before .before .before .before .before .before in
-    let l = told d (Found _) (c .before .before .before .before .before .before .before .found2 .given .1) in
+    let at-found2 = c .before .before .before .before .before .before .before in
+    let d = at-found2 .before .before .before .before .before .before .before .before in
+    let l = told d (Found _) (at-found2 .found2 .given .1) in
     sym (length-take-le _ (os d) (omega (arith, l .1, l .3)))
 
 slice-reshare-prefix-run-released-2 : tie.Need-slice-reshare-prefix-run-released-2
 slice-reshare-prefix-run-released-2 c =
-    let l = told (c .before .before .before .before .before .before .before .before .before .before .before .before .before .before .before) (Found _) (c .before .before .before .before .before .before .before .found2 .given .1) in
+    let at-found2 = c .before .before .before .before .before .before .before in
+    let at-load-file = at-found2 .before .before .before .before .before .before .before .before in
+    let l = told at-load-file (Found _) (at-found2 .found2 .given .1) in
     omega (arith, l .1, l .4)
 
 slice-aggregate-run-released-2 : tie.Need-slice-aggregate-run-released-2
 slice-aggregate-run-released-2 c =
-    let d = c .before .before .before .before .before .before .before .before .before .before .before .before .before .before .before .before in
-    let l = told d (Found _) (c .before .before .before .before .before .before .before .before .found2 .given .1) in
+    let at-found2 = c .before .before .before .before .before .before .before .before in
+    let d = at-found2 .before .before .before .before .before .before .before .before in
+    let l = told d (Found _) (at-found2 .found2 .given .1) in
     sym (length-take-le _ (ss d) (omega (arith, l .1, l .4)))
 
 run-released-requires : tie.Need-run-released-requires
 run-released-requires c κs =
-    let d = c .before .before .before .before .before .before .before .before .before .before .before .before .before .before .before .before .before .before .before in
-    let l = told d (Found _) (c .before .before .before .before .before .before .before .before .before .before .before .found2 .given .1) in
+    let at-found2 = c .before .before .before .before .before .before .before .before .before .before .before in
+    let d = at-found2 .before .before .before .before .before .before .before .before in
+    let at-text = d .before .before .before .before .before .before in
+    let l = told d (Found _) (at-found2 .found2 .given .1) in
     let p = s d .pre in
-    let n = c .before .before .before .before .before .before .before .before .before .before .before .found2 .given .0 .0 in (
-      omega (arith, c .before .before .before .before .before .before .before .before .before .before .before .before .before .before .before .before .before .before .before .before .before .before .before .before .before .text .given, p .0),
+    let n = at-found2 .found2 .given .0 .0 in (
+      omega (arith, at-text .text .given, p .0),
       (
         (p .1 .0 .0, l .2),
         (
@@ -123,7 +132,9 @@ same-length-5 c = search needs
 
 returns : tie.Need-returns
 returns c =
-    let d = c .before .before .before .before .before .before .before .before .before .before .before .before .before .before in
+    let at-found = c .before .before .before .before .before .before in
+    let d = at-found .before .before .before .before .before .before .before .before in
+    let at-text = d .before .before .before .before .before .before in
     let a = s d .args in
     let r = read d .read-full in
     record {
@@ -131,14 +142,18 @@ returns c =
       released = [];
       overlay = source d;
       longest₁ = omega arith;
-      longest₂ = omega (arith, length-take (r .result) (r .last .1 .0), c .before .before .before .before .before .before .before .before .before .before .before .before .before .before .before .before .before .before .before .before .text .given, s d .pre .0);
-      text = shows-as (bench-unread (a .load) (a .asked) (a .overlay .now) [] (source d) (told d (Refused _) (c .before .before .before .before .before .before .found .given .1)))
+      longest₂ = omega (arith, length-take (r .result) (r .last .1 .0), at-text .text .given, s d .pre .0);
+      text = shows-as (bench-unread (a .load) (a .asked) (a .overlay .now) [] (source d) (told d (Refused _) (at-found .found .given .1)))
           (c .before .before .refuse-overlay .ensures);
     }
 
 same-length-6 : tie.Need-same-length-6
 same-length-6 c =
-    omega (arith, c .before .before .before .before .before .before .before .before .before .before .before .before .before .text2 .given, c .before .before .before .before .before .before .before .before .before .before .before .before .before .before .before .before .before .before .before .before .before .before .before .before .before .before .before .before .before .before .before .before .before .before .before .before .before .before .before .before .text .given)
+    let at-text2 = c .before .before .before .before .before .before .before .before .before .before .before .before
+    .before in
+    let at-text = at-text2 .before .before .before .before .before .before .before .before .before .before .before .before
+    .before .before .before .before .before .before .before .before .before .before .before .before .before .before .before in
+    omega (arith, at-text2 .text2 .given, at-text .text .given)
 
 same-length-7 : tie.Need-same-length-7
 same-length-7 c = search needs
@@ -169,17 +184,22 @@ same-length-15 c = search needs
 
 returns-2 : tie.Need-returns-2
 returns-2 c =
-    let d = c .before .before .before .before .before .before .before .before .before .before .before .before .before .before .before .before .before .before .before .before .before .before .before .before .before .before .before .before .before .before .before .before .before .before in
+    let at-run-released = c .before .before .before .before .before .before .before .before .before .before .before .before
+    .before .before in
+    let at-found2 = at-run-released .before .before .before .before .before .before .before .before .before .before .before
+    .before in
+    let d = at-found2 .before .before .before .before .before .before .before .before in
+    let at-text = d .before .before .before .before .before .before in
     let a = s d .args in
     let r = read d .read-full in
-    let done = c .before .before .before .before .before .before .before .before .before .before .before .before .before .before .run-released .ensures in
+    let done = at-run-released .run-released .ensures in
     record {
       old = a .overlay .now;
       released = done .source;
       overlay = source d;
       longest₁ = done .longest;
-      longest₂ = omega (arith, length-take (r .result) (r .last .1 .0), c .before .before .before .before .before .before .before .before .before .before .before .before .before .before .before .before .before .before .before .before .before .before .before .before .before .before .before .before .before .before .before .before .before .before .before .before .before .before .before .before .text .given, s d .pre .0);
-      text = shows-as (bench-read (a .load) (a .asked) (a .overlay .now) (done .source) (source d) (told d (Found _) (c .before .before .before .before .before .before .before .before .before .before .before .before .before .before .before .before .before .before .before .before .before .before .before .before .before .before .found2 .given .1) .0))
+      longest₂ = omega (arith, length-take (r .result) (r .last .1 .0), at-text .text .given, s d .pre .0);
+      text = shows-as (bench-read (a .load) (a .asked) (a .overlay .now) (done .source) (source d) (told d (Found _) (at-found2 .found2 .given .1) .0))
           (done .text);
     }
 

@@ -44,12 +44,16 @@ same-length-7 c = search needs
 
 returns : tie.Need-returns
 returns c =
-    let s = c .before .before .before .before .before .before .before .before .before .before .before .before .before .before .before .before .before .before .before .before .before .before .before .before .before .before .before .before .before .before .before .before .before .before .before .before in
-    let read = c .before .before .before .before .before .before .before .before .before .before .before .before .before .before .before .before .before .before .before .before .before .before .before .before .read-full in
+    let at-put-released = c .before .before .before .before .before .before .before .before .before .before .before .before
+    .before .before in
+    let at-text = at-put-released .before .before .before .before .before .before .before .before .before in
+    let at-read-full = at-text .before in
+    let s = at-read-full .before .before .before .before .before .before .before .before .before .before .before .before in
+    let read = at-read-full .read-full in
     record {
       source = take (read .result) (read .last .1 .0);
-      longest = omega (arith, length-take (read .result) (read .last .1 .0), c .before .before .before .before .before .before .before .before .before .before .before .before .before .before .before .before .before .before .before .before .before .before .before .text .given, s .pre .0);
-      text = shown-whole (c .before .before .before .before .before .before .before .before .before .before .before .before .before .before .put-released .ensures) (c .print .result) (c .print .ensures);
+      longest = omega (arith, length-take (read .result) (read .last .1 .0), at-text .text .given, s .pre .0);
+      text = shown-whole (at-put-released .put-released .ensures) (c .print .result) (c .print .ensures);
     }
 
 pub run-released-spec : {M : Type 1} → statement M
