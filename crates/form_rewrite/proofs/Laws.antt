@@ -14,8 +14,8 @@ use Rattle.form_fields.specs.Whole.{part}
 use Rattle.form_fields.specs.Laws.Whole.{flat-append}
 use Rattle.form_rewrite.specs.Laws.PartLaws.{part-length}
 use Rattle.form_rewrite.specs.Turning.{switchTo, zeros}
-use Rattle.form_rewrite.specs.Writes.{Writes}
-use Rattle.form_rewrite.specs.Laws.Writes.{writes-then, writes-long}
+use Rattle.print_text.specs.Puts.{Writes}
+use Rattle.print_text.specs.Laws.Sets.{writes-then, writes-long}
 
 -- ---- stores one behind the other
 

@@ -1,4 +1,3 @@
 pub mod Fitting
 pub mod PartLaws
 pub mod Sizes
-pub mod Writes

@@ -1,5 +1,4 @@
 pub mod Fitting
 pub mod Turning
-pub mod Writes
 pub mod Theorems
 pub mod Laws

@@ -1,5 +1,6 @@
 // A layout file written in the other form: field by field, from lent bytes into a lent buffer that it fits into.
 use form_fields::Shape;
+use print_text::write_word;
 ghost use mathlib.Core.Bool.{true};
 ghost use mathlib.Core.Path.{_≡_};
 ghost use mathlib.Core.List.{[], _∷_, _++_};
@@ -11,22 +12,9 @@ ghost use Rattle.form_fields.specs.Contents.{bytes16, field, flat, written};
 ghost use Rattle.form_fields.specs.Whole.{part, contentsIn};
 ghost use Rattle.form_rewrite.specs.Turning.{switchTo, turned, zeros, lengthened, widened, toForm2, shortened, narrowed, toForm1, shaped};
 ghost use Rattle.form_rewrite.specs.Fitting.{Read};
-ghost use Rattle.form_rewrite.specs.Writes.{Writes};
+ghost use Rattle.print_text.specs.Puts.{Writes};
 
-// Writes bytes that are known to fit, and answers the place behind them.
-fn write_bytes(out: &mut [u8], at: usize, word: &[u8]) -> usize
-    requires { ⌜ at + length (now word) ≤ length (now out) ⌝ }
-    ensures { λ r. ⌜ Writes (now (word .entry)) (now (out .entry)) at r (now (out .exit)) ⌝ }
-{
-    let mut i = 0;
-    while i < word.len() {
-        out[at + i] = word[i];
-        i += 1;
-    }
-    at + i
-}
-
-// The same of zeros.
+// Writes zeros that are known to fit, and answers the place behind them.
 fn write_zeros(out: &mut [u8], at: usize, count: usize) -> usize
     requires { ⌜ at + count ≤ length (now out) ⌝ }
     ensures { λ r. ⌜ Writes (zeros count) (now (out .entry)) at r (now (out .exit)) ⌝ }
@@ -66,7 +54,7 @@ fn write_field(
 {
     let first = write_header(out, at, tag, before + word.len() + behind);
     let second = write_zeros(out, first, before);
-    let third = write_bytes(out, second, word);
+    let third = write_word(out, second, word);
     write_zeros(out, third, behind)
 }
 
@@ -162,7 +150,7 @@ fn write_lengthened(file: &[u8], shape: Shape, out: &mut [u8]) -> usize
     let banks = shape.banks as usize;
     let head = write_head(out);
     let end = write_fields(file, 3, 26, 23, banks, 17, 0, 1, out, head);
-    write_bytes(out, end, &file[banks * 26..])
+    write_word(out, end, &file[banks * 26..])
 }
 
 // A file of form 1 with one bank in form 2, where the layout stands in bank 1.
@@ -191,7 +179,7 @@ fn write_widened(file: &[u8], shape: Shape, out: &mut [u8]) -> usize
         out,
         end,
     );
-    write_bytes(out, last, &file[shape.values - 3..])
+    write_word(out, last, &file[shape.values - 3..])
 }
 
 // A sound file of form 1 in form 2, into a buffer that it fits into.
@@ -214,7 +202,7 @@ fn write_shortened(file: &[u8], shape: Shape, out: &mut [u8]) -> usize
 {
     let banks = shape.banks as usize;
     let end = write_fields(file, 7, 27, 23, banks, 1, 0, 0, out, 0);
-    write_bytes(out, end, &file[4 + banks * 27..])
+    write_word(out, end, &file[4 + banks * 27..])
 }
 
 // A file of form 2 with the shape in form 1, where the layout stands in bank 0 alone.
@@ -240,7 +228,7 @@ fn write_narrowed(file: &[u8], shape: Shape, out: &mut [u8]) -> usize
         out,
         end,
     );
-    write_bytes(out, last, &file[shape.values - 3..])
+    write_word(out, last, &file[shape.values - 3..])
 }
 
 // A sound file of form 2 in form 1; `found` says whether it has the shape.

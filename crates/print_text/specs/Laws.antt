@@ -2,3 +2,4 @@ pub mod Decimal
 pub mod Ends
 pub mod Example
 pub mod Lengths
+pub mod Sets

@@ -66,7 +66,7 @@ pub fn write_word(out: &mut [u8], at: usize, word: &[u8]) -> usize
 }
 
 // Writes a number that is known to fit, from its last digit to its first.
-fn write_number(out: &mut [u8], at: usize, n: u64) -> usize
+pub fn write_number(out: &mut [u8], at: usize, n: u64) -> usize
     requires { ⌜ at + length (decimal n) ≤ length (now out) ⌝ }
     ensures { λ r. ⌜ Writes (decimal n) (now (out .entry)) at r (now (out .exit)) ⌝ }
 {
@@ -118,7 +118,7 @@ pub fn write_numbers(out: &mut [u8], at: usize, numbers: &[u64]) -> usize
 }
 
 // Writes a line that is known to fit.
-fn write_line(out: &mut [u8], at: usize, word: &[u8], numbers: &[u64]) -> usize
+pub fn write_line(out: &mut [u8], at: usize, word: &[u8], numbers: &[u64]) -> usize
     requires { ⌜ at + length (line (now word) (now numbers)) ≤ length (now out) ⌝ }
     ensures { λ r. ⌜ Writes (line (now (word .entry)) (now (numbers .entry))) (now (out .entry)) at r (now (out .exit)) ⌝ }
 {

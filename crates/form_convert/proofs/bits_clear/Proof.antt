@@ -24,18 +24,6 @@ abbrev μ-loop : tie.MeasureT-loop
 bit-is : (file : List ℕ) (i : ℕ) → getD (part file 24 (7 + i * 27)) 23 0 ≡ byte file (30 + i * 27)
 bit-is file i = part-at file 24 (7 + i * 27) 23 (omega arith) ∙ ap (byte file) {x = 7 + i * 27 + 23} {y = 30 + i * 27} (omega arith)
 
-loop-holds : tie.Need-loop-holds Inv-loop μ-loop
-loop-holds c = (omega arith, all-starts bitClear (part (c .args .file .now) 24) 27 7 (c .args .count))
-
-mul-if1 : tie.Need-mul-if1 Inv-loop μ-loop
-mul-if1 c = omega arith
-
-add-if1 : tie.Need-add-if1 Inv-loop μ-loop
-add-if1 c = omega arith
-
-shared-slice-read-if1 : tie.Need-shared-slice-read-if1 Inv-loop μ-loop
-shared-slice-read-if1 c = omega arith
-
 returns : tie.Need-returns Inv-loop μ-loop
 returns c =
     let a = c .before .before .before .before .args in
@@ -43,12 +31,6 @@ returns c =
     all-fails bitClear (part (a .file .now) 24) 27 7 (a .count) i (omega arith)
     (ne-eqb (getD (part (a .file .now) 24 (7 + i * 27)) 23 0) 0 (λ e. c .if1 .taken (sym (bit-is (a .file .now) i) ∙ e))) (c .before .before .before .loop
     .inv .1)
-
-add-i : tie.Need-add-i Inv-loop μ-loop
-add-i c = omega arith
-
-loop-less : tie.Need-loop-less Inv-loop μ-loop
-loop-less c = omega arith
 
 loop-again : tie.Need-loop-again Inv-loop μ-loop
 loop-again c =
@@ -66,4 +48,4 @@ returns-2 c = all-ends bitClear (part (c .before .before .args .file .now) 24) 2
 pub bits-clear-spec : {M : Type 1} → statement M
 bits-clear-spec =
     tie.close
-    (tie.spec Inv-loop μ-loop loop-holds mul-if1 add-if1 shared-slice-read-if1 returns add-i loop-less loop-again returns-2)
+    (tie.spec Inv-loop μ-loop (λ c. (omega arith, all-starts bitClear (part (c .args .file .now) 24) 27 7 (c .args .count))) (λ c. omega arith) (λ c. omega arith) (λ c. omega arith) returns (λ c. omega arith) (λ c. omega arith) loop-again returns-2)

@@ -7,7 +7,7 @@ use Rattle.form_fields.specs.Kind.{form1, form2, is2}
 use Rattle.form_fields.specs.Whole.{contentsIn}
 use Rattle.form_rewrite.specs.Turning.{toForm1, dropsBit}
 use Rattle.form_convert.specs.Convert.{answerFor}
-use Rattle.form_rewrite.specs.Laws.Writes.{writes-front}
+use Rattle.print_text.specs.Laws.Sets.{writes-front}
 use Rattle.form_rewrite.specs.Laws.Sizes.{sizes}
 use Rattle.form_convert.proofs.There.{converted-room}
 use Rattle.form_convert.proofs.Back.{back-answer, back-converts, back-refuses}
@@ -25,30 +25,12 @@ told c =
     ∙ back-answer (a .file .now) (a .shape) (c .before .before .before .before .before .before .before .pre) (length (a .out .now)) (c .before .before
     .before .stray2 .ensures) (c .before .before .length1 .ensures) (c .before .bits-clear .ensures)
 
-is-shape-requires : tie.Need-is-shape-requires
-is-shape-requires c κs = c .before .before .pre
-
-stray2-requires : tie.Need-stray2-requires
-stray2-requires c κs = c .before .before .before .pre
-
-length1-requires : tie.Need-length1-requires
-length1-requires c κs = (c .before .before .before .before .pre, c .before .is-shape .ensures)
-
 bits-clear-requires : tie.Need-bits-clear-requires
 bits-clear-requires c κs = omega (
   arith,
   sizes is2 (c .before .before .before .before .before .args .file .now) (c .before .before .before .before .before
       .args .shape) (c .before .before .before .before .before .pre),
 )
-
-answer-requires : tie.Need-answer-requires
-answer-requires c κs = search needs
-
-enum-known-why : tie.Need-enum-known-why
-enum-known-why c = search needs
-
-enum-known-n : tie.Need-enum-known-n
-enum-known-n c = search needs
 
 write1-requires : tie.Need-write1-requires
 write1-requires c κs =
@@ -67,9 +49,6 @@ returns c =
     back-refuses (a .file .now) (a .shape) (c .before .before .before .before .before .before .before .before .before .before .pre) (sym (told (c .before
     .before .before)) ∙ c .before .why .given .1)
 
-same-length : tie.Need-same-length
-same-length c = search needs
-
 returns-2 : tie.Need-returns-2
 returns-2 c =
     let a = c .before .before .before .before .before .before .before .before .before .before .before .before .before .before .args in
@@ -81,14 +60,6 @@ pub convert1-spec : {M : Type 1} → statement M
 convert1-spec =
     tie.close
     (tie.spec
-    is-shape-requires
-    stray2-requires
-    length1-requires
-    bits-clear-requires
-    answer-requires
-    enum-known-why
-    enum-known-n
-    write1-requires
-    returns
-    same-length
-    returns-2)
+    (λ c κs. c .before .before .pre) (λ c κs. c .before .before .before .pre)
+    (λ c κs. (c .before .before .before .before .pre, c .before .is-shape .ensures)) bits-clear-requires (λ c κs. search needs) (λ c. search needs)
+    (λ c. search needs) write1-requires returns (λ c. search needs) returns-2)

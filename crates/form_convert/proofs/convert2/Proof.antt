@@ -7,7 +7,7 @@ use Rattle.form_fields.specs.Kind.{form1, form2}
 use Rattle.form_fields.specs.Whole.{contentsIn}
 use Rattle.form_rewrite.specs.Turning.{toForm2}
 use Rattle.form_convert.specs.Convert.{answerFor}
-use Rattle.form_rewrite.specs.Laws.Writes.{writes-front}
+use Rattle.print_text.specs.Laws.Sets.{writes-front}
 use Rattle.form_convert.proofs.There.{answer-is, converted-room, converts, refuses}
 use Rattle.form_convert.proofs.convert2.Statement.{statement}
 use Rattle.form_convert.proofs.convert2.Tie as tie
@@ -22,24 +22,6 @@ told c =
     ∙ answer-is (a .file .now) (a .shape) (c .before .before .before .before .before .before .pre) (length (a .out .now)) (c .before .before .before
     .nodes2 .ensures) (c .before .before .stray1 .ensures) (c .before .length2 .ensures)
 
-nodes2-requires : tie.Need-nodes2-requires
-nodes2-requires c κs = c .before .before .pre
-
-stray1-requires : tie.Need-stray1-requires
-stray1-requires c κs = c .before .before .before .pre
-
-length2-requires : tie.Need-length2-requires
-length2-requires c κs = c .before .before .before .before .pre
-
-answer-requires : tie.Need-answer-requires
-answer-requires c κs = search needs
-
-enum-known-why : tie.Need-enum-known-why
-enum-known-why c = search needs
-
-enum-known-n : tie.Need-enum-known-n
-enum-known-n c = search needs
-
 write2-requires : tie.Need-write2-requires
 write2-requires c κs =
     let a = c .before .before .before .before .before .before .before .before .before .before .args in
@@ -52,9 +34,6 @@ returns c =
     refuses (a .file .now) (a .shape) (c .before .before .before .before .before .before .before .before .before .pre) (sym (told (c .before .before
     .before)) ∙ c .before .why .given .1)
 
-same-length : tie.Need-same-length
-same-length c = search needs
-
 returns-2 : tie.Need-returns-2
 returns-2 c =
     let a = c .before .before .before .before .before .before .before .before .before .before .before .before .before .args in
@@ -66,13 +45,5 @@ pub convert2-spec : {M : Type 1} → statement M
 convert2-spec =
     tie.close
     (tie.spec
-    nodes2-requires
-    stray1-requires
-    length2-requires
-    answer-requires
-    enum-known-why
-    enum-known-n
-    write2-requires
-    returns
-    same-length
-    returns-2)
+    (λ c κs. c .before .before .pre) (λ c κs. c .before .before .before .pre) (λ c κs. c .before .before .before .before .pre) (λ c κs. search needs)
+    (λ c. search needs) (λ c. search needs) write2-requires returns (λ c. search needs) returns-2)

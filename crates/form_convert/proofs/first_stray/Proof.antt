@@ -23,26 +23,11 @@ loop-holds c =
     let a = c .before .args in
     (omega arith, search-starts (strays (a .bank)) (part (a .file .now) 5) 8 (a .from) (a .count))
 
-mul-is-stray : tie.Need-mul-is-stray Inv-loop μ-loop
-mul-is-stray c = omega arith
-
-add-is-stray : tie.Need-add-is-stray Inv-loop μ-loop
-add-is-stray c = omega arith
-
-is-stray-requires : tie.Need-is-stray-requires Inv-loop μ-loop
-is-stray-requires c κs = omega arith
-
 returns : tie.Need-returns Inv-loop μ-loop
 returns c =
     let a = c .before .before .before .before .before .args in
     search-met (strays (a .bank)) (part (a .file .now) 5) 8 (a .from) (a .count) (c .before .before .before .loop .i) (omega arith)
     (sym (c .before .is-stray .ensures) ∙ c .if1 .taken) (c .before .before .before .loop .inv .1)
-
-add-i : tie.Need-add-i Inv-loop μ-loop
-add-i c = omega arith
-
-loop-less : tie.Need-loop-less Inv-loop μ-loop
-loop-less c = omega arith
 
 loop-again : tie.Need-loop-again Inv-loop μ-loop
 loop-again c =
@@ -61,14 +46,5 @@ pub first-stray-spec : {M : Type 1} → statement M
 first-stray-spec =
     tie.close
     (tie.spec
-    Inv-loop
-    μ-loop
-    loop-holds
-    mul-is-stray
-    add-is-stray
-    is-stray-requires
-    returns
-    add-i
-    loop-less
-    loop-again
+    Inv-loop μ-loop loop-holds (λ c. omega arith) (λ c. omega arith) (λ c κs. omega arith) returns (λ c. omega arith) (λ c. omega arith) loop-again
     returns-2)

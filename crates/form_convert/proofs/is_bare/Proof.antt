@@ -11,24 +11,6 @@ use Rattle.form_rewrite.specs.Laws.PartLaws.{part-length}
 use Rattle.form_convert.proofs.is_bare.Statement.{statement}
 use Rattle.form_convert.proofs.is_bare.Tie as tie
 
-sub-is-same : tie.Need-sub-is-same
-sub-is-same c = omega arith
-
-part-is-same-start : tie.Need-part-is-same-start
-part-is-same-start c = omega arith
-
-part-is-same-end : tie.Need-part-is-same-end
-part-is-same-end c = omega arith
-
-sub-is-same-2 : tie.Need-sub-is-same-2
-sub-is-same-2 c = omega arith
-
-part-is-same-start-2 : tie.Need-part-is-same-start-2
-part-is-same-start-2 c = omega arith
-
-part-is-same-end-2 : tie.Need-part-is-same-end-2
-part-is-same-end-2 c = omega arith
-
 is-same-requires : tie.Need-is-same-requires
 is-same-requires c κs =
     let file = c .before .before .before .args .file .now in
@@ -40,18 +22,6 @@ returns c =
     let e : same (part file 10 7) (part file 10 34) ≡ false = sym (c .before .is-same .ensures) ∙ not-true _ (c .if1 .taken) in
     rw e refl ∙ bare-at file
 
-sub-is-zero : tie.Need-sub-is-zero
-sub-is-zero c = omega arith
-
-part-is-zero-start : tie.Need-part-is-zero-start
-part-is-zero-start c = omega arith
-
-part-is-zero-end : tie.Need-part-is-zero-end
-part-is-zero-end c = omega arith
-
-is-zero-requires : tie.Need-is-zero-requires
-is-zero-requires c κs = search needs
-
 returns-2 : tie.Need-returns-2
 returns-2 c =
     let file = c .before .before .before .before .before .before .before .before .args .file .now in
@@ -59,9 +29,6 @@ returns-2 c =
     .before .if1 .left) in
     let z : allZero (part file 14 17) ≡ false = sym (c .before .is-zero .ensures) ∙ not-true _ (c .if2 .taken) in
     rw (e, z) refl ∙ bare-at file
-
-shared-slice-read-result : tie.Need-shared-slice-read-result
-shared-slice-read-result c = omega arith
 
 returns-3 : tie.Need-returns-3
 returns-3 c =
@@ -75,18 +42,5 @@ pub is-bare-spec : {M : Type 1} → statement M
 is-bare-spec =
     tie.close
     (tie.spec
-    sub-is-same
-    part-is-same-start
-    part-is-same-end
-    sub-is-same-2
-    part-is-same-start-2
-    part-is-same-end-2
-    is-same-requires
-    returns
-    sub-is-zero
-    part-is-zero-start
-    part-is-zero-end
-    is-zero-requires
-    returns-2
-    shared-slice-read-result
-    returns-3)
+    (λ c. omega arith) (λ c. omega arith) (λ c. omega arith) (λ c. omega arith) (λ c. omega arith) (λ c. omega arith) is-same-requires returns
+    (λ c. omega arith) (λ c. omega arith) (λ c. omega arith) (λ c κs. search needs) returns-2 (λ c. omega arith) returns-3)

@@ -14,25 +14,10 @@ Inv-loop one other i₀ i = (i ≤ length one) × (same one other ≡ same (drop
 abbrev μ-loop : tie.MeasureT-loop
 μ-loop one other i₀ i = length one - i
 
-loop-holds : tie.Need-loop-holds Inv-loop μ-loop
-loop-holds c = (omega arith, refl)
-
-shared-slice-read-if1 : tie.Need-shared-slice-read-if1 Inv-loop μ-loop
-shared-slice-read-if1 c = omega arith
-
-shared-slice-read-if1-2 : tie.Need-shared-slice-read-if1-2 Inv-loop μ-loop
-shared-slice-read-if1-2 c = omega arith
-
 returns : tie.Need-returns Inv-loop μ-loop
 returns c =
     same-fails (c .before .before .before .before .before .args .one .now) (c .before .before .before .before .before .args .other .now) (c .before .before
     .before .before .before .pre) (c .before .before .before .before .loop .i) (omega arith) (c .if1 .taken) (c .before .before .before .before .loop .inv .1)
-
-add-i : tie.Need-add-i Inv-loop μ-loop
-add-i c = omega arith
-
-loop-less : tie.Need-loop-less Inv-loop μ-loop
-loop-less c = omega arith
 
 loop-again : tie.Need-loop-again Inv-loop μ-loop
 loop-again c = (
@@ -49,4 +34,4 @@ returns-2 c = same-ends (c .before .before .args .one .now) (c .before .before .
 pub is-same-spec : {M : Type 1} → statement M
 is-same-spec =
     tie.close
-    (tie.spec Inv-loop μ-loop loop-holds shared-slice-read-if1 shared-slice-read-if1-2 returns add-i loop-less loop-again returns-2)
+    (tie.spec Inv-loop μ-loop (λ c. (omega arith, refl)) (λ c. omega arith) (λ c. omega arith) returns (λ c. omega arith) (λ c. omega arith) loop-again returns-2)

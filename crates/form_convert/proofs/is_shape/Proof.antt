@@ -135,17 +135,5 @@ pub is-shape-spec : {M : Type 1} → statement M
 is-shape-spec =
     tie.close
     (tie.spec
-    returns
-    is-bare-requires
-    returns-2
-    returns-3
-    shared-slice-read-if4
-    returns-4
-    first-stray-requires
-    returns-5
-    mul-rows-start-zero
-    add-rows-start-zero
-    mul-rows-start-zero-2
-    add-rows-start-zero-2
-    rows-start-zero-requires
-    returns-6)
+    returns is-bare-requires returns-2 returns-3 shared-slice-read-if4 returns-4 first-stray-requires returns-5 mul-rows-start-zero
+    add-rows-start-zero mul-rows-start-zero-2 add-rows-start-zero-2 rows-start-zero-requires returns-6)

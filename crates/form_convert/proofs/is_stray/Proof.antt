@@ -7,21 +7,12 @@ use Rattle.form_convert.proofs.Laws.{strays-at, stray-kind, stray-first
 use Rattle.form_convert.proofs.is_stray.Statement.{statement}
 use Rattle.form_convert.proofs.is_stray.Tie as tie
 
-shared-slice-read-if1 : tie.Need-shared-slice-read-if1
-shared-slice-read-if1 c = omega arith
-
 returns : tie.Need-returns
 returns c =
     let a = c .before .before .args in
     stray-kind (a .bank) (byte (a .file .now) (a .at)) (byte (a .file .now) (a .at + 1)) (byte (a .file .now) (a .at + 2)) (byte (a .file .now) (a .at +
     3)) (byte (a .file .now) (a .at + 4))
     (c .if1 .taken) ∙ strays-at (a .bank) (a .file .now) (a .at)
-
-add-if2 : tie.Need-add-if2
-add-if2 c = omega arith
-
-shared-slice-read-if2 : tie.Need-shared-slice-read-if2
-shared-slice-read-if2 c = omega arith
 
 returns-2 : tie.Need-returns-2
 returns-2 c =
@@ -30,24 +21,12 @@ returns-2 c =
     3)) (byte (a .file .now) (a .at + 4))
     (c .before .before .if1 .left) (c .if2 .taken) ∙ strays-at (a .bank) (a .file .now) (a .at)
 
-add-if3 : tie.Need-add-if3
-add-if3 c = omega arith
-
-shared-slice-read-if3 : tie.Need-shared-slice-read-if3
-shared-slice-read-if3 c = omega arith
-
 returns-3 : tie.Need-returns-3
 returns-3 c =
     let a = c .before .before .before .before .before .before .args in
     stray-second (a .bank) (byte (a .file .now) (a .at)) (byte (a .file .now) (a .at + 1)) (byte (a .file .now) (a .at + 2)) (byte (a .file .now) (a .at +
     3)) (byte (a .file .now) (a .at + 4))
     (c .before .before .before .before .if1 .left) (c .before .before .if2 .left) (c .if3 .taken) ∙ strays-at (a .bank) (a .file .now) (a .at)
-
-add-if4 : tie.Need-add-if4
-add-if4 c = omega arith
-
-shared-slice-read-if4 : tie.Need-shared-slice-read-if4
-shared-slice-read-if4 c = omega arith
 
 returns-4 : tie.Need-returns-4
 returns-4 c =
@@ -57,12 +36,6 @@ returns-4 c =
     (c .before .before .before .before .before .before .if1 .left) (c .before .before .before .before .if2 .left) (c .before .before .if3 .left) (c .if4
     .taken)
     ∙ strays-at (a .bank) (a .file .now) (a .at)
-
-add-result : tie.Need-add-result
-add-result c = omega arith
-
-shared-slice-read-result : tie.Need-shared-slice-read-result
-shared-slice-read-result c = omega arith
 
 returns-5 : tie.Need-returns-5
 returns-5 c =
@@ -77,17 +50,5 @@ pub is-stray-spec : {M : Type 1} → statement M
 is-stray-spec =
     tie.close
     (tie.spec
-    shared-slice-read-if1
-    returns
-    add-if2
-    shared-slice-read-if2
-    returns-2
-    add-if3
-    shared-slice-read-if3
-    returns-3
-    add-if4
-    shared-slice-read-if4
-    returns-4
-    add-result
-    shared-slice-read-result
-    returns-5)
+    (λ c. omega arith) returns (λ c. omega arith) (λ c. omega arith) returns-2 (λ c. omega arith) (λ c. omega arith) returns-3 (λ c. omega arith)
+    (λ c. omega arith) returns-4 (λ c. omega arith) (λ c. omega arith) returns-5)

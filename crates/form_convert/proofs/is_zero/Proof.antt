@@ -14,21 +14,9 @@ Inv-loop word i₀ i = (i ≤ length word) × (allZero word ≡ allZero (drop i 
 abbrev μ-loop : tie.MeasureT-loop
 μ-loop word i₀ i = length word - i
 
-loop-holds : tie.Need-loop-holds Inv-loop μ-loop
-loop-holds c = (omega arith, refl)
-
-shared-slice-read-if1 : tie.Need-shared-slice-read-if1 Inv-loop μ-loop
-shared-slice-read-if1 c = omega arith
-
 returns : tie.Need-returns Inv-loop μ-loop
 returns c = zero-fails (c .before .before .before .before .args .word .now) (c .before .before .before .loop .i) (omega arith) (c .if1 .taken) (c .before
     .before .before .loop .inv .1)
-
-add-i : tie.Need-add-i Inv-loop μ-loop
-add-i c = omega arith
-
-loop-less : tie.Need-loop-less Inv-loop μ-loop
-loop-less c = omega arith
 
 loop-again : tie.Need-loop-again Inv-loop μ-loop
 loop-again c = (
@@ -37,8 +25,5 @@ loop-again c = (
       (c .before .before .before .loop .inv .1),
 )
 
-returns-2 : tie.Need-returns-2 Inv-loop μ-loop
-returns-2 c = zero-ends (c .before .before .args .word .now) (c .before .loop .i) (omega arith) (c .before .loop .inv .1)
-
 pub is-zero-spec : {M : Type 1} → statement M
-is-zero-spec = tie.close (tie.spec Inv-loop μ-loop loop-holds shared-slice-read-if1 returns add-i loop-less loop-again returns-2)
+is-zero-spec = tie.close (tie.spec Inv-loop μ-loop (λ c. (omega arith, refl)) (λ c. omega arith) returns (λ c. omega arith) (λ c. omega arith) loop-again (λ c. zero-ends (c .before .before .args .word .now) (c .before .loop .i) (omega arith) (c .before .loop .inv .1)))

@@ -33,27 +33,6 @@ loop-holds c =
     let a = c .before .args in
     (omega arith, all-starts allZero (part (a .file .now) 5) (a .step) (a .from) (a .count))
 
-mul-p : tie.Need-mul-p Inv-loop μ-loop
-mul-p c = omega (arith, behind c)
-
-add-p : tie.Need-add-p Inv-loop μ-loop
-add-p c = omega (arith, behind c)
-
-add-is-zero : tie.Need-add-is-zero Inv-loop μ-loop
-add-is-zero c = omega (arith, behind c)
-
-sub-is-zero : tie.Need-sub-is-zero Inv-loop μ-loop
-sub-is-zero c = omega arith
-
-part-is-zero-start : tie.Need-part-is-zero-start Inv-loop μ-loop
-part-is-zero-start c = omega arith
-
-part-is-zero-end : tie.Need-part-is-zero-end Inv-loop μ-loop
-part-is-zero-end c = omega (arith, behind c)
-
-is-zero-requires : tie.Need-is-zero-requires Inv-loop μ-loop
-is-zero-requires c κs = search needs
-
 returns : tie.Need-returns Inv-loop μ-loop
 returns c =
     let a = c .before .before .before .before .before .before .args in
@@ -61,12 +40,6 @@ returns c =
     all-fails allZero (part (a .file .now) 5) (a .step) (a .from) (a .count) i (omega arith)
     (ap allZero (sym (cut (a .file .now) (a .from + i * a .step))) ∙ sym (c .before .is-zero .ensures) ∙ not-true _ (c .if1 .taken)) (c .before .before
     .before .before .loop .inv .1)
-
-add-i : tie.Need-add-i Inv-loop μ-loop
-add-i c = omega arith
-
-loop-less : tie.Need-loop-less Inv-loop μ-loop
-loop-less c = omega arith
 
 loop-again : tie.Need-loop-again Inv-loop μ-loop
 loop-again c =
@@ -87,18 +60,5 @@ pub rows-start-zero-spec : {M : Type 1} → statement M
 rows-start-zero-spec =
     tie.close
     (tie.spec
-    Inv-loop
-    μ-loop
-    loop-holds
-    mul-p
-    add-p
-    add-is-zero
-    sub-is-zero
-    part-is-zero-start
-    part-is-zero-end
-    is-zero-requires
-    returns
-    add-i
-    loop-less
-    loop-again
-    returns-2)
+    Inv-loop μ-loop loop-holds (λ c. omega (arith, behind c)) (λ c. omega (arith, behind c)) (λ c. omega (arith, behind c)) (λ c. omega arith)
+    (λ c. omega arith) (λ c. omega (arith, behind c)) (λ c κs. search needs) returns (λ c. omega arith) (λ c. omega arith) loop-again returns-2)

@@ -5,7 +5,7 @@ use lib.ListN.{length}
 use borrow.Author.Needs.{needs}
 use Rattle.form_fields.specs.Kind.{form1}
 use Rattle.form_fields.specs.Contents.{Contents, written}
-use Rattle.form_rewrite.specs.Writes.{Writes}
+use Rattle.print_text.specs.Puts.{Writes}
 use Rattle.form_rewrite.proofs.Back.{to-narrowed, to-shortened}
 use Rattle.form_rewrite.proofs.write1.Statement.{statement}
 use Rattle.form_rewrite.proofs.write1.Tie as tie
@@ -16,9 +16,6 @@ write-narrowed-requires c κs =
     let p = c .before .before .before .before .pre in
     let e = sym (p .1 .0) ∙ c .before .if1 .taken in
     (p .0, (e, subst (λ (d : Contents). length (written form1 d) ≤ length (a .out .now)) (to-narrowed (a .file .now) (a .shape) (p .0) e) (p .1 .1)))
-
-same-length : tie.Need-same-length
-same-length c = search needs
 
 returns : tie.Need-returns
 returns c =
@@ -36,9 +33,6 @@ write-shortened-requires c κs =
     let e = sym (p .1 .0) ∙ c .before .if1 .left in
     (p .0, subst (λ (d : Contents). length (written form1 d) ≤ length (a .out .now)) (to-shortened (a .file .now) (a .shape) (p .0) e) (p .1 .1))
 
-same-length-2 : tie.Need-same-length-2
-same-length-2 c = search needs
-
 returns-2 : tie.Need-returns-2
 returns-2 c =
     let a = c .before .before .before .before .before .before .before .args in
@@ -50,4 +44,4 @@ returns-2 c =
 
 pub write1-spec : {M : Type 1} → statement M
 write1-spec =
-    tie.close (tie.spec write-narrowed-requires same-length returns write-shortened-requires same-length-2 returns-2)
+    tie.close (tie.spec write-narrowed-requires (λ c. search needs) returns write-shortened-requires (λ c. search needs) returns-2)

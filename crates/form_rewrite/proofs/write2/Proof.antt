@@ -5,7 +5,7 @@ use lib.ListN.{length}
 use borrow.Author.Needs.{needs}
 use Rattle.form_fields.specs.Kind.{form2}
 use Rattle.form_fields.specs.Contents.{Contents, written}
-use Rattle.form_rewrite.specs.Writes.{Writes}
+use Rattle.print_text.specs.Puts.{Writes}
 use Rattle.form_rewrite.proofs.Assembled.{to-widened, to-lengthened}
 use Rattle.form_rewrite.proofs.write2.Statement.{statement}
 use Rattle.form_rewrite.proofs.write2.Tie as tie
@@ -21,9 +21,6 @@ write-widened-requires c κs =
             (c .before .before .before .before .before .pre .1),
       ),
     )
-
-same-length : tie.Need-same-length
-same-length c = search needs
 
 returns : tie.Need-returns
 returns c =
@@ -42,9 +39,6 @@ write-lengthened-requires c κs =
           .before .before .before .pre .1),
     )
 
-same-length-2 : tie.Need-same-length-2
-same-length-2 c = search needs
-
 returns-2 : tie.Need-returns-2
 returns-2 c =
     let a = c .before .before .before .before .before .before .before .before .args in
@@ -55,4 +49,4 @@ returns-2 c =
 
 pub write2-spec : {M : Type 1} → statement M
 write2-spec =
-    tie.close (tie.spec write-widened-requires same-length returns write-lengthened-requires same-length-2 returns-2)
+    tie.close (tie.spec write-widened-requires (λ c. search needs) returns write-lengthened-requires (λ c. search needs) returns-2)

@@ -6,20 +6,11 @@ use native.Mathlib.Omega.{arith}
 use lib.ListN.{length}
 use Rattle.form_fields.specs.Contents.{bytes16}
 use Rattle.form_rewrite.specs.Turning.{zeros}
-use Rattle.form_rewrite.specs.Writes.{Writes}
-use Rattle.form_rewrite.specs.Laws.Writes.{writes-then, writes-long}
+use Rattle.print_text.specs.Puts.{Writes}
+use Rattle.print_text.specs.Laws.Sets.{writes-then, writes-long}
 use Rattle.form_rewrite.proofs.Laws.{zeros-length, padded-length, header-field, header-length}
 use Rattle.form_rewrite.proofs.write_field.Statement.{statement}
 use Rattle.form_rewrite.proofs.write_field.Tie as tie
-
-add-write-header : tie.Need-add-write-header
-add-write-header c = omega arith
-
-add-write-header-2 : tie.Need-add-write-header-2
-add-write-header-2 c = omega arith
-
-write-header-requires : tie.Need-write-header-requires
-write-header-requires c κs = (omega arith, omega arith)
 
 write-zeros-requires : tie.Need-write-zeros-requires
 write-zeros-requires c κs =
@@ -27,8 +18,8 @@ write-zeros-requires c κs =
     let h = c .before .before .before .write-header .ensures in
     omega (arith, h .place, writes-long h, header-length (a .tag) (a .before + length (a .word .now) + a .behind))
 
-write-bytes-requires : tie.Need-write-bytes-requires
-write-bytes-requires c κs =
+write-word-requires : tie.Need-write-word-requires
+write-word-requires c κs =
     let a = c .before .before .before .before .before .before .before .before .before .before .before .args in
     let h = c .before .before .before .before .before .before .before .write-header .ensures in
     let z = c .before .before .before .write-zeros .ensures in
@@ -47,7 +38,7 @@ write-zeros-requires-2 c κs =
     let a = c .before .before .before .before .before .before .before .before .before .before .before .before .before .before .before .args in
     let h = c .before .before .before .before .before .before .before .before .before .before .before .write-header .ensures in
     let z = c .before .before .before .before .before .before .before .write-zeros .ensures in
-    let w = c .before .before .before .write-bytes .ensures in
+    let w = c .before .before .before .write-word .ensures in
     omega (
       arith,
       h .place,
@@ -76,10 +67,7 @@ all : (c : tie.After-slice-known5) → Writes
 all c =
     writes-then (c .before .before .before .before .before .before .before .before .before .before .before .before .before .before .write-header .ensures)
     (writes-then (c .before .before .before .before .before .before .before .before .before .before .write-zeros .ensures) (writes-then (c .before .before
-    .before .before .before .before .write-bytes .ensures) (c .before .before .write-zeros2 .ensures)))
-
-same-length : tie.Need-same-length
-same-length c = writes-long (all c)
+    .before .before .before .before .write-word .ensures) (c .before .before .write-zeros2 .ensures)))
 
 returns : tie.Need-returns
 returns c =
@@ -93,11 +81,5 @@ pub write-field-spec : {M : Type 1} → statement M
 write-field-spec =
     tie.close
     (tie.spec
-    add-write-header
-    add-write-header-2
-    write-header-requires
-    write-zeros-requires
-    write-bytes-requires
-    write-zeros-requires-2
-    same-length
-    returns)
+    (λ c. omega arith) (λ c. omega arith) (λ c κs. (omega arith, omega arith)) write-zeros-requires write-word-requires write-zeros-requires-2
+    (λ c. writes-long (all c)) returns)

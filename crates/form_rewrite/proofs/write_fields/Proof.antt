@@ -10,8 +10,8 @@ use Rattle.form_fields.specs.Contents.{field, flat}
 use Rattle.form_fields.specs.Laws.Has.{field-length}
 use Rattle.form_fields.specs.Whole.{part}
 use Rattle.form_rewrite.specs.Turning.{zeros}
-use Rattle.form_rewrite.specs.Writes.{Writes}
-use Rattle.form_rewrite.specs.Laws.Writes.{writes-long}
+use Rattle.print_text.specs.Puts.{Writes}
+use Rattle.print_text.specs.Laws.Sets.{writes-long}
 use Rattle.form_rewrite.specs.Laws.PartLaws.{part-length}
 use Rattle.form_rewrite.proofs.Laws.{padded-length, fields-none, fields-turn}
 use Rattle.form_rewrite.proofs.write_fields.Statement.{statement}
@@ -46,24 +46,6 @@ loop-holds c =
     let a = c .before .before .args in
     (omega arith, omega arith, fields-none (a .tag) (padded (a .file .now) (a .before) (a .keep) (a .behind)) (a .step) (a .from))
 
-mul-p : tie.Need-mul-p Inv-loop μ-loop
-mul-p c = omega (arith, behind-file c)
-
-add-p : tie.Need-add-p Inv-loop μ-loop
-add-p c = omega (arith, behind-file c)
-
-add-write-field : tie.Need-add-write-field Inv-loop μ-loop
-add-write-field c = omega (arith, behind-file (c .before))
-
-sub-write-field : tie.Need-sub-write-field Inv-loop μ-loop
-sub-write-field c = omega arith
-
-part-write-field-start : tie.Need-part-write-field-start Inv-loop μ-loop
-part-write-field-start c = omega arith
-
-part-write-field-end : tie.Need-part-write-field-end Inv-loop μ-loop
-part-write-field-end c = omega (arith, behind-file (c .before))
-
 -- the part is as long as it should be
 cut : (file : List ℕ) (p keep : ℕ) → take (p + keep - p) (drop p file) ≡ part file keep p
 cut file p keep = ap (λ (n : ℕ). take n (drop p file)) {x = p + keep - p} {y = keep} (omega arith)
@@ -79,12 +61,6 @@ write-field-requires c κs =
     let long : length (take (p + a .keep - p) (drop p (a .file .now))) ≡ a .keep =
     ap length (cut (a .file .now) p (a .keep)) ∙ part-length (a .file .now) (a .keep) p (omega (arith, room)) in
     (omega (arith, long), omega (arith, long, out, writes-long w))
-
-add-i : tie.Need-add-i Inv-loop μ-loop
-add-i c = omega arith
-
-loop-less : tie.Need-loop-less Inv-loop μ-loop
-loop-less c = omega arith
 
 loop-again : tie.Need-loop-again Inv-loop μ-loop
 loop-again c =
@@ -105,9 +81,6 @@ loop-again c =
     let pad = padded-length (a .before) (a .behind) (part file (a .keep) p) in
     (omega arith, omega (arith, next .place, long, keep, pad), fields-turn (a .tag) what (a .step) (a .from) i w next)
 
-same-length : tie.Need-same-length Inv-loop μ-loop
-same-length c = writes-long (c .before .loop .inv .2)
-
 returns : tie.Need-returns Inv-loop μ-loop
 returns c =
     let a = c .before .before .before .before .args in
@@ -121,18 +94,6 @@ pub write-fields-spec : {M : Type 1} → statement M
 write-fields-spec =
     tie.close
     (tie.spec
-    Inv-loop
-    μ-loop
-    loop-holds
-    mul-p
-    add-p
-    add-write-field
-    sub-write-field
-    part-write-field-start
-    part-write-field-end
-    write-field-requires
-    add-i
-    loop-less
-    loop-again
-    same-length
-    returns)
+    Inv-loop μ-loop loop-holds (λ c. omega (arith, behind-file c)) (λ c. omega (arith, behind-file c)) (λ c. omega (arith, behind-file (c .before)))
+    (λ c. omega arith) (λ c. omega arith) (λ c. omega (arith, behind-file (c .before))) write-field-requires (λ c. omega arith) (λ c. omega arith)
+    loop-again (λ c. writes-long (c .before .loop .inv .2)) returns)

@@ -2,7 +2,7 @@
 use Prim.Native.Nat.{_+_, _≤_}
 use native.Mathlib.Omega.{arith}
 use lib.ListN.{length, length-set}
-use Rattle.form_rewrite.specs.Laws.Writes.{writes-long}
+use Rattle.print_text.specs.Laws.Sets.{writes-long}
 use Rattle.form_rewrite.proofs.Laws.{header-length, head-written}
 use Rattle.form_rewrite.proofs.write_head.Statement.{statement}
 use Rattle.form_rewrite.proofs.write_head.Tie as tie
@@ -12,20 +12,5 @@ room c =
     let h = c .before .before .write-header .ensures in
     omega (arith, h .place, writes-long h, header-length 16 1)
 
-write-header-requires : tie.Need-write-header-requires
-write-header-requires c κs = (omega arith, omega arith)
-
-slice-write-out : tie.Need-slice-write-out
-slice-write-out c = omega (arith, room c)
-
-add-result : tie.Need-add-result
-add-result c = omega (arith, room c)
-
-same-length : tie.Need-same-length
-same-length c = simp length-set (writes-long (c .before .before .write-header .ensures))
-
-returns : tie.Need-returns
-returns c = head-written (c .before .before .write-header .ensures)
-
 pub write-head-spec : {M : Type 1} → statement M
-write-head-spec = tie.close (tie.spec write-header-requires slice-write-out add-result same-length returns)
+write-head-spec = tie.close (tie.spec (λ c κs. (omega arith, omega arith)) (λ c. omega (arith, room c)) (λ c. omega (arith, room c)) (λ c. simp length-set (writes-long (c .before .before .write-header .ensures))) (λ c. head-written (c .before .before .write-header .ensures)))

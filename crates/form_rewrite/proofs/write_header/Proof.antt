@@ -8,33 +8,6 @@ use Rattle.form_rewrite.proofs.Laws.{stores3}
 use Rattle.form_rewrite.proofs.write_header.Statement.{statement}
 use Rattle.form_rewrite.proofs.write_header.Tie as tie
 
-slice-write-out : tie.Need-slice-write-out
-slice-write-out c = omega arith
-
-cast-out : tie.Need-cast-out
-cast-out c = omega arith
-
-add-out : tie.Need-add-out
-add-out c = omega arith
-
-slice-write-out-2 : tie.Need-slice-write-out-2
-slice-write-out-2 c = simp length-set (omega arith)
-
-cast-out-2 : tie.Need-cast-out-2
-cast-out-2 c = omega arith
-
-add-out-2 : tie.Need-add-out-2
-add-out-2 c = omega arith
-
-slice-write-out-3 : tie.Need-slice-write-out-3
-slice-write-out-3 c = simp length-set (omega arith)
-
-add-result : tie.Need-add-result
-add-result c = omega arith
-
-same-length : tie.Need-same-length
-same-length c = search needs
-
 returns : tie.Need-returns
 unfolding bytes16
 returns c =
@@ -45,13 +18,5 @@ pub write-header-spec : {M : Type 1} → statement M
 write-header-spec =
     tie.close
     (tie.spec
-    slice-write-out
-    cast-out
-    add-out
-    slice-write-out-2
-    cast-out-2
-    add-out-2
-    slice-write-out-3
-    add-result
-    same-length
-    returns)
+    (λ c. omega arith) (λ c. omega arith) (λ c. omega arith) (λ c. simp length-set (omega arith)) (λ c. omega arith) (λ c. omega arith)
+    (λ c. simp length-set (omega arith)) (λ c. omega arith) (λ c. search needs) returns)

@@ -8,8 +8,8 @@ use Rattle.form_fields.specs.Kind.{form1, is1}
 use Rattle.form_fields.specs.Laws.Has.{field-length}
 use Rattle.form_fields.specs.Whole.{contentsIn}
 use Rattle.form_rewrite.specs.Theorems.Fitting.{lengthened-long}
-use Rattle.form_rewrite.specs.Writes.{Writes}
-use Rattle.form_rewrite.specs.Laws.Writes.{writes-then, writes-long}
+use Rattle.print_text.specs.Puts.{Writes}
+use Rattle.print_text.specs.Laws.Sets.{writes-then, writes-long}
 use Rattle.form_rewrite.specs.Laws.Sizes.{Sizes, sizes, fits, file-long, banks-many}
 use Rattle.form_rewrite.proofs.Assembled.{tail-long, lengthenedPieces, lengthened-is}
 use Rattle.form_rewrite.proofs.Laws.{stage}
@@ -56,60 +56,36 @@ at-banks c =
     let w = c .before .before .write-fields .ensures in
     (omega (arith, w .1, p .0), writes-long (w .0) ∙ p .1)
 
-write-head-requires : tie.Need-write-head-requires
-write-head-requires c κs = omega (arith, room (c .before .before .before))
-
 write-fields-requires : tie.Need-write-fields-requires
 write-fields-requires c κs =
     let z = known (start (c .before)) in
     let p = at-head (c .before) in
     (omega (arith, z), (omega arith, omega (arith, z, room (start (c .before)), p .0, p .1)))
 
-mul-write-bytes : tie.Need-mul-write-bytes
-mul-write-bytes c = omega (arith, known (start₂ (c .before)))
-
-sub-write-bytes : tie.Need-sub-write-bytes
-sub-write-bytes c = omega (arith, known (start₂ (c .before)))
-
-part-write-bytes-start : tie.Need-part-write-bytes-start
-part-write-bytes-start c = omega (arith, known (start₂ (c .before)))
-
-part-write-bytes-end : tie.Need-part-write-bytes-end
-part-write-bytes-end c = omega arith
-
-write-bytes-requires : tie.Need-write-bytes-requires
-write-bytes-requires c κs =
+write-word-requires : tie.Need-write-word-requires
+write-word-requires c κs =
     let b = start₂ (c .before .before) in
     let p = at-banks (c .before .before) in
     omega (arith, known b, room b, p .0, p .1, tail-long (b .args .file .now) (b .args .shape .banks * 26))
 
 all : (c : tie.After-slice-known4)
     → Writes (lengthenedPieces (start₃ c .args .file .now) (start₃ c .args .shape)) (start₃ c .args .out .now) 0
-    (c .before .before .write-bytes .result) (c .before .before .write-bytes .last .0)
+    (c .before .before .write-word .result) (c .before .before .write-word .last .0)
 all c =
     let two = banks c in
     writes-then (head two .before .before .write-head .ensures)
-    (writes-then (two .before .before .write-fields .ensures .0) (c .before .before .write-bytes .ensures))
-
-same-length : tie.Need-same-length
-same-length c = writes-long (all c)
+    (writes-then (two .before .before .write-fields .ensures .0) (c .before .before .write-word .ensures))
 
 returns : tie.Need-returns
 returns c =
     let b = start₃ c in
-    subst (λ (l : List ℕ). Writes l (b .args .out .now) 0 (c .before .before .write-bytes .result) (c .before .before .write-bytes .last .0))
+    subst (λ (l : List ℕ). Writes l (b .args .out .now) 0 (c .before .before .write-word .result) (c .before .before .write-word .last .0))
     (lengthened-is (b .args .file .now) (b .args .shape) (b .pre .0)) (all c)
 
 pub write-lengthened-spec : {M : Type 1} → statement M
 write-lengthened-spec =
     tie.close
     (tie.spec
-    write-head-requires
-    write-fields-requires
-    mul-write-bytes
-    sub-write-bytes
-    part-write-bytes-start
-    part-write-bytes-end
-    write-bytes-requires
-    same-length
-    returns)
+    (λ c κs. omega (arith, room (c .before .before .before))) write-fields-requires (λ c. omega (arith, known (start₂ (c .before))))
+    (λ c. omega (arith, known (start₂ (c .before)))) (λ c. omega (arith, known (start₂ (c .before)))) (λ c. omega arith) write-word-requires
+    (λ c. writes-long (all c)) returns)

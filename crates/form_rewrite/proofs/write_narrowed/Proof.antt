@@ -6,8 +6,8 @@ use mathlib.Core.Path.{_≡_, refl, _∙_, subst}
 use native.Mathlib.Omega.{arith}
 use lib.ListN.{length}
 use Rattle.form_rewrite.specs.Laws.PartLaws.{part-length}
-use Rattle.form_rewrite.specs.Writes.{Writes}
-use Rattle.form_rewrite.specs.Laws.Writes.{writes-then, writes-long}
+use Rattle.print_text.specs.Puts.{Writes}
+use Rattle.print_text.specs.Laws.Sets.{writes-then, writes-long}
 use Rattle.form_rewrite.proofs.Assembled.{tail-long}
 use Rattle.form_rewrite.proofs.Back.{narrowedPieces, Narrowing, narrowing, narrowed-is}
 use Rattle.form_rewrite.proofs.Laws.{stage, padded-field}
@@ -68,23 +68,11 @@ at-rows c =
 
 -- ---- what each call asks
 
-sub-write-field : tie.Need-sub-write-field
-sub-write-field c = omega arith
-
-part-write-field-start : tie.Need-part-write-field-start
-part-write-field-start c = omega arith
-
-part-write-field-end : tie.Need-part-write-field-end
-part-write-field-end c = omega (arith, known (c .before .before .before))
-
 write-field-requires : tie.Need-write-field-requires
 write-field-requires c κs =
     let k = known (c .before .before .before .before) in
     let long = part-length (c .before .before .before .before .args .file .now) 23 34 (omega (arith, k)) in
     (omega (arith, long), omega (arith, long, k))
-
-sub-write-nodes : tie.Need-sub-write-nodes
-sub-write-nodes c = omega (arith, known (start c))
 
 write-nodes-requires : tie.Need-write-nodes-requires
 write-nodes-requires c κs =
@@ -92,44 +80,14 @@ write-nodes-requires c κs =
     let p = at-bank (c .before) in
     (omega (arith, k), omega (arith, k, p .0, p .1))
 
-mul-write-fields : tie.Need-mul-write-fields
-mul-write-fields c = omega (arith, known (start₂ c))
-
-add-write-fields : tie.Need-add-write-fields
-add-write-fields c = omega (arith, known (start₂ c))
-
-mul-write-fields-2 : tie.Need-mul-write-fields-2
-mul-write-fields-2 c = omega (arith, known (start₂ c))
-
-add-write-fields-2 : tie.Need-add-write-fields-2
-add-write-fields-2 c = omega (arith, known (start₂ c))
-
-mul-write-fields-3 : tie.Need-mul-write-fields-3
-mul-write-fields-3 c = omega (arith, known (start₂ c))
-
-sub-write-fields : tie.Need-sub-write-fields
-sub-write-fields c = omega (arith, known (start₂ c))
-
 write-fields-requires : tie.Need-write-fields-requires
 write-fields-requires c κs =
     let k = known (start₂ (c .before)) in
     let p = at-nodes (c .before) in
     (omega (arith, k), (omega (arith, k), omega (arith, k, p .0, p .1)))
 
-sub-write-bytes : tie.Need-sub-write-bytes
-sub-write-bytes c = omega (arith, known (start₃ (c .before .before)))
-
-sub-write-bytes-2 : tie.Need-sub-write-bytes-2
-sub-write-bytes-2 c = omega (arith, known (start₃ (c .before .before)))
-
-part-write-bytes-start : tie.Need-part-write-bytes-start
-part-write-bytes-start c = omega (arith, known (start₃ (c .before .before)))
-
-part-write-bytes-end : tie.Need-part-write-bytes-end
-part-write-bytes-end c = omega arith
-
-write-bytes-requires : tie.Need-write-bytes-requires
-write-bytes-requires c κs =
+write-word-requires : tie.Need-write-word-requires
+write-word-requires c κs =
     let a = start₃ (c .before .before .before) .args in
     let p = at-rows (c .before .before .before) in
     omega (arith, known (start₃ (c .before .before .before)), p .0, p .1, tail-long (a .file .now) (a .shape .values - 3))
@@ -138,45 +96,28 @@ write-bytes-requires c κs =
 
 all : (c : tie.After-slice-known5)
     → Writes (narrowedPieces (start₄ c .args .file .now) (start₄ c .args .shape)) (start₄ c .args .out .now) 0
-    (c .before .before .write-bytes .result) (c .before .before .write-bytes .last .0)
+    (c .before .before .write-word .result) (c .before .before .write-word .last .0)
 all c =
     let three = rows c in
     let two = nodes three in
     writes-then (bank two .before .before .write-field .ensures)
     (writes-then (two .before .before .write-nodes .ensures .0)
-    (writes-then (three .before .before .write-fields .ensures .0) (c .before .before .write-bytes .ensures)))
-
-same-length : tie.Need-same-length
-same-length c = writes-long (all c)
+    (writes-then (three .before .before .write-fields .ensures .0) (c .before .before .write-word .ensures)))
 
 returns : tie.Need-returns
 returns c =
     let b = start₄ c in
     let k = known b in
-    subst (λ (l : List ℕ). Writes l (b .args .out .now) 0 (c .before .before .write-bytes .result) (c .before .before .write-bytes .last .0))
+    subst (λ (l : List ℕ). Writes l (b .args .out .now) 0 (c .before .before .write-word .result) (c .before .before .write-word .last .0))
     (narrowed-is (b .args .file .now) (b .args .shape) (b .pre .0) (k .two) (k .some)) (all c)
 
 pub write-narrowed-spec : {M : Type 1} → statement M
 write-narrowed-spec =
     tie.close
     (tie.spec
-    sub-write-field
-    part-write-field-start
-    part-write-field-end
-    write-field-requires
-    sub-write-nodes
-    write-nodes-requires
-    mul-write-fields
-    add-write-fields
-    mul-write-fields-2
-    add-write-fields-2
-    mul-write-fields-3
-    sub-write-fields
-    write-fields-requires
-    sub-write-bytes
-    sub-write-bytes-2
-    part-write-bytes-start
-    part-write-bytes-end
-    write-bytes-requires
-    same-length
-    returns)
+    (λ c. omega arith) (λ c. omega arith) (λ c. omega (arith, known (c .before .before .before))) write-field-requires
+    (λ c. omega (arith, known (start c))) write-nodes-requires (λ c. omega (arith, known (start₂ c))) (λ c. omega (arith, known (start₂ c)))
+    (λ c. omega (arith, known (start₂ c))) (λ c. omega (arith, known (start₂ c))) (λ c. omega (arith, known (start₂ c)))
+    (λ c. omega (arith, known (start₂ c))) write-fields-requires (λ c. omega (arith, known (start₃ (c .before .before))))
+    (λ c. omega (arith, known (start₃ (c .before .before)))) (λ c. omega (arith, known (start₃ (c .before .before)))) (λ c. omega arith)
+    write-word-requires (λ c. writes-long (all c)) returns)

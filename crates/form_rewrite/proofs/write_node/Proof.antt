@@ -10,7 +10,7 @@ use Rattle.form_fields.specs.Words.{byte}
 use Rattle.form_fields.specs.Contents.{field}
 use Rattle.form_fields.specs.Whole.{part}
 use Rattle.form_rewrite.specs.Turning.{switchTo, turned}
-use Rattle.form_rewrite.specs.Writes.{Writes}
+use Rattle.print_text.specs.Puts.{Writes}
 use Rattle.form_rewrite.specs.Laws.PartLaws.{part-length, part-at}
 use Rattle.form_rewrite.proofs.Laws.{field-none}
 use Rattle.form_rewrite.proofs.write_node.Statement.{statement}
@@ -29,32 +29,11 @@ is-none bank file from e = rw (ne-eqb (getD (part file 5 from) 0 0) 1 (λ f. e (
 cut : (file : List ℕ) (p : ℕ) → take (p + 5 - p) (drop p file) ≡ part file 5 p
 cut file p = ap (λ (n : ℕ). take n (drop p file)) {x = p + 5 - p} {y = 5} (omega arith)
 
-shared-slice-read-if1 : tie.Need-shared-slice-read-if1
-shared-slice-read-if1 c = omega arith
-
-write-switch-requires : tie.Need-write-switch-requires
-write-switch-requires c κs = omega arith
-
-same-length : tie.Need-same-length
-same-length c = search needs
-
 returns : tie.Need-returns
 returns c =
     let a = c .before .before .before .before .before .before .before .before .args in
     subst (λ (l : List ℕ). Writes (field 2 l) (a .out .now) (a .at) (c .before .before .write-switch .result) (c .before .before .write-switch .last .0))
     (is-switch (a .bank) (a .file .now) (a .from) (c .before .before .before .before .if1 .taken)) (c .before .before .write-switch .ensures)
-
-add-write-field : tie.Need-add-write-field
-add-write-field c = omega arith
-
-sub-write-field : tie.Need-sub-write-field
-sub-write-field c = omega arith
-
-part-write-field-start : tie.Need-part-write-field-start
-part-write-field-start c = omega arith
-
-part-write-field-end : tie.Need-part-write-field-end
-part-write-field-end c = omega arith
 
 write-field-requires : tie.Need-write-field-requires
 write-field-requires c κs =
@@ -62,9 +41,6 @@ write-field-requires c κs =
     let long : length (take (a .from + 5 - a .from) (drop (a .from) (a .file .now))) ≡ 5 =
     ap length (cut (a .file .now) (a .from)) ∙ part-length (a .file .now) 5 (a .from) (omega arith) in
     (omega (arith, long), omega (arith, long))
-
-same-length-2 : tie.Need-same-length-2
-same-length-2 c = search needs
 
 returns-2 : tie.Need-returns-2
 returns-2 c =
@@ -78,14 +54,5 @@ pub write-node-spec : {M : Type 1} → statement M
 write-node-spec =
     tie.close
     (tie.spec
-    shared-slice-read-if1
-    write-switch-requires
-    same-length
-    returns
-    add-write-field
-    sub-write-field
-    part-write-field-start
-    part-write-field-end
-    write-field-requires
-    same-length-2
-    returns-2)
+    (λ c. omega arith) (λ c κs. omega arith) (λ c. search needs) returns (λ c. omega arith) (λ c. omega arith) (λ c. omega arith) (λ c. omega arith)
+    write-field-requires (λ c. search needs) returns-2)

@@ -8,8 +8,8 @@ use Rattle.form_fields.specs.Contents.{field, flat}
 use Rattle.form_fields.specs.Laws.Has.{field-length}
 use Rattle.form_fields.specs.Whole.{part}
 use Rattle.form_rewrite.specs.Turning.{turned}
-use Rattle.form_rewrite.specs.Writes.{Writes}
-use Rattle.form_rewrite.specs.Laws.Writes.{writes-long}
+use Rattle.print_text.specs.Puts.{Writes}
+use Rattle.print_text.specs.Laws.Sets.{writes-long}
 use Rattle.form_rewrite.specs.Laws.Fitting.{turned-length}
 use Rattle.form_rewrite.specs.Laws.PartLaws.{part-length}
 use Rattle.form_rewrite.proofs.Laws.{fields-none, fields-turn}
@@ -33,21 +33,6 @@ loop-holds c =
     let a = c .before .before .args in
     (omega arith, omega arith, fields-none 2 (turnedAt (a .file .now) (a .bank)) 8 (a .from))
 
-mul-write-node : tie.Need-mul-write-node Inv-loop μ-loop
-mul-write-node c = omega arith
-
-add-write-node : tie.Need-add-write-node Inv-loop μ-loop
-add-write-node c = omega arith
-
-write-node-requires : tie.Need-write-node-requires Inv-loop μ-loop
-write-node-requires c κs = (omega arith, omega (arith, writes-long (c .before .before .loop .inv .2)))
-
-add-i : tie.Need-add-i Inv-loop μ-loop
-add-i c = omega arith
-
-loop-less : tie.Need-loop-less Inv-loop μ-loop
-loop-less c = omega arith
-
 loop-again : tie.Need-loop-again Inv-loop μ-loop
 loop-again c =
     let a = c .before .before .before .before .before .before .before .before .args in
@@ -60,9 +45,6 @@ loop-again c =
     let long = field-length 2 (what p) in
     let five = turned-length (a .bank) (part file 5 p) (part-length file 5 p (omega arith)) in
     (omega arith, omega (arith, next .place, long, five), fields-turn 2 what 8 (a .from) i w next)
-
-same-length : tie.Need-same-length Inv-loop μ-loop
-same-length c = writes-long (c .before .loop .inv .2)
 
 returns : tie.Need-returns Inv-loop μ-loop
 returns c =
@@ -77,14 +59,6 @@ pub write-nodes-spec : {M : Type 1} → statement M
 write-nodes-spec =
     tie.close
     (tie.spec
-    Inv-loop
-    μ-loop
-    loop-holds
-    mul-write-node
-    add-write-node
-    write-node-requires
-    add-i
-    loop-less
-    loop-again
-    same-length
-    returns)
+    Inv-loop μ-loop loop-holds (λ c. omega arith) (λ c. omega arith)
+    (λ c κs. (omega arith, omega (arith, writes-long (c .before .before .loop .inv .2)))) (λ c. omega arith) (λ c. omega arith) loop-again
+    (λ c. writes-long (c .before .loop .inv .2)) returns)

@@ -7,8 +7,8 @@ use lib.ListN.{length}
 use Rattle.form_fields.specs.Kind.{form2, is2}
 use Rattle.form_fields.specs.Whole.{contentsIn}
 use Rattle.form_rewrite.specs.Laws.Fitting.{shortened-long}
-use Rattle.form_rewrite.specs.Writes.{Writes}
-use Rattle.form_rewrite.specs.Laws.Writes.{writes-then, writes-long}
+use Rattle.print_text.specs.Puts.{Writes}
+use Rattle.print_text.specs.Laws.Sets.{writes-then, writes-long}
 use Rattle.form_rewrite.specs.Laws.Sizes.{Sizes, sizes, fits, file-long, banks-many}
 use Rattle.form_rewrite.proofs.Assembled.{tail-long}
 use Rattle.form_rewrite.proofs.Back.{shortenedPieces, shortened-is}
@@ -38,51 +38,27 @@ write-fields-requires c κs =
     let z = known (c .before .before .before) in
     (omega (arith, z), (omega arith, omega (arith, z, room (c .before .before .before))))
 
-mul-write-bytes : tie.Need-mul-write-bytes
-mul-write-bytes c = omega (arith, known (start (c .before)))
-
-add-write-bytes : tie.Need-add-write-bytes
-add-write-bytes c = omega (arith, known (start (c .before)))
-
-sub-write-bytes : tie.Need-sub-write-bytes
-sub-write-bytes c = omega (arith, known (start (c .before)))
-
-part-write-bytes-start : tie.Need-part-write-bytes-start
-part-write-bytes-start c = omega (arith, known (start (c .before)))
-
-part-write-bytes-end : tie.Need-part-write-bytes-end
-part-write-bytes-end c = omega arith
-
-write-bytes-requires : tie.Need-write-bytes-requires
-write-bytes-requires c κs =
+write-word-requires : tie.Need-write-word-requires
+write-word-requires c κs =
     let b = start (c .before .before) in
     let w = c .before .before .before .before .write-fields .ensures in
     omega (arith, known b, room b, w .1, writes-long (w .0), tail-long (b .args .file .now) (4 + b .args .shape .banks * 27))
 
 all : (c : tie.After-slice-known3)
     → Writes (shortenedPieces (start (banks c) .args .file .now) (start (banks c) .args .shape)) (start (banks c) .args .out .now) 0
-    (c .before .before .write-bytes .result) (c .before .before .write-bytes .last .0)
-all c = writes-then (banks c .before .before .write-fields .ensures .0) (c .before .before .write-bytes .ensures)
-
-same-length : tie.Need-same-length
-same-length c = writes-long (all c)
+    (c .before .before .write-word .result) (c .before .before .write-word .last .0)
+all c = writes-then (banks c .before .before .write-fields .ensures .0) (c .before .before .write-word .ensures)
 
 returns : tie.Need-returns
 returns c =
     let b = start (banks c) in
-    subst (λ (l : List ℕ). Writes l (b .args .out .now) 0 (c .before .before .write-bytes .result) (c .before .before .write-bytes .last .0))
+    subst (λ (l : List ℕ). Writes l (b .args .out .now) 0 (c .before .before .write-word .result) (c .before .before .write-word .last .0))
     (shortened-is (b .args .file .now) (b .args .shape) (b .pre .0)) (all c)
 
 pub write-shortened-spec : {M : Type 1} → statement M
 write-shortened-spec =
     tie.close
     (tie.spec
-    write-fields-requires
-    mul-write-bytes
-    add-write-bytes
-    sub-write-bytes
-    part-write-bytes-start
-    part-write-bytes-end
-    write-bytes-requires
-    same-length
-    returns)
+    write-fields-requires (λ c. omega (arith, known (start (c .before)))) (λ c. omega (arith, known (start (c .before))))
+    (λ c. omega (arith, known (start (c .before)))) (λ c. omega (arith, known (start (c .before)))) (λ c. omega arith) write-word-requires
+    (λ c. writes-long (all c)) returns)

@@ -7,8 +7,8 @@ use lib.ListN.{length}
 use Rattle.form_fields.specs.Laws.Has.{field-length}
 use Rattle.form_rewrite.specs.Laws.PartLaws.{part-length}
 use Rattle.form_rewrite.specs.Turning.{switchTo}
-use Rattle.form_rewrite.specs.Writes.{Writes}
-use Rattle.form_rewrite.specs.Laws.Writes.{writes-then, writes-long}
+use Rattle.print_text.specs.Puts.{Writes}
+use Rattle.print_text.specs.Laws.Sets.{writes-then, writes-long}
 use Rattle.form_rewrite.proofs.Assembled.{tail-long, widenedPieces, Widening, widening, widened-is}
 use Rattle.form_rewrite.proofs.Laws.{stage, padded-field}
 use Rattle.form_rewrite.proofs.write_widened.Statement.{statement}
@@ -105,33 +105,12 @@ at-rows c =
 
 -- ---- what each call asks
 
-write-head-requires : tie.Need-write-head-requires
-write-head-requires c κs = omega (arith, known (c .before .before .before))
-
-sub-write-field : tie.Need-sub-write-field
-sub-write-field c = omega arith
-
-part-write-field-start : tie.Need-part-write-field-start
-part-write-field-start c = omega arith
-
-part-write-field-end : tie.Need-part-write-field-end
-part-write-field-end c = omega (arith, known (start (c .before)))
-
 write-field-requires : tie.Need-write-field-requires
 write-field-requires c κs =
     let k = known (start (c .before .before)) in
     let p = at-head (c .before .before) in
     let long = part-length (start (c .before .before) .args .file .now) 10 3 (omega (arith, k)) in
     (omega (arith, long), omega (arith, long, k, p .0, p .1))
-
-sub-write-field-2 : tie.Need-sub-write-field-2
-sub-write-field-2 c = omega arith
-
-part-write-field-start-2 : tie.Need-part-write-field-start-2
-part-write-field-start-2 c = omega arith
-
-part-write-field-end-2 : tie.Need-part-write-field-end-2
-part-write-field-end-2 c = omega (arith, known (start₂ (c .before)))
 
 write-field-requires-2 : tie.Need-write-field-requires-2
 write-field-requires-2 c κs =
@@ -140,29 +119,11 @@ write-field-requires-2 c κs =
     let long = part-length (start₂ (c .before .before) .args .file .now) 23 3 (omega (arith, k)) in
     (omega (arith, long), omega (arith, long, k, p .0, p .1))
 
-write-switch-requires : tie.Need-write-switch-requires
-write-switch-requires c κs = let p = at-one (c .before) in omega (arith, known (start₃ (c .before)), p .0, p .1)
-
 write-nodes-requires : tie.Need-write-nodes-requires
 write-nodes-requires c κs =
     let k = known (start₄ (c .before)) in
     let p = at-switch (c .before) in
     (omega (arith, k), omega (arith, k, p .0, p .1))
-
-mul-write-fields : tie.Need-mul-write-fields
-mul-write-fields c = omega (arith, known (start₅ c))
-
-add-write-fields : tie.Need-add-write-fields
-add-write-fields c = omega (arith, known (start₅ c))
-
-mul-write-fields-2 : tie.Need-mul-write-fields-2
-mul-write-fields-2 c = omega (arith, known (start₅ c))
-
-add-write-fields-2 : tie.Need-add-write-fields-2
-add-write-fields-2 c = omega (arith, known (start₅ c))
-
-mul-write-fields-3 : tie.Need-mul-write-fields-3
-mul-write-fields-3 c = omega (arith, known (start₅ c))
 
 write-fields-requires : tie.Need-write-fields-requires
 write-fields-requires c κs =
@@ -170,20 +131,8 @@ write-fields-requires c κs =
     let p = at-nodes (c .before) in
     (omega (arith, k), (omega (arith, k), omega (arith, k, p .0, p .1)))
 
-sub-write-bytes : tie.Need-sub-write-bytes
-sub-write-bytes c = omega (arith, known (start₆ (c .before .before)))
-
-sub-write-bytes-2 : tie.Need-sub-write-bytes-2
-sub-write-bytes-2 c = omega (arith, known (start₆ (c .before .before)))
-
-part-write-bytes-start : tie.Need-part-write-bytes-start
-part-write-bytes-start c = omega (arith, known (start₆ (c .before .before)))
-
-part-write-bytes-end : tie.Need-part-write-bytes-end
-part-write-bytes-end c = omega arith
-
-write-bytes-requires : tie.Need-write-bytes-requires
-write-bytes-requires c κs =
+write-word-requires : tie.Need-write-word-requires
+write-word-requires c κs =
     let a = start₆ (c .before .before .before) .args in
     let p = at-rows (c .before .before .before) in
     omega (arith, known (start₆ (c .before .before .before)), p .0, p .1, tail-long (a .file .now) (a .shape .values - 3))
@@ -192,7 +141,7 @@ write-bytes-requires c κs =
 
 all : (c : tie.After-slice-known8)
     → Writes (widenedPieces (start₇ c .args .file .now) (start₇ c .args .shape)) (start₇ c .args .out .now) 0
-    (c .before .before .write-bytes .result) (c .before .before .write-bytes .last .0)
+    (c .before .before .write-word .result) (c .before .before .write-word .last .0)
 all c =
     let six = rows c in
     let five = nodes six in
@@ -204,42 +153,22 @@ all c =
     (writes-then (three .before .before .write-field2 .ensures)
     (writes-then (four .before .before .write-switch .ensures)
     (writes-then (five .before .before .write-nodes .ensures .0)
-    (writes-then (six .before .before .write-fields .ensures .0) (c .before .before .write-bytes .ensures))))))
-
-same-length : tie.Need-same-length
-same-length c = writes-long (all c)
+    (writes-then (six .before .before .write-fields .ensures .0) (c .before .before .write-word .ensures))))))
 
 returns : tie.Need-returns
 returns c =
     let b = start₇ c in
-    subst (λ (l : List ℕ). Writes l (b .args .out .now) 0 (c .before .before .write-bytes .result) (c .before .before .write-bytes .last .0))
+    subst (λ (l : List ℕ). Writes l (b .args .out .now) 0 (c .before .before .write-word .result) (c .before .before .write-word .last .0))
     (widened-is (b .args .file .now) (b .args .shape) (b .pre .0) (b .pre .1 .0)) (all c)
 
 pub write-widened-spec : {M : Type 1} → statement M
 write-widened-spec =
     tie.close
     (tie.spec
-    write-head-requires
-    sub-write-field
-    part-write-field-start
-    part-write-field-end
-    write-field-requires
-    sub-write-field-2
-    part-write-field-start-2
-    part-write-field-end-2
-    write-field-requires-2
-    write-switch-requires
-    write-nodes-requires
-    mul-write-fields
-    add-write-fields
-    mul-write-fields-2
-    add-write-fields-2
-    mul-write-fields-3
-    write-fields-requires
-    sub-write-bytes
-    sub-write-bytes-2
-    part-write-bytes-start
-    part-write-bytes-end
-    write-bytes-requires
-    same-length
-    returns)
+    (λ c κs. omega (arith, known (c .before .before .before))) (λ c. omega arith) (λ c. omega arith) (λ c. omega (arith, known (start (c .before))))
+    write-field-requires (λ c. omega arith) (λ c. omega arith) (λ c. omega (arith, known (start₂ (c .before)))) write-field-requires-2
+    (λ c κs. let p = at-one (c .before) in omega (arith, known (start₃ (c .before)), p .0, p .1)) write-nodes-requires
+    (λ c. omega (arith, known (start₅ c))) (λ c. omega (arith, known (start₅ c))) (λ c. omega (arith, known (start₅ c)))
+    (λ c. omega (arith, known (start₅ c))) (λ c. omega (arith, known (start₅ c))) write-fields-requires
+    (λ c. omega (arith, known (start₆ (c .before .before)))) (λ c. omega (arith, known (start₆ (c .before .before))))
+    (λ c. omega (arith, known (start₆ (c .before .before)))) (λ c. omega arith) write-word-requires (λ c. writes-long (all c)) returns)

@@ -6,7 +6,7 @@ use native.Mathlib.Omega.{arith}
 use lib.ListN.{length, set, length-set, replicate-append-replicate}
 use lib.Seq.{sets}
 use Rattle.form_rewrite.specs.Turning.{zeros}
-use Rattle.form_rewrite.specs.Laws.Writes.{sets-append}
+use Rattle.print_text.specs.Laws.Sets.{sets-append}
 use Rattle.form_rewrite.proofs.Laws.{zeros-length}
 use Rattle.form_rewrite.proofs.write_zeros.Statement.{statement}
 use Rattle.form_rewrite.proofs.write_zeros.Tie as tie
@@ -24,31 +24,10 @@ Inv-loop out₀ at count i₀ out i = (i ≤ count) × (length out ≡ length ou
 abbrev μ-loop : tie.MeasureT-loop
 μ-loop out₀ at count i₀ out i = count - i
 
-loop-holds : tie.Need-loop-holds Inv-loop μ-loop
-loop-holds c = (omega arith, refl, refl)
-
-add-out : tie.Need-add-out Inv-loop μ-loop
-add-out c = omega arith
-
-slice-write-out : tie.Need-slice-write-out Inv-loop μ-loop
-slice-write-out c = omega arith
-
-add-i : tie.Need-add-i Inv-loop μ-loop
-add-i c = omega arith
-
-loop-less : tie.Need-loop-less Inv-loop μ-loop
-loop-less c = omega arith
-
 loop-again : tie.Need-loop-again Inv-loop μ-loop
 loop-again c =
     let a = c .before .before .args in
     (omega arith, simp length-set (omega arith), rw (c .before .loop .inv .2) (turn (a .out .now) (a .at) (c .before .loop .i)))
-
-add-result : tie.Need-add-result Inv-loop μ-loop
-add-result c = omega arith
-
-same-length : tie.Need-same-length Inv-loop μ-loop
-same-length c = omega arith
 
 returns : tie.Need-returns Inv-loop μ-loop
 returns c =
@@ -57,4 +36,4 @@ returns c =
 
 pub write-zeros-spec : {M : Type 1} → statement M
 write-zeros-spec =
-    tie.close (tie.spec Inv-loop μ-loop loop-holds add-out slice-write-out add-i loop-less loop-again add-result same-length returns)
+    tie.close (tie.spec Inv-loop μ-loop (λ c. (omega arith, refl, refl)) (λ c. omega arith) (λ c. omega arith) (λ c. omega arith) (λ c. omega arith) loop-again (λ c. omega arith) (λ c. omega arith) returns)

@@ -9,16 +9,10 @@ use Rattle.print_text.specs.Laws.Lengths.{line-length}
 use Rattle.print_text.proofs.block_end.Statement.{statement}
 use Rattle.print_text.proofs.block_end.Tie as tie
 
-slice-aggregate-line-end : tie.Need-slice-aggregate-line-end
-slice-aggregate-line-end c = search needs
-
-line-end-requires : tie.Need-line-end-requires
-line-end-requires c κs = search needs
-
 returns : tie.Need-returns
 returns c =
     let a = c .before .before .args in
     c .line-end .ensures ∙ ap (λ (n : ℕ). endOf (a .size) (a .at) n) (sym (line-length blockWord (a .offset ∷ a .len ∷ [])))
 
 pub block-end-spec : {M : Type 1} → statement M
-block-end-spec = tie.close (tie.spec slice-aggregate-line-end line-end-requires returns)
+block-end-spec = tie.close (tie.spec (λ c. search needs) (λ c κs. search needs) returns)

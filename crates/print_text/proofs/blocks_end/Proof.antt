@@ -21,27 +21,6 @@ loop-holds : tie.Need-loop-holds Inv-loop μ-loop
 unfolding blocksText
 loop-holds c = search needs
 
-mul-block-end : tie.Need-mul-block-end Inv-loop μ-loop
-mul-block-end c = search needs
-
-shared-slice-read-block-end : tie.Need-shared-slice-read-block-end Inv-loop μ-loop
-shared-slice-read-block-end c = search needs
-
-mul-block-end-2 : tie.Need-mul-block-end-2 Inv-loop μ-loop
-mul-block-end-2 c = search needs
-
-shared-slice-read-block-end-2 : tie.Need-shared-slice-read-block-end-2 Inv-loop μ-loop
-shared-slice-read-block-end-2 c = search needs
-
-block-end-requires : tie.Need-block-end-requires Inv-loop μ-loop
-block-end-requires c κs = search needs
-
-enum-known-next : tie.Need-enum-known-next Inv-loop μ-loop
-enum-known-next c = search needs
-
-enum-told : tie.Need-enum-told Inv-loop μ-loop
-enum-told c = search needs
-
 returns : tie.Need-returns Inv-loop μ-loop
 returns c =
     let a = c .before .before .before .before .before .before .before .before .before .args in
@@ -55,12 +34,6 @@ returns c =
     (c .enum-told .given .1) in
     sym (end-short (a .size) (a .at) _ (omega arith))
 
-add-i : tie.Need-add-i Inv-loop μ-loop
-add-i c = search needs
-
-loop-less : tie.Need-loop-less Inv-loop μ-loop
-loop-less c = search needs
-
 loop-again : tie.Need-loop-again Inv-loop μ-loop
 loop-again c =
     let a = c .before .before .before .before .before .before .before .before .before .before .args in
@@ -72,9 +45,6 @@ loop-again c =
     let fits = fits-of (a .size) (c .before .before .before .before .before .before .before .loop .end) (length one)
     (c .before .before .before .block-end .ensures) (c .before .next .given .1) in
     (omega arith, omega arith)
-
-end-of-requires : tie.Need-end-of-requires Inv-loop μ-loop
-end-of-requires c κs = search needs
 
 returns-2 : tie.Need-returns-2 Inv-loop μ-loop
 returns-2 c =
@@ -90,19 +60,5 @@ pub blocks-end-spec : {M : Type 1} → statement M
 blocks-end-spec =
     tie.close
     (tie.spec
-    Inv-loop
-    μ-loop
-    loop-holds
-    mul-block-end
-    shared-slice-read-block-end
-    mul-block-end-2
-    shared-slice-read-block-end-2
-    block-end-requires
-    enum-known-next
-    enum-told
-    returns
-    add-i
-    loop-less
-    loop-again
-    end-of-requires
-    returns-2)
+    Inv-loop μ-loop loop-holds (λ c. search needs) (λ c. search needs) (λ c. search needs) (λ c. search needs) (λ c κs. search needs)
+    (λ c. search needs) (λ c. search needs) returns (λ c. search needs) (λ c. search needs) loop-again (λ c κs. search needs) returns-2)

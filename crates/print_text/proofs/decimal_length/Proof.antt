@@ -15,18 +15,6 @@ Inv-loop n left₀ len₀ left len = (len + length (decimal left) ≡ length (de
 abbrev μ-loop : tie.MeasureT-loop
 μ-loop n left₀ len₀ left len = left
 
-loop-holds : tie.Need-loop-holds Inv-loop μ-loop
-loop-holds c = omega arith
-
-add-len : tie.Need-add-len Inv-loop μ-loop
-add-len c = omega arith
-
-loop-less : tie.Need-loop-less Inv-loop μ-loop
-loop-less c = omega arith
-
-loop-again : tie.Need-loop-again Inv-loop μ-loop
-loop-again c = omega (arith, length-more (c .before .loop .left) (c .loop-test .taken))
-
 returns : tie.Need-returns Inv-loop μ-loop
 returns c =
     let n = c .before .before .args .n in
@@ -36,4 +24,4 @@ returns c =
 
 pub decimal-length-spec : {M : Type 1} → statement M
 decimal-length-spec =
-    tie.close (tie.spec Inv-loop μ-loop loop-holds add-len loop-less loop-again returns)
+    tie.close (tie.spec Inv-loop μ-loop (λ c. omega arith) (λ c. omega arith) (λ c. omega arith) (λ c. omega (arith, length-more (c .before .loop .left) (c .loop-test .taken))) returns)

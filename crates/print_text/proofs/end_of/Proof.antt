@@ -16,13 +16,10 @@ returns-2 c =
     let a = c .before .before .args in
     rw (lt-leb (a .at + a .len) (a .size) (omega arith))
 
-add-t5 : tie.Need-add-t5
-add-t5 c = search needs
-
 returns-3 : tie.Need-returns-3
 returns-3 c =
     let a = c .before .before .args in
     rw (le-leb (a .at + a .len) (a .size) (omega arith))
 
 pub end-of-spec : {M : Type 1} → statement M
-end-of-spec = tie.close (tie.spec returns returns-2 add-t5 returns-3)
+end-of-spec = tie.close (tie.spec returns returns-2 (λ c. search needs) returns-3)

@@ -9,9 +9,6 @@ use Rattle.print_text.proofs.Image.{image-none, image-some}
 use Rattle.print_text.proofs.image_length.Statement.{statement}
 use Rattle.print_text.proofs.image_length.Tie as tie
 
-add-result : tie.Need-add-result
-add-result c = search needs
-
 returns : tie.Need-returns
 returns c =
     let hex = c .before .args .hex .now in
@@ -24,4 +21,4 @@ returns-2 c =
     omega (arith, length-append (ascii "image " ++ hex) (ascii "\n"), length-append (ascii "image ") hex)
 
 pub image-length-spec : {M : Type 1} → statement M
-image-length-spec = tie.close (tie.spec add-result returns returns-2)
+image-length-spec = tie.close (tie.spec (λ c. search needs) returns returns-2)

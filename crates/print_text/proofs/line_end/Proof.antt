@@ -17,15 +17,6 @@ Inv-loop size at word numbers start end₀ i₀ end i =
 abbrev μ-loop : tie.MeasureT-loop
 μ-loop size at word numbers start end₀ i₀ end i = length numbers - i
 
-end-of-requires : tie.Need-end-of-requires Inv-loop μ-loop
-end-of-requires c κs = search needs
-
-enum-known-start : tie.Need-enum-known-start Inv-loop μ-loop
-enum-known-start c = search needs
-
-enum-told : tie.Need-enum-told Inv-loop μ-loop
-enum-told c = search needs
-
 returns : tie.Need-returns Inv-loop μ-loop
 returns c =
     let a = c .before .before .before .before .args in
@@ -38,27 +29,6 @@ loop-holds c =
     let fits = fits-of (a .size) (a .at) (a .word) (c .before .before .before .end-of .ensures) (c .before .start .given .1) in
     (omega arith, omega arith, omega arith)
 
-mul-decimal-length : tie.Need-mul-decimal-length Inv-loop μ-loop
-mul-decimal-length c = search needs
-
-shared-slice-read-decimal-length : tie.Need-shared-slice-read-decimal-length Inv-loop μ-loop
-shared-slice-read-decimal-length c = search needs
-
-decimal-length-requires : tie.Need-decimal-length-requires Inv-loop μ-loop
-decimal-length-requires c κs = search needs
-
-add-end-of : tie.Need-add-end-of Inv-loop μ-loop
-add-end-of c = search needs
-
-end-of-requires-2 : tie.Need-end-of-requires-2 Inv-loop μ-loop
-end-of-requires-2 c κs = search needs
-
-enum-known-next : tie.Need-enum-known-next Inv-loop μ-loop
-enum-known-next c = search needs
-
-enum-told-2 : tie.Need-enum-told-2 Inv-loop μ-loop
-enum-told-2 c = search needs
-
 returns-2 : tie.Need-returns-2 Inv-loop μ-loop
 returns-2 c =
     let d = c .before .before .before in
@@ -69,12 +39,6 @@ returns-2 c =
     (c .enum-told2 .given .1) in
     sym (end-short (a .size) (a .at) _ (omega arith))
 
-add-i : tie.Need-add-i Inv-loop μ-loop
-add-i c = search needs
-
-loop-less : tie.Need-loop-less Inv-loop μ-loop
-loop-less c = search needs
-
 loop-again : tie.Need-loop-again Inv-loop μ-loop
 loop-again c =
     let d = c .before .before .before .before in
@@ -84,9 +48,6 @@ loop-again c =
     let fits = fits-of (a .size) (d .before .before .before .loop .end) (d .decimal-length .result + 1) (c .before .before .before .end-of2 .ensures)
     (c .before .next .given .1) in
     (omega arith, omega arith, omega arith)
-
-end-of-requires-3 : tie.Need-end-of-requires-3 Inv-loop μ-loop
-end-of-requires-3 c κs = search needs
 
 returns-3 : tie.Need-returns-3 Inv-loop μ-loop
 returns-3 c =
@@ -99,23 +60,6 @@ pub line-end-spec : {M : Type 1} → statement M
 line-end-spec =
     tie.close
     (tie.spec
-    Inv-loop
-    μ-loop
-    end-of-requires
-    enum-known-start
-    enum-told
-    returns
-    loop-holds
-    mul-decimal-length
-    shared-slice-read-decimal-length
-    decimal-length-requires
-    add-end-of
-    end-of-requires-2
-    enum-known-next
-    enum-told-2
-    returns-2
-    add-i
-    loop-less
-    loop-again
-    end-of-requires-3
-    returns-3)
+    Inv-loop μ-loop (λ c κs. search needs) (λ c. search needs) (λ c. search needs) returns loop-holds (λ c. search needs) (λ c. search needs)
+    (λ c κs. search needs) (λ c. search needs) (λ c κs. search needs) (λ c. search needs) (λ c. search needs) returns-2 (λ c. search needs)
+    (λ c. search needs) loop-again (λ c κs. search needs) returns-3)

@@ -19,15 +19,6 @@ lines c =
     let ss = c .before .before .before .before .before .args .sizes .now in
     ap (λ (k : ℕ). blocksText k os ss) (c .lent .ensures) ∙ blocks-lent (c .before .before .before .before .before .args .count) os ss
 
-lent-requires : tie.Need-lent-requires
-lent-requires c κs = search needs
-
-layout-end-requires : tie.Need-layout-end-requires
-layout-end-requires c κs = search needs
-
-enum-told : tie.Need-enum-told
-enum-told c = search needs
-
 returns : tie.Need-returns
 returns c =
     let a = c .before .before .before .before .before .before .before .before .args in
@@ -35,18 +26,12 @@ returns c =
     rw (← lines (c .before .before .before)) (puts-short (short-of (length (a .out .now)) (a .at) (length text) (c .before .before .layout-end .ensures)
     (c .enum-told .given .1)))
 
-enum-told-2 : tie.Need-enum-told-2
-enum-told-2 c = search needs
-
 write-layout-requires : tie.Need-write-layout-requires
 write-layout-requires c κs =
     let a = c .before .before .before .before .before .before .before .before .before .args in
     let text = layoutText (a .k) (c .before .before .before .before .lent .result) (a .offsets .now) (a .sizes .now) (a .hex .now) in
     let fits = fits-of (length (a .out .now)) (a .at) (length text) (c .before .before .before .layout-end .ensures) (c .before .enum-told2 .given .1) in
     (omega arith, (omega arith, omega arith))
-
-same-length : tie.Need-same-length
-same-length c = search needs
 
 returns-2 : tie.Need-returns-2
 returns-2 c =
@@ -60,11 +45,4 @@ pub put-layout-spec : {M : Type 1} → statement M
 put-layout-spec =
     tie.close
     (tie.spec
-    lent-requires
-    layout-end-requires
-    enum-told
-    returns
-    enum-told-2
-    write-layout-requires
-    same-length
-    returns-2)
+    (λ c κs. search needs) (λ c κs. search needs) (λ c. search needs) returns (λ c. search needs) write-layout-requires (λ c. search needs) returns-2)

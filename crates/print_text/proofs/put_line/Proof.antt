@@ -9,12 +9,6 @@ use Prim.Native.Nat.{_+_}
 use Rattle.print_text.proofs.put_line.Statement.{statement}
 use Rattle.print_text.proofs.put_line.Tie as tie
 
-line-end-requires : tie.Need-line-end-requires
-line-end-requires c κs = search needs
-
-enum-told : tie.Need-enum-told
-enum-told c = search needs
-
 returns : tie.Need-returns
 returns c =
     let a = c .before .before .before .before .before .before .args in
@@ -23,9 +17,6 @@ returns c =
     (c .enum-told .given .1) in
     puts-short (omega arith)
 
-enum-told-2 : tie.Need-enum-told-2
-enum-told-2 c = search needs
-
 write-line-requires : tie.Need-write-line-requires
 write-line-requires c κs =
     let a = c .before .before .before .before .before .before .before .args in
@@ -33,9 +24,6 @@ write-line-requires c κs =
     let fits = fits-of (length (a .out .now)) (a .at) (length (a .word .now) + length (spaced (a .numbers .now)) + 1)
     (c .before .before .before .line-end .ensures) (c .before .enum-told2 .given .1) in
     omega arith
-
-same-length : tie.Need-same-length
-same-length c = search needs
 
 returns-2 : tie.Need-returns-2
 returns-2 c =
@@ -49,10 +37,4 @@ pub put-line-spec : {M : Type 1} → statement M
 put-line-spec =
     tie.close
     (tie.spec
-    line-end-requires
-    enum-told
-    returns
-    enum-told-2
-    write-line-requires
-    same-length
-    returns-2)
+    (λ c κs. search needs) (λ c. search needs) returns (λ c. search needs) write-line-requires (λ c. search needs) returns-2)

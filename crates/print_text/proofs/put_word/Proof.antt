@@ -6,28 +6,16 @@ use Rattle.print_text.specs.Laws.Ends.{fits-of, short-of, puts-short, pu
 use Rattle.print_text.proofs.put_word.Statement.{statement}
 use Rattle.print_text.proofs.put_word.Tie as tie
 
-end-of-requires : tie.Need-end-of-requires
-end-of-requires c κs = search needs
-
-enum-told : tie.Need-enum-told
-enum-told c = search needs
-
 returns : tie.Need-returns
 returns c =
     let a = c .before .before .before .before .before .args in
     puts-short (short-of (length (a .out .now)) (a .at) (length (a .word .now)) (c .before .before .end-of .ensures) (c .enum-told .given .1))
-
-enum-told-2 : tie.Need-enum-told-2
-enum-told-2 c = search needs
 
 write-word-requires : tie.Need-write-word-requires
 write-word-requires c κs =
     let a = c .before .before .before .before .before .before .args in
     let fits = fits-of (length (a .out .now)) (a .at) (length (a .word .now)) (c .before .before .before .end-of .ensures) (c .before .enum-told2 .given .1) in
     omega arith
-
-same-length : tie.Need-same-length
-same-length c = search needs
 
 returns-2 : tie.Need-returns-2
 returns-2 c =
@@ -40,10 +28,4 @@ pub put-word-spec : {M : Type 1} → statement M
 put-word-spec =
     tie.close
     (tie.spec
-    end-of-requires
-    enum-told
-    returns
-    enum-told-2
-    write-word-requires
-    same-length
-    returns-2)
+    (λ c κs. search needs) (λ c. search needs) returns (λ c. search needs) write-word-requires (λ c. search needs) returns-2)

@@ -4,7 +4,7 @@ use mathlib.Core.Path.{_≡_, refl, ap}
 use borrow.Author.Needs.{needs}
 use native.Mathlib.Omega.{arith}
 use lib.ListN.{length, getD}
-use Rattle.print_text.proofs.Sets.{writes-then, writes-long, writes-room}
+use Rattle.print_text.specs.Laws.Sets.{writes-then, writes-long, writes-room}
 use Rattle.print_text.proofs.Blocks.{blocks-upto, blocks-more}
 use Rattle.print_text.specs.Puts.{Writes}
 use Rattle.print_text.specs.Lines.{line, blockWord, blocksText}
@@ -22,18 +22,6 @@ loop-holds : tie.Need-loop-holds Inv-loop μ-loop
 unfolding blocksText
 loop-holds c = (omega arith, record { place = omega arith; buffer = refl })
 
-mul-write-block : tie.Need-mul-write-block Inv-loop μ-loop
-mul-write-block c = search needs
-
-shared-slice-read-write-block : tie.Need-shared-slice-read-write-block Inv-loop μ-loop
-shared-slice-read-write-block c = search needs
-
-mul-write-block-2 : tie.Need-mul-write-block-2 Inv-loop μ-loop
-mul-write-block-2 c = search needs
-
-shared-slice-read-write-block-2 : tie.Need-shared-slice-read-write-block-2 Inv-loop μ-loop
-shared-slice-read-write-block-2 c = search needs
-
 write-block-requires : tie.Need-write-block-requires Inv-loop μ-loop
 write-block-requires c κs =
     let a = c .before .before .before .before .before .before .before .before .args in
@@ -45,21 +33,12 @@ write-block-requires c κs =
     writes-room (blocksText i os ss) (line blockWord (getD os i 0 ∷ getD ss i 0 ∷ [])) (omega (arith, ap length more))
     (c .before .before .before .before .loop .inv .1)
 
-add-i : tie.Need-add-i Inv-loop μ-loop
-add-i c = search needs
-
-loop-less : tie.Need-loop-less Inv-loop μ-loop
-loop-less c = search needs
-
 loop-again : tie.Need-loop-again Inv-loop μ-loop
 loop-again c =
     let a = c .before .before .before .before .before .before .before .before .before .before .before .args in
     let l = c .before .before .before .before .before .before .before .loop in
     let more = blocks-more (a .offsets .now) (a .sizes .now) (l .i) (omega arith) (omega arith) in
     (omega arith, rw more (writes-then (l .inv .1) (c .before .before .write-block .ensures)))
-
-same-length : tie.Need-same-length Inv-loop μ-loop
-same-length c = writes-long (c .before .loop .inv .1)
 
 returns : tie.Need-returns Inv-loop μ-loop
 returns c =
@@ -70,16 +49,5 @@ pub write-blocks-spec : {M : Type 1} → statement M
 write-blocks-spec =
     tie.close
     (tie.spec
-    Inv-loop
-    μ-loop
-    loop-holds
-    mul-write-block
-    shared-slice-read-write-block
-    mul-write-block-2
-    shared-slice-read-write-block-2
-    write-block-requires
-    add-i
-    loop-less
-    loop-again
-    same-length
-    returns)
+    Inv-loop μ-loop loop-holds (λ c. search needs) (λ c. search needs) (λ c. search needs) (λ c. search needs) write-block-requires
+    (λ c. search needs) (λ c. search needs) loop-again (λ c. writes-long (c .before .loop .inv .1)) returns)

@@ -6,25 +6,16 @@ use native.Mathlib.Omega.{arith}
 use lib.ListN.{length, length-append}
 use Rattle.print_text.specs.Ascii.{ascii}
 use Rattle.print_text.proofs.Image.{image-none, image-some}
-use Rattle.print_text.proofs.Sets.{writes-then, writes-room}
+use Rattle.print_text.specs.Laws.Sets.{writes-then, writes-room}
 use Rattle.print_text.proofs.write_image.Statement.{statement}
 use Rattle.print_text.proofs.write_image.Tie as tie
-
-slice-aggregate-write-word : tie.Need-slice-aggregate-write-word
-slice-aggregate-write-word c = search needs
 
 write-word-requires : tie.Need-write-word-requires
 write-word-requires c κs = omega (arith, ap length (image-none (c .before .before .before .before .before .args .hex .now) (c .before .before .if1 .taken)))
 
-same-length : tie.Need-same-length
-same-length c = search needs
-
 returns : tie.Need-returns
 returns c = rw (image-none (c .before .before .before .before .before .before .before .before .args .hex .now)
     (c .before .before .before .before .before .if1 .taken)) (c .before .before .write-word .ensures)
-
-slice-aggregate-write-word-2 : tie.Need-slice-aggregate-write-word-2
-slice-aggregate-write-word-2 c = search needs
 
 write-word-requires-2 : tie.Need-write-word-requires-2
 write-word-requires-2 c κs =
@@ -38,18 +29,12 @@ write-word-requires-3 c κs =
     let some = ap length (image-some hex (c .before .before .before .before .before .before .if1 .left)) in
     writes-room (ascii "image ") hex (omega (arith, length-append (ascii "image " ++ hex) (ascii "\n"))) (c .before .before .before .write-word2 .ensures)
 
-slice-aggregate-write-word-3 : tie.Need-slice-aggregate-write-word-3
-slice-aggregate-write-word-3 c = search needs
-
 write-word-requires-4 : tie.Need-write-word-requires-4
 write-word-requires-4 c κs =
     let hex = c .before .before .before .before .before .before .before .before .before .before .before .before .before .before .args .hex .now in
     let some = ap length (image-some hex (c .before .before .before .before .before .before .before .before .before .before .before .if1 .left)) in
     writes-room (ascii "image " ++ hex) (ascii "\n") (omega arith) (writes-then
     (c .before .before .before .before .before .before .before .before .write-word2 .ensures) (c .before .before .before .before .write-word3 .ensures))
-
-same-length-2 : tie.Need-same-length-2
-same-length-2 c = search needs
 
 returns-2 : tie.Need-returns-2
 returns-2 c =
@@ -63,14 +48,5 @@ pub write-image-spec : {M : Type 1} → statement M
 write-image-spec =
     tie.close
     (tie.spec
-    slice-aggregate-write-word
-    write-word-requires
-    same-length
-    returns
-    slice-aggregate-write-word-2
-    write-word-requires-2
-    write-word-requires-3
-    slice-aggregate-write-word-3
-    write-word-requires-4
-    same-length-2
-    returns-2)
+    (λ c. search needs) write-word-requires (λ c. search needs) returns (λ c. search needs) write-word-requires-2 write-word-requires-3
+    (λ c. search needs) write-word-requires-4 (λ c. search needs) returns-2)

@@ -4,15 +4,9 @@ use borrow.Author.Needs.{needs}
 use native.Mathlib.Omega.{arith}
 use lib.ListN.{length-append}
 use Rattle.print_text.specs.Lines.{passesText, blocksText, imageText}
-use Rattle.print_text.proofs.Sets.{writes-then, writes-room}
+use Rattle.print_text.specs.Laws.Sets.{writes-then, writes-room}
 use Rattle.print_text.proofs.write_layout.Statement.{statement}
 use Rattle.print_text.proofs.write_layout.Tie as tie
-
-slice-aggregate-write-line : tie.Need-slice-aggregate-write-line
-slice-aggregate-write-line c = search needs
-
-slice-aggregate-write-line-2 : tie.Need-slice-aggregate-write-line-2
-slice-aggregate-write-line-2 c = search needs
 
 write-line-requires : tie.Need-write-line-requires
 write-line-requires c κs =
@@ -49,9 +43,6 @@ write-image-requires c κs =
     (c .before .before .before .before .before .before .before .before .before .before .before .before .before .before .before .pre .1 .1) (writes-then
     (c .before .before .before .before .before .before .before .write-line .ensures) (c .before .before .before .write-blocks .ensures))
 
-same-length : tie.Need-same-length
-same-length c = search needs
-
 returns : tie.Need-returns
 returns c = writes-then (writes-then (c .before .before .before .before .before .before .before .before .before .before .write-line .ensures)
     (c .before .before .before .before .before .before .write-blocks .ensures)) (c .before .before .write-image .ensures)
@@ -60,10 +51,4 @@ pub write-layout-spec : {M : Type 1} → statement M
 write-layout-spec =
     tie.close
     (tie.spec
-    slice-aggregate-write-line
-    slice-aggregate-write-line-2
-    write-line-requires
-    write-blocks-requires
-    write-image-requires
-    same-length
-    returns)
+    (λ c. search needs) (λ c. search needs) write-line-requires write-blocks-requires write-image-requires (λ c. search needs) returns)

@@ -5,7 +5,7 @@ use native.Mathlib.Omega.{arith}
 use lib.ListN.{length, length-set, length-append}
 use Rattle.print_text.specs.Puts.{Writes}
 use Rattle.print_text.specs.Lines.{spaced}
-use Rattle.print_text.proofs.Sets.{writes-then, writes-byte, writes-long, writes-room}
+use Rattle.print_text.specs.Laws.Sets.{writes-then, writes-byte, writes-long, writes-room}
 use Rattle.print_text.proofs.write_line.Statement.{statement}
 use Rattle.print_text.proofs.write_line.Tie as tie
 
@@ -41,25 +41,9 @@ room c = writes-room (c .before .before .before .before .before .before .before 
     (c .before .before .before .before .before .before .before .before .before .before .before .args .numbers .now)) (10 ∷ [])
     (c .before .before .before .before .before .before .before .before .before .before .before .pre) (both c)
 
-slice-write-out : tie.Need-slice-write-out
-slice-write-out c = omega (arith, room c)
-
-add-result : tie.Need-add-result
-add-result c = omega (arith, room c, writes-long (both c))
-
-same-length : tie.Need-same-length
-same-length c = simp length-set (writes-long (both c))
-
-returns : tie.Need-returns
-returns c = writes-then (both c) (writes-byte 10)
-
 pub write-line-spec : {M : Type 1} → statement M
 write-line-spec =
     tie.close
     (tie.spec
-    write-word-requires
-    write-numbers-requires
-    slice-write-out
-    add-result
-    same-length
-    returns)
+    write-word-requires write-numbers-requires (λ c. omega (arith, room c)) (λ c. omega (arith, room c, writes-long (both c)))
+    (λ c. simp length-set (writes-long (both c))) (λ c. writes-then (both c) (writes-byte 10)))

@@ -10,7 +10,7 @@ use lib.Seq.{sets}
 use Rattle.print_text.specs.Decimal.{decimal, digit}
 use Rattle.print_text.specs.Laws.Decimal.{decimal-few, length-few}
 use Rattle.print_text.specs.Theorems.Decimal.{decimal-more, decimal-some, length-more}
-use Rattle.print_text.proofs.Sets.{sets-before}
+use Rattle.print_text.specs.Laws.Sets.{sets-before}
 use Rattle.print_text.proofs.write_number.Statement.{statement}
 use Rattle.print_text.proofs.write_number.Tie as tie
 
@@ -56,15 +56,6 @@ Inv-loop out₀ at n end left₀ i₀ out left i = Digits out₀ at n out left i
 abbrev μ-loop : tie.MeasureT-loop
 μ-loop out₀ at n end left₀ i₀ out left i = left
 
-decimal-length-requires : tie.Need-decimal-length-requires Inv-loop μ-loop
-decimal-length-requires c κs = search needs
-
-add-end : tie.Need-add-end Inv-loop μ-loop
-add-end c = omega arith
-
-sub-i : tie.Need-sub-i Inv-loop μ-loop
-sub-i c = omega (arith, decimal-some (c .before .before .args .n))
-
 loop-holds : tie.Need-loop-holds Inv-loop μ-loop
 loop-holds c =
     let a = c .before .before .args in
@@ -77,31 +68,10 @@ loop-holds c =
       long = refl;
     }
 
-ascii-requires : tie.Need-ascii-requires Inv-loop μ-loop
-ascii-requires c κs = omega arith
-
-slice-write-out : tie.Need-slice-write-out Inv-loop μ-loop
-slice-write-out c = omega arith
-
 sub-i-2 : tie.Need-sub-i-2 Inv-loop μ-loop
 sub-i-2 c =
     let left = c .before .before .loop .left in
     omega (arith, length-more left (c .before .loop-test .taken), decimal-some (left / 10))
-
-loop-less : tie.Need-loop-less Inv-loop μ-loop
-loop-less c = omega arith
-
-loop-again : tie.Need-loop-again Inv-loop μ-loop
-loop-again c = turn (c .ascii .result) (c .before .loop-test .taken) (c .ascii .ensures) (c .before .before .loop .inv)
-
-ascii-requires-2 : tie.Need-ascii-requires-2 Inv-loop μ-loop
-ascii-requires-2 c κs = omega arith
-
-slice-write-out-2 : tie.Need-slice-write-out-2 Inv-loop μ-loop
-slice-write-out-2 c = omega arith
-
-same-length : tie.Need-same-length Inv-loop μ-loop
-same-length c = simp length-set (c .before .before .loop .inv .long)
 
 returns : tie.Need-returns Inv-loop μ-loop
 returns c =
@@ -111,18 +81,7 @@ pub write-number-spec : {M : Type 1} → statement M
 write-number-spec =
     tie.close
     (tie.spec
-    Inv-loop
-    μ-loop
-    decimal-length-requires
-    add-end
-    sub-i
-    loop-holds
-    ascii-requires
-    slice-write-out
-    sub-i-2
-    loop-less
-    loop-again
-    ascii-requires-2
-    slice-write-out-2
-    same-length
-    returns)
+    Inv-loop μ-loop (λ c κs. search needs) (λ c. omega arith) (λ c. omega (arith, decimal-some (c .before .before .args .n))) loop-holds
+    (λ c κs. omega arith) (λ c. omega arith) sub-i-2 (λ c. omega arith)
+    (λ c. turn (c .ascii .result) (c .before .loop-test .taken) (c .ascii .ensures) (c .before .before .loop .inv)) (λ c κs. omega arith)
+    (λ c. omega arith) (λ c. simp length-set (c .before .before .loop .inv .long)) returns)

@@ -7,7 +7,7 @@ use lib.ListN.{length, take, drop, length-set}
 use lib.Seq.{take-all}
 use Rattle.print_text.specs.Lines.{spaced}
 use Rattle.print_text.specs.Puts.{Writes}
-use Rattle.print_text.proofs.Sets.{writes-then, writes-byte, writes-long}
+use Rattle.print_text.specs.Laws.Sets.{writes-then, writes-byte, writes-long}
 use Rattle.print_text.proofs.Spaced.{spaced-left, spaced-take}
 use Rattle.print_text.proofs.write_numbers.Statement.{statement}
 use Rattle.print_text.proofs.write_numbers.Tie as tie
@@ -30,26 +30,11 @@ slice-write-out c =
     let more = spaced-left (c .before .before .before .before .args .numbers .now) (c .before .loop .i) (c .loop-test .taken) in
     omega (arith, writes-long (c .before .loop .inv .2))
 
-add-write-number : tie.Need-add-write-number Inv-loop μ-loop
-add-write-number c = search needs
-
-mul-write-number : tie.Need-mul-write-number Inv-loop μ-loop
-mul-write-number c = search needs
-
-shared-slice-read-write-number : tie.Need-shared-slice-read-write-number Inv-loop μ-loop
-shared-slice-read-write-number c = search needs
-
 write-number-requires : tie.Need-write-number-requires Inv-loop μ-loop
 write-number-requires c κs =
     let more = spaced-left (c .before .before .before .before .before .before .args .numbers .now) (c .before .before .before .loop .i)
     (c .before .before .loop-test .taken) in
     simp length-set (omega (arith, writes-long (c .before .before .before .loop .inv .2)))
-
-add-i : tie.Need-add-i Inv-loop μ-loop
-add-i c = search needs
-
-loop-less : tie.Need-loop-less Inv-loop μ-loop
-loop-less c = search needs
 
 loop-again : tie.Need-loop-again Inv-loop μ-loop
 loop-again c =
@@ -63,9 +48,6 @@ loop-again c =
           (c .before .before .before .before .before .before .loop .inv .2) (writes-then (writes-byte 32) number)),
     )
 
-same-length : tie.Need-same-length Inv-loop μ-loop
-same-length c = writes-long (c .before .loop .inv .2)
-
 returns : tie.Need-returns Inv-loop μ-loop
 returns c =
     let ns = c .before .before .before .before .args .numbers .now in
@@ -76,16 +58,5 @@ pub write-numbers-spec : {M : Type 1} → statement M
 write-numbers-spec =
     tie.close
     (tie.spec
-    Inv-loop
-    μ-loop
-    loop-holds
-    slice-write-out
-    add-write-number
-    mul-write-number
-    shared-slice-read-write-number
-    write-number-requires
-    add-i
-    loop-less
-    loop-again
-    same-length
-    returns)
+    Inv-loop μ-loop loop-holds slice-write-out (λ c. search needs) (λ c. search needs) (λ c. search needs) write-number-requires (λ c. search needs)
+    (λ c. search needs) loop-again (λ c. writes-long (c .before .loop .inv .2)) returns)

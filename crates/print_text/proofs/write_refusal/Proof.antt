@@ -45,27 +45,12 @@ short s = refusal-within (s .args .why) (words (s .κs) (s .args .out) (s .args 
 fits : (s : tie.Start) → s .args .at + length (refusalText (s .args .why)) ≤ length (s .args .out .now)
 fits s = omega (arith, short s, s .pre)
 
-put-refusal-requires : tie.Need-put-refusal-requires
-put-refusal-requires c κs = search needs
-
-enum-known-end : tie.Need-enum-known-end
-enum-known-end c = search needs
-
-enum-told : tie.Need-enum-told
-enum-told c = search needs
-
-same-length : tie.Need-same-length
-same-length c = search needs
-
 returns : tie.Need-returns
 returns c =
     let d = c .before .before .before .before .before in
     let s = d .before .before .before in
     let w = put-writes (fits s) (d .put-refusal .ensures) (c .before .end .given .1) in
     (w, omega (arith, w .place, short s))
-
-same-length-2 : tie.Need-same-length-2
-same-length-2 c = search needs
 
 returns-2 : tie.Need-returns-2
 returns-2 c =
@@ -74,4 +59,4 @@ returns-2 c =
     absurd (put-fits (fits s) (d .put-refusal .ensures) (c .enum-told .given .1))
 
 pub write-refusal-spec : {M : Type 1} → statement M
-write-refusal-spec = tie.close (tie.spec put-refusal-requires enum-known-end enum-told same-length returns same-length-2 returns-2)
+write-refusal-spec = tie.close (tie.spec (λ c κs. search needs) (λ c. search needs) (λ c. search needs) (λ c. search needs) returns (λ c. search needs) returns-2)

@@ -1,21 +1,18 @@
--- Laws of `sets`, the list with a run of stores made in it: one run after another, a store behind a run, a store before a run.
+-- Laws of `sets`, the list with a run of stores made in it: one run after another, a store behind a run, a store before a run; and of text behind text in
+-- a buffer where it is known to fit.
 use mathlib.Core.Path.{_≡_, refl, sym, ap, _∙_}
 use mathlib.Core.List.{List, [], _∷_, _++_}
 use Prim.Native.Nat.{ℕ, suc, _+_, _<_, _≤_}
 use native.Mathlib.Nat.{add-zero, add-suc, suc-add}
 use native.Mathlib.Numerals.{add-one}
 use native.Mathlib.Omega.{arith}
-use lib.ListN.{length, getD, take, set, length-append}
-use lib.Seq.{sets, length-sets, set-comm, take-suc, length-take-le}
+use lib.ListN.{length, getD, take, drop, set, length-append}
+use lib.Seq.{sets, sets-eq, length-sets, set-comm, take-suc, length-take-le}
 use Rattle.print_text.specs.Puts.{Writes}
-
-module _ (l : List ℕ) (i : ℕ) where
-  sets-start : (ys : List ℕ) → sets l i ys ≡ sets l (i + 0) ys
-  sets-start ys = ap (λ (k : ℕ). sets l k ys) (sym (add-zero i))
 
 -- A run of stores and another behind it are one run.
 pub sets-append : (l : List ℕ) (i : ℕ) (xs ys : List ℕ) → sets l i (xs ++ ys) ≡ sets (sets l i xs) (i + length xs) ys
-sets-append l i [] ys = sets-start l i ys
+sets-append l i [] ys = ap (λ (k : ℕ). sets l k ys) (sym (add-zero i))
 sets-append l i (x ∷ xs) ys =
     sets-append (set l i x) (suc i) xs ys
     ∙ ap (λ (k : ℕ). sets (sets (set l i x) (suc i) xs) k ys) (suc-add i (length xs) ∙ sym (add-suc i (length xs)))
@@ -43,7 +40,10 @@ writes-then {a} {b} {old} {mid} {new} {at} {m} {end} p q =
       buffer = q .buffer ∙ ap (λ (l : List ℕ). sets l m b) (p .buffer) ∙ ap (λ (k : ℕ). sets (sets old at a) k b) (p .place) ∙ sym (sets-append old at a b);
     }
 
--- One byte is text.
+-- No text, and one byte, are text.
+pub writes-none : (old : List ℕ) (at : ℕ) → Writes [] old at at old
+writes-none old at = record { place = omega arith; buffer = refl }
+
 pub writes-byte : (b : ℕ) {old : List ℕ} {at : ℕ} → Writes (b ∷ []) old at (at + 1) (set old at b)
 writes-byte b = record { place = refl; buffer = refl }
 
@@ -54,3 +54,9 @@ writes-long {text} {old} {new} {at} p = ap length (p .buffer) ∙ length-sets ol
 -- Where two texts fit, the second has room behind the first.
 pub writes-room : (a b : List ℕ) {old mid : List ℕ} {at m : ℕ} → at + length (a ++ b) ≤ length old → Writes a old at m mid → m + length b ≤ length mid
 writes-room a b h p = omega (arith, p .place, writes-long p, length-append a b)
+
+-- What is written from the front on, where it fits.
+pub writes-front : {text old new : List ℕ} {end : ℕ} → length text ≤ length old → Writes text old 0 end new → new ≡ text ++ drop (length text) old
+writes-front {text} {old} h p =
+    let none : 0 + length text ≡ length text = omega arith in
+    p .buffer ∙ sets-eq text old 0 (omega arith) ∙ ap (λ (k : ℕ). text ++ drop k old) none
