@@ -2,16 +2,21 @@
 use borrow.Fn.Kinds.{endedOf}
 use contract.Lifetimes.{Lfts}
 use denote.Triple.Clauses.{AtExit}
-use Rattle.refusal.specs.Laws.Outcome.{OneView}
-use Rattle.refusal.specs.Laws.Pick.{paired}
+use Rattle.refusal.specs.Laws.Outcome.{OneOutcome, OneView}
+use Rattle.refusal.specs.Laws.Pick.{determined, paired}
 use Rattle.output.specs.Output.{Lent, lent}
 use Rattle.output.specs.declared.Output.{Output}
 use Rattle.form_build.specs.Theorems.Paged.{one-built-in}
 use Rattle.form_build.specs.Theorems.Unique.{one-file-build}
+use Rattle.form_build.proofs.chosen.Kinds as chosen-kinds
+use Rattle.form_build.proofs.chosen.Reads as chosen-reads
 use Rattle.form_build.proofs.build_with.Kinds as with-kinds
 use Rattle.form_build.proofs.build_with.Reads as with-reads
 use Rattle.form_build.proofs.build_file.Kinds as build-kinds
 use Rattle.form_build.proofs.build_file.Reads as build-reads
+
+pub chosen-unique : OneOutcome 0 chosen-kinds.ps chosen-kinds.r chosen-reads.Learnt
+chosen-unique κs a x y e f p q = determined p q
 
 -- what is lent to the build, at exit
 abbrev fileLent : (κs : Lfts 5) → AtExit (endedOf 5 build-kinds.ps build-kinds.r) κs → Lent

@@ -17,13 +17,13 @@ ghost use Rattle.form_build.specs.Paged.{BuiltIn};
 ghost use Rattle.form_build.specs.Filed.{choicesOf, FileBuilt, HeldIn};
 
 // Room for the lists of any sound file. A node takes 8 of its 65,536 bytes, and 5 more in each row.
-const ROOM: usize = 8_192;
+pub const ROOM: usize = 8_192;
 
-const CELLS: usize = 13_107;
+pub const CELLS: usize = 13_107;
 
 // What a file chooses, with the fill's choice, which no form carries: its pass limit, and whether bank 0 may be used. "From form 2 on, labels, written
 // items and reserves in bank 0 are refused even when it is alone."
-fn chosen(shape: Shape, fill: u8) -> Choices
+pub fn chosen(shape: Shape, fill: u8) -> Choices
     ensures { λ r. ⌜ r ≡ choicesOf shape fill ⌝ }
 {
     Choices {
