@@ -39,15 +39,22 @@ doneText k bits offsets sized image =
     layoutText k (length (blocksOf (spansOf offsets sized))) (origins (blocksOf (spansOf offsets sized)))
     (sizes (blocksOf (spansOf offsets sized))) (hexOf image bits)
 
--- the text of a build over the visits of its last pass. "A refusal prints `refused`, number and place, one space between."
+-- The text of a build over the visits of its last pass, where `done` is that of an accepted one. "A refusal prints `refused`, number and place, one space
+-- between."
+abbrev pub answerBy : (ℕ → ℕ → List ℕ → List ℕ → List ℕ → List ℕ) → Bankdefs → List Visit → List ℕ → Build → List ℕ
+answerBy done banks vs values (Refused why) = refusalText why
+answerBy done banks vs values (Done k bits spans) =
+    done k bits (words (spansIn vs)) (spanSizes (spansIn vs)) (imageOf values (blankOf (banksOf banks) bits imageRoom) (itemsOf vs))
+
 abbrev pub answerText : Bankdefs → List Visit → List ℕ → Build → List ℕ
-answerText banks vs values (Refused why) = refusalText why
-answerText banks vs values (Done k bits spans) =
-    doneText k bits (words (spansIn vs)) (spanSizes (spansIn vs)) (imageOf values (blankOf (banksOf banks) bits imageRoom) (itemsOf vs))
+answerText = answerBy doneText
 
 -- The program's whole output for a file, a fill and a page size, if there is one: of its build, in the room that the program lends.
+abbrev pub builtBy : (ℕ → ℕ → List ℕ → List ℕ → List ℕ → List ℕ) → List ℕ → Output → List ℕ
+builtBy done file answer = answerBy done (tableOf file) (fileVisits file (answer .passes)) (listsIn file .values) (answer .build)
+
 abbrev pub builtText : List ℕ → Output → List ℕ
-builtText file answer = answerText (tableOf file) (fileVisits file (answer .passes)) (listsIn file .values) (answer .build)
+builtText = builtBy doneText
 
 unfoldable pub reportText : List ℕ → ℕ → Opt → List ℕ
 reportText file fill page = builtText file (fileOutput file fill page lentRoom)

@@ -23,9 +23,12 @@ Fitting (Done k bits n) image offsets sized =
     × (acceptable (take n offsets) (take n sized) ≡ true)
 
 -- The text, from the spans at the front of the lent lists.
+abbrev pub answeredBy : (ℕ → ℕ → List ℕ → List ℕ → List ℕ → List ℕ) → Build → List ℕ → List ℕ → List ℕ → List ℕ
+answeredBy done (Refused why) image offsets sized = refusalText why
+answeredBy done (Done k bits n) image offsets sized = done k bits (take n offsets) (take n sized) image
+
 abbrev pub answered : Build → List ℕ → List ℕ → List ℕ → List ℕ
-answered (Refused why) image offsets sized = refusalText why
-answered (Done k bits n) image offsets sized = doneText k bits (take n offsets) (take n sized) image
+answered = answeredBy doneText
 
 -- "offset .. 0 to 4,294,967,295": of each bank in a table
 abbrev pub OffsetFits : Opt → Type 0

@@ -1,5 +1,5 @@
 -- What the program hands to standard output for the bytes of a layout file: the image as records, or why not.
-use mathlib.Core.Bool.{Bool, _&&_, _||_}
+use mathlib.Core.Bool.{Bool}
 use mathlib.Core.List.{List, [], _∷_, _++_}
 use mathlib.Core.Path.{_≡_}
 use Prim.Native.Nat.{ℕ, _+_, _*_, _/_, _≤_}
@@ -8,45 +8,28 @@ use lib.ListN.{length}
 use Rattle.refusal.specs.Pick.{pick}
 use Rattle.refusal.specs.declared.Opt.{Opt}
 use Rattle.refusal.specs.declared.Refusal.{Refusal}
-use Rattle.refusal.specs.declared.Refusal.the-variants.{Malformed, BadPart}
-use Rattle.bankdef.specs.Check.{banksOf}
 use Rattle.bankdef.specs.declared.Bankdefs.{Bankdefs}
 use Rattle.blocks.specs.Spans.{spansOf}
 use Rattle.blocks.specs.Walk.{block, blocksOf}
 use Rattle.blocks.specs.declared.Block.{Block}
-use Rattle.build_sights.specs.Items.{itemsOf, imageOf}
-use Rattle.build_sights.specs.Spans.{spansOf as spansIn, words, sizes as spanSizes}
 use Rattle.build_sights.specs.declared.Visit.{Visit}
-use Rattle.build_write.specs.Blank.{blankOf}
 use Rattle.output.specs.declared.Build.{Build}
-use Rattle.output.specs.declared.Build.the-variants.{Done, Refused}
 use Rattle.output.specs.declared.Output.{Output}
-use Rattle.form_fields.specs.Banks.{tableOf}
-use Rattle.form_build.specs.Filed.{listsIn, fileOutput, fileVisits}
+use Rattle.form_build.specs.Filed.{fileOutput}
 use Rattle.print_text.specs.Ascii.{ascii}
 use Rattle.print_text.specs.Lines.{refusalText}
-use Rattle.print_report.specs.Report.{imageRoom, lentRoom}
+use Rattle.print_report.specs.Report.{lentRoom, answerBy, builtBy}
 use Rattle.print_report.specs.Room.{fileRoom}
-use Rattle.record_srec.specs.Writing.{widthOk}
-use Rattle.record_write.specs.Checks.{allParts, allPlaced}
-use Rattle.record_write.specs.Text.{textOf}
+use Rattle.thm_record_room.specs.Records.{recordsOr}
 use Rattle.prog_records.specs.declared.Wanted.{Wanted}
-
--- A format is 0, Intel HEX, or the width of S-records' addresses, which none of them is past.
-abbrev pub formatOk : ℕ → ℕ → List Block → Bool
-formatOk format load blocks = eqb format 0 || widthOk format load blocks
 
 -- Blocks of a layout that was accepted, refused: the refusal's line, and one that says so.
 abbrev pub refusedText : Refusal → List ℕ
 refusedText why = refusalText why ++ ascii "records\n"
 
--- Document 02, Ticket 1: "Refusals: 16 for a block by document 01's rule, 4 for blocks not ascending or sharing a bit, an address past 2^32 - 1";
--- Ticket 12: "4 also for an address that doesn't fit the width". There is room for every file, so that 14 is not given.
-unfoldable pub recordsOf : ℕ → ℕ → List ℕ → List Block → List ℕ
-recordsOf format load image blocks =
-    pick (allParts (length image) blocks)
-    (pick (formatOk format load blocks && allPlaced load blocks) (textOf format load image blocks) (refusedText (Malformed 0)))
-    (refusedText BadPart)
+-- The records of blocks, in a room in which every file fits, or those lines.
+abbrev pub recordsOf : ℕ → ℕ → List ℕ → List Block → List ℕ
+recordsOf = recordsOr refusedText
 
 -- The whole image as one block of whole bytes; an image without bits has none.
 abbrev pub wholeBlocks : ℕ → List Block
@@ -59,14 +42,12 @@ blocksBy whole bits offsets sized = pick whole (wholeBlocks bits) (blocksOf (spa
 abbrev pub doneText : Wanted → ℕ → List ℕ → List ℕ → List ℕ → List ℕ
 doneText w bits offsets sized image = recordsOf (w .format) (w .load) image (blocksBy (w .whole) bits offsets sized)
 
--- of a build over the visits of its last pass; "A refusal prints `refused`, number and place, one space between."
+-- of a build over the visits of its last pass, and of a file's
 abbrev pub answerText : Wanted → Bankdefs → List Visit → List ℕ → Build → List ℕ
-answerText w banks vs values (Refused why) = refusalText why
-answerText w banks vs values (Done k bits spans) =
-    doneText w bits (words (spansIn vs)) (spanSizes (spansIn vs)) (imageOf values (blankOf (banksOf banks) bits imageRoom) (itemsOf vs))
+answerText w = answerBy (λ k. doneText w)
 
 abbrev pub builtText : Wanted → List ℕ → Output → List ℕ
-builtText w file answer = answerText w (tableOf file) (fileVisits file (answer .passes)) (listsIn file .values) (answer .build)
+builtText w = builtBy (λ k. doneText w)
 
 -- The program's whole output for a file, what is wanted of it, a fill and a page size, if there is one.
 unfoldable pub recordsText : Wanted → List ℕ → ℕ → Opt → List ℕ

@@ -8,6 +8,7 @@
 // where the layout was accepted and its blocks were not written.
 use blocks::Blocks;
 use output::Build;
+use prog_asked::choice;
 use record_write::Written;
 use refusal::Opt;
 use refusal::Refusal;
@@ -23,7 +24,7 @@ ghost use Rattle.print_report.specs.Report.{imageRoom, spanRoom};
 ghost use Rattle.print_report.specs.Steps.{Fitting};
 ghost use Rattle.prog_args.specs.Text.{Stands, Shows};
 ghost use Rattle.prog_records.specs.Program.{refusedText, recordsOf, wholeBlocks, doneText, recordsText, Recorded};
-ghost use Rattle.prog_records.specs.Steps.{textRoom, answered, Puts};
+ghost use Rattle.prog_records.specs.Steps.{textRoom, answered};
 
 // Room for the longest file and a byte more, so that none is cut to a sound one.
 const FILE: usize = 65_537;
@@ -44,36 +45,10 @@ fn put_refused(why: Refusal, out: &mut [u8]) -> usize
     ensures { λ r. ⌜ Stands (refusedText why) (now (out .entry)) r (now (out .exit)) ⌝ }
 {
     let at = prog_args::put_refusal(why, out);
-    let print_text::Written::To(end) = print_text::put_word(out, at, b"records\n") else {
-        return 0;
-    };
-    end
+    print_text::write_word(out, at, b"records\n")
 }
 
-// The blocks as records. There is room for every file, so that 14 is not given.
-fn put(
-    format: u8,
-    load: u32,
-    image: &[u8],
-    offsets: &[u64],
-    sizes: &[u64],
-    out: &mut [u8],
-) -> Written
-    requires { ⌜ length (now image) ≤ imageRoom ⌝ }
-    requires { ⌜ length (now offsets) ≤ spanRoom ⌝ }
-    requires { ⌜ length (now offsets) ≡ length (now sizes) ⌝ }
-    requires { ⌜ textRoom ≤ length (now out) ⌝ }
-    ensures { λ r. ⌜
-        Puts format load (now (image .entry)) (blocksIn (now (offsets .entry)) (now (sizes .entry))) (now (out .entry)) r (now (out .exit))
-        ⌝ }
-{
-    if format == 0 {
-        return record_ihex::write_ihex(image, offsets, sizes, load, out);
-    }
-    record_srec::write_srec(image, offsets, sizes, load, format, out)
-}
-
-// The text of blocks: their records, or why not.
+// The text of blocks: their records, or why not. There is room for every file, so that 14 is not given.
 fn put_records(
     format: u8,
     load: u32,
@@ -90,7 +65,7 @@ fn put_records(
         Stands (recordsOf format load (now (image .entry)) (blocksIn (now (offsets .entry)) (now (sizes .entry)))) (now (out .entry)) r (now (out .exit))
         ⌝ }
 {
-    let written = put(format, load, image, offsets, sizes, out);
+    let written = record_write::write(format, image, offsets, sizes, load, out);
     match written {
         Written::Refused(why) => put_refused(why, out),
         Written::Length(length) => length as usize,
@@ -281,13 +256,6 @@ fn run(wanted: Wanted, fill: u8, page: Opt) -> usize
     let n = io::read_full(0, &mut file);
     let mut text = [0u8; TEXT];
     write(wanted, &file[..n], fill, page, &mut text)
-}
-
-// A choice that no byte holds is as unknown as 255.
-fn choice(n: u32) -> u8
-    ensures { λ r. ⌜ r ≡ min n 255 ⌝ }
-{
-    if n < 255 { n as u8 } else { 255 }
 }
 
 fn main() {

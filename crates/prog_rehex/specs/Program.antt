@@ -1,21 +1,19 @@
 -- What the program hands to standard output for the bytes of a file of records: the same bytes at the same addresses as records of the kind that is asked
 -- for, or why not.
-use mathlib.Core.Bool.{Bool, _||_}
 use mathlib.Core.List.{List, [], _∷_, _++_}
 use mathlib.Core.Path.{_≡_}
 use Prim.Native.Nat.{ℕ, _≤_}
-use lib.Dec.{leb, eqb}
+use lib.Dec.{leb}
 use lib.ListN.{length}
 use Rattle.refusal.specs.Pick.{pick}
 use Rattle.refusal.specs.declared.Refusal.the-variants.{Malformed, TooShort}
-use Rattle.blocks.specs.declared.Block.{Block}
 use Rattle.print_text.specs.Ascii.{ascii}
 use Rattle.print_text.specs.Lines.{line, refusalText}
 use Rattle.record_fault.specs.Reading.{Read, sound, faulty, readText}
 use Rattle.record_read.specs.Given.{filled}
 use Rattle.record_read.specs.Runs.{reach, blocksGiven}
-use Rattle.record_srec.specs.Writing.{widthOk}
 use Rattle.record_write.specs.Text.{textOf}
+use Rattle.thm_record_room.specs.Records.{formatOk}
 
 -- How long a file may be, how many bytes from the load address on it may give, and in how many blocks.
 abbrev pub longest : ℕ
@@ -26,10 +24,6 @@ bytesRoom = 1048576
 
 abbrev pub blocksRoom : ℕ
 blocksRoom = 4096
-
--- A format is 0, Intel HEX, or the width of S-records' addresses, which none of them is past.
-abbrev pub formatOk : ℕ → ℕ → List Block → Bool
-formatOk format load blocks = eqb format 0 || widthOk format load blocks
 
 -- Behind a refusal, the line at which no good file goes on, from 0, where there is one.
 abbrev pub faultText : Read → List ℕ

@@ -5,22 +5,22 @@
 // LOAD is the lowest address at which the file may give bytes. A refusal is one line on standard output, `refused` with its number and place, and where a
 // line of the file is at fault one more with its number, from 0.
 use blocks::Blocks;
+use prog_asked::choice;
 use record_fault::Fault;
 use record_write::Written;
 use refusal::Opt;
 use refusal::Refusal;
 ghost use mathlib.Core.List.{_++_};
 ghost use mathlib.Core.Path.{_≡_};
-ghost use Prim.Native.Nat.{_≤_, min};
+ghost use Prim.Native.Nat.{_≤_};
 ghost use lib.ListN.{length};
 ghost use Rattle.print_text.specs.Lines.{refusalText};
 ghost use Rattle.print_text.specs.Puts.{Puts};
 ghost use Rattle.print_text.specs.declared.Written.the-variants.{To};
 ghost use Rattle.prog_args.specs.Text.{lineRoom, Stands, Shows};
 ghost use Rattle.record_fault.specs.Reading.{faulty, readText};
-ghost use Rattle.record_write.specs.Cut.{blocksIn};
 ghost use Rattle.prog_rehex.specs.Program.{bytesRoom, blocksRoom, faultText, turnedText, Turned};
-ghost use Rattle.prog_rehex.specs.Steps.{textRoom, Records, Turns};
+ghost use Rattle.prog_rehex.specs.Steps.{textRoom, Turns};
 
 // The longest file that is read, and a byte more, so that nothing is cut to a sound file.
 const SOURCE: usize = 3_276_801;
@@ -33,30 +33,7 @@ const BLOCKS: usize = 4_096;
 // Room for those bytes as records of 16 in the longest kind, and for a short record more in each block and 64 KiB line.
 const TEXT: usize = 3_145_728;
 
-// The bytes and blocks as records. There is room for every file, so that 14 is not given.
-fn put(
-    format: u8,
-    load: u32,
-    bytes: &[u8],
-    offsets: &[u64],
-    sizes: &[u64],
-    out: &mut [u8],
-) -> Written
-    requires { ⌜ length (now bytes) ≤ bytesRoom ⌝ }
-    requires { ⌜ length (now offsets) ≤ blocksRoom ⌝ }
-    requires { ⌜ length (now offsets) ≡ length (now sizes) ⌝ }
-    requires { ⌜ textRoom ≤ length (now out) ⌝ }
-    ensures { λ r. ⌜
-        Records format load (now (bytes .entry)) (blocksIn (now (offsets .entry)) (now (sizes .entry))) (now (out .entry)) r (now (out .exit))
-        ⌝ }
-{
-    if format == 0 {
-        return record_ihex::write_ihex(bytes, offsets, sizes, load, out);
-    }
-    record_srec::write_srec(bytes, offsets, sizes, load, format, out)
-}
-
-// What a file of a kind gives, as records.
+// What a file of a kind gives, as records. There is room for every file, so that 14 is not given.
 fn turn(
     kind: u8,
     format: u8,
@@ -80,7 +57,7 @@ fn turn(
         Blocks::Refused(why) => Written::Refused(why),
         Blocks::Found(count) => {
             let n = count as usize;
-            put(format, load, bytes, &offsets[..n], &sizes[..n], out)
+            record_write::write(format, bytes, &offsets[..n], &sizes[..n], load, out)
         }
     }
 }
@@ -92,10 +69,7 @@ fn put_line(at: usize, line: u64, out: &mut [u8]) -> usize
     ensures { λ r. ⌜ Puts (faultText (faulty line)) (now (out .entry)) at (To r) (now (out .exit)) ⌝ }
 {
     let numbers = [line];
-    let print_text::Written::To(end) = print_text::put_line(out, at, b"line", &numbers) else {
-        return 0;
-    };
-    end
+    print_text::write_line(out, at, b"line", &numbers)
 }
 
 // A refusal's line, and one with the line at fault where there is one.
@@ -197,13 +171,6 @@ fn start(
     ensures { λ r. ⌜ Turned kind format load r ⌝ }
 {
     run(kind, format, load, source, bytes, offsets, sizes, out)
-}
-
-// A kind or a format that no byte holds is as unknown as 255.
-fn choice(n: u32) -> u8
-    ensures { λ r. ⌜ r ≡ min n 255 ⌝ }
-{
-    if n < 255 { n as u8 } else { 255 }
 }
 
 fn main() {

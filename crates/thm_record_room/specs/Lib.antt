@@ -1,4 +1,5 @@
 pub mod Calls
 pub mod Pieces
+pub mod Records
 pub mod Theorems
 pub mod Laws

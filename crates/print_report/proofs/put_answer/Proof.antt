@@ -5,15 +5,6 @@ use borrow.Author.Needs.{needs}
 use Rattle.print_report.proofs.put_answer.Statement.{statement}
 use Rattle.print_report.proofs.put_answer.Tie as tie
 
-enum-known-build : tie.Need-enum-known-build
-enum-known-build c = search needs
-
-put-refusal-requires : tie.Need-put-refusal-requires
-put-refusal-requires c κs = search needs
-
-enum-known-build-2 : tie.Need-enum-known-build-2
-enum-known-build-2 c = search needs
-
 slice-aggregate-put-accepted : tie.Need-slice-aggregate-put-accepted
 slice-aggregate-put-accepted c =
     let f = rw (c .before .before .build2 .given .1) at (c .before .before .before .before .before .before .before .before .pre) in
@@ -30,15 +21,6 @@ put-accepted-requires c κs =
     let f = rw (d .build2 .given .1) at (d .before .before .before .before .before .before .pre) in
     (f .0, (f .1, f .4))
 
-same-length : tie.Need-same-length
-same-length c = search needs
-
-returns : tie.Need-returns
-returns c = rw (c .before .before .before .before .before .build .given .1) (c .before .before .put-refusal .ensures)
-
-same-length-2 : tie.Need-same-length-2
-same-length-2 c = search needs
-
 returns-2 : tie.Need-returns-2
 returns-2 c = rw (c .before .before .before .before .before .before .before .build2 .given .1) (c .before .before .put-accepted .ensures)
 
@@ -46,13 +28,6 @@ pub put-answer-spec : {M : Type 1} → statement M
 put-answer-spec =
     tie.close
     (tie.spec
-    enum-known-build
-    put-refusal-requires
-    enum-known-build-2
-    slice-aggregate-put-accepted
-    slice-aggregate-put-accepted-2
-    put-accepted-requires
-    same-length
-    returns
-    same-length-2
-    returns-2)
+    (λ c. search needs) (λ c κs. search needs) (λ c. search needs) slice-aggregate-put-accepted slice-aggregate-put-accepted-2 put-accepted-requires
+    (λ c. search needs) (λ c. rw (c .before .before .before .before .before .build .given .1) (c .before .before .put-refusal .ensures))
+    (λ c. search needs) returns-2)

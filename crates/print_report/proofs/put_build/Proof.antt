@@ -29,9 +29,6 @@ built : (d : tie.After-build-file)
     → FileBuilt (begin d .args .file .now) (begin d .args .fill) (begin d .args .page) (old (begin d)) (d .build-file .result) (new d)
 built d = d .build-file .ensures
 
-build-file-requires : tie.Need-build-file-requires
-build-file-requires c κs = search needs
-
 put-answer-requires : tie.Need-put-answer-requires
 put-answer-requires c κs =
     let d = c .before .before .before .before .before .before .before .before .before .before .before in
@@ -42,21 +39,6 @@ put-answer-requires c κs =
     (c .before .before .before .before .before .before .before .before .before .before .image .given ∙ p .0)
     (c .before .before .before .before .before .before .before .offsets .given ∙ p .1 .1 .0)
     (c .before .before .before .before .before .sizes .given ∙ p .1 .1 .1)
-
-same-length : tie.Need-same-length
-same-length c = search needs
-
-same-length-2 : tie.Need-same-length-2
-same-length-2 c = search needs
-
-same-length-3 : tie.Need-same-length-3
-same-length-3 c = search needs
-
-same-length-4 : tie.Need-same-length-4
-same-length-4 c = search needs
-
-same-length-5 : tie.Need-same-length-5
-same-length-5 c = search needs
 
 returns : tie.Need-returns
 returns c =
@@ -71,11 +53,5 @@ pub put-build-spec : {M : Type 1} → statement M
 put-build-spec =
     tie.close
     (tie.spec
-    build-file-requires
-    put-answer-requires
-    same-length
-    same-length-2
-    same-length-3
-    same-length-4
-    same-length-5
+    (λ c κs. search needs) put-answer-requires (λ c. search needs) (λ c. search needs) (λ c. search needs) (λ c. search needs) (λ c. search needs)
     returns)

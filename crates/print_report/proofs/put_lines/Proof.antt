@@ -18,28 +18,10 @@ digits d =
     let p = begin d .pre in
     hex-part (a .image .now) (a .bits) (a .hex .now) (d .write-hex .result) (d .write-hex .last .1 .1 .0) (d .write-hex .ensures) (p .0) (p .1 .1)
 
-write-hex-requires : tie.Need-write-hex-requires
-write-hex-requires c κs = search needs
-
-add-digits : tie.Need-add-digits
-add-digits c = search needs
-
-slice-reshare-prefix-put-layout : tie.Need-slice-reshare-prefix-put-layout
-slice-reshare-prefix-put-layout c = search needs
-
 slice-aggregate-put-layout : tie.Need-slice-aggregate-put-layout
 slice-aggregate-put-layout c =
     let d = c .before .before .before .before in
     sym (ap length (digits d) ∙ length-hexOf (begin d .args .image .now) (begin d .args .bits))
-
-put-layout-requires : tie.Need-put-layout-requires
-put-layout-requires c κs = search needs
-
-same-length : tie.Need-same-length
-same-length c = search needs
-
-same-length-2 : tie.Need-same-length-2
-same-length-2 c = search needs
 
 returns : tie.Need-returns
 returns c = rw (← digits (c .before .before .before .before .before .before .before)) (c .before .before .put-layout .ensures)
@@ -48,11 +30,5 @@ pub put-lines-spec : {M : Type 1} → statement M
 put-lines-spec =
     tie.close
     (tie.spec
-    write-hex-requires
-    add-digits
-    slice-reshare-prefix-put-layout
-    slice-aggregate-put-layout
-    put-layout-requires
-    same-length
-    same-length-2
-    returns)
+    (λ c κs. search needs) (λ c. search needs) (λ c. search needs) slice-aggregate-put-layout (λ c κs. search needs) (λ c. search needs)
+    (λ c. search needs) returns)

@@ -31,20 +31,21 @@ use Rattle.form_fields.specs.declared.Form.the-variants.{Sound, Broken}
 use Rattle.form_fields.specs.declared.Shape.{Shape}
 use Rattle.build_paged.specs.InProfile.{saidOf}
 use Rattle.form_build.specs.Paged.{afterSaid, outputIn}
-use Rattle.form_build.specs.Filed.{listsIn, choicesOf, outputBy, FileBuilt}
+use Rattle.form_build.specs.Filed.{listsIn, choicesOf, outputBy, fileOutput, FileBuilt}
 use Rattle.print_text.specs.Lines.{refusalText}
-use Rattle.print_report.specs.Report.{imageRoom, spanRoom, lentRoom, doneText, answerText, builtText, reportText}
-use Rattle.print_report.specs.Steps.{Fitting, answered, OffsetsFit}
+use Rattle.print_report.specs.Report.{imageRoom, spanRoom, lentRoom, doneText, answerBy, builtBy, reportText}
+use Rattle.print_report.specs.Steps.{Fitting, answeredBy, answered, OffsetsFit}
 use Rattle.print_report.specs.Laws.Accepted.{small-cells, Fits, fits-settled}
 use Rattle.print_report.specs.Laws.Fitting.{fit-acceptable, build-spans-fit}
 use Rattle.print_report.specs.Laws.Table.{word-fits, table-fits}
 
--- what is printed of a layout
-abbrev layoutText : Input → Output → List ℕ
-layoutText b answer = answerText (b .banks) (visitsOf b (answer .passes)) (b .lists .values) (answer .build)
+-- what is printed of a layout, where `done` is the text of an accepted one
+module _ (done : ℕ → ℕ → List ℕ → List ℕ → List ℕ → List ℕ) where
+  abbrev layoutText : Input → Output → List ℕ
+  layoutText b answer = answerBy done (b .banks) (visitsOf b (answer .passes)) (b .lists .values) (answer .build)
 
-abbrev laidText : Input → List ℕ
-laidText b = layoutText b (buildOf b lentRoom)
+  abbrev laidText : Input → List ℕ
+  laidText b = layoutText b (buildOf b lentRoom)
 
 module _ (b : Input) (old : Lent) (hi : length (old .image) ≡ imageRoom) (ha : length (old .addresses) ≡ spanRoom) (ho : length (old .offsets) ≡ spanRoom)
     (hs : length (old .sizes) ≡ spanRoom) (r : Output) (new : Lent) (answer : r ≡ buildOf b (roomOf old))
@@ -54,9 +55,6 @@ module _ (b : Input) (old : Lent) (hi : length (old .image) ≡ imageRoom) (ha :
 
   answer-is : r ≡ buildOf b lentRoom
   answer-is = answer ∙ ap (buildOf b) room-is
-
-  refused-build : (why : Refusal) → r .build ≡ Refused why → refusalText why ≡ laidText b
-  refused-build why e = ap (answerText (b .banks) (visitsOf b (r .passes)) (b .lists .values)) (sym e) ∙ ap (layoutText b) answer-is
 
   module _ (k bits n : ℕ) (e : r .build ≡ Done k bits n) where
     abbrev spans : List Span
@@ -89,15 +87,14 @@ module _ (b : Input) (old : Lent) (hi : length (old .image) ≡ imageRoom) (ha :
         ap (λ (x : Lent). x .image) left-is
         ∙ ap (λ (m : ℕ). imageOf (b .lists .values) (blankOf (banksOf (b .banks)) bits m) (itemsOf (visitsOf b (r .passes)))) hi
 
-    done-build : doneText k bits (take n (new .offsets)) (take n (new .sizes)) (new .image) ≡ laidText b
-    done-build =
-        ap₂ (λ (a c : List ℕ). doneText k bits a c (new .image)) offsets-part sizes-part ∙ ap (doneText k bits (words spans) (sizes spans)) image-is
-        ∙ ap (answerText (b .banks) (visitsOf b (r .passes)) (b .lists .values)) (sym e) ∙ ap (layoutText b) answer-is
-
-  -- whatever the build answers
-  build-text : (q : Build) → r .build ≡ q → answered q (new .image) (new .offsets) (new .sizes) ≡ laidText b
-  build-text (Refused why) e = refused-build why e
-  build-text (Done k bits n) e = done-build k bits n e
+  -- the text, whatever the build answers
+  module _ (done : ℕ → ℕ → List ℕ → List ℕ → List ℕ → List ℕ) where
+    build-text : (q : Build) → r .build ≡ q → answeredBy done q (new .image) (new .offsets) (new .sizes) ≡ laidText done b
+    build-text (Refused why) e = ap (answerBy done (b .banks) (visitsOf b (r .passes)) (b .lists .values)) (sym e) ∙ ap (layoutText done b) answer-is
+    build-text (Done k bits n) e =
+        ap₂ (λ (a c : List ℕ). done k bits a c (new .image)) (offsets-part k bits n e) (sizes-part k bits n e)
+        ∙ ap (done k bits (words (spans k bits n e)) (sizes (spans k bits n e))) (image-is k bits n e)
+        ∙ ap (answerBy done (b .banks) (visitsOf b (r .passes)) (b .lists .values)) (sym e) ∙ ap (layoutText done b) answer-is
 
   -- where each number is within its type's range
   module _ (banks-fit : OffsetsFit (b .banks)) (small : (i : ℕ) → getD (b .lists .numbers) i 0 ≤ maxPosition) where
@@ -122,27 +119,12 @@ module _ (file : List ℕ) (fill : ℕ) (page : Opt) (bytes : (i : ℕ) → getD
   told : (f : Form) → formOf file ≡ f → r ≡ outputBy file fill page (roomOf old) f
   told f e = built .answer ∙ ap (outputBy file fill page (roomOf old)) e
 
-  -- an answer, with what the build left
-  abbrev textOf : Output → List ℕ
-  textOf o = answered (o .build) (new .image) (new .offsets) (new .sizes)
-
   abbrev FitsNow : Output → Type 0
   FitsNow o = Fitting (o .build) (new .image) (new .offsets) (new .sizes)
 
   module _ (s : Shape) where
     abbrev given : Input
     given = input (tableOf file) (listsIn file) (choicesOf s fill)
-
-    text-built : r ≡ buildOf given (roomOf old) → textOf r ≡ builtText file (buildOf given lentRoom)
-    text-built e = build-text given old hi ha ho hs r new e (built .left) (r .build) refl
-
-    text-said : (v : Verdict) → r ≡ afterSaid v (buildOf given (roomOf old)) → textOf r ≡ builtText file (afterSaid v (buildOf given lentRoom))
-    text-said Accepted e = text-built e
-    text-said (TurnedAway why) e = ap textOf e
-
-    text-in : (p : Opt) → r ≡ outputIn p given (roomOf old) → textOf r ≡ builtText file (outputIn p given lentRoom)
-    text-in None e = text-built e
-    text-in (Some bits) e = text-said (saidOf bits given) e
 
     module _ (gi : length (new .image) ≡ imageRoom) (go : length (new .offsets) ≡ spanRoom) (gs : length (new .sizes) ≡ spanRoom) where
       fits-built : r ≡ buildOf given (roomOf old) → FitsNow r
@@ -158,14 +140,6 @@ module _ (file : List ℕ) (fill : ℕ) (page : Opt) (bytes : (i : ℕ) → getD
       fits-in None e = fits-built e
       fits-in (Some bits) e = fits-said (saidOf bits given) e
 
-  text-by : (f : Form) → formOf file ≡ f → textOf r ≡ builtText file (outputBy file fill page lentRoom f)
-  text-by (Broken why) e = ap textOf (told (Broken why) e)
-  text-by (Sound s) e = text-in s page (told (Sound s) e)
-
-  pub file-text : answered (r .build) (new .image) (new .offsets) (new .sizes) ≡ reportText file fill page
-  unfolding reportText
-  file-text = text-by (formOf file) refl
-
   fits-by : (f : Form) → formOf file ≡ f → length (new .image) ≡ imageRoom → length (new .offsets) ≡ spanRoom → length (new .sizes) ≡ spanRoom → FitsNow r
   fits-by (Broken why) e gi go gs = rw (told (Broken why) e) tt
   fits-by (Sound s) e gi go gs = fits-in s gi go gs page (told (Sound s) e)
@@ -173,3 +147,31 @@ module _ (file : List ℕ) (fill : ℕ) (page : Opt) (bytes : (i : ℕ) → getD
   pub file-fits : length (new .image) ≡ imageRoom → length (new .offsets) ≡ spanRoom → length (new .sizes) ≡ spanRoom
       → Fitting (r .build) (new .image) (new .offsets) (new .sizes)
   file-fits = fits-by (formOf file) refl
+
+  -- the text of an answer, with what the build left
+  module _ (done : ℕ → ℕ → List ℕ → List ℕ → List ℕ → List ℕ) where
+    abbrev textOf : Output → List ℕ
+    textOf o = answeredBy done (o .build) (new .image) (new .offsets) (new .sizes)
+
+    module _ (s : Shape) where
+      text-built : r ≡ buildOf (given s) (roomOf old) → textOf r ≡ builtBy done file (buildOf (given s) lentRoom)
+      text-built e = build-text (given s) old hi ha ho hs r new e (built .left) done (r .build) refl
+
+      text-said : (v : Verdict) → r ≡ afterSaid v (buildOf (given s) (roomOf old)) → textOf r ≡ builtBy done file (afterSaid v (buildOf (given s) lentRoom))
+      text-said Accepted e = text-built e
+      text-said (TurnedAway why) e = ap textOf e
+
+      text-in : (p : Opt) → r ≡ outputIn p (given s) (roomOf old) → textOf r ≡ builtBy done file (outputIn p (given s) lentRoom)
+      text-in None e = text-built e
+      text-in (Some bits) e = text-said (saidOf bits (given s)) e
+
+    text-by : (f : Form) → formOf file ≡ f → textOf r ≡ builtBy done file (outputBy file fill page lentRoom f)
+    text-by (Broken why) e = ap textOf (told (Broken why) e)
+    text-by (Sound s) e = text-in s page (told (Sound s) e)
+
+    pub text-built-by : answeredBy done (r .build) (new .image) (new .offsets) (new .sizes) ≡ builtBy done file (fileOutput file fill page lentRoom)
+    text-built-by = text-by (formOf file) refl
+
+  pub file-text : answered (r .build) (new .image) (new .offsets) (new .sizes) ≡ reportText file fill page
+  unfolding reportText
+  file-text = text-built-by doneText

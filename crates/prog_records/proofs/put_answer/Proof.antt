@@ -5,15 +5,6 @@ use borrow.Author.Needs.{needs}
 use Rattle.prog_records.proofs.put_answer.Statement.{statement}
 use Rattle.prog_records.proofs.put_answer.Tie as tie
 
-enum-known-build : tie.Need-enum-known-build
-enum-known-build c = search needs
-
-put-refusal-requires : tie.Need-put-refusal-requires
-put-refusal-requires c κs = search needs
-
-enum-known-build-2 : tie.Need-enum-known-build-2
-enum-known-build-2 c = search needs
-
 slice-aggregate-put-done : tie.Need-slice-aggregate-put-done
 slice-aggregate-put-done c =
     let f = rw (c .before .before .build2 .given .1) at (c .before .before .before .before .before .before .before .before .pre .0) in
@@ -32,15 +23,6 @@ put-done-requires c κs =
       (f .1, (f .4, c .before .before .before .before .before .before .before .before .before .before .pre .1 .1)),
     )
 
-same-length : tie.Need-same-length
-same-length c = search needs
-
-returns : tie.Need-returns
-returns c = rw (c .before .before .before .before .before .build .given .1) (c .before .before .put-refusal .ensures .0)
-
-same-length-2 : tie.Need-same-length-2
-same-length-2 c = search needs
-
 returns-2 : tie.Need-returns-2
 returns-2 c = rw (c .before .before .before .before .before .before .before .build2 .given .1) (c .before .before .put-done .ensures)
 
@@ -48,13 +30,6 @@ pub put-answer-spec : {M : Type 1} → statement M
 put-answer-spec =
     tie.close
     (tie.spec
-    enum-known-build
-    put-refusal-requires
-    enum-known-build-2
-    slice-aggregate-put-done
-    slice-aggregate-put-done-2
-    put-done-requires
-    same-length
-    returns
-    same-length-2
-    returns-2)
+    (λ c. search needs) (λ c κs. search needs) (λ c. search needs) slice-aggregate-put-done slice-aggregate-put-done-2 put-done-requires
+    (λ c. search needs) (λ c. rw (c .before .before .before .before .before .build .given .1) (c .before .before .put-refusal .ensures .0))
+    (λ c. search needs) returns-2)

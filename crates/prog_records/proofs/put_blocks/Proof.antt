@@ -54,18 +54,6 @@ module _ (d : tie.After-get-blocks) where
         blocks-found (p .args .offsets .now) (p .args .sizes .now) (p .args .block-offsets .now) (p .args .block-sizes .now) (p .pre .1 .1 .0)
         (p .pre .1 .1 .1 .0) (p .pre .1 .0) (d .get-blocks .result) first second (d .get-blocks .ensures) count e
 
-get-blocks-requires : tie.Need-get-blocks-requires
-get-blocks-requires c κs = search needs
-
-enum-known-found : tie.Need-enum-known-found
-enum-known-found c = search needs
-
-put-refusal-requires : tie.Need-put-refusal-requires
-put-refusal-requires c κs = search needs
-
-enum-known-found-2 : tie.Need-enum-known-found-2
-enum-known-found-2 c = search needs
-
 slice-reshare-prefix-put-records : tie.Need-slice-reshare-prefix-put-records
 slice-reshare-prefix-put-records c = omega (
   arith,
@@ -99,28 +87,10 @@ put-records-requires c κs =
     let f = c .before .before .before .before .found2 .given in
     (begin d .pre .0, (omega (arith, few d _ (f .1), long d _ (f .1)), (long d _ (f .1) ∙ sym (wide d _ (f .1)), begin d .pre .1 .1 .1 .1)))
 
-same-length : tie.Need-same-length
-same-length c = search needs
-
-same-length-2 : tie.Need-same-length-2
-same-length-2 c = search needs
-
-same-length-3 : tie.Need-same-length-3
-same-length-3 c = search needs
-
 returns : tie.Need-returns
 returns c =
     let f = c .before .before .before .before .before .found .given in
     absurd (never (c .before .before .before .before .before .before .before .before .before .before .before) (f .0 .0) (f .1))
-
-same-length-4 : tie.Need-same-length-4
-same-length-4 c = search needs
-
-same-length-5 : tie.Need-same-length-5
-same-length-5 c = search needs
-
-same-length-6 : tie.Need-same-length-6
-same-length-6 c = search needs
 
 returns-2 : tie.Need-returns-2
 returns-2 c =
@@ -132,20 +102,6 @@ pub put-blocks-spec : {M : Type 1} → statement M
 put-blocks-spec =
     tie.close
     (tie.spec
-    get-blocks-requires
-    enum-known-found
-    put-refusal-requires
-    enum-known-found-2
-    slice-reshare-prefix-put-records
-    slice-aggregate-put-records
-    slice-reshare-prefix-put-records-2
-    slice-aggregate-put-records-2
-    put-records-requires
-    same-length
-    same-length-2
-    same-length-3
-    returns
-    same-length-4
-    same-length-5
-    same-length-6
-    returns-2)
+    (λ c κs. search needs) (λ c. search needs) (λ c κs. search needs) (λ c. search needs) slice-reshare-prefix-put-records slice-aggregate-put-records
+    slice-reshare-prefix-put-records-2 slice-aggregate-put-records-2 put-records-requires (λ c. search needs) (λ c. search needs) (λ c. search needs)
+    returns (λ c. search needs) (λ c. search needs) (λ c. search needs) returns-2)

@@ -5,8 +5,8 @@ use native.Mathlib.Omega.{arith}
 use lib.ListN.{getD}
 use Rattle.form_build.specs.Filed.{FileBuilt}
 use Rattle.output.specs.Output.{Lent, lent}
-use Rattle.print_report.specs.Laws.Built.{file-fits}
-use Rattle.prog_records.proofs.Built.{file-text}
+use Rattle.print_report.specs.Laws.Built.{file-fits, text-built-by}
+use Rattle.prog_records.specs.Program.{doneText, recordsText}
 use borrow.Author.Needs.{needs}
 use Rattle.prog_records.proofs.put_build.Statement.{statement}
 use Rattle.prog_records.proofs.put_build.Tie as tie
@@ -31,9 +31,6 @@ built : (d : tie.After-build-file)
     → FileBuilt (begin d .args .file .now) (begin d .args .fill) (begin d .args .page) (old (begin d)) (d .build-file .result) (new d)
 built d = d .build-file .ensures
 
-build-file-requires : tie.Need-build-file-requires
-build-file-requires c κs = search needs
-
 put-answer-requires : tie.Need-put-answer-requires
 put-answer-requires c κs =
     let d = c .before .before .before .before .before .before .before .before .before .before .before in
@@ -47,39 +44,19 @@ put-answer-requires c κs =
       (omega (arith, c .before .before .before .before .before .before .before .before .before .before .image .given, p .0), p .1 .1 .1 .1),
     )
 
-same-length : tie.Need-same-length
-same-length c = search needs
-
-same-length-2 : tie.Need-same-length-2
-same-length-2 c = search needs
-
-same-length-3 : tie.Need-same-length-3
-same-length-3 c = search needs
-
-same-length-4 : tie.Need-same-length-4
-same-length-4 c = search needs
-
-same-length-5 : tie.Need-same-length-5
-same-length-5 c = search needs
-
 returns : tie.Need-returns
+unfolding recordsText
 returns c =
     let d = c .before .before .before .before .before .before .before .before .before .before .before .before .before .before in
     let a = begin d .args in
     let p = begin d .pre in
-    let same = file-text (a .wanted) (a .file .now) (a .fill) (a .page) (old (begin d)) (p .0) (p .1 .0) (p .1 .1 .0) (p .1 .1 .1 .0)
-    (d .build-file .result) (new d) (built d) in
+    let same = text-built-by (a .file .now) (a .fill) (a .page) (bytes d) (old (begin d)) (p .0) (p .1 .0) (p .1 .1 .0) (p .1 .1 .1 .0)
+    (d .build-file .result) (new d) (built d) (λ k. doneText (a .wanted)) in
     rw (← same) (c .before .before .put-answer .ensures)
 
 pub put-build-spec : {M : Type 1} → statement M
 put-build-spec =
     tie.close
     (tie.spec
-    build-file-requires
-    put-answer-requires
-    same-length
-    same-length-2
-    same-length-3
-    same-length-4
-    same-length-5
+    (λ c κs. search needs) put-answer-requires (λ c. search needs) (λ c. search needs) (λ c. search needs) (λ c. search needs) (λ c. search needs)
     returns)

@@ -9,27 +9,6 @@ use borrow.Author.Needs.{needs}
 use Rattle.prog_records.proofs.put_whole.Statement.{statement}
 use Rattle.prog_records.proofs.put_whole.Tie as tie
 
-add-t9 : tie.Need-add-t9
-add-t9 c = search needs
-
-mul-t11 : tie.Need-mul-t11
-mul-t11 c = search needs
-
-block-count-requires : tie.Need-block-count-requires
-block-count-requires c κs = search needs
-
-array-share-prefix-offsets : tie.Need-array-share-prefix-offsets
-array-share-prefix-offsets c = search needs
-
-slice-aggregate-put-records : tie.Need-slice-aggregate-put-records
-slice-aggregate-put-records c = sym (length-take-le _ _ (omega (arith, c .before .block-count .ensures)))
-
-array-share-prefix-sizes : tie.Need-array-share-prefix-sizes
-array-share-prefix-sizes c = search needs
-
-slice-aggregate-put-records-2 : tie.Need-slice-aggregate-put-records-2
-slice-aggregate-put-records-2 c = sym (length-take-le _ _ (omega (arith, c .before .before .block-count .ensures)))
-
 put-records-requires : tie.Need-put-records-requires
 put-records-requires c κs =
     let n = c .before .before .before .block-count in
@@ -39,9 +18,6 @@ put-records-requires c κs =
       c .before .before .before .before .before .before .pre .0,
       (omega (arith, one, low), (one ∙ sym two, c .before .before .before .before .before .before .pre .1 .1)),
     )
-
-same-length : tie.Need-same-length
-same-length c = search needs
 
 returns : tie.Need-returns
 returns c =
@@ -53,13 +29,6 @@ pub put-whole-spec : {M : Type 1} → statement M
 put-whole-spec =
     tie.close
     (tie.spec
-    add-t9
-    mul-t11
-    block-count-requires
-    array-share-prefix-offsets
-    slice-aggregate-put-records
-    array-share-prefix-sizes
-    slice-aggregate-put-records-2
-    put-records-requires
-    same-length
-    returns)
+    (λ c. search needs) (λ c. search needs) (λ c κs. search needs) (λ c. search needs)
+    (λ c. sym (length-take-le _ _ (omega (arith, c .before .block-count .ensures)))) (λ c. search needs)
+    (λ c. sym (length-take-le _ _ (omega (arith, c .before .before .block-count .ensures)))) put-records-requires (λ c. search needs) returns)

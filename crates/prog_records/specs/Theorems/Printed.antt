@@ -46,9 +46,10 @@ use Rattle.record_write.specs.Exactly.{AllParts, WellPlaced}
 use Rattle.record_write.specs.Text.{textOf}
 use Rattle.record_write.specs.Theorems.Bytes.{pieces-give-image}
 use Rattle.record_write.specs.Theorems.Exactly.{parts-exactly, placed-exactly}
+use Rattle.thm_record_room.specs.Records.{formatOk, recordsOr}
 use Rattle.thm_records.specs.Laws.Copied.{columns, and-true}
 use Rattle.thm_records.specs.Theorems.Back.{hex-read, srec-read}
-use Rattle.prog_records.specs.Program.{formatOk, recordsOf, wholeBlocks, blocksBy, answerText, builtText, recordsText}
+use Rattle.prog_records.specs.Program.{recordsOf, wholeBlocks, blocksBy, answerText, builtText, recordsText}
 use Rattle.prog_records.specs.declared.Wanted.{Wanted}
 
 -- ---- refused
@@ -110,7 +111,7 @@ module _ (w : Wanted) (file : List ℕ) (fill : ℕ) (page : Opt) where
       ss = sizes bs
 
       written-out : recordsText w file fill page ≡ textOf (w .format) (w .load) (imageIn bits) bs
-      unfolding recordsOf
+      unfolding recordsOr
       written-out = accepted-prints ∙ rw (parts, places) refl
 
       all-placed : allPlaced (w .load) bs ≡ true

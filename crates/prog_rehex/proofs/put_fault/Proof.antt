@@ -14,33 +14,12 @@ use borrow.Author.Needs.{needs}
 use Rattle.prog_rehex.proofs.put_fault.Statement.{statement}
 use Rattle.prog_rehex.proofs.put_fault.Tie as tie
 
-put-refusal-requires : tie.Need-put-refusal-requires
-put-refusal-requires c κs = search needs
-
-line-at-fault-requires : tie.Need-line-at-fault-requires
-line-at-fault-requires c κs = search needs
-
-enum-told : tie.Need-enum-told
-enum-told c = search needs
-
-enum-known-fault : tie.Need-enum-known-fault
-enum-known-fault c = search needs
-
-put-line-requires : tie.Need-put-line-requires
-put-line-requires c κs = search needs
-
-same-length : tie.Need-same-length
-same-length c = search needs
-
 returns : tie.Need-returns
 returns c =
     let s = c .before .before .before .before .before .before .before .before .before in
     let read = readText (s .args .kind) (s .args .load) (s .args .source .now) in
     let none = good-behind read (sym (c .enum-told .given .1) ∙ c .before .before .line-at-fault .ensures) in
     rw (none, append-nil (refusalText (s .args .why))) (c .before .before .before .before .before .put-refusal .ensures .0)
-
-same-length-2 : tie.Need-same-length-2
-same-length-2 c = search needs
 
 returns-2 : tie.Need-returns-2
 returns-2 c =
@@ -61,12 +40,5 @@ pub put-fault-spec : {M : Type 1} → statement M
 put-fault-spec =
     tie.close
     (tie.spec
-    put-refusal-requires
-    line-at-fault-requires
-    enum-told
-    enum-known-fault
-    put-line-requires
-    same-length
-    returns
-    same-length-2
-    returns-2)
+    (λ c κs. search needs) (λ c κs. search needs) (λ c. search needs) (λ c. search needs) (λ c κs. search needs) (λ c. search needs) returns
+    (λ c. search needs) returns-2)

@@ -4,17 +4,15 @@ use mathlib.Core.Bool.{Bool, true, false, _&&_}
 use mathlib.Core.List.{List, [], _∷_, _++_, append-nil}
 use Prim.Native.Nat.{ℕ, _≤_, _<_}
 use native.Mathlib.Omega.{arith}
-use borrow.Author.Tests.{le-leb, lt-leb, leb-true, eq-eqb, ne-eqb}
-use lib.Dec.{leb, eqb}
+use borrow.Author.Tests.{le-leb, lt-leb}
+use lib.Dec.{leb}
 use lib.ListN.{length, take, drop, length-map}
 use lib.Seq.{take-at}
-use Rattle.refusal.specs.Laws.Bools.{both, clash}
 use Rattle.refusal.specs.Laws.Pick.{pick-true, pick-false}
 use Rattle.refusal.specs.Pick.{pick}
 use Rattle.refusal.specs.Told.{gives}
 use Rattle.refusal.specs.declared.Refusal.{Refusal}
-use Rattle.refusal.specs.declared.Refusal.the-variants.{Malformed, BadPart, TooShort}
-use Rattle.bitvec.specs.Bits.{Bytes}
+use Rattle.refusal.specs.declared.Refusal.the-variants.{Malformed, TooShort}
 use Rattle.blocks.specs.Outcome.{origins, sizes, roomFor, toldBy}
 use Rattle.blocks.specs.declared.Block.{Block}
 use Rattle.blocks.specs.declared.Blocks.{Blocks}
@@ -24,79 +22,22 @@ use Rattle.prog_args.specs.Text.{Stands}
 use Rattle.record_fault.specs.Outcome.{faultOf}
 use Rattle.record_fault.specs.Reading.{Read, sound, faulty, readText}
 use Rattle.record_fault.specs.declared.Fault.the-variants.{Good, At}
-use Rattle.record_ihex.specs.Writing.{WritesHex}
 use Rattle.record_lines.specs.Pieces.{Piece}
 use Rattle.record_read.specs.Given.{filled}
 use Rattle.record_read.specs.Outcome.{Lent, lent, answerOf, taken, Reads}
 use Rattle.record_read.specs.Runs.{reach, blocksGiven}
 use Rattle.record_read.specs.Theorems.Facts.{found-good, found-after}
 use Rattle.record_read.specs.Theorems.GivenLaws.{filled-long}
-use Rattle.record_srec.specs.Writing.{WritesSrec, widthOk}
 use Rattle.record_write.specs.Checks.{allParts, allPlaced}
 use Rattle.record_write.specs.Cut.{blocksIn}
 use Rattle.record_write.specs.Text.{textOf}
 use Rattle.record_write.specs.declared.Written.{Written}
 use Rattle.record_write.specs.declared.Written.the-variants.{Length, Refused}
-use Rattle.thm_record_room.specs.Laws.Calls.{blocks-in}
-use Rattle.thm_record_room.specs.Theorems.Room.{turned-files-fit}
+use Rattle.thm_record_room.specs.Records.{formatOk, recordsOr}
 use Rattle.thm_records.specs.Laws.Copied.{columns}
 use Rattle.thm_records.specs.Theorems.Copied.{read-parts, read-placed}
-use Rattle.prog_rehex.specs.Program.{longest, bytesRoom, blocksRoom, formatOk, faultText, turned, turnedText}
-use Rattle.prog_rehex.specs.Steps.{textRoom, recordsOf, Records, Turns}
-
--- ---- the calls that write
-
-module _ (format load : ℕ) (image : List ℕ) (blocks : List Block) (old : List ℕ)
-    (fit : allParts (length image) blocks ≡ true → allPlaced load blocks ≡ true → length (textOf format load image blocks) ≤ length old) where
-  abbrev all : List ℕ
-  all = textOf format load image blocks
-
-  abbrev answer : Bool → Bool → Bool → Written
-  answer p q f = pick p (pick q (pick f (Length (length all)) (Refused (TooShort 3))) (Refused (Malformed 0))) (Refused BadPart)
-
-  abbrev left : Bool → List ℕ
-  left t = pick t (all ++ drop (length all) old) old
-
-  -- the three tests, whatever they give
-  by-tests : (p q f : Bool) → allParts (length image) blocks ≡ p → formatOk format load blocks && allPlaced load blocks ≡ q → leb (length all) (length old) ≡ f
-      → Records format load image blocks old (answer p q f) (left (p && q && f))
-  unfolding recordsOf
-  by-tests true true true a b c = record { counted = rw (a, b) refl; fits = rw (a, b) (leb-true (length all) (length old) c); buffer = rw (a, b) refl }
-  by-tests true true false a b c =
-      absurd (clash (le-leb (length all) (length old) (fit a (both (formatOk format load blocks) (allPlaced load blocks) b .1))) c)
-  by-tests true false f a b c = (rw (a, b) refl, refl)
-  by-tests false q f a b c = (rw a refl, refl)
-
-  pub writes-all : (q : Bool) → formatOk format load blocks && allPlaced load blocks ≡ q → {r : Written} {new : List ℕ}
-      → r ≡ answer (allParts (length image) blocks) q (leb (length all) (length old))
-      → new ≡ left (allParts (length image) blocks && q && leb (length all) (length old)) → Records format load image blocks old r new
-  writes-all q e {r} {new} is lent =
-      subst (λ (x : Written). Records format load image blocks old x new) (sym is)
-      (subst (λ (l : List ℕ). Records format load image blocks old (answer (allParts (length image) blocks) q (leb (length all) (length old))) l) (sym lent)
-      (by-tests (allParts (length image) blocks) q (leb (length all) (length old)) refl e refl))
-
-module _ (image offsets sizes : List ℕ) (load : ℕ) (old : List ℕ) (good : Bytes image) (small : length image ≤ bytesRoom) (few : length offsets ≤ blocksRoom)
-    (paired : length offsets ≡ length sizes) (room : textRoom ≤ length old) where
-  fit : (format : ℕ) → allParts (length image) (blocksIn offsets sizes) ≡ true → allPlaced load (blocksIn offsets sizes) ≡ true
-      → length (textOf format load image (blocksIn offsets sizes)) ≤ length old
-  fit format p q =
-      omega (arith, turned-files-fit format load image (blocksIn offsets sizes) good p q small (omega (arith, blocks-in offsets sizes, few)), room)
-
-  same : eqb (length offsets) (length sizes) ≡ true
-  same = eq-eqb (length offsets) (length sizes) paired
-
-  pub hex-puts : {r : Written} {new : List ℕ} → WritesHex image offsets sizes load old r new → Records 0 load image (blocksIn offsets sizes) old r new
-  hex-puts w =
-      let places : eqb (length offsets) (length sizes) && allPlaced load (blocksIn offsets sizes) ≡ allPlaced load (blocksIn offsets sizes) = rw same refl in
-      writes-all 0 load image (blocksIn offsets sizes) old (fit 0) (eqb (length offsets) (length sizes) && allPlaced load (blocksIn offsets sizes))
-      (sym places) (w .writes .answer) (w .writes .lent)
-
-  pub srec-puts : {width : ℕ} → (width ≡ 0 → ⊥) → {r : Written} {new : List ℕ} → WritesSrec image offsets sizes load width old r new
-      → Records width load image (blocksIn offsets sizes) old r new
-  srec-puts {width} other w =
-      writes-all width load image (blocksIn offsets sizes) old (fit width)
-      (widthOk width load (blocksIn offsets sizes) && (eqb (length offsets) (length sizes) && allPlaced load (blocksIn offsets sizes)))
-      (rw (ne-eqb width 0 other, same) refl) (w .answer) (w .lent)
+use Rattle.prog_rehex.specs.Program.{longest, bytesRoom, blocksRoom, faultText, turned, turnedText}
+use Rattle.prog_rehex.specs.Steps.{recordsOf, Records, Turns}
 
 -- ---- a file that is not read
 
@@ -204,7 +145,7 @@ module _ (kind format load : ℕ) (source : List ℕ) (l : Lent) (hb : length (l
   -- its records are what is to be printed
   accepted : recordsOf format load (new .bytes) blocks
       ≡ pick (formatOk format load blocks) (textOf format load (new .bytes) blocks) (refusalText (Malformed 0))
-  unfolding recordsOf
+  unfolding recordsOr
   accepted =
       pick-true _ _ parts
       ∙ ap (λ (t : Bool). pick t (textOf format load (new .bytes) blocks) (refusalText (Malformed 0)))
