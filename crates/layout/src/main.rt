@@ -4,9 +4,9 @@
 //
 // It writes nothing where an argument is no decimal number, or where there are more.
 use print_text::Written;
+use prog_asked::Asked;
 use refusal::Opt;
-ghost use mathlib.Core.Path.{_≡_};
-ghost use Prim.Native.Nat.{_≤_, min};
+ghost use Prim.Native.Nat.{_≤_};
 ghost use lib.ListN.{length};
 ghost use Rattle.print_report.specs.Room.{reportRoom};
 ghost use Rattle.layout.specs.Program.{Shows, Reported};
@@ -28,13 +28,6 @@ fn write(file: &[u8], fill: u8, page: Opt, text: &mut [u8]) -> usize
     prog_args::print(text, end as u64)
 }
 
-// A choice that no byte holds is as unknown as 255.
-fn choice(n: u32) -> u8
-    ensures { λ r. ⌜ r ≡ min n 255 ⌝ }
-{
-    if n < 255 { n as u8 } else { 255 }
-}
-
 // Reads a file and hands its report to standard output: how many bytes that is.
 fn run(fill: u8, page: Opt) -> usize
     ensures { λ r. ⌜ Reported fill page r ⌝ }
@@ -46,23 +39,7 @@ fn run(fill: u8, page: Opt) -> usize
 }
 
 fn main() {
-    let count = os::arg_count();
-    if count > 3 {
-        return;
-    }
-    if count < 2 {
-        run(0, Opt::None);
-        return;
-    }
-    let Opt::Some(fill) = prog_args::number_at(1) else {
-        return;
-    };
-    if count < 3 {
-        run(choice(fill), Opt::None);
-        return;
-    }
-    let page = prog_args::number_at(2);
-    if let Opt::Some(_) = page {
-        run(choice(fill), page);
+    if let Asked::Layout { fill, page } = prog_asked::layout_asked() {
+        run(fill, page);
     }
 }

@@ -4,7 +4,7 @@ use mathlib.Core.List.{List}
 use mathlib.Core.Path.{_≡_}
 use Prim.Native.Nat.{ℕ, _≤_, min}
 use lib.Dec.{eqb}
-use lib.ListN.{length, take}
+use lib.ListN.{length}
 use Rattle.refusal.specs.Pick.{pick}
 use Rattle.form_fields.specs.Contents.{Contents, written}
 use Rattle.form_fields.specs.Kind.{form1, form2}
@@ -16,6 +16,7 @@ use Rattle.form_convert.specs.Convert.{answerBy, dropsNone}
 use Rattle.form_convert.specs.declared.Conversion.{Conversion}
 use Rattle.form_convert.specs.declared.Conversion.the-variants.{Converted as Gives, Refused}
 use Rattle.print_text.specs.Lines.{refusalText}
+use Rattle.prog_args.specs.Text.{Shows}
 
 -- The longest file and a byte more: what is read of the input, and what is lent for the result.
 abbrev pub fileRoom : ℕ
@@ -41,11 +42,6 @@ form2Text file = wayText form1 form2 toForm2 dropsNone file
 -- The program's whole output for a form that is asked and a file.
 abbrev pub convertText : ℕ → List ℕ → List ℕ
 convertText form file = pick (eqb form 1) (form1Text file) (form2Text file)
-
--- The first `count` bytes of a buffer are a text, and all of it.
-pub record Shows (text : List ℕ) (count : ℕ) (buffer : List ℕ) : Type 0 where
-  pub counted : count ≡ length text
-  pub front : take count buffer ≡ text
 
 -- An answer that was handed on from a buffer: the file from the front of it, as far as it goes, or the refusal's line.
 abbrev pub Handed : Conversion → List ℕ → ℕ → List ℕ → Type 0

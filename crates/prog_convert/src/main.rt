@@ -8,7 +8,8 @@ use refusal::Opt;
 ghost use mathlib.Core.Path.{_≡_};
 ghost use Prim.Native.Nat.{_≤_};
 ghost use lib.ListN.{length};
-ghost use Rattle.prog_convert.specs.Program.{fileRoom, form1Text, form2Text, convertText, Handed, Shows, Converted};
+ghost use Rattle.prog_args.specs.Text.{Shows};
+ghost use Rattle.prog_convert.specs.Program.{fileRoom, form1Text, form2Text, convertText, Handed, Converted};
 ghost use Rattle.prog_convert.specs.Room.{Held};
 
 // Room for the longest file and a byte more, so that none is cut to a sound one.

@@ -3,10 +3,10 @@
 //     prog_reason KIND LOAD    KIND 0 reads Intel HEX, 1 S-records; LOAD is the lowest address at which the file may give bytes
 //
 // One line on standard output: `reason`, the reason (include/denkumari.h), 0 for a good file, the line, from 0, and the reason's two numbers.
-use print_text::Written;
+use prog_asked::choice;
 use refusal::Opt;
 ghost use mathlib.Core.Path.{_≡_};
-ghost use Prim.Native.Nat.{_≤_, min};
+ghost use Prim.Native.Nat.{_≤_};
 ghost use lib.ListN.{length};
 ghost use Rattle.prog_args.specs.Text.{lineRoom, Stands, Shows};
 ghost use Rattle.prog_reason.specs.Program.{reasonText, Told};
@@ -21,10 +21,7 @@ fn put(kind: u8, load: u32, source: &[u8], out: &mut [u8]) -> usize
 {
     let w = record_reason::reason_of(kind, source, load);
     let numbers = [w.reason, w.line, w.first, w.second];
-    let Written::To(end) = print_text::put_line(out, 0, b"reason", &numbers) else {
-        return 0;
-    };
-    end
+    print_text::write_line(out, 0, b"reason", &numbers)
 }
 
 // The line for a file, handed to standard output from the front of `out`: how many bytes it is.
@@ -51,13 +48,6 @@ fn start(kind: u8, load: u32, source: &mut [u8; SOURCE], out: &mut [u8; 128]) ->
     ensures { λ r. ⌜ Told kind load r ⌝ }
 {
     run(kind, load, source, out)
-}
-
-// A kind that no byte holds is as unknown as 255.
-fn choice(n: u32) -> u8
-    ensures { λ r. ⌜ r ≡ min n 255 ⌝ }
-{
-    if n < 255 { n as u8 } else { 255 }
 }
 
 fn main() {

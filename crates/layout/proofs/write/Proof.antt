@@ -45,27 +45,6 @@ inside e =
     let a = begin (came e) .args in
     omega (arith, ended e, every-report-fits (a .file .now) (a .fill) (a .page) (bytes (came e)), begin (came e) .pre, e .before .before .before .text .given)
 
-report-requires : tie.Need-report-requires
-report-requires c κs = search needs
-
-enum-known-end : tie.Need-enum-known-end
-enum-known-end c = search needs
-
-enum-told : tie.Need-enum-told
-enum-told c = search needs
-
-same-length : tie.Need-same-length
-same-length c = search needs
-
-returns : tie.Need-returns
-returns c = absurd (never-short (sym (whole (reported (c .before .before))) ∙ c .enum-told .given .1))
-
-print-requires : tie.Need-print-requires
-print-requires c κs = search needs
-
-same-length-2 : tie.Need-same-length-2
-same-length-2 c = search needs
-
 returns-2 : tie.Need-returns-2
 returns-2 c =
     let e = c .before .before .before in
@@ -81,4 +60,4 @@ returns-2 c =
     }
 
 pub write-spec : {M : Type 1} → statement M
-write-spec = tie.close (tie.spec report-requires enum-known-end enum-told same-length returns print-requires same-length-2 returns-2)
+write-spec = tie.close (tie.spec (λ c κs. search needs) (λ c. search needs) (λ c. search needs) (λ c. search needs) (λ c. absurd (never-short (sym (whole (reported (c .before .before))) ∙ c .enum-told .given .1))) (λ c κs. search needs) (λ c. search needs) returns-2)

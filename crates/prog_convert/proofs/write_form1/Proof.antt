@@ -8,15 +8,6 @@ use borrow.Author.Needs.{needs}
 use Rattle.prog_convert.proofs.write_form1.Statement.{statement}
 use Rattle.prog_convert.proofs.write_form1.Tie as tie
 
-to-form1-requires : tie.Need-to-form1-requires
-to-form1-requires c κs = search needs
-
-same-length : tie.Need-same-length
-same-length c = search needs
-
-hand-requires : tie.Need-hand-requires
-hand-requires c κs = omega (arith, c .before .before .before .before .before .before .before .pre, c .before .before .out .given)
-
 returns : tie.Need-returns
 unfolding form1Text
 returns c =
@@ -26,4 +17,4 @@ returns c =
     (c .before .before .hand .ensures)
 
 pub write-form1-spec : {M : Type 1} → statement M
-write-form1-spec = tie.close (tie.spec to-form1-requires hand-requires same-length returns)
+write-form1-spec = tie.close (tie.spec (λ c κs. search needs) (λ c κs. omega (arith, c .before .before .before .before .before .before .before .pre, c .before .before .out .given)) (λ c. search needs) returns)

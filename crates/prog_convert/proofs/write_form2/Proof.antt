@@ -9,15 +9,6 @@ use borrow.Author.Needs.{needs}
 use Rattle.prog_convert.proofs.write_form2.Statement.{statement}
 use Rattle.prog_convert.proofs.write_form2.Tie as tie
 
-to-form2-requires : tie.Need-to-form2-requires
-to-form2-requires c κs = search needs
-
-same-length : tie.Need-same-length
-same-length c = search needs
-
-hand-requires : tie.Need-hand-requires
-hand-requires c κs = omega (arith, c .before .before .before .before .before .before .before .pre, c .before .before .out .given)
-
 returns : tie.Need-returns
 unfolding form2Text
 returns c =
@@ -27,4 +18,4 @@ returns c =
     (c .before .before .hand .ensures)
 
 pub write-form2-spec : {M : Type 1} → statement M
-write-form2-spec = tie.close (tie.spec to-form2-requires hand-requires same-length returns)
+write-form2-spec = tie.close (tie.spec (λ c κs. search needs) (λ c κs. omega (arith, c .before .before .before .before .before .before .before .pre, c .before .before .out .given)) (λ c. search needs) returns)

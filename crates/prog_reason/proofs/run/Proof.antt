@@ -5,24 +5,6 @@ use borrow.Author.Needs.{needs}
 use Rattle.prog_reason.proofs.run.Statement.{statement}
 use Rattle.prog_reason.proofs.run.Tie as tie
 
-read-full-requires : tie.Need-read-full-requires
-read-full-requires c κs = search needs
-
-slice-reshare-prefix-write : tie.Need-slice-reshare-prefix-write
-slice-reshare-prefix-write c = search needs
-
-slice-aggregate-write : tie.Need-slice-aggregate-write
-slice-aggregate-write c = search needs
-
-write-requires : tie.Need-write-requires
-write-requires c κs = search needs
-
-same-length : tie.Need-same-length
-same-length c = search needs
-
-same-length-2 : tie.Need-same-length-2
-same-length-2 c = search needs
-
 returns : tie.Need-returns
 returns c =
     let s = c .before .before .before .before .before .before .before .before .before .before .before in
@@ -33,4 +15,4 @@ returns c =
     )
 
 pub run-spec : {M : Type 1} → statement M
-run-spec = tie.close (tie.spec read-full-requires slice-reshare-prefix-write slice-aggregate-write write-requires same-length same-length-2 returns)
+run-spec = tie.close (tie.spec (λ c κs. search needs) (λ c. search needs) (λ c. search needs) (λ c κs. search needs) (λ c. search needs) (λ c. search needs) returns)
