@@ -1,5 +1,5 @@
 // A line: a word, cells with a space before each, and LF. A cell is a number, a number below zero, or `-` for none: its mark is 0, 1 or 2.
-use print_text::Written;
+use print_text::write_word;
 ghost use mathlib.Core.Path.{_≡_};
 ghost use Prim.Native.Nat.{_+_, _*_, _≤_};
 ghost use lib.ListN.{length};
@@ -8,27 +8,13 @@ ghost use Rattle.print_text.specs.Puts.{Writes};
 ghost use Rattle.print_map.specs.Cells.{cellText};
 ghost use Rattle.print_map.specs.Marks.{cellOf, cellsTo, lineTo};
 
-// Bytes that are known to fit.
-pub fn write_word(out: &mut [u8], at: usize, word: &[u8]) -> usize
-    requires { ⌜ at + length (now word) ≤ length (now out) ⌝ }
-    ensures { λ r. ⌜ Writes (now (word .entry)) (now (out .entry)) at r (now (out .exit)) ⌝ }
-{
-    match print_text::put_word(out, at, word) {
-        Written::To(end) => end,
-        Written::TooShort => at,
-    }
-}
-
 // A number has 20 digits at most.
 fn write_number(out: &mut [u8], at: usize, n: u64) -> usize
     requires { ⌜ at + 20 ≤ length (now out) ⌝ }
     ensures { λ r. ⌜ Writes (decimal n) (now (out .entry)) at r (now (out .exit)) ⌝ }
     ensures { λ r. ⌜ r ≤ at + 20 ⌝ }
 {
-    match print_text::put_number(out, at, n) {
-        Written::To(end) => end,
-        Written::TooShort => at,
-    }
+    print_text::write_number(out, at, n)
 }
 
 fn write_minus(out: &mut [u8], at: usize, n: u64) -> usize

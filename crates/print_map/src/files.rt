@@ -8,6 +8,8 @@ use crate::records::write_verdict;
 use bankdef::Bankdefs;
 use build_map::Fault;
 use build_map::Map;
+use form_build::CELLS;
+use form_build::ROOM;
 use form_fields::Form;
 use form_fields::Shape;
 use refusal::Opt;
@@ -21,25 +23,9 @@ ghost use Rattle.refusal.specs.Limits.{maxNodes};
 ghost use Rattle.lists.specs.Lists.{lists};
 ghost use Rattle.output.specs.Output.{input};
 ghost use Rattle.print_text.specs.Puts.{Writes};
-ghost use Rattle.form_build.specs.Filed.{choicesOf, HeldIn};
+ghost use Rattle.form_build.specs.Filed.{HeldIn};
 ghost use Rattle.print_map.specs.Steps.{textHeld};
 ghost use Rattle.print_map.specs.Text.{fileLine, saidIn, mapAfter, mapText, mapRoom};
-
-// Room for the lists of any sound file. A node takes 8 of its 65,536 bytes, and 5 more in each row.
-const ROOM: usize = 8_192;
-
-const CELLS: usize = 13_107;
-
-// What a file chooses, with the fill's choice, which no form carries.
-fn chosen(shape: Shape, fill: u8) -> Choices
-    ensures { λ r. ⌜ r ≡ choicesOf shape fill ⌝ }
-{
-    Choices {
-        limit: shape.limit,
-        fill,
-        closed: shape.form == 2,
-    }
-}
 
 // The map after what the profile said: "19 (new), after 4 and before the first pass", so that no node has an entry.
 fn after(said: Verdict, map: Map) -> Map
@@ -175,7 +161,7 @@ fn map_read(
     ensures { λ r. ⌜ Writes (mapText (now (file .entry)) fill page) (now (out .entry)) 0 r (now (out .exit)) ⌝ }
     ensures { λ r. ⌜ r ≤ mapRoom ⌝ }
 {
-    let choices = chosen(shape, fill);
+    let choices = form_build::chosen(shape, fill);
     let nodes = shape.nodes as usize;
     let cells = shape.rows as usize * nodes;
     let banks = form_lists::read_banks(file);

@@ -1,10 +1,10 @@
 // The records of the text, each known to fit: a bank, a node, the node at fault, the verdict.
 use crate::cells::write_line;
-use crate::cells::write_word;
 use bankdef::Bankdef;
 use bankdef::Bankdefs;
 use build_map::Fault;
 use iter::Address;
+use print_text::write_word;
 use refusal::Opt;
 use refusal::Place;
 use refusal::Refusal;

@@ -2,7 +2,7 @@
 use mathlib.Core.List.{List}
 use mathlib.Core.Path.{_≡_}
 use Prim.Native.Nat.{ℕ, _≤_}
-use lib.ListN.{length, take}
+use lib.ListN.{length}
 use Rattle.refusal.specs.declared.Opt.{Opt}
 use Rattle.print_map.specs.Text.{mapText}
 
@@ -10,12 +10,7 @@ use Rattle.print_map.specs.Text.{mapText}
 abbrev pub fileRoom : ℕ
 fileRoom = 65537
 
--- The first `count` bytes of a text are the map's text of a file, and all of it.
-pub record Shows (file : List ℕ) (fill : ℕ) (page : Opt) (count : ℕ) (text : List ℕ) : Type 0 where
-  pub counted : count ≡ length (mapText file fill page)
-  pub front : take count text ≡ mapText file fill page
-
--- So many bytes as the map's text of some file of at most 65,537 bytes has. That the file is the one that was read no contract can say; `Shows` says it of
--- the bytes at hand.
+-- So many bytes as the map's text of some file of at most 65,537 bytes has. That the file is the one that was read no contract can say; `write` says it
+-- of the bytes at hand.
 abbrev pub Mapped : ℕ → Opt → ℕ → Type 0
 Mapped fill page count = (file : List ℕ) × (length file ≤ fileRoom) × (count ≡ length (mapText file fill page))

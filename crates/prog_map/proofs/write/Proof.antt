@@ -18,12 +18,6 @@ front-is {text} {old} {new} {end} count w fits counted =
     ap (take count) (w .buffer ∙ sets-eq text old 0 (omega (arith, w .place)))
     ∙ take-at text (drop (0 + length text) old) count (sym counted)
 
-write-map-requires : tie.Need-write-map-requires
-write-map-requires c κs = search needs
-
-print-requires : tie.Need-print-requires
-print-requires c κs = search needs
-
 returns : tie.Need-returns
 returns c =
     let a = c .before .before .before .before .before .before .args in
@@ -37,4 +31,4 @@ returns c =
     }
 
 pub write-spec : {M : Type 1} → statement M
-write-spec = tie.close (tie.spec write-map-requires print-requires returns)
+write-spec = tie.close (tie.spec (λ c κs. search needs) (λ c κs. search needs) returns)

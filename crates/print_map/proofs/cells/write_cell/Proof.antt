@@ -5,38 +5,17 @@ use borrow.Author.Needs.{needs}
 use Rattle.print_map.proofs.cells.write_cell.Statement.{statement}
 use Rattle.print_map.proofs.cells.write_cell.Tie as tie
 
-write-minus-requires : tie.Need-write-minus-requires
-write-minus-requires c κs = c .before .before .before .pre
-
-same-length : tie.Need-same-length
-same-length c = search needs
-
 returns : tie.Need-returns
 returns c =
     let at-then1 = c .before .before .before .before in
     let start = at-then1 .before .before in
     (marked-1 (start .args .n) (at-then1 .if1 .taken) (c .before .before .write-minus .ensures .0), c .before .before .write-minus .ensures .1)
 
-slice-aggregate-write-word : tie.Need-slice-aggregate-write-word
-slice-aggregate-write-word c = search needs
-
-write-word-requires : tie.Need-write-word-requires
-write-word-requires c κs = omega (arith, c .before .before .before .before .before .pre)
-
-same-length-2 : tie.Need-same-length-2
-same-length-2 c = search needs
-
 returns-2 : tie.Need-returns-2
 returns-2 c =
     let at-then2 = c .before .before .before .before .before in
     let start = at-then2 .before .before .before in
     (marked-2 (start .args .n) (at-then2 .if2 .taken) (c .before .before .write-word .ensures), omega (arith, c .before .before .write-word .ensures .place))
-
-write-number-requires : tie.Need-write-number-requires
-write-number-requires c κs = omega (arith, c .before .before .before .before .pre)
-
-same-length-3 : tie.Need-same-length-3
-same-length-3 c = search needs
 
 returns-3 : tie.Need-returns-3
 returns-3 c =
@@ -50,13 +29,6 @@ pub write-cell-spec : {M : Type 1} → statement M
 write-cell-spec =
     tie.close
     (tie.spec
-    write-minus-requires
-    same-length
-    returns
-    slice-aggregate-write-word
-    write-word-requires
-    same-length-2
-    returns-2
-    write-number-requires
-    same-length-3
-    returns-3)
+    (λ c κs. c .before .before .before .pre) (λ c. search needs) returns (λ c. search needs)
+    (λ c κs. omega (arith, c .before .before .before .before .before .pre)) (λ c. search needs) returns-2
+    (λ c κs. omega (arith, c .before .before .before .before .pre)) (λ c. search needs) returns-3)

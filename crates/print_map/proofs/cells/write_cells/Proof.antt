@@ -6,7 +6,7 @@ use lib.ListN.{length, length-set}
 use Rattle.print_text.specs.Puts.{Writes}
 use Rattle.print_map.specs.Marks.{cellsTo}
 use Rattle.print_map.proofs.Lines.{cells-none, cells-next, written-as}
-use Rattle.print_map.proofs.Writing.{writes-then, writes-byte, writes-none, writes-long}
+use Rattle.print_text.specs.Laws.Sets.{writes-then, writes-byte, writes-none, writes-long}
 use borrow.Author.Needs.{needs}
 use Rattle.print_map.proofs.cells.write_cells.Statement.{statement}
 use Rattle.print_map.proofs.cells.write_cells.Tie as tie
@@ -36,12 +36,6 @@ add-write-cell c =
 shared-slice-read-write-cell : tie.Need-shared-slice-read-write-cell Inv-loop μ-loop
 shared-slice-read-write-cell c = omega (arith, c .before .before .before .before .before .before .before .pre .0, c .before .before .loop-test .taken)
 
-mul-write-cell : tie.Need-mul-write-cell Inv-loop μ-loop
-mul-write-cell c = search needs
-
-shared-slice-read-write-cell-2 : tie.Need-shared-slice-read-write-cell-2 Inv-loop μ-loop
-shared-slice-read-write-cell-2 c = search needs
-
 write-cell-requires : tie.Need-write-cell-requires Inv-loop μ-loop
 write-cell-requires c κs =
     let at-in-loop = c .before .before .before in
@@ -49,12 +43,6 @@ write-cell-requires c κs =
     let start = at-loop .before .before .before .before in
     let l = at-loop .loop in
     simp length-set (omega (arith, l .inv .1, at-in-loop .loop-test .taken, start .pre .1, writes-long (l .inv .2)))
-
-add-i : tie.Need-add-i Inv-loop μ-loop
-add-i c = search needs
-
-loop-less : tie.Need-loop-less Inv-loop μ-loop
-loop-less c = search needs
 
 loop-again : tie.Need-loop-again Inv-loop μ-loop
 loop-again c =
@@ -69,9 +57,6 @@ loop-again c =
       written-as (sym (cells-next (a .marks .now) (a .numbers .now) (l .i))) (writes-then (l .inv .2) (writes-then (writes-byte 32) (w .0))),
     )
 
-same-length : tie.Need-same-length Inv-loop μ-loop
-same-length c = writes-long (c .before .loop .inv .2)
-
 returns : tie.Need-returns Inv-loop μ-loop
 returns c =
     let a = c .before .before .before .before .before .args in
@@ -85,17 +70,5 @@ pub write-cells-spec : {M : Type 1} → statement M
 write-cells-spec =
     tie.close
     (tie.spec
-    Inv-loop
-    μ-loop
-    loop-holds
-    slice-write-out
-    add-write-cell
-    shared-slice-read-write-cell
-    mul-write-cell
-    shared-slice-read-write-cell-2
-    write-cell-requires
-    add-i
-    loop-less
-    loop-again
-    same-length
-    returns)
+    Inv-loop μ-loop loop-holds slice-write-out add-write-cell shared-slice-read-write-cell (λ c. search needs) (λ c. search needs) write-cell-requires
+    (λ c. search needs) (λ c. search needs) loop-again (λ c. writes-long (c .before .loop .inv .2)) returns)

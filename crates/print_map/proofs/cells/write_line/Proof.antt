@@ -1,21 +1,15 @@
 -- `write_line` meets its contract: the word, the cells and LF, one behind the other.
 use native.Mathlib.Omega.{arith}
-use Rattle.print_map.proofs.Writing.{writes-then}
+use Rattle.print_text.specs.Laws.Sets.{writes-then}
 use borrow.Author.Needs.{needs}
 use Rattle.print_map.proofs.cells.write_line.Statement.{statement}
 use Rattle.print_map.proofs.cells.write_line.Tie as tie
-
-write-word-requires : tie.Need-write-word-requires
-write-word-requires c κs = omega (arith, c .before .before .before .before .before .pre .1)
 
 write-cells-requires : tie.Need-write-cells-requires
 write-cells-requires c κs =
     let at-write-word = c .before .before .before in
     let start = at-write-word .before .before .before .before .before .before in
     (start .pre .0, omega (arith, start .pre .1, c .before .before .out .given, at-write-word .write-word .ensures .place))
-
-slice-aggregate-write-word : tie.Need-slice-aggregate-write-word
-slice-aggregate-write-word c = search needs
 
 write-word-requires-2 : tie.Need-write-word-requires-2
 write-word-requires-2 c κs =
@@ -25,9 +19,6 @@ write-word-requires-2 c κs =
     let at-write-word = at-out .before in
     let start = at-write-word .before .before .before .before .before .before in
     omega (arith, start .pre .1, at-out .out .given, at-out2 .out2 .given, at-write-cells .write-cells .ensures .1, at-write-word .write-word .ensures .place)
-
-same-length : tie.Need-same-length
-same-length c = search needs
 
 returns : tie.Need-returns
 returns c =
@@ -42,9 +33,5 @@ pub write-line-spec : {M : Type 1} → statement M
 write-line-spec =
     tie.close
     (tie.spec
-    write-word-requires
-    write-cells-requires
-    slice-aggregate-write-word
-    write-word-requires-2
-    same-length
-    returns)
+    (λ c κs. omega (arith, c .before .before .before .before .before .pre .1)) write-cells-requires (λ c. search needs) write-word-requires-2
+    (λ c. search needs) returns)

@@ -24,21 +24,6 @@ verdict-is : (v : Verdict) (page : ℕ) (banks : Bankdefs) → pagedBy v page ba
 verdict-is Accepted page banks = refl
 verdict-is (Refused why) page banks = refl
 
-enum-told : tie.Need-enum-told
-enum-told c = search needs
-
-enum-known-page : tie.Need-enum-known-page
-enum-known-page c = search needs
-
-check-profile-requires : tie.Need-check-profile-requires
-check-profile-requires c κs = search needs
-
-after-requires : tie.Need-after-requires
-after-requires c κs = search needs
-
-returns : tie.Need-returns
-returns c = rw (c .enum-told .given .1) refl
-
 returns-2 : tie.Need-returns-2
 returns-2 c =
     let s = c .before .before .before .before .before .before .before .before .before .before in
@@ -51,4 +36,4 @@ returns-2 c =
     ∙ verdict-is (verdictOf (b .banks) (b .lists) (b .choices .fill) (p .0 .0)) (p .0 .0) (b .banks)))
 
 pub in-profile-spec : {M : Type 1} → statement M
-in-profile-spec = tie.close (tie.spec enum-told enum-known-page check-profile-requires after-requires returns returns-2)
+in-profile-spec = tie.close (tie.spec (λ c. search needs) (λ c. search needs) (λ c κs. search needs) (λ c κs. search needs) (λ c. rw (c .enum-told .given .1) refl) returns-2)

@@ -14,18 +14,6 @@ use Rattle.print_map.proofs.files.map_read.Tie as tie
 long : length {A = ℕ} (replicate 4096 0) ≡ maxNodes
 long = length-replicate {A = ℕ} 4096 0
 
-chosen-requires : tie.Need-chosen-requires
-chosen-requires c κs = search needs
-
-mul-cells : tie.Need-mul-cells
-mul-cells c = search needs
-
-read-banks-requires : tie.Need-read-banks-requires
-read-banks-requires c κs = search needs
-
-read-values-requires : tie.Need-read-values-requires
-read-values-requires c κs = search needs
-
 slice-aggregate-map-nodes : tie.Need-slice-aggregate-map-nodes
 slice-aggregate-map-nodes c = sym (length-take-le _ _ (c .before .before .before .before .before .before .before .before .before .before .pre .0 .kinds-fit))
 
@@ -40,9 +28,6 @@ slice-aggregate-map-nodes-3 c = sym
 slice-aggregate-map-nodes-4 : tie.Need-slice-aggregate-map-nodes-4
 slice-aggregate-map-nodes-4 c = sym
     (length-take-le _ _ (c .before .before .before .before .before .before .before .before .before .before .before .before .before .pre .0 .states-fit))
-
-map-nodes-requires : tie.Need-map-nodes-requires
-map-nodes-requires c κs = search needs
 
 slice-aggregate-in-profile : tie.Need-slice-aggregate-in-profile
 slice-aggregate-in-profile c = sym
@@ -67,9 +52,6 @@ slice-aggregate-in-profile-4 c = sym
     (length-take-le _ _
     (c .before .before .before .before .before .before .before .before .before .before .before .before .before .before .before .before .before
     .before .before .before .before .before .pre .0 .states-fit))
-
-in-profile-requires : tie.Need-in-profile-requires
-in-profile-requires c κs = search needs
 
 slice-aggregate-write-all : tie.Need-slice-aggregate-write-all
 slice-aggregate-write-all c = sym
@@ -177,9 +159,6 @@ write-all-requires c κs =
       ),
     )
 
-same-length : tie.Need-same-length
-same-length c = search needs
-
 returns : tie.Need-returns
 returns c =
     let s = c .before .before .before .before .before .before .before .before .before .before .before .before .before .before .before .before
@@ -204,25 +183,7 @@ pub map-read-spec : {M : Type 1} → statement M
 map-read-spec =
     tie.close
     (tie.spec
-    chosen-requires
-    mul-cells
-    read-banks-requires
-    read-values-requires
-    slice-aggregate-map-nodes
-    slice-aggregate-map-nodes-2
-    slice-aggregate-map-nodes-3
-    slice-aggregate-map-nodes-4
-    map-nodes-requires
-    slice-aggregate-in-profile
-    slice-aggregate-in-profile-2
-    slice-aggregate-in-profile-3
-    slice-aggregate-in-profile-4
-    in-profile-requires
-    slice-aggregate-write-all
-    slice-aggregate-write-all-2
-    slice-aggregate-write-all-3
-    slice-aggregate-write-all-4
-    slice-aggregate-write-all-5
-    write-all-requires
-    same-length
-    returns)
+    (λ c κs. search needs) (λ c. search needs) (λ c κs. search needs) (λ c κs. search needs) slice-aggregate-map-nodes slice-aggregate-map-nodes-2
+    slice-aggregate-map-nodes-3 slice-aggregate-map-nodes-4 (λ c κs. search needs) slice-aggregate-in-profile slice-aggregate-in-profile-2
+    slice-aggregate-in-profile-3 slice-aggregate-in-profile-4 (λ c κs. search needs) slice-aggregate-write-all slice-aggregate-write-all-2
+    slice-aggregate-write-all-3 slice-aggregate-write-all-4 slice-aggregate-write-all-5 write-all-requires (λ c. search needs) returns)

@@ -1,12 +1,9 @@
 -- `write_all` meets its contract: the records one behind the other, each with room.
 use native.Mathlib.Omega.{arith}
-use Rattle.print_map.proofs.Writing.{writes-then}
+use Rattle.print_text.specs.Laws.Sets.{writes-then}
 use borrow.Author.Needs.{needs}
 use Rattle.print_map.proofs.files.write_all.Statement.{statement}
 use Rattle.print_map.proofs.files.write_all.Tie as tie
-
-write-file-requires : tie.Need-write-file-requires
-write-file-requires c κs = omega (arith, c .before .before .before .before .before .before .before .before .pre .0)
 
 write-banks-requires : tie.Need-write-banks-requires
 write-banks-requires c κs =
@@ -82,9 +79,6 @@ write-verdict-requires c κs =
       at-write-file .write-file .ensures .1,
     )
 
-same-length : tie.Need-same-length
-same-length c = search needs
-
 returns : tie.Need-returns
 returns c =
     let at-write-fault = c .before .before .before .before .before .before in
@@ -105,10 +99,5 @@ pub write-all-spec : {M : Type 1} → statement M
 write-all-spec =
     tie.close
     (tie.spec
-    write-file-requires
-    write-banks-requires
-    write-nodes-requires
-    write-fault-requires
-    write-verdict-requires
-    same-length
-    returns)
+    (λ c κs. omega (arith, c .before .before .before .before .before .before .before .before .pre .0)) write-banks-requires write-nodes-requires
+    write-fault-requires write-verdict-requires (λ c. search needs) returns)

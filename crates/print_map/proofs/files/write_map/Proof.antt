@@ -3,15 +3,8 @@ use native.Mathlib.Omega.{arith}
 use Rattle.print_map.proofs.files.write_map.Statement.{statement}
 use Rattle.print_map.proofs.files.write_map.Tie as tie
 
-map-file-requires : tie.Need-map-file-requires
-map-file-requires c κs = omega (arith, c .map-file-arg .given .0 .1)
-
-returns : tie.Need-returns
-returns c = (c .map-file .ensures .0, c .map-file .ensures .1)
-
 pub write-map-spec : {M : Type 1} → statement M
 write-map-spec =
     tie.close
     (tie.spec
-    map-file-requires
-    returns)
+    (λ c κs. omega (arith, c .map-file-arg .given .0 .1)) (λ c. (c .map-file .ensures .0, c .map-file .ensures .1)))

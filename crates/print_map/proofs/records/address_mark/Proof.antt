@@ -7,30 +7,14 @@ use borrow.Author.Needs.{needs}
 use Rattle.print_map.proofs.records.address_mark.Statement.{statement}
 use Rattle.print_map.proofs.records.address_mark.Tie as tie
 
-enum-known-a : tie.Need-enum-known-a
-enum-known-a c = search needs
-
-sign-of-requires : tie.Need-sign-of-requires
-sign-of-requires c κs = search needs
-
-enum-told : tie.Need-enum-told
-enum-told c = search needs
-
 returns : tie.Need-returns
 returns c =
     c .sign-of .ensures
     ∙ ap signOf (toZ-ofZ w64 (c .before .before .a .given .0 .0) (record { sfits = c .before .known-told .given .0 .1 }))
     ∙ sym (ap addressMark (c .before .before .a .given .1))
 
-returns-2 : tie.Need-returns-2
-returns-2 c = search needs
-
 pub address-mark-spec : {M : Type 1} → statement M
 address-mark-spec =
     tie.close
     (tie.spec
-    enum-known-a
-    sign-of-requires
-    enum-told
-    returns
-    returns-2)
+    (λ c. search needs) (λ c κs. search needs) (λ c. search needs) returns (λ c. search needs))

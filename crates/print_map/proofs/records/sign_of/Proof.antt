@@ -24,5 +24,4 @@ pub sign-of-spec : {M : Type 1} → statement M
 sign-of-spec =
     tie.close
     (tie.spec
-    returns
-    returns-2)
+    returns returns-2)

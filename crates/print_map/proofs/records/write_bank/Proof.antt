@@ -15,56 +15,11 @@ use Rattle.print_map.proofs.records.write_bank.Tie as tie
 fits : (s : tie.Start) → SFits w64 (s .args .def .start)
 fits s = search needs
 
-sign-of-requires : tie.Need-sign-of-requires
-sign-of-requires c κs = search needs
-
-mark-of-requires : tie.Need-mark-of-requires
-mark-of-requires c κs = search needs
-
-mark-of-requires-2 : tie.Need-mark-of-requires-2
-mark-of-requires-2 c κs = search needs
-
-mark-of-requires-3 : tie.Need-mark-of-requires-3
-mark-of-requires-3 c κs = search needs
-
-cast-t18 : tie.Need-cast-t18
-cast-t18 c = search needs
-
-magnitude-requires : tie.Need-magnitude-requires
-magnitude-requires c κs = search needs
-
-value-of-requires : tie.Need-value-of-requires
-value-of-requires c κs = search needs
-
-value-of-requires-2 : tie.Need-value-of-requires-2
-value-of-requires-2 c κs = search needs
-
-value-of-requires-3 : tie.Need-value-of-requires-3
-value-of-requires-3 c κs = search needs
-
-bit-of-requires : tie.Need-bit-of-requires
-bit-of-requires c κs = search needs
-
-cast-t24 : tie.Need-cast-t24
-cast-t24 c = search needs
-
-slice-aggregate-write-line : tie.Need-slice-aggregate-write-line
-slice-aggregate-write-line c = search needs
-
-slice-aggregate-write-line-2 : tie.Need-slice-aggregate-write-line-2
-slice-aggregate-write-line-2 c = search needs
-
-slice-aggregate-write-line-3 : tie.Need-slice-aggregate-write-line-3
-slice-aggregate-write-line-3 c = search needs
-
 write-line-requires : tie.Need-write-line-requires
 write-line-requires c κs =
     let to-start = c .before .before .before .before .before .before .before .before .before .before .before .before .before .before .before .before in
     let start = to-start .before in
     (refl, omega (arith, start .pre))
-
-same-length : tie.Need-same-length
-same-length c = search needs
 
 returns : tie.Need-returns
 returns c =
@@ -91,20 +46,6 @@ pub write-bank-spec : {M : Type 1} → statement M
 write-bank-spec =
     tie.close
     (tie.spec
-    sign-of-requires
-    mark-of-requires
-    mark-of-requires-2
-    mark-of-requires-3
-    cast-t18
-    magnitude-requires
-    value-of-requires
-    value-of-requires-2
-    value-of-requires-3
-    bit-of-requires
-    cast-t24
-    slice-aggregate-write-line
-    slice-aggregate-write-line-2
-    slice-aggregate-write-line-3
-    write-line-requires
-    same-length
-    returns)
+    (λ c κs. search needs) (λ c κs. search needs) (λ c κs. search needs) (λ c κs. search needs) (λ c. search needs) (λ c κs. search needs)
+    (λ c κs. search needs) (λ c κs. search needs) (λ c κs. search needs) (λ c κs. search needs) (λ c. search needs) (λ c. search needs)
+    (λ c. search needs) (λ c. search needs) write-line-requires (λ c. search needs) returns)

@@ -7,7 +7,7 @@ use Rattle.bankdef.specs.declared.Bankdef.{Bankdef}
 use Rattle.print_text.specs.Puts.{Writes}
 use Rattle.print_map.specs.Text.{bankLine, banksText}
 use Rattle.print_map.proofs.Lines.{banks-none, banks-next, written-as}
-use Rattle.print_map.proofs.Writing.{writes-then, writes-none, writes-long}
+use Rattle.print_text.specs.Laws.Sets.{writes-then, writes-none, writes-long}
 use borrow.Author.Needs.{needs}
 use Rattle.print_map.proofs.records.write_banks.Statement.{statement}
 use Rattle.print_map.proofs.records.write_banks.Tie as tie
@@ -19,22 +19,13 @@ Inv-loop out₀ at banks padding count end₀ i₀ out end i =
 abbrev μ-loop : tie.MeasureT-loop
 μ-loop out₀ at banks padding count end₀ i₀ out end i = count - i
 
-shorter-requires : tie.Need-shorter-requires Inv-loop μ-loop
-shorter-requires c κs = search needs
-
 loop-holds : tie.Need-loop-holds Inv-loop μ-loop
 loop-holds c =
     let a = c .before .before .args in
     (omega arith, omega arith, written-as (sym (banks-none (a .banks) (a .t4))) (writes-none (a .out .now) (a .at)))
 
-bank-record-requires : tie.Need-bank-record-requires Inv-loop μ-loop
-bank-record-requires c κs = search needs
-
 mul-write-bank : tie.Need-mul-write-bank Inv-loop μ-loop
 mul-write-bank c = record { fits = omega (arith, c .before .before .loop-test .taken, c .before .before .before .before .shorter .ensures) }
-
-array-read-write-bank : tie.Need-array-read-write-bank Inv-loop μ-loop
-array-read-write-bank c = omega (arith, c .before .before .loop-test .taken, c .before .before .before .before .shorter .ensures)
 
 write-bank-requires : tie.Need-write-bank-requires Inv-loop μ-loop
 write-bank-requires c κs =
@@ -49,9 +40,6 @@ add-i c =
     let at-in-loop = c .before .before .before .before .before in
     let at-shorter = at-in-loop .before .before in
     record { fits = omega (arith, at-in-loop .loop-test .taken, at-shorter .shorter .ensures) }
-
-loop-less : tie.Need-loop-less Inv-loop μ-loop
-loop-less c = omega (arith, c .before .before .before .before .before .loop-test .taken)
 
 loop-again : tie.Need-loop-again Inv-loop μ-loop
 loop-again c =
@@ -68,9 +56,6 @@ loop-again c =
       written-as (sym (banks-next (a .banks) (a .t4) (l .i))) (writes-then (l .inv .2) one),
     )
 
-same-length : tie.Need-same-length Inv-loop μ-loop
-same-length c = writes-long (c .before .loop .inv .2)
-
 returns : tie.Need-returns Inv-loop μ-loop
 returns c =
     let start = c .before .before .before .before in
@@ -86,16 +71,6 @@ pub write-banks-spec : {M : Type 1} → statement M
 write-banks-spec =
     tie.close
     (tie.spec
-    Inv-loop
-    μ-loop
-    shorter-requires
-    loop-holds
-    bank-record-requires
-    mul-write-bank
-    array-read-write-bank
-    write-bank-requires
-    add-i
-    loop-less
-    loop-again
-    same-length
-    returns)
+    Inv-loop μ-loop (λ c κs. search needs) loop-holds (λ c κs. search needs) mul-write-bank
+    (λ c. omega (arith, c .before .before .loop-test .taken, c .before .before .before .before .shorter .ensures)) write-bank-requires add-i
+    (λ c. omega (arith, c .before .before .before .before .before .loop-test .taken)) loop-again (λ c. writes-long (c .before .loop .inv .2)) returns)

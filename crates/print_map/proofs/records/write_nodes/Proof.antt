@@ -5,7 +5,7 @@ use native.Mathlib.Omega.{arith}
 use Rattle.print_text.specs.Puts.{Writes}
 use Rattle.print_map.specs.Steps.{nodesHeld}
 use Rattle.print_map.proofs.Lines.{nodes-none, nodes-next, written-as}
-use Rattle.print_map.proofs.Writing.{writes-then, writes-none, writes-long}
+use Rattle.print_text.specs.Laws.Sets.{writes-then, writes-none, writes-long}
 use Rattle.print_map.proofs.records.write_nodes.Statement.{statement}
 use Rattle.print_map.proofs.records.write_nodes.Tie as tie
 
@@ -111,9 +111,6 @@ loop-again c =
           (writes-then (l .inv .2) (w .0)),
     )
 
-same-length : tie.Need-same-length Inv-loop μ-loop
-same-length c = writes-long (c .before .loop .inv .2)
-
 returns : tie.Need-returns Inv-loop μ-loop
 returns c =
     let a = c .before .before .before .before .before .before .before .before .args in
@@ -128,21 +125,6 @@ pub write-nodes-spec : {M : Type 1} → statement M
 write-nodes-spec =
     tie.close
     (tie.spec
-    Inv-loop
-    μ-loop
-    loop-holds
-    shared-slice-read-write-node
-    mul-write-node
-    shared-slice-read-write-node-2
-    mul-write-node-2
-    shared-slice-read-write-node-3
-    mul-write-node-3
-    shared-slice-read-write-node-4
-    mul-write-node-4
-    shared-slice-read-write-node-5
-    write-node-requires
-    add-i
-    loop-less
-    loop-again
-    same-length
-    returns)
+    Inv-loop μ-loop loop-holds shared-slice-read-write-node mul-write-node shared-slice-read-write-node-2 mul-write-node-2
+    shared-slice-read-write-node-3 mul-write-node-3 shared-slice-read-write-node-4 mul-write-node-4 shared-slice-read-write-node-5 write-node-requires
+    add-i loop-less loop-again (λ c. writes-long (c .before .loop .inv .2)) returns)

@@ -6,48 +6,15 @@ use borrow.Author.Needs.{needs}
 use Rattle.print_map.proofs.records.write_refused.Statement.{statement}
 use Rattle.print_map.proofs.records.write_refused.Tie as tie
 
-number-requires : tie.Need-number-requires
-number-requires c κs = search needs
-
-place-of-requires : tie.Need-place-of-requires
-place-of-requires c κs = search needs
-
-enum-known-p : tie.Need-enum-known-p
-enum-known-p c = search needs
-
-slice-aggregate-write-line : tie.Need-slice-aggregate-write-line
-slice-aggregate-write-line c = search needs
-
-slice-aggregate-write-line-2 : tie.Need-slice-aggregate-write-line-2
-slice-aggregate-write-line-2 c = search needs
-
-slice-aggregate-write-line-3 : tie.Need-slice-aggregate-write-line-3
-slice-aggregate-write-line-3 c = search needs
-
 write-line-requires : tie.Need-write-line-requires
 write-line-requires c κs =
     let start = c .before .before .before .before .before .before .before .before .before .before in
     (refl, omega (arith, start .pre))
 
-enum-known-p-2 : tie.Need-enum-known-p-2
-enum-known-p-2 c = search needs
-
-slice-aggregate-write-line-4 : tie.Need-slice-aggregate-write-line-4
-slice-aggregate-write-line-4 c = search needs
-
-slice-aggregate-write-line-5 : tie.Need-slice-aggregate-write-line-5
-slice-aggregate-write-line-5 c = search needs
-
-slice-aggregate-write-line-6 : tie.Need-slice-aggregate-write-line-6
-slice-aggregate-write-line-6 c = search needs
-
 write-line-requires-2 : tie.Need-write-line-requires-2
 write-line-requires-2 c κs =
     let start = c .before .before .before .before .before .before .before .before .before .before in
     (refl, omega (arith, start .pre))
-
-same-length : tie.Need-same-length
-same-length c = search needs
 
 returns : tie.Need-returns
 returns c =
@@ -59,9 +26,6 @@ returns c =
           (c .before .before .write-line .ensures .0),
       omega (arith, c .before .before .write-line .ensures .1),
     )
-
-same-length-2 : tie.Need-same-length-2
-same-length-2 c = search needs
 
 returns-2 : tie.Need-returns-2
 returns-2 c =
@@ -78,19 +42,6 @@ pub write-refused-spec : {M : Type 1} → statement M
 write-refused-spec =
     tie.close
     (tie.spec
-    number-requires
-    place-of-requires
-    enum-known-p
-    slice-aggregate-write-line
-    slice-aggregate-write-line-2
-    slice-aggregate-write-line-3
-    write-line-requires
-    enum-known-p-2
-    slice-aggregate-write-line-4
-    slice-aggregate-write-line-5
-    slice-aggregate-write-line-6
-    write-line-requires-2
-    same-length
-    returns
-    same-length-2
-    returns-2)
+    (λ c κs. search needs) (λ c κs. search needs) (λ c. search needs) (λ c. search needs) (λ c. search needs) (λ c. search needs) write-line-requires
+    (λ c. search needs) (λ c. search needs) (λ c. search needs) (λ c. search needs) write-line-requires-2 (λ c. search needs) returns
+    (λ c. search needs) returns-2)
