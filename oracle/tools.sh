@@ -133,9 +133,8 @@ for asked in '0x118 0x10 released.hex.*0x00000120' '0x120 2 released.hex.*0x0000
     # shellcheck disable=SC2086
     set -- $asked
     is 1 tools/bench "$released" "$overlay" --range "$1" "$2"
-    tools/bench "$released" "$overlay" --range "$1" "$2" 2>"$room/why"
-    grep -q "$3" "$room/why" || {
-        echo "tools/bench --range $1 $2 says: $(cat "$room/why")"
+    grep -q "$3" "$room/err" || {
+        echo "tools/bench --range $1 $2 says: $(cat "$room/err")"
         wrong=1
     }
 done

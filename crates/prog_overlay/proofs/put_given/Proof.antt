@@ -22,7 +22,7 @@ returns c =
     let at-if1 = c .before .before .before .before .before in
     let start = at-if1 .before .before .before in
     let a = start .args in
-    stands-as (sym (pick-true _ _ (le-leb (a .end) (a .free) (at-if1 .if1 .taken)))) (c .before .before .put-bytes .ensures)
+    stands-as (sym (pick-true _ _ (le-leb (a .end) (a .free) (omega (arith, at-if1 .if1 .taken))))) (c .before .before .put-bytes .ensures)
 
 slice-aggregate-put-named : tie.Need-slice-aggregate-put-named
 slice-aggregate-put-named c = search needs
