@@ -5,3 +5,4 @@ pub mod Steps
 pub mod Text
 pub mod Theorems
 pub mod Laws
+pub mod SameText

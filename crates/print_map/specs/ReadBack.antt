@@ -16,3 +16,8 @@ pub record Columns : Type 0 where
 
 abbrev pub lineFor : Bankdefs → Columns → List ℕ
 lineFor banks c = nodeLine banks (c .node) (c .kind) (c .bank) (c .position) (c .output) (c .size)
+
+-- two nodes whose columns are the same
+abbrev pub SameColumns : Columns → Columns → Type 0
+SameColumns c d =
+    (c .node ≡ d .node) × (c .kind ≡ d .kind) × (c .bank ≡ d .bank) × (c .position ≡ d .position) × (c .output ≡ d .output) × (c .size ≡ d .size)

@@ -1,14 +1,23 @@
 -- Laws that Theorems/ReadBack rests on: a cell has neither a space nor an LF in it, so that a line can be cut where it was put together.
 use mathlib.Core.Path.{_≡_, refl, sym, ap, ap₂, _∙_}
+use mathlib.Core.Bool.{Bool, true, false}
 use mathlib.Core.List.{List, [], _∷_, _++_, append-assoc}
 use Prim.Native.Nat.{ℕ, _+_, _/_, _%_, _≤_, _<_}
 use native.Mathlib.Omega.{arith}
+use borrow.Author.Tests.{eqb-true}
+use lib.Dec.{eqb}
 use lib.ListN.{length}
-use Rattle.print_text.specs.Ascii.{ascii}
+use Rattle.refusal.specs.Pick.{pick}
+use Rattle.bankdef.specs.declared.Bankdefs.{Bankdefs}
+use Rattle.blocks.specs.Offsets.{noOffset}
+use Rattle.iter.specs.Address.{addressOf}
+use Rattle.resolver.specs.Once.{bankRecord}
 use Rattle.print_text.specs.Decimal.{decimal, digit}
 use Rattle.print_text.specs.Laws.Decimal.{by-tens, decimal-few}
 use Rattle.print_text.specs.Theorems.Decimal.{decimal-injective, decimal-more, decimal-some}
 use Rattle.print_map.specs.Cells.{Cell, number, minus, none, cellText, cellsFrom, lineOf}
+use Rattle.print_map.specs.ReadBack.{Columns, SameColumns}
+use Rattle.print_map.specs.Text.{addressCell, wordCell}
 
 -- every character is this or above
 abbrev pub Above : ℕ → List ℕ → Type 0
@@ -36,7 +45,7 @@ cell-above none = (omega arith, tt)
 
 -- ---- a cell by its text
 
-same-head : {x y : ℕ} {xs ys : List ℕ} → x ∷ xs ≡ y ∷ ys → x ≡ y
+pub same-head : {x y : ℕ} {xs ys : List ℕ} → x ∷ xs ≡ y ∷ ys → x ≡ y
 same-head e = cc
 
 same-tail : {x y : ℕ} {xs ys : List ℕ} → x ∷ xs ≡ y ∷ ys → xs ≡ ys
@@ -82,26 +91,24 @@ unfolding cellsFrom
 from-ended text [] = refl
 from-ended text (c ∷ cs) = from-ended (text ++ (32 ∷ cellText c)) cs ∙ append-assoc text (32 ∷ cellText c) (ended cs)
 
-pub cells-injective : (cs ds : List Cell) → ended cs ≡ ended ds → cs ≡ ds
-cells-injective [] [] e = refl
-cells-injective [] (d ∷ ds) e = absurd (omega (arith, same-head e))
-cells-injective (c ∷ cs) [] e = absurd (omega (arith, same-head e))
-cells-injective (c ∷ cs) (d ∷ ds) e = by cs ds (cells-injective cs ds) (same-tail e)
-  where
-    by : (cs ds : List Cell) → (ended cs ≡ ended ds → cs ≡ ds) → cellText c ++ ended cs ≡ cellText d ++ ended ds → c ∷ cs ≡ d ∷ ds
-    by [] [] on f =
-        let two = cut (cellText c) (cellText d) 10 10 [] [] (cell-above c) (cell-above d) (omega arith) (omega arith) f in
-        ap (λ (x : Cell). x ∷ []) (cell-injective c d (two .0))
-    by [] (d′ ∷ ds) on f =
-        let two = cut (cellText c) (cellText d) 10 32 [] (cellText d′ ++ ended ds) (cell-above c) (cell-above d) (omega arith) (omega arith) f in
-        absurd (omega (arith, same-head (two .1)))
-    by (c′ ∷ cs) [] on f =
-        let two = cut (cellText c) (cellText d) 32 10 (cellText c′ ++ ended cs) [] (cell-above c) (cell-above d) (omega arith) (omega arith) f in
-        absurd (omega (arith, same-head (two .1)))
-    by (c′ ∷ cs) (d′ ∷ ds) on f =
-        let two = cut (cellText c) (cellText d) 32 32 (cellText c′ ++ ended cs) (cellText d′ ++ ended ds) (cell-above c) (cell-above d)
-        (omega arith) (omega arith) f in
-        ap₂ (λ (x : Cell) (l : List Cell). x ∷ l) (cell-injective c d (two .0)) (on (two .1))
+-- cells and what stands behind them begin with a space or an LF
+starts : (cs : List Cell) (r : List ℕ) → (a : ℕ) × (t : List ℕ) × (a < 33) × (ended cs ++ r ≡ a ∷ t)
+starts [] r = (10, r, omega arith, refl)
+starts (c ∷ cs) r = (32, (cellText c ++ ended cs) ++ r, omega arith, refl)
+
+-- Cells, and the text behind their line, by the text of both.
+pub cells-then : (cs ds : List Cell) (r s : List ℕ) → ended cs ++ r ≡ ended ds ++ s → (cs ≡ ds) × (r ≡ s)
+cells-then [] [] r s e = (refl, same-tail e)
+cells-then [] (d ∷ ds) r s e = absurd (omega (arith, same-head e))
+cells-then (c ∷ cs) [] r s e = absurd (omega (arith, same-head e))
+cells-then (c ∷ cs) (d ∷ ds) r s e =
+    let x = starts cs r in
+    let y = starts ds s in
+    let f = sym (append-assoc (cellText c) (ended cs) r) ∙ same-tail e ∙ append-assoc (cellText d) (ended ds) s in
+    let two = cut (cellText c) (cellText d) (x .0) (y .0) (x .1) (y .1) (cell-above c) (cell-above d) (x .2) (y .2)
+    (ap (λ (l : List ℕ). cellText c ++ l) (sym (x .3)) ∙ f ∙ ap (λ (l : List ℕ). cellText d ++ l) (y .3)) in
+    let rest = cells-then cs ds r s (x .3 ∙ two .1 ∙ sym (y .3)) in
+    (ap₂ (λ (z : Cell) (l : List Cell). z ∷ l) (cell-injective c d (two .0)) (rest .0), rest .1)
 
 -- a word before them
 pub after-same : (word xs ys : List ℕ) → word ++ xs ≡ word ++ ys → xs ≡ ys
@@ -110,3 +117,46 @@ after-same (x ∷ word) xs ys e = after-same word xs ys (same-tail e)
 
 pub line-ended : (word : List ℕ) (cs : List Cell) → lineOf word cs ≡ word ++ ended cs
 line-ended word cs = append-assoc word (cellsFrom [] cs) (10 ∷ []) ∙ ap (λ (l : List ℕ). word ++ l) (from-ended [] cs)
+
+-- A line, and the text behind it, by the text of both: its word, which has neither a space nor an LF in it, its cells, and that text.
+pub line-then : (word other : List ℕ) (cs ds : List Cell) (r s : List ℕ) → Above 33 word → Above 33 other → lineOf word cs ++ r ≡ lineOf other ds ++ s
+    → (word ≡ other) × (cs ≡ ds) × (r ≡ s)
+line-then word other cs ds r s h k e =
+    let x = starts cs r in
+    let y = starts ds s in
+    let two = cut word other (x .0) (y .0) (x .1) (y .1) h k (x .2) (y .2)
+    (ap (λ (l : List ℕ). word ++ l) (sym (x .3))
+    ∙ sym (append-assoc word (ended cs) r)
+    ∙ ap (λ (l : List ℕ). l ++ r) (sym (line-ended word cs))
+    ∙ e
+    ∙ ap (λ (l : List ℕ). l ++ s) (line-ended other ds)
+    ∙ append-assoc other (ended ds) s
+    ∙ ap (λ (l : List ℕ). other ++ l) (y .3)) in
+    let rest = cells-then cs ds r s (x .3 ∙ two .1 ∙ sym (y .3)) in
+    (two .0, rest .0, rest .1)
+
+-- ---- a node's columns
+
+abbrev pub cellsOf : Bankdefs → Columns → List Cell
+cellsOf banks c =
+    number (c .node) ∷
+    number (c .kind) ∷
+    number (c .bank) ∷
+    number (c .position) ∷
+    addressCell (addressOf (bankRecord banks (c .bank)) (c .position) (c .node)) ∷
+    wordCell (c .output) ∷
+    number (c .size) ∷
+    []
+
+-- a place in the output by its cell: `-` stands for the word for none, and for no other
+word-told : (v w : ℕ) (s t : Bool) → eqb v noOffset ≡ s → eqb w noOffset ≡ t → pick s none (number v) ≡ pick t none (number w) → v ≡ w
+word-told v w true true a b e = eqb-true v noOffset a ∙ sym (eqb-true w noOffset b)
+word-told v w true false a b e = let z : _≡_ {A = ℕ} 0 1 = cc in absurd (omega arith)
+word-told v w false true a b e = let z : _≡_ {A = ℕ} 0 1 = cc in absurd (omega arith)
+word-told v w false false a b e = cc
+
+-- the cells of a node tell its columns, whatever table its address is told by
+pub columns-told : (banks other : Bankdefs) (c d : Columns) → cellsOf banks c ≡ cellsOf other d → SameColumns c d
+columns-told banks other c d same =
+    let out : wordCell (c .output) ≡ wordCell (d .output) = cc in
+    (cc, cc, cc, cc, word-told (c .output) (d .output) (eqb (c .output) noOffset) (eqb (d .output) noOffset) refl refl out, cc)

@@ -1,26 +1,23 @@
 -- How far a layout goes that has passed its checks, by what its passes come to and by what the build comes to at its nodes: in the map and in the sentences.
 use mathlib.Core.Path.{_≡_, refl, sym, ap, subst, _∙_}
-use mathlib.Core.Bool.{Bool, true, false}
 use mathlib.Core.List.{List}
 use mathlib.Core.Logic.{_⊎_, inl, inr, ⊎-elim}
-use Prim.Native.Nat.{ℕ, suc, _+_, _-_, _≤_, _<_, min}
+use Prim.Native.Nat.{ℕ, suc, _+_, _-_, _≤_, min}
 use native.Mathlib.Numerals.{add-one}
 use native.Mathlib.Omega.{arith}
 use borrow.Author.Tests.{le-ltb}
-use lib.Dec.{ltb}
 use Rattle.refusal.specs.Refusals.{numberOf, placeOf}
 use Rattle.refusal.specs.declared.Place.the-variants.{One}
 use Rattle.refusal.specs.declared.Refusal.{Refusal}
 use Rattle.refusal.specs.declared.Refusal.the-variants.{Unresolved as EndedUnresolved}
 use Rattle.refusal.specs.declared.Verdict.{Verdict}
-use Rattle.refusal.specs.declared.Verdict.the-variants.{Accepted, Refused}
+use Rattle.refusal.specs.declared.Verdict.the-variants.{Refused}
 use Rattle.overlap_checker.specs.State.{State}
 use Rattle.overlap_checker.specs.Folds.{stateAfter}
 use Rattle.resolver.specs.Layout.{Checked}
 use Rattle.resolver.specs.Passes.{resolutionOf}
 use Rattle.resolver.specs.Theorems.RefusedExactly.{checked-passes}
 use Rattle.resolver.specs.declared.Resolution.{Resolution}
-use Rattle.resolver.specs.declared.Settled.{Settled}
 use Rattle.resolver.specs.declared.Settled.the-variants.{At, Refused as Unsettled}
 use Rattle.build_plan.specs.Placing.{Placed, holds, stops, placedIf, placedAll, offerOf}
 use Rattle.build_plan.specs.Laws.PlacingLaws.{stops-holds}
@@ -30,15 +27,15 @@ use Rattle.output.specs.Theorems.OffersMade.{refused-where}
 use Rattle.output.specs.Output as out
 use Rattle.output.specs.Output.{Input, roomOf, buildOf, closedOf, visitsOf, passesOf, settledOf}
 use Rattle.output.specs.declared.Output.{Output}
-use Rattle.build_map.specs.Map.{reachOf, settledReach, traced, metReach, stoppedReach, wholeReach}
+use Rattle.build_map.specs.Map.{reachOf, settledReach, traced, metReach, wholeReach}
 use Rattle.build_map.specs.Laws.TracedLaws.{traced-stopped, traced-whole}
 use Rattle.build_map.specs.Theorems.Reached.{checked-ran}
-use Rattle.build_map.specs.declared.Fault.the-variants.{None, At as AtFault}
+use Rattle.build_map.specs.declared.Fault.the-variants.{At as AtFault}
 use Rattle.build_map.specs.declared.Reach.{Reach}
 use Rattle.build_paged.specs.InProfile.{leaves}
 use Rattle.c_answers.specs.Told.{firstOf, secondOf, layoutTold}
 use Rattle.c_tables.specs.Tables.{choicesBy}
-use Rattle.denkumari.specs.Maps.{MapTold, toldBy, nodeTold}
+use Rattle.denkumari.specs.Maps.{MapTold, toldBy}
 use Rattle.denkumari.specs.Tables.{TablesTold}
 use Rattle.denkumari.specs.declared.maps.DkMap.{DkMap}
 use Rattle.says_build.specs.Build as build
@@ -52,7 +49,7 @@ use Rattle.says_meets.specs.Laws.Placed.{refuses-listed, stopped-build}
 use Rattle.says_meets.specs.Laws.Refused.{none-refused, refused-first}
 use Rattle.says_meets.specs.Laws.Run as run
 use Rattle.says_meets.specs.Laws.Run.{Halts, SettledSo, passes-meet}
-use Rattle.says_meets.specs.Laws.Shown.{Shown, listed, walked, rowNo}
+use Rattle.says_meets.specs.Laws.Shown.{Shown, listed}
 use Rattle.says_meets.specs.Laws.Stops.{reads-row}
 use Rattle.says_meets.specs.Laws.Table.{table}
 use Rattle.says_meets.specs.Laws.Walk.{Goes}

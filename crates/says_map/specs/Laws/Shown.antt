@@ -1,7 +1,7 @@
 -- What the contract of `dk_map` tells of a layout that has passed its checks: the entries of the nodes that are shown and the sums are the sentences' own, and
 -- what stands past them is as it was.
 use mathlib.Core.Path.{_≡_, refl, sym, ap, subst, _∙_}
-use mathlib.Core.Bool.{Bool, true, false, _&&_}
+use mathlib.Core.Bool.{true, _&&_}
 use mathlib.Core.List.{List}
 use Prim.Native.Nat.{ℕ, _-_, _≤_, _<_, min}
 use native.Mathlib.Omega.{arith}
@@ -11,13 +11,11 @@ use lib.ListN.{length, getD, drop, length-append, length-drop}
 use Rattle.refusal.specs.Laws.Bools.{either, both, clash}
 use Rattle.bitvec.specs.Lists.{listOf}
 use Rattle.bitvec.specs.Laws.Lists.{length-listOf}
-use Rattle.iter.specs.declared.Pos.{Pos}
 use Rattle.lists.specs.Theorems.Sound.{accepted-lists}
 use Rattle.resolver.specs.Layout.{Checked}
-use Rattle.resolver.specs.NodeOrder.{seenAt}
 use Rattle.resolver.specs.Padding.{sizeBy}
 use Rattle.output.specs.Output.{Input, passesOf}
-use Rattle.build_sights.specs.Visits.{seenPos, visitAt}
+use Rattle.build_sights.specs.Visits.{seenPos}
 use Rattle.build_map.specs.Map as map
 use Rattle.build_map.specs.Map.{reachOf, mapOf, paddingsTo, shown, leftBy, bankShown, positionShown, outputShown, sizeShown}
 use Rattle.build_map.specs.Laws.Entries.{shown-at, shown-past}

@@ -1,23 +1,22 @@
 -- The map and the build of one layout, from the sentences of both alone: the map is refused or stops exactly where the build is refused, with the same number
 -- and places and after as many passes, but for 14, which is the build's alone; of a layout that is built it shows every node, the build's padding, and of each
 -- label and written item the build's span.
-use mathlib.Core.Path.{_≡_, refl, sym, ap, subst, _∙_}
-use mathlib.Core.Bool.{true, false}
+use mathlib.Core.Path.{_≡_, refl, subst}
+use mathlib.Core.Bool.{true}
 use mathlib.Core.Logic.{_⊎_, inl, inr}
 use Prim.Native.Nat.{ℕ, _/_, _≤_, _<_}
 use native.Mathlib.Omega.{arith}
 use lib.IntN.{ℤ, pos, _+ℤ_}
 use lib.ListN.{getD}
 use Rattle.says.specs.Words as w
-use Rattle.says.specs.Words.{First, FirstPair}
 use Rattle.says_build.specs.Build as build
-use Rattle.says_build.specs.Build.{Given, Not, unit, start, nodes, IsSpan, Spans, SpanAt, Extent, AtNode, Accepts, Built, Laid, BuildSays}
-use Rattle.says_build.specs.Laws.One.{number-one, at-one, sees-one, reads-one, word-one, spans-one, three}
+use Rattle.says_build.specs.Build.{Given, Not, unit, start, nodes, IsSpan, Spans, SpanAt, Extent, AtNode, Laid, BuildSays}
+use Rattle.says_build.specs.Laws.One.{number-one, at-one, sees-one, reads-one, word-one, three}
 use Rattle.says_build.specs.Theorems.Decides.{last-one, early, spans-less, build-decides}
 use Rattle.says_build.specs.Theorems.Outcomes.{AcceptedSo}
 use Rattle.says_profile.specs.Laws.Tried.{Clear, cleared, through, tries-map}
 use Rattle.says_map.specs.Map as m
-use Rattle.says_map.specs.Map.{Lent, Outcome, nothing, noNode, Bits, Entry, refusal, Shows, Tried, Mapped, MapSays}
+use Rattle.says_map.specs.Map.{Lent, Outcome, nothing, noNode, Bits, Entry, refusal, Shows, Mapped, MapSays}
 
 -- A map's outcome beside a build's: both refused for 1 to 4; the map stopped where the build is refused; or the map whole, and the build accepted or
 -- refused 14.

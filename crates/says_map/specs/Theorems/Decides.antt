@@ -1,11 +1,10 @@
 -- The sentences of `dk_map` leave one outcome: the answer and everything lent. From the sentences alone.
 use mathlib.Core.Path.{_≡_, refl, sym, ap, _∙_}
-use mathlib.Core.Bool.{Bool, true, false}
+use mathlib.Core.Bool.{true, false}
 use mathlib.Core.List.{List}
 use mathlib.Core.Logic.{⊎-elim}
-use Prim.Native.Nat.{ℕ, _≤_, _<_}
+use Prim.Native.Nat.{ℕ}
 use native.Mathlib.Omega.{arith}
-use lib.ListN.{length, getD}
 use lib.Seq.{ext-getD}
 use Rattle.sort.specs.Laws.Sorted.{le-or-lt}
 use Rattle.says.specs.Words.{OneOnly, first-one}

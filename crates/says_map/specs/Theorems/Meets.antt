@@ -1,7 +1,7 @@
 -- Every outcome of `dk_map` meets its sentences: whatever it is given, and whatever stands in the four lists of 4,096 that are lent to it.
 use mathlib.Core.Path.{_≡_, refl, sym, ap, subst, _∙_}
 use mathlib.Core.List.{List}
-use Prim.Native.Nat.{ℕ, _-_, _≤_, min}
+use Prim.Native.Nat.{ℕ, _-_, _≤_}
 use native.Mathlib.Omega.{arith}
 use borrow.Author.Tests.{lt-ltb}
 use lib.ListN.{replicate}

@@ -9,7 +9,6 @@ use Rattle.resolver.specs.declared.Settled.{Settled}
 use Rattle.resolver.specs.declared.Settled.the-variants.{At, Refused as Unsettled}
 use Rattle.build_plan.specs.Placing.{Placed, holds, stops, placedAll}
 use Rattle.output.specs.Output.{Input, closedOf, visitsOf, passesOf, settledOf}
-use Rattle.build_map.specs.Map as map
 use Rattle.build_map.specs.Map.{tracedBy, settledReach, mapOf, leftBy, walkedAll, placedTold, settledTold}
 use Rattle.denkumari.specs.Maps.{mapTold}
 use Rattle.denkumari.specs.declared.maps.DkMap.{DkMap}
