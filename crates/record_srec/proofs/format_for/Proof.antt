@@ -3,11 +3,5 @@ use borrow.Author.Tests.{eq-eqb, ne-eqb}
 use Rattle.record_srec.proofs.format_for.Statement.{statement}
 use Rattle.record_srec.proofs.format_for.Tie as tie
 
-returns : tie.Need-returns
-returns c = rw (eq-eqb (c .before .args .width) 0 (c .if1 .taken))
-
-returns-2 : tie.Need-returns-2
-returns-2 c = rw (ne-eqb (c .before .args .width) 0 (c .if1 .left))
-
 pub format-for-spec : {M : Type 1} → statement M
-format-for-spec = tie.close (tie.spec returns returns-2)
+format-for-spec = tie.close (tie.spec (λ c. rw (eq-eqb (c .before .args .width) 0 (c .if1 .taken))) (λ c. rw (ne-eqb (c .before .args .width) 0 (c .if1 .left))))

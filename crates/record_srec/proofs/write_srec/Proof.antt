@@ -4,15 +4,6 @@ use Rattle.record_srec.proofs.Figures.{in-figures}
 use Rattle.record_srec.proofs.write_srec.Statement.{statement}
 use Rattle.record_srec.proofs.write_srec.Tie as tie
 
-format-for-requires : tie.Need-format-for-requires
-format-for-requires c κs = search needs
-
-write-requires : tie.Need-write-requires
-write-requires c κs = search needs
-
-same-length : tie.Need-same-length
-same-length c = search needs
-
 returns : tie.Need-returns
 returns c =
     let w = c .before .before in
@@ -22,4 +13,4 @@ returns c =
     (w .write .ensures)
 
 pub write-srec-spec : {M : Type 1} → statement M
-write-srec-spec = tie.close (tie.spec format-for-requires write-requires same-length returns)
+write-srec-spec = tie.close (tie.spec (λ c κs. search needs) (λ c κs. search needs) (λ c. search needs) returns)
