@@ -18,39 +18,12 @@ Inv-loop image offsets sizes count i₀ i =
 abbrev μ-loop : tie.MeasureT-loop
 μ-loop image offsets sizes count i₀ i = count - i
 
-least-requires : tie.Need-least-requires Inv-loop μ-loop
-least-requires c κs = search needs
-
-loop-holds : tie.Need-loop-holds Inv-loop μ-loop
-loop-holds c = refl
-
-mul-is-part : tie.Need-mul-is-part Inv-loop μ-loop
-mul-is-part c = search needs
-
-shared-slice-read-is-part : tie.Need-shared-slice-read-is-part Inv-loop μ-loop
-shared-slice-read-is-part c = search needs
-
-mul-is-part-2 : tie.Need-mul-is-part-2 Inv-loop μ-loop
-mul-is-part-2 c = search needs
-
-shared-slice-read-is-part-2 : tie.Need-shared-slice-read-is-part-2 Inv-loop μ-loop
-shared-slice-read-is-part-2 c = search needs
-
-is-part-requires : tie.Need-is-part-requires Inv-loop μ-loop
-is-part-requires c κs = search needs
-
 returns : tie.Need-returns Inv-loop μ-loop
 returns c =
     sym (c .before .before .before .before .before .loop .inv ∙ parts-stop
     (c .before .before .before .before .before .before .before .before .before .before .args .offsets .now)
     (c .before .before .before .before .before .before .before .before .before .before .args .sizes .now)
     (c .before .before .before .before .before .loop .i) (omega arith) (omega arith) _ (sym (c .before .is-part .ensures) ∙ not-true _ (c .if1 .taken)))
-
-add-i : tie.Need-add-i Inv-loop μ-loop
-add-i c = search needs
-
-loop-less : tie.Need-loop-less Inv-loop μ-loop
-loop-less c = search needs
 
 loop-again : tie.Need-loop-again Inv-loop μ-loop
 loop-again c =
@@ -68,17 +41,5 @@ pub all-parts-spec : {M : Type 1} → statement M
 all-parts-spec =
     tie.close
     (tie.spec
-    Inv-loop
-    μ-loop
-    least-requires
-    loop-holds
-    mul-is-part
-    shared-slice-read-is-part
-    mul-is-part-2
-    shared-slice-read-is-part-2
-    is-part-requires
-    returns
-    add-i
-    loop-less
-    loop-again
-    returns-2)
+    Inv-loop μ-loop (λ c κs. search needs) (λ c. refl) (λ c. search needs) (λ c. search needs) (λ c. search needs) (λ c. search needs)
+    (λ c κs. search needs) returns (λ c. search needs) (λ c. search needs) loop-again returns-2)

@@ -17,32 +17,11 @@ Inv-loop offsets sizes load i₀ i = allPlaced load (blocksIn offsets sizes) ≡
 abbrev μ-loop : tie.MeasureT-loop
 μ-loop offsets sizes load i₀ i = length offsets - i
 
-loop-holds : tie.Need-loop-holds Inv-loop μ-loop
-loop-holds c = refl
-
-ends-free-requires : tie.Need-ends-free-requires Inv-loop μ-loop
-ends-free-requires c κs = search needs
-
 returns : tie.Need-returns Inv-loop μ-loop
 returns c =
     sym (c .before .before .before .loop .inv ∙ order-stop (c .before .before .before .before .before .before .args .offsets .now)
     (c .before .before .before .before .before .before .args .sizes .now) (c .before .before .before .loop .i) (omega arith) (omega arith) _
     (sym (c .before .ends-free .ensures) ∙ not-true _ (c .if1 .taken)))
-
-mul-has-address : tie.Need-mul-has-address Inv-loop μ-loop
-mul-has-address c = search needs
-
-shared-slice-read-has-address : tie.Need-shared-slice-read-has-address Inv-loop μ-loop
-shared-slice-read-has-address c = search needs
-
-mul-has-address-2 : tie.Need-mul-has-address-2 Inv-loop μ-loop
-mul-has-address-2 c = search needs
-
-shared-slice-read-has-address-2 : tie.Need-shared-slice-read-has-address-2 Inv-loop μ-loop
-shared-slice-read-has-address-2 c = search needs
-
-has-address-requires : tie.Need-has-address-requires Inv-loop μ-loop
-has-address-requires c κs = search needs
 
 returns-2 : tie.Need-returns-2 Inv-loop μ-loop
 returns-2 c =
@@ -52,12 +31,6 @@ returns-2 c =
     (c .before .before .before .before .before .before .before .loop .i) (omega arith) (omega arith) _
     (sym (c .before .before .before .before .before .ends-free .ensures) ∙ not-false _ (c .before .before .before .before .if1 .left))
     (sym (c .before .has-address .ensures) ∙ not-true _ (c .if2 .taken)))
-
-add-i : tie.Need-add-i Inv-loop μ-loop
-add-i c = search needs
-
-loop-less : tie.Need-loop-less Inv-loop μ-loop
-loop-less c = search needs
 
 loop-again : tie.Need-loop-again Inv-loop μ-loop
 loop-again c =
@@ -77,18 +50,5 @@ pub all-placed-spec : {M : Type 1} → statement M
 all-placed-spec =
     tie.close
     (tie.spec
-    Inv-loop
-    μ-loop
-    loop-holds
-    ends-free-requires
-    returns
-    mul-has-address
-    shared-slice-read-has-address
-    mul-has-address-2
-    shared-slice-read-has-address-2
-    has-address-requires
-    returns-2
-    add-i
-    loop-less
-    loop-again
-    returns-3)
+    Inv-loop μ-loop (λ c. refl) (λ c κs. search needs) returns (λ c. search needs) (λ c. search needs) (λ c. search needs) (λ c. search needs)
+    (λ c κs. search needs) returns-2 (λ c. search needs) (λ c. search needs) loop-again returns-3)

@@ -17,39 +17,12 @@ Inv-loop offsets sizes load count i₀ i = allShort load (blocksIn offsets sizes
 abbrev μ-loop : tie.MeasureT-loop
 μ-loop offsets sizes load count i₀ i = count - i
 
-least-requires : tie.Need-least-requires Inv-loop μ-loop
-least-requires c κs = search needs
-
-loop-holds : tie.Need-loop-holds Inv-loop μ-loop
-loop-holds c = refl
-
-mul-has-short : tie.Need-mul-has-short Inv-loop μ-loop
-mul-has-short c = search needs
-
-shared-slice-read-has-short : tie.Need-shared-slice-read-has-short Inv-loop μ-loop
-shared-slice-read-has-short c = search needs
-
-mul-has-short-2 : tie.Need-mul-has-short-2 Inv-loop μ-loop
-mul-has-short-2 c = search needs
-
-shared-slice-read-has-short-2 : tie.Need-shared-slice-read-has-short-2 Inv-loop μ-loop
-shared-slice-read-has-short-2 c = search needs
-
-has-short-requires : tie.Need-has-short-requires Inv-loop μ-loop
-has-short-requires c κs = search needs
-
 returns : tie.Need-returns Inv-loop μ-loop
 returns c =
     let l = c .before .before .before .before .before in
     let a = l .before .before .before .before .args in
     sym (l .loop .inv ∙ short-stop (a .offsets .now) (a .sizes .now) (l .loop .i) (omega arith) (omega arith) (a .load)
     (sym (c .before .has-short .ensures) ∙ not-true _ (c .if1 .taken)))
-
-add-i : tie.Need-add-i Inv-loop μ-loop
-add-i c = search needs
-
-loop-less : tie.Need-loop-less Inv-loop μ-loop
-loop-less c = search needs
 
 loop-again : tie.Need-loop-again Inv-loop μ-loop
 loop-again c =
@@ -68,17 +41,5 @@ pub all-short-spec : {M : Type 1} → statement M
 all-short-spec =
     tie.close
     (tie.spec
-    Inv-loop
-    μ-loop
-    least-requires
-    loop-holds
-    mul-has-short
-    shared-slice-read-has-short
-    mul-has-short-2
-    shared-slice-read-has-short-2
-    has-short-requires
-    returns
-    add-i
-    loop-less
-    loop-again
-    returns-2)
+    Inv-loop μ-loop (λ c κs. search needs) (λ c. refl) (λ c. search needs) (λ c. search needs) (λ c. search needs) (λ c. search needs)
+    (λ c κs. search needs) returns (λ c. search needs) (λ c. search needs) loop-again returns-2)

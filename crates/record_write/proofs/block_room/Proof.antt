@@ -16,17 +16,8 @@ abbrev μ-loop : tie.MeasureT-loop
 loop-holds : tie.Need-loop-holds Inv-loop μ-loop
 loop-holds c = adding-first (c .args .format) (c .args .address) (c .args .count) (c .args .place .at) (c .args .place .state) (c .pre .1)
 
-sub-piece-length : tie.Need-sub-piece-length Inv-loop μ-loop
-sub-piece-length c = search needs
-
-piece-length-requires : tie.Need-piece-length-requires Inv-loop μ-loop
-piece-length-requires c κs = search needs
-
 cast-piece-room : tie.Need-cast-piece-room Inv-loop μ-loop
 cast-piece-room c = omega (arith, c .before .before .loop .inv .place, c .before .loop-test .taken, c .before .before .before .pre .0)
-
-piece-room-requires : tie.Need-piece-room-requires Inv-loop μ-loop
-piece-room-requires c κs = c .piece-length .ensures .1 .0
 
 add-at : tie.Need-add-at Inv-loop μ-loop
 add-at c = omega (
@@ -79,5 +70,5 @@ returns c =
     )
 
 pub block-room-spec : {M : Type 1} → statement M
-block-room-spec = tie.close (tie.spec Inv-loop μ-loop loop-holds sub-piece-length piece-length-requires cast-piece-room piece-room-requires add-at
+block-room-spec = tie.close (tie.spec Inv-loop μ-loop loop-holds (λ c. search needs) (λ c κs. search needs) cast-piece-room (λ c κs. c .piece-length .ensures .1 .0) add-at
     cast-state add-here add-k loop-less loop-again returns)

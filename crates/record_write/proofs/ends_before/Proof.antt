@@ -7,9 +7,6 @@ use borrow.Author.Tests.{le-leb, lt-leb}
 use Rattle.record_write.proofs.ends_before.Statement.{statement}
 use Rattle.record_write.proofs.ends_before.Tie as tie
 
-returns : tie.Need-returns
-returns c = let a = c .before .args in sym (lt-leb (a .offset + a .size) (a .next) (omega arith))
-
 returns-2 : tie.Need-returns-2
 returns-2 c =
     let a = c .before .args in
@@ -19,4 +16,4 @@ returns-2 c =
     ]
 
 pub ends-before-spec : {M : Type 1} → statement M
-ends-before-spec = tie.close (tie.spec returns returns-2)
+ends-before-spec = tie.close (tie.spec (λ c. let a = c .before .args in sym (lt-leb (a .offset + a .size) (a .next) (omega arith))) returns-2)

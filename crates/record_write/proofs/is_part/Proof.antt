@@ -7,15 +7,6 @@ use borrow.Author.Needs.{needs}
 use Rattle.record_write.proofs.is_part.Statement.{statement}
 use Rattle.record_write.proofs.is_part.Tie as tie
 
-part-verdict-requires : tie.Need-part-verdict-requires
-part-verdict-requires c κs = search needs
-
-enum-told : tie.Need-enum-told
-enum-told c = search needs
-
-enum-told-2 : tie.Need-enum-told-2
-enum-told-2 c = search needs
-
 returns : tie.Need-returns
 returns c =
     let a = c .before .before .before .before .args in part-accepted (isPart (length (a .image .now)) (a .offset) (a .size)) (c .enum-told .given .1)
@@ -27,4 +18,4 @@ returns-2 c =
     (c .enum-told2 .given .1) (c .before .before .part-verdict .ensures .answer)
 
 pub is-part-spec : {M : Type 1} → statement M
-is-part-spec = tie.close (tie.spec part-verdict-requires enum-told enum-told-2 returns returns-2)
+is-part-spec = tie.close (tie.spec (λ c κs. search needs) (λ c. search needs) (λ c. search needs) returns returns-2)

@@ -10,17 +10,11 @@ use Rattle.record_write.specs.Text.{known}
 use Rattle.record_write.proofs.is_sound.Statement.{statement}
 use Rattle.record_write.proofs.is_sound.Tie as tie
 
-is-known-requires : tie.Need-is-known-requires
-is-known-requires c κs = search needs
-
 returns : tie.Need-returns
 returns c =
     let a = c .before .before .before .before .before .args in
     let k : known (a .format) ≡ false = sym (c .before .is-known .ensures) ∙ not-true _ (c .if1 .taken) in
     rw k
-
-fits-width-requires : tie.Need-fits-width-requires
-fits-width-requires c κs = search needs
 
 returns-2 : tie.Need-returns-2
 returns-2 c =
@@ -41,9 +35,6 @@ returns-3 c =
     sym (d .before .fits-width .ensures) ∙ not-false _ (d .if2 .left) in
     rw (k, f, ne-eqb (length (a .offsets .now)) (length (a .sizes .now)) (c .if3 .taken))
 
-all-placed-requires : tie.Need-all-placed-requires
-all-placed-requires c κs = search needs
-
 returns-4 : tie.Need-returns-4
 returns-4 c =
     let d = c .before .before in
@@ -55,4 +46,4 @@ returns-4 c =
     rw (k, f, eq-eqb (length (a .offsets .now)) (length (a .sizes .now)) (c .before .if3 .left)) (c .all-placed .ensures)
 
 pub is-sound-spec : {M : Type 1} → statement M
-is-sound-spec = tie.close (tie.spec is-known-requires returns fits-width-requires returns-2 returns-3 all-placed-requires returns-4)
+is-sound-spec = tie.close (tie.spec (λ c κs. search needs) returns (λ c κs. search needs) returns-2 returns-3 (λ c κs. search needs) returns-4)

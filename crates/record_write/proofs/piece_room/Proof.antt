@@ -5,22 +5,10 @@ use borrow.Author.Needs.{needs}
 use Rattle.record_write.proofs.piece_room.Statement.{statement}
 use Rattle.record_write.proofs.piece_room.Tie as tie
 
-mul-result : tie.Need-mul-result
-mul-result c = search needs
-
-add-result : tie.Need-add-result
-add-result c = search needs
-
 returns : tie.Need-returns
 returns c =
     let a = c .before .args in
     (λ l e. room-short (a .format) (a .state) (a .address) (a .n) l e (c .before .pre) (c .if1 .taken), omega (arith, c .before .pre))
-
-mul-result-2 : tie.Need-mul-result-2
-mul-result-2 c = search needs
-
-add-result-2 : tie.Need-add-result-2
-add-result-2 c = search needs
 
 returns-2 : tie.Need-returns-2
 returns-2 c =
@@ -33,12 +21,6 @@ returns-2 c =
       ),
     )
 
-mul-result-3 : tie.Need-mul-result-3
-mul-result-3 c = search needs
-
-add-result-3 : tie.Need-add-result-3
-add-result-3 c = search needs
-
 returns-3 : tie.Need-returns-3
 returns-3 c =
     let a = c .before .before .before .args in (
@@ -48,12 +30,6 @@ returns-3 c =
         c .before .before .before .pre,
       ),
     )
-
-mul-result-4 : tie.Need-mul-result-4
-mul-result-4 c = search needs
-
-add-result-4 : tie.Need-add-result-4
-add-result-4 c = search needs
 
 returns-4 : tie.Need-returns-4
 returns-4 c =
@@ -66,5 +42,5 @@ returns-4 c =
     )
 
 pub piece-room-spec : {M : Type 1} → statement M
-piece-room-spec = tie.close (tie.spec mul-result add-result returns mul-result-2 add-result-2 returns-2 mul-result-3 add-result-3 returns-3 mul-result-4
-    add-result-4 returns-4)
+piece-room-spec = tie.close (tie.spec (λ c. search needs) (λ c. search needs) returns (λ c. search needs) (λ c. search needs) returns-2 (λ c. search needs) (λ c. search needs) returns-3 (λ c. search needs)
+    (λ c. search needs) returns-4)

@@ -17,21 +17,6 @@ loop-holds : tie.Need-loop-holds Inv-loop μ-loop
 loop-holds c = let a = c .before .before .before .args in adds-first (a .format) (a .image .now) (a .offsets .now) (a .sizes .now) (a .load) (c .before
     .before .before .pre)
 
-mul-count : tie.Need-mul-count Inv-loop μ-loop
-mul-count c = search needs
-
-shared-slice-read-count : tie.Need-shared-slice-read-count Inv-loop μ-loop
-shared-slice-read-count c = let e = c .before .before .before .before .before .before .pre .paired in omega arith
-
-mul-block-room : tie.Need-mul-block-room Inv-loop μ-loop
-mul-block-room c = search needs
-
-shared-slice-read-block-room : tie.Need-shared-slice-read-block-room Inv-loop μ-loop
-shared-slice-read-block-room c = search needs
-
-add-block-room : tie.Need-add-block-room Inv-loop μ-loop
-add-block-room c = omega (arith, c .shared-slice-known5 .given (c .before .before .before .loop .i))
-
 block-room-requires : tie.Need-block-room-requires Inv-loop μ-loop
 block-room-requires c κs =
     let a = c .before .before .before .before .before .before .before .args in
@@ -42,12 +27,6 @@ block-room-requires c κs =
     .pre) (l .place) (l .i) (l .inv) (c .before .before .loop-test .taken) in
     (f .below, g)
 
-add-i : tie.Need-add-i Inv-loop μ-loop
-add-i c = search needs
-
-loop-less : tie.Need-loop-less Inv-loop μ-loop
-loop-less c = search needs
-
 loop-again : tie.Need-loop-again Inv-loop μ-loop
 loop-again c =
     let a = c .before .before .before .before .before .before .before .before .args in
@@ -55,9 +34,6 @@ loop-again c =
     adds-on (a .format) (a .image .now) (a .offsets .now) (a .sizes .now) (a .load) (c .before .before .before .before .before .before .before .before
     .pre) (l .place) (l .i) (l .inv) (c .before .before .before .loop-test .taken) (c .block-room .result) (c .block-room .ensures .0) (c .block-room
     .ensures .1)
-
-end-room-requires : tie.Need-end-room-requires Inv-loop μ-loop
-end-room-requires c κs = search needs
 
 add-result : tie.Need-add-result Inv-loop μ-loop
 add-result c =
@@ -78,5 +54,5 @@ returns c =
     (l .i) (l .inv) (c .before .loop-test .left) (c .end-room .result) (c .end-room .ensures .0)
 
 pub text-room-spec : {M : Type 1} → statement M
-text-room-spec = tie.close (tie.spec Inv-loop μ-loop loop-holds mul-count shared-slice-read-count mul-block-room shared-slice-read-block-room
-    add-block-room block-room-requires add-i loop-less loop-again end-room-requires add-result returns)
+text-room-spec = tie.close (tie.spec Inv-loop μ-loop loop-holds (λ c. search needs) (λ c. let e = c .before .before .before .before .before .before .pre .paired in omega arith) (λ c. search needs) (λ c. search needs)
+    (λ c. omega (arith, c .shared-slice-known5 .given (c .before .before .before .loop .i))) block-room-requires (λ c. search needs) (λ c. search needs) loop-again (λ c κs. search needs) add-result returns)

@@ -8,15 +8,9 @@ use borrow.Author.Needs.{needs}
 use Rattle.record_write.proofs.write.Statement.{statement}
 use Rattle.record_write.proofs.write.Tie as tie
 
-all-parts-requires : tie.Need-all-parts-requires
-all-parts-requires c κs = search needs
-
 returns : tie.Need-returns
 returns c = let a = c .before .before .before .before .before .before .args in bad-part (input (a .format) (a .image .now) (a .offsets .now) (a .sizes
     .now) (a .load)) (a .text .now) (sym (c .before .all-parts .ensures) ∙ not-true _ (c .if1 .taken))
-
-is-sound-requires : tie.Need-is-sound-requires
-is-sound-requires c κs = search needs
 
 returns-2 : tie.Need-returns-2
 returns-2 c =
@@ -46,9 +40,6 @@ write-blocks-requires c κs =
       omega (arith, c .before .before .text-room .ensures, c .before .if3 .left),
     )
 
-same-length : tie.Need-same-length
-same-length c = search needs
-
 returns-4 : tie.Need-returns-4
 returns-4 c =
     let a = c .before .before .before .before .before .before .before .before .before .before .before .before .before .before .args in
@@ -60,5 +51,5 @@ returns-4 c =
     (c .before .before .write-blocks .ensures .part)
 
 pub write-spec : {M : Type 1} → statement M
-write-spec = tie.close (tie.spec all-parts-requires returns is-sound-requires returns-2 text-room-requires returns-3 write-blocks-requires same-length
+write-spec = tie.close (tie.spec (λ c κs. search needs) returns (λ c κs. search needs) returns-2 text-room-requires returns-3 write-blocks-requires (λ c. search needs)
     returns-4)

@@ -37,24 +37,6 @@ loop-holds c =
     (c .before .before .pre .0 .3)
     (c .before .before .pre .1)
 
-sub-piece-length : tie.Need-sub-piece-length Inv-loop μ-loop
-sub-piece-length c = search needs
-
-piece-length-requires : tie.Need-piece-length-requires Inv-loop μ-loop
-piece-length-requires c κs = search needs
-
-add-next : tie.Need-add-next Inv-loop μ-loop
-add-next c = search needs
-
-sub-put-piece : tie.Need-sub-put-piece Inv-loop μ-loop
-sub-put-piece c = let r = c .before .before .loop .inv .room in omega arith
-
-part-put-piece-start : tie.Need-part-put-piece-start Inv-loop μ-loop
-part-put-piece-start c = let r = c .before .before .loop .inv .room in omega arith
-
-part-put-piece-end : tie.Need-part-put-piece-end Inv-loop μ-loop
-part-put-piece-end c = search needs
-
 cast-put-piece : tie.Need-cast-put-piece Inv-loop μ-loop
 cast-put-piece c =
     let a = c .before .before .before .before .before .before .args in
@@ -62,12 +44,6 @@ cast-put-piece c =
     let h = here-fits (a .address) (a .start) (a .end) (c .before .before .before .loop .here) (c .before .before .before .loop .k) (i .low) (i .place) (c
     .before .before .loop-test .taken) (c .before .before .before .before .before .before .pre .0 .2) in
     omega (arith, h)
-
-sub-put-piece-2 : tie.Need-sub-put-piece-2 Inv-loop μ-loop
-sub-put-piece-2 c = search needs
-
-part-put-piece-start-2 : tie.Need-part-put-piece-start-2 Inv-loop μ-loop
-part-put-piece-start-2 c = search needs
 
 part-put-piece-end-2 : tie.Need-part-put-piece-end-2 Inv-loop μ-loop
 part-put-piece-end-2 c =
@@ -107,9 +83,6 @@ cast-state c =
     .before .before .before .before .before .before .before .before .pre .0 .2) in
     omega (arith, h)
 
-add-here : tie.Need-add-here Inv-loop μ-loop
-add-here c = search needs
-
 loop-less : tie.Need-loop-less Inv-loop μ-loop
 loop-less c =
     less-left (c .before .before .before .before .before .before .before .before .before .before .args .end) (c .before .before .before .before .before
@@ -130,9 +103,6 @@ loop-again c =
     (n .1 .2 (some-left (a .end) (c .before .before .before .before .before .before .before .loop .k) 0 (c .before .before .before .before .before .before
     .loop-test .taken))) (c .before .before .put-piece .ensures) (few c)
 
-same-length : tie.Need-same-length Inv-loop μ-loop
-same-length c = c .before .loop .inv .long
-
 returns : tie.Need-returns Inv-loop μ-loop
 returns c =
     let a = c .before .before .before .before .args in
@@ -144,6 +114,6 @@ returns c =
     )
 
 pub write-block-spec : {M : Type 1} → statement M
-write-block-spec = tie.close (tie.spec Inv-loop μ-loop loop-holds sub-piece-length piece-length-requires add-next sub-put-piece part-put-piece-start
-    part-put-piece-end cast-put-piece sub-put-piece-2 part-put-piece-start-2 part-put-piece-end-2 put-piece-requires add-at cast-state add-here loop-less
-    loop-again same-length returns)
+write-block-spec = tie.close (tie.spec Inv-loop μ-loop loop-holds (λ c. search needs) (λ c κs. search needs) (λ c. search needs) (λ c. let r = c .before .before .loop .inv .room in omega arith) (λ c. let r = c .before .before .loop .inv .room in omega arith)
+    (λ c. search needs) cast-put-piece (λ c. search needs) (λ c. search needs) part-put-piece-end-2 put-piece-requires add-at cast-state (λ c. search needs) loop-less
+    loop-again (λ c. c .before .loop .inv .long) returns)

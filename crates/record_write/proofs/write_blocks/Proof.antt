@@ -31,18 +31,6 @@ loop-holds : tie.Need-loop-holds Inv-loop μ-loop
 loop-holds c = let a = c .before .before .before .before .args in all-first (a .format) (a .image .now) (a .offsets .now) (a .sizes .now) (a .load) (a
     .text .now) (c .before .before .before .before .pre .0)
 
-mul-start : tie.Need-mul-start Inv-loop μ-loop
-mul-start c = search needs
-
-shared-slice-read-start : tie.Need-shared-slice-read-start Inv-loop μ-loop
-shared-slice-read-start c = search needs
-
-mul-end : tie.Need-mul-end Inv-loop μ-loop
-mul-end c = search needs
-
-shared-slice-read-end : tie.Need-shared-slice-read-end Inv-loop μ-loop
-shared-slice-read-end c = let e = c .before .before .before .before .before .before .before .before .pre .0 .paired in omega arith
-
 add-end : tie.Need-add-end Inv-loop μ-loop
 add-end c = omega (
   arith,
@@ -50,9 +38,6 @@ add-end c = omega (
   c .shared-slice-known5 .given (c .before .before
       .before .loop .i),
 )
-
-add-write-block : tie.Need-add-write-block Inv-loop μ-loop
-add-write-block c = omega (arith, c .before .shared-slice-known4 .given (c .before .before .before .loop .i))
 
 write-block-requires : tie.Need-write-block-requires Inv-loop μ-loop
 write-block-requires c κs =
@@ -68,12 +53,6 @@ write-block-requires c κs =
           .before .before .before .before .before .before .pre .1)
           (getD (a .offsets .now) (l .i) 0 / 8 + getD (a .sizes .now) (l .i) 0 / 8 - getD (a .offsets .now) (l .i) 0 / 8) (omega arith),
     )
-
-add-i : tie.Need-add-i Inv-loop μ-loop
-add-i c = search needs
-
-loop-less : tie.Need-loop-less Inv-loop μ-loop
-loop-less c = search needs
 
 loop-again : tie.Need-loop-again Inv-loop μ-loop
 loop-again c =
@@ -101,9 +80,6 @@ part-put-end-start c =
     .before .pre .0) (l .place) (l .i) (l .text) (l .inv) (c .loop-test .left) (c .before .before .before .before .before .before .pre .1) in
     omega arith
 
-part-put-end-end : tie.Need-part-put-end-end Inv-loop μ-loop
-part-put-end-end c = search needs
-
 put-end-requires : tie.Need-put-end-requires Inv-loop μ-loop
 put-end-requires c κs =
     let a = c .before .before .before .before .before .before .before .args in
@@ -124,12 +100,6 @@ add-result c =
       end-few (a .format),
     )
 
-same-length : tie.Need-same-length Inv-loop μ-loop
-same-length c = puts-long (written c)
-
-returns : tie.Need-returns Inv-loop μ-loop
-returns c = written c
-
 pub write-blocks-spec : {M : Type 1} → statement M
-write-blocks-spec = tie.close (tie.spec Inv-loop μ-loop loop-holds mul-start shared-slice-read-start mul-end shared-slice-read-end add-end add-write-block
-    write-block-requires add-i loop-less loop-again sub-put-end part-put-end-start part-put-end-end put-end-requires add-result same-length returns)
+write-blocks-spec = tie.close (tie.spec Inv-loop μ-loop loop-holds (λ c. search needs) (λ c. search needs) (λ c. search needs) (λ c. let e = c .before .before .before .before .before .before .before .before .pre .0 .paired in omega arith) add-end (λ c. omega (arith, c .before .shared-slice-known4 .given (c .before .before .before .loop .i)))
+    write-block-requires (λ c. search needs) (λ c. search needs) loop-again sub-put-end part-put-end-start (λ c. search needs) put-end-requires add-result (λ c. puts-long (written c)) (λ c. written c))

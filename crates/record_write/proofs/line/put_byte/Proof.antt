@@ -9,18 +9,6 @@ use borrow.Author.Needs.{needs}
 use Rattle.record_write.proofs.line.put_byte.Statement.{statement}
 use Rattle.record_write.proofs.line.put_byte.Tie as tie
 
-letter-requires : tie.Need-letter-requires
-letter-requires c κs = search needs
-
-slice-write-out : tie.Need-slice-write-out
-slice-write-out c = search needs
-
-letter-requires-2 : tie.Need-letter-requires-2
-letter-requires-2 c κs = search needs
-
-add-out : tie.Need-add-out
-add-out c = search needs
-
 slice-write-out-2 : tie.Need-slice-write-out-2
 slice-write-out-2 c = omega (
   arith,
@@ -29,9 +17,6 @@ slice-write-out-2 c = omega (
   c .before .before .before .pre,
 )
 
-same-length : tie.Need-same-length
-same-length c = search needs
-
 returns : tie.Need-returns
 returns c =
     let a = c .before .before .before .args in
@@ -39,4 +24,4 @@ returns c =
     (s, ap length s ∙ length-sets (a .out .now) (a .at) (byteText (a .b)))
 
 pub put-byte-spec : {M : Type 1} → statement M
-put-byte-spec = tie.close (tie.spec letter-requires slice-write-out letter-requires-2 add-out slice-write-out-2 same-length returns)
+put-byte-spec = tie.close (tie.spec (λ c κs. search needs) (λ c. search needs) (λ c κs. search needs) (λ c. search needs) slice-write-out-2 (λ c. search needs) returns)

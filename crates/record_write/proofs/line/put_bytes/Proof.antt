@@ -21,24 +21,6 @@ loop-holds : tie.Need-loop-holds Inv-loop μ-loop
 unfolding bytesText
 loop-holds c = (omega arith, refl, refl)
 
-mul-put-byte : tie.Need-mul-put-byte Inv-loop μ-loop
-mul-put-byte c = omega (arith, c .before .before .before .before .before .pre, c .before .before .loop .inv .0)
-
-add-put-byte : tie.Need-add-put-byte Inv-loop μ-loop
-add-put-byte c = search needs
-
-shared-slice-read-put-byte : tie.Need-shared-slice-read-put-byte Inv-loop μ-loop
-shared-slice-read-put-byte c = search needs
-
-put-byte-requires : tie.Need-put-byte-requires Inv-loop μ-loop
-put-byte-requires c κs = search needs
-
-add-i : tie.Need-add-i Inv-loop μ-loop
-add-i c = search needs
-
-loop-less : tie.Need-loop-less Inv-loop μ-loop
-loop-less c = search needs
-
 loop-again : tie.Need-loop-again Inv-loop μ-loop
 loop-again c =
     let a = c .before .before .before .before .before .before .before .before .before .args in
@@ -49,9 +31,6 @@ loop-again c =
       c .before .before .put-byte .ensures .1 ∙ l .inv .2,
     )
 
-same-length : tie.Need-same-length Inv-loop μ-loop
-same-length c = c .before .loop .inv .2
-
 returns : tie.Need-returns Inv-loop μ-loop
 returns c =
     let a = c .before .before .before .before .args in
@@ -61,5 +40,5 @@ returns c =
     (l .inv .1 ∙ ap (λ (x : List ℕ). sets (a .out .now) (a .at) (bytesText x)) whole, l .inv .2)
 
 pub put-bytes-spec : {M : Type 1} → statement M
-put-bytes-spec = tie.close (tie.spec Inv-loop μ-loop loop-holds mul-put-byte add-put-byte shared-slice-read-put-byte put-byte-requires add-i loop-less
-    loop-again same-length returns)
+put-bytes-spec = tie.close (tie.spec Inv-loop μ-loop loop-holds (λ c. omega (arith, c .before .before .before .before .before .pre, c .before .before .loop .inv .0)) (λ c. search needs) (λ c. search needs) (λ c κs. search needs) (λ c. search needs) (λ c. search needs)
+    loop-again (λ c. c .before .loop .inv .2) returns)

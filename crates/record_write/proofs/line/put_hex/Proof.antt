@@ -9,9 +9,6 @@ use borrow.Author.Needs.{needs}
 use Rattle.record_write.proofs.line.put_hex.Statement.{statement}
 use Rattle.record_write.proofs.line.put_hex.Tie as tie
 
-cast-put-upper : tie.Need-cast-put-upper
-cast-put-upper c = search needs
-
 put-upper-requires : tie.Need-put-upper-requires
 put-upper-requires c κs = let a = c .before .before .before .args in omega (
   arith,
@@ -31,12 +28,6 @@ part-put-record-start c =
     let a = c .before .before .before .before .before .before .args in
     let u = c .before .before .put-upper .ensures in
     omega (arith, u .0 .long, u .1, hex-long (a .in-force) (a .address) (a .bytes .now), c .before .before .before .before .before .before .pre .1)
-
-part-put-record-end : tie.Need-part-put-record-end
-part-put-record-end c = search needs
-
-cast-put-record : tie.Need-cast-put-record
-cast-put-record c = search needs
 
 put-record-requires : tie.Need-put-record-requires
 put-record-requires c κs =
@@ -66,9 +57,6 @@ add-result c =
       c .before .before .before .before .before .before .before .before .before .before .pre .0,
     )
 
-same-length : tie.Need-same-length
-same-length c = search needs
-
 returns : tie.Need-returns
 unfolding hexText
 returns c =
@@ -85,5 +73,5 @@ returns c =
     )) (c .before .before .put-record .ensures)
 
 pub put-hex-spec : {M : Type 1} → statement M
-put-hex-spec = tie.close (tie.spec cast-put-upper put-upper-requires sub-put-record part-put-record-start part-put-record-end cast-put-record
-    put-record-requires add-result same-length returns)
+put-hex-spec = tie.close (tie.spec (λ c. search needs) put-upper-requires sub-put-record part-put-record-start (λ c. search needs) (λ c. search needs)
+    put-record-requires add-result (λ c. search needs) returns)

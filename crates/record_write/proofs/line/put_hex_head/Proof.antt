@@ -7,12 +7,6 @@ use borrow.Author.Needs.{needs}
 use Rattle.record_write.proofs.line.put_hex_head.Statement.{statement}
 use Rattle.record_write.proofs.line.put_hex_head.Tie as tie
 
-slice-write-out : tie.Need-slice-write-out
-slice-write-out c = search needs
-
-put-byte-requires : tie.Need-put-byte-requires
-put-byte-requires c κs = omega (arith, length-set (c .before .before .args .out .now) 0 58, c .before .before .pre)
-
 put-byte-requires-2 : tie.Need-put-byte-requires-2
 put-byte-requires-2 c κs = omega (
   arith,
@@ -63,4 +57,4 @@ returns c =
     )
 
 pub put-hex-head-spec : {M : Type 1} → statement M
-put-hex-head-spec = tie.close (tie.spec slice-write-out put-byte-requires put-byte-requires-2 put-byte-requires-3 put-byte-requires-4 same-length returns)
+put-hex-head-spec = tie.close (tie.spec (λ c. search needs) (λ c κs. omega (arith, length-set (c .before .before .args .out .now) 0 58, c .before .before .pre)) put-byte-requires-2 put-byte-requires-3 put-byte-requires-4 same-length returns)

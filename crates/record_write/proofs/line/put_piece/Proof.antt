@@ -16,9 +16,6 @@ put-hex-requires c κs =
     let e = by-hex (a .state) (a .address) (a .bytes .now) (c .before .before .before .before .pre .0) (a .format) (c .before .if1 .taken) in
     (c .before .before .before .before .pre .0, omega (arith, ap length e, c .before .before .before .before .pre .1))
 
-same-length : tie.Need-same-length
-same-length c = search needs
-
 returns : tie.Need-returns
 returns c =
     let a = c .before .before .before .before .before .before .before .args in
@@ -40,9 +37,6 @@ put-short-requires c κs =
             .before .before .pre .1,
       ),
     )
-
-same-length-2 : tie.Need-same-length-2
-same-length-2 c = search needs
 
 returns-2 : tie.Need-returns-2
 returns-2 c =
@@ -67,9 +61,6 @@ put-long-requires c κs =
       ),
     )
 
-same-length-3 : tie.Need-same-length-3
-same-length-3 c = search needs
-
 returns-3 : tie.Need-returns-3
 returns-3 c =
     let a = c .before .before .before .before .before .before .before .before .args in
@@ -79,4 +70,4 @@ returns-3 c =
     .put-long .ensures)
 
 pub put-piece-spec : {M : Type 1} → statement M
-put-piece-spec = tie.close (tie.spec put-hex-requires same-length returns put-short-requires same-length-2 returns-2 put-long-requires same-length-3 returns-3)
+put-piece-spec = tie.close (tie.spec put-hex-requires (λ c. search needs) returns put-short-requires (λ c. search needs) returns-2 put-long-requires (λ c. search needs) returns-3)

@@ -7,12 +7,6 @@ use borrow.Author.Needs.{needs}
 use Rattle.record_write.proofs.line.put_s_head.Statement.{statement}
 use Rattle.record_write.proofs.line.put_s_head.Tie as tie
 
-slice-write-out : tie.Need-slice-write-out
-slice-write-out c = search needs
-
-slice-write-out-2 : tie.Need-slice-write-out-2
-slice-write-out-2 c = omega (arith, length-set (c .before .args .out .now) 0 83, c .before .pre)
-
 put-byte-requires : tie.Need-put-byte-requires
 put-byte-requires c κs = omega (arith, two-set (c .before .before .args .out .now) (c .before .before .args .digit), c .before .before .pre)
 
@@ -53,4 +47,4 @@ returns c =
     )
 
 pub put-s-head-spec : {M : Type 1} → statement M
-put-s-head-spec = tie.close (tie.spec slice-write-out slice-write-out-2 put-byte-requires put-byte-requires-2 put-byte-requires-3 same-length returns)
+put-s-head-spec = tie.close (tie.spec (λ c. search needs) (λ c. omega (arith, length-set (c .before .args .out .now) 0 83, c .before .pre)) put-byte-requires put-byte-requires-2 put-byte-requires-3 same-length returns)

@@ -7,36 +7,6 @@ use borrow.Author.Needs.{needs}
 use Rattle.record_write.proofs.line.put_short.Statement.{statement}
 use Rattle.record_write.proofs.line.put_short.Tie as tie
 
-cast-count : tie.Need-cast-count
-cast-count c = search needs
-
-add-count : tie.Need-add-count
-add-count c = search needs
-
-byte-of-requires : tie.Need-byte-of-requires
-byte-of-requires c κs = search needs
-
-byte-of-requires-2 : tie.Need-byte-of-requires-2
-byte-of-requires-2 c κs = search needs
-
-sum-requires : tie.Need-sum-requires
-sum-requires c κs = search needs
-
-sum-four-requires : tie.Need-sum-four-requires
-sum-four-requires c κs = search needs
-
-put-s-head-requires : tie.Need-put-s-head-requires
-put-s-head-requires c κs = search needs
-
-sub-put-tail : tie.Need-sub-put-tail
-sub-put-tail c = search needs
-
-put-tail-requires : tie.Need-put-tail-requires
-put-tail-requires c κs = search needs
-
-same-length : tie.Need-same-length
-same-length c = search needs
-
 returns : tie.Need-returns
 returns c =
     let a = c .before .before .before .before .before .before .before .before .before .before .before .before .before .before .args in
@@ -51,5 +21,5 @@ returns c =
     .ensures .0) (c .before .before .put-tail .ensures .0) (c .before .before .put-tail .ensures .1)
 
 pub put-short-spec : {M : Type 1} → statement M
-put-short-spec = tie.close (tie.spec cast-count add-count byte-of-requires byte-of-requires-2 sum-requires sum-four-requires put-s-head-requires
-    sub-put-tail put-tail-requires same-length returns)
+put-short-spec = tie.close (tie.spec (λ c. search needs) (λ c. search needs) (λ c κs. search needs) (λ c κs. search needs) (λ c κs. search needs) (λ c κs. search needs) (λ c κs. search needs)
+    (λ c. search needs) (λ c κs. search needs) (λ c. search needs) returns)

@@ -9,27 +9,6 @@ use borrow.Author.Needs.{needs}
 use Rattle.record_write.proofs.line.put_tail.Statement.{statement}
 use Rattle.record_write.proofs.line.put_tail.Tie as tie
 
-mul-end : tie.Need-mul-end
-mul-end c = search needs
-
-add-end : tie.Need-add-end
-add-end c = search needs
-
-put-bytes-requires : tie.Need-put-bytes-requires
-put-bytes-requires c κs = search needs
-
-put-byte-requires : tie.Need-put-byte-requires
-put-byte-requires c κs = search needs
-
-add-out : tie.Need-add-out
-add-out c = search needs
-
-slice-write-out : tie.Need-slice-write-out
-slice-write-out c = search needs
-
-add-result : tie.Need-add-result
-add-result c = search needs
-
 same-length : tie.Need-same-length
 same-length c =
     let a = c .before .before .before .before .before .before .before .before .before .before .args in
@@ -47,4 +26,4 @@ returns c =
     )
 
 pub put-tail-spec : {M : Type 1} → statement M
-put-tail-spec = tie.close (tie.spec mul-end add-end put-bytes-requires put-byte-requires add-out slice-write-out add-result same-length returns)
+put-tail-spec = tie.close (tie.spec (λ c. search needs) (λ c. search needs) (λ c κs. search needs) (λ c κs. search needs) (λ c. search needs) (λ c. search needs) (λ c. search needs) same-length returns)

@@ -13,22 +13,10 @@ returns c =
     let a = c .before .before .args in
     (rw (eq-eqb (a .upper) (a .in-force) (c .if1 .taken)) (record { long = refl; part = refl }), refl)
 
-cast-t7 : tie.Need-cast-t7
-cast-t7 c = search needs
-
-cast-t9 : tie.Need-cast-t9
-cast-t9 c = search needs
-
-slice-aggregate-put-record : tie.Need-slice-aggregate-put-record
-slice-aggregate-put-record c = search needs
-
 put-record-requires : tie.Need-put-record-requires
 put-record-requires c κs =
     let a = c .before .before .before .before .args in
     (omega arith, omega (arith, upper-some (a .in-force) (a .upper) (c .before .before .if1 .left), c .before .before .before .before .pre))
-
-same-length : tie.Need-same-length
-same-length c = search needs
 
 returns-2 : tie.Need-returns-2
 returns-2 c =
@@ -39,4 +27,4 @@ returns-2 c =
     )
 
 pub put-upper-spec : {M : Type 1} → statement M
-put-upper-spec = tie.close (tie.spec returns cast-t7 cast-t9 slice-aggregate-put-record put-record-requires same-length returns-2)
+put-upper-spec = tie.close (tie.spec returns (λ c. search needs) (λ c. search needs) (λ c. search needs) put-record-requires (λ c. search needs) returns-2)

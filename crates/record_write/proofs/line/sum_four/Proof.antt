@@ -4,15 +4,6 @@ use borrow.Author.Needs.{needs}
 use Rattle.record_write.proofs.line.sum_four.Statement.{statement}
 use Rattle.record_write.proofs.line.sum_four.Tie as tie
 
-wrapping-add-u8-requires : tie.Need-wrapping-add-u8-requires
-wrapping-add-u8-requires c κs = search needs
-
-wrapping-add-u8-requires-2 : tie.Need-wrapping-add-u8-requires-2
-wrapping-add-u8-requires-2 c κs = search needs
-
-wrapping-add-u8-requires-3 : tie.Need-wrapping-add-u8-requires-3
-wrapping-add-u8-requires-3 c κs = search needs
-
 returns : tie.Need-returns
 returns c =
     let a = c .before .before .before .args in
@@ -20,4 +11,4 @@ returns c =
     (c .before .before .wrapping-add-u8 .ensures) (c .before .wrapping-add-u82 .ensures) (c .wrapping-add-u83 .ensures)
 
 pub sum-four-spec : {M : Type 1} → statement M
-sum-four-spec = tie.close (tie.spec wrapping-add-u8-requires wrapping-add-u8-requires-2 wrapping-add-u8-requires-3 returns)
+sum-four-spec = tie.close (tie.spec (λ c κs. search needs) (λ c κs. search needs) (λ c κs. search needs) returns)
