@@ -18,39 +18,12 @@ given s =
 abbrev old : tie.Start → Lent
 old s = lent (s .args .image .now) (s .args .addresses .now) (s .args .offsets .now) (s .args .sizes .now)
 
-check-profile-requires : tie.Need-check-profile-requires
-check-profile-requires c κs = search needs
-
-enum-known-verdict : tie.Need-enum-known-verdict
-enum-known-verdict c = search needs
-
-refused-requires : tie.Need-refused-requires
-refused-requires c κs = search needs
-
-enum-told : tie.Need-enum-told
-enum-told c = search needs
-
-build-output-requires : tie.Need-build-output-requires
-build-output-requires c κs = search needs
-
 returns : tie.Need-returns
 returns c =
     let k = c .before .before .before .before in
     let s = start k in
     says-no (s .args .page) (given s) (old s) (verdict-is (s .args .page) (given s) (k .check-profile .ensures .answer))
     (c .before .before .verdict .given .1) (c .refused .ensures)
-
-same-length : tie.Need-same-length
-same-length c = search needs
-
-same-length-2 : tie.Need-same-length-2
-same-length-2 c = search needs
-
-same-length-3 : tie.Need-same-length-3
-same-length-3 c = search needs
-
-same-length-4 : tie.Need-same-length-4
-same-length-4 c = search needs
 
 returns-2 : tie.Need-returns-2
 returns-2 c =
@@ -65,14 +38,5 @@ pub build-in-profile-spec : {M : Type 1} → statement M
 build-in-profile-spec =
     tie.close
     (tie.spec
-    check-profile-requires
-    enum-known-verdict
-    refused-requires
-    enum-told
-    build-output-requires
-    returns
-    same-length
-    same-length-2
-    same-length-3
-    same-length-4
-    returns-2)
+    (λ c κs. search needs) (λ c. search needs) (λ c κs. search needs) (λ c. search needs) (λ c κs. search needs) returns (λ c. search needs)
+    (λ c. search needs) (λ c. search needs) (λ c. search needs) returns-2)
