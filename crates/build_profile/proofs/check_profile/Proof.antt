@@ -11,15 +11,6 @@ start c = c .before .before .before .before .before .before
 abbrev given : tie.Start → Lists
 given s = lists (s .args .kinds .now) (s .args .operands .now) (s .args .numbers .now) (s .args .states .now) (s .args .rows) (s .args .values .now)
 
-judge-requires : tie.Need-judge-requires
-judge-requires c κs = search needs
-
-enum-known-verdict : tie.Need-enum-known-verdict
-enum-known-verdict c = search needs
-
-enum-told : tie.Need-enum-told
-enum-told c = search needs
-
 pages-of-requires : tie.Need-pages-of-requires
 pages-of-requires c κs =
     let k = c .before .before in
@@ -41,4 +32,4 @@ returns-2 c =
 pub check-profile-spec : {M : Type 1} → statement M
 check-profile-spec =
     tie.close
-    (tie.spec judge-requires enum-known-verdict enum-told pages-of-requires returns returns-2)
+    (tie.spec (λ c κs. search needs) (λ c. search needs) (λ c. search needs) pages-of-requires returns returns-2)

@@ -25,30 +25,6 @@ abbrev μ-loop : tie.MeasureT-loop
 sixteen : (c : tie.Start Inv-loop μ-loop) → length (c .args .t1 .defs) ≡ 16
 sixteen c = simp length-map at (c .good .0 .1 .1 .0 .1 .0 .1)
 
-loop-holds : tie.Need-loop-holds Inv-loop μ-loop
-loop-holds c = (search needs, refl)
-
-mul-b : tie.Need-mul-b Inv-loop μ-loop
-mul-b c = search needs
-
-element-copy-out-b : tie.Need-element-copy-out-b Inv-loop μ-loop
-element-copy-out-b c = search needs
-
-pages-in-requires : tie.Need-pages-in-requires Inv-loop μ-loop
-pages-in-requires c κs = search needs
-
-mul-pages : tie.Need-mul-pages Inv-loop μ-loop
-mul-pages c = search needs
-
-array-write-pages : tie.Need-array-write-pages Inv-loop μ-loop
-array-write-pages c = search needs
-
-add-i : tie.Need-add-i Inv-loop μ-loop
-add-i c = search needs
-
-loop-less : tie.Need-loop-less Inv-loop μ-loop
-loop-less c = search needs
-
 loop-again : tie.Need-loop-again Inv-loop μ-loop
 loop-again c =
     let at = c .before .before .before in
@@ -69,15 +45,5 @@ pub pages-of-spec : {M : Type 1} → statement M
 pages-of-spec =
     tie.close
     (tie.spec
-    Inv-loop
-    μ-loop
-    loop-holds
-    mul-b
-    element-copy-out-b
-    pages-in-requires
-    mul-pages
-    array-write-pages
-    add-i
-    loop-less
-    loop-again
-    returns)
+    Inv-loop μ-loop (λ c. (search needs, refl)) (λ c. search needs) (λ c. search needs) (λ c κs. search needs) (λ c. search needs) (λ c. search needs)
+    (λ c. search needs) (λ c. search needs) loop-again returns)

@@ -15,17 +15,11 @@ use Rattle.build_profile.proofs.rules.addr_kept.Tie as tie
 abbrev keeps : tie.Start → Bool → ℕ → Bool
 keeps s is r = not is || multiple (getD (s .args .numbers .now) (r * length (s .args .kinds .now) + s .args .i) 0) (s .args .unit)
 
-shared-slice-read-if1 : tie.Need-shared-slice-read-if1
-shared-slice-read-if1 c = search needs
-
 returns : tie.Need-returns
 returns c =
     let s = c .before .before .before .before in
     let other = ne-eqb (getD (s .args .kinds .now) (s .args .i) 0) 9 (c .if1 .taken) in
     sym (all-kept (keeps s (eqb (getD (s .args .kinds .now) (s .args .i) 0) 9)) (s .args .rows) (λ k h. rw other))
-
-rows-keep-requires : tie.Need-rows-keep-requires
-rows-keep-requires c κs = search needs
 
 returns-2 : tie.Need-returns-2
 returns-2 c =
@@ -34,4 +28,4 @@ returns-2 c =
     c .rows-keep .ensures ∙ ap (λ (t : Bool). all (keeps s t) (s .args .rows)) (sym this)
 
 pub addr-kept-spec : {M : Type 1} → statement M
-addr-kept-spec = tie.close (tie.spec shared-slice-read-if1 returns rows-keep-requires returns-2)
+addr-kept-spec = tie.close (tie.spec (λ c. search needs) returns (λ c κs. search needs) returns-2)

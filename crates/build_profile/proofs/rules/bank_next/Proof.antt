@@ -3,11 +3,5 @@ use borrow.Author.Tests.{ne-eqb}
 use Rattle.build_profile.proofs.rules.bank_next.Statement.{statement}
 use Rattle.build_profile.proofs.rules.bank_next.Tie as tie
 
-returns : tie.Need-returns
-returns c = rw (c .if1 .taken)
-
-returns-2 : tie.Need-returns-2
-returns-2 c = rw (ne-eqb (c .before .args .kind) 1 (c .if1 .left))
-
 pub bank-next-spec : {M : Type 1} → statement M
-bank-next-spec = tie.close (tie.spec returns returns-2)
+bank-next-spec = tie.close (tie.spec (λ c. rw (c .if1 .taken)) (λ c. rw (ne-eqb (c .before .args .kind) 1 (c .if1 .left))))

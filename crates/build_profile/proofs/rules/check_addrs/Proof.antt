@@ -72,36 +72,9 @@ looked c =
 loop-holds : tie.Need-loop-holds Inv-loop μ-loop
 loop-holds c = let s = c .before .before .before in (search needs, begins (s .args .kinds .now) (s .args .operands .now), none-yet (keeps s))
 
-shared-slice-read-bank-next : tie.Need-shared-slice-read-bank-next Inv-loop μ-loop
-shared-slice-read-bank-next c = search needs
-
-mul-bank-next : tie.Need-mul-bank-next Inv-loop μ-loop
-mul-bank-next c = search needs
-
-shared-slice-read-bank-next-2 : tie.Need-shared-slice-read-bank-next-2 Inv-loop μ-loop
-shared-slice-read-bank-next-2 c = search needs
-
-bank-next-requires : tie.Need-bank-next-requires Inv-loop μ-loop
-bank-next-requires c κs = search needs
-
-cast-b : tie.Need-cast-b Inv-loop μ-loop
-cast-b c = omega (arith, inside c)
-
-mul-b : tie.Need-mul-b Inv-loop μ-loop
-mul-b c = omega (arith, inside c)
-
-element-copy-out-b : tie.Need-element-copy-out-b Inv-loop μ-loop
-element-copy-out-b c = inside c
-
-cast-addr-kept : tie.Need-cast-addr-kept Inv-loop μ-loop
-cast-addr-kept c = search needs
-
 addr-kept-requires : tie.Need-addr-kept-requires Inv-loop μ-loop
 addr-kept-requires c κs =
     let b = c .before .before in (b .before .before .before .loop-test .taken, start (head b) .pre .numbered)
-
-off-profile-requires : tie.Need-off-profile-requires Inv-loop μ-loop
-off-profile-requires c κs = search needs
 
 returns : tie.Need-returns Inv-loop μ-loop
 returns c =
@@ -112,12 +85,6 @@ returns c =
     c .off-profile .ensures
     ∙ sym (ruled-broken (keeps s) (length (s .args .kinds .now)) i (b .before .before .before .loop-test .taken) (head b .loop .inv .2)
     (is-broken (keeps s) i (looked k) (c .before .if1 .taken)) 6)
-
-add-i : tie.Need-add-i Inv-loop μ-loop
-add-i c = search needs
-
-loop-less : tie.Need-loop-less Inv-loop μ-loop
-loop-less c = search needs
 
 loop-again : tie.Need-loop-again Inv-loop μ-loop
 loop-again c =
@@ -136,21 +103,6 @@ pub check-addrs-spec : {M : Type 1} → statement M
 check-addrs-spec =
     tie.close
     (tie.spec
-    Inv-loop
-    μ-loop
-    loop-holds
-    shared-slice-read-bank-next
-    mul-bank-next
-    shared-slice-read-bank-next-2
-    bank-next-requires
-    cast-b
-    mul-b
-    element-copy-out-b
-    cast-addr-kept
-    addr-kept-requires
-    off-profile-requires
-    returns
-    add-i
-    loop-less
-    loop-again
-    returns-2)
+    Inv-loop μ-loop loop-holds (λ c. search needs) (λ c. search needs) (λ c. search needs) (λ c κs. search needs) (λ c. omega (arith, inside c))
+    (λ c. omega (arith, inside c)) (λ c. inside c) (λ c. search needs) addr-kept-requires (λ c κs. search needs) returns (λ c. search needs)
+    (λ c. search needs) loop-again returns-2)

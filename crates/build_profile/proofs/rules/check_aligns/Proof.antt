@@ -31,15 +31,6 @@ looked c =
     let a = start (c .before .before) .args in
     c .node-aligned .ensures ∙ aligns-read (a .kinds .now) [] (a .numbers .now) (a .rows) (c .before .before .loop .i) (c .before .loop-test .taken)
 
-loop-holds : tie.Need-loop-holds Inv-loop μ-loop
-loop-holds c = (search needs, none-yet (keeps (c .before .before)))
-
-node-aligned-requires : tie.Need-node-aligned-requires Inv-loop μ-loop
-node-aligned-requires c κs = (c .loop-test .taken, start (c .before) .pre)
-
-off-profile-requires : tie.Need-off-profile-requires Inv-loop μ-loop
-off-profile-requires c κs = search needs
-
 returns : tie.Need-returns Inv-loop μ-loop
 returns c =
     let b = c .before .before in
@@ -48,12 +39,6 @@ returns c =
     c .off-profile .ensures
     ∙ sym (ruled-broken (keeps s) (length (s .args .kinds .now)) (at .loop .i) (b .before .loop-test .taken) (at .loop .inv .1)
     (is-broken (keeps s) (at .loop .i) (looked b) (c .before .if1 .taken)) 2)
-
-add-i : tie.Need-add-i Inv-loop μ-loop
-add-i c = search needs
-
-loop-less : tie.Need-loop-less Inv-loop μ-loop
-loop-less c = search needs
 
 loop-again : tie.Need-loop-again Inv-loop μ-loop
 loop-again c =
@@ -71,13 +56,5 @@ pub check-aligns-spec : {M : Type 1} → statement M
 check-aligns-spec =
     tie.close
     (tie.spec
-    Inv-loop
-    μ-loop
-    loop-holds
-    node-aligned-requires
-    off-profile-requires
-    returns
-    add-i
-    loop-less
-    loop-again
-    returns-2)
+    Inv-loop μ-loop (λ c. (search needs, none-yet (keeps (c .before .before)))) (λ c κs. (c .loop-test .taken, start (c .before) .pre))
+    (λ c κs. search needs) returns (λ c. search needs) (λ c. search needs) loop-again returns-2)

@@ -28,21 +28,6 @@ looked c =
     let i = c .before .before .before .loop .i in
     c .bank-keeps .ensures ∙ ap (bankKeeps (s .args .rule) (s .args .page)) (sym (listed-bank (s .args .t1) i (c .before .before .loop-test .taken)))
 
-loop-holds : tie.Need-loop-holds Inv-loop μ-loop
-loop-holds c = (search needs, none-yet (keeps c))
-
-mul-b : tie.Need-mul-b Inv-loop μ-loop
-mul-b c = search needs
-
-element-copy-out-b : tie.Need-element-copy-out-b Inv-loop μ-loop
-element-copy-out-b c = search needs
-
-bank-keeps-requires : tie.Need-bank-keeps-requires Inv-loop μ-loop
-bank-keeps-requires c κs = search needs
-
-off-profile-requires : tie.Need-off-profile-requires Inv-loop μ-loop
-off-profile-requires c κs = search needs
-
 returns : tie.Need-returns Inv-loop μ-loop
 returns c =
     let b = c .before .before in
@@ -51,12 +36,6 @@ returns c =
     c .off-profile .ensures
     ∙ sym (ruled-broken (keeps s) (s .args .t1 .len) (at .loop .i) (b .before .before .loop-test .taken) (at .loop .inv .1)
     (is-broken (keeps s) (at .loop .i) (looked b) (c .before .if1 .taken)) (s .args .rule))
-
-add-i : tie.Need-add-i Inv-loop μ-loop
-add-i c = search needs
-
-loop-less : tie.Need-loop-less Inv-loop μ-loop
-loop-less c = search needs
 
 loop-again : tie.Need-loop-again Inv-loop μ-loop
 loop-again c =
@@ -75,15 +54,5 @@ pub check-banks-spec : {M : Type 1} → statement M
 check-banks-spec =
     tie.close
     (tie.spec
-    Inv-loop
-    μ-loop
-    loop-holds
-    mul-b
-    element-copy-out-b
-    bank-keeps-requires
-    off-profile-requires
-    returns
-    add-i
-    loop-less
-    loop-again
-    returns-2)
+    Inv-loop μ-loop (λ c. (search needs, none-yet (keeps c))) (λ c. search needs) (λ c. search needs) (λ c κs. search needs) (λ c κs. search needs)
+    returns (λ c. search needs) (λ c. search needs) loop-again returns-2)

@@ -8,12 +8,6 @@ use borrow.Author.Needs.{needs}
 use Rattle.build_profile.proofs.rules.check_page.Statement.{statement}
 use Rattle.build_profile.proofs.rules.check_page.Tie as tie
 
-one-bit-requires : tie.Need-one-bit-requires
-one-bit-requires c κs = search needs
-
-off-profile-requires : tie.Need-off-profile-requires
-off-profile-requires c κs = search needs
-
 returns : tie.Need-returns
 returns c = sym (ruled-kept (λ (k : ℕ). oneBit (c .before .before .args .page)) 1 1 (λ k h. sym (c .before .one-bit .ensures) ∙ c .if1 .taken))
 
@@ -24,4 +18,4 @@ returns-2 c =
     (sym (c .before .before .one-bit .ensures) ∙ c .before .if1 .left) 1)
 
 pub check-page-spec : {M : Type 1} → statement M
-check-page-spec = tie.close (tie.spec one-bit-requires off-profile-requires returns returns-2)
+check-page-spec = tie.close (tie.spec (λ c κs. search needs) (λ c κs. search needs) returns returns-2)

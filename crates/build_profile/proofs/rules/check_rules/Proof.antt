@@ -6,45 +6,6 @@ use borrow.Author.Needs.{needs}
 use Rattle.build_profile.proofs.rules.check_rules.Statement.{statement}
 use Rattle.build_profile.proofs.rules.check_rules.Tie as tie
 
-check-page-requires : tie.Need-check-page-requires
-check-page-requires c κs = search needs
-
-check-banks-requires : tie.Need-check-banks-requires
-check-banks-requires c κs = search needs
-
-check-aligns-requires : tie.Need-check-aligns-requires
-check-aligns-requires c κs = search needs
-
-check-banks-requires-2 : tie.Need-check-banks-requires-2
-check-banks-requires-2 c κs = search needs
-
-check-banks-requires-3 : tie.Need-check-banks-requires-3
-check-banks-requires-3 c κs = search needs
-
-check-banks-requires-4 : tie.Need-check-banks-requires-4
-check-banks-requires-4 c κs = search needs
-
-check-addrs-requires : tie.Need-check-addrs-requires
-check-addrs-requires c κs = search needs
-
-earlier-requires : tie.Need-earlier-requires
-earlier-requires c κs = search needs
-
-earlier-requires-2 : tie.Need-earlier-requires-2
-earlier-requires-2 c κs = search needs
-
-earlier-requires-3 : tie.Need-earlier-requires-3
-earlier-requires-3 c κs = search needs
-
-earlier-requires-4 : tie.Need-earlier-requires-4
-earlier-requires-4 c κs = search needs
-
-earlier-requires-5 : tie.Need-earlier-requires-5
-earlier-requires-5 c κs = search needs
-
-earlier-requires-6 : tie.Need-earlier-requires-6
-earlier-requires-6 c κs = search needs
-
 returns : tie.Need-returns
 unfolding rulesOf
 returns c =
@@ -70,17 +31,6 @@ pub check-rules-spec : {M : Type 1} → statement M
 check-rules-spec =
     tie.close
     (tie.spec
-    check-page-requires
-    check-banks-requires
-    check-aligns-requires
-    check-banks-requires-2
-    check-banks-requires-3
-    check-banks-requires-4
-    check-addrs-requires
-    earlier-requires
-    earlier-requires-2
-    earlier-requires-3
-    earlier-requires-4
-    earlier-requires-5
-    earlier-requires-6
-    returns)
+    (λ c κs. search needs) (λ c κs. search needs) (λ c κs. search needs) (λ c κs. search needs) (λ c κs. search needs) (λ c κs. search needs)
+    (λ c κs. search needs) (λ c κs. search needs) (λ c κs. search needs) (λ c κs. search needs) (λ c κs. search needs) (λ c κs. search needs)
+    (λ c κs. search needs) returns)

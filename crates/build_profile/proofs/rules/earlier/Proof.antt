@@ -3,17 +3,5 @@ use borrow.Author.Needs.{needs}
 use Rattle.build_profile.proofs.rules.earlier.Statement.{statement}
 use Rattle.build_profile.proofs.rules.earlier.Tie as tie
 
-enum-known-first : tie.Need-enum-known-first
-enum-known-first c = search needs
-
-enum-told : tie.Need-enum-told
-enum-told c = search needs
-
-returns : tie.Need-returns
-returns c = rw (c .before .first .given .1)
-
-returns-2 : tie.Need-returns-2
-returns-2 c = search needs
-
 pub earlier-spec : {M : Type 1} → statement M
-earlier-spec = tie.close (tie.spec enum-known-first enum-told returns returns-2)
+earlier-spec = tie.close (tie.spec (λ c. search needs) (λ c. search needs) (λ c. rw (c .before .first .given .1)) (λ c. search needs))

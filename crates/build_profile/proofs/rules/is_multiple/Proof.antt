@@ -4,14 +4,5 @@ use borrow.Author.Needs.{needs}
 use Rattle.build_profile.proofs.rules.is_multiple.Statement.{statement}
 use Rattle.build_profile.proofs.rules.is_multiple.Tie as tie
 
-returns : tie.Need-returns
-returns c = rw (c .if1 .taken, mod-zero (c .before .args .x))
-
-rem-result : tie.Need-rem-result
-rem-result c = search needs
-
-returns-2 : tie.Need-returns-2
-returns-2 c = search needs
-
 pub is-multiple-spec : {M : Type 1} → statement M
-is-multiple-spec = tie.close (tie.spec returns rem-result returns-2)
+is-multiple-spec = tie.close (tie.spec (λ c. rw (c .if1 .taken, mod-zero (c .before .args .x))) (λ c. search needs) (λ c. search needs))

@@ -12,26 +12,11 @@ start c = c .before .before .before .before .before .before
 abbrev given : tie.Start → Lists
 given s = lists (s .args .kinds .now) (s .args .operands .now) (s .args .numbers .now) (s .args .states .now) (s .args .rows) (s .args .values .now)
 
-check-requires : tie.Need-check-requires
-check-requires c κs = search needs
-
-enum-known-table : tie.Need-enum-known-table
-enum-known-table c = search needs
-
 returns : tie.Need-returns
 returns c =
     let k = c .before .before .before in
     let s = start k in
     table-refused (s .args .banks) (given s) (s .args .fill) (s .args .page) (k .check .ensures .0) (c .before .table .given .1)
-
-enum-told : tie.Need-enum-told
-enum-told c = search needs
-
-check-lists-requires : tie.Need-check-lists-requires
-check-lists-requires c κs = search needs
-
-enum-known-listed : tie.Need-enum-known-listed
-enum-known-listed c = search needs
 
 returns-2 : tie.Need-returns-2
 returns-2 c =
@@ -40,9 +25,6 @@ returns-2 c =
     let s = start k in
     lists-refused (s .args .banks) (given s) (s .args .fill) (s .args .page) (k .check .ensures .0) (w .before .enum-told .given .1)
     (w .check-lists .ensures .0) (c .before .listed .given .1)
-
-enum-told-2 : tie.Need-enum-told-2
-enum-told-2 c = search needs
 
 check-rules-requires : tie.Need-check-rules-requires
 check-rules-requires c κs =
@@ -64,13 +46,5 @@ pub judge-spec : {M : Type 1} → statement M
 judge-spec =
     tie.close
     (tie.spec
-    check-requires
-    enum-known-table
-    returns
-    enum-told
-    check-lists-requires
-    enum-known-listed
-    returns-2
-    enum-told-2
-    check-rules-requires
-    returns-3)
+    (λ c κs. search needs) (λ c. search needs) returns (λ c. search needs) (λ c κs. search needs) (λ c. search needs) returns-2 (λ c. search needs)
+    check-rules-requires returns-3)

@@ -15,17 +15,11 @@ use Rattle.build_profile.proofs.rules.node_aligned.Tie as tie
 abbrev keeps : tie.Start → Bool → ℕ → Bool
 keeps s is r = not is || aligned (getD (s .args .numbers .now) (r * length (s .args .kinds .now) + s .args .i) 0)
 
-shared-slice-read-if1 : tie.Need-shared-slice-read-if1
-shared-slice-read-if1 c = search needs
-
 returns : tie.Need-returns
 returns c =
     let s = c .before .before .before .before in
     let other = ne-eqb (getD (s .args .kinds .now) (s .args .i) 0) 8 (c .if1 .taken) in
     sym (all-kept (keeps s (eqb (getD (s .args .kinds .now) (s .args .i) 0) 8)) (s .args .rows) (λ k h. rw other))
-
-rows-keep-requires : tie.Need-rows-keep-requires
-rows-keep-requires c κs = search needs
 
 returns-2 : tie.Need-returns-2
 returns-2 c =
@@ -34,4 +28,4 @@ returns-2 c =
     c .rows-keep .ensures ∙ ap (λ (t : Bool). all (keeps s t) (s .args .rows)) (sym this)
 
 pub node-aligned-spec : {M : Type 1} → statement M
-node-aligned-spec = tie.close (tie.spec shared-slice-read-if1 returns rows-keep-requires returns-2)
+node-aligned-spec = tie.close (tie.spec (λ c. search needs) returns (λ c κs. search needs) returns-2)

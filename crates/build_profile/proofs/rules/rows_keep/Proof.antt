@@ -27,36 +27,12 @@ inside c =
     let s = c .before .before .before in
     omega (arith, cell-inside (c .before .loop .r) (s .args .rows) (s .args .n) (s .args .i) (c .loop-test .taken) (s .pre .0), s .pre .1)
 
-loop-holds : tie.Need-loop-holds Inv-loop μ-loop
-loop-holds c = (search needs, none-yet (keeps (c .before)))
-
-mul-at : tie.Need-mul-at Inv-loop μ-loop
-mul-at c = omega (arith, inside c)
-
-add-at : tie.Need-add-at Inv-loop μ-loop
-add-at c = omega (arith, inside c)
-
-mul-is-kept : tie.Need-mul-is-kept Inv-loop μ-loop
-mul-is-kept c = omega (arith, inside c)
-
-shared-slice-read-is-kept : tie.Need-shared-slice-read-is-kept Inv-loop μ-loop
-shared-slice-read-is-kept c = omega (arith, inside (c .before))
-
-is-kept-requires : tie.Need-is-kept-requires Inv-loop μ-loop
-is-kept-requires c κs = search needs
-
 returns : tie.Need-returns Inv-loop μ-loop
 returns c =
     let at = c .before .before .before .before in
     let s = at .before .before in
     sym (not-all (keeps s) (s .args .rows) (at .loop .r) (c .before .before .before .loop-test .taken) (at .loop .inv .1)
     (is-broken (keeps s) (at .loop .r) (c .before .is-kept .ensures) (c .if1 .taken)))
-
-add-r : tie.Need-add-r Inv-loop μ-loop
-add-r c = search needs
-
-loop-less : tie.Need-loop-less Inv-loop μ-loop
-loop-less c = search needs
 
 loop-again : tie.Need-loop-again Inv-loop μ-loop
 loop-again c =
@@ -73,16 +49,6 @@ pub rows-keep-spec : {M : Type 1} → statement M
 rows-keep-spec =
     tie.close
     (tie.spec
-    Inv-loop
-    μ-loop
-    loop-holds
-    mul-at
-    add-at
-    mul-is-kept
-    shared-slice-read-is-kept
-    is-kept-requires
-    returns
-    add-r
-    loop-less
-    loop-again
-    returns-2)
+    Inv-loop μ-loop (λ c. (search needs, none-yet (keeps (c .before)))) (λ c. omega (arith, inside c)) (λ c. omega (arith, inside c))
+    (λ c. omega (arith, inside c)) (λ c. omega (arith, inside (c .before))) (λ c κs. search needs) returns (λ c. search needs) (λ c. search needs)
+    loop-again returns-2)
