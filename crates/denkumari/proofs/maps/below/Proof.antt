@@ -3,15 +3,8 @@ use borrow.Author.Tests.{lt-ltb, le-ltb}
 use Rattle.denkumari.proofs.maps.below.Statement.{statement}
 use Rattle.denkumari.proofs.maps.below.Tie as tie
 
-returns : tie.Need-returns
-returns c = rw (lt-ltb (c .before .args .number) 5 (c .if1 .taken))
-
-returns-2 : tie.Need-returns-2
-returns-2 c = rw (le-ltb (c .before .args .number) 5 (c .if1 .left))
-
 pub below-spec : {M : Type 1} → statement M
 below-spec =
     tie.close
     (tie.spec
-    returns
-    returns-2)
+    (λ c. rw (lt-ltb (c .before .args .number) 5 (c .if1 .taken))) (λ c. rw (le-ltb (c .before .args .number) 5 (c .if1 .left))))

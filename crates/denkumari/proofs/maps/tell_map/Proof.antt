@@ -4,18 +4,6 @@ use borrow.Author.Needs.{needs}
 use Rattle.denkumari.proofs.maps.tell_map.Statement.{statement}
 use Rattle.denkumari.proofs.maps.tell_map.Tie as tie
 
-node-of-requires : tie.Need-node-of-requires
-node-of-requires c κs = search needs
-
-enum-told : tie.Need-enum-told
-enum-told c = search needs
-
-enum-known-verdict : tie.Need-enum-known-verdict
-enum-known-verdict c = search needs
-
-tell-refused-requires : tie.Need-tell-refused-requires
-tell-refused-requires c κs = search needs
-
 returns : tie.Need-returns
 returns c =
     let node-of′ = c .before .before .node-of in
@@ -31,9 +19,4 @@ pub tell-map-spec : {M : Type 1} → statement M
 tell-map-spec =
     tie.close
     (tie.spec
-    node-of-requires
-    enum-told
-    enum-known-verdict
-    tell-refused-requires
-    returns
-    returns-2)
+    (λ c κs. search needs) (λ c. search needs) (λ c. search needs) (λ c κs. search needs) returns returns-2)

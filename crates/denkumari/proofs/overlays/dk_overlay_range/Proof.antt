@@ -5,12 +5,6 @@ use borrow.Author.Needs.{needs}
 use Rattle.denkumari.proofs.overlays.dk_overlay_range.Statement.{statement}
 use Rattle.denkumari.proofs.overlays.dk_overlay_range.Tie as tie
 
-which-requires : tie.Need-which-requires
-which-requires c κs = search needs
-
-tell-source-requires : tie.Need-tell-source-requires
-tell-source-requires c κs = search needs
-
 returns : tie.Need-returns
 returns c =
     let said = c .before in
@@ -18,4 +12,4 @@ returns c =
     record { answer = c .tell-source .ensures ∙ ap (overlayBy (a .first) (a .count)) (said .which .ensures .answer) }
 
 pub dk-overlay-range-spec : {M : Type 1} → statement M
-dk-overlay-range-spec = tie.close (tie.spec which-requires tell-source-requires returns)
+dk-overlay-range-spec = tie.close (tie.spec (λ c κs. search needs) (λ c κs. search needs) returns)

@@ -5,22 +5,10 @@ use borrow.Author.Needs.{needs}
 use Rattle.denkumari.proofs.overlays.dk_overlay_runs.Statement.{statement}
 use Rattle.denkumari.proofs.overlays.dk_overlay_runs.Tie as tie
 
-differences-requires : tie.Need-differences-requires
-differences-requires c κs = search needs
-
-tell-listed-requires : tie.Need-tell-listed-requires
-tell-listed-requires c κs = search needs
-
-same-length : tie.Need-same-length
-same-length c = search needs
-
-same-length-2 : tie.Need-same-length-2
-same-length-2 c = search needs
-
 returns : tie.Need-returns
 returns c =
     let listed = c .before .before .before .before .before .differences .ensures in
     record { answer = c .tell-listed .ensures ∙ ap listedCount (listed .answer); first = listed .first; second = listed .second }
 
 pub dk-overlay-runs-spec : {M : Type 1} → statement M
-dk-overlay-runs-spec = tie.close (tie.spec differences-requires tell-listed-requires same-length same-length-2 returns)
+dk-overlay-runs-spec = tie.close (tie.spec (λ c κs. search needs) (λ c κs. search needs) (λ c. search needs) (λ c. search needs) returns)

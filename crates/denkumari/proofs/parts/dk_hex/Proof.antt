@@ -5,19 +5,10 @@ use borrow.Author.Needs.{needs}
 use Rattle.denkumari.proofs.parts.dk_hex.Statement.{statement}
 use Rattle.denkumari.proofs.parts.dk_hex.Tie as tie
 
-write-hex-requires : tie.Need-write-hex-requires
-write-hex-requires c κs = search needs
-
-tell-hex-requires : tie.Need-tell-hex-requires
-tell-hex-requires c κs = search needs
-
-same-length : tie.Need-same-length
-same-length c = search needs
-
 returns : tie.Need-returns
 returns c =
     let written = c .before .before .before .write-hex .ensures in
     record { answer = c .tell-hex .ensures ∙ ap hexCount (written .answer); digits = written .digits }
 
 pub dk-hex-spec : {M : Type 1} → statement M
-dk-hex-spec = tie.close (tie.spec write-hex-requires tell-hex-requires same-length returns)
+dk-hex-spec = tie.close (tie.spec (λ c κs. search needs) (λ c κs. search needs) (λ c. search needs) returns)

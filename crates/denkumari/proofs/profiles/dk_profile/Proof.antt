@@ -4,18 +4,6 @@ use borrow.Author.Needs.{needs}
 use Rattle.denkumari.proofs.profiles.dk_profile.Statement.{statement}
 use Rattle.denkumari.proofs.profiles.dk_profile.Tie as tie
 
-make-banks-requires : tie.Need-make-banks-requires
-make-banks-requires c κs = search needs
-
-choose-requires : tie.Need-choose-requires
-choose-requires c κs = search needs
-
-check-profile-requires : tie.Need-check-profile-requires
-check-profile-requires c κs = search needs
-
-tell-paged-requires : tie.Need-tell-paged-requires
-tell-paged-requires c κs = search needs
-
 returns : tie.Need-returns
 returns c =
     let said = c .before in
@@ -26,8 +14,4 @@ pub dk-profile-spec : {M : Type 1} → statement M
 dk-profile-spec =
     tie.close
     (tie.spec
-    make-banks-requires
-    choose-requires
-    check-profile-requires
-    tell-paged-requires
-    returns)
+    (λ c κs. search needs) (λ c κs. search needs) (λ c κs. search needs) (λ c κs. search needs) returns)

@@ -5,15 +5,6 @@ use borrow.Author.Needs.{needs}
 use Rattle.denkumari.proofs.record_files.dk_write_hex.Statement.{statement}
 use Rattle.denkumari.proofs.record_files.dk_write_hex.Tie as tie
 
-write-ihex-requires : tie.Need-write-ihex-requires
-write-ihex-requires c κs = search needs
-
-tell-written-requires : tie.Need-tell-written-requires
-tell-written-requires c κs = search needs
-
-same-length : tie.Need-same-length
-same-length c = search needs
-
 returns : tie.Need-returns
 returns c =
     let w = c .before .before .before .write-ihex .ensures .writes in
@@ -21,4 +12,4 @@ returns c =
 
 pub dk-write-hex-spec : {M : Type 1} → statement M
 dk-write-hex-spec =
-    tie.close (tie.spec write-ihex-requires tell-written-requires same-length returns)
+    tie.close (tie.spec (λ c κs. search needs) (λ c κs. search needs) (λ c. search needs) returns)

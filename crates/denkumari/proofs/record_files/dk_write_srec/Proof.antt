@@ -5,15 +5,6 @@ use borrow.Author.Needs.{needs}
 use Rattle.denkumari.proofs.record_files.dk_write_srec.Statement.{statement}
 use Rattle.denkumari.proofs.record_files.dk_write_srec.Tie as tie
 
-write-srec-requires : tie.Need-write-srec-requires
-write-srec-requires c κs = search needs
-
-tell-written-requires : tie.Need-tell-written-requires
-tell-written-requires c κs = search needs
-
-same-length : tie.Need-same-length
-same-length c = search needs
-
 returns : tie.Need-returns
 returns c =
     let w = c .before .before .before .write-srec .ensures in
@@ -21,4 +12,4 @@ returns c =
 
 pub dk-write-srec-spec : {M : Type 1} → statement M
 dk-write-srec-spec =
-    tie.close (tie.spec write-srec-requires tell-written-requires same-length returns)
+    tie.close (tie.spec (λ c κs. search needs) (λ c κs. search needs) (λ c. search needs) returns)
