@@ -8,7 +8,7 @@ use overlay::Listed;
 use record_write::Written;
 use refusal::Refusal;
 ghost use mathlib.Core.Path.{_≡_};
-ghost use Rattle.c_answers.specs.Told.{refusedCount};
+ghost use Rattle.c_answers.specs.Told.{counted, refusedCount};
 ghost use Rattle.c_answers.specs.Counts.{blocksCount, hexCount, writtenCount, conversionCount, listedCount};
 
 // A refusal of a call that counts.
@@ -22,15 +22,22 @@ pub fn tell_refusal(why: Refusal) -> DkCount
     }
 }
 
+// So many things were written.
+fn counted(count: u64) -> DkCount
+    ensures { λ r. ⌜ r ≡ counted count ⌝ }
+{
+    DkCount {
+        refusal: 0,
+        place: 0,
+        count,
+    }
+}
+
 pub fn tell_blocks(found: Blocks) -> DkCount
     ensures { λ r. ⌜ r ≡ blocksCount found ⌝ }
 {
     match found {
-        Blocks::Found(count) => DkCount {
-            refusal: 0,
-            place: 0,
-            count,
-        },
+        Blocks::Found(count) => counted(count),
         Blocks::Refused(why) => tell_refusal(why),
     }
 }
@@ -39,11 +46,7 @@ pub fn tell_hex(hex: Hex) -> DkCount
     ensures { λ r. ⌜ r ≡ hexCount hex ⌝ }
 {
     match hex {
-        Hex::Digits(count) => DkCount {
-            refusal: 0,
-            place: 0,
-            count,
-        },
+        Hex::Digits(count) => counted(count),
         Hex::Refused(why) => tell_refusal(why),
     }
 }
@@ -52,11 +55,7 @@ pub fn tell_written(written: Written) -> DkCount
     ensures { λ r. ⌜ r ≡ writtenCount written ⌝ }
 {
     match written {
-        Written::Length(count) => DkCount {
-            refusal: 0,
-            place: 0,
-            count,
-        },
+        Written::Length(count) => counted(count),
         Written::Refused(why) => tell_refusal(why),
     }
 }
@@ -65,11 +64,7 @@ pub fn tell_conversion(done: Conversion) -> DkCount
     ensures { λ r. ⌜ r ≡ conversionCount done ⌝ }
 {
     match done {
-        Conversion::Converted(count) => DkCount {
-            refusal: 0,
-            place: 0,
-            count,
-        },
+        Conversion::Converted(count) => counted(count),
         Conversion::Refused(why) => tell_refusal(why),
     }
 }
@@ -78,11 +73,7 @@ pub fn tell_listed(listed: Listed) -> DkCount
     ensures { λ r. ⌜ r ≡ listedCount listed ⌝ }
 {
     match listed {
-        Listed::Runs(count) => DkCount {
-            refusal: 0,
-            place: 0,
-            count,
-        },
+        Listed::Runs(count) => counted(count),
         Listed::Refused(why) => tell_refusal(why),
     }
 }

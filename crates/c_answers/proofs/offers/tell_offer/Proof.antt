@@ -8,24 +8,6 @@ use Rattle.c_answers.specs.Stores.{inFigures}
 use Rattle.c_answers.proofs.offers.tell_offer.Statement.{statement}
 use Rattle.c_answers.proofs.offers.tell_offer.Tie as tie
 
-enum-told : tie.Need-enum-told
-enum-told c = search needs
-
-enum-known-verdict : tie.Need-enum-known-verdict
-enum-known-verdict c = search needs
-
-number-requires : tie.Need-number-requires
-number-requires c κs = search needs
-
-place-of-requires : tie.Need-place-of-requires
-place-of-requires c κs = search needs
-
-tell-place-requires : tie.Need-tell-place-requires
-tell-place-requires c κs = search needs
-
-returns : tie.Need-returns
-returns c = rw (c .enum-told .given .1)
-
 returns-2 : tie.Need-returns-2
 returns-2 c =
     let told = c .before in
@@ -39,10 +21,5 @@ pub tell-offer-spec : {M : Type 1} → statement M
 tell-offer-spec =
     tie.close
     (tie.spec
-    enum-told
-    enum-known-verdict
-    number-requires
-    place-of-requires
-    tell-place-requires
-    returns
+    (λ c. search needs) (λ c. search needs) (λ c κs. search needs) (λ c κs. search needs) (λ c κs. search needs) (λ c. rw (c .enum-told .given .1))
     returns-2)
