@@ -1,33 +1,16 @@
 // A table of banks that is lent as lists of numbers, one for each field, and what a caller chooses in numbers.
 use bankdef::Bankdef;
 use bankdef::Bankdefs;
+use form_fields::is_set;
+use form_fields::option;
 use refusal::Opt;
 use resolver::Choices;
 ghost use mathlib.Core.Path.{_≡_};
 ghost use mathlib.Core.List.{_++_};
-ghost use Prim.Native.Nat.{_-_, _≤_, _<_, min};
+ghost use Prim.Native.Nat.{_-_, _≤_, min};
 ghost use lib.ListN.{length, replicate};
-ghost use Rattle.form_fields.specs.Banks.{isSet, optOf, noBank};
+ghost use Rattle.form_fields.specs.Banks.{noBank};
 ghost use Rattle.c_tables.specs.Tables.{unitOf, bankOf, given, banksIn, agree, tableOf, choicesBy};
-
-fn is_set(flags: u8, flag: u8) -> bool
-    requires { ⌜ 0 < flag ⌝ }
-    ensures { λ r. ⌜ r ≡ isSet flags flag ⌝ }
-{
-    flags / flag % 2 == 1
-}
-
-// A number that is there where its flag is set.
-fn option(flags: u8, flag: u8, n: u32) -> Opt
-    requires { ⌜ 0 < flag ⌝ }
-    ensures { λ r. ⌜ r ≡ optOf flags flag n ⌝ }
-{
-    if is_set(flags, flag) {
-        Opt::Some(n)
-    } else {
-        Opt::None
-    }
-}
 
 // A bank with flags that mean nothing has no unit either, so that it is refused like any other whose numbers are beyond their limits.
 fn unit_of(unit: u16, flags: u8) -> u16

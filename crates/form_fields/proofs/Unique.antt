@@ -9,6 +9,10 @@ use Rattle.form_fields.proofs.read32.Kinds as read32-kinds
 use Rattle.form_fields.proofs.read32.Reads as read32-reads
 use Rattle.form_fields.proofs.read64.Kinds as read64-kinds
 use Rattle.form_fields.proofs.read64.Reads as read64-reads
+use Rattle.form_fields.proofs.is_set.Kinds as is-set-kinds
+use Rattle.form_fields.proofs.is_set.Reads as is-set-reads
+use Rattle.form_fields.proofs.option.Kinds as option-kinds
+use Rattle.form_fields.proofs.option.Reads as option-reads
 use Rattle.form_fields.proofs.count_run.Kinds as count-run-kinds
 use Rattle.form_fields.proofs.count_run.Reads as count-run-reads
 use Rattle.form_fields.proofs.kind_of.Kinds as kind-of-kinds
@@ -28,6 +32,12 @@ read32-unique κs a x y e f p q = determined p q
 
 pub read64-unique : OneOutcome 1 read64-kinds.ps read64-kinds.r read64-reads.Learnt
 read64-unique κs a x y e f p q = determined p q
+
+pub is-set-unique : OneOutcome 0 is-set-kinds.ps is-set-kinds.r is-set-reads.Learnt
+is-set-unique κs a x y e f p q = determined p q
+
+pub option-unique : OneOutcome 0 option-kinds.ps option-kinds.r option-reads.Learnt
+option-unique κs a x y e f p q = determined p q
 
 pub kind-of-unique : OneOutcome 1 kind-of-kinds.ps kind-of-kinds.r kind-of-reads.Learnt
 kind-of-unique κs a x y e f p q = determined p q

@@ -1,10 +1,12 @@
 // A layout file of either form, read: where things stand in a lent file, and which file is broken.
+use refusal::Opt;
 use refusal::Refusal;
 ghost use mathlib.Core.Path.{_≡_};
-ghost use Prim.Native.Nat.{_+_, _*_, _≤_};
+ghost use Prim.Native.Nat.{_+_, _*_, _<_, _≤_};
 ghost use lib.Dec.{leb};
 ghost use lib.ListN.{length};
 ghost use Rattle.form_fields.specs.Words.{word16, word32, word64};
+ghost use Rattle.form_fields.specs.Banks.{isSet, optOf};
 ghost use Rattle.form_fields.specs.Fields.{fieldAt, endsWell, soundAt, run};
 ghost use Rattle.form_fields.specs.Kind.{form1, form2, begins2, kindOf, headed, Known};
 ghost use Rattle.form_fields.specs.Shape.{Counted, formIn};
@@ -70,6 +72,26 @@ pub fn read64(file: &[u8], at: usize) -> u64
     ensures { λ r. ⌜ r ≡ word64 (now (file .entry)) at ⌝ }
 {
     (read32(file, at) as u64) * 4_294_967_296 + read32(file, at + 4) as u64
+}
+
+// Whether a bank's flag is set.
+pub fn is_set(flags: u8, flag: u8) -> bool
+    requires { ⌜ 0 < flag ⌝ }
+    ensures { λ r. ⌜ r ≡ isSet flags flag ⌝ }
+{
+    flags / flag % 2 == 1
+}
+
+// A number that is there where its flag is set.
+pub fn option(flags: u8, flag: u8, n: u32) -> Opt
+    requires { ⌜ 0 < flag ⌝ }
+    ensures { λ r. ⌜ r ≡ optOf flags flag n ⌝ }
+{
+    if is_set(flags, flag) {
+        Opt::Some(n)
+    } else {
+        Opt::None
+    }
 }
 
 // Whether a header and `len` bytes of payload from `at` on end within the file.

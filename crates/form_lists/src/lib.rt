@@ -5,7 +5,9 @@ use form_fields::Form;
 use form_fields::Kind;
 use form_fields::Shape;
 use form_fields::count_run;
+use form_fields::is_set;
 use form_fields::kind_of;
+use form_fields::option;
 use form_fields::read_shape;
 use form_fields::read16;
 use form_fields::read32;
@@ -16,13 +18,13 @@ use refusal::Refusal;
 use refusal::Verdict;
 ghost use mathlib.Core.Path.{_≡_};
 ghost use mathlib.Core.List.{_++_};
-ghost use Prim.Native.Nat.{_+_, _-_, _*_, _<_, _≤_};
+ghost use Prim.Native.Nat.{_+_, _-_, _*_, _≤_};
 ghost use lib.ListN.{length, drop, replicate};
 ghost use lib.Seq.{paste};
 ghost use mir.Syntax.{w64};
 ghost use mir.Val.{toZ};
 ghost use Rattle.form_fields.specs.declared.Form.the-variants.{Sound};
-ghost use Rattle.form_fields.specs.Banks.{isSet, optOf, fillBitAt, bankAt, banksIn, noBank, TableIs};
+ghost use Rattle.form_fields.specs.Banks.{fillBitAt, bankAt, banksIn, noBank, TableIs};
 ghost use Rattle.form_fields.specs.Columns.{column};
 ghost use Rattle.form_fields.specs.Lists.{ValuesAre, cells, Lists};
 ghost use Rattle.form_fields.specs.Words.{byte, word32};
@@ -38,26 +40,6 @@ fn signed(w: u64) -> i64
         w as i64
     } else {
         -1 - ((18_446_744_073_709_551_615 - w) as i64)
-    }
-}
-
-// Whether a flag is set.
-fn is_set(flags: u8, flag: u8) -> bool
-    requires { ⌜ 0 < flag ⌝ }
-    ensures { λ r. ⌜ r ≡ isSet flags flag ⌝ }
-{
-    flags / flag % 2 == 1
-}
-
-// A number that is there where its flag is set.
-fn option(flags: u8, flag: u8, n: u32) -> Opt
-    requires { ⌜ 0 < flag ⌝ }
-    ensures { λ r. ⌜ r ≡ optOf flags flag n ⌝ }
-{
-    if is_set(flags, flag) {
-        Opt::Some(n)
-    } else {
-        Opt::None
     }
 }
 

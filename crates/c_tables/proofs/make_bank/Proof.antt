@@ -6,21 +6,6 @@ use borrow.Author.Needs.{needs}
 use Rattle.c_tables.proofs.make_bank.Statement.{statement}
 use Rattle.c_tables.proofs.make_bank.Tie as tie
 
-unit-of-requires : tie.Need-unit-of-requires
-unit-of-requires c κs = search needs
-
-option-requires : tie.Need-option-requires
-option-requires c κs = search needs
-
-option-requires-2 : tie.Need-option-requires-2
-option-requires-2 c κs = search needs
-
-option-requires-3 : tie.Need-option-requires-3
-option-requires-3 c κs = search needs
-
-is-set-requires : tie.Need-is-set-requires
-is-set-requires c κs = search needs
-
 returns : tie.Need-returns
 returns c =
     let unit = c .before .before .before .before in
@@ -40,9 +25,4 @@ pub make-bank-spec : {M : Type 1} → statement M
 make-bank-spec =
     tie.close
     (tie.spec
-    unit-of-requires
-    option-requires
-    option-requires-2
-    option-requires-3
-    is-set-requires
-    returns)
+    (λ c κs. search needs) (λ c κs. search needs) (λ c κs. search needs) (λ c κs. search needs) (λ c κs. search needs) returns)

@@ -30,27 +30,6 @@ agreed-on c =
 held : (c : tie.After-at-most-16) → c .at-most-16 .result ≡ min (countOf (lent c)) 16
 held c = c .at-most-16 .ensures ∙ ap (λ (k : ℕ). min k 16) (agreed-on c)
 
-agreed-requires : tie.Need-agreed-requires
-agreed-requires c κs = search needs
-
-agreed-requires-2 : tie.Need-agreed-requires-2
-agreed-requires-2 c κs = search needs
-
-agreed-requires-3 : tie.Need-agreed-requires-3
-agreed-requires-3 c κs = search needs
-
-agreed-requires-4 : tie.Need-agreed-requires-4
-agreed-requires-4 c κs = search needs
-
-agreed-requires-5 : tie.Need-agreed-requires-5
-agreed-requires-5 c κs = search needs
-
-agreed-requires-6 : tie.Need-agreed-requires-6
-agreed-requires-6 c κs = search needs
-
-at-most-16-requires : tie.Need-at-most-16-requires
-at-most-16-requires c κs = search needs
-
 make-table-requires : tie.Need-make-table-requires
 make-table-requires c κs =
     let f = few (lent c) in
@@ -76,12 +55,5 @@ pub make-banks-spec : {M : Type 1} → statement M
 make-banks-spec =
     tie.close
     (tie.spec
-    agreed-requires
-    agreed-requires-2
-    agreed-requires-3
-    agreed-requires-4
-    agreed-requires-5
-    agreed-requires-6
-    at-most-16-requires
-    make-table-requires
-    returns)
+    (λ c κs. search needs) (λ c κs. search needs) (λ c κs. search needs) (λ c κs. search needs) (λ c κs. search needs) (λ c κs. search needs)
+    (λ c κs. search needs) make-table-requires returns)

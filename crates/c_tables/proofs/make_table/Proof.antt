@@ -37,57 +37,6 @@ loop-holds : tie.Need-loop-holds Inv-loop μ-loop
 unfolding column
 loop-holds c = (omega arith, refl)
 
-mul-make-bank : tie.Need-mul-make-bank Inv-loop μ-loop
-mul-make-bank c = omega arith
-
-shared-slice-read-make-bank : tie.Need-shared-slice-read-make-bank Inv-loop μ-loop
-shared-slice-read-make-bank c = omega arith
-
-mul-make-bank-2 : tie.Need-mul-make-bank-2 Inv-loop μ-loop
-mul-make-bank-2 c = omega arith
-
-shared-slice-copy-out-make-bank : tie.Need-shared-slice-copy-out-make-bank Inv-loop μ-loop
-shared-slice-copy-out-make-bank c = omega arith
-
-mul-make-bank-3 : tie.Need-mul-make-bank-3 Inv-loop μ-loop
-mul-make-bank-3 c = omega arith
-
-shared-slice-read-make-bank-2 : tie.Need-shared-slice-read-make-bank-2 Inv-loop μ-loop
-shared-slice-read-make-bank-2 c = omega arith
-
-mul-make-bank-4 : tie.Need-mul-make-bank-4 Inv-loop μ-loop
-mul-make-bank-4 c = omega arith
-
-shared-slice-read-make-bank-3 : tie.Need-shared-slice-read-make-bank-3 Inv-loop μ-loop
-shared-slice-read-make-bank-3 c = omega arith
-
-mul-make-bank-5 : tie.Need-mul-make-bank-5 Inv-loop μ-loop
-mul-make-bank-5 c = omega arith
-
-shared-slice-read-make-bank-4 : tie.Need-shared-slice-read-make-bank-4 Inv-loop μ-loop
-shared-slice-read-make-bank-4 c = omega arith
-
-shared-slice-read-make-bank-5 : tie.Need-shared-slice-read-make-bank-5 Inv-loop μ-loop
-shared-slice-read-make-bank-5 c = omega arith
-
-shared-slice-read-make-bank-6 : tie.Need-shared-slice-read-make-bank-6 Inv-loop μ-loop
-shared-slice-read-make-bank-6 c = omega arith
-
-make-bank-requires : tie.Need-make-bank-requires Inv-loop μ-loop
-make-bank-requires c κs = search needs
-
-mul-defs : tie.Need-mul-defs Inv-loop μ-loop
-mul-defs c = omega arith
-
-array-set-from-defs : tie.Need-array-set-from-defs Inv-loop μ-loop
-array-set-from-defs c = omega arith
-
-add-i : tie.Need-add-i Inv-loop μ-loop
-add-i c = omega arith
-
-loop-less : tie.Need-loop-less Inv-loop μ-loop
-loop-less c = omega arith
-
 loop-again : tie.Need-loop-again Inv-loop μ-loop
 unfolding bankIn
 loop-again c =
@@ -113,25 +62,6 @@ pub make-table-spec : {M : Type 1} → statement M
 make-table-spec =
     tie.close
     (tie.spec
-    Inv-loop
-    μ-loop
-    loop-holds
-    mul-make-bank
-    shared-slice-read-make-bank
-    mul-make-bank-2
-    shared-slice-copy-out-make-bank
-    mul-make-bank-3
-    shared-slice-read-make-bank-2
-    mul-make-bank-4
-    shared-slice-read-make-bank-3
-    mul-make-bank-5
-    shared-slice-read-make-bank-4
-    shared-slice-read-make-bank-5
-    shared-slice-read-make-bank-6
-    make-bank-requires
-    mul-defs
-    array-set-from-defs
-    add-i
-    loop-less
-    loop-again
-    returns)
+    Inv-loop μ-loop loop-holds (λ c. omega arith) (λ c. omega arith) (λ c. omega arith) (λ c. omega arith) (λ c. omega arith) (λ c. omega arith)
+    (λ c. omega arith) (λ c. omega arith) (λ c. omega arith) (λ c. omega arith) (λ c. omega arith) (λ c. omega arith) (λ c κs. search needs)
+    (λ c. omega arith) (λ c. omega arith) (λ c. omega arith) (λ c. omega arith) loop-again returns)

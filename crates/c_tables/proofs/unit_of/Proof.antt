@@ -4,11 +4,5 @@ use borrow.Author.Tests.{le-leb, lt-leb}
 use Rattle.c_tables.proofs.unit_of.Statement.{statement}
 use Rattle.c_tables.proofs.unit_of.Tie as tie
 
-returns : tie.Need-returns
-returns c = rw (le-leb (c .before .args .flags) 15 (c .if1 .taken)) refl
-
-returns-2 : tie.Need-returns-2
-returns-2 c = rw (lt-leb (c .before .args .flags) 15 (c .if1 .left)) refl
-
 pub unit-of-spec : {M : Type 1} → statement M
-unit-of-spec = tie.close (tie.spec returns returns-2)
+unit-of-spec = tie.close (tie.spec (λ c. rw (le-leb (c .before .args .flags) 15 (c .if1 .taken)) refl) (λ c. rw (lt-leb (c .before .args .flags) 15 (c .if1 .left)) refl))

@@ -13,21 +13,15 @@ use Rattle.form_fields.proofs.begins2.Tie as tie
 there : (c : tie.Else1) → fieldAt (c .before .before .before .args .file .now) 16 1 0 ≡ true
 there c = sym (c .before .is-field .ensures) ∙ not-false _ (c .if1 .left)
 
-is-field-requires : tie.Need-is-field-requires
-is-field-requires c κs = search needs
-
 returns : tie.Need-returns
 unfolding begins2
 returns c =
     let none : fieldAt (c .before .before .before .args .file .now) 16 1 0 ≡ false = sym (c .before .is-field .ensures) ∙ not-true _ (c .if1 .taken) in
     rw none refl
 
-shared-slice-read-result : tie.Need-shared-slice-read-result
-shared-slice-read-result c = omega (arith, field-ends (c .before .before .before .before .args .file .now) 16 1 0 (there (c .before)))
-
 returns-2 : tie.Need-returns-2
 unfolding begins2
 returns-2 c = rw (there (c .before)) refl
 
 pub begins2-spec : {M : Type 1} → statement M
-begins2-spec = tie.close (tie.spec is-field-requires returns shared-slice-read-result returns-2)
+begins2-spec = tie.close (tie.spec (λ c κs. search needs) returns (λ c. omega (arith, field-ends (c .before .before .before .before .args .file .now) 16 1 0 (there (c .before)))) returns-2)

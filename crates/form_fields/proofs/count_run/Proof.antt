@@ -26,24 +26,6 @@ room : (c : tie.Then1 Inv-loop μ-loop) → c .before .before .loop .end + 3 + c
     (c .before .before .before .before .args .file .now)
 room c = sound-ends _ _ _ _ (there c)
 
-loop-holds : tie.Need-loop-holds Inv-loop μ-loop
-loop-holds c = omega arith
-
-is-sound-requires : tie.Need-is-sound-requires Inv-loop μ-loop
-is-sound-requires c κs = search needs
-
-add-end : tie.Need-add-end Inv-loop μ-loop
-add-end c = omega (arith, room c)
-
-add-end-2 : tie.Need-add-end-2 Inv-loop μ-loop
-add-end-2 c = omega (arith, room c)
-
-add-count : tie.Need-add-count Inv-loop μ-loop
-add-count c = omega (arith, room c)
-
-loop-less : tie.Need-loop-less Inv-loop μ-loop
-loop-less c = omega (arith, room c)
-
 loop-again : tie.Need-loop-again Inv-loop μ-loop
 loop-again c =
     let a = c .before .before .before .before .args in
@@ -61,13 +43,5 @@ pub count-run-spec : {M : Type 1} → statement M
 count-run-spec =
     tie.close
     (tie.spec
-    Inv-loop
-    μ-loop
-    loop-holds
-    is-sound-requires
-    add-end
-    add-end-2
-    add-count
-    loop-less
-    loop-again
-    returns)
+    Inv-loop μ-loop (λ c. omega arith) (λ c κs. search needs) (λ c. omega (arith, room c)) (λ c. omega (arith, room c)) (λ c. omega (arith, room c))
+    (λ c. omega (arith, room c)) loop-again returns)

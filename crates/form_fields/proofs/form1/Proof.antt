@@ -3,8 +3,5 @@ use mathlib.Core.Path.{refl}
 use Rattle.form_fields.proofs.form1.Statement.{statement}
 use Rattle.form_fields.proofs.form1.Tie as tie
 
-returns : tie.Need-returns
-returns c = refl
-
 pub form1-spec : {M : Type 1} → statement M
-form1-spec = tie.close (tie.spec returns)
+form1-spec = tie.close (tie.spec (λ c. refl))

@@ -19,18 +19,12 @@ whole c = sym (c .before .is-whole .ensures) ∙ not-false _ (c .if1 .left)
 room : (c : tie.Else1) → c .before .before .before .args .at + 3 + c .before .before .before .args .len ≤ length (c .before .before .before .args .file .now)
 room c = leb-true _ _ (whole c)
 
-is-whole-requires : tie.Need-is-whole-requires
-is-whole-requires c κs = search needs
-
 returns : tie.Need-returns
 unfolding fieldAt
 returns c =
     let short : leb (c .before .before .before .args .at + 3 + c .before .before .before .args .len) (length (c .before .before .before .args .file .now))
     ≡ false = sym (c .before .is-whole .ensures) ∙ not-true _ (c .if1 .taken) in
     rw short refl
-
-shared-slice-read-if2 : tie.Need-shared-slice-read-if2
-shared-slice-read-if2 c = omega (arith, room (c .before))
 
 returns-2 : tie.Need-returns-2
 unfolding fieldAt
@@ -39,15 +33,6 @@ returns-2 c = rw (
   ne-eqb (byte (c .before .before .before .before .before .args .file .now)
       (c .before .before .before .before .before .args .at)) (c .before .before .before .before .before .args .tag) (c .if2 .taken),
 ) refl
-
-add-read16 : tie.Need-add-read16
-add-read16 c = omega (arith, room (c .before .before))
-
-read16-requires : tie.Need-read16-requires
-read16-requires c κs = omega (arith, room (c .before .before))
-
-cast-result : tie.Need-cast-result
-cast-result c = search needs
 
 returns-3 : tie.Need-returns-3
 unfolding fieldAt
@@ -63,11 +48,5 @@ pub is-field-spec : {M : Type 1} → statement M
 is-field-spec =
     tie.close
     (tie.spec
-    is-whole-requires
-    returns
-    shared-slice-read-if2
-    returns-2
-    add-read16
-    read16-requires
-    cast-result
-    returns-3)
+    (λ c κs. search needs) returns (λ c. omega (arith, room (c .before))) returns-2 (λ c. omega (arith, room (c .before .before)))
+    (λ c κs. omega (arith, room (c .before .before))) (λ c. search needs) returns-3)

@@ -5,14 +5,8 @@ use borrow.Author.Tests.{eq-eqb, ne-eqb}
 use Rattle.form_fields.proofs.is_headed.Statement.{statement}
 use Rattle.form_fields.proofs.is_headed.Tie as tie
 
-returns : tie.Need-returns
-returns c = rw (eq-eqb (c .before .before .before .args .kind .heads) 0 (c .if1 .taken)) refl
-
-begins2-requires : tie.Need-begins2-requires
-begins2-requires c κs = search needs
-
 returns-2 : tie.Need-returns-2
 returns-2 c = rw (ne-eqb (c .before .before .before .before .args .kind .heads) 0 (c .before .if1 .left)) (c .begins2 .ensures)
 
 pub is-headed-spec : {M : Type 1} → statement M
-is-headed-spec = tie.close (tie.spec returns begins2-requires returns-2)
+is-headed-spec = tie.close (tie.spec (λ c. rw (eq-eqb (c .before .before .before .args .kind .heads) 0 (c .if1 .taken)) refl) (λ c κs. search needs) returns-2)

@@ -18,36 +18,12 @@ there c = sym (c .before .is-field .ensures) ∙ not-false _ (c .if1 .left)
 room : (c : tie.Else1) → c .before .before .before .args .at + 3 + c .before .before .before .args .len ≤ length (c .before .before .before .args .file .now)
 room c = field-ends _ _ _ _ (there c)
 
-is-field-requires : tie.Need-is-field-requires
-is-field-requires c κs = search needs
-
 returns : tie.Need-returns
 unfolding soundAt
 returns c =
     let a = c .before .before .before .args in
     let no-field : fieldAt (a .file .now) (a .tag) (a .len) (a .at) ≡ false = sym (c .before .is-field .ensures) ∙ not-true _ (c .if1 .taken) in
     rw no-field refl
-
-add-ends-well : tie.Need-add-ends-well
-add-ends-well c = omega (arith, room c)
-
-add-ends-well-2 : tie.Need-add-ends-well-2
-add-ends-well-2 c = omega (arith, room c)
-
-shared-slice-read-ends-well : tie.Need-shared-slice-read-ends-well
-shared-slice-read-ends-well c = omega (arith, room (c .before))
-
-add-ends-well-3 : tie.Need-add-ends-well-3
-add-ends-well-3 c = omega (arith, room (c .before))
-
-add-ends-well-4 : tie.Need-add-ends-well-4
-add-ends-well-4 c = omega (arith, room (c .before))
-
-shared-slice-read-ends-well-2 : tie.Need-shared-slice-read-ends-well-2
-shared-slice-read-ends-well-2 c = omega (arith, room (c .before .before))
-
-ends-well-requires : tie.Need-ends-well-requires
-ends-well-requires c κs = search needs
 
 returns-2 : tie.Need-returns-2
 unfolding soundAt
@@ -57,13 +33,6 @@ pub is-sound-spec : {M : Type 1} → statement M
 is-sound-spec =
     tie.close
     (tie.spec
-    is-field-requires
-    returns
-    add-ends-well
-    add-ends-well-2
-    shared-slice-read-ends-well
-    add-ends-well-3
-    add-ends-well-4
-    shared-slice-read-ends-well-2
-    ends-well-requires
-    returns-2)
+    (λ c κs. search needs) returns (λ c. omega (arith, room c)) (λ c. omega (arith, room c)) (λ c. omega (arith, room (c .before)))
+    (λ c. omega (arith, room (c .before))) (λ c. omega (arith, room (c .before))) (λ c. omega (arith, room (c .before .before)))
+    (λ c κs. search needs) returns-2)

@@ -5,15 +5,6 @@ use Rattle.form_fields.specs.Kind.{kindOf}
 use Rattle.form_fields.proofs.kind_of.Statement.{statement}
 use Rattle.form_fields.proofs.kind_of.Tie as tie
 
-begins2-requires : tie.Need-begins2-requires
-begins2-requires c κs = search needs
-
-form2-requires : tie.Need-form2-requires
-form2-requires c κs = search needs
-
-form1-requires : tie.Need-form1-requires
-form1-requires c κs = search needs
-
 returns : tie.Need-returns
 unfolding kindOf
 returns c = rw (sym (c .before .before .begins2 .ensures) ∙ c .before .if1 .taken) (c .form2 .ensures)
@@ -24,4 +15,4 @@ returns-2 c = rw (sym (c .before .before .begins2 .ensures) ∙ c .before .if1 .
 
 pub kind-of-spec : {M : Type 1} → statement M
 kind-of-spec =
-    tie.close (tie.spec begins2-requires form2-requires form1-requires returns returns-2)
+    tie.close (tie.spec (λ c κs. search needs) (λ c κs. search needs) (λ c κs. search needs) returns returns-2)

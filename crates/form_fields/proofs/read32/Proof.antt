@@ -5,27 +5,6 @@ use Rattle.form_fields.specs.Words.{word32}
 use Rattle.form_fields.proofs.read32.Statement.{statement}
 use Rattle.form_fields.proofs.read32.Tie as tie
 
-read16-requires : tie.Need-read16-requires
-read16-requires c κs = search needs
-
-cast-result : tie.Need-cast-result
-cast-result c = search needs
-
-mul-result : tie.Need-mul-result
-mul-result c = search needs
-
-add-read16 : tie.Need-add-read16
-add-read16 c = search needs
-
-read16-requires-2 : tie.Need-read16-requires-2
-read16-requires-2 c κs = search needs
-
-cast-result-2 : tie.Need-cast-result-2
-cast-result-2 c = search needs
-
-add-result : tie.Need-add-result
-add-result c = search needs
-
 returns : tie.Need-returns
 unfolding word32
 returns c = omega arith
@@ -34,11 +13,5 @@ pub read32-spec : {M : Type 1} → statement M
 read32-spec =
     tie.close
     (tie.spec
-    read16-requires
-    cast-result
-    mul-result
-    add-read16
-    read16-requires-2
-    cast-result-2
-    add-result
+    (λ c κs. search needs) (λ c. search needs) (λ c. search needs) (λ c. search needs) (λ c κs. search needs) (λ c. search needs) (λ c. search needs)
     returns)

@@ -5,27 +5,6 @@ use Rattle.form_fields.specs.Words.{word64}
 use Rattle.form_fields.proofs.read64.Statement.{statement}
 use Rattle.form_fields.proofs.read64.Tie as tie
 
-read32-requires : tie.Need-read32-requires
-read32-requires c κs = search needs
-
-cast-result : tie.Need-cast-result
-cast-result c = search needs
-
-mul-result : tie.Need-mul-result
-mul-result c = search needs
-
-add-read32 : tie.Need-add-read32
-add-read32 c = search needs
-
-read32-requires-2 : tie.Need-read32-requires-2
-read32-requires-2 c κs = search needs
-
-cast-result-2 : tie.Need-cast-result-2
-cast-result-2 c = search needs
-
-add-result : tie.Need-add-result
-add-result c = search needs
-
 returns : tie.Need-returns
 unfolding word64
 returns c = omega arith
@@ -34,11 +13,5 @@ pub read64-spec : {M : Type 1} → statement M
 read64-spec =
     tie.close
     (tie.spec
-    read32-requires
-    cast-result
-    mul-result
-    add-read32
-    read32-requires-2
-    cast-result-2
-    add-result
+    (λ c κs. search needs) (λ c. search needs) (λ c. search needs) (λ c. search needs) (λ c κs. search needs) (λ c. search needs) (λ c. search needs)
     returns)

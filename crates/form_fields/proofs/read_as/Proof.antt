@@ -13,29 +13,11 @@ use Rattle.form_fields.proofs.read_as.Tie as tie
 returns : tie.Need-returns
 returns c = sym (form-long (c .before .before .before .args .kind) (c .before .before .before .args .file .now) (omega arith))
 
-is-headed-requires : tie.Need-is-headed-requires
-is-headed-requires c κs = search needs
-
 returns-2 : tie.Need-returns-2
 returns-2 c =
     let a = c .before .before .before .before .before .args in
     let none : headed (a .kind) (a .file .now) ≡ false = sym (c .before .is-headed .ensures) ∙ not-true _ (c .if2 .taken) in
     sym (form-head (a .kind) (a .file .now) (omega arith) none)
-
-mul-count-run : tie.Need-mul-count-run
-mul-count-run c = omega (arith, known-heads (c .before .before .before .before .before .pre))
-
-count-run-requires : tie.Need-count-run-requires
-count-run-requires c κs = search needs
-
-count-run-requires-2 : tie.Need-count-run-requires-2
-count-run-requires-2 c κs = search needs
-
-mul-count-run-2 : tie.Need-mul-count-run-2
-mul-count-run-2 c = search needs
-
-count-run-requires-3 : tie.Need-count-run-requires-3
-count-run-requires-3 c κs = search needs
 
 read-rest-requires : tie.Need-read-rest-requires
 read-rest-requires c κs =
@@ -50,20 +32,9 @@ read-rest-requires c κs =
           (c .before .count-run2 .ensures .1) (c .count-run3 .ensures .0) (c .count-run3 .ensures .1),
     )
 
-returns-3 : tie.Need-returns-3
-returns-3 c = c .read-rest .ensures
-
 pub read-as-spec : {M : Type 1} → statement M
 read-as-spec =
     tie.close
     (tie.spec
-    returns
-    is-headed-requires
-    returns-2
-    mul-count-run
-    count-run-requires
-    count-run-requires-2
-    mul-count-run-2
-    count-run-requires-3
-    read-rest-requires
-    returns-3)
+    returns (λ c κs. search needs) returns-2 (λ c. omega (arith, known-heads (c .before .before .before .before .before .pre))) (λ c κs. search needs)
+    (λ c κs. search needs) (λ c. search needs) (λ c κs. search needs) read-rest-requires (λ c. c .read-rest .ensures))

@@ -8,16 +8,10 @@ use Rattle.form_fields.specs.Theorems.Told.{form-is}
 use Rattle.form_fields.proofs.read_form1.Statement.{statement}
 use Rattle.form_fields.proofs.read_form1.Tie as tie
 
-form1-requires : tie.Need-form1-requires
-form1-requires c κs = search needs
-
-read-as-requires : tie.Need-read-as-requires
-read-as-requires c κs = subst Known (sym (c .form1 .ensures)) is1
-
 returns : tie.Need-returns
 returns c =
     let file = c .before .before .before .args .file .now in
     form-is form1 file (c .read-as .ensures ∙ ap (λ (k : Kind). formIn k file) (c .before .form1 .ensures))
 
 pub read-form1-spec : {M : Type 1} → statement M
-read-form1-spec = tie.close (tie.spec form1-requires read-as-requires returns)
+read-form1-spec = tie.close (tie.spec (λ c κs. search needs) (λ c κs. subst Known (sym (c .form1 .ensures)) is1) returns)

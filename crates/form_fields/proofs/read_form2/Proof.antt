@@ -8,16 +8,10 @@ use Rattle.form_fields.specs.Theorems.Told.{form-is}
 use Rattle.form_fields.proofs.read_form2.Statement.{statement}
 use Rattle.form_fields.proofs.read_form2.Tie as tie
 
-form2-requires : tie.Need-form2-requires
-form2-requires c κs = search needs
-
-read-as-requires : tie.Need-read-as-requires
-read-as-requires c κs = subst Known (sym (c .form2 .ensures)) is2
-
 returns : tie.Need-returns
 returns c =
     let file = c .before .before .before .args .file .now in
     form-is form2 file (c .read-as .ensures ∙ ap (λ (k : Kind). formIn k file) (c .before .form2 .ensures))
 
 pub read-form2-spec : {M : Type 1} → statement M
-read-form2-spec = tie.close (tie.spec form2-requires read-as-requires returns)
+read-form2-spec = tie.close (tie.spec (λ c κs. search needs) (λ c κs. subst Known (sym (c .form2 .ensures)) is2) returns)

@@ -40,15 +40,6 @@ room : (c : tie.Else3) → limitStartIn (c .before .before .before .before .befo
     .before .before .before .before .args .file .now) + 3 + 1 ≤ length (c .before .before .before .before .before .before .before .before .args .file .now)
 room c = field-ends _ 5 1 _ (limited c)
 
-add-field : tie.Need-add-field
-add-field c = omega (arith, before-fits (c .before .before .pre .1) (c .before .before .pre .0))
-
-add-field-2 : tie.Need-add-field-2
-add-field-2 c = omega (arith, before-fits (c .before .before .pre .1) (c .before .before .pre .0))
-
-add-field-3 : tie.Need-add-field-3
-add-field-3 c = omega (arith, before-fits (c .before .before .pre .1) (c .before .before .pre .0))
-
 add-if1 : tie.Need-add-if1
 add-if1 c =
     let k = c .before .before .pre .1 in
@@ -62,18 +53,6 @@ returns c =
     ap (λ (n : ℕ). Broken (Malformed n)) (before-is k)
     ∙ sym (form-values kind file (k .short) (k .head) (field-cut file 4 (valuesSizeIn kind file) (valuesStartIn kind file) (omega (arith, k .behind))))
 
-add-read16 : tie.Need-add-read16
-add-read16 c = search needs
-
-read16-requires : tie.Need-read16-requires
-read16-requires c κs = search needs
-
-cast-size : tie.Need-cast-size
-cast-size c = search needs
-
-is-field-requires : tie.Need-is-field-requires
-is-field-requires c κs = search needs
-
 returns-2 : tie.Need-returns-2
 returns-2 c =
     let file = c .before .before .before .before .before .before .args .file .now in
@@ -82,15 +61,6 @@ returns-2 c =
     let none : fieldAt file 4 (valuesSizeIn kind file) (valuesStartIn kind file) ≡ false =
     sym (values-is _ _ _ _ (k .behind) (c .before .before .read16 .ensures)) ∙ sym (c .before .is-field .ensures) ∙ not-true _ (c .if2 .taken) in
     ap (λ (n : ℕ). Broken (Malformed n)) (before-is k) ∙ sym (form-values kind file (k .short) (k .head) none)
-
-add-limit : tie.Need-add-limit
-add-limit c = search needs
-
-add-limit-2 : tie.Need-add-limit-2
-add-limit-2 c = search needs
-
-is-field-requires-2 : tie.Need-is-field-requires-2
-is-field-requires-2 c κs = search needs
 
 add-t19 : tie.Need-add-t19
 add-t19 c = omega (
@@ -109,9 +79,6 @@ returns-3 c =
     not-true _ (c .if3 .taken) in
     ap (λ (n : ℕ). Broken (Malformed (n + 1))) (before-is k) ∙ sym (form-limit kind file (k .short) (k .head) (values (c .before .before)) none)
 
-add-if4 : tie.Need-add-if4
-add-if4 c = search needs
-
 add-t21 : tie.Need-add-t21
 add-t21 c = omega (
   arith,
@@ -127,15 +94,6 @@ returns-4 c =
     ap (λ (n : ℕ). Broken (Malformed (n + 2))) (before-is k)
     ∙ sym (form-extra kind file (k .short) (k .head) (values (c .before .before .before)) (limited (c .before)) (omega (arith, limit (c .before))))
 
-add-t12 : tie.Need-add-t12
-add-t12 c = search needs
-
-add-t13 : tie.Need-add-t13
-add-t13 c = search needs
-
-shared-slice-read-t24 : tie.Need-shared-slice-read-t24
-shared-slice-read-t24 c = omega (arith, limit (c .before .before), room (c .before .before))
-
 returns-5 : tie.Need-returns-5
 returns-5 c =
     let file = c .before .before .before .before .before .before .before .before .before .before .args .file .now in
@@ -149,25 +107,9 @@ pub read-rest-spec : {M : Type 1} → statement M
 read-rest-spec =
     tie.close
     (tie.spec
-    add-field
-    add-field-2
-    add-field-3
-    add-if1
-    returns
-    add-read16
-    read16-requires
-    cast-size
-    is-field-requires
-    returns-2
-    add-limit
-    add-limit-2
-    is-field-requires-2
-    add-t19
-    returns-3
-    add-if4
-    add-t21
-    returns-4
-    add-t12
-    add-t13
-    shared-slice-read-t24
-    returns-5)
+    (λ c. omega (arith, before-fits (c .before .before .pre .1) (c .before .before .pre .0)))
+    (λ c. omega (arith, before-fits (c .before .before .pre .1) (c .before .before .pre .0)))
+    (λ c. omega (arith, before-fits (c .before .before .pre .1) (c .before .before .pre .0))) add-if1 returns (λ c. search needs)
+    (λ c κs. search needs) (λ c. search needs) (λ c κs. search needs) returns-2 (λ c. search needs) (λ c. search needs) (λ c κs. search needs) add-t19
+    returns-3 (λ c. search needs) add-t21 returns-4 (λ c. search needs) (λ c. search needs)
+    (λ c. omega (arith, limit (c .before .before), room (c .before .before))) returns-5)

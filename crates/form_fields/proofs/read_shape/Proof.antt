@@ -9,16 +9,10 @@ use Rattle.form_fields.specs.Theorems.Told.{form-is}
 use Rattle.form_fields.proofs.read_shape.Statement.{statement}
 use Rattle.form_fields.proofs.read_shape.Tie as tie
 
-kind-of-requires : tie.Need-kind-of-requires
-kind-of-requires c κs = search needs
-
-read-as-requires : tie.Need-read-as-requires
-read-as-requires c κs = subst Known (sym (c .kind-of .ensures)) (kind-known (c .before .before .args .file .now))
-
 returns : tie.Need-returns
 returns c =
     let file = c .before .before .before .args .file .now in
     form-is (kindOf file) file (c .read-as .ensures ∙ ap (λ (k : Kind). formIn k file) (c .before .kind-of .ensures))
 
 pub read-shape-spec : {M : Type 1} → statement M
-read-shape-spec = tie.close (tie.spec kind-of-requires read-as-requires returns)
+read-shape-spec = tie.close (tie.spec (λ c κs. search needs) (λ c κs. subst Known (sym (c .kind-of .ensures)) (kind-known (c .before .before .args .file .now))) returns)

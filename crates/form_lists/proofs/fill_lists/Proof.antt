@@ -38,9 +38,6 @@ returns-4 c =
     .before .before .before .before .pre) (omega arith) (omega arith)
     (omega arith) (omega arith)
 
-nodes-start-requires : tie.Need-nodes-start-requires
-nodes-start-requires c κs = c .before .before .before .before .before .before .before .before .before .pre
-
 add-read-columns : tie.Need-add-read-columns
 add-read-columns c = omega (
   arith,
@@ -94,18 +91,6 @@ read-rows-requires c κs =
     .before .before .before .before .before .before .before .before .before .pre) in
     (omega (arith, p, c .before .before .before .before .before .before .before .before .before .nodes-start .ensures), (omega arith, omega arith))
 
-same-length : tie.Need-same-length
-same-length c = search needs
-
-same-length-2 : tie.Need-same-length-2
-same-length-2 c = search needs
-
-same-length-3 : tie.Need-same-length-3
-same-length-3 c = search needs
-
-same-length-4 : tie.Need-same-length-4
-same-length-4 c = search needs
-
 returns-5 : tie.Need-returns-5
 returns-5 c =
     let a = c .before .before .before .before .before .before .before .before .before .before .before .before .before .before .before .before .before
@@ -127,20 +112,6 @@ pub fill-lists-spec : {M : Type 1} → statement M
 fill-lists-spec =
     tie.close
     (tie.spec
-    returns
-    returns-2
-    mul-cells
-    returns-3
-    returns-4
-    nodes-start-requires
-    add-read-columns
-    add-read-columns-2
-    read-columns-requires
-    mul-read-rows
-    add-read-rows
-    read-rows-requires
-    same-length
-    same-length-2
-    same-length-3
-    same-length-4
-    returns-5)
+    returns returns-2 mul-cells returns-3 returns-4 (λ c κs. c .before .before .before .before .before .before .before .before .before .pre)
+    add-read-columns add-read-columns-2 read-columns-requires mul-read-rows add-read-rows read-rows-requires (λ c. search needs) (λ c. search needs)
+    (λ c. search needs) (λ c. search needs) returns-5)

@@ -20,21 +20,6 @@ fits c =
 bank : (c : tie.After-kind-of) → c .kind-of .result .bank ≤ 24
 bank c = known-bank (subst Known (sym (c .kind-of .ensures)) (kind-known (c .before .before .args .file .now))) .1
 
-kind-of-requires : tie.Need-kind-of-requires
-kind-of-requires c κs = search needs
-
-mul-result : tie.Need-mul-result
-mul-result c = omega (arith, fits c)
-
-add-result : tie.Need-add-result
-add-result c = omega (arith, bank (c .before))
-
-mul-result-2 : tie.Need-mul-result-2
-mul-result-2 c = omega (arith, fits (c .before))
-
-add-result-2 : tie.Need-add-result-2
-add-result-2 c = omega (arith, fits (c .before))
-
 returns : tie.Need-returns
 returns c =
     let a = c .before .before .before .args in
@@ -43,4 +28,4 @@ returns c =
 
 pub nodes-start-spec : {M : Type 1} → statement M
 nodes-start-spec =
-    tie.close (tie.spec kind-of-requires mul-result add-result mul-result-2 add-result-2 returns)
+    tie.close (tie.spec (λ c κs. search needs) (λ c. omega (arith, fits c)) (λ c. omega (arith, bank (c .before))) (λ c. omega (arith, fits (c .before))) (λ c. omega (arith, fits (c .before))) returns)

@@ -37,15 +37,6 @@ least c =
 known : (c : tie.After-kind-of) → Known (c .kind-of .result)
 known c = subst Known (sym (c .kind-of .ensures)) (kind-known (c .before .before .args .file .now))
 
-kind-of-requires : tie.Need-kind-of-requires
-kind-of-requires c κs = search needs
-
-mul-count-run : tie.Need-mul-count-run
-mul-count-run c = omega (arith, known-heads (known c))
-
-count-run-requires : tie.Need-count-run-requires
-count-run-requires c κs = search needs
-
 read-table-requires : tie.Need-read-table-requires
 read-table-requires c κs =
     let file = c .before .before .before .before .args .file .now in
@@ -64,4 +55,4 @@ returns c =
     λ i. record { defs = defs i; len = len i }
 
 pub read-banks-spec : {M : Type 1} → statement M
-read-banks-spec = tie.close (tie.spec kind-of-requires mul-count-run count-run-requires read-table-requires returns)
+read-banks-spec = tie.close (tie.spec (λ c κs. search needs) (λ c. omega (arith, known-heads (known c))) (λ c κs. search needs) read-table-requires returns)

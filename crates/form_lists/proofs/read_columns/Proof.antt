@@ -33,42 +33,6 @@ loop-holds c =
     let a = c .before .before .before .args in
     (omega arith, refl, refl, paste-zero (a .words .now) (a .from) [], paste-zero (a .bytes .now) (a .from) [])
 
-mul-p : tie.Need-mul-p Inv-loop μ-loop
-mul-p c = omega (arith, behind c)
-
-add-read32 : tie.Need-add-read32 Inv-loop μ-loop
-add-read32 c = omega (arith, behind c)
-
-read32-requires : tie.Need-read32-requires Inv-loop μ-loop
-read32-requires c κs = omega (arith, behind c)
-
-add-words : tie.Need-add-words Inv-loop μ-loop
-add-words c = omega arith
-
-mul-words : tie.Need-mul-words Inv-loop μ-loop
-mul-words c = omega arith
-
-slice-write-words : tie.Need-slice-write-words Inv-loop μ-loop
-slice-write-words c = omega arith
-
-add-bytes : tie.Need-add-bytes Inv-loop μ-loop
-add-bytes c = omega (arith, behind (c .before))
-
-shared-slice-read-bytes : tie.Need-shared-slice-read-bytes Inv-loop μ-loop
-shared-slice-read-bytes c = omega (arith, behind (c .before .before))
-
-add-bytes-2 : tie.Need-add-bytes-2 Inv-loop μ-loop
-add-bytes-2 c = omega arith
-
-slice-write-bytes : tie.Need-slice-write-bytes Inv-loop μ-loop
-slice-write-bytes c = omega arith
-
-add-i : tie.Need-add-i Inv-loop μ-loop
-add-i c = omega arith
-
-loop-less : tie.Need-loop-less Inv-loop μ-loop
-loop-less c = omega arith
-
 loop-again : tie.Need-loop-again Inv-loop μ-loop
 loop-again c =
     let a = c .before .before .before .before .before .before .before .args in
@@ -83,12 +47,6 @@ loop-again c =
       rw (k .4) (column-turn (byte file) (a .step) 0 (a .bytes .now) (a .from) (a .byte-at) (a .count) i (omega arith) (omega arith)),
     )
 
-same-length : tie.Need-same-length Inv-loop μ-loop
-same-length c = c .before .loop .inv .1
-
-same-length-2 : tie.Need-same-length-2 Inv-loop μ-loop
-same-length-2 c = c .before .loop .inv .2
-
 returns : tie.Need-returns Inv-loop μ-loop
 returns c =
     let k = c .before .loop .inv in
@@ -99,22 +57,6 @@ pub read-columns-spec : {M : Type 1} → statement M
 read-columns-spec =
     tie.close
     (tie.spec
-    Inv-loop
-    μ-loop
-    loop-holds
-    mul-p
-    add-read32
-    read32-requires
-    add-words
-    mul-words
-    slice-write-words
-    add-bytes
-    shared-slice-read-bytes
-    add-bytes-2
-    slice-write-bytes
-    add-i
-    loop-less
-    loop-again
-    same-length
-    same-length-2
-    returns)
+    Inv-loop μ-loop loop-holds (λ c. omega (arith, behind c)) (λ c. omega (arith, behind c)) (λ c κs. omega (arith, behind c)) (λ c. omega arith)
+    (λ c. omega arith) (λ c. omega arith) (λ c. omega (arith, behind (c .before))) (λ c. omega (arith, behind (c .before .before))) (λ c. omega arith)
+    (λ c. omega arith) (λ c. omega arith) (λ c. omega arith) loop-again (λ c. c .before .loop .inv .1) (λ c. c .before .loop .inv .2) returns)

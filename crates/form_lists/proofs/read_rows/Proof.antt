@@ -33,38 +33,11 @@ loop-holds c =
     let a = c .before .before .before .args in
     (omega arith, refl, refl, rw (zero-mul (a .nodes)) refl, rw (zero-mul (a .nodes)) refl)
 
-mul-p : tie.Need-mul-p Inv-loop μ-loop
-mul-p c = omega (arith, behind c)
-
-add-p : tie.Need-add-p Inv-loop μ-loop
-add-p c = omega (arith, behind c)
-
-mul-p-2 : tie.Need-mul-p-2 Inv-loop μ-loop
-mul-p-2 c = omega (arith, behind c)
-
-add-p-2 : tie.Need-add-p-2 Inv-loop μ-loop
-add-p-2 c = omega (arith, behind c)
-
-add-read-columns : tie.Need-add-read-columns Inv-loop μ-loop
-add-read-columns c = omega (arith, behind c)
-
-add-read-columns-2 : tie.Need-add-read-columns-2 Inv-loop μ-loop
-add-read-columns-2 c = omega (arith, behind c)
-
-mul-read-columns : tie.Need-mul-read-columns Inv-loop μ-loop
-mul-read-columns c = omega (arith, behind c)
-
 read-columns-requires : tie.Need-read-columns-requires Inv-loop μ-loop
 read-columns-requires c κs =
     let room = behind (c .before .before) in
     let fits = mul-le-mul-right (c .before .before .before .before .before .before .before .args .nodes) (c .before .before .loop-test .taken) in
     (omega arith, (omega arith, (omega arith, omega arith)))
-
-add-r : tie.Need-add-r Inv-loop μ-loop
-add-r c = omega arith
-
-loop-less : tie.Need-loop-less Inv-loop μ-loop
-loop-less c = omega arith
 
 loop-again : tie.Need-loop-again Inv-loop μ-loop
 loop-again c =
@@ -85,12 +58,6 @@ loop-again c =
           (done .ensures .1),
     )
 
-same-length : tie.Need-same-length Inv-loop μ-loop
-same-length c = c .before .loop .inv .1
-
-same-length-2 : tie.Need-same-length-2 Inv-loop μ-loop
-same-length-2 c = c .before .loop .inv .2
-
 returns : tie.Need-returns Inv-loop μ-loop
 returns c =
     let k = c .before .loop .inv in
@@ -101,20 +68,6 @@ pub read-rows-spec : {M : Type 1} → statement M
 read-rows-spec =
     tie.close
     (tie.spec
-    Inv-loop
-    μ-loop
-    loop-holds
-    mul-p
-    add-p
-    mul-p-2
-    add-p-2
-    add-read-columns
-    add-read-columns-2
-    mul-read-columns
-    read-columns-requires
-    add-r
-    loop-less
-    loop-again
-    same-length
-    same-length-2
-    returns)
+    Inv-loop μ-loop loop-holds (λ c. omega (arith, behind c)) (λ c. omega (arith, behind c)) (λ c. omega (arith, behind c))
+    (λ c. omega (arith, behind c)) (λ c. omega (arith, behind c)) (λ c. omega (arith, behind c)) (λ c. omega (arith, behind c)) read-columns-requires
+    (λ c. omega arith) (λ c. omega arith) loop-again (λ c. c .before .loop .inv .1) (λ c. c .before .loop .inv .2) returns)

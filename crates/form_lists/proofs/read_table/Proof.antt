@@ -33,36 +33,9 @@ behind : (c : tie.In-loop Inv-loop μ-loop) → (c .before .loop .i + 1) * (3 + 
     .before .before .args .count * (3 + c .before .before .before .before .args .kind .bank)
 behind c = mul-le-mul-right (3 + c .before .before .before .before .args .kind .bank) (omega arith)
 
-mul-first : tie.Need-mul-first Inv-loop μ-loop
-mul-first c = omega (arith, known-heads (c .before .pre .0))
-
-add-step : tie.Need-add-step Inv-loop μ-loop
-add-step c = omega (arith, known-bank (c .before .before .pre .0) .1)
-
 loop-holds : tie.Need-loop-holds Inv-loop μ-loop
 unfolding column
 loop-holds c = (omega arith, refl)
-
-mul-read-bank : tie.Need-mul-read-bank Inv-loop μ-loop
-mul-read-bank c = omega (arith, behind c)
-
-add-read-bank : tie.Need-add-read-bank Inv-loop μ-loop
-add-read-bank c = omega (arith, behind c)
-
-read-bank-requires : tie.Need-read-bank-requires Inv-loop μ-loop
-read-bank-requires c κs = (known-bank (c .before .before .before .before .pre .0) .0, omega (arith, behind c))
-
-mul-defs : tie.Need-mul-defs Inv-loop μ-loop
-mul-defs c = omega arith
-
-array-set-from-defs : tie.Need-array-set-from-defs Inv-loop μ-loop
-array-set-from-defs c = omega arith
-
-add-i : tie.Need-add-i Inv-loop μ-loop
-add-i c = omega arith
-
-loop-less : tie.Need-loop-less Inv-loop μ-loop
-loop-less c = omega arith
 
 loop-again : tie.Need-loop-again Inv-loop μ-loop
 loop-again c =
@@ -79,17 +52,7 @@ pub read-table-spec : {M : Type 1} → statement M
 read-table-spec =
     tie.close
     (tie.spec
-    Inv-loop
-    μ-loop
-    mul-first
-    add-step
-    loop-holds
-    mul-read-bank
-    add-read-bank
-    read-bank-requires
-    mul-defs
-    array-set-from-defs
-    add-i
-    loop-less
-    loop-again
-    returns)
+    Inv-loop μ-loop (λ c. omega (arith, known-heads (c .before .pre .0))) (λ c. omega (arith, known-bank (c .before .before .pre .0) .1)) loop-holds
+    (λ c. omega (arith, behind c)) (λ c. omega (arith, behind c))
+    (λ c κs. (known-bank (c .before .before .before .before .pre .0) .0, omega (arith, behind c))) (λ c. omega arith) (λ c. omega arith)
+    (λ c. omega arith) (λ c. omega arith) loop-again returns)

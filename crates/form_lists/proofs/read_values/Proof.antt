@@ -22,39 +22,9 @@ within : (c : tie.After-struct-known) → c .before .before .shape .given .0 .0 
     (c .before .before .before .before .before .before .args .file .now)
 within c = inside _ _ _ (sound-file _ _ _ (sym (c .before .before .before .before .read-shape .ensures .is) ∙ c .before .before .shape .given .1))
 
-read-shape-requires : tie.Need-read-shape-requires
-read-shape-requires c κs = search needs
-
-enum-known-shape : tie.Need-enum-known-shape
-enum-known-shape c = search needs
-
-enum-told : tie.Need-enum-told
-enum-told c = search needs
-
-sub-result : tie.Need-sub-result
-sub-result c = search needs
-
-part-result-start : tie.Need-part-result-start
-part-result-start c = search needs
-
-part-result-end : tie.Need-part-result-end
-part-result-end c = search needs
-
 returns : tie.Need-returns
 returns c = ap (valuesBy (c .before .before .before .before .before .args .file .now)) (sym (c .before .enum-told .given .1)
     ∙ c .before .before .before .read-shape .ensures .is)
-
-add-end : tie.Need-add-end
-add-end c = omega (arith, within c)
-
-sub-result-2 : tie.Need-sub-result-2
-sub-result-2 c = search needs
-
-part-result-start-2 : tie.Need-part-result-start-2
-part-result-start-2 c = search needs
-
-part-result-end-2 : tie.Need-part-result-end-2
-part-result-end-2 c = omega (arith, within c)
 
 returns-2 : tie.Need-returns-2
 returns-2 c =
@@ -68,15 +38,5 @@ pub read-values-spec : {M : Type 1} → statement M
 read-values-spec =
     tie.close
     (tie.spec
-    read-shape-requires
-    enum-known-shape
-    enum-told
-    sub-result
-    part-result-start
-    part-result-end
-    returns
-    add-end
-    sub-result-2
-    part-result-start-2
-    part-result-end-2
-    returns-2)
+    (λ c κs. search needs) (λ c. search needs) (λ c. search needs) (λ c. search needs) (λ c. search needs) (λ c. search needs) returns
+    (λ c. omega (arith, within c)) (λ c. search needs) (λ c. search needs) (λ c. omega (arith, within c)) returns-2)

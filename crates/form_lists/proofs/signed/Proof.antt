@@ -37,24 +37,6 @@ module _ (w : ℕ) (large : 9223372036854775808 ≤ w) (word : w < 2 ^ 64) where
   below-is : toZ w64 (ofZ w64 (negsuc 0 -ℤ toZ w64 (lacks w))) ≡ toZ w64 w
   below-is = toZ-ofZ w64 (negsuc 0 -ℤ toZ w64 (lacks w)) below-fits ∙ below-z ∙ sym word-is
 
-cast-result : tie.Need-cast-result
-cast-result c = search needs
-
-sub-result : tie.Need-sub-result
-sub-result c = search needs
-
-cast-result-2 : tie.Need-cast-result-2
-cast-result-2 c = search needs
-
-sub-result-2 : tie.Need-sub-result-2
-sub-result-2 c = below-fits (c .before .args .w) (c .if1 .left) (c .before .fits .w .fits)
-
-returns : tie.Need-returns
-returns c = search needs
-
-returns-2 : tie.Need-returns-2
-returns-2 c = below-is (c .before .args .w) (c .if1 .left) (c .before .fits .w .fits)
-
 pub signed-spec : {M : Type 1} → statement M
 signed-spec =
-    tie.close (tie.spec cast-result sub-result cast-result-2 sub-result-2 returns returns-2)
+    tie.close (tie.spec (λ c. search needs) (λ c. search needs) (λ c. search needs) (λ c. below-fits (c .before .args .w) (c .if1 .left) (c .before .fits .w .fits)) (λ c. search needs) (λ c. below-is (c .before .args .w) (c .if1 .left) (c .before .fits .w .fits)))
