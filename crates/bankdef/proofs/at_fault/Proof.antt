@@ -24,12 +24,6 @@ magnitude-of c =
     let fits : SFits w64 start = record { sfits = c .before .struct-told .given .1 .0 .1 } in
     c .magnitude .ensures ∙ ap natAbs (toZ-ofZ w64 start fits)
 
-returns : tie.Need-returns
-returns c = rw (eq-eqb (c .before .args .b .unit) 0 (c .if1 .taken))
-
-magnitude-requires : tie.Need-magnitude-requires
-magnitude-requires c κs = search needs
-
 returns-2 : tie.Need-returns-2
 returns-2 c =
     let b = c .before .before .before .before .args .b in
@@ -44,18 +38,9 @@ rest c =
     let within : natAbs (b .start) ≤ maxStart = omega (arith, c .if2 .left, magnitude-of (c .before)) in
     rw (ne-eqb (b .unit) 0 (c .before .before .before .if1 .left), start-by-magnitude (b .start), le-leb (natAbs (b .start)) maxStart within)
 
-is-zero-requires : tie.Need-is-zero-requires
-is-zero-requires c κs = search needs
-
-returns-3 : tie.Need-returns-3
-returns-3 c = rw (rest (c .before), lt-ltb 1 _ (c .if3 .taken))
-
 returns-4 : tie.Need-returns-4
 returns-4 c = rw (rest (c .before .before .before), le-ltb 1 _ (c .before .before .if3 .left), c .before .if4 .taken) (c .is-zero .ensures)
 
-returns-5 : tie.Need-returns-5
-returns-5 c = rw (rest (c .before .before), le-ltb 1 _ (c .before .if3 .left), c .if4 .left)
-
 pub at-fault-spec : {M : Type 1} → statement M
 at-fault-spec =
-    tie.close (tie.spec returns magnitude-requires returns-2 returns-3 is-zero-requires returns-4 returns-5)
+    tie.close (tie.spec (λ c. rw (eq-eqb (c .before .args .b .unit) 0 (c .if1 .taken))) (λ c κs. search needs) returns-2 (λ c. rw (rest (c .before), lt-ltb 1 _ (c .if3 .taken))) (λ c κs. search needs) returns-4 (λ c. rw (rest (c .before .before), le-ltb 1 _ (c .before .if3 .left), c .if4 .left)))

@@ -20,16 +20,10 @@ use Rattle.bankdef.proofs.check.Tie as tie
 figures : {t : Bankdefs} {v : Verdict} → v ≡ checkOf t → (v ≡ checkOf t) × Checks t (toldVerdict v)
 figures {t} {v} e = (e, subst (λ (w : Verdict). Checks t (toldVerdict w)) (sym e) (check-told t))
 
-returns : tie.Need-returns
-returns c = figures (rw (c .if1 .taken))
-
 returns-2 : tie.Need-returns-2
 returns-2 c =
     let len = c .before .before .args .banks .len in
     figures (rw (le-leb 1 len (omega (arith, c .before .if1 .left)), lt-leb len 16 (c .if2 .taken)))
-
-first-fault-requires : tie.Need-first-fault-requires
-first-fault-requires c κs = search needs
 
 sound : (c : tie.Else2) → countSound (c .before .before .args .banks .len) ≡ true
 sound c =
@@ -50,9 +44,6 @@ returns-3 c =
     (arith, count d, c .if3 .taken, c .before .first-fault .ensures)) in
     figures (rw (sound d, some, c .before .first-fault .ensures))
 
-check-bank-overlap-requires : tie.Need-check-bank-overlap-requires
-check-bank-overlap-requires c κs = search needs
-
 returns-4 : tie.Need-returns-4
 returns-4 c =
     let d = c .before .before .before in
@@ -65,9 +56,4 @@ pub check-spec : {M : Type 1} → statement M
 check-spec =
     tie.close
     (tie.spec
-    returns
-    returns-2
-    first-fault-requires
-    returns-3
-    check-bank-overlap-requires
-    returns-4)
+    (λ c. figures (rw (c .if1 .taken))) returns-2 (λ c κs. search needs) returns-3 (λ c κs. search needs) returns-4)

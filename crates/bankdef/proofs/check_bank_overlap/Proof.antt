@@ -53,22 +53,10 @@ abbrev μ-loop : tie.MeasureT-loop
 fits : (c : tie.Start Inv-loop μ-loop) → c .args .n ≤ length (c .args .banks .defs)
 fits c = within _ (c .args .banks .defs) (c .good .0 .1 .1 .0 .1 .0 .1) (c .pre)
 
-loop-holds : tie.Need-loop-holds Inv-loop μ-loop
-loop-holds c = refl
-
-first-overlap-after-requires : tie.Need-first-overlap-after-requires Inv-loop μ-loop
-first-overlap-after-requires c κs = search needs
-
 returns : tie.Need-returns Inv-loop μ-loop
 returns c =
     let at = c .before .before .before in
     pair _ _ (fits (at .before)) (at .loop .i) (c .before .before .loop-test .taken) (at .loop .inv) _ (c .before .first-overlap-after .ensures) (c .if1 .taken)
-
-add-i : tie.Need-add-i Inv-loop μ-loop
-add-i c = search needs
-
-loop-less : tie.Need-loop-less Inv-loop μ-loop
-loop-less c = search needs
 
 loop-again : tie.Need-loop-again Inv-loop μ-loop
 loop-again c =
@@ -86,12 +74,4 @@ pub check-bank-overlap-spec : {M : Type 1} → statement M
 check-bank-overlap-spec =
     tie.close
     (tie.spec
-    Inv-loop
-    μ-loop
-    loop-holds
-    first-overlap-after-requires
-    returns
-    add-i
-    loop-less
-    loop-again
-    returns-2)
+    Inv-loop μ-loop (λ c. refl) (λ c κs. search needs) returns (λ c. search needs) (λ c. search needs) loop-again returns-2)

@@ -21,24 +21,6 @@ abbrev μ-loop : tie.MeasureT-loop
 fits : (c : tie.Start Inv-loop μ-loop) → c .args .n ≤ L.length (c .args .t1 .defs)
 fits c = within _ (c .args .t1 .defs) (c .good .0 .1 .1 .0 .1 .0 .1) (c .pre)
 
-loop-holds : tie.Need-loop-holds Inv-loop μ-loop
-loop-holds c = (search needs, refl)
-
-mul-b : tie.Need-mul-b Inv-loop μ-loop
-mul-b c = search needs
-
-element-copy-out-b : tie.Need-element-copy-out-b Inv-loop μ-loop
-element-copy-out-b c = search needs
-
-filled-requires : tie.Need-filled-requires Inv-loop μ-loop
-filled-requires c κs = search needs
-
-add-i : tie.Need-add-i Inv-loop μ-loop
-add-i c = search needs
-
-loop-less : tie.Need-loop-less Inv-loop μ-loop
-loop-less c = search needs
-
 loop-again : tie.Need-loop-again Inv-loop μ-loop
 unfolding fillFrom
 loop-again c =
@@ -59,13 +41,5 @@ pub fill-banks-spec : {M : Type 1} → statement M
 fill-banks-spec =
     tie.close
     (tie.spec
-    Inv-loop
-    μ-loop
-    loop-holds
-    mul-b
-    element-copy-out-b
-    filled-requires
-    add-i
-    loop-less
-    loop-again
-    returns)
+    Inv-loop μ-loop (λ c. (search needs, refl)) (λ c. search needs) (λ c. search needs) (λ c κs. search needs) (λ c. search needs) (λ c. search needs)
+    loop-again returns)

@@ -8,15 +8,6 @@ use Rattle.bankdef.specs.Fill.{fillBy}
 use Rattle.bankdef.proofs.fill_length.Statement.{statement}
 use Rattle.bankdef.proofs.fill_length.Tie as tie
 
-fill-chosen-requires : tie.Need-fill-chosen-requires
-fill-chosen-requires c κs = search needs
-
-fill-chosen-requires-2 : tie.Need-fill-chosen-requires-2
-fill-chosen-requires-2 c κs = search needs
-
-returns : tie.Need-returns
-returns c = search needs
-
 returns-2 : tie.Need-returns-2
 returns-2 c =
     let s = c .before .before in
@@ -27,4 +18,4 @@ returns-2 c =
     (c .fill-chosen2 .ensures .0 ∙ ap (fillBy (s .args .choice)) e, search needs)
 
 pub fill-length-spec : {M : Type 1} → statement M
-fill-length-spec = tie.close (tie.spec fill-chosen-requires fill-chosen-requires-2 returns returns-2)
+fill-length-spec = tie.close (tie.spec (λ c κs. search needs) (λ c κs. search needs) (λ c. search needs) returns-2)

@@ -10,12 +10,6 @@ use Rattle.bankdef.specs.Laws.FullFill.{filled-by-end}
 use Rattle.bankdef.proofs.filled.Statement.{statement}
 use Rattle.bankdef.proofs.filled.Tie as tie
 
-fill-end-requires : tie.Need-fill-end-requires
-fill-end-requires c κs = search needs
-
-add-if1 : tie.Need-add-if1
-add-if1 c = search needs
-
 -- the bank's fill, by its end
 by-end : (c : tie.After-fill-end) → afterBank (c .before .args .b) (c .before .args .length) ≡ raisedTo (c .fill-end .result - 1) (c .before .args .length)
 by-end c =
@@ -36,4 +30,4 @@ returns-2 c =
     (rw (by-end (c .before), le-ltb n (e - 1) (omega (arith, c .if1 .left))), search needs)
 
 pub filled-spec : {M : Type 1} → statement M
-filled-spec = tie.close (tie.spec fill-end-requires add-if1 returns returns-2)
+filled-spec = tie.close (tie.spec (λ c κs. search needs) (λ c. search needs) returns returns-2)

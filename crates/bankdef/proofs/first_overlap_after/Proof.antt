@@ -28,38 +28,11 @@ fits c = within _ (c .args .t1 .defs) (c .good .0 .1 .1 .0 .1 .0 .1) (c .pre .1)
 abbrev first : tie.After-a Inv-loop μ-loop → Bankdef
 first c = getD (c .before .args .t1 .defs) (c .before .args .i) noBank
 
-mul-a : tie.Need-mul-a Inv-loop μ-loop
-mul-a c = search needs
-
-element-copy-out-a : tie.Need-element-copy-out-a Inv-loop μ-loop
-element-copy-out-a c = search needs
-
-add-j : tie.Need-add-j Inv-loop μ-loop
-add-j c = search needs
-
-loop-holds : tie.Need-loop-holds Inv-loop μ-loop
-loop-holds c = (search needs, search needs)
-
-mul-b : tie.Need-mul-b Inv-loop μ-loop
-mul-b c = search needs
-
-element-copy-out-b : tie.Need-element-copy-out-b Inv-loop μ-loop
-element-copy-out-b c = search needs
-
-overlaps-requires : tie.Need-overlaps-requires Inv-loop μ-loop
-overlaps-requires c κs = search needs
-
 returns : tie.Need-returns Inv-loop μ-loop
 returns c =
     let at = c .before .before .before .before in
     found noBank _ _ (fits (at .before .before)) (pairOverlaps (first (at .before))) (at .loop .j) (search needs) (sym (c .before .overlaps .ensures)
     ∙ c .if1 .taken) (at .loop .inv .1)
-
-add-j-2 : tie.Need-add-j-2 Inv-loop μ-loop
-add-j-2 c = search needs
-
-loop-less : tie.Need-loop-less Inv-loop μ-loop
-loop-less c = search needs
 
 loop-again : tie.Need-loop-again Inv-loop μ-loop
 loop-again c =
@@ -82,17 +55,5 @@ pub first-overlap-after-spec : {M : Type 1} → statement M
 first-overlap-after-spec =
     tie.close
     (tie.spec
-    Inv-loop
-    μ-loop
-    mul-a
-    element-copy-out-a
-    add-j
-    loop-holds
-    mul-b
-    element-copy-out-b
-    overlaps-requires
-    returns
-    add-j-2
-    loop-less
-    loop-again
-    returns-2)
+    Inv-loop μ-loop (λ c. search needs) (λ c. search needs) (λ c. search needs) (λ c. (search needs, search needs)) (λ c. search needs)
+    (λ c. search needs) (λ c κs. search needs) returns (λ c. search needs) (λ c. search needs) loop-again returns-2)

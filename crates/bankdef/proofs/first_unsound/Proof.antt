@@ -21,28 +21,10 @@ abbrev μ-loop : tie.MeasureT-loop
 fits : (c : tie.Start Inv-loop μ-loop) → c .args .n ≤ length (c .args .t1 .defs)
 fits c = within _ (c .args .t1 .defs) (c .good .0 .1 .1 .0 .1 .0 .1) (c .pre)
 
-loop-holds : tie.Need-loop-holds Inv-loop μ-loop
-loop-holds c = (search needs, omega arith)
-
-mul-b : tie.Need-mul-b Inv-loop μ-loop
-mul-b c = search needs
-
-element-copy-out-b : tie.Need-element-copy-out-b Inv-loop μ-loop
-element-copy-out-b c = search needs
-
-at-fault-requires : tie.Need-at-fault-requires Inv-loop μ-loop
-at-fault-requires c κs = search needs
-
 returns : tie.Need-returns Inv-loop μ-loop
 returns c =
     let at = c .before .before .before .before in
     found noBank _ _ (fits (at .before)) bankFault (at .loop .i) (search needs) (sym (c .before .at-fault .ensures) ∙ c .if1 .taken) (at .loop .inv .1)
-
-add-i : tie.Need-add-i Inv-loop μ-loop
-add-i c = search needs
-
-loop-less : tie.Need-loop-less Inv-loop μ-loop
-loop-less c = search needs
 
 loop-again : tie.Need-loop-again Inv-loop μ-loop
 loop-again c =
@@ -63,14 +45,5 @@ pub first-unsound-spec : {M : Type 1} → statement M
 first-unsound-spec =
     tie.close
     (tie.spec
-    Inv-loop
-    μ-loop
-    loop-holds
-    mul-b
-    element-copy-out-b
-    at-fault-requires
-    returns
-    add-i
-    loop-less
-    loop-again
-    returns-2)
+    Inv-loop μ-loop (λ c. (search needs, omega arith)) (λ c. search needs) (λ c. search needs) (λ c κs. search needs) returns (λ c. search needs)
+    (λ c. search needs) loop-again returns-2)

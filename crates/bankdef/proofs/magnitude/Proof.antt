@@ -20,17 +20,8 @@ same-x c = toZ-ofZ w64 (c .args .x) (c .fits .x)
 below : (c : tie.Then1) → negsuc 0 -ℤ toZ w64 (ofZ w64 (c .before .args .x)) ≡ pos (mag (c .before .args .x))
 below c = rw (same-x (c .before)) (turned (c .before .args .x) (rw (same-x (c .before)) at (c .if1 .taken)))
 
-sub-less : tie.Need-sub-less
-sub-less c = rw (below c) (record { sfits = c .before .fits .x .sfits })
-
 less : (c : tie.Then1) → toZ w64 (ofZ w64 (negsuc 0 -ℤ toZ w64 (ofZ w64 (c .before .args .x)))) ≡ pos (mag (c .before .args .x))
 less c = rw (below c) (toZ-ofZ w64 (pos (mag (c .before .args .x))) (record { sfits = c .before .fits .x .sfits }))
-
-cast-result : tie.Need-cast-result
-cast-result c = rw (less c) (tt, record { fits = omega (arith, c .before .fits .x .sfits) })
-
-add-result : tie.Need-add-result
-add-result c = rw (less c) (record { fits = omega (arith, c .before .fits .x .sfits) })
 
 cast-result-2 : tie.Need-cast-result-2
 cast-result-2 c =
@@ -38,12 +29,6 @@ cast-result-2 c =
     let n : ltZ (c .before .args .x) (pos 0) ≡ false = rw e at (c .if1 .left) in
     rw e (nonnegative (c .before .args .x) n, record { fits = rw (abs-nonnegative (c .before .args .x) n) (omega (arith, c .before .fits .x .sfits)) })
 
-returns : tie.Need-returns
-returns c = rw (less c) (abs-negative (c .before .args .x) (rw (same-x (c .before)) at (c .if1 .taken)))
-
-returns-2 : tie.Need-returns-2
-returns-2 c = search needs
-
 pub magnitude-spec : {M : Type 1} → statement M
 magnitude-spec =
-    tie.close (tie.spec sub-less cast-result add-result cast-result-2 returns returns-2)
+    tie.close (tie.spec (λ c. rw (below c) (record { sfits = c .before .fits .x .sfits })) (λ c. rw (less c) (tt, record { fits = omega (arith, c .before .fits .x .sfits) })) (λ c. rw (less c) (record { fits = omega (arith, c .before .fits .x .sfits) })) cast-result-2 (λ c. rw (less c) (abs-negative (c .before .args .x) (rw (same-x (c .before)) at (c .if1 .taken)))) (λ c. search needs))
