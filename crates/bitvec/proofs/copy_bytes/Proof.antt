@@ -19,24 +19,6 @@ loop-holds c =
     let a = c .args in
     (omega arith, refl, sym (written-none (a .image .now) (8 * a .j) (a .values .now) (8 * a .k) (8 * 0) (c .pre .0) refl))
 
-add-image : tie.Need-add-image Inv-loop μ-loop
-add-image c = omega arith
-
-shared-slice-read-image : tie.Need-shared-slice-read-image Inv-loop μ-loop
-shared-slice-read-image c = omega arith
-
-add-image-2 : tie.Need-add-image-2 Inv-loop μ-loop
-add-image-2 c = omega arith
-
-slice-write-image : tie.Need-slice-write-image Inv-loop μ-loop
-slice-write-image c = omega arith
-
-add-i : tie.Need-add-i Inv-loop μ-loop
-add-i c = omega arith
-
-loop-less : tie.Need-loop-less Inv-loop μ-loop
-loop-less c = omega arith
-
 loop-again : tie.Need-loop-again Inv-loop μ-loop
 loop-again c =
     let a = c .before .before .before .args in
@@ -48,9 +30,6 @@ loop-again c =
           (whole-byte (a .values .now) (λ n. c .shared-slice-known .given n .fits) (a .k) i)),
     )
 
-same-length : tie.Need-same-length Inv-loop μ-loop
-same-length c = omega arith
-
 returns : tie.Need-returns Inv-loop μ-loop
 returns c =
     let a = c .before .before .args in
@@ -60,15 +39,5 @@ pub copy-bytes-spec : {M : Type 1} → statement M
 copy-bytes-spec =
     tie.close
     (tie.spec
-    Inv-loop
-    μ-loop
-    loop-holds
-    add-image
-    shared-slice-read-image
-    add-image-2
-    slice-write-image
-    add-i
-    loop-less
-    loop-again
-    same-length
-    returns)
+    Inv-loop μ-loop loop-holds (λ c. omega arith) (λ c. omega arith) (λ c. omega arith) (λ c. omega arith) (λ c. omega arith) (λ c. omega arith)
+    loop-again (λ c. omega arith) returns)

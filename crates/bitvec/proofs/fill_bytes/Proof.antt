@@ -20,15 +20,6 @@ loop-holds c =
     let a = c .args in
     (omega arith, omega arith, refl, ones-none (a .image .now) (8 * a .j) (8 * a .j) (c .pre .0) (omega arith))
 
-slice-write-image : tie.Need-slice-write-image Inv-loop μ-loop
-slice-write-image c = omega arith
-
-add-i : tie.Need-add-i Inv-loop μ-loop
-add-i c = omega arith
-
-loop-less : tie.Need-loop-less Inv-loop μ-loop
-loop-less c = omega arith
-
 loop-again : tie.Need-loop-again Inv-loop μ-loop
 loop-again c =
     let a = c .before .before .args in
@@ -39,9 +30,6 @@ loop-again c =
       rw (c .before .loop .inv .3) (ones-more (a .image .now) (a .j) i (omega arith) (omega arith)),
     )
 
-same-length : tie.Need-same-length Inv-loop μ-loop
-same-length c = omega arith
-
 returns : tie.Need-returns Inv-loop μ-loop
 returns c =
     let a = c .before .before .args in
@@ -51,12 +39,4 @@ pub fill-bytes-spec : {M : Type 1} → statement M
 fill-bytes-spec =
     tie.close
     (tie.spec
-    Inv-loop
-    μ-loop
-    loop-holds
-    slice-write-image
-    add-i
-    loop-less
-    loop-again
-    same-length
-    returns)
+    Inv-loop μ-loop loop-holds (λ c. omega arith) (λ c. omega arith) (λ c. omega arith) loop-again (λ c. omega arith) returns)

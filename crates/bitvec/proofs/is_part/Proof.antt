@@ -24,9 +24,6 @@ returns-3 c =
     let e : a .offset % 8 ≡ 0 = omega arith in
     rw (lt-ltb 0 (a .size) (omega arith), eq-eqb (a .offset % 8) 0 e, ne-eqb (a .size % 8) 0 (c .if3 .taken))
 
-ends-within-requires : tie.Need-ends-within-requires
-ends-within-requires c κs = search needs
-
 returns-4 : tie.Need-returns-4
 unfolding isPart
 returns-4 c =
@@ -36,4 +33,4 @@ returns-4 c =
     c .ends-within .ensures ∙ rw (lt-ltb 0 (a .size) (omega arith), eq-eqb (a .offset % 8) 0 e, eq-eqb (a .size % 8) 0 f)
 
 pub is-part-spec : {M : Type 1} → statement M
-is-part-spec = tie.close (tie.spec returns returns-2 returns-3 ends-within-requires returns-4)
+is-part-spec = tie.close (tie.spec returns returns-2 returns-3 (λ c κs. search needs) returns-4)

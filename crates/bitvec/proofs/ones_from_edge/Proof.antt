@@ -8,15 +8,6 @@ use borrow.Author.Needs.{needs}
 use Rattle.bitvec.proofs.ones_from_edge.Statement.{statement}
 use Rattle.bitvec.proofs.ones_from_edge.Tie as tie
 
-fill-bytes-requires : tie.Need-fill-bytes-requires
-fill-bytes-requires c κs = (λ i. c .before .slice-known .given i .fits, (omega arith, omega arith))
-
-put-ones-requires : tie.Need-put-ones-requires
-put-ones-requires c κs = search needs
-
-same-length : tie.Need-same-length
-same-length c = search needs
-
 returns : tie.Need-returns
 returns c =
     let a = c .before .before .before .before .before .before .before .before .before .args in
@@ -27,4 +18,4 @@ returns c =
     (rest .ensures ∙ ap (withOnes (whole .last .0) (8 * k + 0)) (omega arith)) (omega arith) (omega arith) (omega arith)
 
 pub ones-from-edge-spec : {M : Type 1} → statement M
-ones-from-edge-spec = tie.close (tie.spec fill-bytes-requires put-ones-requires same-length returns)
+ones-from-edge-spec = tie.close (tie.spec (λ c κs. (λ i. c .before .slice-known .given i .fits, (omega arith, omega arith))) (λ c κs. search needs) (λ c. search needs) returns)

@@ -6,34 +6,10 @@ use borrow.Author.Needs.{needs}
 use Rattle.bitvec.proofs.ones_within.Statement.{statement}
 use Rattle.bitvec.proofs.ones_within.Tie as tie
 
-sub-head : tie.Need-sub-head
-sub-head c = search needs
-
-sub-size : tie.Need-sub-size
-sub-size c = search needs
-
-put-ones-requires : tie.Need-put-ones-requires
-put-ones-requires c κs = search needs
-
-put-ones-requires-2 : tie.Need-put-ones-requires-2
-put-ones-requires-2 c κs = search needs
-
-add-ones-from-edge : tie.Need-add-ones-from-edge
-add-ones-from-edge c = search needs
-
-ones-from-edge-requires : tie.Need-ones-from-edge-requires
-ones-from-edge-requires c κs = search needs
-
-same-length : tie.Need-same-length
-same-length c = search needs
-
 returns : tie.Need-returns
 returns c =
     let a = c .before .before .before .before .before .before .args in
     same-range (a .image .now) _ _ _ (a .from) (a .end) (c .before .before .put-ones .ensures) (omega arith) (omega arith)
-
-same-length-2 : tie.Need-same-length-2
-same-length-2 c = search needs
 
 returns-2 : tie.Need-returns-2
 returns-2 c =
@@ -49,13 +25,5 @@ pub ones-within-spec : {M : Type 1} → statement M
 ones-within-spec =
     tie.close
     (tie.spec
-    sub-head
-    sub-size
-    put-ones-requires
-    put-ones-requires-2
-    add-ones-from-edge
-    ones-from-edge-requires
-    same-length
-    returns
-    same-length-2
-    returns-2)
+    (λ c. search needs) (λ c. search needs) (λ c κs. search needs) (λ c κs. search needs) (λ c. search needs) (λ c κs. search needs)
+    (λ c. search needs) returns (λ c. search needs) returns-2)

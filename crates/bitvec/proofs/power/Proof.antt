@@ -7,9 +7,6 @@ use borrow.Author.Needs.{needs}
 use Rattle.bitvec.proofs.power.Statement.{statement}
 use Rattle.bitvec.proofs.power.Tie as tie
 
-shl-result : tie.Need-shl-result
-shl-result c = search needs
-
 returns : tie.Need-returns
 returns c = (exact, rw exact (pow-pos (c .args .n)))
   where
@@ -17,4 +14,4 @@ returns c = (exact, rw exact (pow-pos (c .args .n)))
     exact = rw one-mul (mod-eq-of-lt (pow-lt (c .pre)))
 
 pub power-spec : {M : Type 1} → statement M
-power-spec = tie.close (tie.spec shl-result returns)
+power-spec = tie.close (tie.spec (λ c. search needs) returns)

@@ -16,15 +16,6 @@ returns c =
     (written-none (a .image .now) (8 * a .j + a .at) (a .values .now) (8 * a .k + a .s) (a .n)
     (λ i. c .before .before .slice-known .given i .fits) (c .if1 .taken))
 
-bits-from-requires : tie.Need-bits-from-requires
-bits-from-requires c κs = search needs
-
-slice-read-wide : tie.Need-slice-read-wide
-slice-read-wide c = search needs
-
-wide-requires : tie.Need-wide-requires
-wide-requires c κs = search needs
-
 splice-requires : tie.Need-splice-requires
 splice-requires c κs =
     let a = c .before .before .before .before .before .before .args in (
@@ -32,15 +23,6 @@ splice-requires c κs =
       omega arith,
       rw (c .before .before .bits-from .ensures) (numeral-lt (a .n) _ (λ i. bitAt-lt (a .values .now) (8 * a .k + a .s + i))),
     )
-
-cast-image : tie.Need-cast-image
-cast-image c = search needs
-
-slice-write-image : tie.Need-slice-write-image
-slice-write-image c = search needs
-
-same-length : tie.Need-same-length
-same-length c = search needs
 
 returns-2 : tie.Need-returns-2
 returns-2 c =
@@ -53,12 +35,5 @@ pub put-bits-spec : {M : Type 1} → statement M
 put-bits-spec =
     tie.close
     (tie.spec
-    returns
-    bits-from-requires
-    slice-read-wide
-    wide-requires
-    splice-requires
-    cast-image
-    slice-write-image
-    same-length
-    returns-2)
+    returns (λ c κs. search needs) (λ c. search needs) (λ c κs. search needs) splice-requires (λ c. search needs) (λ c. search needs)
+    (λ c. search needs) returns-2)

@@ -9,9 +9,6 @@ use borrow.Author.Needs.{needs}
 use Rattle.bitvec.proofs.set_ones.Statement.{statement}
 use Rattle.bitvec.proofs.set_ones.Tie as tie
 
-last-bit-requires : tie.Need-last-bit-requires
-last-bit-requires c κs = search needs
-
 returns : tie.Need-returns
 returns c =
     let a = c .before .before .before .args in
@@ -19,12 +16,6 @@ returns c =
       bytes = ones-none (a .image .now) (a .from) (a .end) (λ i. c .before .before .slice-known .given i .fits)
           (omega (arith, c .before .last-bit .ensures, c .if1 .taken));
     }
-
-ones-within-requires : tie.Need-ones-within-requires
-ones-within-requires c κs = search needs
-
-same-length : tie.Need-same-length
-same-length c = search needs
 
 returns-2 : tie.Need-returns-2
 returns-2 c =
@@ -36,4 +27,4 @@ returns-2 c =
     }
 
 pub set-ones-spec : {M : Type 1} → statement M
-set-ones-spec = tie.close (tie.spec last-bit-requires returns ones-within-requires same-length returns-2)
+set-ones-spec = tie.close (tie.spec (λ c κs. search needs) returns (λ c κs. search needs) (λ c. search needs) returns-2)

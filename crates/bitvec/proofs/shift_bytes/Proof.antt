@@ -21,36 +21,6 @@ loop-holds c =
     let a = c .args in
     (omega arith, refl, sym (written-none (a .image .now) (8 * a .j) (a .values .now) (8 * a .k + a .s) (8 * 0) (c .pre .0) refl))
 
-add-image : tie.Need-add-image Inv-loop μ-loop
-add-image c = omega arith
-
-shared-slice-read-image : tie.Need-shared-slice-read-image Inv-loop μ-loop
-shared-slice-read-image c = omega arith
-
-cast-image : tie.Need-cast-image Inv-loop μ-loop
-cast-image c = omega arith
-
-shl-image : tie.Need-shl-image Inv-loop μ-loop
-shl-image c = omega arith
-
-add-image-2 : tie.Need-add-image-2 Inv-loop μ-loop
-add-image-2 c = omega arith
-
-add-image-3 : tie.Need-add-image-3 Inv-loop μ-loop
-add-image-3 c = omega arith
-
-shared-slice-read-image-2 : tie.Need-shared-slice-read-image-2 Inv-loop μ-loop
-shared-slice-read-image-2 c = omega arith
-
-sub-image : tie.Need-sub-image Inv-loop μ-loop
-sub-image c = omega arith
-
-cast-image-2 : tie.Need-cast-image-2 Inv-loop μ-loop
-cast-image-2 c = omega arith
-
-shr-image : tie.Need-shr-image Inv-loop μ-loop
-shr-image c = omega arith
-
 add-image-4 : tie.Need-add-image-4 Inv-loop μ-loop
 add-image-4 c =
     let a = c .before .before .before .before .args in
@@ -60,18 +30,6 @@ add-image-4 c =
           rw (pair-shifted (a .values .now) (λ n. c .shared-slice-known2 .given n .fits) (a .k) (a .s) i (omega arith))
           (numeral-lt 8 _ (λ b. bitAt-lt (a .values .now) (8 * a .k + a .s + 8 * i + b)));
     }
-
-add-image-5 : tie.Need-add-image-5 Inv-loop μ-loop
-add-image-5 c = omega arith
-
-slice-write-image : tie.Need-slice-write-image Inv-loop μ-loop
-slice-write-image c = omega arith
-
-add-i : tie.Need-add-i Inv-loop μ-loop
-add-i c = omega arith
-
-loop-less : tie.Need-loop-less Inv-loop μ-loop
-loop-less c = omega arith
 
 loop-again : tie.Need-loop-again Inv-loop μ-loop
 loop-again c =
@@ -84,9 +42,6 @@ loop-again c =
           (pair-shifted (a .values .now) (λ n. c .shared-slice-known2 .given n .fits) (a .k) (a .s) i (omega arith))),
     )
 
-same-length : tie.Need-same-length Inv-loop μ-loop
-same-length c = omega arith
-
 returns : tie.Need-returns Inv-loop μ-loop
 returns c =
     let a = c .before .before .args in
@@ -96,24 +51,6 @@ pub shift-bytes-spec : {M : Type 1} → statement M
 shift-bytes-spec =
     tie.close
     (tie.spec
-    Inv-loop
-    μ-loop
-    loop-holds
-    add-image
-    shared-slice-read-image
-    cast-image
-    shl-image
-    add-image-2
-    add-image-3
-    shared-slice-read-image-2
-    sub-image
-    cast-image-2
-    shr-image
-    add-image-4
-    add-image-5
-    slice-write-image
-    add-i
-    loop-less
-    loop-again
-    same-length
-    returns)
+    Inv-loop μ-loop loop-holds (λ c. omega arith) (λ c. omega arith) (λ c. omega arith) (λ c. omega arith) (λ c. omega arith) (λ c. omega arith)
+    (λ c. omega arith) (λ c. omega arith) (λ c. omega arith) (λ c. omega arith) add-image-4 (λ c. omega arith) (λ c. omega arith) (λ c. omega arith)
+    (λ c. omega arith) loop-again (λ c. omega arith) returns)

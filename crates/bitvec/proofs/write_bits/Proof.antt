@@ -9,12 +9,6 @@ use borrow.Author.Needs.{needs}
 use Rattle.bitvec.proofs.write_bits.Statement.{statement}
 use Rattle.bitvec.proofs.write_bits.Tie as tie
 
-ends-within-requires : tie.Need-ends-within-requires
-ends-within-requires c κs = search needs
-
-ends-within-requires-2 : tie.Need-ends-within-requires-2
-ends-within-requires-2 c κs = search needs
-
 write-item-requires : tie.Need-write-item-requires
 write-item-requires c κs =
     let a = c .before .before .before .before .before .before .before .args in
@@ -22,9 +16,6 @@ write-item-requires c κs =
     ∙ c .before .before .before .if1 .taken) in
     let v = leb-true (a .start + a .size) (8 * length (a .values .now)) (sym (c .before .before .ends-within2 .ensures) ∙ c .before .if2 .taken) in
     (omega arith, omega arith, omega arith, omega arith)
-
-same-length : tie.Need-same-length
-same-length c = search needs
 
 returns : tie.Need-returns
 returns c =
@@ -52,10 +43,4 @@ pub write-bits-spec : {M : Type 1} → statement M
 write-bits-spec =
     tie.close
     (tie.spec
-    ends-within-requires
-    ends-within-requires-2
-    write-item-requires
-    same-length
-    returns
-    returns-2
-    returns-3)
+    (λ c κs. search needs) (λ c κs. search needs) write-item-requires (λ c. search needs) returns returns-2 returns-3)

@@ -6,21 +6,6 @@ use borrow.Author.Needs.{needs}
 use Rattle.bitvec.proofs.write_from_edge.Statement.{statement}
 use Rattle.bitvec.proofs.write_from_edge.Tie as tie
 
-write-bytes-requires : tie.Need-write-bytes-requires
-write-bytes-requires c κs = search needs
-
-add-put-bits : tie.Need-add-put-bits
-add-put-bits c = search needs
-
-add-put-bits-2 : tie.Need-add-put-bits-2
-add-put-bits-2 c = search needs
-
-put-bits-requires : tie.Need-put-bits-requires
-put-bits-requires c κs = search needs
-
-same-length : tie.Need-same-length
-same-length c = search needs
-
 returns : tie.Need-returns
 returns c =
     let a = c .before .before .before .before .before .before .before .before .before .before .args in
@@ -33,9 +18,4 @@ pub write-from-edge-spec : {M : Type 1} → statement M
 write-from-edge-spec =
     tie.close
     (tie.spec
-    write-bytes-requires
-    add-put-bits
-    add-put-bits-2
-    put-bits-requires
-    same-length
-    returns)
+    (λ c κs. search needs) (λ c. search needs) (λ c. search needs) (λ c κs. search needs) (λ c. search needs) returns)

@@ -9,19 +9,10 @@ use borrow.Author.Needs.{needs}
 use Rattle.bitvec.proofs.write_hex.Statement.{statement}
 use Rattle.bitvec.proofs.write_hex.Tie as tie
 
-ends-within-requires : tie.Need-ends-within-requires
-ends-within-requires c κs = search needs
-
 returns : tie.Need-returns
 returns c =
     let a = c .before .before .before .before .args in
     past-bytes (a .bytes .now) (a .bits) (a .hex .now) (sym (c .before .ends-within .ensures) ∙ not-true _ (c .if1 .taken))
-
-add-digits : tie.Need-add-digits
-add-digits c = search needs
-
-add-digits-2 : tie.Need-add-digits-2
-add-digits-2 c = search needs
 
 returns-2 : tie.Need-returns-2
 returns-2 c =
@@ -42,9 +33,6 @@ write-tail-requires c κs =
     ∙ not-false _ (c .before .before .before .before .before .before .if1 .left)) in
     (omega arith, omega arith)
 
-same-length : tie.Need-same-length
-same-length c = search needs
-
 returns-3 : tie.Need-returns-3
 returns-3 c =
     let a = c .before .before .before .before .before .before .before .before .before .before .before .before .before .args in
@@ -57,12 +45,5 @@ pub write-hex-spec : {M : Type 1} → statement M
 write-hex-spec =
     tie.close
     (tie.spec
-    ends-within-requires
-    returns
-    add-digits
-    add-digits-2
-    returns-2
-    write-pairs-requires
-    write-tail-requires
-    same-length
+    (λ c κs. search needs) returns (λ c. search needs) (λ c. search needs) returns-2 write-pairs-requires write-tail-requires (λ c. search needs)
     returns-3)

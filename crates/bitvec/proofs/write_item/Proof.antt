@@ -6,39 +6,6 @@ use borrow.Author.Needs.{needs}
 use Rattle.bitvec.proofs.write_item.Statement.{statement}
 use Rattle.bitvec.proofs.write_item.Tie as tie
 
-sub-head : tie.Need-sub-head
-sub-head c = search needs
-
-put-bits-requires : tie.Need-put-bits-requires
-put-bits-requires c κs = search needs
-
-put-bits-requires-2 : tie.Need-put-bits-requires-2
-put-bits-requires-2 c κs = search needs
-
-add-next : tie.Need-add-next
-add-next c = search needs
-
-add-write-from-edge : tie.Need-add-write-from-edge
-add-write-from-edge c = search needs
-
-add-write-from-edge-2 : tie.Need-add-write-from-edge-2
-add-write-from-edge-2 c = search needs
-
-sub-write-from-edge : tie.Need-sub-write-from-edge
-sub-write-from-edge c = search needs
-
-write-from-edge-requires : tie.Need-write-from-edge-requires
-write-from-edge-requires c κs = search needs
-
-same-length : tie.Need-same-length
-same-length c = search needs
-
-returns : tie.Need-returns
-returns c = search needs
-
-same-length-2 : tie.Need-same-length-2
-same-length-2 c = search needs
-
 returns-2 : tie.Need-returns-2
 returns-2 c =
     let a = c .before .before .before .before .before .before .before .before .before .before .before .args in
@@ -52,15 +19,5 @@ pub write-item-spec : {M : Type 1} → statement M
 write-item-spec =
     tie.close
     (tie.spec
-    sub-head
-    put-bits-requires
-    put-bits-requires-2
-    add-next
-    add-write-from-edge
-    add-write-from-edge-2
-    sub-write-from-edge
-    write-from-edge-requires
-    same-length
-    returns
-    same-length-2
-    returns-2)
+    (λ c. search needs) (λ c κs. search needs) (λ c κs. search needs) (λ c. search needs) (λ c. search needs) (λ c. search needs) (λ c. search needs)
+    (λ c κs. search needs) (λ c. search needs) (λ c. search needs) (λ c. search needs) returns-2)

@@ -21,36 +21,6 @@ loop-holds : tie.Need-loop-holds Inv-loop μ-loop
 unfolding listOf
 loop-holds c = (omega arith, refl, refl, refl)
 
-shared-slice-read-byte : tie.Need-shared-slice-read-byte Inv-loop μ-loop
-shared-slice-read-byte c = omega arith
-
-digit-requires : tie.Need-digit-requires Inv-loop μ-loop
-digit-requires c κs = omega (arith, c .shared-slice-known2 .given (c .before .before .loop .i))
-
-mul-hex : tie.Need-mul-hex Inv-loop μ-loop
-mul-hex c = omega arith
-
-slice-write-hex : tie.Need-slice-write-hex Inv-loop μ-loop
-slice-write-hex c = omega arith
-
-digit-requires-2 : tie.Need-digit-requires-2 Inv-loop μ-loop
-digit-requires-2 c κs = omega (arith, c .before .shared-slice-known2 .given (c .before .before .before .loop .i))
-
-mul-hex-2 : tie.Need-mul-hex-2 Inv-loop μ-loop
-mul-hex-2 c = omega arith
-
-add-hex : tie.Need-add-hex Inv-loop μ-loop
-add-hex c = omega arith
-
-slice-write-hex-2 : tie.Need-slice-write-hex-2 Inv-loop μ-loop
-slice-write-hex-2 c = simp length-set (omega arith)
-
-add-i : tie.Need-add-i Inv-loop μ-loop
-add-i c = omega arith
-
-loop-less : tie.Need-loop-less Inv-loop μ-loop
-loop-less c = omega arith
-
 loop-again : tie.Need-loop-again Inv-loop μ-loop
 loop-again c =
     let a = c .before .before .before .before .before .before .before .args in
@@ -65,9 +35,6 @@ loop-again c =
           (c .digit2 .ensures ∙ lower (a .bytes .now) (a .bits) i _ byte),
     )
 
-same-length : tie.Need-same-length Inv-loop μ-loop
-same-length c = omega arith
-
 returns : tie.Need-returns Inv-loop μ-loop
 returns c =
     let a = c .before .before .before .before .args in
@@ -77,19 +44,7 @@ pub write-pairs-spec : {M : Type 1} → statement M
 write-pairs-spec =
     tie.close
     (tie.spec
-    Inv-loop
-    μ-loop
-    loop-holds
-    shared-slice-read-byte
-    digit-requires
-    mul-hex
-    slice-write-hex
-    digit-requires-2
-    mul-hex-2
-    add-hex
-    slice-write-hex-2
-    add-i
-    loop-less
-    loop-again
-    same-length
+    Inv-loop μ-loop loop-holds (λ c. omega arith) (λ c κs. omega (arith, c .shared-slice-known2 .given (c .before .before .loop .i)))
+    (λ c. omega arith) (λ c. omega arith) (λ c κs. omega (arith, c .before .shared-slice-known2 .given (c .before .before .before .loop .i)))
+    (λ c. omega arith) (λ c. omega arith) (λ c. simp length-set (omega arith)) (λ c. omega arith) (λ c. omega arith) loop-again (λ c. omega arith)
     returns)

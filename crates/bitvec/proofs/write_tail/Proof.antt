@@ -27,39 +27,6 @@ returns c =
     let a = c .before .before .before .args in
     record { digits = λ d l e. e ∙ ap (λ (n : ℕ). listOf n (digitAt (a .bytes .now) (a .bits)) ++ drop n d) (omega arith) }
 
-shared-slice-read-wide : tie.Need-shared-slice-read-wide
-shared-slice-read-wide c = search needs
-
-wide-requires : tie.Need-wide-requires
-wide-requires c κs = search needs
-
-sub-power : tie.Need-sub-power
-sub-power c = search needs
-
-power-requires : tie.Need-power-requires
-power-requires c κs = search needs
-
-rem-padded : tie.Need-rem-padded
-rem-padded c = search needs
-
-sub-padded : tie.Need-sub-padded
-sub-padded c = mod-le (c .before .wide .result) (c .power .result)
-
-cast-padded : tie.Need-cast-padded
-cast-padded c = search needs
-
-digit-requires : tie.Need-digit-requires
-digit-requires c κs = search needs
-
-mul-hex : tie.Need-mul-hex
-mul-hex c = search needs
-
-slice-write-hex : tie.Need-slice-write-hex
-slice-write-hex c = search needs
-
-same-length : tie.Need-same-length
-same-length c = search needs
-
 returns-2 : tie.Need-returns-2
 returns-2 c =
     let a = c .before .before .before .before .before .before .before .before .args in
@@ -69,21 +36,6 @@ returns-2 c =
           (c .before .digit .ensures ∙ upper (a .bytes .now) (a .bits) (a .bits / 8) _ (padded (c .before .before)))
           ∙ ap (λ (n : ℕ). listOf n (digitAt (a .bytes .now) (a .bits)) ++ drop n d) (omega arith);
     }
-
-digit-requires-2 : tie.Need-digit-requires-2
-digit-requires-2 c κs = search needs
-
-mul-hex-2 : tie.Need-mul-hex-2
-mul-hex-2 c = search needs
-
-add-hex : tie.Need-add-hex
-add-hex c = search needs
-
-slice-write-hex-2 : tie.Need-slice-write-hex-2
-slice-write-hex-2 c = simp length-set (omega arith)
-
-same-length-2 : tie.Need-same-length-2
-same-length-2 c = search needs
 
 returns-3 : tie.Need-returns-3
 returns-3 c =
@@ -100,22 +52,7 @@ pub write-tail-spec : {M : Type 1} → statement M
 write-tail-spec =
     tie.close
     (tie.spec
-    returns
-    shared-slice-read-wide
-    wide-requires
-    sub-power
-    power-requires
-    rem-padded
-    sub-padded
-    cast-padded
-    digit-requires
-    mul-hex
-    slice-write-hex
-    same-length
-    returns-2
-    digit-requires-2
-    mul-hex-2
-    add-hex
-    slice-write-hex-2
-    same-length-2
-    returns-3)
+    returns (λ c. search needs) (λ c κs. search needs) (λ c. search needs) (λ c κs. search needs) (λ c. search needs)
+    (λ c. mod-le (c .before .wide .result) (c .power .result)) (λ c. search needs) (λ c κs. search needs) (λ c. search needs) (λ c. search needs)
+    (λ c. search needs) returns-2 (λ c κs. search needs) (λ c. search needs) (λ c. search needs) (λ c. simp length-set (omega arith))
+    (λ c. search needs) returns-3)
