@@ -43,4 +43,8 @@ returns-4 c = rw (rest (c .before .before .before), le-ltb 1 _ (c .before .befor
 
 pub at-fault-spec : {M : Type 1} → statement M
 at-fault-spec =
-    tie.close (tie.spec (λ c. rw (eq-eqb (c .before .args .b .unit) 0 (c .if1 .taken))) (λ c κs. search needs) returns-2 (λ c. rw (rest (c .before), lt-ltb 1 _ (c .if3 .taken))) (λ c κs. search needs) returns-4 (λ c. rw (rest (c .before .before), le-ltb 1 _ (c .before .if3 .left), c .if4 .left)))
+    tie.close
+    (tie.spec
+    (λ c. rw (eq-eqb (c .before .args .b .unit) 0 (c .if1 .taken))) (λ c κs. search needs) returns-2
+    (λ c. rw (rest (c .before), lt-ltb 1 _ (c .if3 .taken))) (λ c κs. search needs) returns-4
+    (λ c. rw (rest (c .before .before), le-ltb 1 _ (c .before .if3 .left), c .if4 .left)))

@@ -13,4 +13,8 @@ zero-bank : (c : tie.Start) → getD (take (c .args .n) (c .args .t1 .defs)) 0 n
 zero-bank c = getD-take (c .args .n) (c .args .t1 .defs) 0 noBank (c .pre .0)
 
 pub first-fault-spec : {M : Type 1} → statement M
-first-fault-spec = tie.close (tie.spec (λ c. search needs) (λ c. rw (zero-bank (c .before .before), eq-eqb _ 1 (c .if1 .taken))) (λ c κs. search needs) (λ c. rw (zero-bank (c .before .before .before), ne-eqb _ 1 (c .before .if1 .left)) (c .first-unsound .ensures)))
+first-fault-spec =
+    tie.close
+    (tie.spec
+    (λ c. search needs) (λ c. rw (zero-bank (c .before .before), eq-eqb _ 1 (c .if1 .taken))) (λ c κs. search needs)
+    (λ c. rw (zero-bank (c .before .before .before), ne-eqb _ 1 (c .before .if1 .left)) (c .first-unsound .ensures)))

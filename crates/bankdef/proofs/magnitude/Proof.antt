@@ -31,4 +31,8 @@ cast-result-2 c =
 
 pub magnitude-spec : {M : Type 1} → statement M
 magnitude-spec =
-    tie.close (tie.spec (λ c. rw (below c) (record { sfits = c .before .fits .x .sfits })) (λ c. rw (less c) (tt, record { fits = omega (arith, c .before .fits .x .sfits) })) (λ c. rw (less c) (record { fits = omega (arith, c .before .fits .x .sfits) })) cast-result-2 (λ c. rw (less c) (abs-negative (c .before .args .x) (rw (same-x (c .before)) at (c .if1 .taken)))) (λ c. search needs))
+    tie.close
+    (tie.spec
+    (λ c. rw (below c) (record { sfits = c .before .fits .x .sfits })) (λ c. rw (less c) (tt, record { fits = omega (arith, c .before .fits .x .sfits) }))
+    (λ c. rw (less c) (record { fits = omega (arith, c .before .fits .x .sfits) })) cast-result-2
+    (λ c. rw (less c) (abs-negative (c .before .args .x) (rw (same-x (c .before)) at (c .if1 .taken)))) (λ c. search needs))

@@ -18,4 +18,7 @@ returns c =
     (rest .ensures ∙ ap (withOnes (whole .last .0) (8 * k + 0)) (omega arith)) (omega arith) (omega arith) (omega arith)
 
 pub ones-from-edge-spec : {M : Type 1} → statement M
-ones-from-edge-spec = tie.close (tie.spec (λ c κs. (λ i. c .before .slice-known .given i .fits, (omega arith, omega arith))) (λ c κs. search needs) (λ c. search needs) returns)
+ones-from-edge-spec =
+    tie.close
+    (tie.spec
+    (λ c κs. (λ i. c .before .slice-known .given i .fits, (omega arith, omega arith))) (λ c κs. search needs) (λ c. search needs) returns)

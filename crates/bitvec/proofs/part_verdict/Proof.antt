@@ -6,4 +6,8 @@ use Rattle.bitvec.proofs.part_verdict.Statement.{statement}
 use Rattle.bitvec.proofs.part_verdict.Tie as tie
 
 pub part-verdict-spec : {M : Type 1} → statement M
-part-verdict-spec = tie.close (tie.spec (λ c κs. search needs) (λ c. judged _ _ _ (rw (sym (c .before .is-part .ensures) ∙ c .if1 .taken))) (λ c. judged _ _ _ (rw (sym (c .before .is-part .ensures) ∙ c .if1 .left))))
+part-verdict-spec =
+    tie.close
+    (tie.spec
+    (λ c κs. search needs) (λ c. judged _ _ _ (rw (sym (c .before .is-part .ensures) ∙ c .if1 .taken)))
+    (λ c. judged _ _ _ (rw (sym (c .before .is-part .ensures) ∙ c .if1 .left))))

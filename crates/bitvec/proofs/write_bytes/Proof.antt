@@ -19,4 +19,6 @@ returns c =
 pub write-bytes-spec : {M : Type 1} → statement M
 write-bytes-spec =
     tie.close
-    (tie.spec (λ c κs. (λ i. c .before .before .before .slice-known .given i .fits, (omega arith, omega arith))) shift-bytes-requires (λ c. search needs) returns (λ c. search needs) (λ c. search needs))
+    (tie.spec
+    (λ c κs. (λ i. c .before .before .before .slice-known .given i .fits, (omega arith, omega arith))) shift-bytes-requires (λ c. search needs) returns
+    (λ c. search needs) (λ c. search needs))

@@ -48,4 +48,6 @@ returns-2 c = all-ends bitClear (part (c .before .before .args .file .now) 24) 2
 pub bits-clear-spec : {M : Type 1} → statement M
 bits-clear-spec =
     tie.close
-    (tie.spec Inv-loop μ-loop (λ c. (omega arith, all-starts bitClear (part (c .args .file .now) 24) 27 7 (c .args .count))) (λ c. omega arith) (λ c. omega arith) (λ c. omega arith) returns (λ c. omega arith) (λ c. omega arith) loop-again returns-2)
+    (tie.spec
+    Inv-loop μ-loop (λ c. (omega arith, all-starts bitClear (part (c .args .file .now) 24) 27 7 (c .args .count))) (λ c. omega arith) (λ c. omega arith)
+    (λ c. omega arith) returns (λ c. omega arith) (λ c. omega arith) loop-again returns-2)

@@ -26,4 +26,8 @@ loop-again c = (
 )
 
 pub is-zero-spec : {M : Type 1} → statement M
-is-zero-spec = tie.close (tie.spec Inv-loop μ-loop (λ c. (omega arith, refl)) (λ c. omega arith) returns (λ c. omega arith) (λ c. omega arith) loop-again (λ c. zero-ends (c .before .before .args .word .now) (c .before .loop .i) (omega arith) (c .before .loop .inv .1)))
+is-zero-spec =
+    tie.close
+    (tie.spec
+    Inv-loop μ-loop (λ c. (omega arith, refl)) (λ c. omega arith) returns (λ c. omega arith) (λ c. omega arith) loop-again
+    (λ c. zero-ends (c .before .before .args .word .now) (c .before .loop .i) (omega arith) (c .before .loop .inv .1)))

@@ -24,4 +24,8 @@ unfolding begins2
 returns-2 c = rw (there (c .before)) refl
 
 pub begins2-spec : {M : Type 1} → statement M
-begins2-spec = tie.close (tie.spec (λ c κs. search needs) returns (λ c. omega (arith, field-ends (c .before .before .before .before .args .file .now) 16 1 0 (there (c .before)))) returns-2)
+begins2-spec =
+    tie.close
+    (tie.spec
+    (λ c κs. search needs) returns (λ c. omega (arith, field-ends (c .before .before .before .before .args .file .now) 16 1 0 (there (c .before))))
+    returns-2)

@@ -17,4 +17,7 @@ returns-3 c =
     leb-same (a .at) (a .size - a .len - 3) (a .at + 3 + a .len) (a .size) (λ h. omega arith) (λ h. omega arith)
 
 pub is-whole-spec : {M : Type 1} → statement M
-is-whole-spec = tie.close (tie.spec (λ c. sym (lt-leb (c .before .args .at + 3 + c .before .args .len) (c .before .args .size) (omega arith))) returns-2 (λ c. search needs) returns-3)
+is-whole-spec =
+    tie.close
+    (tie.spec
+    (λ c. sym (lt-leb (c .before .args .at + 3 + c .before .args .len) (c .before .args .size) (omega arith))) returns-2 (λ c. search needs) returns-3)

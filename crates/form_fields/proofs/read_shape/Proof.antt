@@ -15,4 +15,7 @@ returns c =
     form-is (kindOf file) file (c .read-as .ensures ∙ ap (λ (k : Kind). formIn k file) (c .before .kind-of .ensures))
 
 pub read-shape-spec : {M : Type 1} → statement M
-read-shape-spec = tie.close (tie.spec (λ c κs. search needs) (λ c κs. subst Known (sym (c .kind-of .ensures)) (kind-known (c .before .before .args .file .now))) returns)
+read-shape-spec =
+    tie.close
+    (tie.spec
+    (λ c κs. search needs) (λ c κs. subst Known (sym (c .kind-of .ensures)) (kind-known (c .before .before .args .file .now))) returns)

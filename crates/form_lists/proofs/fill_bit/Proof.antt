@@ -7,4 +7,8 @@ use Rattle.form_lists.proofs.fill_bit.Statement.{statement}
 use Rattle.form_lists.proofs.fill_bit.Tie as tie
 
 pub fill-bit-spec : {M : Type 1} → statement M
-fill-bit-spec = tie.close (tie.spec (λ c. rw (le-ltb 23 (c .before .before .args .kind .bank) (omega arith)) refl) (λ c. search needs) (λ c. search needs) (λ c. rw (lt-ltb 23 (c .before .before .before .args .kind .bank) (omega arith)) refl))
+fill-bit-spec =
+    tie.close
+    (tie.spec
+    (λ c. rw (le-ltb 23 (c .before .before .args .kind .bank) (omega arith)) refl) (λ c. search needs) (λ c. search needs)
+    (λ c. rw (lt-ltb 23 (c .before .before .before .args .kind .bank) (omega arith)) refl))

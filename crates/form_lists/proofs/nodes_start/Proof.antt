@@ -28,4 +28,7 @@ returns c =
 
 pub nodes-start-spec : {M : Type 1} → statement M
 nodes-start-spec =
-    tie.close (tie.spec (λ c κs. search needs) (λ c. omega (arith, fits c)) (λ c. omega (arith, bank (c .before))) (λ c. omega (arith, fits (c .before))) (λ c. omega (arith, fits (c .before))) returns)
+    tie.close
+    (tie.spec
+    (λ c κs. search needs) (λ c. omega (arith, fits c)) (λ c. omega (arith, bank (c .before))) (λ c. omega (arith, fits (c .before)))
+    (λ c. omega (arith, fits (c .before))) returns)

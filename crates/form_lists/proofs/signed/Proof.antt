@@ -39,4 +39,7 @@ module _ (w : ℕ) (large : 9223372036854775808 ≤ w) (word : w < 2 ^ 64) where
 
 pub signed-spec : {M : Type 1} → statement M
 signed-spec =
-    tie.close (tie.spec (λ c. search needs) (λ c. search needs) (λ c. search needs) (λ c. below-fits (c .before .args .w) (c .if1 .left) (c .before .fits .w .fits)) (λ c. search needs) (λ c. below-is (c .before .args .w) (c .if1 .left) (c .before .fits .w .fits)))
+    tie.close
+    (tie.spec
+    (λ c. search needs) (λ c. search needs) (λ c. search needs) (λ c. below-fits (c .before .args .w) (c .if1 .left) (c .before .fits .w .fits))
+    (λ c. search needs) (λ c. below-is (c .before .args .w) (c .if1 .left) (c .before .fits .w .fits)))

@@ -13,4 +13,8 @@ room c =
     omega (arith, h .place, writes-long h, header-length 16 1)
 
 pub write-head-spec : {M : Type 1} → statement M
-write-head-spec = tie.close (tie.spec (λ c κs. (omega arith, omega arith)) (λ c. omega (arith, room c)) (λ c. omega (arith, room c)) (λ c. simp length-set (writes-long (c .before .before .write-header .ensures))) (λ c. head-written (c .before .before .write-header .ensures)))
+write-head-spec =
+    tie.close
+    (tie.spec
+    (λ c κs. (omega arith, omega arith)) (λ c. omega (arith, room c)) (λ c. omega (arith, room c))
+    (λ c. simp length-set (writes-long (c .before .before .write-header .ensures))) (λ c. head-written (c .before .before .write-header .ensures)))

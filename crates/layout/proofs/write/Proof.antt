@@ -60,4 +60,8 @@ returns-2 c =
     }
 
 pub write-spec : {M : Type 1} → statement M
-write-spec = tie.close (tie.spec (λ c κs. search needs) (λ c. search needs) (λ c. search needs) (λ c. search needs) (λ c. absurd (never-short (sym (whole (reported (c .before .before))) ∙ c .enum-told .given .1))) (λ c κs. search needs) (λ c. search needs) returns-2)
+write-spec =
+    tie.close
+    (tie.spec
+    (λ c κs. search needs) (λ c. search needs) (λ c. search needs) (λ c. search needs)
+    (λ c. absurd (never-short (sym (whole (reported (c .before .before))) ∙ c .enum-told .given .1))) (λ c κs. search needs) (λ c. search needs) returns-2)

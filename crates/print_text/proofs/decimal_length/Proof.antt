@@ -24,4 +24,7 @@ returns c =
 
 pub decimal-length-spec : {M : Type 1} → statement M
 decimal-length-spec =
-    tie.close (tie.spec Inv-loop μ-loop (λ c. omega arith) (λ c. omega arith) (λ c. omega arith) (λ c. omega (arith, length-more (c .before .loop .left) (c .loop-test .taken))) returns)
+    tie.close
+    (tie.spec
+    Inv-loop μ-loop (λ c. omega arith) (λ c. omega arith) (λ c. omega arith)
+    (λ c. omega (arith, length-more (c .before .loop .left) (c .loop-test .taken))) returns)

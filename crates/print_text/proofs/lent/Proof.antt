@@ -5,4 +5,7 @@ use Rattle.print_text.proofs.lent.Statement.{statement}
 use Rattle.print_text.proofs.lent.Tie as tie
 
 pub lent-spec : {M : Type 1} → statement M
-lent-spec = tie.close (tie.spec (λ c. ⊎-elim (λ w. omega arith) (λ w. omega arith) (c .before .if1 .came)) (λ c. ⊎-elim (λ w. omega arith) (λ w. omega arith) (c .before .if1 .came)))
+lent-spec =
+    tie.close
+    (tie.spec
+    (λ c. ⊎-elim (λ w. omega arith) (λ w. omega arith) (c .before .if1 .came)) (λ c. ⊎-elim (λ w. omega arith) (λ w. omega arith) (c .before .if1 .came)))

@@ -59,4 +59,7 @@ returns-2 c =
     absurd (put-fits (fits s) (d .put-refusal .ensures) (c .enum-told .given .1))
 
 pub write-refusal-spec : {M : Type 1} → statement M
-write-refusal-spec = tie.close (tie.spec (λ c κs. search needs) (λ c. search needs) (λ c. search needs) (λ c. search needs) returns (λ c. search needs) returns-2)
+write-refusal-spec =
+    tie.close
+    (tie.spec
+    (λ c κs. search needs) (λ c. search needs) (λ c. search needs) (λ c. search needs) returns (λ c. search needs) returns-2)

@@ -14,5 +14,9 @@ returns c =
     (omega (arith, w .1, c .before .before .before .before .before .before .before .before .before .before .pre)) (c .print .ensures))
 
 pub hand-spec : {M : Type 1} → statement M
-hand-spec = tie.close
-    (tie.spec (λ c. search needs) (λ c κs. omega (arith, c .before .before .before .before .before .pre)) (λ c κs. search needs) (λ c. search needs) (λ c κs. search needs) (λ c. search needs) returns (λ c. search needs) (λ c. rw (c .before .before .before .answer2 .given .1) (c .print2 .ensures, refl)))
+hand-spec =
+    tie.close
+    (tie.spec
+    (λ c. search needs) (λ c κs. omega (arith, c .before .before .before .before .before .pre)) (λ c κs. search needs) (λ c. search needs)
+    (λ c κs. search needs) (λ c. search needs) returns (λ c. search needs)
+    (λ c. rw (c .before .before .before .answer2 .given .1) (c .print2 .ensures, refl)))

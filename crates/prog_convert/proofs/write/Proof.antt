@@ -12,4 +12,8 @@ returns-2 c = rw (ne-eqb (c .before .before .before .before .before .before .bef
     (c .before .before .write-form2 .ensures)
 
 pub write-spec : {M : Type 1} → statement M
-write-spec = tie.close (tie.spec (λ c κs. search needs) (λ c. search needs) (λ c. rw (c .before .before .before .before .if1 .taken) (c .before .before .write-form1 .ensures)) (λ c κs. search needs) (λ c. search needs) returns-2)
+write-spec =
+    tie.close
+    (tie.spec
+    (λ c κs. search needs) (λ c. search needs) (λ c. rw (c .before .before .before .before .if1 .taken) (c .before .before .write-form1 .ensures))
+    (λ c κs. search needs) (λ c. search needs) returns-2)

@@ -17,4 +17,8 @@ returns c =
     (c .before .before .hand .ensures)
 
 pub write-form1-spec : {M : Type 1} → statement M
-write-form1-spec = tie.close (tie.spec (λ c κs. search needs) (λ c κs. omega (arith, c .before .before .before .before .before .before .before .pre, c .before .before .out .given)) (λ c. search needs) returns)
+write-form1-spec =
+    tie.close
+    (tie.spec
+    (λ c κs. search needs) (λ c κs. omega (arith, c .before .before .before .before .before .before .before .pre, c .before .before .out .given))
+    (λ c. search needs) returns)

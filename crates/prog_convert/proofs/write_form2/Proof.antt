@@ -18,4 +18,8 @@ returns c =
     (c .before .before .hand .ensures)
 
 pub write-form2-spec : {M : Type 1} → statement M
-write-form2-spec = tie.close (tie.spec (λ c κs. search needs) (λ c κs. omega (arith, c .before .before .before .before .before .before .before .pre, c .before .before .out .given)) (λ c. search needs) returns)
+write-form2-spec =
+    tie.close
+    (tie.spec
+    (λ c κs. search needs) (λ c κs. omega (arith, c .before .before .before .before .before .before .before .pre, c .before .before .out .given))
+    (λ c. search needs) returns)

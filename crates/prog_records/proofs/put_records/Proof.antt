@@ -30,7 +30,8 @@ puts d e =
 
 returns : tie.Need-returns
 returns c =
-    let told = puts (c .before .before .before .before .before .before .before .before .before) (c .before .before .before .before .before .written .given .1) in
+    let told = puts (c .before .before .before .before .before .before .before .before .before)
+    (c .before .before .before .before .before .written .given .1) in
     rw (told .0, ← told .1) (c .before .before .put-refused .ensures)
 
 pub put-records-spec : {M : Type 1} → statement M

@@ -85,9 +85,10 @@ returns-2 c =
     let s = begin d in
     let n = c .before .before .before .before .before .before .before .before .found2 .given .0 .0 in
     let f = c .before .before .before .before .before .before .before .before .found2 .given .1 in
+    let read = c .before .before .before .before .before .before .before .before .before .before .before .before .before .before in
     let puts = puts-records (new d .bytes) (take n (new d .offsets)) (take n (new d .sizes)) (s .args .load) (s .args .out .now)
-    (λ i. c .before .before .before .before .before .before .before .before .before .before .before .before .before .before .slice-known5 .given i .fits) (long d n f ∙ sym (wide d n f))
-    (omega (arith, c .before .before .before .before .before .before .before .before .before .before .before .before .before .before .before .bytes .given, s .pre .0, small d n f, long d n f, s .pre .1 .1 .1)) refusalText (s .args .format)
+    (λ i. read .slice-known5 .given i .fits) (long d n f ∙ sym (wide d n f))
+    (omega (arith, read .before .bytes .given, s .pre .0, small d n f, long d n f, s .pre .1 .1 .1)) refusalText (s .args .format)
     (c .before .before .write .ensures) in
     turns (s .args .kind) (s .args .format) (s .args .load) (s .args .source .now) (old d) (s .pre .0) (s .pre .1 .0) (s .pre .1 .1 .0)
     (d .read .result) (new d) (d .read .ensures) n f (c .before .before .write .result) _ _ puts

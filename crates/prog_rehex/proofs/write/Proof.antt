@@ -9,4 +9,7 @@ returns c = shown-whole (c .before .before .before .before .before .before .befo
     (c .print .ensures)
 
 pub write-spec : {M : Type 1} → statement M
-write-spec = tie.close (tie.spec (λ c κs. search needs) (λ c κs. search needs) (λ c. search needs) (λ c. search needs) (λ c. search needs) (λ c. search needs) returns)
+write-spec =
+    tie.close
+    (tie.spec
+    (λ c κs. search needs) (λ c κs. search needs) (λ c. search needs) (λ c. search needs) (λ c. search needs) (λ c. search needs) returns)

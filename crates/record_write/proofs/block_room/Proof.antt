@@ -70,5 +70,8 @@ returns c =
     )
 
 pub block-room-spec : {M : Type 1} → statement M
-block-room-spec = tie.close (tie.spec Inv-loop μ-loop loop-holds (λ c. search needs) (λ c κs. search needs) cast-piece-room (λ c κs. c .piece-length .ensures .1 .0) add-at
-    cast-state add-here add-k loop-less loop-again returns)
+block-room-spec =
+    tie.close
+    (tie.spec
+    Inv-loop μ-loop loop-holds (λ c. search needs) (λ c κs. search needs) cast-piece-room (λ c κs. c .piece-length .ensures .1 .0) add-at cast-state
+    add-here add-k loop-less loop-again returns)

@@ -42,5 +42,8 @@ returns-4 c =
     )
 
 pub piece-room-spec : {M : Type 1} → statement M
-piece-room-spec = tie.close (tie.spec (λ c. search needs) (λ c. search needs) returns (λ c. search needs) (λ c. search needs) returns-2 (λ c. search needs) (λ c. search needs) returns-3 (λ c. search needs)
-    (λ c. search needs) returns-4)
+piece-room-spec =
+    tie.close
+    (tie.spec
+    (λ c. search needs) (λ c. search needs) returns (λ c. search needs) (λ c. search needs) returns-2 (λ c. search needs) (λ c. search needs) returns-3
+    (λ c. search needs) (λ c. search needs) returns-4)

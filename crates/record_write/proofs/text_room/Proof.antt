@@ -54,5 +54,9 @@ returns c =
     (l .i) (l .inv) (c .before .loop-test .left) (c .end-room .result) (c .end-room .ensures .0)
 
 pub text-room-spec : {M : Type 1} → statement M
-text-room-spec = tie.close (tie.spec Inv-loop μ-loop loop-holds (λ c. search needs) (λ c. let e = c .before .before .before .before .before .before .pre .paired in omega arith) (λ c. search needs) (λ c. search needs)
-    (λ c. omega (arith, c .shared-slice-known5 .given (c .before .before .before .loop .i))) block-room-requires (λ c. search needs) (λ c. search needs) loop-again (λ c κs. search needs) add-result returns)
+text-room-spec =
+    tie.close
+    (tie.spec
+    Inv-loop μ-loop loop-holds (λ c. search needs) (λ c. let e = c .before .before .before .before .before .before .pre .paired in omega arith)
+    (λ c. search needs) (λ c. search needs) (λ c. omega (arith, c .shared-slice-known5 .given (c .before .before .before .loop .i))) block-room-requires
+    (λ c. search needs) (λ c. search needs) loop-again (λ c κs. search needs) add-result returns)

@@ -51,5 +51,7 @@ returns-4 c =
     (c .before .before .write-blocks .ensures .part)
 
 pub write-spec : {M : Type 1} → statement M
-write-spec = tie.close (tie.spec (λ c κs. search needs) returns (λ c κs. search needs) returns-2 text-room-requires returns-3 write-blocks-requires (λ c. search needs)
-    returns-4)
+write-spec =
+    tie.close
+    (tie.spec
+    (λ c κs. search needs) returns (λ c κs. search needs) returns-2 text-room-requires returns-3 write-blocks-requires (λ c. search needs) returns-4)

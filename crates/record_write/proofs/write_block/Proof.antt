@@ -114,6 +114,10 @@ returns c =
     )
 
 pub write-block-spec : {M : Type 1} → statement M
-write-block-spec = tie.close (tie.spec Inv-loop μ-loop loop-holds (λ c. search needs) (λ c κs. search needs) (λ c. search needs) (λ c. let r = c .before .before .loop .inv .room in omega arith) (λ c. let r = c .before .before .loop .inv .room in omega arith)
-    (λ c. search needs) cast-put-piece (λ c. search needs) (λ c. search needs) part-put-piece-end-2 put-piece-requires add-at cast-state (λ c. search needs) loop-less
+write-block-spec =
+    tie.close
+    (tie.spec
+    Inv-loop μ-loop loop-holds (λ c. search needs) (λ c κs. search needs) (λ c. search needs)
+    (λ c. let r = c .before .before .loop .inv .room in omega arith) (λ c. let r = c .before .before .loop .inv .room in omega arith) (λ c. search needs)
+    cast-put-piece (λ c. search needs) (λ c. search needs) part-put-piece-end-2 put-piece-requires add-at cast-state (λ c. search needs) loop-less
     loop-again (λ c. c .before .loop .inv .long) returns)

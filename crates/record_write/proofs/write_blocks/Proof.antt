@@ -101,5 +101,11 @@ add-result c =
     )
 
 pub write-blocks-spec : {M : Type 1} → statement M
-write-blocks-spec = tie.close (tie.spec Inv-loop μ-loop loop-holds (λ c. search needs) (λ c. search needs) (λ c. search needs) (λ c. let e = c .before .before .before .before .before .before .before .before .pre .0 .paired in omega arith) add-end (λ c. omega (arith, c .before .shared-slice-known4 .given (c .before .before .before .loop .i)))
-    write-block-requires (λ c. search needs) (λ c. search needs) loop-again sub-put-end part-put-end-start (λ c. search needs) put-end-requires add-result (λ c. puts-long (written c)) (λ c. written c))
+write-blocks-spec =
+    tie.close
+    (tie.spec
+    Inv-loop μ-loop loop-holds (λ c. search needs) (λ c. search needs) (λ c. search needs)
+    (λ c. let e = c .before .before .before .before .before .before .before .before .pre .0 .paired in omega arith) add-end
+    (λ c. omega (arith, c .before .shared-slice-known4 .given (c .before .before .before .loop .i))) write-block-requires (λ c. search needs)
+    (λ c. search needs) loop-again sub-put-end part-put-end-start (λ c. search needs) put-end-requires add-result (λ c. puts-long (written c))
+    (λ c. written c))

@@ -5,4 +5,7 @@ use Rattle.denkumari.proofs.stores.dk_offer.Statement.{statement}
 use Rattle.denkumari.proofs.stores.dk_offer.Tie as tie
 
 pub dk-offer-spec : {M : Type 1} → statement M
-dk-offer-spec = tie.close (tie.spec (λ c κs. search needs) (λ c κs. search needs) (λ c. told-call _ _ _ _ _ _ _ _ _ (c .before .check-and-insert .ensures) (c .tell-offer .ensures)))
+dk-offer-spec =
+    tie.close
+    (tie.spec
+    (λ c κs. search needs) (λ c κs. search needs) (λ c. told-call _ _ _ _ _ _ _ _ _ (c .before .check-and-insert .ensures) (c .tell-offer .ensures)))

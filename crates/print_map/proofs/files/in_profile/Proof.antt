@@ -36,4 +36,7 @@ returns-2 c =
     ∙ verdict-is (verdictOf (b .banks) (b .lists) (b .choices .fill) (p .0 .0)) (p .0 .0) (b .banks)))
 
 pub in-profile-spec : {M : Type 1} → statement M
-in-profile-spec = tie.close (tie.spec (λ c. search needs) (λ c. search needs) (λ c κs. search needs) (λ c κs. search needs) (λ c. rw (c .enum-told .given .1) refl) returns-2)
+in-profile-spec =
+    tie.close
+    (tie.spec
+    (λ c. search needs) (λ c. search needs) (λ c κs. search needs) (λ c κs. search needs) (λ c. rw (c .enum-told .given .1) refl) returns-2)

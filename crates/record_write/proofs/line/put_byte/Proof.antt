@@ -24,4 +24,7 @@ returns c =
     (s, ap length s ∙ length-sets (a .out .now) (a .at) (byteText (a .b)))
 
 pub put-byte-spec : {M : Type 1} → statement M
-put-byte-spec = tie.close (tie.spec (λ c κs. search needs) (λ c. search needs) (λ c κs. search needs) (λ c. search needs) slice-write-out-2 (λ c. search needs) returns)
+put-byte-spec =
+    tie.close
+    (tie.spec
+    (λ c κs. search needs) (λ c. search needs) (λ c κs. search needs) (λ c. search needs) slice-write-out-2 (λ c. search needs) returns)

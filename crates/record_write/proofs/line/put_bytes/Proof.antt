@@ -40,5 +40,8 @@ returns c =
     (l .inv .1 ∙ ap (λ (x : List ℕ). sets (a .out .now) (a .at) (bytesText x)) whole, l .inv .2)
 
 pub put-bytes-spec : {M : Type 1} → statement M
-put-bytes-spec = tie.close (tie.spec Inv-loop μ-loop loop-holds (λ c. omega (arith, c .before .before .before .before .before .pre, c .before .before .loop .inv .0)) (λ c. search needs) (λ c. search needs) (λ c κs. search needs) (λ c. search needs) (λ c. search needs)
-    loop-again (λ c. c .before .loop .inv .2) returns)
+put-bytes-spec =
+    tie.close
+    (tie.spec
+    Inv-loop μ-loop loop-holds (λ c. omega (arith, c .before .before .before .before .before .pre, c .before .before .loop .inv .0)) (λ c. search needs)
+    (λ c. search needs) (λ c κs. search needs) (λ c. search needs) (λ c. search needs) loop-again (λ c. c .before .loop .inv .2) returns)

@@ -70,6 +70,9 @@ returns-3 c =
     (c .before .before .put-long .ensures)
 
 pub put-end-spec : {M : Type 1} → statement M
-put-end-spec = tie.close (tie.spec (λ c. search needs) (λ c. search needs) (λ c. search needs) put-record-requires (λ c. search needs) returns (λ c. search needs)
-    (λ c. search needs) (λ c. search needs) put-short-requires (λ c. search needs) returns-2 (λ c. search needs) (λ c. search needs) (λ c. search needs) put-long-requires
+put-end-spec =
+    tie.close
+    (tie.spec
+    (λ c. search needs) (λ c. search needs) (λ c. search needs) put-record-requires (λ c. search needs) returns (λ c. search needs) (λ c. search needs)
+    (λ c. search needs) put-short-requires (λ c. search needs) returns-2 (λ c. search needs) (λ c. search needs) (λ c. search needs) put-long-requires
     (λ c. search needs) returns-3)

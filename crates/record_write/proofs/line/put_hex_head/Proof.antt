@@ -57,4 +57,8 @@ returns c =
     )
 
 pub put-hex-head-spec : {M : Type 1} → statement M
-put-hex-head-spec = tie.close (tie.spec (λ c. search needs) (λ c κs. omega (arith, length-set (c .before .before .args .out .now) 0 58, c .before .before .pre)) put-byte-requires-2 put-byte-requires-3 put-byte-requires-4 same-length returns)
+put-hex-head-spec =
+    tie.close
+    (tie.spec
+    (λ c. search needs) (λ c κs. omega (arith, length-set (c .before .before .args .out .now) 0 58, c .before .before .pre)) put-byte-requires-2
+    put-byte-requires-3 put-byte-requires-4 same-length returns)

@@ -70,4 +70,7 @@ returns-3 c =
     .put-long .ensures)
 
 pub put-piece-spec : {M : Type 1} → statement M
-put-piece-spec = tie.close (tie.spec put-hex-requires (λ c. search needs) returns put-short-requires (λ c. search needs) returns-2 put-long-requires (λ c. search needs) returns-3)
+put-piece-spec =
+    tie.close
+    (tie.spec
+    put-hex-requires (λ c. search needs) returns put-short-requires (λ c. search needs) returns-2 put-long-requires (λ c. search needs) returns-3)

@@ -47,4 +47,8 @@ returns c =
     )
 
 pub put-s-head-spec : {M : Type 1} → statement M
-put-s-head-spec = tie.close (tie.spec (λ c. search needs) (λ c. omega (arith, length-set (c .before .args .out .now) 0 83, c .before .pre)) put-byte-requires put-byte-requires-2 put-byte-requires-3 same-length returns)
+put-s-head-spec =
+    tie.close
+    (tie.spec
+    (λ c. search needs) (λ c. omega (arith, length-set (c .before .args .out .now) 0 83, c .before .pre)) put-byte-requires put-byte-requires-2
+    put-byte-requires-3 same-length returns)

@@ -26,4 +26,8 @@ returns c =
     )
 
 pub put-tail-spec : {M : Type 1} → statement M
-put-tail-spec = tie.close (tie.spec (λ c. search needs) (λ c. search needs) (λ c κs. search needs) (λ c κs. search needs) (λ c. search needs) (λ c. search needs) (λ c. search needs) same-length returns)
+put-tail-spec =
+    tie.close
+    (tie.spec
+    (λ c. search needs) (λ c. search needs) (λ c κs. search needs) (λ c κs. search needs) (λ c. search needs) (λ c. search needs) (λ c. search needs)
+    same-length returns)
