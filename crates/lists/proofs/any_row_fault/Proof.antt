@@ -21,12 +21,6 @@ given s = lists (s .args .kinds .now) (s .args .operands .now) (s .args .numbers
 loop-holds : tie.Need-loop-holds Inv-loop μ-loop
 loop-holds c = (search needs, no-row (given (c .before .before .before .before .before)) (c .before .before .before .before .before .args .i))
 
-row-node-requires : tie.Need-row-node-requires Inv-loop μ-loop
-row-node-requires c κs = (c .before .before .before .before .before .before .before .pre .0, c .loop-test .taken)
-
-row-fault-requires : tie.Need-row-fault-requires Inv-loop μ-loop
-row-fault-requires c κs = search needs
-
 returns : tie.Need-returns Inv-loop μ-loop
 returns c =
     let s = c .before .before .before .before .before .before .before .before .before .before in
@@ -34,12 +28,6 @@ returns c =
     (sym (c .if1 .taken)
     ∙ row-read (given s) (s .args .i) (c .before .before .before .before .loop .r) (s .pre .1) (c .before .before .row-node .ensures)
     (c .before .row-fault .ensures))
-
-add-r : tie.Need-add-r Inv-loop μ-loop
-add-r c = omega arith
-
-loop-less : tie.Need-loop-less Inv-loop μ-loop
-loop-less c = omega arith
 
 loop-again : tie.Need-loop-again Inv-loop μ-loop
 loop-again c =
@@ -60,13 +48,5 @@ pub any-row-fault-spec : {M : Type 1} → statement M
 any-row-fault-spec =
     tie.close
     (tie.spec
-    Inv-loop
-    μ-loop
-    loop-holds
-    row-node-requires
-    row-fault-requires
-    returns
-    add-r
-    loop-less
-    loop-again
-    returns-2)
+    Inv-loop μ-loop loop-holds (λ c κs. (c .before .before .before .before .before .before .before .pre .0, c .loop-test .taken))
+    (λ c κs. search needs) returns (λ c. omega arith) (λ c. omega arith) loop-again returns-2)

@@ -12,16 +12,10 @@ use Rattle.lists.proofs.check_lists.Tie as tie
 abbrev given : tie.Start → Lists
 given s = lists (s .args .kinds .now) (s .args .operands .now) (s .args .numbers .now) (s .args .states .now) (s .args .rows) (s .args .values .now)
 
-malformed-requires : tie.Need-malformed-requires
-malformed-requires c κs = search needs
-
 returns : tie.Need-returns
 returns c = let s = c .before .before .before .before .before .before .before in
     lists-told (s .args .banks) (given s) (s .args .fill) (c .malformed .ensures ∙ too-many-nodes (s .args .banks) (given s)
     (s .args .fill) (c .before .if1 .taken))
-
-malformed-requires-2 : tie.Need-malformed-requires-2
-malformed-requires-2 c κs = search needs
 
 returns-2 : tie.Need-returns-2
 returns-2 c = let s = c .before .before .before .before .before .before .before .before in
@@ -29,37 +23,22 @@ returns-2 c = let s = c .before .before .before .before .before .before .before 
     (c .before .before .if1 .left)
     (c .before .if2 .taken))
 
-malformed-requires-3 : tie.Need-malformed-requires-3
-malformed-requires-3 c κs = search needs
-
 returns-3 : tie.Need-returns-3
 returns-3 c = let s = c .before .before .before .before .before .before .before .before .before in
     lists-told (s .args .banks) (given s) (s .args .fill) (c .malformed3 .ensures ∙ no-rows (s .args .banks) (given s) (s .args .fill)
     (c .before .before .before .if1 .left)
     (c .before .before .if2 .left) (c .before .if3 .taken))
 
-malformed-requires-4 : tie.Need-malformed-requires-4
-malformed-requires-4 c κs = search needs
-
 returns-4 : tie.Need-returns-4
 returns-4 c = let s = c .before .before .before .before .before .before .before .before .before .before in
     lists-told (s .args .banks) (given s) (s .args .fill) (c .malformed4 .ensures ∙ too-many-rows (s .args .banks) (given s) (s .args .fill)
     (c .before .before .before .before .if1 .left) (c .before .before .before .if2 .left) (c .before .before .if3 .left) (c .before .if4 .taken))
-
-mul-cells : tie.Need-mul-cells
-mul-cells c = let h = mul-le-mul (c .if4 .left) (c .before .before .before .if1 .left) in omega arith
-
-malformed-requires-5 : tie.Need-malformed-requires-5
-malformed-requires-5 c κs = search needs
 
 returns-5 : tie.Need-returns-5
 returns-5 c = let s = c .before .before .before .before .before .before .before .before .before .before .before in
     lists-told (s .args .banks) (given s) (s .args .fill) (c .malformed5 .ensures ∙ other-numbers (s .args .banks) (given s) (s .args .fill)
     (c .before .before .before .before .before .if1 .left) (c .before .before .before .before .if2 .left) (c .before .before .before .if3 .left)
     (c .before .before .if4 .left) (c .before .if5 .taken))
-
-malformed-requires-6 : tie.Need-malformed-requires-6
-malformed-requires-6 c κs = search needs
 
 returns-6 : tie.Need-returns-6
 returns-6 c = let s = c .before .before .before .before .before .before .before .before .before .before .before .before in
@@ -68,9 +47,6 @@ returns-6 c = let s = c .before .before .before .before .before .before .before 
     (c .before .before .before .before .if3 .left) (c .before .before .before .if4 .left) (c .before .before .if5 .left)
     (c .before .if6 .taken))
 
-malformed-requires-7 : tie.Need-malformed-requires-7
-malformed-requires-7 c κs = search needs
-
 returns-7 : tie.Need-returns-7
 returns-7 c =
     let s = c .before .before .before .before .before .before .before .before .before .before .before .before .before in
@@ -78,9 +54,6 @@ returns-7 c =
     (c .before .before .before .before .before .before .before .if1 .left) (c .before .before .before .before .before .before .if2 .left)
     (c .before .before .before .before .before .if3 .left) (c .before .before .before .before .if4 .left)
     (c .before .before .before .if5 .left) (c .before .before .if6 .left) (omega (arith, c .before .if7 .taken)))
-
-check-nodes-requires : tie.Need-check-nodes-requires
-check-nodes-requires c κs = search needs
 
 returns-8 : tie.Need-returns-8
 returns-8 c =
@@ -94,20 +67,6 @@ pub check-lists-spec : {M : Type 1} → statement M
 check-lists-spec =
     tie.close
     (tie.spec
-    malformed-requires
-    returns
-    malformed-requires-2
-    returns-2
-    malformed-requires-3
-    returns-3
-    malformed-requires-4
-    returns-4
-    mul-cells
-    malformed-requires-5
-    returns-5
-    malformed-requires-6
-    returns-6
-    malformed-requires-7
-    returns-7
-    check-nodes-requires
-    returns-8)
+    (λ c κs. search needs) returns (λ c κs. search needs) returns-2 (λ c κs. search needs) returns-3 (λ c κs. search needs) returns-4
+    (λ c. let h = mul-le-mul (c .if4 .left) (c .before .before .before .if1 .left) in omega arith) (λ c κs. search needs) returns-5
+    (λ c κs. search needs) returns-6 (λ c κs. search needs) returns-7 (λ c κs. search needs) returns-8)

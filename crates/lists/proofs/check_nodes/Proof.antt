@@ -20,15 +20,6 @@ abbrev μ-loop : tie.MeasureT-loop
 abbrev given : tie.Start Inv-loop μ-loop → Lists
 given s = lists (s .args .kinds .now) (s .args .operands .now) (s .args .numbers .now) (s .args .states .now) (s .args .rows) (s .args .values .now)
 
-loop-holds : tie.Need-loop-holds Inv-loop μ-loop
-loop-holds c = let s = c .before .before .before .before .before in (search needs, no-node (s .args .banks) (given s))
-
-node-fault-requires : tie.Need-node-fault-requires Inv-loop μ-loop
-node-fault-requires c κs = c .before .before .before .before .before .before .before .pre
-
-malformed-requires : tie.Need-malformed-requires Inv-loop μ-loop
-malformed-requires c κs = search needs
-
 returns : tie.Need-returns Inv-loop μ-loop
 returns c =
     let s = c .before .before .before .before .before .before .before .before .before .before in
@@ -36,12 +27,6 @@ returns c =
     ∙ node-found (s .args .banks) (given s) (length (s .args .kinds .now)) (c .before .before .before .before .loop .i)
     (c .before .before .before .loop-test .taken) (c .before .before .before .before .loop .inv .1) (c .before .before .node-fault .ensures)
     (c .before .if1 .taken)
-
-add-i : tie.Need-add-i Inv-loop μ-loop
-add-i c = omega arith
-
-loop-less : tie.Need-loop-less Inv-loop μ-loop
-loop-less c = omega arith
 
 loop-again : tie.Need-loop-again Inv-loop μ-loop
 loop-again c =
@@ -60,13 +45,6 @@ pub check-nodes-spec : {M : Type 1} → statement M
 check-nodes-spec =
     tie.close
     (tie.spec
-    Inv-loop
-    μ-loop
-    loop-holds
-    node-fault-requires
-    malformed-requires
-    returns
-    add-i
-    loop-less
-    loop-again
-    returns-2)
+    Inv-loop μ-loop (λ c. let s = c .before .before .before .before .before in (search needs, no-node (s .args .banks) (given s)))
+    (λ c κs. c .before .before .before .before .before .before .before .pre) (λ c κs. search needs) returns (λ c. omega arith) (λ c. omega arith)
+    loop-again returns-2)

@@ -4,18 +4,6 @@ use Rattle.lists.proofs.Nodes.{declared-data, other-kind}
 use Rattle.lists.proofs.node_at.Statement.{statement}
 use Rattle.lists.proofs.node_at.Tie as tie
 
-byte-at-requires : tie.Need-byte-at-requires
-byte-at-requires c κs = search needs
-
-number-at-requires : tie.Need-number-at-requires
-number-at-requires c κs = search needs
-
-byte-at-requires-2 : tie.Need-byte-at-requires-2
-byte-at-requires-2 c κs = search needs
-
-number-at-requires-2 : tie.Need-number-at-requires-2
-number-at-requires-2 c κs = search needs
-
 returns : tie.Need-returns
 returns c =
     let a = c .before .before .before .before .before .before .before .before .before .before .args in
@@ -23,9 +11,6 @@ returns c =
     (c .before .before .before .before .byte-at .ensures) (c .before .before .before .number-at .ensures) (c .before .before .byte-at2 .ensures)
     (c .before .if1 .taken)
     (c .number-at2 .ensures)
-
-number-at-requires-3 : tie.Need-number-at-requires-3
-number-at-requires-3 c κs = search needs
 
 returns-2 : tie.Need-returns-2
 returns-2 c =
@@ -39,10 +24,4 @@ pub node-at-spec : {M : Type 1} → statement M
 node-at-spec =
     tie.close
     (tie.spec
-    byte-at-requires
-    number-at-requires
-    byte-at-requires-2
-    number-at-requires-2
-    returns
-    number-at-requires-3
-    returns-2)
+    (λ c κs. search needs) (λ c κs. search needs) (λ c κs. search needs) (λ c κs. search needs) returns (λ c κs. search needs) returns-2)

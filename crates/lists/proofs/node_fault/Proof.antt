@@ -18,15 +18,6 @@ stated : (c : tie.At-match-came) → (3 ≤ c .before .byte-at .result) × (c .b
 stated c =
     stated-alone (c .before .byte-at .result) (⊎-elim (λ w. inl (w .keys3)) (λ w. inr (w .1 .left, w .2 .taken)) (c .match .came))
 
-byte-at-requires : tie.Need-byte-at-requires
-byte-at-requires c κs = search needs
-
-number-at-requires : tie.Need-number-at-requires
-number-at-requires c κs = search needs
-
-wide-requires : tie.Need-wide-requires
-wide-requires c κs = search needs
-
 any-row-fault-requires : tie.Need-any-row-fault-requires
 any-row-fault-requires c κs =
     let s = c .before .before .before .before .before .before .before .before in
@@ -69,13 +60,5 @@ pub node-fault-spec : {M : Type 1} → statement M
 node-fault-spec =
     tie.close
     (tie.spec
-    byte-at-requires
-    number-at-requires
-    wide-requires
-    any-row-fault-requires
-    any-row-fault-requires-2
-    returns
-    returns-2
-    returns-3
-    returns-4
-    returns-5)
+    (λ c κs. search needs) (λ c κs. search needs) (λ c κs. search needs) any-row-fault-requires any-row-fault-requires-2 returns returns-2 returns-3
+    returns-4 returns-5)

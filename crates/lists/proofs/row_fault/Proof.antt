@@ -4,17 +4,5 @@ use borrow.Author.Needs.{needs}
 use Rattle.lists.proofs.row_fault.Statement.{statement}
 use Rattle.lists.proofs.row_fault.Tie as tie
 
-returns : tie.Need-returns
-returns c = rw (lt-ltb 2 _ (c .if1 .taken))
-
-past-end-requires : tie.Need-past-end-requires
-past-end-requires c κs = search needs
-
-returns-2 : tie.Need-returns-2
-returns-2 c = rw (le-ltb 2 _ (c .before .before .if1 .left), c .before .if2 .taken) (c .past-end .ensures)
-
-returns-3 : tie.Need-returns-3
-returns-3 c = rw (le-ltb 2 _ (c .before .if1 .left), c .if2 .left)
-
 pub row-fault-spec : {M : Type 1} → statement M
-row-fault-spec = tie.close (tie.spec returns past-end-requires returns-2 returns-3)
+row-fault-spec = tie.close (tie.spec (λ c. rw (lt-ltb 2 _ (c .if1 .taken))) (λ c κs. search needs) (λ c. rw (le-ltb 2 _ (c .before .before .if1 .left), c .before .if2 .taken) (c .past-end .ensures)) (λ c. rw (le-ltb 2 _ (c .before .if1 .left), c .if2 .left)))

@@ -16,45 +16,6 @@ ends s = row-ends (s .args .r) (s .args .rows) (length (s .args .kinds .now)) (s
 first-ends : (s : tie.Start) → length (s .args .kinds .now) ≤ s .args .rows * length (s .args .kinds .now)
 first-ends s = let h = row-ends 0 (s .args .rows) (length (s .args .kinds .now)) (omega (arith, s .pre .0 .some)) in omega arith
 
-mul-a : tie.Need-mul-a
-mul-a c = omega (arith, ends (c .before .before .before .before))
-
-add-e : tie.Need-add-e
-add-e c = omega (arith, ends (c .before .before .before .before))
-
-sub-node-at : tie.Need-sub-node-at
-sub-node-at c = search needs
-
-part-node-at-start : tie.Need-part-node-at-start
-part-node-at-start c = search needs
-
-part-node-at-end : tie.Need-part-node-at-end
-part-node-at-end c = omega (arith, first-ends (c .before .before .before .before))
-
-mul-node-at : tie.Need-mul-node-at
-mul-node-at c = omega (arith, ends (c .before .before .before .before .before))
-
-sub-node-at-2 : tie.Need-sub-node-at-2
-sub-node-at-2 c = search needs
-
-part-node-at-start-2 : tie.Need-part-node-at-start-2
-part-node-at-start-2 c = search needs
-
-part-node-at-end-2 : tie.Need-part-node-at-end-2
-part-node-at-end-2 c = omega (arith, ends (c .before .before .before .before .before))
-
-sub-node-at-3 : tie.Need-sub-node-at-3
-sub-node-at-3 c = search needs
-
-part-node-at-start-3 : tie.Need-part-node-at-start-3
-part-node-at-start-3 c = search needs
-
-part-node-at-end-3 : tie.Need-part-node-at-end-3
-part-node-at-end-3 c = omega (arith, ends (c .before .before .before .before .before .before))
-
-node-at-requires : tie.Need-node-at-requires
-node-at-requires c κs = search needs
-
 returns : tie.Need-returns
 returns c =
     let a = c .before .before .before .before .before .before .before .before .args in
@@ -64,17 +25,8 @@ pub row-node-spec : {M : Type 1} → statement M
 row-node-spec =
     tie.close
     (tie.spec
-    mul-a
-    add-e
-    sub-node-at
-    part-node-at-start
-    part-node-at-end
-    mul-node-at
-    sub-node-at-2
-    part-node-at-start-2
-    part-node-at-end-2
-    sub-node-at-3
-    part-node-at-start-3
-    part-node-at-end-3
-    node-at-requires
-    returns)
+    (λ c. omega (arith, ends (c .before .before .before .before))) (λ c. omega (arith, ends (c .before .before .before .before))) (λ c. search needs)
+    (λ c. search needs) (λ c. omega (arith, first-ends (c .before .before .before .before)))
+    (λ c. omega (arith, ends (c .before .before .before .before .before))) (λ c. search needs) (λ c. search needs)
+    (λ c. omega (arith, ends (c .before .before .before .before .before))) (λ c. search needs) (λ c. search needs)
+    (λ c. omega (arith, ends (c .before .before .before .before .before .before))) (λ c κs. search needs) returns)
