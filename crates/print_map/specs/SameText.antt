@@ -7,6 +7,7 @@ use Rattle.refusal.specs.Limits.{maxBanks}
 use Rattle.refusal.specs.declared.Opt.{Opt}
 use Rattle.refusal.specs.declared.Refusal.{Refusal}
 use Rattle.bankdef.specs.declared.Bankdefs.{Bankdefs}
+use Rattle.iter.specs.Address.{addressOf}
 use Rattle.lists.specs.Lists.{Row}
 use Rattle.resolver.specs.Once.{Program, bankRecord}
 use Rattle.resolver.specs.Passes.{program, rowOfPass}
@@ -15,8 +16,9 @@ use Rattle.form_fields.specs.declared.Form.the-variants.{Sound, Broken}
 use Rattle.form_fields.specs.declared.Shape.{Shape}
 use Rattle.build_map.specs.Map.{bankShown, positionShown, outputShown, sizeShown}
 use Rattle.build_map.specs.declared.Map.{Map}
+use Rattle.print_map.specs.Cells.{Cell}
 use Rattle.print_map.specs.ReadBack.{Columns, SameColumns}
-use Rattle.print_map.specs.Text.{inputOf, mapIn, mappedText}
+use Rattle.print_map.specs.Text.{addressCell, inputOf, mapIn, mappedText}
 
 -- what is printed: a file's shape, its banks, its nodes over a row, and their map
 pub record Printed : Type 0 where
@@ -45,6 +47,10 @@ columnsOf x i =
       size = sizeShown (x .program) (x .row) i;
     }
 
+-- the address of node i, as it is printed
+abbrev pub addressAt : Printed → ℕ → Cell
+addressAt x i = addressCell (addressOf (bankRecord (x .program .banks) (columnsOf x i .bank)) (columnsOf x i .position) i)
+
 -- The same file line, bank for bank the same record and padding, node for node the same columns, the same node at fault and the same verdict.
 pub record Same (x y : Printed) : Type 0 where
   pub shape : (x .shape .form ≡ y .shape .form) × (x .shape .limit ≡ y .shape .limit) × (x .shape .rows ≡ y .shape .rows) × (x .shape .nodes ≡ y .shape .nodes)
@@ -54,6 +60,7 @@ pub record Same (x y : Printed) : Type 0 where
       → (bankRecord (x .banks) i ≡ bankRecord (y .banks) i) × (getD (x .map .padding) i 0 ≡ getD (y .map .padding) i 0)
   pub nodes : x .map .nodes ≡ y .map .nodes
   pub node : (i : ℕ) → i < x .map .nodes → SameColumns (columnsOf x i) (columnsOf y i)
+  pub address : (i : ℕ) → i < x .map .nodes → addressAt x i ≡ addressAt y i
   pub fault : x .map .fault ≡ y .map .fault
   pub verdict : x .map .verdict ≡ y .map .verdict
 

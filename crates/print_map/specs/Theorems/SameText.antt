@@ -13,7 +13,7 @@ use Rattle.print_text.specs.Ascii.{ascii}
 use Rattle.print_map.specs.Cells.{Cell, number, lineOf}
 use Rattle.print_map.specs.Text.{fileLine, banksText, nodesText, faultText, verdictText, refusedText, textBy, mapText}
 use Rattle.print_map.specs.SameText as w
-use Rattle.print_map.specs.SameText.{Printed, Same, SameFiles, textOf, bankLines, columnsOf, printedOf}
+use Rattle.print_map.specs.SameText.{Printed, Same, SameFiles, textOf, bankLines, columnsOf, addressAt, printedOf}
 use Rattle.print_map.specs.Laws.ReadBack.{same-head, line-then, cellsOf, columns-told}
 use Rattle.print_map.specs.Laws.SameText.{Apart, rowsOf, rows-tell, apart-rows, bankCells, banks-rows, nodes-rows, bank-told}
 use Rattle.print_map.specs.Laws.SameText.{above-33, apart-end, end-told, refusal-told}
@@ -58,6 +58,10 @@ module _ (x : Printed) where
       (apart-end (ascii "bank") (x .map .fault) (x .map .verdict) (λ e. omega (arith, same-head e)) (λ e. omega (arith, same-head e))
       (λ e. omega (arith, same-head e)))
 
+address-told : (x y : Printed) (i : ℕ) → cellsOf (x .program .banks) (columnsOf x i) ≡ cellsOf (y .program .banks) (columnsOf y i)
+    → addressAt x i ≡ addressAt y i
+address-told x y i e = cc
+
 -- Two maps whose texts are the same are the same, in all that is printed of them.
 pub same-text-same-map : (x y : Printed) → textOf x ≡ textOf y → Same x y
 same-text-same-map x y e =
@@ -76,6 +80,7 @@ same-text-same-map x y e =
       bank = λ i h. bank-told (x .banks) (y .banks) (x .map .padding) (y .map .padding) i (two .1 i h);
       nodes = three .0;
       node = λ i h. columns-told (x .program .banks) (y .program .banks) (columnsOf x i) (columnsOf y i) (three .1 i h);
+      address = λ i h. address-told x y i (three .1 i h);
       fault = four .0;
       verdict = four .1;
     }

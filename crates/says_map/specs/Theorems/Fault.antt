@@ -1,5 +1,5 @@
--- The node at fault, from the sentences alone: where a layout is refused for 9 to 13, the map names the first node that the build refuses in the row of the last
--- pass, and shows the nodes up to and with it. So the node of a 12 is learnt, whose own place is what it meets.
+-- The node at fault, from the sentences alone: where a layout is refused for 9 to 13, the map names the first node that the build refuses in the row of the
+-- last pass, and shows the nodes up to and with it. So the node of a 12 is learnt, whose own place is what it meets.
 use mathlib.Core.Path.{_≡_, refl}
 use mathlib.Core.Logic.{_⊎_, ⊎-elim}
 use Prim.Native.Nat.{ℕ, suc, _≤_}
