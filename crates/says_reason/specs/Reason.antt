@@ -18,7 +18,7 @@ module _ (format : ℕ) where
     s-record : {d e w top : ℕ} {p : Piece} → Not (format ≡ 0) → Width d e w top → (s ≡ 0) ⊎ (s ≡ w) → Srec either l d w (p .address) (p .bytes)
         → DataLine s l w top p
 
-  -- "lines that are bad give none": an S-record whose last address doesn't fit its width is one
+  -- "lines that are bad give none": an S-record whose last address doesn't fit its width is one, an Intel HEX record is not bad by that alone
   pub data LineGives (s : ℕ) (l : List ℕ) : (after : ℕ) → Piece → Type 0 where
     line-gives : {after top : ℕ} {p : Piece} → DataLine s l after top p → (format ≡ 0) ⊎ (p .address + length (p .bytes) ≤ top) → LineGives s l after p
 
@@ -115,6 +115,8 @@ module _ (format : ℕ) where
     pub data Twice : Why → Type 0 where
       twice : {i a : ℕ} → FirstPair (λ (k x : ℕ). (k < n) × GivesTo ls k x × GivesTo ls n x) i a → Twice (why 11 i a)
 
+    -- "its first character, digits, length, a count below 3 in S-records, checksum, type, width, count, address field, past the last address, below the load
+    -- address, given twice"
     pub data LineSays (y : Why) : Type 0 where
       line-says : {s from bare least : ℕ} {l : List ℕ} → LineAt 0 ls n s l → Form from bare least
           → Tries (λ (_ : Unit {0}). Not (Starts l)) (λ _. why 1 0 0)
