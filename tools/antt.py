@@ -258,7 +258,8 @@ def module(path):
         return None
     crate, where, rest = m.groups()
     if rest.startswith('declared.'):
-        return (crate, rest.split('.')[1])
+        # a type of a source file that is not the crate's root stands below that file's name: declared.maps.DkMap
+        return (crate, next((word for word in rest.split('.')[1:] if word[:1].isupper()), rest.split('.')[1]))
     return f'crates/{crate}/{where}/{rest.replace(".", "/")}.antt'
 
 
