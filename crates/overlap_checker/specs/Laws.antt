@@ -8,6 +8,7 @@ pub mod Exchange
 pub mod Faults
 pub mod Folds
 pub mod Going
+pub mod Hits
 pub mod Insertion
 pub mod Kept
 pub mod Laid

@@ -1,6 +1,7 @@
 pub mod Ascending
 pub mod Entries
 pub mod Folds
+pub mod Hits
 pub mod Interval
 pub mod Lent
 pub mod Marks

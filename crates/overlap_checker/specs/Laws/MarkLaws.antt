@@ -98,10 +98,11 @@ module _ (e : Entry) (ms : List ℕ) (r : Rising 0 ms) (k : ℕ) (at : k ≡ cou
   lowest-past h = lowest-none e ms (λ i m s. let l = low i (omega arith) in omega (arith, l, s .0))
 
   module _ (m : k < length ms) where
+    pub first-past : e .position < getD ms k 0
+    first-past = let up = counted-above (e .position + 1) 0 ms r k (omega (arith, at)) m in omega (arith, up)
+
     pub lowest-here : getD ms k 0 < end e → lowestInside e ms ≡ getD ms k 0
-    lowest-here h =
-        let up = counted-above (e .position + 1) 0 ms r k (omega (arith, at)) m in
-        lowest-at e ms k m low (omega (arith, up), h)
+    lowest-here h = lowest-at e ms k m low (first-past, h)
 
     pub lowest-far : end e ≤ getD ms k 0 → lowestInside e ms ≡ e .position
     lowest-far h =
