@@ -152,7 +152,8 @@ def bencher_case(rng, room):
         line = records.fault("hex", text, lowest)
         if line is not None:
             told = f"refused 4 0\n{name}\nline {line}\n"
-    return [*map(str, paths), str(lowest), *map(str, asked[1:] if asked else ())], b"", told.encode()
+    spelled = lambda number: rng.choice((str, hex, "0X{:X}".format))(number)
+    return [*map(str, paths), spelled(lowest), *map(spelled, asked[1:] if asked else ())], b"", told.encode()
 
 
 def converter_case(rng):

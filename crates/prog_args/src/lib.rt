@@ -3,39 +3,109 @@ use print_text::Written;
 use refusal::Opt;
 use refusal::Refusal;
 ghost use mathlib.Core.Path.{_≡_};
-ghost use Prim.Native.Nat.{_≤_, min};
-ghost use lib.ListN.{length};
+ghost use Prim.Native.Nat.{_+_, _*_, _≤_, min};
+ghost use lib.ListN.{length, drop};
 ghost use Rattle.io.specs.Counts.{Counts};
+ghost use Rattle.refusal.specs.Limits.{maxPosition};
 ghost use Rattle.refusal.specs.Refusals.{numberOf};
 ghost use Rattle.print_text.specs.Lines.{refusalText};
-ghost use Rattle.prog_args.specs.Number.{numberIn, Spelled};
+ghost use Rattle.prog_args.specs.Number.{digitValue, baseOf, spelledIn, isHex, numberIn, Spelled};
 ghost use Rattle.prog_args.specs.Text.{lineRoom, Stands, Shows};
 
-// The number that a text spells in decimal digits, up to 4,294,967,295; none for any other text, the empty one too.
-pub fn number(text: &[u8]) -> Opt
-    ensures { λ r. ⌜ r ≡ numberIn (now (text .entry)) ⌝ }
+// The value of a digit, in either case; 16 for a character that is none.
+fn digit_value(c: u8) -> u64
+    ensures { λ r. ⌜ r ≡ digitValue c ⌝ }
+    ensures { λ r. ⌜ r ≤ 16 ⌝ }
 {
-    if text.len() == 0 {
+    if c < b'0' {
+        return 16;
+    }
+    if c <= b'9' {
+        return (c - b'0') as u64;
+    }
+    if c < b'A' {
+        return 16;
+    }
+    if c <= b'F' {
+        return (c - 55) as u64;
+    }
+    if c < b'a' {
+        return 16;
+    }
+    if c <= b'f' {
+        return (c - 87) as u64;
+    }
+    16
+}
+
+fn base_of(hex: bool) -> u64
+    ensures { λ r. ⌜ r ≡ baseOf hex ⌝ }
+{
+    if hex {
+        return 16;
+    }
+    10
+}
+
+// A number with a digit more.
+fn longer(hex: bool, value: u64, digit: u64) -> u64
+    requires { ⌜ (value ≤ maxPosition) × (digit ≤ 16) ⌝ }
+    ensures { λ r. ⌜ r ≡ baseOf hex * value + digit ⌝ }
+{
+    if hex {
+        return 16 * value + digit;
+    }
+    10 * value + digit
+}
+
+// The number that the digits of a text from `from` on spell.
+fn spelled(text: &[u8], from: usize, hex: bool) -> Opt
+    ensures { λ r. ⌜ r ≡ spelledIn (baseOf hex) (drop from (now (text .entry))) ⌝ }
+{
+    if text.len() <= from {
         return Opt::None;
     }
+    let base = base_of(hex);
     let mut value: u64 = 0;
-    let mut i = 0;
+    let mut i = from;
     while i < text.len() {
-        let c = text[i];
-        if c < b'0' {
+        let digit = digit_value(text[i]);
+        if base <= digit {
             return Opt::None;
         }
-        if b'9' < c {
-            return Opt::None;
-        }
-        let digit = c - b'0';
-        value = 10 * value + digit as u64;
+        value = longer(hex, value, digit);
         if value > 4_294_967_295 {
             return Opt::None;
         }
         i += 1;
     }
     Opt::Some(value as u32)
+}
+
+// Whether a text begins with 0x or 0X.
+fn is_hex(text: &[u8]) -> bool
+    ensures { λ r. ⌜ r ≡ isHex (now (text .entry)) ⌝ }
+{
+    if text.len() < 2 {
+        return false;
+    }
+    if text[0] != b'0' {
+        return false;
+    }
+    if text[1] == b'x' {
+        return true;
+    }
+    text[1] == b'X'
+}
+
+// The number that a text spells in decimal digits, or in hexadecimal ones behind 0x, up to 4,294,967,295; none for any other text, the empty one too.
+pub fn number(text: &[u8]) -> Opt
+    ensures { λ r. ⌜ r ≡ numberIn (now (text .entry)) ⌝ }
+{
+    if is_hex(text) {
+        return spelled(text, 2, true);
+    }
+    spelled(text, 0, false)
 }
 
 // The number that argument i spells; none where it is missing. No contract can say which text the argument is.
