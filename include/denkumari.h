@@ -330,7 +330,7 @@ struct dk_count dk_to_form2(const uint8_t *file, size_t file_len, uint8_t *out, 
 struct dk_count dk_to_form1(const uint8_t *file, size_t file_len, uint8_t *out, size_t out_len);
 
 /* The blocks that spans make: taken by offset, a span that starts at the end of those before it joins them. As many offsets as sizes, at
- * most 4,096 (else 4). Block i starts at bit block_offsets[i] and has block_sizes[i] bits. It needs less than 12 KiB of stack (8.3 KiB), 8 KiB
+ * most 4,096 (else 4). Block i starts at bit block_offsets[i] and has block_sizes[i] bits. It needs less than 12 KiB of stack (10.5 KiB), 8 KiB
  * of it for the spans' numbers. */
 struct dk_count dk_blocks(const uint64_t *offsets, size_t offsets_len,
                           const uint64_t *sizes, size_t sizes_len,

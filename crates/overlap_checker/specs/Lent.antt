@@ -115,9 +115,12 @@ leaving (Refused why) new old = old
 abbrev pub putIn : List ℕ → ℕ → ℕ → ℕ → List ℕ
 putIn list count place number = putAt place number (take count list) ++ drop (count + 1) list
 
--- a refusal hands both counts back
+-- an answer with both counts; a refusal hands back those that were given
+abbrev pub answeredWith : Verdict → ℕ → ℕ → Offered
+answeredWith verdict count marks = record { verdict = verdict; count = count; marks = marks }
+
 abbrev pub refusedWith : ℕ → ℕ → Refusal → Offered
-refusedWith count marks why = record { verdict = Refused why; count = count; marks = marks }
+refusedWith count marks why = answeredWith (Refused why) count marks
 
 -- ---- the two calls
 
