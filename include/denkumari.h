@@ -52,8 +52,8 @@
  * dk_read_records   sentences `says_records/Read.ReadSays`; `says_records/ReadMeets.read-meets`, `says_records/ReadDecides.read-decides`. Records in any order:
  *                   `says_records/Calls.any-order`; LF or CR LF: `says_records/Calls.either-end`
  * dk_record_fault   sentences `says_records/Read.FaultSays`; `says_records/FaultMeets.fault-meets`, `says_records/FaultDecides.fault-decides`
- * dk_record_reason  sentences `says_reason/Reason.ReasonSays`; `says_reason/Meets.reason-meets`, `says_reason/Decides.reason-decides`. A reason exactly where
- *                   dk_read_records refuses 4: `says_reason/Calls.reason-exactly`; dk_record_fault's line: `says_reason/Calls.same-line`
+ * dk_record_reason  sentences `says_reason/Reason.DkReasonSays`; `says_reason/Meets.dk-reason-meets`, `says_reason/Decides.dk-reason-decides`. A reason exactly
+ *                   where dk_read_records refuses 4: `says_reason/Calls.reason-exactly`; dk_record_fault's line: `says_reason/Calls.same-line`
  */
 #ifndef DENKUMARI_H
 #define DENKUMARI_H

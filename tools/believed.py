@@ -42,7 +42,7 @@ SENTENCES = {
                       'bitvec/Bits.Bytes'),
     'dk_read_records': ('says_records/Read.ReadSays', 'says_records/ReadMeets.read-meets', 'says_records/ReadDecides.read-decides'),
     'dk_record_fault': ('says_records/Read.FaultSays', 'says_records/FaultMeets.fault-meets', 'says_records/FaultDecides.fault-decides'),
-    'dk_record_reason': ('says_reason/Reason.ReasonSays', 'says_reason/Meets.reason-meets', 'says_reason/Decides.reason-decides'),
+    'dk_record_reason': ('says_reason/Reason.DkReasonSays', 'says_reason/Meets.dk-reason-meets', 'says_reason/Decides.dk-reason-decides'),
 }
 # the theorems of the table, beside those that the rows of demands and tickets name first
 ROWS = ('docs/statements/1-demands.rows', 'docs/statements/3-tickets.rows')

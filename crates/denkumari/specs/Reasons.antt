@@ -2,10 +2,16 @@
 use mathlib.Core.Path.{_≡_}
 use mathlib.Core.List.{List}
 use Prim.Native.Nat.{ℕ}
+use lib.Dec.{eqb}
+use Rattle.refusal.specs.Pick.{pick}
 use Rattle.record_fault.specs.Reading.{readText}
 use Rattle.record_reason.specs.Reasons.{whyOf}
 use Rattle.record_reason.specs.declared.Why.{Why}
 
+-- How a format's number is read where nothing is refused: 0 is Intel HEX, every other number S-records.
+abbrev pub kindOf : ℕ → ℕ
+kindOf format = pick (eqb format 0) 0 1
+
 -- What `dk_record_reason` promises: the line that `dk_record_fault` tells, the first reason that there is, and its two numbers.
 pub record ReasonTold (format load : ℕ) (text : List ℕ) (r : Why) : Type 0 where
-  pub answer : r ≡ whyOf format load text (readText format load text)
+  pub answer : r ≡ whyOf (kindOf format) load text (readText (kindOf format) load text)

@@ -2,7 +2,7 @@
 //
 //     layout [FILL [PAGE]]    FILL is the fill's choice, 0 where it is not given; PAGE the page size in bits of a device with pages
 //
-// It writes nothing where an argument is no decimal number, or where there are more.
+// It writes nothing where an argument is no number, or where there are more.
 use print_text::Written;
 use prog_asked::Asked;
 use refusal::Opt;

@@ -4,7 +4,7 @@
 //
 // FORMAT 0 writes Intel HEX, 2 and 4 write S-records of that address width; LOAD is the address of the image's first byte. WHOLE 0 writes the blocks, 1 the
 // whole image with its fill. FILL is the fill's choice, and PAGE the page size in bits of a device with pages. It writes nothing where an argument is no
-// decimal number or there are more or fewer. A refusal is one line on standard output, `refused` with its number and place, and a line `records` behind it
+// number or there are more or fewer. A refusal is one line on standard output, `refused` with its number and place, and a line `records` behind it
 // where the layout was accepted and its blocks were not written.
 use blocks::Blocks;
 use output::Build;

@@ -142,3 +142,11 @@ module _ (format : ℕ) where
     good : {ps : List Piece} → Good format load text ps → ReasonSays load text (record { reason = 0; line = 0; first = 0; second = 0 })
     bad : {n : ℕ} {ls : List (List ℕ)} {y : Why} → GoesOn format load text n → Not (GoesOn format load text (suc n)) → Lines text ls
         → FaultLine load ls n y → ReasonSays load text y
+
+-- ---- the call. "(A format that is neither is taken for S-records.)" (include/denkumari.h): nothing is refused here
+pub data ReadAs (format : ℕ) : ℕ → Type 0 where
+  as-hex : format ≡ 0 → ReadAs format 0
+  as-s-records : Not (format ≡ 0) → ReadAs format 1
+
+pub data DkReasonSays (format load : ℕ) (text : List ℕ) (y : Why) : Type 0 where
+  reads-as : {kind : ℕ} → ReadAs format kind → ReasonSays kind load text y → DkReasonSays format load text y

@@ -139,3 +139,9 @@ module _ (format : ℕ) where
 
     pub other-field-one : {f g : ℕ} → OtherField format l f → OtherField format l g → f ≡ g
     other-field-one (s.other-field f h o n) (s.other-field g k o′ n′) = hex-one h k .1
+
+-- one of the two formats
+pub one-of-two : (format : ℕ) → format < 2 → (format ≡ 0 → ⊥) → (format ≡ 1 → ⊥) → ⊥
+one-of-two zero h a b = a refl
+one-of-two (suc zero) h a b = b refl
+one-of-two (suc (suc n)) h a b = omega (arith, h)

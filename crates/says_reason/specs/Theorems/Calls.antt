@@ -1,39 +1,39 @@
 -- The headlines over what the exported functions promise: `dk_record_reason` beside `dk_record_fault` and `dk_read_records`.
 use mathlib.Core.Path.{_≡_}
 use mathlib.Core.List.{List}
-use Prim.Native.Nat.{ℕ}
-use Rattle.record_fault.specs.Reading.{readText}
+use Prim.Native.Nat.{ℕ, _<_}
 use Rattle.record_reason.specs.declared.Why.{Why}
 use Rattle.c_answers.specs.declared.DkCount.{DkCount}
 use Rattle.c_answers.specs.declared.DkFault.{DkFault}
-use Rattle.denkumari.specs.RecordFiles.{FaultTold}
+use Rattle.denkumari.specs.RecordFiles.{FaultTold, readAs}
 use Rattle.denkumari.specs.Reasons.{ReasonTold}
 use Rattle.says_records.specs.Read.{Lent}
 use Rattle.says_records.specs.Theorems.Calls.{Reads}
 use Rattle.says_records.specs.Theorems.FaultMeets.{fault-meets}
 use Rattle.says_records.specs.Theorems.ReadMeets.{read-meets}
-use Rattle.says_reason.specs.Theorems.Meets.{reason-meets}
+use Rattle.says_reason.specs.Theorems.Meets.{known-meets}
 use Rattle.says_reason.specs.Theorems.Told.{ChecksumTold, TwiceTold, BelowTold, line-is-faults, refused-4-exactly, checksum-with-both-values}
 use Rattle.says_reason.specs.Theorems.Told.{given-twice-by-which-line, below-with-lowest}
 
-module _ (format load : ℕ) (text : List ℕ) (y : Why) (c : ReasonTold format load text y) where
+-- of the two formats that there are
+module _ (format load : ℕ) (text : List ℕ) (known : format < 2) (y : Why) (c : ReasonTold format load text y) where
   -- the line is that of `dk_record_fault`
-  pub same-line : (f : DkFault) → FaultTold (readText format load text) f
+  pub same-line : (f : DkFault) → FaultTold (readAs format load text) f
       → (y .line ≡ f .line) × ((f .fault ≡ 0 → y .reason ≡ 0) × (y .reason ≡ 0 → f .fault ≡ 0))
-  same-line f d = line-is-faults format load text y (reason-meets format load text y c) f (fault-meets format load text f d)
+  same-line f d = line-is-faults format load text y (known-meets format load text known y c) known f (fault-meets format load text f d)
 
   -- there is a reason exactly where `dk_read_records` refuses the file with 4
   pub reason-exactly : (old new : Lent) (r : DkCount) → Reads format load text old r new
       → (r .refusal ≡ 4 → y .reason ≡ 0 → ⊥) × ((y .reason ≡ 0 → ⊥) → r .refusal ≡ 4)
   reason-exactly old new r d =
-      refused-4-exactly format load text y (reason-meets format load text y c) old (record { answer = r; lent = new })
+      refused-4-exactly format load text y (known-meets format load text known y c) old (record { answer = r; lent = new })
       (read-meets format load text old r new d)
 
   pub checksum-both : y .reason ≡ 5 → ChecksumTold format load text y
-  checksum-both = checksum-with-both-values format load text y (reason-meets format load text y c)
+  checksum-both = checksum-with-both-values format load text y (known-meets format load text known y c)
 
   pub twice-by : y .reason ≡ 11 → TwiceTold format load text y
-  twice-by = given-twice-by-which-line format load text y (reason-meets format load text y c)
+  twice-by = given-twice-by-which-line format load text y (known-meets format load text known y c)
 
   pub below-lowest : y .reason ≡ 10 → BelowTold format load text y
-  below-lowest = below-with-lowest format load text y (reason-meets format load text y c)
+  below-lowest = below-with-lowest format load text y (known-meets format load text known y c)

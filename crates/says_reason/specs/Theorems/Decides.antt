@@ -1,5 +1,5 @@
 -- The sentences of `dk_record_reason` leave one answer. From the sentences alone.
-use mathlib.Core.Path.{_≡_, refl, ap, ap₂}
+use mathlib.Core.Path.{_≡_, refl, ap, ap₂, subst}
 use mathlib.Core.List.{List}
 use Prim.Native.Nat.{ℕ, suc, _+_, _-_}
 use native.Mathlib.Omega.{arith}
@@ -12,7 +12,7 @@ use Rattle.says_records.specs.Read as r
 use Rattle.says_records.specs.Laws.One.{lines-one}
 use Rattle.says_records.specs.Theorems.FaultDecides.{fault-decides}
 use Rattle.says_reason.specs.Reason as s
-use Rattle.says_reason.specs.Reason.{Form, GivesTo, NoDigit, Past, Below, why, Twice, LineSays, FaultLine, ReasonSays}
+use Rattle.says_reason.specs.Reason.{Form, GivesTo, NoDigit, Past, Below, why, Twice, LineSays, FaultLine, ReasonSays, ReadAs, DkReasonSays}
 use Rattle.says_reason.specs.Laws.One.{data-one, gives-one, line-one, count-one, long-one, sum-one, type-one, other-width-one, other-count-one}
 use Rattle.says_reason.specs.Laws.One.{other-field-one}
 
@@ -76,3 +76,15 @@ module _ (format load : ℕ) (text : List ℕ) where
   reason-decides y z (s.bad {n = n} {ls} on never x t) (s.bad {n = m} {ls = ms} on′ never′ x′ t′) =
       let same : m ≡ n = ap (λ (f : DkFault). f .line) (fault-decides format load text _ _ (r.at on′ never′) (r.at on never)) in
       fault-line-decides format load ls n y z t (rw (same, lines-one x′ x) at t′)
+
+-- ---- the call
+read-as-one : {format a b : ℕ} → ReadAs format a → ReadAs format b → a ≡ b
+read-as-one (s.as-hex e) (s.as-hex f) = refl
+read-as-one (s.as-hex e) (s.as-s-records m) = absurd (m e)
+read-as-one (s.as-s-records m) (s.as-hex e) = absurd (m e)
+read-as-one (s.as-s-records m) (s.as-s-records n) = refl
+
+module _ (format load : ℕ) (text : List ℕ) where
+  pub dk-reason-decides : OneOnly (DkReasonSays format load text)
+  dk-reason-decides y z (s.reads-as {kind = kind} a p) (s.reads-as {kind = other} b q) =
+      reason-decides kind load text y z p (subst (λ (k : ℕ). ReasonSays k load text z) (read-as-one b a) q)

@@ -5,7 +5,7 @@ use mathlib.Core.List.{List, [], _∷_}
 use mathlib.Core.Logic.{_⊎_, inl, inr, ⊎-elim}
 use Prim.Native.Nat.{ℕ, zero, suc, _+_, _*_, _-_, _≤_, _<_, _%_, _^_}
 use native.Mathlib.Omega.{arith}
-use borrow.Author.Tests.{ltb-true, ltb-false, eqb-true, eqb-false, eq-eqb, ne-eqb, le-leb, lt-leb}
+use borrow.Author.Tests.{ltb-true, ltb-false, eqb-true, eqb-false, eq-eqb, ne-eqb, le-leb, lt-leb, lt-ltb}
 use lib.Dec.{ltb, eqb}
 use lib.ListN.{length, getD, drop, length-drop}
 use Rattle.refusal.specs.Laws.Bools.{either, clash}
@@ -31,7 +31,8 @@ use Rattle.record_reason.specs.declared.Why.{Why}
 use Rattle.c_answers.specs.Parts.{lineTold}
 use Rattle.c_answers.specs.declared.DkFault.{DkFault}
 use Rattle.record_fault.specs.Outcome.{faultOf}
-use Rattle.denkumari.specs.Reasons.{ReasonTold}
+use Rattle.denkumari.specs.RecordFiles.{readAs}
+use Rattle.denkumari.specs.Reasons.{kindOf, ReasonTold}
 use Rattle.says.specs.Words as w
 use Rattle.says.specs.Words.{Tries, First, At}
 use Rattle.says_records.specs.Records as r
@@ -43,8 +44,8 @@ use Rattle.says_records.specs.Laws.HexLine.{good-hex}
 use Rattle.says_records.specs.Laws.SrecLine.{width-is, good-srec}
 use Rattle.says_records.specs.Theorems.FaultMeets.{sound-good, fault-meets}
 use Rattle.says_reason.specs.Reason as s
-use Rattle.says_reason.specs.Reason.{DataLine, EndRecord, Starts, NoDigit, Count, Long, WrongSum, why, LineSays, FaultLine, ReasonSays}
-use Rattle.says_reason.specs.Laws.One.{inside, count-one}
+use Rattle.says_reason.specs.Reason.{DataLine, EndRecord, Starts, NoDigit, Count, Long, WrongSum, why, LineSays, FaultLine, ReasonSays, DkReasonSays}
+use Rattle.says_reason.specs.Laws.One.{inside, count-one, one-of-two}
 use Rattle.says_reason.specs.Laws.Items.{own-width, said, end-item}
 use Rattle.says_reason.specs.Laws.Items as items
 use Rattle.says_reason.specs.Laws.Trails.{lines, lines-from, line-is, line-at, drop-at, at-drop, drop-some, drop-long, empty-drop, not-empty}
@@ -230,6 +231,11 @@ module _ (format load : ℕ) (text : List ℕ) (n : ℕ) (l : List ℕ) (left : 
       (λ t. let h = eqb-true format 0 t in s.line-says (line-at format text n here) (s.hex h) (hex-says h))
       (λ t. let m = eqb-false format 0 t in s.line-says (line-at format text n here) (s.s-records m) (srec-says m))
 
+kind-known : (format : ℕ) → format < 2 → kindOf format ≡ format
+kind-known zero h = refl
+kind-known (suc zero) h = refl
+kind-known (suc (suc n)) h = omega (arith, h)
+
 -- ---- the line at fault
 no-lines : (t : List ℕ) → linesOf t ≡ [] → length t ≡ 0
 unfolding linesOf
@@ -298,20 +304,38 @@ module _ (format load : ℕ) (text : List ℕ) where
   by-fault n h (stops.broken g d e) = at-line n g d (broken e)
   by-fault n h (stops.unfit a b c g d e f) = at-line n g d (unfit a b c e f)
 
-  -- ---- the file
-  goes-on : (n : ℕ) {y : DkFault} → FaultSays format load text y → y ≡ record { fault = 1; line = n }
+  -- ---- the file, in one of the two formats
+  goes-on : format < 2 → (n : ℕ) {y : DkFault} → FaultSays format load text y → y ≡ record { fault = 1; line = n }
       → GoesOn format load text n × (GoesOn format load text (suc n) → ⊥)
-  goes-on n (f.none g) e = let z : _≡_ {A = ℕ} 0 1 = ap (λ (y : DkFault). y .fault) e in absurd (omega arith)
-  goes-on n (f.at {i} on never) e =
+  goes-on known n (f.none g) e = let z : _≡_ {A = ℕ} 0 1 = ap (λ (y : DkFault). y .fault) e in absurd (omega arith)
+  goes-on known n (f.at {i} on never) e =
       let same : i ≡ n = ap (λ (y : DkFault). y .line) e in
       subst (λ (k : ℕ). GoesOn format load text k × (GoesOn format load text (suc k) → ⊥)) same (on, never)
+  goes-on known n (f.no-format a b) e = absurd (one-of-two format known a b)
 
-  says : (x : Read) → readText format load text ≡ x → ReasonSays format load text (whyOf format load text x)
-  says (sound out) e = s.good (sound-good format load text out e .1)
-  says (faulty n) e =
-      let told = fault-meets format load text (lineTold (faultOf (readText format load text))) (record { answer = refl }) in
-      let on = goes-on n told (ap (λ (y : Read). lineTold (faultOf y)) e) in
+  as-known : format < 2 → readAs format load text ≡ readText format load text
+  as-known known = rw (lt-ltb format 2 known) refl
+
+  says : format < 2 → (x : Read) → readText format load text ≡ x → ReasonSays format load text (whyOf format load text x)
+  says known (sound out) e = s.good (sound-good format load text known out e .1)
+  says known (faulty n) e =
+      let told = fault-meets format load text (lineTold (faultOf (readAs format load text))) (record { answer = refl }) in
+      let on = goes-on known n told (ap (λ (y : Read). lineTold (faultOf y)) (as-known known ∙ e)) in
       s.bad (on .0) (on .1) (lines-meet text) (by-fault n (fault-within format load text n e) (fault-at format load text n e))
 
-  pub reason-meets : (r : Why) → ReasonTold format load text r → ReasonSays format load text r
-  reason-meets r c = subst (ReasonSays format load text) (sym (c .answer)) (says (readText format load text) refl)
+  pub reason-meets : format < 2 → (r : Why) → r ≡ whyOf format load text (readText format load text) → ReasonSays format load text r
+  reason-meets known r e = subst (ReasonSays format load text) (sym e) (says known (readText format load text) refl)
+
+-- ---- the call
+module _ (format load : ℕ) (text : List ℕ) where
+  by-kind : {k : ℕ} {r : Why} → kindOf format ≡ k → ReasonTold format load text r → r ≡ whyOf k load text (readText k load text)
+  by-kind e c = c .answer ∙ ap (λ (k : ℕ). whyOf k load text (readText k load text)) e
+
+  pub dk-reason-meets : (r : Why) → ReasonTold format load text r → DkReasonSays format load text r
+  dk-reason-meets r c = either (eqb format 0)
+      (λ t. s.reads-as (s.as-hex (eqb-true format 0 t)) (reason-meets 0 load text (omega arith) r (by-kind {k = 0} (rw t refl) c)))
+      (λ t. s.reads-as (s.as-s-records (eqb-false format 0 t)) (reason-meets 1 load text (omega arith) r (by-kind {k = 1} (rw t refl) c)))
+
+  -- in one of the two formats it is read as what it is
+  pub known-meets : format < 2 → (r : Why) → ReasonTold format load text r → ReasonSays format load text r
+  known-meets known r c = reason-meets format load text known r (by-kind (kind-known format known) c)

@@ -17,6 +17,7 @@ use Rattle.says_records.specs.Read.{Good, Bad, FaultSays, ReadSays, Lent, Outco
 use Rattle.says_records.specs.Theorems.FaultDecides.{fault-decides}
 use Rattle.says_reason.specs.Reason as s
 use Rattle.says_reason.specs.Reason.{GivesTo, LineAt, Checksum, why, Twice, LineSays, FaultLine, ReasonSays}
+use Rattle.says_reason.specs.Laws.One.{one-of-two}
 use Rattle.says_reason.specs.Theorems.Decides.{not-both}
 
 tries-all : {X Y : Type 0} {Met : X → Type 0} {refusal : X → Y} {Then : Y → Type 0} (P : Y → Type 0) → ((x : X) → Met x → P (refusal x))
@@ -158,8 +159,9 @@ module _ (format load : ℕ) (text : List ℕ) (y : Why) (c : ReasonSays format 
       go (s.bad {n} {ls} {y} on never cut t) b e = fault-told format load text ls cut n y t .1 .0 e
 
   -- the line is that of `dk_record_fault`, which tells a fault exactly where there is a reason
-  pub line-is-faults : (f : DkFault) → FaultSays format load text f → (y .line ≡ f .line) × ((f .fault ≡ 0 → y .reason ≡ 0) × (y .reason ≡ 0 → f .fault ≡ 0))
-  line-is-faults f d = go c d
+  pub line-is-faults : format < 2 → (f : DkFault) → FaultSays format load text f
+      → (y .line ≡ f .line) × ((f .fault ≡ 0 → y .reason ≡ 0) × (y .reason ≡ 0 → f .fault ≡ 0))
+  line-is-faults known f d = go c d
     where
       go : {y : Why} {f : DkFault} → ReasonSays format load text y → FaultSays format load text f
           → (y .line ≡ f .line) × ((f .fault ≡ 0 → y .reason ≡ 0) × (y .reason ≡ 0 → f .fault ≡ 0))
@@ -170,6 +172,7 @@ module _ (format load : ℕ) (text : List ℕ) (y : Why) (c : ReasonSays format 
           let same : n ≡ i = ap (λ (k : DkFault). k .line) (fault-decides format load text _ _ (r.at on never) (r.at on′ never′)) in
           let k = fault-told format load text ls cut n y t in
           (k .0 ∙ same, (λ e. absurd (omega arith), λ e. absurd (k .1 .0 e)))
+      go x (r.no-format a b) = absurd (one-of-two format known a b)
 
   -- `dk_read_records` refuses it with 4 exactly then
   pub refused-4-exactly : (old : Lent) (o : Outcome) → ReadSays format load text old o
