@@ -1,7 +1,7 @@
 /* One exported call, made again and again, to be counted or timed: calls_time CALL TIMES [FILE]. Prints a number that depends on what the call
  * gave, and ends with 1 where it was refused. CALL is NAME or NAME:ORDER of the list at the end. FILE is a layout for the calls about layouts; the calls about
  * records write to it what they made. memcmp, memcpy and memset are there for scale. With `once:` ahead of CALL the call is made one time, and what is made
- * again and again is a limit to it: every word that it must read is read once and every word that it must write is written once, eight bytes a step.
+ * again and again is there for scale too: every word that it must read is read once and every word that it must write is written once, eight bytes a step.
  * bindings/benchmark.py runs it once with one call and once with many: the difference is the calls'. */
 #include <inttypes.h>
 #include <stdio.h>
@@ -22,17 +22,16 @@ static uint64_t offsets[SPANS], sizes[SPANS], block_offsets[SPANS], block_sizes[
 /* What the last call said: its refusal, and a number for the rest. */
 static uint64_t refusal, told;
 
-/* How long the last layout's image is, in bits, and how many spans it has. */
-static uint64_t length, spans;
+/* How many spans the last layout has. */
+static uint64_t spans;
 
 #define OUTPUT image, IMAGE, addresses, SPANS, offsets, SPANS, sizes, SPANS
 
 static void laid(struct dk_layout r)
 {
     refusal = r.refusal;
-    length = r.length;
     spans = r.spans;
-    told = length + spans;
+    told = r.length + spans;
 }
 
 static void counted(struct dk_count r)
@@ -309,7 +308,7 @@ static void reads_tables(void)
 
 static void writes_layout(void)
 {
-    writes(image, (length + 7) / 8);
+    writes(image, IMAGE);
     writes(addresses, 8 * spans);
     writes(offsets, 8 * spans);
     writes(sizes, 8 * spans);
