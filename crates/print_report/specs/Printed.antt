@@ -10,7 +10,7 @@ use Rattle.build_sights.specs.Spans.{spansOf as spansIn, words, sizes as spanSi
 use Rattle.build_write.specs.Blank.{blankOf}
 use Rattle.form_fields.specs.Banks.{tableOf}
 use Rattle.form_build.specs.Filed.{listsIn, fileVisits}
-use Rattle.print_report.specs.Report.{imageRoom}
+use Rattle.print_answer.specs.Answer.{imageRoom}
 
 -- the blocks of the spans of a file's nodes, in the row of the last of so many passes
 abbrev pub blocksBuilt : List ℕ → ℕ → List Block

@@ -2,14 +2,9 @@
 -- 4,096 blocks"; document 02: "The program reads either").
 use mathlib.Core.List.{List}
 use Prim.Native.Nat.{ℕ}
-use lib.ListN.{length}
 use Rattle.refusal.specs.declared.Opt.{Opt}
 use Rattle.bankdef.specs.Check.{banksOf}
 use Rattle.bankdef.specs.declared.Bankdefs.{Bankdefs}
-use Rattle.bitvec.specs.HexDigits.{hexOf}
-use Rattle.blocks.specs.Spans.{spansOf}
-use Rattle.blocks.specs.Walk.{blocksOf}
-use Rattle.blocks.specs.Outcome.{origins, sizes}
 use Rattle.build_write.specs.Blank.{blankOf}
 use Rattle.build_sights.specs.Items.{itemsOf, imageOf}
 use Rattle.build_sights.specs.Spans.{spansOf as spansIn, words, sizes as spanSizes}
@@ -20,24 +15,15 @@ use Rattle.output.specs.declared.Build.the-variants.{Done, Refused}
 use Rattle.output.specs.declared.Output.{Output}
 use Rattle.form_fields.specs.Banks.{tableOf}
 use Rattle.form_build.specs.Filed.{listsIn, fileOutput, fileVisits}
-use Rattle.print_text.specs.Lines.{refusalText, layoutText}
+use Rattle.print_text.specs.Lines.{refusalText}
+use Rattle.print_answer.specs.Answer.{imageRoom, doneText}
 
--- "lends 16,384 image bytes, 4,096 spans"
-abbrev pub imageRoom : ℕ
-imageRoom = 16384
-
+-- "4,096 spans"
 abbrev pub spanRoom : ℕ
 spanRoom = 4096
 
 abbrev pub lentRoom : Room
 lentRoom = record { image = imageRoom; spans = spanRoom }
-
--- "Output: passes 1, block 0 10, block 20 10, image ffc002a800": K, the blocks of the spans, the image's bits in hex. There is room for
--- 4,096 blocks and for every digit, and spans of a file's layout are within an offer's limits, so neither call is refused.
-abbrev pub doneText : ℕ → ℕ → List ℕ → List ℕ → List ℕ → List ℕ
-doneText k bits offsets sized image =
-    layoutText k (length (blocksOf (spansOf offsets sized))) (origins (blocksOf (spansOf offsets sized)))
-    (sizes (blocksOf (spansOf offsets sized))) (hexOf image bits)
 
 -- The text of a build over the visits of its last pass, where `done` is that of an accepted one. "A refusal prints `refused`, number and place, one space
 -- between."

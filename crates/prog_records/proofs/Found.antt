@@ -18,7 +18,7 @@ use Rattle.blocks.specs.Walk.{block, blocksOf}
 use Rattle.blocks.specs.declared.Block.{Block}
 use Rattle.blocks.specs.declared.Blocks.{Blocks}
 use Rattle.blocks.specs.declared.Blocks.the-variants.{Found, Refused}
-use Rattle.print_report.specs.Laws.Blocks.{spans-few}
+use Rattle.blocks.specs.Laws.Count.{spans-few}
 use Rattle.record_write.specs.Cut.{blocksIn}
 
 columns : (l : List Block) → blocksIn (origins l) (sizes l) ≡ l

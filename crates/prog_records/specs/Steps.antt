@@ -2,7 +2,7 @@
 use mathlib.Core.List.{List}
 use Prim.Native.Nat.{ℕ}
 use Rattle.output.specs.declared.Build.{Build}
-use Rattle.print_report.specs.Steps.{answeredBy}
+use Rattle.print_answer.specs.Answer.{answeredBy}
 use Rattle.prog_records.specs.Program.{doneText}
 use Rattle.prog_records.specs.declared.Wanted.{Wanted}
 

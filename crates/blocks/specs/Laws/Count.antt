@@ -9,7 +9,7 @@ use Rattle.refusal.specs.declared.Offset.{Offset}
 use Rattle.refusal.specs.declared.Offset.the-variants.{None, At}
 use Rattle.refusal.specs.Pick.{pick}
 use Rattle.blocks.specs.declared.Block.{Block}
-use Rattle.blocks.specs.Spans.{Span}
+use Rattle.blocks.specs.Spans.{Span, spansOf}
 use Rattle.blocks.specs.Walk.{block, endOf, kept, closed, joined, blocksFrom}
 
 kept-few : (b : Block) → length (kept b) ≤ 1
@@ -34,3 +34,10 @@ walk-few b [] = omega arith
 walk-few b (s ∷ l) =
     let next = joined b (s .offset) (s .size) in
     omega (arith, length-append (closed b (s .offset)) (blocksFrom next l), step-few b (s .offset) (s .size), walk-few next l)
+
+-- There are no more spans than offsets.
+pub spans-few : (words lengths : List ℕ) → length (spansOf words lengths) ≤ length words
+unfolding spansOf
+spans-few [] lengths = omega arith
+spans-few (w ∷ words) [] = omega arith
+spans-few (w ∷ words) (z ∷ lengths) = omega (arith, spans-few words lengths)

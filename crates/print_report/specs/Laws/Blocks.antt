@@ -5,7 +5,6 @@ use mathlib.Core.List.{List, [], _∷_, _++_}
 use Prim.Native.Nat.{ℕ, _+_, _≤_}
 use native.Mathlib.Omega.{arith}
 use lib.Dec.{leb, eqb}
-use lib.ListN.{length}
 use borrow.Author.Tests.{leb-true, eqb-true}
 use Rattle.refusal.specs.Limits.{maxOffer, maxPosition}
 use Rattle.refusal.specs.Pick.{pick}
@@ -13,7 +12,7 @@ use Rattle.refusal.specs.declared.Offset.{Offset}
 use Rattle.refusal.specs.declared.Offset.the-variants.{None, At}
 use Rattle.sort.specs.Agree.{All}
 use Rattle.blocks.specs.Laws.Acceptable.{both-true}
-use Rattle.blocks.specs.Spans.{Span, offsetWithin, within, spansOf, allWithin}
+use Rattle.blocks.specs.Spans.{Span, offsetWithin, within, allWithin}
 use Rattle.blocks.specs.Walk.{block, endOf, kept, closed, joined, blocksFrom}
 use Rattle.blocks.specs.declared.Block.{Block}
 use Rattle.print_report.specs.Blocks.{farthest}
@@ -63,10 +62,3 @@ all-fit (s ∷ l) e =
     let both = both-true (within s) (allWithin l) e in
     let parts = both-true (offsetWithin (s .offset)) (leb (s .size) maxPosition) (both .0) in
     ((parts .0, leb-true (s .size) maxPosition (parts .1)), all-fit l (both .1))
-
--- There are no more spans than offsets.
-pub spans-few : (words lengths : List ℕ) → length (spansOf words lengths) ≤ length words
-unfolding spansOf
-spans-few [] lengths = omega arith
-spans-few (w ∷ words) [] = omega arith
-spans-few (w ∷ words) (z ∷ lengths) = omega (arith, spans-few words lengths)

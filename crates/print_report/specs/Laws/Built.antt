@@ -33,8 +33,10 @@ use Rattle.build_paged.specs.InProfile.{saidOf}
 use Rattle.form_build.specs.Paged.{afterSaid, outputIn}
 use Rattle.form_build.specs.Filed.{listsIn, choicesOf, outputBy, fileOutput, FileBuilt}
 use Rattle.print_text.specs.Lines.{refusalText}
-use Rattle.print_report.specs.Report.{imageRoom, spanRoom, lentRoom, doneText, answerBy, builtBy, reportText}
-use Rattle.print_report.specs.Steps.{Fitting, answeredBy, answered, OffsetsFit}
+use Rattle.print_report.specs.Report.{spanRoom, lentRoom, answerBy, builtBy, reportText}
+use Rattle.print_answer.specs.Answer.{imageRoom, doneText}
+use Rattle.print_report.specs.Steps.{OffsetsFit}
+use Rattle.print_answer.specs.Answer.{Fitting, answeredBy, answered}
 use Rattle.print_report.specs.Laws.Accepted.{small-cells, Fits, fits-settled}
 use Rattle.print_report.specs.Laws.Fitting.{fit-acceptable, build-spans-fit}
 use Rattle.print_report.specs.Laws.Table.{word-fits, table-fits}

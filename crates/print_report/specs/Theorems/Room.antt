@@ -53,11 +53,12 @@ use Rattle.print_text.specs.declared.Written.the-variants.{To}
 use Rattle.print_report.specs.Laws.Accepted.{small-cells, fits-settled}
 use Rattle.print_report.specs.Blocks.{farthest}
 use Rattle.print_report.specs.Theorems.Blocks.{origins-few, sizes-few}
-use Rattle.print_report.specs.Laws.Blocks.{spans-few}
+use Rattle.blocks.specs.Laws.Count.{spans-few}
 use Rattle.print_report.specs.Laws.Fitting.{fit-acceptable, build-spans-fit}
 use Rattle.print_report.specs.Places.{Near, buildSum}
 use Rattle.print_report.specs.Theorems.Places.{build-near, profile-near}
-use Rattle.print_report.specs.Report.{imageRoom, lentRoom, doneText, answerText, builtText, reportText}
+use Rattle.print_report.specs.Report.{lentRoom, answerText, builtText, reportText}
+use Rattle.print_answer.specs.Answer.{imageRoom, doneText}
 use Rattle.print_report.specs.Laws.Table.{word-fits, table-fits}
 use Rattle.print_report.specs.Laws.Room.{broken-near, few-banks, few-nodes, limit-byte, refused-short, settled-k, sound-is}
 use Rattle.print_report.specs.Room.{fileRoom, reportRoom}

@@ -31,7 +31,8 @@ use Rattle.form_fields.specs.Shape.{formOf}
 use Rattle.form_fields.specs.declared.Form.{Form}
 use Rattle.form_fields.specs.declared.Form.the-variants.{Broken}
 use Rattle.form_build.specs.Filed.{listsIn, fileOutput, outputBy, fileVisits}
-use Rattle.print_report.specs.Report.{imageRoom, lentRoom}
+use Rattle.print_report.specs.Report.{lentRoom}
+use Rattle.print_answer.specs.Answer.{imageRoom}
 use Rattle.print_text.specs.Lines.{refusalText}
 use Rattle.record_fault.specs.Reading.{sound, readText}
 use Rattle.record_ihex.specs.Theorems.File as hex-file

@@ -2,8 +2,8 @@
 use mathlib.Core.Path.{sym}
 use lib.Seq.{length-take-le}
 use borrow.Author.Needs.{needs}
-use Rattle.print_report.proofs.put_answer.Statement.{statement}
-use Rattle.print_report.proofs.put_answer.Tie as tie
+use Rattle.print_answer.proofs.put_answer.Statement.{statement}
+use Rattle.print_answer.proofs.put_answer.Tie as tie
 
 slice-aggregate-put-accepted : tie.Need-slice-aggregate-put-accepted
 slice-aggregate-put-accepted c =

@@ -24,8 +24,8 @@ use Rattle.blocks.specs.Theorems.Count.{blocks-few}
 use Rattle.blocks.specs.Outcome.{origins, sizes, over, roomFor, Contract}
 use Rattle.blocks.specs.Theorems.Acceptable.{acceptable-parts}
 use Rattle.print_text.specs.Lines.{blockWord, line, passesText, blocksText, imageText, layoutText}
-use Rattle.print_report.specs.Laws.Blocks.{spans-few}
-use Rattle.print_report.specs.Report.{doneText}
+use Rattle.blocks.specs.Laws.Count.{spans-few}
+use Rattle.print_answer.specs.Answer.{doneText}
 
 -- the digits stand at the front
 pub hex-part : (bytes : List ℕ) (bits : ℕ) (hex : List ℕ) (r : Hex) (after : List ℕ) → Prints bytes bits hex r after → bits ≤ 8 * length bytes

@@ -3,10 +3,10 @@ use mathlib.Core.Path.{_≡_, sym, ap, _∙_}
 use lib.ListN.{length, take}
 use Rattle.bitvec.specs.HexDigits.{hexOf, digitCount}
 use Rattle.bitvec.specs.Theorems.HexDigits.{length-hexOf}
-use Rattle.print_report.proofs.Found.{hex-part}
+use Rattle.print_answer.proofs.Found.{hex-part}
 use borrow.Author.Needs.{needs}
-use Rattle.print_report.proofs.put_lines.Statement.{statement}
-use Rattle.print_report.proofs.put_lines.Tie as tie
+use Rattle.print_answer.proofs.put_lines.Statement.{statement}
+use Rattle.print_answer.proofs.put_lines.Tie as tie
 
 abbrev begin : tie.After-write-hex → tie.Start
 begin d = d .before .before .before .before .before .before .before

@@ -1,7 +1,7 @@
 -- `put_accepted` meets its contract: the arrays are as long as `put_done` requires.
 use borrow.Author.Needs.{needs}
-use Rattle.print_report.proofs.put_accepted.Statement.{statement}
-use Rattle.print_report.proofs.put_accepted.Tie as tie
+use Rattle.print_answer.proofs.put_accepted.Statement.{statement}
+use Rattle.print_answer.proofs.put_accepted.Tie as tie
 
 put-done-requires : tie.Need-put-done-requires
 put-done-requires c κs =

@@ -5,11 +5,11 @@ use Rattle.refusal.specs.declared.Refusal.{Refusal}
 use Rattle.bitvec.specs.HexDigits.{hexOf}
 use Rattle.blocks.specs.declared.Blocks.the-variants.{Found, Refused}
 use Rattle.print_text.specs.Lines.{layoutText}
-use Rattle.print_report.specs.Report.{doneText}
-use Rattle.print_report.proofs.Found.{never-refused, found-text}
+use Rattle.print_answer.specs.Answer.{doneText}
+use Rattle.print_answer.proofs.Found.{never-refused, found-text}
 use borrow.Author.Needs.{needs}
-use Rattle.print_report.proofs.put_done.Statement.{statement}
-use Rattle.print_report.proofs.put_done.Tie as tie
+use Rattle.print_answer.proofs.put_done.Statement.{statement}
+use Rattle.print_answer.proofs.put_done.Tie as tie
 
 abbrev begin : tie.After-get-blocks → tie.Start
 begin d = d .before .before .before .before .before .before .before .before .before .before
