@@ -81,8 +81,8 @@ in_turn() {
 
 # first_build CRATE ..: where nothing is proved yet, what the crates stand on is proved, each crate as soon as what it stands on is, RT_JOBS at a time (the
 # machine's processors unless it is set, at most 4); rt by itself takes level by level and waits for the slowest of each. Each crate has a folder in which rt
-# sees this repository and keeps its own notes, and shares with the others what is proved alone. The verdict is that of the run of rt that follows, which
-# looks every crate up again.
+# sees this repository and of crates.txt its line alone (what it stands on is proved, and not looked up each time), keeps its own notes, and shares with the
+# others what is proved alone. The verdict is that of the run of rt that follows, which looks every crate up again.
 first_build() (
     views=$home/target/first running=0 begun=' ' proved=' '
     # of a run that was ended
@@ -126,7 +126,7 @@ start_some() {
 prove_one() {
     view=$views/$1
     {
-        mkdir -p "$view/target/log" && cp crates.txt "$view/" && ln -s "$home/crates" "$view/crates" &&
+        mkdir -p "$view/target/log" && grep "^$1:" crates.txt >"$view/crates.txt" && ln -s "$home/crates" "$view/crates" &&
             ln -s "$home/target/rlib" "$home/target/stamp" "$view/target/" && (cd "$view" && rt check "$1")
     } >"$views/$1.said" 2>&1
     set -- "$1" "$?"
