@@ -1,13 +1,15 @@
 -- What the first walk over a row finds: the verdict on all its nodes and, where they are all accepted, the image's length, the number of spans
 -- and each bank's padding.
 use mathlib.Core.Bool.{Bool}
-use mathlib.Core.List.{List}
+use mathlib.Core.List.{List, map}
 use Prim.Native.Nat.{ℕ}
 use lib.ListN.{length, replicate}
 use Rattle.refusal.specs.Limits.{maxBanks}
 use Rattle.refusal.specs.declared.Refusal.{Refusal}
 use Rattle.refusal.specs.declared.Verdict.the-variants.{Accepted, Refused}
 use Rattle.bitvec.specs.Lists.{listOf}
+use Rattle.iter.specs.Step.{noLost}
+use Rattle.iter.specs.declared.Lost.{Lost}
 use Rattle.lists.specs.Lists.{Row}
 use Rattle.resolver.specs.Once.{Program}
 use Rattle.resolver.specs.Padding.{paddingOf}
@@ -21,19 +23,23 @@ use Rattle.build_plan.specs.declared.Plan.{Plan}
 abbrev pub maxEnd : ℕ
 maxEnd = 12884901885
 
--- "each bank should carry the sum of bits lost to `align` and to label alignment in the last pass" (document 02, Ticket 2): of banks 0 to 15
-abbrev pub paddingsOf : Program → Row → List ℕ
-paddingsOf p row = listOf maxBanks (paddingOf p row)
+-- of banks 0 to 15
+abbrev pub ofBanks : (ℕ → Lost) → List Lost
+ofBanks f = map f (listOf maxBanks (λ bank. bank))
 
-abbrev pub planAccepted : ℕ → ℕ → List ℕ → Plan
+-- "each bank should carry the sum of bits lost to `align` and to label alignment in the last pass" (document 02, Ticket 2), and of whole units
+abbrev pub paddingsOf : Program → Row → List Lost
+paddingsOf p row = ofBanks (paddingOf p row)
+
+abbrev pub planAccepted : ℕ → ℕ → List Lost → Plan
 planAccepted bits spans sums = record { verdict = Accepted; length = bits; spans = spans; padding = sums }
 
 -- refused, a plan tells zeros
 abbrev pub planRefused : Refusal → Plan
-planRefused why = record { verdict = Refused why; length = 0; spans = 0; padding = replicate maxBanks 0 }
+planRefused why = record { verdict = Refused why; length = 0; spans = 0; padding = replicate maxBanks noLost }
 
 -- a plan of visits that were placed
-abbrev pub planBy : ℕ → ℕ → List ℕ → Placed → Plan
+abbrev pub planBy : ℕ → ℕ → List Lost → Placed → Plan
 planBy bits spans sums (holds stored) = planAccepted bits spans sums
 planBy bits spans sums (stops why) = planRefused why
 

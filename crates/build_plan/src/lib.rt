@@ -8,6 +8,7 @@ use bankdef::Bankdefs;
 use build_sights::is_span;
 use build_sights::is_written;
 pub use checks::closes_default;
+use iter::Lost;
 use iter::Moved;
 use iter::Node;
 use iter::Walk;
@@ -212,21 +213,22 @@ pub struct Plan {
     pub verdict: Verdict,
     pub length: u64,
     pub spans: u64,
-    pub padding: [u64; 16],
+    pub padding: [Lost; 16],
 }
 
 fn refused_plan(why: Refusal) -> Plan
     ensures { λ r. ⌜ r ≡ planRefused why ⌝ }
 {
+    let none = Lost { bits: 0, units: 0 };
     Plan {
         verdict: Verdict::Refused(why),
         length: 0,
         spans: 0,
-        padding: [0u64; 16],
+        padding: [none; 16],
     }
 }
 
-fn accepted_plan(sums: Sums, padding: [u64; 16]) -> Plan
+fn accepted_plan(sums: Sums, padding: [Lost; 16]) -> Plan
     ensures { λ r. ⌜ r ≡ planAccepted (sums .length) (sums .spans) padding ⌝ }
 {
     Plan {
@@ -264,7 +266,7 @@ fn stopped(why: Refusal, walk: Walk) -> Planned
 }
 
 // The first walk over the row of the last pass. It decides everything and writes nothing that is lent. "bank positions, an array of 16 in the walk's state":
-// the walk comes by value, each step is stored into it, and it goes back as the row leaves it, with the bits that each bank has lost.
+// the walk comes by value, each step is stored into it, and it goes back as the row leaves it, with what each bank has lost.
 fn plan_walk(
     banks: Bankdefs,
     kinds: &[u8],
@@ -325,7 +327,8 @@ fn plan_walk(
         sums = sums_after(node, out, sums);
         let after = step.after;
         walk.at[bank as usize] = after;
-        walk.lost[bank as usize] = lost_after(walk.lost[bank as usize], step.bits);
+        let lost = lost_after(walk.lost[bank as usize], step.skipped);
+        walk.lost[bank as usize] = lost;
         walk.bank = bank;
         i += 1;
     }

@@ -161,7 +161,8 @@ fn write_walk(
         );
         let after = step.after;
         walk.at[bank as usize] = after;
-        walk.lost[bank as usize] = lost_after(walk.lost[bank as usize], step.bits);
+        let lost = lost_after(walk.lost[bank as usize], step.skipped);
+        walk.lost[bank as usize] = lost;
         walk.bank = bank;
         i += 1;
     }

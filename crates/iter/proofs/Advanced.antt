@@ -10,7 +10,7 @@ use Rattle.refusal.specs.declared.Refusal.{Refusal}
 use Rattle.refusal.specs.declared.Opt.the-variants.{None, Some}
 use Rattle.bankdef.specs.declared.Bankdef.{Bankdef}
 use Rattle.iter.specs.Step.{alignedTo, outermostSymbol, seenOf, advancedOf, still, alignedMotion, seenSkips, seenMotion, advanceSkips}
-use Rattle.iter.specs.Step.{advanceMotion, maxSum, lostAfter}
+use Rattle.iter.specs.Step.{advanceMotion, maxSum, sumAfter}
 use Rattle.iter.specs.Laws.ToldFacts.{none-skipped}
 use Rattle.iter.specs.declared.Moved.{Moved}
 use Rattle.iter.specs.declared.Moved.the-variants.{To, Refused}
@@ -48,9 +48,9 @@ module _ (def : Bankdef) (at : Pos) (node : Node) where
   unfolding advanceSkips
   advance-aligned known e k = rw (eq-eqb (node .kind) 8 k, e)
 
--- a sum of bits that stays within 64 bits, and one that does not
-pub sum-within : (lost bits : ℕ) → bits ≤ maxSum → lost ≤ maxSum - bits → lost + bits ≡ lostAfter lost bits
-sum-within lost bits h k = sym (pick-true _ _ (le-leb (lost + bits) maxSum (omega arith)))
+-- a sum that stays within 64 bits, and one that does not
+pub sum-within : (sum more : ℕ) → more ≤ maxSum → sum ≤ maxSum - more → sum + more ≡ sumAfter sum more
+sum-within sum more h k = sym (pick-true _ _ (le-leb (sum + more) maxSum (omega arith)))
 
-pub sum-stops : (lost bits : ℕ) → bits ≤ maxSum → maxSum - bits < lost → maxSum ≡ lostAfter lost bits
-sum-stops lost bits h k = sym (pick-false _ _ (lt-leb (lost + bits) maxSum (omega arith)))
+pub sum-stops : (sum more : ℕ) → more ≤ maxSum → maxSum - more < sum → maxSum ≡ sumAfter sum more
+sum-stops sum more h k = sym (pick-false _ _ (lt-leb (sum + more) maxSum (omega arith)))

@@ -2,7 +2,6 @@
 use Prim.Native.Nat.{ℕ, _+_, _≤_, _<_}
 use mathlib.Core.Path.{_≡_, refl, sym, ap, _∙_}
 use mathlib.Core.Bool.{true, false}
-use native.Mathlib.Nat.{zero-div}
 use native.Mathlib.Omega.{arith}
 use lib.Dec.{leb}
 use borrow.Author.Tests.{eq-eqb, ne-eqb}
@@ -39,9 +38,6 @@ use Rattle.iter.proofs.Advanced.{sight-plain, sight-unaligned, sight-al
 -- a node of kind 0 or 1 is no symbol
 pub early-plain : (node : Node) → node .kind < 2 → outermostSymbol node ≡ false
 early-plain node h = rw (ne-eqb (node .kind) 2 (λ e. omega arith), ne-eqb (node .kind) 3 (λ e. omega arith))
-
-none-skips : (def : Bankdef) → skipsOf def 0 ≡ noSkip
-none-skips def = ap (λ (u : ℕ). record { bits = 0; units = u }) (zero-div (def .unit))
 
 leads : {m n : Motion} → m ≡ n → m .to ≡ n .to
 leads e = ap (λ (m : Motion). m .to) e
@@ -101,30 +97,15 @@ module _ (def : Bankdef) (at : Pos) (node : Node) where
 
   -- ---- the numbers of a crossing
 
-  pub paces-made : (p q : Pos) (bits : ℕ) {r : Paced} → crossingOf def at node ≡ record { seen = To p; skipped = skipsOf def bits; after = q }
-      → r ≡ madeBy p q bits → Paces def at node r
-  paces-made p q bits e f = (f ∙ ap numbersOf (sym e), ap (crossedBy def (node .index)) f ∙ sym e)
-
-  pub paces-none : (p q : Pos) {r : Paced} → crossingOf def at node ≡ record { seen = To p; skipped = noSkip; after = q }
-      → r ≡ madeBy p q 0 → Paces def at node r
-  paces-none p q e f =
-      paces-made p q 0 (e ∙ ap (λ (s : Skipped). record { seen = To p; skipped = s; after = q }) (sym (none-skips def))) f
+  pub paces-made : (p q : Pos) (s : Skipped) {r : Paced} → crossingOf def at node ≡ record { seen = To p; skipped = s; after = q }
+      → r ≡ madeBy p q s → Paces def at node r
+  paces-made p q s e f = (f ∙ ap numbersOf (sym e), ap (crossedBy (node .index)) f ∙ sym e)
 
   pub paces-malformed : {r : Paced} → crossingOf def at node ≡ halted at (Malformed (node .index)) → r ≡ haltedBy at 4 → Paces def at node r
-  paces-malformed e f = (
-    f ∙ ap numbersOf (sym e),
-    ap (crossedBy def (node .index)) f
-        ∙ ap (λ (s : Skipped). record { seen = Refused (Malformed (node .index)); skipped = s; after = at }) (none-skips def)
-        ∙ sym e,
-  )
+  paces-malformed e f = (f ∙ ap numbersOf (sym e), ap (crossedBy (node .index)) f ∙ sym e)
 
   pub paces-past : {r : Paced} → crossingOf def at node ≡ halted at (PositionPast (node .index)) → r ≡ haltedBy at 5 → Paces def at node r
-  paces-past e f = (
-    f ∙ ap numbersOf (sym e),
-    ap (crossedBy def (node .index)) f
-        ∙ ap (λ (s : Skipped). record { seen = Refused (PositionPast (node .index)); skipped = s; after = at }) (none-skips def)
-        ∙ sym e,
-  )
+  paces-past e f = (f ∙ ap numbersOf (sym e), ap (crossedBy (node .index)) f ∙ sym e)
 
   -- "4: .. a call's number is malformed: .. state"
   pub paces-bad : {r : Paced} → badState node ≡ true → r ≡ haltedBy at 4 → Paces def at node r
@@ -141,27 +122,27 @@ module _ (def : Bankdef) (at : Pos) (node : Node) where
         ∙ ap (λ (x : Skipped). record { seen = To p; skipped = x; after = q }) (pick-false _ _ (ne-eqb (node .kind) 8 n) ∙ sym (skips e))
 
     -- a node that is where it was
-    pub paces-still : {r : Paced} → still (To at) ≡ seenMotion def at node → (node .kind ≡ 8 → ⊥) → movedOn def at node ≡ To at → r ≡ madeBy at at 0
+    pub paces-still : {r : Paced} → still (To at) ≡ seenMotion def at node → (node .kind ≡ 8 → ⊥) → movedOn def at node ≡ To at → r ≡ madeBy at at noSkip
         → Paces def at node r
-    paces-still e n a f = paces-none at at (by-sight at at e refl n a) f
+    paces-still e n a f = paces-made at at noSkip (by-sight at at e refl n a) f
 
-    pub paces-plain : {r : Paced} → outermostSymbol node ≡ false → node .kind < 4 → r ≡ madeBy at at 0 → Paces def at node r
+    pub paces-plain : {r : Paced} → outermostSymbol node ≡ false → node .kind < 4 → r ≡ madeBy at at noSkip → Paces def at node r
     paces-plain o h f = paces-still (sight-plain def at node o) (λ e. omega arith) (early def at node h) f
 
-    pub paces-unaligned : {r : Paced} → def .align ≡ None → node .kind < 4 → r ≡ madeBy at at 0 → Paces def at node r
+    pub paces-unaligned : {r : Paced} → def .align ≡ None → node .kind < 4 → r ≡ madeBy at at noSkip → Paces def at node r
     paces-unaligned o h f = paces-still (sight-unaligned def at node o) (λ e. omega arith) (early def at node h) f
 
     no-symbol : 4 ≤ node .kind → outermostSymbol node ≡ false
     no-symbol h = rw (ne-eqb (node .kind) 2 (λ e. omega arith), ne-eqb (node .kind) 3 (λ e. omega arith))
 
-    pub paces-assert : {r : Paced} → node .kind ≡ 10 → r ≡ madeBy at at 0 → Paces def at node r
+    pub paces-assert : {r : Paced} → node .kind ≡ 10 → r ≡ madeBy at at noSkip → Paces def at node r
     paces-assert k f =
         paces-still (sight-plain def at node (no-symbol (omega arith))) (λ e. omega arith) (asserting def at node k) f
 
     -- "9 sets the position"
-    pub paces-addr : {r : Paced} → node .kind ≡ 9 → r ≡ madeBy at (record { position = node .number; known = resolved node }) 0 → Paces def at node r
+    pub paces-addr : {r : Paced} → node .kind ≡ 9 → r ≡ madeBy at (record { position = node .number; known = resolved node }) noSkip → Paces def at node r
     paces-addr k f =
-        paces-none at (record { position = node .number; known = resolved node })
+        paces-made at (record { position = node .number; known = resolved node }) noSkip
         (by-sight at _ (sight-plain def at node (no-symbol (omega arith))) refl (λ e. omega arith) (setting def at node k)) f
 
     -- "Any other kind number is refused."
@@ -171,13 +152,13 @@ module _ (def : Bankdef) (at : Pos) (node : Node) where
         (sound-state def at node sound ∙ other def at node h)) f
 
     -- "4 to 7 add their number"
-    pub paces-item : {r : Paced} → 4 ≤ node .kind → node .kind ≤ 7 → r ≡ addedBy at (node .number) (staysKnown (at .known) node) 0 → Paces def at node r
+    pub paces-item : {r : Paced} → 4 ≤ node .kind → node .kind ≤ 7 → r ≡ addedBy at (node .number) (staysKnown (at .known) node) noSkip → Paces def at node r
     paces-item h k f =
         let known = staysKnown (at .known) node in
         let sight = sight-plain def at node (no-symbol h) in
         let moves = item def at node h k in
         either (leb (at .position + node .number) maxPosition)
-        (λ t. paces-none at (onward at (node .number) known)
+        (λ t. paces-made at (onward at (node .number) known) noSkip
         (by-sight at _ sight refl (λ e. omega arith) (moves ∙ pick-true _ _ t)) (f ∙ pick-true _ _ t))
         (λ t. paces-past (cross-stuck def at node sound at (PositionPast (node .index)) (sees-plain def at node (no-symbol h))
         (sound-state def at node sound ∙ moves ∙ pick-false _ _ t)) (f ∙ pick-false _ _ t))
@@ -197,17 +178,18 @@ module _ (def : Bankdef) (at : Pos) (node : Node) where
           (four-when def (at .position) (node .number) (node .index) t)))
           f
 
-      pub paces-align : {r : Paced} (bits : ℕ) → tellable def ≡ true → bits ≡ distanceTo (addressInBits def (at .position)) (node .number)
-          → r ≡ addedBy at bits (staysKnown (at .known) node) bits → Paces def at node r
-      paces-align bits t d f =
+      pub paces-align : {r : Paced} (bits : ℕ) {s : Skipped} → tellable def ≡ true → bits ≡ distanceTo (addressInBits def (at .position)) (node .number)
+          → s ≡ skipsOf def bits → r ≡ addedBy at bits (staysKnown (at .known) node) s → Paces def at node r
+      paces-align bits t d w g =
           let known = staysKnown (at .known) node in
           let far : distanceOf def (at .position) (node .number) (node .index) ≡ Skips (skipsOf def bits) =
           told-when def (at .position) (node .number) (node .index) t ∙ ap (λ (b : ℕ). Skips (skipsOf def b)) (sym d) in
           let goes : advancedOf def at node ≡ movedBy at bits known (node .index) =
           moves-8 ∙ ap (λ (x : Distance). movedByDistance at x known (node .index)) far in
           let own : alignedMotion def at (node .number) known (node .index) ≡ advanceMotion def at node = advance-aligned def at node known moves-8 k in
+          let f = g ∙ ap (addedBy at bits known) w in
           either (leb (at .position + bits) maxPosition)
-          (λ u. paces-made at (onward at bits known) bits
+          (λ u. paces-made at (onward at bits known) (skipsOf def bits)
           (cross-moves def at node sound at (onward at bits known) sight-8 (goes ∙ pick-true _ _ u)
           ∙ ap (λ (x : Skipped). record { seen = To at; skipped = x; after = onward at bits known })
           (pick-true _ _ (eq-eqb (node .kind) 8 k) ∙ sym (skips own) ∙ rw (far, u)))
@@ -225,14 +207,15 @@ module _ (def : Bankdef) (at : Pos) (node : Node) where
           ∙ ap (λ (d : Distance). movedByDistance at d (at .known) (node .index)) (four-when def (at .position) a (node .index) t)))
           f
 
-      pub paces-symbol : {r : Paced} (bits : ℕ) → tellable def ≡ true → bits ≡ distanceTo (addressInBits def (at .position)) a → r ≡ alignedBy at bits
-          → Paces def at node r
-      paces-symbol bits t d f =
+      pub paces-symbol : {r : Paced} (bits : ℕ) {s : Skipped} → tellable def ≡ true → bits ≡ distanceTo (addressInBits def (at .position)) a
+          → s ≡ skipsOf def bits → r ≡ alignedBy at s → Paces def at node r
+      paces-symbol bits t d w g =
           let far : distanceOf def (at .position) a (node .index) ≡ Skips (skipsOf def bits) =
           told-when def (at .position) a (node .index) t ∙ ap (λ (b : ℕ). Skips (skipsOf def b)) (sym d) in
           let p = onward at bits (at .known) in
+          let f = g ∙ ap (alignedBy at) w in
           either (leb (at .position + bits) maxPosition)
-          (λ u. paces-made p p bits
+          (λ u. paces-made p p (skipsOf def bits)
           (by-sight p p {m = motionOf (To p) (skipsOf def bits)} (rw (far, u) at sight) refl (λ e. omega arith) (early def p node h))
           (f ∙ pick-true _ _ u))
           (λ u. paces-past (cross-blind def at node sound (PositionPast (node .index))

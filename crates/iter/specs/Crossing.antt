@@ -36,9 +36,9 @@ crossingOf def at node = pick (badState node) (halted at (Malformed (node .index
 -- ---- a crossing put into the walk
 
 abbrev pub putBy : Walk → ℕ → Crossing → Moved → Stepped
-putBy walk bank c (To p) = record { seen = To p; skipped = c .skipped; walk = kept walk bank (c .after) (c .skipped .bits) }
+putBy walk bank c (To p) = record { seen = To p; skipped = c .skipped; walk = kept walk bank (c .after) (c .skipped) }
 putBy walk bank c (Refused why) = stopped walk why
 
--- the bank has the new position and the bits lost; a crossing that is refused leaves the walk as it was
+-- the bank has the new position and what it lost; a crossing that is refused leaves the walk as it was
 abbrev pub putIn : Walk → ℕ → Crossing → Stepped
 putIn walk bank c = putBy walk bank c (c .seen)

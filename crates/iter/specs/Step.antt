@@ -15,6 +15,7 @@ use Rattle.iter.specs.declared.Distance.{Distance}
 use Rattle.iter.specs.declared.Distance.the-variants.{Skips, Refused as NoDistance}
 use Rattle.iter.specs.declared.Pos.{Pos}
 use Rattle.iter.specs.declared.Node.{Node}
+use Rattle.iter.specs.declared.Lost.{Lost}
 use Rattle.iter.specs.declared.Walk.{Walk}
 use Rattle.iter.specs.declared.Skipped.{Skipped}
 use Rattle.iter.specs.declared.Motion.{Motion}
@@ -26,9 +27,13 @@ use Rattle.iter.specs.declared.Moved.the-variants.{To, Refused}
 abbrev pub origin : Pos
 origin = record { position = 0; known = true }
 
+-- nothing is lost
+abbrev pub noLost : Lost
+noLost = record { bits = 0; units = 0 }
+
 -- "Each bank's position starts at 0, known .. The walk begins in bank 0." No bank has lost a bit.
 unfoldable pub startOf : Walk
-startOf = record { at = replicate maxBanks origin; lost = replicate maxBanks 0; bank = 0 }
+startOf = record { at = replicate maxBanks origin; lost = replicate maxBanks noLost; bank = 0 }
 
 -- "5: a position would pass 4,294,967,295"
 abbrev pub movedBy : Pos → ℕ → Bool → ℕ → Moved
@@ -126,13 +131,17 @@ advanceMotion def at node = record { to = advancedOf def at node; skipped = adva
 abbrev pub counted : Node → Skipped → Skipped → Skipped
 counted node sight own = pick (eqb (node .kind) 8) own sight
 
--- "each bank should carry the sum of bits lost": it stops at the largest number of 64 bits, which no walk from the start comes to
+-- "each bank should carry the sum of bits lost": a sum stops at the largest number of 64 bits, which no walk from the start comes to
 -- (specs/Padding)
 abbrev pub maxSum : ℕ
 maxSum = 18446744073709551615
 
-abbrev pub lostAfter : ℕ → ℕ → ℕ
-lostAfter lost bits = pick (leb (lost + bits) maxSum) (lost + bits) maxSum
+abbrev pub sumAfter : ℕ → ℕ → ℕ
+sumAfter sum more = pick (leb (sum + more) maxSum) (sum + more) maxSum
+
+-- "Everything that uses the distance passes both on": the bits are added up, and the whole units of each skip
+abbrev pub lostAfter : Lost → Skipped → Lost
+lostAfter lost s = record { bits = sumAfter (lost .bits) (s .bits); units = sumAfter (lost .units) (s .units) }
 
 -- ---- the step
 
@@ -140,17 +149,17 @@ lostAfter lost bits = pick (leb (lost + bits) maxSum) (lost + bits) maxSum
 abbrev pub bankAfter : ℕ → Node → ℕ
 bankAfter bank node = pick (eqb (node .kind) 1) (node .operand) bank
 
--- "Each bank's position .. is kept through switches", and so is the sum of bits that it lost.
-abbrev pub kept : Walk → ℕ → Pos → ℕ → Walk
-kept walk bank p bits =
-    record { at = set (walk .at) bank p; lost = set (walk .lost) bank (lostAfter (getD (walk .lost) bank 0) bits); bank = bank }
+-- "Each bank's position .. is kept through switches", and so are the sums of what it lost.
+abbrev pub kept : Walk → ℕ → Pos → Skipped → Walk
+kept walk bank p s =
+    record { at = set (walk .at) bank p; lost = set (walk .lost) bank (lostAfter (getD (walk .lost) bank noLost) s); bank = bank }
 
 -- a step that is refused
 abbrev pub stopped : Walk → Refusal → Stepped
 stopped walk why = record { seen = Refused why; skipped = noSkip; walk = walk }
 
 abbrev pub steppedTo : Walk → ℕ → Pos → Skipped → Moved → Stepped
-steppedTo walk bank p s (To q) = record { seen = To p; skipped = s; walk = kept walk bank q (s .bits) }
+steppedTo walk bank p s (To q) = record { seen = To p; skipped = s; walk = kept walk bank q s }
 steppedTo walk bank p s (Refused why) = stopped walk why
 
 -- what a step counts in the bank that its node stands in, from the position there to the one that the node sees

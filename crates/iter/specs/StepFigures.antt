@@ -40,9 +40,9 @@ module _ (def : Bankdef) (walk : Walk) (node : Node) where
     -- its own advance is refused
     stuck : bankOf < maxBanks → SoundState node → (p : Pos) {n : ℕ} {place : Place} → Sees def (standing walk node) node (gives p)
         → Advances def p node (refuses n place) → Steps (refuses n place) noSkip walk
-    -- it is made: the bank that the node stands in has the new position, and the bits lost
+    -- it is made: the bank that the node stands in has the new position, and what it lost
     made : bankOf < maxBanks → SoundState node → (p q : Pos) (s : Skipped) → Sees def (standing walk node) node (gives p) → Advances def p node (gives q)
-        → Counts def (standing walk node) p q node s → Steps (gives p) s (kept walk bankOf q (s .bits))
+        → Counts def (standing walk node) p q node s → Steps (gives p) s (kept walk bankOf q s)
 
   -- The figures of `step`.
   abbrev pub StepTold : Stepped → Type 0

@@ -68,7 +68,7 @@ fn gap_to(r: u32, alignment: u32) -> u32
 }
 
 // "the count of whole address units it skips (distance over unit, rounded down)"
-fn in_units(def: Bankdef, bits: u32) -> Skipped
+pub fn in_units(def: Bankdef, bits: u32) -> Skipped
     requires { ⌜ tellable def ≡ true ⌝ }
     ensures { λ r. ⌜ r ≡ skipsOf def bits ⌝ }
 {
@@ -90,17 +90,6 @@ pub fn distance_in_bits(def: Bankdef, position: u32, alignment: u32) -> u32
         remainder_by(address_in_bits(def, position), alignment),
         alignment,
     )
-}
-
-// The whole units in so many bits; a unit of 0 holds none.
-pub fn skipped_by(def: Bankdef, bits: u32) -> Skipped
-    ensures { λ r. ⌜ r ≡ skipsOf def bits ⌝ }
-{
-    let unit = def.unit as u32;
-    Skipped {
-        bits,
-        units: if unit == 0 { 0 } else { bits / unit },
-    }
 }
 
 // The way from a position to the next multiple of the alignment. `node` is the place of a refusal.

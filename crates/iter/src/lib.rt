@@ -25,11 +25,18 @@ pub struct Pos {
     pub known: bool,
 }
 
-// The walk's state, handed in and back by value: "bank positions, an array of 16 in the walk's state", the bits that each bank
-// has lost to alignment so far, and the bank that the walk stands in.
+// What a bank has lost to alignment so far: the bits, and the whole address units, each skip's rounded down by itself.
+#[repr(C)]
+pub struct Lost {
+    pub bits: u64,
+    pub units: u64,
+}
+
+// The walk's state, handed in and back by value: "bank positions, an array of 16 in the walk's state", what each bank has lost to
+// alignment so far, and the bank that the walk stands in.
 pub struct Walk {
     pub at: [Pos; 16],
-    pub lost: [u64; 16],
+    pub lost: [Lost; 16],
     pub bank: u64,
 }
 
@@ -81,12 +88,12 @@ pub struct Crossing {
 }
 
 // A step in numbers, which a loop stores into its own walk: 0, or the number of what the node is refused for, 4 or 5; the position that it sees, its
-// bank's position after it, and the bits that its alignment skips. Refused, nothing is skipped and the position is the one given.
+// bank's position after it, and what its alignment skips. Refused, nothing is skipped and the position is the one given.
 pub struct Paced {
     pub fault: u8,
     pub seen: Pos,
     pub after: Pos,
-    pub bits: u32,
+    pub skipped: Skipped,
 }
 
 // A step of the walk: the position that the node sees, what its alignment skips, and the walk after it. Refused, nothing is

@@ -4,9 +4,10 @@ use crate::Moved;
 use crate::Node;
 use crate::Paced;
 use crate::Pos;
+use crate::Skipped;
 use crate::alignment::distance_in_bits;
+use crate::alignment::in_units;
 use crate::alignment::is_tellable;
-use crate::alignment::skipped_by;
 use bankdef::Bankdef;
 use refusal::ADDR;
 use refusal::ALIGN;
@@ -28,6 +29,7 @@ ghost use Prim.Native.Nat.{_≤_};
 ghost use lib.Dec.{eqb};
 ghost use Rattle.refusal.specs.declared.Opt.the-variants.{None};
 ghost use Rattle.iter.specs.Crossing.{crossingOf};
+ghost use Rattle.iter.specs.Distance.{noSkip};
 ghost use Rattle.iter.specs.Known.{staysKnown};
 ghost use Rattle.iter.specs.Pace.{Paces, Still, bankRead, nodeWith, madeBy, haltedBy, addedBy, alignedBy, seenBy, whyBy, crossedBy};
 ghost use Rattle.iter.specs.Step.{outermostSymbol, badState};
@@ -40,15 +42,22 @@ const MALFORMED: u8 = 4;
 const POSITION_PAST: u8 = 5;
 
 // A step that is made.
-fn made(seen: Pos, after: Pos, bits: u32) -> Paced
-    ensures { λ r. ⌜ r ≡ madeBy seen after bits ⌝ }
+fn made(seen: Pos, after: Pos, skipped: Skipped) -> Paced
+    ensures { λ r. ⌜ r ≡ madeBy seen after skipped ⌝ }
 {
     Paced {
         fault: MADE,
         seen,
         after,
-        bits,
+        skipped,
     }
+}
+
+// A step that moves nothing and skips nothing.
+fn stood(at: Pos) -> Paced
+    ensures { λ r. ⌜ r ≡ madeBy at at noSkip ⌝ }
+{
+    made(at, at, Skipped { bits: 0, units: 0 })
 }
 
 // A step that is refused: nothing is skipped, and the position is the one given.
@@ -62,12 +71,12 @@ fn halted(at: Pos, fault: u8) -> Paced
             known: true,
         },
         after: at,
-        bits: 0,
+        skipped: Skipped { bits: 0, units: 0 },
     }
 }
 
 // A position moved on, where the sum stays within the limit: "a position would pass 4,294,967,295". The node sees it as it was.
-fn added(at: Pos, bits: u32, known: bool, lost: u32) -> Paced
+fn added(at: Pos, bits: u32, known: bool, lost: Skipped) -> Paced
     ensures { λ r. ⌜ r ≡ addedBy at bits known lost ⌝ }
 {
     let sum = (at.position as u64) + (bits as u64);
@@ -82,10 +91,10 @@ fn added(at: Pos, bits: u32, known: bool, lost: u32) -> Paced
 }
 
 // The same where the node is "aligned first", and sees the position moved on.
-fn aligned_first(at: Pos, bits: u32) -> Paced
-    ensures { λ r. ⌜ r ≡ alignedBy at bits ⌝ }
+fn aligned_first(at: Pos, skipped: Skipped) -> Paced
+    ensures { λ r. ⌜ r ≡ alignedBy at skipped ⌝ }
 {
-    let sum = (at.position as u64) + (bits as u64);
+    let sum = (at.position as u64) + (skipped.bits as u64);
     if refusal::MAX_POSITION < sum {
         return halted(at, POSITION_PAST);
     }
@@ -93,7 +102,7 @@ fn aligned_first(at: Pos, bits: u32) -> Paced
         position: sum as u32,
         known: at.known,
     };
-    made(seen, seen, bits)
+    made(seen, seen, skipped)
 }
 
 // "2 label, 3 constant"
@@ -135,16 +144,16 @@ fn pace_symbol(def: Bankdef, at: Pos, node: Node) -> Paced
     ensures { λ r. ⌜ Paces def at node r ⌝ }
 {
     if !is_outermost_symbol(node) {
-        return made(at, at, 0);
+        return stood(at);
     }
     let align = def.align;
     match align {
-        Opt::None => made(at, at, 0),
+        Opt::None => stood(at),
         Opt::Some(a) => {
             if !is_tellable(def) {
                 return halted(at, MALFORMED);
             }
-            aligned_first(at, distance_in_bits(def, at.position, a))
+            aligned_first(at, in_units(def, distance_in_bits(def, at.position, a)))
         }
     }
 }
@@ -159,7 +168,7 @@ fn pace_align(def: Bankdef, at: Pos, node: Node) -> Paced
         return halted(at, MALFORMED);
     }
     let bits = distance_in_bits(def, at.position, node.number);
-    added(at, bits, stays_known(at.known, node), bits)
+    added(at, bits, stays_known(at.known, node), in_units(def, bits))
 }
 
 // The step over one node, kind by kind, in the bank that it stands in, whose record is `def` and whose position is `at`. "Afterwards 4 to 7 add their
@@ -172,9 +181,9 @@ fn pace_by_kind(def: Bankdef, at: Pos, node: Node) -> Paced
     }
     let kind = node.kind;
     match kind {
-        NOTHING..=SWITCH => made(at, at, 0),
+        NOTHING..=SWITCH => stood(at),
         LABEL..=CONSTANT => pace_symbol(def, at, node),
-        INSTRUCTION..=RESERVE => added(at, node.number, stays_known(at.known, node), 0),
+        INSTRUCTION..=RESERVE => added(at, node.number, stays_known(at.known, node), Skipped { bits: 0, units: 0 }),
         ALIGN => pace_align(def, at, node),
         // "An `addr` that moves the position is not padding."
         ADDR => made(
@@ -183,9 +192,9 @@ fn pace_by_kind(def: Bankdef, at: Pos, node: Node) -> Paced
                 position: node.number,
                 known: node.state == RESOLVED,
             },
-            0,
+            Skipped { bits: 0, units: 0 },
         ),
-        ASSERT => made(at, at, 0),
+        ASSERT => stood(at),
         // "Any other kind number is refused."
         _ => halted(at, MALFORMED),
     }
@@ -278,10 +287,10 @@ pub fn pace(def: Bankdef, at: Pos, node: Node) -> Paced
     ensures { λ r. ⌜ Paces def at node r ⌝ }
 {
     if stands_still(def, node) {
-        return made(at, at, 0);
+        return stood(at);
     }
     if adds_number(node) {
-        return added(at, node.number, stays_known(at.known, node), 0);
+        return added(at, node.number, stays_known(at.known, node), Skipped { bits: 0, units: 0 });
     }
     let align = def.align;
     pace_of_parts(
@@ -321,13 +330,14 @@ fn sight_of(p: Paced, node: u64) -> Moved
 }
 
 // The crossing that a step's numbers tell.
-fn crossing_of(def: Bankdef, p: Paced, node: u64) -> Crossing
-    ensures { λ r. ⌜ r ≡ crossedBy def node p ⌝ }
+fn crossing_of(p: Paced, node: u64) -> Crossing
+    ensures { λ r. ⌜ r ≡ crossedBy node p ⌝ }
 {
+    let skipped = p.skipped;
     let after = p.after;
     Crossing {
         seen: sight_of(p, node),
-        skipped: skipped_by(def, p.bits),
+        skipped,
         after,
     }
 }
@@ -348,5 +358,5 @@ pub fn cross(def: Bankdef, at: Pos, node: Node) -> Crossing
         node.number,
         node.state,
     );
-    crossing_of(def, p, node.index)
+    crossing_of(p, node.index)
 }

@@ -1,5 +1,6 @@
 // The walk from node to node, by value.
 use crate::Distance;
+use crate::Lost;
 use crate::Motion;
 use crate::Moved;
 use crate::Node;
@@ -26,11 +27,11 @@ ghost use mathlib.Core.Path.{_≡_};
 ghost use Prim.Native.Nat.{_<_};
 ghost use Rattle.refusal.specs.Limits.{maxBanks};
 ghost use Rattle.iter.specs.Step.{movedBy, startOf, bankAfter};
-ghost use Rattle.iter.specs.Step.{still, motionOf, alignedMotion, advanceMotion, lostAfter, kept, stopped, stepOf};
+ghost use Rattle.iter.specs.Step.{still, motionOf, alignedMotion, advanceMotion, sumAfter, lostAfter, kept, stopped, stepOf};
 ghost use Rattle.iter.specs.Figures.{AdvanceTold};
 ghost use Rattle.iter.specs.StepFigures.{StepTold};
 
-// A sum of bits stops here: it is the largest number of 64 bits.
+// A sum stops here: it is the largest number of 64 bits.
 const MAX_SUM: u64 = 18_446_744_073_709_551_615;
 
 // A sum of a position and bits, where it stays within the limit.
@@ -89,9 +90,10 @@ pub fn start() -> Walk
         position: 0,
         known: true,
     };
+    let none = Lost { bits: 0, units: 0 };
     Walk {
         at: [origin; 16],
-        lost: [0; 16],
+        lost: [none; 16],
         bank: 0,
     }
 }
@@ -135,27 +137,43 @@ pub fn advance_address(def: Bankdef, at: Pos, node: Node) -> Motion
     }
 }
 
-// "the sum of bits lost", with those of one node more
-pub fn lost_after(lost: u64, bits: u32) -> u64
-    ensures { λ r. ⌜ r ≡ lostAfter lost bits ⌝ }
+// A sum with what one node more adds to it.
+fn sum_after(sum: u64, by: u32) -> u64
+    ensures { λ r. ⌜ r ≡ sumAfter sum by ⌝ }
 {
-    let more = bits as u64;
-    if lost <= MAX_SUM - more {
-        lost + more
+    let more = by as u64;
+    if sum <= MAX_SUM - more {
+        sum + more
     } else {
         MAX_SUM
     }
 }
 
-// The walk with a bank's new position, and the bits that it lost.
-fn moved_walk(walk: Walk, bank: u64, to: Pos, bits: u32) -> Walk
+// "the sum of bits lost", and that of whole units, with what one node more skips. Nearly all skip nothing: no bits, and then no units.
+pub fn lost_after(lost: Lost, skipped: Skipped) -> Lost
+    requires { ⌜ (skipped .bits ≡ 0 → skipped .units ≡ 0) ⌝ }
+    ensures { λ r. ⌜ r ≡ lostAfter lost skipped ⌝ }
+{
+    if skipped.bits == 0 {
+        return lost;
+    }
+    Lost {
+        bits: sum_after(lost.bits, skipped.bits),
+        units: sum_after(lost.units, skipped.units),
+    }
+}
+
+// The walk with a bank's new position, and what it lost.
+fn moved_walk(walk: Walk, bank: u64, to: Pos, skipped: Skipped) -> Walk
     requires { ⌜ bank < maxBanks ⌝ }
-    ensures { λ r. ⌜ r ≡ kept walk bank to bits ⌝ }
+    requires { ⌜ (skipped .bits ≡ 0 → skipped .units ≡ 0) ⌝ }
+    ensures { λ r. ⌜ r ≡ kept walk bank to skipped ⌝ }
 {
     let mut at = walk.at;
     at[bank as usize] = to;
     let mut lost = walk.lost;
-    lost[bank as usize] = lost_after(lost[bank as usize], bits);
+    let sums = lost_after(lost[bank as usize], skipped);
+    lost[bank as usize] = sums;
     Walk { at, lost, bank }
 }
 
@@ -187,7 +205,7 @@ pub fn step(def: Bankdef, walk: Walk, node: Node) -> Stepped
             Stepped {
                 seen: Moved::To(p),
                 skipped,
-                walk: moved_walk(walk, bank, crossing.after, skipped.bits),
+                walk: moved_walk(walk, bank, crossing.after, skipped),
             }
         }
         Moved::Refused(why) => refused_step(walk, why),

@@ -1,5 +1,5 @@
 -- Padding figures (document 02, Ticket 2): a bank's padding as a plain sum over the nodes that stand in it, and that the walk carries it.
-use Prim.Native.Nat.{ℕ, zero, suc, _+_}
+use Prim.Native.Nat.{ℕ, zero, suc, _+_, _/_}
 use mathlib.Core.Bool.{_&&_}
 use lib.Dec.{eqb, leb}
 use lib.ListN.{length}
@@ -10,6 +10,7 @@ use Rattle.bankdef.specs.declared.Bankdef.{Bankdef}
 use Rattle.iter.specs.Distance.{addressInBits, distanceTo}
 use Rattle.iter.specs.Step.{outermostSymbol}
 use Rattle.iter.specs.StepCases.{standing}
+use Rattle.iter.specs.declared.Lost.{Lost}
 use Rattle.iter.specs.declared.Node.{Node}
 use Rattle.resolver.specs.KnownInPass.{bankAt}
 use Rattle.lists.specs.Lists.{Row}
@@ -48,15 +49,20 @@ module _ (p : Program) (row : Row) where
   abbrev pub lostAt : ℕ → ℕ
   lostAt i = lostBy (defAt p row i) (standsAt i) (node p row i)
 
+  -- "the count of whole address units it skips (distance over unit, rounded down)"
+  abbrev pub unitsAt : ℕ → ℕ
+  unitsAt i = lostAt i / defAt p row i .unit
+
   -- what those of the first n nodes that stand in a bank add up to
   unfoldable pub sumIn : (ℕ → ℕ) → ℕ → ℕ → ℕ
   sumIn f bank zero = 0
   sumIn f bank (suc i) = sumIn f bank i + pick (eqb (bankAt p row i) bank) (f i) 0
 
-  -- "each bank should carry the sum of bits lost to `align` and to label alignment", over the first n nodes
-  abbrev pub paddingTo : ℕ → ℕ → ℕ
-  paddingTo bank n = sumIn lostAt bank n
+  -- "each bank should carry the sum of bits lost to `align` and to label alignment", over the first n nodes, and "everything that uses the distance passes
+  -- both on": the sum of the whole units of each skip
+  abbrev pub paddingTo : ℕ → ℕ → Lost
+  paddingTo bank n = record { bits = sumIn lostAt bank n; units = sumIn unitsAt bank n }
 
   -- and over the whole row
-  abbrev pub paddingOf : ℕ → ℕ
+  abbrev pub paddingOf : ℕ → Lost
   paddingOf bank = paddingTo bank (length (p .kinds))

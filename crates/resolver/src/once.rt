@@ -184,7 +184,8 @@ fn walk_alone(
         merged = larger(merged, node_state(def, node, now, step, is_first));
         let after = step.after;
         walk.at[bank as usize] = after;
-        walk.lost[bank as usize] = lost_after(walk.lost[bank as usize], step.bits);
+        let lost = lost_after(walk.lost[bank as usize], step.skipped);
+        walk.lost[bank as usize] = lost;
         walk.bank = bank;
         i += 1;
     }
@@ -271,11 +272,13 @@ fn walk_beside(
         merged = larger(merged, node_state(def, node, now, before, false));
         let after = step.after;
         walk.at[bank as usize] = after;
-        walk.lost[bank as usize] = lost_after(walk.lost[bank as usize], step.bits);
+        let lost = lost_after(walk.lost[bank as usize], step.skipped);
+        walk.lost[bank as usize] = lost;
         walk.bank = bank;
         let after_before = before.after;
         old.at[bank as usize] = after_before;
-        old.lost[bank as usize] = lost_after(old.lost[bank as usize], before.bits);
+        let lost_before = lost_after(old.lost[bank as usize], before.skipped);
+        old.lost[bank as usize] = lost_before;
         old.bank = bank;
         i += 1;
     }

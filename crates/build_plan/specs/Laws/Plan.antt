@@ -2,11 +2,17 @@
 use mathlib.Core.Path.{_≡_, refl, sym, ap, _∙_}
 use mathlib.Core.Bool.{Bool}
 use mathlib.Core.List.{List}
-use Prim.Native.Nat.{ℕ}
+use Prim.Native.Nat.{ℕ, _<_}
 use native.Mathlib.Omega.{arith}
-use lib.ListN.{length}
+use lib.ListN.{length, getD, length-map, List·getD-map}
+use Rattle.refusal.specs.Limits.{maxBanks}
 use Rattle.refusal.specs.declared.Verdict.{Verdict}
 use Rattle.refusal.specs.declared.Verdict.the-variants.{Accepted, Refused}
+use Rattle.bitvec.specs.Lists.{listOf}
+use Rattle.bitvec.specs.Laws.Lists.{length-listOf, getD-listOf}
+use Rattle.iter.specs.Laws.Crossing.{any-default}
+use Rattle.iter.specs.Step.{noLost}
+use Rattle.iter.specs.declared.Lost.{Lost}
 use Rattle.lists.specs.Lists.{Row}
 use Rattle.resolver.specs.Once.{Program}
 use Rattle.build_sights.specs.Visits.{visits}
@@ -14,7 +20,20 @@ use Rattle.build_sights.specs.Items.{itemsOf, lengthOf}
 use Rattle.build_sights.specs.Spans.{spansOf}
 use Rattle.build_plan.specs.Placing.{Placed, holds, stops, placedAll}
 use Rattle.build_plan.specs.declared.Plan.{Plan}
-use Rattle.build_plan.specs.Plan.{paddingsOf, planAccepted, planBy, planOf}
+use Rattle.build_plan.specs.Plan.{ofBanks, paddingsOf, planAccepted, planBy, planOf}
+
+-- ---- of each bank
+
+pub length-of-banks : (f : ℕ → Lost) → length (ofBanks f) ≡ maxBanks
+length-of-banks f = length-map (listOf maxBanks (λ bank. bank)) f ∙ length-listOf maxBanks (λ bank. bank)
+
+pub getD-of-banks : (f : ℕ → Lost) (bank : ℕ) → bank < maxBanks → getD (ofBanks f) bank noLost ≡ f bank
+getD-of-banks f bank low =
+    any-default (ofBanks f) bank noLost (f 0) (rw (length-of-banks f) low)
+    ∙ List·getD-map f (listOf maxBanks (λ bank. bank)) bank 0
+    ∙ ap f (getD-listOf maxBanks (λ bank. bank) bank low)
+
+-- ---- a plan's verdict
 
 abbrev pub verdictPlaced : Placed → Verdict
 verdictPlaced (holds stored) = Accepted
@@ -28,7 +47,7 @@ pub record Planned (p : Program) (row : Row) (closed : Bool) (fill : ℕ) (plan 
   pub count : plan .verdict ≡ Accepted → plan .spans ≡ length (spansOf (visits p row))
   pub padding : plan .verdict ≡ Accepted → plan .padding ≡ paddingsOf p row
 
-module _ (bits spans : ℕ) (sums : List ℕ) where
+module _ (bits spans : ℕ) (sums : List Lost) where
   plan-verdict : (q : Placed) → planBy bits spans sums q .verdict ≡ verdictPlaced q
   plan-verdict (holds stored) = refl
   plan-verdict (stops why) = refl

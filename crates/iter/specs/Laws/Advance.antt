@@ -48,6 +48,6 @@ module _ (def : Bankdef) (walk : Walk) (node : Node) (bank : ℕ) (e : bank ≡ 
 
     pub moves : (p q : Pos) → seenOf def (getD (walk .at) bank origin) node ≡ To p → advancedOf def p node ≡ To q
         → let s = stepSkips def (getD (walk .at) bank origin) p node in
-        stepOf def walk node ≡ record { seen = To p; skipped = s; walk = kept walk bank q (s .bits) }
+        stepOf def walk node ≡ record { seen = To p; skipped = s; walk = kept walk bank q s }
     unfolding stepOf
     moves p q s a = rw (sym e, sound, s, a)

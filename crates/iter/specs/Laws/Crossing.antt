@@ -12,6 +12,7 @@ use Rattle.refusal.specs.declared.Refusal.{Refusal}
 use Rattle.refusal.specs.declared.Refusal.the-variants.{Malformed}
 use Rattle.bankdef.specs.declared.Bankdef.{Bankdef}
 use Rattle.iter.specs.Theorems.Advance.{sound-state, early}
+use Rattle.iter.specs.Distance.{noSkip}
 use Rattle.iter.specs.Step.{origin, outermostSymbol, seenOf, badState, advancedOf, stopped, stepSkips, steppedTo, steppedFrom}
 use Rattle.iter.specs.Laws.StepFacts.{sees-plain}
 use Rattle.iter.specs.declared.Crossing.{Crossing}
@@ -64,17 +65,17 @@ halts def at node why e f =
 
 -- And nothing is skipped.
 pub halts-skip : (def : Bankdef) (at : Pos) (node : Node) (why : Refusal) {c : Crossing} → c ≡ crossingOf def at node → c .seen ≡ Refused why
-    → c .skipped .bits ≡ 0
+    → c .skipped ≡ noSkip
 unfolding crossingOf
 halts-skip def at node why e f =
-    ap (λ (x : Crossing). x .skipped .bits) e ∙ tested (badState node) (seenOf def at node) (ap (λ (x : Crossing). x .seen) (sym e) ∙ f)
+    ap (λ (x : Crossing). x .skipped) e ∙ tested (badState node) (seenOf def at node) (ap (λ (x : Crossing). x .seen) (sym e) ∙ f)
   where
-    advanced : (p : Pos) (s : Skipped) (m : Moved) → crossedTo at p s m .seen ≡ Refused why → crossedTo at p s m .skipped .bits ≡ 0
+    advanced : (p : Pos) (s : Skipped) (m : Moved) → crossedTo at p s m .seen ≡ Refused why → crossedTo at p s m .skipped ≡ noSkip
     advanced p s (To q) g = absurd (never g)
     advanced p s (Refused x) g = refl
 
     tested : (t : Bool) (m : Moved) → pick t (halted at (Malformed (node .index))) (crossedFrom def at node m) .seen ≡ Refused why
-        → pick t (halted at (Malformed (node .index))) (crossedFrom def at node m) .skipped .bits ≡ 0
+        → pick t (halted at (Malformed (node .index))) (crossedFrom def at node m) .skipped ≡ noSkip
     tested true m g = refl
     tested false (To p) g = advanced p (stepSkips def at p node) (advancedOf def p node) g
     tested false (Refused x) g = refl

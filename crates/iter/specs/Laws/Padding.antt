@@ -1,8 +1,9 @@
 -- Laws that Theorems/Padding rests on.
-use Prim.Native.Nat.{ℕ, zero, suc, _+_, _≤_, zero-le}
-use mathlib.Core.Path.{_≡_, refl, _∙_}
+use Prim.Native.Nat.{ℕ, zero, suc, _+_, _/_, _≤_, zero-le}
+use mathlib.Core.Path.{_≡_, refl, sym, ap, _∙_}
 use mathlib.Core.Bool.{Bool, true, false}
 use mathlib.Core.List.{List, [], _∷_}
+use native.Mathlib.Nat.{zero-div, div-le-self}
 use native.Mathlib.Omega.{arith}
 use lib.Dec.{eqb, leb}
 use lib.ListN.{getD, set, replicate}
@@ -13,40 +14,62 @@ use Rattle.refusal.specs.Pick.{pick}
 use Rattle.refusal.specs.declared.Opt.{Opt}
 use Rattle.refusal.specs.declared.Opt.the-variants.{None, Some}
 use Rattle.refusal.specs.declared.Refusal.{Refusal}
+use Rattle.refusal.specs.declared.Refusal.the-variants.{Malformed}
 use Rattle.bankdef.specs.declared.Bankdef.{Bankdef}
 use Rattle.iter.specs.Theorems.Advance.{bad-state, sound-state, aligning}
-use Rattle.iter.specs.Distance.{noSkip, distanceOf}
+use Rattle.iter.specs.Crossing.{crossingOf, halted, crossedTo, crossedFrom}
+use Rattle.iter.specs.Distance.{tellable, addressInBits, distanceTo, skipsOf, noSkip, distanceOf}
 use Rattle.iter.specs.Known.{staysKnown}
-use Rattle.iter.specs.Step.{movedByDistance, outermostSymbol, labelAligned, seenOf, badState, advancedOf, skipsBy, whenMade}
-use Rattle.iter.specs.Step.{labelSkips, seenSkips, advanceSkips, maxSum, lostAfter}
+use Rattle.iter.specs.Pace.{Paces}
+use Rattle.iter.specs.Padding.{Part, the-bits, the-units, lostPart, skippedPart}
+use Rattle.iter.specs.Step.{noLost, movedByDistance, outermostSymbol, labelAligned, seenOf, badState, advancedOf, skipsBy, whenMade}
+use Rattle.iter.specs.Step.{labelSkips, seenSkips, advanceSkips, maxSum, sumAfter, lostAfter, stepSkips}
 use Rattle.iter.specs.Laws.ToldFacts.{none-skipped}
+use Rattle.iter.specs.declared.Crossing.{Crossing}
 use Rattle.iter.specs.declared.Distance.{Distance}
 use Rattle.iter.specs.declared.Distance.the-variants.{Skips, Refused as NoDistance}
+use Rattle.iter.specs.declared.Lost.{Lost}
+use Rattle.iter.specs.declared.Moved.{Moved}
 use Rattle.iter.specs.declared.Moved.the-variants.{To, Refused}
 use Rattle.iter.specs.declared.Node.{Node}
+use Rattle.iter.specs.declared.Paced.{Paced}
 use Rattle.iter.specs.declared.Pos.{Pos}
+use Rattle.iter.specs.declared.Skipped.{Skipped}
 
-pub sum-at-most : (lost bits : ℕ) → lostAfter lost bits ≤ lost + bits
-sum-at-most lost bits =
-    either (leb (lost + bits) maxSum)
+pub sum-at-most : (sum more : ℕ) → sumAfter sum more ≤ sum + more
+sum-at-most sum more =
+    either (leb (sum + more) maxSum)
     (λ t. rw t (omega arith))
-    (λ t. let l = leb-false (lost + bits) maxSum t in rw t (omega arith))
+    (λ t. let l = leb-false (sum + more) maxSum t in rw t (omega arith))
 
--- what is put in place of the same leaves the list as it was
-pub same-set : (l : List ℕ) (i j x : ℕ) → x ≡ getD l i 0 → getD (set l i x) j 0 ≡ getD l j 0
-same-set [] i j x e = refl
-same-set (y ∷ l) zero zero x e = e
-same-set (y ∷ l) zero (suc j) x e = refl
-same-set (y ∷ l) (suc i) zero x e = refl
-same-set (y ∷ l) (suc i) (suc j) x e = same-set l i j x e
+-- each part is added up by itself
+pub part-after : (part : Part) (l : Lost) (s : Skipped) → lostPart part (lostAfter l s) ≡ sumAfter (lostPart part l) (skippedPart part s)
+part-after the-bits l s = refl
+part-after the-units l s = refl
 
--- what is put in place of something, and is larger by no more than k
-pub more-set : (l : List ℕ) (i j x k : ℕ) → x ≤ getD l i 0 + k → getD (set l i x) j 0 ≤ getD l j 0 + k
-more-set [] i j x k h = zero-le
-more-set (y ∷ l) zero zero x k h = h
-more-set (y ∷ l) zero (suc j) x k h = omega arith
-more-set (y ∷ l) (suc i) zero x k h = omega arith
-more-set (y ∷ l) (suc i) (suc j) x k h = more-set l i j x k h
+-- of nothing, none
+pub part-of-none : (part : Part) → skippedPart part noSkip ≡ 0
+part-of-none the-bits = refl
+part-of-none the-units = refl
+
+-- ---- a measure of a list's elements, after one of them is set
+
+module _ {A : Type 0} (g : A → ℕ) (d : A) where
+  -- what is put in place of the same leaves the list as it was
+  pub same-set : (l : List A) (i j : ℕ) (x : A) → g x ≡ g (getD l i d) → g (getD (set l i x) j d) ≡ g (getD l j d)
+  same-set [] i j x e = refl
+  same-set (y ∷ l) zero zero x e = e
+  same-set (y ∷ l) zero (suc j) x e = refl
+  same-set (y ∷ l) (suc i) zero x e = refl
+  same-set (y ∷ l) (suc i) (suc j) x e = same-set l i j x e
+
+  -- what is put in place of something, and is larger by no more than k
+  pub more-set : (l : List A) (i j : ℕ) (x : A) (k : ℕ) → g x ≤ g (getD l i d) + k → g (getD (set l i x) j d) ≤ g (getD l j d) + k
+  more-set [] i j x k h = omega arith
+  more-set (y ∷ l) zero zero x k h = h
+  more-set (y ∷ l) zero (suc j) x k h = omega arith
+  more-set (y ∷ l) (suc i) zero x k h = omega arith
+  more-set (y ∷ l) (suc i) (suc j) x k h = more-set l i j x k h
 
 -- ---- what a node skips
 
@@ -89,7 +112,78 @@ module _ (def : Bankdef) (at : Pos) (node : Node) where
       (skip-small at (distanceOf def (at .position) (node .number) (node .index)) (staysKnown (at .known) node) (node .index)))))
       (λ e. rw (e, none-skipped (advancedOf def at node)) zero-le)
 
-pub zeros : (n j : ℕ) → _≡_ {A = ℕ} (getD (replicate n 0) j 0) 0
-zeros zero j = refl
-zeros (suc n) zero = refl
-zeros (suc n) (suc j) = zeros n j
+-- ---- the units of what is skipped
+
+module _ (def : Bankdef) where
+  -- "distance over unit, rounded down"
+  abbrev pub Whole : Skipped → Type 0
+  Whole s = s .units ≡ s .bits / def .unit
+
+  whole-none : Whole noSkip
+  whole-none = sym (zero-div (def .unit))
+
+  whole-distance : (position a node : ℕ) → Whole (skipsBy (distanceOf def position a node))
+  unfolding distanceOf
+  whole-distance position a node = go (tellable def)
+    where
+      go : (t : Bool) → Whole (skipsBy (pick t (Skips (skipsOf def (distanceTo (addressInBits def position) a))) (NoDistance (Malformed node))))
+      go true = refl
+      go false = whole-none
+
+  whole-made : (m : Moved) (s : Skipped) → Whole s → Whole (whenMade m s)
+  whole-made (To p) s h = h
+  whole-made (Refused why) s h = whole-none
+
+  whole-pick : (t : Bool) (x y : Skipped) → Whole x → Whole y → Whole (pick t x y)
+  whole-pick true x y h k = h
+  whole-pick false x y h k = k
+
+  whole-label : (o : Opt) (at : Pos) (node : ℕ) → Whole (labelSkips def o at node)
+  whole-label None at node = whole-none
+  whole-label (Some a) at node = whole-distance (at .position) a node
+
+  sight-whole : (at : Pos) (node : Node) → Whole (seenSkips def at node)
+  unfolding seenSkips
+  sight-whole at node = whole-made (seenOf def at node) _ (whole-pick (outermostSymbol node) _ noSkip (whole-label (def .align) at (node .index)) whole-none)
+
+  own-whole : (at : Pos) (node : Node) → Whole (advanceSkips def at node)
+  unfolding advanceSkips
+  own-whole at node =
+      whole-made (advancedOf def at node) _
+      (whole-pick (eqb (node .kind) 8) _ noSkip (whole-distance (at .position) (node .number) (node .index)) whole-none)
+
+  pub step-whole : (at p : Pos) (node : Node) → Whole (stepSkips def at p node)
+  step-whole at p node = whole-pick (eqb (node .kind) 8) (advanceSkips def p node) (seenSkips def at node) (own-whole p node) (sight-whole at node)
+
+  whole-crossed : (at p : Pos) (s : Skipped) (m : Moved) → Whole s → Whole (crossedTo at p s m .skipped)
+  whole-crossed at p s (To q) h = h
+  whole-crossed at p s (Refused why) h = whole-none
+
+  crossing-whole : (at : Pos) (node : Node) → Whole (crossingOf def at node .skipped)
+  unfolding crossingOf
+  crossing-whole at node = go (badState node) (seenOf def at node)
+    where
+      go : (t : Bool) (m : Moved) → Whole (pick t (halted at (Malformed (node .index))) (crossedFrom def at node m) .skipped)
+      go true m = whole-none
+      go false (To p) = whole-crossed at p (stepSkips def at p node) (advancedOf def p node) (step-whole at p node)
+      go false (Refused why) = whole-none
+
+  -- a node that skips no bits skips no units
+  whole-nothing : (s : Skipped) → Whole s → s .bits ≡ 0 → s .units ≡ 0
+  whole-nothing s w none = w ∙ ap (λ (b : ℕ). b / def .unit) none ∙ zero-div (def .unit)
+
+  pub crossing-nothing : (at : Pos) (node : Node) {c : Crossing} → c ≡ crossingOf def at node → c .skipped .bits ≡ 0 → c .skipped .units ≡ 0
+  crossing-nothing at node {c} e = whole-nothing (c .skipped) (rw e (crossing-whole at node))
+
+  pub pace-nothing : (at : Pos) (node : Node) {p : Paced} → Paces def at node p → p .skipped .bits ≡ 0 → p .skipped .units ≡ 0
+  pace-nothing at node {p} e = whole-nothing (p .skipped) (rw (e .0) (crossing-whole at node))
+
+  -- so they are no more than the bits
+  pub part-small : (part : Part) (s : Skipped) → Whole s → s .bits ≤ maxPosition → skippedPart part s ≤ maxPosition
+  part-small the-bits s w h = h
+  part-small the-units s w h = let less = div-le-self (s .bits) (def .unit) in omega arith
+
+pub none-yet : (n j : ℕ) → getD (replicate n noLost) j noLost ≡ noLost
+none-yet zero j = refl
+none-yet (suc n) zero = refl
+none-yet (suc n) (suc j) = none-yet n j

@@ -20,7 +20,7 @@ module _ (def : Bankdef) (walk : Walk) (node : Node) (P : Stepped → Type 0)
     → P (record {
       seen = To p;
       skipped = stepSkips def (standing walk node) p node;
-      walk = kept walk (bankAfter (walk .bank) node) q (stepSkips def (standing walk node) p node .bits);
+      walk = kept walk (bankAfter (walk .bank) node) q (stepSkips def (standing walk node) p node);
     }))
   where
     after-advance : (p : Pos) → seenOf def (standing walk node) node ≡ To p → (m : Moved) → advancedOf def p node ≡ m

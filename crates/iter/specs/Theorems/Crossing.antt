@@ -14,10 +14,12 @@ use Rattle.refusal.specs.Laws.Pick.{pick-true, pick-false}
 use Rattle.refusal.specs.declared.Refusal.{Refusal}
 use Rattle.refusal.specs.declared.Refusal.the-variants.{Malformed}
 use Rattle.bankdef.specs.declared.Bankdef.{Bankdef}
-use Rattle.iter.specs.Padding.{Fits, lostIn}
-use Rattle.iter.specs.Step.{origin, seenOf, badState, bankAfter, maxSum, lostAfter, kept, stopped, stepOf}
+use Rattle.iter.specs.Padding.{Fits, the-bits, the-units}
+use Rattle.iter.specs.Distance.{noSkip}
+use Rattle.iter.specs.Step.{origin, noLost, seenOf, badState, bankAfter, maxSum, sumAfter, lostAfter, kept, stopped, stepOf}
 use Rattle.iter.specs.Theorems.StepFacts.{stands-in}
 use Rattle.iter.specs.declared.Crossing.{Crossing}
+use Rattle.iter.specs.declared.Lost.{Lost}
 use Rattle.iter.specs.declared.Moved.{Moved}
 use Rattle.iter.specs.declared.Moved.the-variants.{To, Refused}
 use Rattle.iter.specs.declared.Node.{Node}
@@ -36,11 +38,16 @@ step-crosses def walk node =
     let bank = bankAfter (walk .bank) node in
     tests-put def walk node bank (leb maxBanks bank) (badState node) (seenOf def (getD (walk .at) bank origin) node)
 
--- no bits added leave a sum as it was
-none-added : (lost : ℕ) → lost < 2 ^ 64 → lost ≡ lostAfter lost 0
-none-added lost h =
-    let same : lost + 0 ≡ lost = omega arith in
-    sym (pick-true _ _ (le-leb (lost + 0) maxSum (omega arith)) ∙ same)
+-- nothing added leaves a sum as it was
+none-added : (sum : ℕ) → sum < 2 ^ 64 → sum ≡ sumAfter sum 0
+none-added sum h =
+    let same : sum + 0 ≡ sum = omega arith in
+    sym (pick-true _ _ (le-leb (sum + 0) maxSum (omega arith)) ∙ same)
+
+pub none-lost : (lost : Lost) → lost .bits < 2 ^ 64 → lost .units < 2 ^ 64 → lost ≡ lostAfter lost noSkip
+none-lost lost h k =
+    ap (λ (b : ℕ). record { bits = b; units = lost .units }) (none-added (lost .bits) h)
+    ∙ ap (λ (u : ℕ). record { bits = sumAfter (lost .bits) 0; units = u }) (none-added (lost .units) k)
 
 -- The same by its cases: no such bank, a crossing that is refused, one that is made.
 module _ (def : Bankdef) (walk : Walk) (node : Node) {bank : ℕ} (b : bank ≡ bankAfter (walk .bank) node) where
@@ -59,7 +66,7 @@ module _ (def : Bankdef) (walk : Walk) (node : Node) {bank : ℕ} (b : bank ≡ 
     crossing-refused s = crossing-in ∙ ap (putBy walk bank c) s
 
     pub crossing-made : {p : Pos} → c .seen ≡ To p
-        → stepOf def walk node ≡ record { seen = To p; skipped = c .skipped; walk = kept walk bank (c .after) (c .skipped .bits) }
+        → stepOf def walk node ≡ record { seen = To p; skipped = c .skipped; walk = kept walk bank (c .after) (c .skipped) }
     crossing-made s = crossing-in ∙ ap (putBy walk bank c) s
 
     -- What the node sees is what the crossing sees.
@@ -70,23 +77,27 @@ module _ (def : Bankdef) (walk : Walk) (node : Node) {bank : ℕ} (b : bank ≡ 
         put-seen (To p) = refl
         put-seen (Refused why) = refl
 
-    -- The walk after a step, refused ones too, is the one that has the crossing's position and bits stored: so a loop may store them as they come.
-    pub crossing-kept : Fits walk → stepOf def walk node .walk ≡ kept walk bank (c .after) (c .skipped .bits)
+    -- what the bank has lost before
+    abbrev was : Lost
+    was = getD (walk .lost) bank noLost
+
+    -- The walk after a step, refused ones too, is the one that has the crossing's position and losses stored: so a loop may store them as they come.
+    pub crossing-kept : Fits walk → stepOf def walk node .walk ≡ kept walk bank (c .after) (c .skipped)
     crossing-kept fits = ap (λ (s : Stepped). s .walk) crossing-in ∙ put-kept (c .seen) refl
       where
-        kept-same : walk .bank ≡ bank → getD (walk .at) bank origin ≡ c .after → lostIn walk bank ≡ lostAfter (lostIn walk bank) (c .skipped .bits)
-            → walk ≡ kept walk bank (c .after) (c .skipped .bits)
+        kept-same : walk .bank ≡ bank → getD (walk .at) bank origin ≡ c .after → was ≡ lostAfter was (c .skipped)
+            → walk ≡ kept walk bank (c .after) (c .skipped)
         kept-same x y z =
             ap (λ (l : List Pos). record { at = l; lost = walk .lost; bank = walk .bank }) (sym (set-getD (walk .at) bank origin) ∙ ap (set (walk .at) bank) y)
-            ∙ ap (λ (l : List ℕ). record { at = set (walk .at) bank (c .after); lost = l; bank = walk .bank })
-            (sym (set-getD (walk .lost) bank 0) ∙ ap (set (walk .lost) bank) z)
+            ∙ ap (λ (l : List Lost). record { at = set (walk .at) bank (c .after); lost = l; bank = walk .bank })
+            (sym (set-getD (walk .lost) bank noLost) ∙ ap (set (walk .lost) bank) z)
             ∙ ap (λ (k : ℕ). record {
               at = set (walk .at) bank (c .after);
-              lost = set (walk .lost) bank (lostAfter (lostIn walk bank) (c .skipped .bits));
+              lost = set (walk .lost) bank (lostAfter was (c .skipped));
               bank = k;
             }) x
 
-        put-kept : (m : Moved) → c .seen ≡ m → putBy walk bank c m .walk ≡ kept walk bank (c .after) (c .skipped .bits)
+        put-kept : (m : Moved) → c .seen ≡ m → putBy walk bank c m .walk ≡ kept walk bank (c .after) (c .skipped)
         put-kept (To p) f = refl
         put-kept (Refused why) f =
             let stays = halts def (getD (walk .at) bank origin) node why e f in
@@ -95,6 +106,5 @@ module _ (def : Bankdef) (walk : Walk) (node : Node) {bank : ℕ} (b : bank ≡ 
             either (eqb (node .kind) 1)
             (λ t. absurd (switch-made def (getD (walk .at) bank origin) node (eqb-true (node .kind) 1 t) why (ap (λ (x : Crossing). x .seen) (sym e) ∙ f)))
             (λ t. sym (stands-in (walk .bank) node (eqb-false (node .kind) 1 t)) ∙ sym b) in
-            let sum : lostIn walk bank ≡ lostAfter (lostIn walk bank) (c .skipped .bits) =
-            rw none (none-added (lostIn walk bank) (fits bank)) in
+            let sum : was ≡ lostAfter was (c .skipped) = rw none (none-lost was (fits the-bits bank) (fits the-units bank)) in
             kept-same stood (sym stays) sum

@@ -3,9 +3,10 @@ use Prim.Native.Nat.{ℕ, _+_, _*_, _/_, _^_, _≤_, _<_}
 use mathlib.Core.Path.{_≡_, refl, sym, ap, subst, _∙_}
 use mathlib.Core.List.{List, [], _∷_}
 use mathlib.Core.Logic.{_⊎_, inl, inr}
+use native.Mathlib.Nat.{zero-div}
 use native.Mathlib.Omega.{arith}
 use lib.Dec.{eqb, leb}
-use lib.ListN.{length, length-set}
+use lib.ListN.{getD, length, length-set}
 use lib.Seq.{getD-set-same, getD-set-other}
 use borrow.Author.Tests.{leb-false, le-leb, eq-eqb, ne-eqb}
 use Rattle.refusal.specs.Laws.Bools.{either, neither}
@@ -21,8 +22,8 @@ use Rattle.iter.specs.Laws.Aligned.{skips-same, never}
 use Rattle.iter.specs.Distance.{tellable, noSkip, distanceOf}
 use Rattle.iter.specs.Figures as told
 use Rattle.iter.specs.Figures.{OuterSymbol, SightSkips}
-use Rattle.iter.specs.Step.{startOf, movedByDistance, labelAligned, seenOf, badState, advancedOf, skipsBy}
-use Rattle.iter.specs.Step.{labelSkips, seenSkips, advanceSkips, maxSum, lostAfter, bankAfter, stepSkips, stepOf}
+use Rattle.iter.specs.Step.{noLost, startOf, movedByDistance, labelAligned, seenOf, badState, advancedOf, skipsBy}
+use Rattle.iter.specs.Step.{labelSkips, seenSkips, advanceSkips, maxSum, sumAfter, bankAfter, stepSkips, stepOf}
 use Rattle.iter.specs.StepCases.{standing}
 use Rattle.iter.specs.Laws.StepCases.{step-cases}
 use Rattle.iter.specs.Theorems.StepFacts.{made-sound, sees-before}
@@ -31,6 +32,7 @@ use Rattle.iter.specs.Theorems.ToldFacts.{outer-symbol, sight-skips}
 use Rattle.iter.specs.WithinLimit.{walkedOver}
 use Rattle.iter.specs.declared.Distance.{Distance}
 use Rattle.iter.specs.declared.Distance.the-variants.{Skips, Refused as NoDistance}
+use Rattle.iter.specs.declared.Lost.{Lost}
 use Rattle.iter.specs.declared.Moved.{Moved}
 use Rattle.iter.specs.declared.Moved.the-variants.{To, Refused}
 use Rattle.iter.specs.declared.Node.{Node}
@@ -38,8 +40,9 @@ use Rattle.iter.specs.declared.Pos.{Pos}
 use Rattle.iter.specs.declared.Skipped.{Skipped}
 use Rattle.iter.specs.declared.Stepped.{Stepped}
 use Rattle.iter.specs.declared.Walk.{Walk}
-use Rattle.iter.specs.Laws.Padding.{more-set, never-some, never-to, own-small, same-set, same-to, sight-small, sum-at-most, zeros}
-use Rattle.iter.specs.Padding.{Fits, lostIn}
+use Rattle.iter.specs.Laws.Padding.{more-set, never-some, never-to, none-yet, own-small, part-after, part-of-none, part-small, same-set, same-to}
+use Rattle.iter.specs.Laws.Padding.{sight-small, step-whole, sum-at-most}
+use Rattle.iter.specs.Padding.{Part, the-bits, the-units, lostPart, skippedPart, lostIn, Fits}
 
 -- ---- units
 
@@ -53,8 +56,8 @@ units-over-unit def position a node s e =
 -- ---- sums
 
 -- The addition is exact whenever the sum is below 2^64.
-pub sum-exact : (lost bits : ℕ) → lost + bits < 2 ^ 64 → lostAfter lost bits ≡ lost + bits
-sum-exact lost bits h = pick-true _ _ (le-leb (lost + bits) maxSum (omega arith))
+pub sum-exact : (sum more : ℕ) → sum + more < 2 ^ 64 → sumAfter sum more ≡ sum + more
+sum-exact sum more h = pick-true _ _ (le-leb (sum + more) maxSum (omega arith))
 
 module _ (def : Bankdef) (at : Pos) (node : Node) where
   -- An `align` that is made hands on what its distance skips, bits and units.
@@ -100,7 +103,7 @@ module _ (def : Bankdef) (at : Pos) (node : Node) where
       from (told.aligned o a e k) (inl n) = absurd (n o)
       from (told.aligned o a e k) (inr f) = absurd (never-some (sym f ∙ e))
 
--- ---- the step
+-- ---- the step, in bits and in whole units alike: part by part
 
 module _ (def : Bankdef) (walk : Walk) (node : Node) where
   -- the bank that the node stands in
@@ -108,10 +111,11 @@ module _ (def : Bankdef) (walk : Walk) (node : Node) where
   own = bankAfter (walk .bank) node
 
   -- A step adds nothing to any other bank.
-  pub others-lose-nothing : (j : ℕ) → (j ≡ bankAfter (walk .bank) node → ⊥) → lostIn (stepOf def walk node .walk) j ≡ lostIn walk j
-  others-lose-nothing j other =
-      step-cases def walk node (λ (s : Stepped). lostIn (s .walk) j ≡ lostIn walk j) (λ why. refl)
-      (λ p q s a. getD-set-other (walk .lost) own j _ 0 other)
+  pub others-lose-nothing : (part : Part) (j : ℕ) → (j ≡ bankAfter (walk .bank) node → ⊥)
+      → lostIn part (stepOf def walk node .walk) j ≡ lostIn part walk j
+  others-lose-nothing part j other =
+      step-cases def walk node (λ (s : Stepped). lostIn part (s .walk) j ≡ lostIn part walk j) (λ why. refl)
+      (λ p q s a. ap (lostPart part) (getD-set-other (walk .lost) own j _ noLost other))
 
   -- A step keeps the number of sums.
   pub sums-kept : length (stepOf def walk node .walk .lost) ≡ length (walk .lost)
@@ -136,19 +140,27 @@ module _ (def : Bankdef) (walk : Walk) (node : Node) where
       step-cases def walk node (λ (s : Stepped). s .seen ≡ To p → (q : Pos) × (advancedOf def p node ≡ To q)) (λ why e. absurd (never-to e))
       (λ p′ q s a e. (q, ap (λ (x : Pos). advancedOf def x node) (sym (same-to e)) ∙ a))
 
-  -- A step that is made adds to the sum of the bank that its node stands in the very bits that it hands on as skipped.
-  pub step-adds : (p : Pos) → length (walk .lost) ≡ maxBanks → stepOf def walk node .seen ≡ To p
-      → lostIn walk (bankAfter (walk .bank) node) + stepOf def walk node .skipped .bits < 2 ^ 64
-      → lostIn (stepOf def walk node .walk) (bankAfter (walk .bank) node)
-      ≡ lostIn walk (bankAfter (walk .bank) node) + stepOf def walk node .skipped .bits
-  step-adds p sixteen e =
+  -- The units that a step hands on are its bits over the unit of the bank, rounded down: each skip's by itself.
+  pub skipped-whole : stepOf def walk node .skipped .units ≡ stepOf def walk node .skipped .bits / def .unit
+  skipped-whole =
+      step-cases def walk node (λ (s : Stepped). s .skipped .units ≡ s .skipped .bits / def .unit) (λ why. sym (zero-div (def .unit)))
+      (λ p q s a. step-whole def (standing walk node) p node)
+
+  -- A step that is made adds to the sums of the bank that its node stands in the very bits and units that it hands on as skipped.
+  pub step-adds : (part : Part) (p : Pos) → length (walk .lost) ≡ maxBanks → stepOf def walk node .seen ≡ To p
+      → lostIn part walk (bankAfter (walk .bank) node) + skippedPart part (stepOf def walk node .skipped) < 2 ^ 64
+      → lostIn part (stepOf def walk node .walk) (bankAfter (walk .bank) node)
+      ≡ lostIn part walk (bankAfter (walk .bank) node) + skippedPart part (stepOf def walk node .skipped)
+  step-adds part p sixteen e =
       let inside : own < length (walk .lost) =
       omega (arith, sixteen, leb-false maxBanks own (neither (leb maxBanks own) (badState node) (made-sound def walk node p e) .0)) in
       step-cases def walk node
-      (λ (s : Stepped). s .seen ≡ To p → lostIn walk own + s .skipped .bits < 2 ^ 64 → lostIn (s .walk) own ≡ lostIn walk own + s .skipped .bits)
+      (λ (s : Stepped). s .seen ≡ To p → lostIn part walk own + skippedPart part (s .skipped) < 2 ^ 64
+      → lostIn part (s .walk) own ≡ lostIn part walk own + skippedPart part (s .skipped))
       (λ why f. absurd (never-to f))
-      (λ p′ q s a f h. getD-set-same (walk .lost) own _ 0 inside
-      ∙ sum-exact (lostIn walk own) (stepSkips def (standing walk node) p′ node .bits) h) e
+      (λ p′ q s a f h. ap (lostPart part) (getD-set-same (walk .lost) own _ noLost inside)
+      ∙ part-after part (getD (walk .lost) own noLost) (stepSkips def (standing walk node) p′ node)
+      ∙ sum-exact (lostIn part walk own) (skippedPart part (stepSkips def (standing walk node) p′ node)) h) e
 
   -- For an `align` these are its distance.
   pub align-skips-its-distance : (p : Pos) → node .kind ≡ 8 → stepOf def walk node .seen ≡ To p
@@ -175,21 +187,21 @@ module _ (def : Bankdef) (walk : Walk) (node : Node) where
       not-align (inr e) f = omega arith
 
   -- So either adds its distance to the bank that it stands in, exactly.
-  pub align-adds-its-distance : (p : Pos) → length (walk .lost) ≡ maxBanks → node .kind ≡ 8 → stepOf def walk node .seen ≡ To p
-      → lostIn walk (bankAfter (walk .bank) node) + stepOf def walk node .skipped .bits < 2 ^ 64
+  pub align-adds-its-distance : (part : Part) (p : Pos) → length (walk .lost) ≡ maxBanks → node .kind ≡ 8 → stepOf def walk node .seen ≡ To p
+      → lostIn part walk (bankAfter (walk .bank) node) + skippedPart part (stepOf def walk node .skipped) < 2 ^ 64
       → (s : Skipped) × (distanceOf def (p .position) (node .number) (node .index) ≡ Skips s)
-      × (lostIn (stepOf def walk node .walk) (bankAfter (walk .bank) node) ≡ lostIn walk (bankAfter (walk .bank) node) + s .bits)
-  align-adds-its-distance p sixteen k e h =
+      × (lostIn part (stepOf def walk node .walk) (bankAfter (walk .bank) node) ≡ lostIn part walk (bankAfter (walk .bank) node) + skippedPart part s)
+  align-adds-its-distance part p sixteen k e h =
       let d = align-skips-its-distance p k e in
-      (d .0, d .1, step-adds p sixteen e h ∙ ap (λ (x : Skipped). lostIn walk own + x .bits) (d .2))
+      (d .0, d .1, step-adds part p sixteen e h ∙ ap (λ (x : Skipped). lostIn part walk own + skippedPart part x) (d .2))
 
-  pub symbol-adds-its-distance : (p : Pos) (a : ℕ) → length (walk .lost) ≡ maxBanks → OuterSymbol node → def .align ≡ Some a
-      → stepOf def walk node .seen ≡ To p → lostIn walk (bankAfter (walk .bank) node) + stepOf def walk node .skipped .bits < 2 ^ 64
+  pub symbol-adds-its-distance : (part : Part) (p : Pos) (a : ℕ) → length (walk .lost) ≡ maxBanks → OuterSymbol node → def .align ≡ Some a
+      → stepOf def walk node .seen ≡ To p → lostIn part walk (bankAfter (walk .bank) node) + skippedPart part (stepOf def walk node .skipped) < 2 ^ 64
       → (s : Skipped) × (distanceOf def (standing walk node .position) a (node .index) ≡ Skips s)
-      × (lostIn (stepOf def walk node .walk) (bankAfter (walk .bank) node) ≡ lostIn walk (bankAfter (walk .bank) node) + s .bits)
-  symbol-adds-its-distance p a sixteen o f e h =
+      × (lostIn part (stepOf def walk node .walk) (bankAfter (walk .bank) node) ≡ lostIn part walk (bankAfter (walk .bank) node) + skippedPart part s)
+  symbol-adds-its-distance part p a sixteen o f e h =
       let d = symbol-skips-its-distance p a o f e in
-      (d .0, d .1, step-adds p sixteen e h ∙ ap (λ (x : Skipped). lostIn walk own + x .bits) (d .2))
+      (d .0, d .1, step-adds part p sixteen e h ∙ ap (λ (x : Skipped). lostIn part walk own + skippedPart part x) (d .2))
 
   -- For every other node nothing is skipped,
   pub others-skip-nothing : (node .kind ≡ 8 → ⊥) → (OuterSymbol node → ⊥) ⊎ (def .align ≡ None) → stepOf def walk node .skipped ≡ noSkip
@@ -199,61 +211,69 @@ module _ (def : Bankdef) (walk : Walk) (node : Node) where
 
   -- and nothing is added to any bank.
   pub others-add-nothing : (node .kind ≡ 8 → ⊥) → (OuterSymbol node → ⊥) ⊎ (def .align ≡ None) → Fits walk
-      → (j : ℕ) → lostIn (stepOf def walk node .walk) j ≡ lostIn walk j
-  others-add-nothing n h fits j =
-      step-cases def walk node (λ (s : Stepped). lostIn (s .walk) j ≡ lostIn walk j) (λ why. refl)
+      → (part : Part) (j : ℕ) → lostIn part (stepOf def walk node .walk) j ≡ lostIn part walk j
+  others-add-nothing n h fits part j =
+      step-cases def walk node (λ (s : Stepped). lostIn part (s .walk) j ≡ lostIn part walk j) (λ why. refl)
       (λ p q s a.
-      let none : stepSkips def (standing walk node) p node .bits ≡ 0 =
-      ap (λ (x : Skipped). x .bits) (pick-false _ _ (ne-eqb (node .kind) 8 n) ∙ unaligned-hands-on-none def (standing walk node) node h) in
-      same-set (walk .lost) own j _
-      (sum-exact (lostIn walk own) (stepSkips def (standing walk node) p node .bits) (omega (arith, none, fits own)) ∙ omega (arith, none)))
+      let none : skippedPart part (stepSkips def (standing walk node) p node) ≡ 0 =
+      ap (skippedPart part) (pick-false _ _ (ne-eqb (node .kind) 8 n) ∙ unaligned-hands-on-none def (standing walk node) node h) ∙ part-of-none part in
+      same-set (lostPart part) noLost (walk .lost) own j _
+      (part-after part (getD (walk .lost) own noLost) (stepSkips def (standing walk node) p node)
+      ∙ sum-exact (lostIn part walk own) (skippedPart part (stepSkips def (standing walk node) p node)) (omega (arith, none, fits part own))
+      ∙ omega (arith, none)))
 
   by-kind : (node .kind ≡ 2 → ⊥) → (node .kind ≡ 3 → ⊥) → OuterSymbol node → ⊥
   by-kind f g (inl e, o) = f e
   by-kind f g (inr e, o) = g e
 
   -- "An `addr` that moves the position is not padding."
-  pub addr-adds-nothing : node .kind ≡ 9 → Fits walk → (j : ℕ) → lostIn (stepOf def walk node .walk) j ≡ lostIn walk j
+  pub addr-adds-nothing : node .kind ≡ 9 → Fits walk → (part : Part) (j : ℕ)
+      → lostIn part (stepOf def walk node .walk) j ≡ lostIn part walk j
   addr-adds-nothing k = others-add-nothing (λ e. omega arith) (inl (by-kind (λ e. omega arith) (λ e. omega arith)))
 
   -- Nor are items, literals and reserves.
-  pub items-add-nothing : 4 ≤ node .kind → node .kind ≤ 7 → Fits walk → (j : ℕ) → lostIn (stepOf def walk node .walk) j ≡ lostIn walk j
+  pub items-add-nothing : 4 ≤ node .kind → node .kind ≤ 7 → Fits walk → (part : Part) (j : ℕ)
+      → lostIn part (stepOf def walk node .walk) j ≡ lostIn part walk j
   items-add-nothing h k = others-add-nothing (λ e. omega arith) (inl (by-kind (λ e. omega arith) (λ e. omega arith)))
 
   -- A switch adds nothing, neither to the bank that it leaves nor to the one that it goes to.
-  pub switch-adds-nothing : node .kind ≡ 1 → Fits walk → (j : ℕ) → lostIn (stepOf def walk node .walk) j ≡ lostIn walk j
+  pub switch-adds-nothing : node .kind ≡ 1 → Fits walk → (part : Part) (j : ℕ)
+      → lostIn part (stepOf def walk node .walk) j ≡ lostIn part walk j
   switch-adds-nothing k = others-add-nothing (λ e. omega arith) (inl (by-kind (λ e. omega arith) (λ e. omega arith)))
 
   -- No step skips more than a position holds,
-  pub skipped-small : stepOf def walk node .skipped .bits < 2 ^ 32
-  skipped-small =
-      step-cases def walk node (λ (s : Stepped). s .skipped .bits < 2 ^ 32) (λ why. omega arith) (λ p q s a. small p)
+  pub skipped-small : (part : Part) → skippedPart part (stepOf def walk node .skipped) < 2 ^ 32
+  skipped-small part =
+      step-cases def walk node (λ (s : Stepped). skippedPart part (s .skipped) < 2 ^ 32) (λ why. omega (arith, part-of-none part))
+      (λ p q s a. omega (arith, part-small def part _ (step-whole def (standing walk node) p node) (small p)))
     where
-      small : (p : Pos) → stepSkips def (standing walk node) p node .bits < 2 ^ 32
+      small : (p : Pos) → stepSkips def (standing walk node) p node .bits ≤ maxPosition
       small p =
           either (eqb (node .kind) 8)
-          (λ e. rw e (omega (arith, own-small def p node)))
-          (λ e. rw e (omega (arith, sight-small def (standing walk node) node)))
+          (λ e. rw e (own-small def p node))
+          (λ e. rw e (sight-small def (standing walk node) node))
 
   -- so no sum grows by more.
-  pub grows-little : (j : ℕ) → lostIn (stepOf def walk node .walk) j ≤ lostIn walk j + maxPosition
-  grows-little j = from skipped-small
+  pub grows-little : (part : Part) (j : ℕ) → lostIn part (stepOf def walk node .walk) j ≤ lostIn part walk j + maxPosition
+  grows-little part j = from (skipped-small part)
     where
-      from : stepOf def walk node .skipped .bits < 2 ^ 32 → lostIn (stepOf def walk node .walk) j ≤ lostIn walk j + maxPosition
+      from : skippedPart part (stepOf def walk node .skipped) < 2 ^ 32 → lostIn part (stepOf def walk node .walk) j ≤ lostIn part walk j + maxPosition
       from =
-          step-cases def walk node (λ (s : Stepped). s .skipped .bits < 2 ^ 32 → lostIn (s .walk) j ≤ lostIn walk j + maxPosition) (λ why h. omega arith)
-          (λ p q s a h. more-set (walk .lost) own j _ maxPosition
-          (omega (arith, sum-at-most (lostIn walk own) (stepSkips def (standing walk node) p node .bits), h)))
+          step-cases def walk node
+          (λ (s : Stepped). skippedPart part (s .skipped) < 2 ^ 32 → lostIn part (s .walk) j ≤ lostIn part walk j + maxPosition) (λ why h. omega arith)
+          (λ p q s a h. more-set (lostPart part) noLost (walk .lost) own j _ maxPosition
+          (rw (part-after part (getD (walk .lost) own noLost) (stepSkips def (standing walk node) p node))
+          (omega (arith, sum-at-most (lostIn part walk own) (skippedPart part (stepSkips def (standing walk node) p node)), h))))
 
 -- ---- over a list of nodes
 
 -- Over n nodes no sum grows by more than n times the largest distance.
-pub walk-grows-little : (defs : ℕ → Bankdef) (walk : Walk) (nodes : List Node) (j : ℕ)
-    → lostIn (walkedOver defs walk nodes) j ≤ lostIn walk j + length nodes * maxPosition
-walk-grows-little defs walk [] j = omega arith
-walk-grows-little defs walk (node ∷ nodes) j =
+pub walk-grows-little : (part : Part) (defs : ℕ → Bankdef) (walk : Walk) (nodes : List Node) (j : ℕ)
+    → lostIn part (walkedOver defs walk nodes) j ≤ lostIn part walk j + length nodes * maxPosition
+walk-grows-little part defs walk [] j = omega arith
+walk-grows-little part defs walk (node ∷ nodes) j =
     let def = defs (bankAfter (walk .bank) node) in
-    omega (arith, grows-little def walk node j, walk-grows-little defs (stepOf def walk node .walk) nodes j)
+    omega (arith, grows-little def walk node part j, walk-grows-little part defs (stepOf def walk node .walk) nodes j)
 
 -- There are always sixteen sums.
 pub sixteen-sums : (defs : ℕ → Bankdef) (nodes : List Node) → length (walkedOver defs startOf nodes .lost) ≡ maxBanks
@@ -265,20 +285,22 @@ sixteen-sums defs nodes = as-many defs startOf nodes
     as-many defs walk (node ∷ nodes) =
         as-many defs (stepOf (defs (bankAfter (walk .bank) node)) walk node .walk) nodes ∙ sums-kept (defs (bankAfter (walk .bank) node)) walk node
 
--- No bank has lost a bit at the start,
-pub starts-lossless : (j : ℕ) → lostIn startOf j ≡ 0
+-- No bank has lost a bit or a unit at the start,
+pub starts-lossless : (part : Part) (j : ℕ) → lostIn part startOf j ≡ 0
 unfolding startOf
-starts-lossless j = zeros maxBanks j
+starts-lossless the-bits j = ap (λ (l : Lost). l .bits) (none-yet maxBanks j)
+starts-lossless the-units j = ap (λ (l : Lost). l .units) (none-yet maxBanks j)
 
--- so after n nodes none has lost more than n * (2^32 - 1) bits,
-pub lost-bounded : (defs : ℕ → Bankdef) (nodes : List Node) (j : ℕ) → lostIn (walkedOver defs startOf nodes) j ≤ length nodes * maxPosition
-lost-bounded defs nodes j = omega (arith, starts-lossless j, walk-grows-little defs startOf nodes j)
+-- so after n nodes none has lost more than n * (2^32 - 1) bits, or units,
+pub lost-bounded : (part : Part) (defs : ℕ → Bankdef) (nodes : List Node) (j : ℕ)
+    → lostIn part (walkedOver defs startOf nodes) j ≤ length nodes * maxPosition
+lost-bounded part defs nodes j = omega (arith, starts-lossless part j, walk-grows-little part defs startOf nodes j)
 
 -- and within 4,096 nodes each next step adds to each sum without wrapping and without stopping.
-pub sums-never-stop : (defs : ℕ → Bankdef) (nodes : List Node) (def : Bankdef) (node : Node) (j : ℕ) → length nodes ≤ maxNodes
-    → let walk = walkedOver defs startOf nodes in lostIn walk j + stepOf def walk node .skipped .bits < 2 ^ 64
-sums-never-stop defs nodes def node j h =
-    omega (arith, lost-bounded defs nodes j, skipped-small def (walkedOver defs startOf nodes) node)
+pub sums-never-stop : (part : Part) (defs : ℕ → Bankdef) (nodes : List Node) (def : Bankdef) (node : Node) (j : ℕ) → length nodes ≤ maxNodes
+    → let walk = walkedOver defs startOf nodes in lostIn part walk j + skippedPart part (stepOf def walk node .skipped) < 2 ^ 64
+sums-never-stop part defs nodes def node j h =
+    omega (arith, lost-bounded part defs nodes j, skipped-small def (walkedOver defs startOf nodes) node part)
 
 pub sums-fit : (defs : ℕ → Bankdef) (nodes : List Node) → length nodes ≤ maxNodes → Fits (walkedOver defs startOf nodes)
-sums-fit defs nodes h j = omega (arith, lost-bounded defs nodes j)
+sums-fit defs nodes h part j = omega (arith, lost-bounded part defs nodes j)

@@ -32,7 +32,7 @@ padded =
     lists (4 ∷ 2 ∷ 8 ∷ 9 ∷ 3 ∷ 3 ∷ []) (0 ∷ 0 ∷ 0 ∷ 0 ∷ 0 ∷ 1 ∷ []) (4 ∷ 0 ∷ 32 ∷ 100 ∷ 0 ∷ 0 ∷ []) (0 ∷ 0 ∷ 0 ∷ 0 ∷ 0 ∷ 0 ∷ []) 1
     (240 ∷ [])
 
--- 12 + 16 + 12 bits are lost
-pub padded-case : paddingOf (program labelBank padded) (rowOfPass padded 1) 0 ≡ 40
+-- 12 + 16 + 12 bits are lost, and 1 + 2 + 1 whole units: each skip's are rounded down by themselves, so that they are not 40 bits over 8
+pub padded-case : paddingOf (program labelBank padded) (rowOfPass padded 1) 0 ≡ record { bits = 40; units = 4 }
 unfolding walkTo sumIn startOf seenOf movedOn advancedOf seenSkips advanceSkips stepOf distanceOf
 padded-case = refl

@@ -1,9 +1,10 @@
 -- Laws that Theorems/Padding rests on.
-use Prim.Native.Nat.{ℕ, zero, suc, _+_, _<_, _≤_}
+use Prim.Native.Nat.{ℕ, zero, suc, _+_, _/_, _^_, _<_, _≤_}
 use mathlib.Core.Path.{_≡_, refl, sym, _∙_, ap}
 use mathlib.Core.Bool.{Bool, true, false}
 use mathlib.Core.List.{List}
 use mathlib.Core.Logic.{_⊎_, inl, inr, ⊎-elim}
+use native.Mathlib.Nat.{div-le-self}
 use native.Mathlib.Omega.{arith}
 use lib.Dec.{eqb, leb}
 use lib.ListN.{getD, set, length, length-set, replicate}
@@ -25,8 +26,11 @@ use Rattle.iter.specs.Theorems.AdvanceFacts.{advance-moves}
 use Rattle.iter.specs.Distance.{tellable, addressInBits, distanceTo, skipsOf, noSkip, distanceOf}
 use Rattle.iter.specs.Figures as told
 use Rattle.iter.specs.Figures.{toldMoved, Advances}
-use Rattle.iter.specs.Step.{origin, movedByDistance, outermostSymbol, labelAligned, seenOf, badState, advancedOf}
-use Rattle.iter.specs.Step.{skipsBy, labelSkips, seenSkips, advanceSkips, lostAfter, maxSum, bankAfter, stepSkips, stepOf}
+use Rattle.iter.specs.Padding.{Part, the-bits, the-units, lostPart, skippedPart, lostIn}
+use Rattle.iter.specs.Laws.Padding.{part-after, step-whole}
+use Rattle.iter.specs.Theorems.Padding.{sum-exact}
+use Rattle.iter.specs.Step.{origin, noLost, movedByDistance, outermostSymbol, labelAligned, seenOf, badState, advancedOf}
+use Rattle.iter.specs.Step.{skipsBy, labelSkips, seenSkips, advanceSkips, sumAfter, lostAfter, bankAfter, stepSkips, stepOf}
 use Rattle.iter.specs.StepCases.{standing}
 use Rattle.iter.specs.Laws.StepCases.{step-cases}
 use Rattle.iter.specs.Theorems.StepFacts.{made-sound}
@@ -34,6 +38,7 @@ use Rattle.iter.specs.Laws.StepFacts.{sees-plain}
 use Rattle.iter.specs.Theorems.ToldFacts.{advance-told}
 use Rattle.iter.specs.declared.Distance.{Distance}
 use Rattle.iter.specs.declared.Distance.the-variants.{Skips, Refused as NoDistance}
+use Rattle.iter.specs.declared.Lost.{Lost}
 use Rattle.iter.specs.declared.Moved.the-variants.{To, Refused as Stopped}
 use Rattle.iter.specs.declared.Node.{Node}
 use Rattle.iter.specs.declared.Pos.{Pos}
@@ -42,11 +47,24 @@ use Rattle.iter.specs.declared.Stepped.{Stepped}
 use Rattle.iter.specs.declared.Walk.{Walk}
 use Rattle.resolver.specs.Laws.Least.{or-past}
 use Rattle.lists.specs.Lists.{Row}
-use Rattle.resolver.specs.NodeOrder.{seenAt}
+use Rattle.resolver.specs.NodeOrder.{defAt, seenAt}
 use Rattle.resolver.specs.Once.{Program, node}
-use Rattle.resolver.specs.Padding.{distanceIn, labelLoses, lostBy, sightLoses, sizeBy, sumIn}
+use Rattle.resolver.specs.Padding.{distanceIn, labelLoses, lostBy, sightLoses, sizeBy, standsAt, sumIn, paddingTo}
+
+-- what a node loses, in bits or in whole units
+abbrev pub partBy : Part → Bankdef → ℕ → Node → ℕ
+partBy the-bits def position n = lostBy def position n
+partBy the-units def position n = lostBy def position n / def .unit
 
 module _ (p : Program) (row : Row) where
+  abbrev pub partAt : Part → ℕ → ℕ
+  partAt part i = partBy part (defAt p row i) (standsAt p row i) (node p row i)
+
+  -- a bank's padding, part by part
+  pub padding-part : (part : Part) (bank n : ℕ) → lostPart part (paddingTo p row bank n) ≡ sumIn p row (partAt part) bank n
+  padding-part the-bits bank n = refl
+  padding-part the-units bank n = refl
+
   abbrev pub sizeAt : ℕ → ℕ
   sizeAt i = sizeBy (node p row i)
 
@@ -224,29 +242,21 @@ module _ (def : Bankdef) (at : Pos) (n : Node) (s : Pos) where
   pub made : (q : Pos) → seenOf def at n ≡ To s → advancedOf def s n ≡ To q → Made q
   made q e a = either (eqb (n .kind) 8) (λ t. own-made q t e a) (λ t. sight-made q t e a)
 
--- an element that is set to what it was and more
-set-adds : (l : List ℕ) (b bank v add : ℕ) → b < length l → v ≡ getD l b 0 + add → getD (set l b v) bank 0 ≡ getD l bank 0 + pick (eqb b bank) add 0
-set-adds l b bank v add h e =
+-- a measure of an element that is set to what it was and more
+set-adds : {A : Type 0} (g : A → ℕ) (d : A) (l : List A) (b bank add : ℕ) (v : A) → b < length l → (b ≡ bank → g v ≡ g (getD l b d) + add)
+    → g (getD (set l b v) bank d) ≡ g (getD l bank d) + pick (eqb b bank) add 0
+set-adds g d l b bank add v h e =
     either (eqb b bank)
-    (λ t. let q = eqb-true b bank t in rw (t, ← q) (getD-set-same l b v 0 h ∙ e))
-    (λ t. rw t (getD-set-other l b bank v 0 (λ e. eqb-false b bank t (sym e)) ∙ plus-zero (getD l bank 0)))
+    (λ t. let w = eqb-true b bank t in rw (t, ← w) (ap g (getD-set-same l b v d h) ∙ e w))
+    (λ t. rw t (ap g (getD-set-other l b bank v d (λ e. eqb-false b bank t (sym e))) ∙ plus-zero (g (getD l bank d))))
   where
     plus-zero : (x : ℕ) → x ≡ x + 0
     plus-zero x = omega arith
 
-set-moves : (l : List Pos) (b bank add : ℕ) (q : Pos) → b < length l → (b ≡ bank → q .position ≡ getD l b origin .position + add)
-    → getD (set l b q) bank origin .position ≡ getD l bank origin .position + pick (eqb b bank) add 0
-set-moves l b bank add q h e =
-    either (eqb b bank)
-    (λ t. let w = eqb-true b bank t in rw (t, ← w) (ap (λ (x : Pos). x .position) (getD-set-same l b q origin h) ∙ e w))
-    (λ t. rw t (ap (λ (x : Pos). x .position) (getD-set-other l b bank q origin (λ e. eqb-false b bank t (sym e))) ∙ plus-zero (getD l bank origin .position)))
-  where
-    plus-zero : (x : ℕ) → x ≡ x + 0
-    plus-zero x = omega arith
-
--- a sum below the largest number is the sum
-unstopped : (lost bits : ℕ) → lost + bits ≤ maxSum → lostAfter lost bits ≡ lost + bits
-unstopped lost bits h = rw (le-leb (lost + bits) maxSum h)
+-- two losses that agree part by part are one
+pub same-lost : (x y : Lost) → ((part : Part) → lostPart part x ≡ lostPart part y) → x ≡ y
+same-lost x y e =
+    ap (λ (b : ℕ). record { bits = b; units = x .units }) (e the-bits) ∙ ap (λ (u : ℕ). record { bits = y .bits; units = u }) (e the-units)
 
 module _ (def : Bankdef) (walk : Walk) (n : Node) (now : Pos) (seen : stepOf def walk n .seen ≡ To now) where
   abbrev pub bank : ℕ
@@ -258,23 +268,36 @@ module _ (def : Bankdef) (walk : Walk) (n : Node) (now : Pos) (seen : stepOf def
   inside : bankAfter (walk .bank) n < maxBanks
   inside = leb-false maxBanks bank (neither (leb maxBanks bank) (badState n) (made-sound def walk n now seen) .0)
 
-  pub step-loses : lostBy def position n ≤ maxPosition
-  step-loses =
+  step-bits : lostBy def position n ≤ maxPosition
+  step-bits =
       step-cases def walk n (λ (x : Stepped). x .seen ≡ To now → lostBy def position n ≤ maxPosition) (λ why e. absurd (never-to e))
       (λ s q e a f. made def (standing walk n) n s q e a .within) seen
 
-  pub step-carries : length (walk .lost) ≡ maxBanks → getD (walk .lost) bank 0 + maxPosition ≤ maxSum → (j : ℕ)
-      → getD (stepOf def walk n .walk .lost) j 0 ≡ getD (walk .lost) j 0 + pick (eqb bank j) (lostBy def position n) 0
-  step-carries sixteen room j =
+  -- no more bits than a position holds, and no more units
+  pub step-loses : (part : Part) → partBy part def position n ≤ maxPosition
+  step-loses the-bits = step-bits
+  step-loses the-units = let h = step-bits in let less = div-le-self (lostBy def position n) (def .unit) in omega arith
+
+  -- what is skipped is what is lost: the units are those of the bits
+  skips-part : (part : Part) (s q : Pos) → Made def (standing walk n) n s q
+      → skippedPart part (stepSkips def (standing walk n) s n) ≡ partBy part def position n
+  skips-part the-bits s q m = m .lost
+  skips-part the-units s q m = step-whole def (standing walk n) s n ∙ ap (λ (b : ℕ). b / def .unit) (m .lost)
+
+  pub step-carries : (part : Part) → length (walk .lost) ≡ maxBanks → lostIn part walk bank + maxPosition < 2 ^ 64 → (j : ℕ)
+      → lostIn part (stepOf def walk n .walk) j ≡ lostIn part walk j + pick (eqb bank j) (partBy part def position n) 0
+  step-carries part sixteen room j =
       step-cases def walk n
-      (λ (x : Stepped). x .seen ≡ To now → getD (x .walk .lost) j 0 ≡ getD (walk .lost) j 0 + pick (eqb bank j) (lostBy def position n) 0)
+      (λ (x : Stepped). x .seen ≡ To now → lostIn part (x .walk) j ≡ lostIn part walk j + pick (eqb bank j) (partBy part def position n) 0)
       (λ why e. absurd (never-to e))
       (λ s q e a f.
-      let m = made def (standing walk n) n s q e a in
-      let small = m .within in
-      set-adds (walk .lost) bank j (lostAfter (getD (walk .lost) bank 0) (stepSkips def (standing walk n) s n .bits)) (lostBy def position n)
+      let small = step-loses part in
+      set-adds (lostPart part) noLost (walk .lost) bank j (partBy part def position n)
+      (lostAfter (getD (walk .lost) bank noLost) (stepSkips def (standing walk n) s n))
       (let h = inside in omega arith)
-      (ap (lostAfter (getD (walk .lost) bank 0)) (m .lost) ∙ unstopped (getD (walk .lost) bank 0) (lostBy def position n) (omega arith)))
+      (λ same. part-after part (getD (walk .lost) bank noLost) (stepSkips def (standing walk n) s n)
+      ∙ ap (sumAfter (lostIn part walk bank)) (skips-part part s q (made def (standing walk n) n s q e a))
+      ∙ sum-exact (lostIn part walk bank) (partBy part def position n) (omega arith)))
       seen
 
   pub step-moves : length (walk .at) ≡ maxBanks → (j : ℕ) → (bank ≡ j → n .kind ≡ 9 → ⊥)
@@ -285,7 +308,7 @@ module _ (def : Bankdef) (walk : Walk) (n : Node) (now : Pos) (seen : stepOf def
       → getD (x .walk .at) j origin .position ≡ getD (walk .at) j origin .position + pick (eqb bank j) (sizeBy n + lostBy def position n) 0)
       (λ why e. absurd (never-to e))
       (λ s q e a f.
-      set-moves (walk .at) bank j (sizeBy n + lostBy def position n) q (let h = inside in omega arith)
+      set-adds (λ (x : Pos). x .position) origin (walk .at) bank j (sizeBy n + lostBy def position n) q (let h = inside in omega arith)
       (λ same. made def (standing walk n) n s q e a .ends (nine same) ∙ plus-assoc position (sizeBy n) (lostBy def position n)))
       seen
     where
@@ -299,11 +322,6 @@ lost-kept def walk n =
     (λ s q e a. length-set (walk .lost) (bankAfter (walk .bank) n) _)
 
 -- ---- the walk
-
-pub zeros : (n j : ℕ) → _≡_ {A = ℕ} (getD (replicate n 0) j 0) 0
-zeros zero j = refl
-zeros (suc n) zero = refl
-zeros (suc n) (suc j) = zeros n j
 
 pub origins : (n j : ℕ) → getD (replicate n origin) j origin .position ≡ 0
 origins zero j = refl

@@ -15,7 +15,7 @@ use Rattle.bankdef.specs.declared.Bankdef.{Bankdef}
 use Rattle.iter.specs.Crossing.{crossingOf}
 use Rattle.iter.specs.Theorems.Crossing.{crossing-sees}
 use Rattle.iter.specs.Laws.Crossing.{any-default}
-use Rattle.iter.specs.Step.{origin, startOf, bankAfter, lostAfter, stepOf}
+use Rattle.iter.specs.Step.{origin, startOf, bankAfter, stepOf}
 use Rattle.iter.specs.declared.Crossing.{Crossing}
 use Rattle.iter.specs.declared.Moved.the-variants.{To}
 use Rattle.iter.specs.declared.Node.{Node}

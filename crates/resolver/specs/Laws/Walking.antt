@@ -13,11 +13,13 @@ use Rattle.bankdef.specs.declared.Bankdef.{Bankdef}
 use Rattle.iter.specs.Crossing.{crossingOf}
 use Rattle.iter.specs.Laws.Crossing.{any-default}
 use Rattle.iter.specs.Laws.StepCases.{step-cases}
-use Rattle.iter.specs.Padding.{Fits, lostIn}
-use Rattle.iter.specs.Step.{origin, startOf, bankAfter, maxSum, lostAfter, kept, stepOf}
+use Rattle.iter.specs.Laws.Padding.{part-after}
+use Rattle.iter.specs.Padding.{lostPart, lostIn, Fits}
+use Rattle.iter.specs.Step.{origin, noLost, startOf, bankAfter, maxSum, sumAfter, kept, stepOf}
 use Rattle.iter.specs.Theorems.Crossing.{crossing-kept}
 use Rattle.iter.specs.Theorems.Padding.{starts-lossless}
 use Rattle.iter.specs.declared.Crossing.{Crossing}
+use Rattle.iter.specs.declared.Lost.{Lost}
 use Rattle.iter.specs.declared.Node.{Node}
 use Rattle.iter.specs.declared.Pos.{Pos}
 use Rattle.iter.specs.declared.Stepped.{Stepped}
@@ -30,27 +32,29 @@ use Rattle.resolver.specs.Switches.{Switches}
 use Rattle.resolver.specs.Walking.{Walks}
 
 -- what is put in place of something leaves numbers small, if it is
-set-below : (l : List ℕ) (i j x n : ℕ) → x < n → getD l j 0 < n → getD (set l i x) j 0 < n
-set-below [] i j x n h k = k
-set-below (y ∷ l) zero zero x n h k = h
-set-below (y ∷ l) zero (suc j) x n h k = k
-set-below (y ∷ l) (suc i) zero x n h k = k
-set-below (y ∷ l) (suc i) (suc j) x n h k = set-below l i j x n h k
+set-below : (g : Lost → ℕ) (l : List Lost) (i j : ℕ) (x : Lost) (n : ℕ) → g x < n → g (getD l j noLost) < n → g (getD (set l i x) j noLost) < n
+set-below g [] i j x n h k = k
+set-below g (y ∷ l) zero zero x n h k = h
+set-below g (y ∷ l) zero (suc j) x n h k = k
+set-below g (y ∷ l) (suc i) zero x n h k = k
+set-below g (y ∷ l) (suc i) (suc j) x n h k = set-below g l i j x n h k
 
 -- a sum stops at the largest number of 64 bits
-sum-below : (lost bits : ℕ) → lostAfter lost bits < 2 ^ 64
-sum-below lost bits =
-    either (leb (lost + bits) maxSum) (λ t. let l = leb-true (lost + bits) maxSum t in rw t (omega arith)) (λ t. rw t (omega arith))
+sum-below : (sum more : ℕ) → sumAfter sum more < 2 ^ 64
+sum-below sum more =
+    either (leb (sum + more) maxSum) (λ t. let l = leb-true (sum + more) maxSum t in rw t (omega arith)) (λ t. rw t (omega arith))
 
 -- so every sum of a row's walk is a number of 64 bits
 pub sums-small : (p : Program) (row : Row) (i : ℕ) → Fits (walkTo p row i)
 unfolding walkTo
-sums-small p row zero j = omega (arith, starts-lossless j)
-sums-small p row (suc i) j =
+sums-small p row zero part j = omega (arith, starts-lossless part j)
+sums-small p row (suc i) part j =
     let walk = walkTo p row i in
-    step-cases (bankOf (p .banks) walk (node p row i)) walk (node p row i) (λ (s : Stepped). lostIn (s .walk) j < 2 ^ 64) (λ why. sums-small p row i j)
-    (λ s q e a. set-below (walk .lost) (bankAfter (walk .bank) (node p row i)) j _ (2 ^ 64)
-    (sum-below (lostIn walk (bankAfter (walk .bank) (node p row i))) _) (sums-small p row i j))
+    let bank = bankAfter (walk .bank) (node p row i) in
+    step-cases (bankOf (p .banks) walk (node p row i)) walk (node p row i) (λ (s : Stepped). lostIn part (s .walk) j < 2 ^ 64)
+    (λ why. sums-small p row i part j)
+    (λ s q e a. set-below (lostPart part) (walk .lost) bank j _ (2 ^ 64)
+    (rw (part-after part (getD (walk .lost) bank noLost) _) (sum-below (lostIn part walk bank) _)) (sums-small p row i part j))
 
 -- two rows stand in one bank: which it is, no row tells
 pub other-row : (p : Program) (row before : Row) (i : ℕ) {w v b : ℕ} {n m : Node} → n ≡ node p row i → m ≡ node p before i → v ≡ w → b ≡ bankAfter w n
@@ -94,7 +98,7 @@ module _ (p : Program) (sound : Switches (p .banks .len) (p .kinds) (p .operands
       crosses = h ∙ rw (k, any-default (walk .at) b o origin (omega (arith, in-table, w .sixteen)))
 
       -- and the walk after it, with its step stored
-      pub walks-next : Walks p row (i + 1) (kept walk b (c .after) (c .skipped .bits))
+      pub walks-next : Walks p row (i + 1) (kept walk b (c .after) (c .skipped))
       unfolding walkTo
       walks-next =
           record {

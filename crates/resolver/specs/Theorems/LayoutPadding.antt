@@ -1,23 +1,26 @@
 -- Theorems about what LayoutPadding defines.
-use Prim.Native.Nat.{ℕ, _+_, _*_, _<_, _≤_}
-use mathlib.Core.Path.{_≡_, refl, ap}
+use Prim.Native.Nat.{ℕ, _+_, _*_, _/_, _<_, _≤_}
+use mathlib.Core.Path.{_≡_, refl, ap, _∙_}
 use mathlib.Core.Bool.{false}
+use native.Mathlib.Nat.{zero-div}
 use native.Mathlib.Omega.{arith}
 use lib.ListN.{getD, length}
 use borrow.Author.Tests.{ne-eqb}
 use Rattle.refusal.specs.Limits.{maxNodes, maxPosition}
 use Rattle.bankdef.specs.declared.Bankdefs.{Bankdefs}
 use Rattle.iter.specs.Distance.{distanceOf}
-use Rattle.iter.specs.Step.{origin, startOf, outermostSymbol, seenOf, movedOn, advancedOf, seenSkips, advanceSkips, stepOf}
+use Rattle.iter.specs.Padding.{Part, the-bits, the-units, lostPart}
+use Rattle.iter.specs.Step.{origin, noLost, startOf, outermostSymbol, seenOf, movedOn, advancedOf, seenSkips, advanceSkips, stepOf}
 use Rattle.resolver.specs.Cases.{oneBank}
 use Rattle.resolver.specs.KnownInPass.{bankAt}
 use Rattle.resolver.specs.LastPass.{lastRow}
+use Rattle.resolver.specs.NodeOrder.{defAt}
 use Rattle.resolver.specs.Theorems.LastPass.{accepted-checked, sees-in-last}
 use Rattle.resolver.specs.Layout.{withLimit, layoutOf}
 use Rattle.lists.specs.Lists.{Lists, Row, lists}
 use Rattle.resolver.specs.Once.{Program, node, walkTo}
 use Rattle.resolver.specs.Padding.{lostAt, sumIn, paddingOf}
-use Rattle.resolver.specs.Laws.Padding.{sizesTo}
+use Rattle.resolver.specs.Laws.Padding.{partAt, sizesTo}
 use Rattle.resolver.specs.Theorems.Padding.{padding-bounded, walk-carries-padding, ends-at-sizes-and-padding}
 use Rattle.resolver.specs.Passes.{program, rowOfPass}
 use Rattle.resolver.specs.Theorems.RaisedLimit.{same-row-above}
@@ -31,18 +34,18 @@ module _ (banks : Bankdefs) (l : Lists) (choices : Choices) (k : ℕ) (accepted 
   pub accepted-few : length (l .kinds) ≤ maxNodes
   accepted-few = accepted-lists (banks .len) l (choices .fill) (accepted-checked banks l choices k accepted .lists) .few
 
-  -- "each bank should carry the sum of bits lost to `align` and to label alignment in the last pass"
+  -- "each bank should carry the sum of bits lost to `align` and to label alignment in the last pass", and of whole units
   pub last-pass-carries-padding : (bank : ℕ) →
-      getD (walkTo (program banks l) (lastRow banks l choices) (length (l .kinds)) .lost) bank 0 ≡
+      getD (walkTo (program banks l) (lastRow banks l choices) (length (l .kinds)) .lost) bank noLost ≡
       paddingOf (program banks l) (lastRow banks l choices) bank
   last-pass-carries-padding bank =
       walk-carries-padding (program banks l) (lastRow banks l choices) (length (l .kinds)) bank accepted-few (sees-in-last banks l choices k accepted)
 
-  -- The sum stays far within 64 bits.
-  pub layout-padding-bounded : (bank : ℕ) → paddingOf (program banks l) (lastRow banks l choices) bank ≤ maxNodes * maxPosition
-  layout-padding-bounded bank =
+  -- The sums stay far within 64 bits.
+  pub layout-padding-bounded : (part : Part) (bank : ℕ) → lostPart part (paddingOf (program banks l) (lastRow banks l choices) bank) ≤ maxNodes * maxPosition
+  layout-padding-bounded part bank =
       within accepted-few
-      (padding-bounded (program banks l) (lastRow banks l choices) (length (l .kinds)) bank (sees-in-last banks l choices k accepted))
+      (padding-bounded (program banks l) (lastRow banks l choices) part (length (l .kinds)) bank (sees-in-last banks l choices k accepted))
     where
       within : {x n : ℕ} → n ≤ maxNodes → x ≤ n * maxPosition → x ≤ maxNodes * maxPosition
       within h g = omega arith
@@ -51,7 +54,7 @@ module _ (banks : Bankdefs) (l : Lists) (choices : Choices) (k : ℕ) (accepted 
   pub layout-ends-at-sizes-and-padding : (bank : ℕ) →
       ((j : ℕ) → j < length (l .kinds) → bankAt (program banks l) (lastRow banks l choices) j ≡ bank → getD (l .kinds) j 0 ≡ 9 → ⊥) →
       getD (walkTo (program banks l) (lastRow banks l choices) (length (l .kinds)) .at) bank origin .position ≡
-      sizesTo (program banks l) (lastRow banks l choices) bank (length (l .kinds)) + paddingOf (program banks l) (lastRow banks l choices) bank
+      sizesTo (program banks l) (lastRow banks l choices) bank (length (l .kinds)) + paddingOf (program banks l) (lastRow banks l choices) bank .bits
   layout-ends-at-sizes-and-padding bank none =
       ends-at-sizes-and-padding (program banks l) (lastRow banks l choices) (length (l .kinds)) bank (sees-in-last banks l choices k accepted) none
 
@@ -64,14 +67,19 @@ module _ (banks : Bankdefs) (l : Lists) (choices : Choices) (k : ℕ) (accepted 
 -- ---- what counts
 
 module _ (p : Program) (row : Row) (i : ℕ) where
+  -- where no bits are lost, no units are
+  none-at : lostAt p row i ≡ 0 → (part : Part) → partAt p row part i ≡ 0
+  none-at e the-bits = e
+  none-at e the-units = ap (λ (b : ℕ). b / defAt p row i .unit) e ∙ zero-div (defAt p row i .unit)
+
   -- "An `addr` that moves the position is not padding."
-  pub addr-is-no-padding : getD (p .kinds) i 0 ≡ 9 → lostAt p row i ≡ 0
-  addr-is-no-padding k = rw k
+  pub addr-is-no-padding : getD (p .kinds) i 0 ≡ 9 → (part : Part) → partAt p row part i ≡ 0
+  addr-is-no-padding k = none-at (rw k)
 
   -- Nor is any other node that is no `align` and no symbol of depth 0.
-  pub others-are-no-padding : (getD (p .kinds) i 0 ≡ 8 → ⊥) → outermostSymbol (node p row i) ≡ false → lostAt p row i ≡ 0
-  others-are-no-padding k t = rw (ne-eqb (getD (p .kinds) i 0) 8 k, t)
+  pub others-are-no-padding : (getD (p .kinds) i 0 ≡ 8 → ⊥) → outermostSymbol (node p row i) ≡ false → (part : Part) → partAt p row part i ≡ 0
+  others-are-no-padding k t = none-at (rw (ne-eqb (getD (p .kinds) i 0) 8 k, t))
 
-pub back-again-case : paddingOf (program oneBank backAgain) (rowOfPass backAgain 1) 0 ≡ 8589934588
+pub back-again-case : paddingOf (program oneBank backAgain) (rowOfPass backAgain 1) 0 ≡ record { bits = 8589934588; units = 1073741822 }
 unfolding walkTo sumIn startOf seenOf movedOn advancedOf seenSkips advanceSkips stepOf distanceOf
 back-again-case = refl

@@ -7,6 +7,9 @@ use Rattle.iter.proofs.paces.aligned_first.Tie as tie
 cast-sum : tie.Need-cast-sum
 cast-sum c = search needs
 
+cast-sum-2 : tie.Need-cast-sum-2
+cast-sum-2 c = search needs
+
 add-sum : tie.Need-add-sum
 add-sum c = search needs
 
@@ -27,4 +30,4 @@ returns-2 c = rw (le-leb _ _ (c .before .if1 .left)) (c .made .ensures)
 
 pub aligned-first-spec : {M : Type 1} → statement M
 aligned-first-spec =
-    tie.close (tie.spec cast-sum add-sum halted-requires returns cast-t8 made-requires returns-2)
+    tie.close (tie.spec cast-sum cast-sum-2 add-sum halted-requires returns cast-t8 made-requires returns-2)

@@ -6,11 +6,8 @@ use Rattle.iter.proofs.paces.crossing_of.Tie as tie
 sight-of-requires : tie.Need-sight-of-requires
 sight-of-requires c κs = search needs
 
-skipped-by-requires : tie.Need-skipped-by-requires
-skipped-by-requires c κs = search needs
-
 returns : tie.Need-returns
-returns c = rw (c .skipped-by .ensures, c .before .sight-of .ensures)
+returns c = rw (c .sight-of .ensures)
 
 pub crossing-of-spec : {M : Type 1} → statement M
-crossing-of-spec = tie.close (tie.spec sight-of-requires skipped-by-requires returns)
+crossing-of-spec = tie.close (tie.spec sight-of-requires returns)

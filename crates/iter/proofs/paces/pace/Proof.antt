@@ -10,11 +10,11 @@ use Rattle.iter.proofs.paces.pace.Tie as tie
 stands-still-requires : tie.Need-stands-still-requires
 stands-still-requires c κs = search needs
 
-made-requires : tie.Need-made-requires
-made-requires c κs = search needs
+stood-requires : tie.Need-stood-requires
+stood-requires c κs = search needs
 
 returns : tie.Need-returns
-returns c = rw (c .made .ensures) (c .before .before .stands-still .ensures (c .before .if1 .taken) _)
+returns c = rw (c .stood .ensures) (c .before .before .stands-still .ensures (c .before .if1 .taken) _)
 
 adds-number-requires : tie.Need-adds-number-requires
 adds-number-requires c κs = search needs
@@ -45,7 +45,7 @@ pace-spec =
     tie.close
     (tie.spec
     stands-still-requires
-    made-requires
+    stood-requires
     returns
     adds-number-requires
     stays-known-requires

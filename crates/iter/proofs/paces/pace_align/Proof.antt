@@ -30,16 +30,20 @@ distance-in-bits-requires c κs = tells c
 stays-known-requires : tie.Need-stays-known-requires
 stays-known-requires c κs = search needs
 
+in-units-requires : tie.Need-in-units-requires
+in-units-requires c κs = tells (c .before .before)
+
 added-requires : tie.Need-added-requires
 added-requires c κs = search needs
 
 returns-2 : tie.Need-returns-2
 returns-2 c =
-    let k = c .before in
+    let u = c .before in
+    let k = u .before in
     let d = k .before in
     let e = d .before in
     let s = e .before .before in
-    paces-align _ _ _ (s .pre .0) (s .pre .1) (d .distance-in-bits .result) (tells e) (d .distance-in-bits .ensures)
+    paces-align _ _ _ (s .pre .0) (s .pre .1) (d .distance-in-bits .result) (tells e) (d .distance-in-bits .ensures) (u .in-units .ensures)
     (rw (k .stays-known .ensures) at (c .added .ensures))
 
 pub pace-align-spec : {M : Type 1} → statement M
@@ -51,5 +55,6 @@ pace-align-spec =
     returns
     distance-in-bits-requires
     stays-known-requires
+    in-units-requires
     added-requires
     returns-2)

@@ -31,11 +31,11 @@ pace-align-requires c κs = (sound (c .before), c .match .keys1)
 made-requires : tie.Need-made-requires
 made-requires c κs = search needs
 
-made-requires-2 : tie.Need-made-requires-2
-made-requires-2 c κs = search needs
+stood-requires : tie.Need-stood-requires
+stood-requires c κs = search needs
 
-made-requires-3 : tie.Need-made-requires-3
-made-requires-3 c κs = search needs
+stood-requires-2 : tie.Need-stood-requires-2
+stood-requires-2 c κs = search needs
 
 pace-symbol-requires : tie.Need-pace-symbol-requires
 pace-symbol-requires c κs = (sound (c .before .before .before), omega (arith, c .if3 .taken))
@@ -58,14 +58,14 @@ returns-3 c =
     paces-addr _ _ _ (sound (m .before)) (m .match .keys2) (c .made .ensures)
 
 returns-4 : tie.Need-returns-4
-returns-4 c = paces-assert _ _ _ (sound (c .before .before)) (c .before .match .keys3) (c .made2 .ensures)
+returns-4 c = paces-assert _ _ _ (sound (c .before .before)) (c .before .match .keys3) (c .stood .ensures)
 
 returns-5 : tie.Need-returns-5
 returns-5 c =
     let t = c .before in
     let few : _ < 2 = t .if2 .taken in
     paces-plain _ _ _ (sound (t .before .before)) (early-plain (t .before .before .before .before .args .node) (t .if2 .taken)) (omega arith)
-    (c .made3 .ensures)
+    (c .stood2 .ensures)
 
 returns-6 : tie.Need-returns-6
 returns-6 c = search needs
@@ -92,8 +92,8 @@ pace-by-kind-spec =
     returns
     pace-align-requires
     made-requires
-    made-requires-2
-    made-requires-3
+    stood-requires
+    stood-requires-2
     pace-symbol-requires
     stays-known-requires
     added-requires

@@ -24,20 +24,20 @@ tells c = sym (c .before .is-tellable .ensures) ∙ not-false _ (c .if2 .left)
 is-outermost-symbol-requires : tie.Need-is-outermost-symbol-requires
 is-outermost-symbol-requires c κs = search needs
 
-made-requires : tie.Need-made-requires
-made-requires c κs = search needs
+stood-requires : tie.Need-stood-requires
+stood-requires c κs = search needs
 
 returns : tie.Need-returns
 returns c =
     let t = c .before in
     let s = t .before .before in
-    paces-plain _ _ _ (s .pre .0) (sym (t .before .is-outermost-symbol .ensures) ∙ not-true _ (t .if1 .taken)) (few s) (c .made .ensures)
+    paces-plain _ _ _ (s .pre .0) (sym (t .before .is-outermost-symbol .ensures) ∙ not-true _ (t .if1 .taken)) (few s) (c .stood .ensures)
 
 enum-told : tie.Need-enum-told
 enum-told c = search needs
 
-made-requires-2 : tie.Need-made-requires-2
-made-requires-2 c κs = search needs
+stood-requires-2 : tie.Need-stood-requires-2
+stood-requires-2 c κs = search needs
 
 enum-known-align : tie.Need-enum-known-align
 enum-known-align c = search needs
@@ -60,6 +60,9 @@ returns-2 c =
 distance-in-bits-requires : tie.Need-distance-in-bits-requires
 distance-in-bits-requires c κs = tells c
 
+in-units-requires : tie.Need-in-units-requires
+in-units-requires c κs = tells (c .before)
+
 aligned-first-requires : tie.Need-aligned-first-requires
 aligned-first-requires c κs = search needs
 
@@ -67,32 +70,34 @@ returns-3 : tie.Need-returns-3
 returns-3 c =
     let e = c .before .before .before in
     let s = e .before .before in
-    paces-unaligned _ _ _ (s .pre .0) (c .before .enum-told .given .1) (few s) (c .made2 .ensures)
+    paces-unaligned _ _ _ (s .pre .0) (c .before .enum-told .given .1) (few s) (c .stood2 .ensures)
 
 returns-4 : tie.Need-returns-4
 returns-4 c =
-    let d = c .before in
+    let u = c .before in
+    let d = u .before in
     let t = d .before in
     let k = t .before .before .before in
     let e = k .before .before in
     let s = e .before .before in
     paces-symbol _ _ _ (s .pre .0) _ (symbol e) (k .align .given .1) (few s) (d .distance-in-bits .result) (tells t) (d .distance-in-bits .ensures)
-    (c .aligned-first .ensures)
+    (u .in-units .ensures) (c .aligned-first .ensures)
 
 pub pace-symbol-spec : {M : Type 1} → statement M
 pace-symbol-spec =
     tie.close
     (tie.spec
     is-outermost-symbol-requires
-    made-requires
+    stood-requires
     returns
     enum-told
-    made-requires-2
+    stood-requires-2
     enum-known-align
     is-tellable-requires
     halted-requires
     returns-2
     distance-in-bits-requires
+    in-units-requires
     aligned-first-requires
     returns-3
     returns-4)

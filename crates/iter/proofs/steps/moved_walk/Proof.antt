@@ -12,8 +12,8 @@ array-set-from-at c = search needs
 mul-lost-after : tie.Need-mul-lost-after
 mul-lost-after c = search needs
 
-array-read-lost-after : tie.Need-array-read-lost-after
-array-read-lost-after c = search needs
+array-copy-out-lost-after : tie.Need-array-copy-out-lost-after
+array-copy-out-lost-after c = search needs
 
 lost-after-requires : tie.Need-lost-after-requires
 lost-after-requires c κs = search needs
@@ -21,8 +21,8 @@ lost-after-requires c κs = search needs
 mul-lost : tie.Need-mul-lost
 mul-lost c = search needs
 
-array-write-lost : tie.Need-array-write-lost
-array-write-lost c = search needs
+array-set-from-lost : tie.Need-array-set-from-lost
+array-set-from-lost c = search needs
 
 returns : tie.Need-returns
 returns c = rw (c .lost-after .ensures)
@@ -34,8 +34,8 @@ moved-walk-spec =
     mul-at
     array-set-from-at
     mul-lost-after
-    array-read-lost-after
+    array-copy-out-lost-after
     lost-after-requires
     mul-lost
-    array-write-lost
+    array-set-from-lost
     returns)

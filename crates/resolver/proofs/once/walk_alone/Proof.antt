@@ -7,6 +7,7 @@ use borrow.Author.Needs.{needs}
 use borrow.Author.Tests.{eq-eqb, ne-eqb}
 use Rattle.refusal.specs.Laws.Pick.{pick-true, pick-false}
 use Rattle.refusal.specs.declared.Refusal.{Refusal}
+use Rattle.iter.specs.Laws.Padding.{pace-nothing}
 use Rattle.iter.specs.Pace.{seenBy}
 use Rattle.lists.specs.Lists.{Row, rowWith}
 use Rattle.resolver.specs.Laws.Walking.{walks-start, in-table, its-record, sees, walks-next}
@@ -164,13 +165,13 @@ element-copy-out-lost-after : tie.Need-element-copy-out-lost-after Inv-loop μ-l
 element-copy-out-lost-after c = let b = banked (paced (c .before .before .before .before)) in omega (arith, listed b, its b .sums)
 
 lost-after-requires : tie.Need-lost-after-requires Inv-loop μ-loop
-lost-after-requires c κs = search needs
+lost-after-requires c κs = pace-nothing _ _ _ (paced (c .before .before .before .before .before) .pace .ensures)
 
-mul-walk : tie.Need-mul-walk Inv-loop μ-loop
-mul-walk c = omega (arith, listed (banked (paced (c .before .before .before .before .before .before))))
+mul-lost : tie.Need-mul-lost Inv-loop μ-loop
+mul-lost c = omega (arith, listed (banked (paced (c .before .before .before .before .before .before))))
 
-element-write-walk : tie.Need-element-write-walk Inv-loop μ-loop
-element-write-walk c = let b = banked (paced (c .before .before .before .before .before .before)) in omega (arith, listed b, its b .sums)
+element-set-from-lost : tie.Need-element-set-from-lost Inv-loop μ-loop
+element-set-from-lost c = let b = banked (paced (c .before .before .before .before .before .before)) in omega (arith, listed b, its b .sums)
 
 add-i : tie.Need-add-i Inv-loop μ-loop
 add-i c = let b = banked (paced (c .before .before .before .before .before .before)) in omega (
@@ -241,8 +242,8 @@ walk-alone-spec =
     mul-lost-after
     element-copy-out-lost-after
     lost-after-requires
-    mul-walk
-    element-write-walk
+    mul-lost
+    element-set-from-lost
     add-i
     loop-less
     loop-again

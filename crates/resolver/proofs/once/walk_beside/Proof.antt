@@ -9,6 +9,7 @@ use borrow.Author.Needs.{needs}
 use borrow.Author.Tests.{eq-eqb, ne-eqb}
 use Rattle.refusal.specs.Laws.Pick.{pick-true, pick-false}
 use Rattle.refusal.specs.declared.Refusal.{Refusal}
+use Rattle.iter.specs.Laws.Padding.{pace-nothing}
 use Rattle.iter.specs.Pace.{seenBy}
 use Rattle.lists.specs.Lists.{Row, rowWith}
 use Rattle.resolver.specs.Laws.Walking.{walks-start, in-table, its-record, sees, walks-next, other-row}
@@ -185,13 +186,13 @@ element-copy-out-lost-after : tie.Need-element-copy-out-lost-after Inv-loop μ-l
 element-copy-out-lost-after c = let b = banked (paced (c .before .before .before .before .before .before .before)) in omega (arith, listed b, its b .sums)
 
 lost-after-requires : tie.Need-lost-after-requires Inv-loop μ-loop
-lost-after-requires c κs = search needs
+lost-after-requires c κs = pace-nothing _ _ _ (paced (c .before .before .before .before .before .before .before .before) .pace .ensures)
 
-mul-walk : tie.Need-mul-walk Inv-loop μ-loop
-mul-walk c = omega (arith, listed (banked (paced (c .before .before .before .before .before .before .before .before .before))))
+mul-lost : tie.Need-mul-lost Inv-loop μ-loop
+mul-lost c = omega (arith, listed (banked (paced (c .before .before .before .before .before .before .before .before .before))))
 
-element-write-walk : tie.Need-element-write-walk Inv-loop μ-loop
-element-write-walk c = let b = banked (paced (c .before .before .before .before .before .before .before .before .before)) in omega
+element-set-from-lost : tie.Need-element-set-from-lost Inv-loop μ-loop
+element-set-from-lost c = let b = banked (paced (c .before .before .before .before .before .before .before .before .before)) in omega
     (arith, listed b, its b .sums)
 
 mul-after-before : tie.Need-mul-after-before Inv-loop μ-loop
@@ -209,13 +210,13 @@ element-copy-out-lost-after-2 c = let b = banked (paced (c .before .before .befo
     (arith, listed b, turn b .loop .inv .3 .sums)
 
 lost-after-requires-2 : tie.Need-lost-after-requires-2 Inv-loop μ-loop
-lost-after-requires-2 c κs = search needs
+lost-after-requires-2 c κs = pace-nothing _ _ _ (c .before .before .before .before .before .before .before .pace2 .ensures)
 
-mul-old : tie.Need-mul-old Inv-loop μ-loop
-mul-old c = omega (arith, listed (banked (paced (c .before .before .before .before .before .before .before .before .before .before .before .before))))
+mul-lost-before : tie.Need-mul-lost-before Inv-loop μ-loop
+mul-lost-before c = omega (arith, listed (banked (paced (c .before .before .before .before .before .before .before .before .before .before .before .before))))
 
-element-write-old : tie.Need-element-write-old Inv-loop μ-loop
-element-write-old c = let b = banked (paced (c .before .before .before .before .before .before .before .before .before .before .before .before)) in omega
+element-set-from-lost-before : tie.Need-element-set-from-lost-before Inv-loop μ-loop
+element-set-from-lost-before c = let b = banked (paced (c .before .before .before .before .before .before .before .before .before .before .before .before)) in omega
     (arith, listed b, turn b .loop .inv .3 .sums)
 
 add-i : tie.Need-add-i Inv-loop μ-loop
@@ -295,15 +296,15 @@ walk-beside-spec =
     mul-lost-after
     element-copy-out-lost-after
     lost-after-requires
-    mul-walk
-    element-write-walk
+    mul-lost
+    element-set-from-lost
     mul-after-before
     element-set-from-after-before
     mul-lost-after-2
     element-copy-out-lost-after-2
     lost-after-requires-2
-    mul-old
-    element-write-old
+    mul-lost-before
+    element-set-from-lost-before
     add-i
     loop-less
     loop-again
