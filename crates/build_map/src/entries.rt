@@ -2,7 +2,7 @@
 use bankdef::Bankdefs;
 use build_sights::visit_node;
 use iter::Moved;
-use iter::Node;
+use lists::Node;
 use refusal::INSTRUCTION;
 use refusal::RESERVE;
 ghost use mathlib.Core.Path.{_≡_};

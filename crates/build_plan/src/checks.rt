@@ -2,8 +2,8 @@
 use bankdef::Bankdef;
 use build_sights::is_written;
 use build_sights::size_of;
-use iter::Node;
 use iter::Pos;
+use lists::Node;
 use refusal::LABEL;
 use refusal::Offset;
 use refusal::Opt;

@@ -5,7 +5,7 @@ use mathlib.Core.List.{List, [], _∷_}
 use Rattle.refusal.specs.Pick.{pick}
 use Rattle.refusal.specs.declared.Offset.{Offset}
 use Rattle.refusal.specs.declared.Offset.the-variants.{None as Nowhere, At as Out}
-use Rattle.iter.specs.declared.Node.{Node}
+use Rattle.lists.specs.declared.Node.{Node}
 use Rattle.lists.specs.Lists.{isItem}
 use Rattle.bitvec.specs.Written.{written}
 use Rattle.build_sights.specs.declared.Visit.{Visit}

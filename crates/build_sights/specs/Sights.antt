@@ -3,7 +3,7 @@ use Prim.Native.Nat.{ℕ, suc}
 use Rattle.refusal.specs.declared.Offset.{Offset}
 use Rattle.bankdef.specs.declared.Bankdef.{Bankdef}
 use Rattle.iter.specs.declared.Moved.{Moved}
-use Rattle.iter.specs.declared.Node.{Node}
+use Rattle.lists.specs.declared.Node.{Node}
 use Rattle.lists.specs.Lists.{Row}
 use Rattle.resolver.specs.Once.{Program, walkTo}
 use Rattle.build_sights.specs.declared.Visit.{Visit}

@@ -10,7 +10,7 @@ use Rattle.refusal.specs.declared.Offset.{Offset}
 use Rattle.iter.specs.Address.{addressOf}
 use Rattle.iter.specs.declared.Address.{Address}
 use Rattle.iter.specs.declared.Address.the-variants.{At, Refused}
-use Rattle.iter.specs.declared.Node.{Node}
+use Rattle.lists.specs.declared.Node.{Node}
 use Rattle.blocks.specs.Offsets.{wordOf}
 use Rattle.build_sights.specs.declared.Visit.{Visit}
 use Rattle.build_sights.specs.Visits.{positionOf, each}

@@ -2,8 +2,8 @@
 use bankdef::Bankdef;
 use bankdef::Bankdefs;
 use iter::Moved;
-use iter::Node;
 use iter::Walk;
+use lists::Node;
 use refusal::INSTRUCTION;
 use refusal::LABEL;
 use refusal::OPEN_DATA;

@@ -16,7 +16,7 @@ use Rattle.refusal.specs.declared.Offset.the-variants.{None as Nowhere, At as O
 use Rattle.bitvec.specs.Written.{written, isWritten as passesNoEnd}
 use Rattle.blocks.specs.Offsets.{wordOf}
 use Rattle.iter.specs.Step.{startOf}
-use Rattle.iter.specs.declared.Node.{Node}
+use Rattle.lists.specs.declared.Node.{Node}
 use Rattle.iter.specs.declared.Walk.{Walk}
 use Rattle.lists.specs.Lists.{Row}
 use Rattle.resolver.specs.Once.{Program, node}

@@ -15,7 +15,7 @@ use Rattle.iter.specs.Laws.ToldFacts.{none-skipped}
 use Rattle.iter.specs.declared.Moved.{Moved}
 use Rattle.iter.specs.declared.Moved.the-variants.{To, Refused}
 use Rattle.iter.specs.declared.Pos.{Pos}
-use Rattle.iter.specs.declared.Node.{Node}
+use Rattle.lists.specs.declared.Node.{Node}
 
 module _ (def : Bankdef) (at : Pos) (node : Node) where
   -- a node that is no symbol of depth 0

@@ -11,7 +11,7 @@ use Rattle.iter.specs.Distance.{distanceOf}
 use Rattle.iter.specs.Figures.{OuterSymbol, SoundState}
 use Rattle.iter.specs.declared.Distance.the-variants.{Skips}
 use Rattle.iter.specs.declared.Skipped.{Skipped}
-use Rattle.iter.specs.declared.Node.{Node}
+use Rattle.lists.specs.declared.Node.{Node}
 use Rattle.iter.specs.declared.Pos.{Pos}
 
 -- Where a node's advance leads, by its kind.

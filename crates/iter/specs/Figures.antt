@@ -22,7 +22,7 @@ use Rattle.iter.specs.declared.Skipped.{Skipped}
 use Rattle.iter.specs.declared.Motion.{Motion}
 use Rattle.iter.specs.declared.Moved.{Moved}
 use Rattle.iter.specs.declared.Moved.the-variants.{To, Refused}
-use Rattle.iter.specs.declared.Node.{Node}
+use Rattle.lists.specs.declared.Node.{Node}
 use Rattle.iter.specs.declared.Pos.{Pos}
 
 abbrev pub toldDistance : Distance → Told Skipped

@@ -3,7 +3,7 @@ use mathlib.Core.Bool.{Bool, _&&_}
 use lib.Dec.{eqb}
 use Rattle.refusal.specs.Pick.{pick}
 use Rattle.iter.specs.Step.{resolved}
-use Rattle.iter.specs.declared.Node.{Node}
+use Rattle.lists.specs.declared.Node.{Node}
 
 -- "4, 6, 7, 8 keep it only if state is 0; 5 .. leave it"
 abbrev pub staysKnown : Bool → Node → Bool

@@ -14,7 +14,7 @@ use Rattle.iter.specs.Distance.{noSkip, distanceOf}
 use Rattle.iter.specs.declared.Distance.{Distance}
 use Rattle.iter.specs.declared.Distance.the-variants.{Skips, Refused as NoDistance}
 use Rattle.iter.specs.declared.Pos.{Pos}
-use Rattle.iter.specs.declared.Node.{Node}
+use Rattle.lists.specs.declared.Node.{Node}
 use Rattle.iter.specs.declared.Lost.{Lost}
 use Rattle.iter.specs.declared.Walk.{Walk}
 use Rattle.iter.specs.declared.Skipped.{Skipped}

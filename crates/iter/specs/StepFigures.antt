@@ -12,7 +12,7 @@ use Rattle.iter.specs.Figures.{toldMoved, Sees, SoundState, Advances, Si
 use Rattle.iter.specs.Step.{bankAfter, kept}
 use Rattle.iter.specs.StepCases.{standing}
 use Rattle.iter.specs.declared.Moved.the-variants.{To}
-use Rattle.iter.specs.declared.Node.{Node}
+use Rattle.lists.specs.declared.Node.{Node}
 use Rattle.iter.specs.declared.Pos.{Pos}
 use Rattle.iter.specs.declared.Skipped.{Skipped}
 use Rattle.iter.specs.declared.Stepped.{Stepped}

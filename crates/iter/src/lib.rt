@@ -40,15 +40,6 @@ pub struct Walk {
     pub bank: u64,
 }
 
-// A node as a row shows it: its number in the list, kind, operand, and the row's number and state for it.
-pub struct Node {
-    pub index: u64,
-    pub kind: u8,
-    pub operand: u32,
-    pub number: u32,
-    pub state: u8,
-}
-
 // What a distance skips: its bits, and "the count of whole address units" in them.
 pub struct Skipped {
     pub bits: u32,

@@ -1,7 +1,6 @@
 // One node's step, in numbers: what it sees, where it leads and what its alignment skips, kind by kind.
 use crate::Crossing;
 use crate::Moved;
-use crate::Node;
 use crate::Paced;
 use crate::Pos;
 use crate::Skipped;
@@ -9,6 +8,7 @@ use crate::alignment::distance_in_bits;
 use crate::alignment::in_units;
 use crate::alignment::is_tellable;
 use bankdef::Bankdef;
+use lists::Node;
 use refusal::ADDR;
 use refusal::ALIGN;
 use refusal::ASSERT;
@@ -183,7 +183,12 @@ fn pace_by_kind(def: Bankdef, at: Pos, node: Node) -> Paced
     match kind {
         NOTHING..=SWITCH => stood(at),
         LABEL..=CONSTANT => pace_symbol(def, at, node),
-        INSTRUCTION..=RESERVE => added(at, node.number, stays_known(at.known, node), Skipped { bits: 0, units: 0 }),
+        INSTRUCTION..=RESERVE => added(
+            at,
+            node.number,
+            stays_known(at.known, node),
+            Skipped { bits: 0, units: 0 },
+        ),
         ALIGN => pace_align(def, at, node),
         // "An `addr` that moves the position is not padding."
         ADDR => made(
@@ -290,7 +295,12 @@ pub fn pace(def: Bankdef, at: Pos, node: Node) -> Paced
         return stood(at);
     }
     if adds_number(node) {
-        return added(at, node.number, stays_known(at.known, node), Skipped { bits: 0, units: 0 });
+        return added(
+            at,
+            node.number,
+            stays_known(at.known, node),
+            Skipped { bits: 0, units: 0 },
+        );
     }
     let align = def.align;
     pace_of_parts(

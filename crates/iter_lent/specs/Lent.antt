@@ -12,7 +12,7 @@ use Rattle.iter.specs.Step.{advancedOf, advanceSkips}
 use Rattle.iter.specs.Figures.{Advances, OwnSkips}
 use Rattle.iter.specs.declared.Motion.{Motion}
 use Rattle.iter.specs.declared.Skipped.{Skipped}
-use Rattle.iter.specs.declared.Node.{Node}
+use Rattle.lists.specs.declared.Node.{Node}
 use Rattle.iter.specs.declared.Pos.{Pos}
 use Rattle.iter.specs.declared.Moved.{Moved}
 use Rattle.iter.specs.declared.Moved.the-variants.{To, Refused}

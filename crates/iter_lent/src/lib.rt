@@ -1,10 +1,10 @@
 // The advance over a lent record: "A bank's position record is lent to the advance and updated there".
 use bankdef::Bankdef;
 use iter::Moved;
-use iter::Node;
 use iter::Pos;
 use iter::Skipped;
 use iter::advance_address;
+use lists::Node;
 use refusal::Verdict;
 ghost use mathlib.Core.Path.{_≡_};
 ghost use Rattle.iter.specs.Step.{advanceMotion};

@@ -3,7 +3,7 @@ use Prim.Native.Nat.{ℕ, _+_, _*_, _-_}
 use mathlib.Core.Path.{_≡_}
 use mathlib.Core.List.{List}
 use lib.ListN.{getD, take, drop, length}
-use Rattle.iter.specs.declared.Node.{Node}
+use Rattle.lists.specs.declared.Node.{Node}
 use Rattle.lists.specs.Lists.{Row, rowWith, nodeAt, nodeOf, numberAt}
 use Rattle.lists.specs.Laws.RowParts.{first-part, row-part}
 use borrow.Author.Tests.{eq-eqb, ne-eqb}

@@ -10,7 +10,7 @@ use Rattle.refusal.specs.Pick.{pick}
 use Rattle.refusal.specs.declared.Refusal.the-variants.{Malformed}
 use Rattle.refusal.specs.declared.Verdict.{Verdict}
 use Rattle.refusal.specs.declared.Verdict.the-variants.{Accepted, Refused}
-use Rattle.iter.specs.declared.Node.{Node}
+use Rattle.lists.specs.declared.Node.{Node}
 
 -- The lent lists: a kind and an operand for each node; a number and a state for each node of each row, row after row; the value bytes.
 pub record Lists : Type 0 where

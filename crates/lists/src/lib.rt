@@ -1,5 +1,4 @@
 // The lent lists: a node as a row shows it, and the list check.
-use iter::Node;
 use refusal::ASSERT;
 use refusal::CONSTANT;
 use refusal::DATA;
@@ -20,6 +19,15 @@ ghost use lib.Dec.{ltb};
 ghost use lib.ListN.{getD, length};
 ghost use Rattle.lists.specs.Sound.{ListFigures};
 ghost use Rattle.lists.specs.Lists.{lists, rowWith, nodeAt, nodeOf, isItem, pastEnd, anyRowFault, nodeFault, nodesTo, listsOf, Rows};
+
+// A node as a row shows it: its number in the list, kind, operand, and the row's number and state for it.
+pub struct Node {
+    pub index: u64,
+    pub kind: u8,
+    pub operand: u32,
+    pub number: u32,
+    pub state: u8,
+}
 
 fn byte_at(s: &[u8], i: usize) -> u8
     ensures { λ r. ⌜ r ≡ getD (now (s .entry)) i 0 ⌝ }

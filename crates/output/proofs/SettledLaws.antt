@@ -17,7 +17,7 @@ use Rattle.refusal.specs.declared.Place.the-variants.{One}
 use Rattle.refusal.specs.Told.{gives, refuses}
 use Rattle.refusal.specs.declared.Offset.{Offset}
 use Rattle.refusal.specs.declared.Offset.the-variants.{None as Nowhere, At as Out}
-use Rattle.iter.specs.declared.Node.{Node}
+use Rattle.lists.specs.declared.Node.{Node}
 use Rattle.refusal.specs.declared.Verdict.{Verdict}
 use Rattle.refusal.specs.declared.Verdict.the-variants.{Accepted, Refused as TurnedAway}
 use Rattle.bankdef.specs.Check.{banksOf, checkOf}

@@ -19,7 +19,7 @@ use Rattle.iter.specs.declared.Moved.{Moved}
 use Rattle.iter.specs.declared.Moved.the-variants.{To, Refused as Stopped}
 use Rattle.iter.specs.declared.Paced.{Paced}
 use Rattle.iter.specs.declared.Pos.{Pos}
-use Rattle.iter.specs.declared.Node.{Node}
+use Rattle.lists.specs.declared.Node.{Node}
 use Rattle.iter.specs.declared.Walk.{Walk}
 use Rattle.lists.specs.Lists.{Row}
 use Rattle.resolver.specs.Once.{bankOf, labelState, stateOf, offBoundary, met, goesOn, Program, node, stepAt, walkTo, passTo, passOf, on, off}

@@ -11,7 +11,7 @@ use Rattle.iter.specs.Distance.{addressInBits, distanceTo}
 use Rattle.iter.specs.Step.{outermostSymbol}
 use Rattle.iter.specs.StepCases.{standing}
 use Rattle.iter.specs.declared.Lost.{Lost}
-use Rattle.iter.specs.declared.Node.{Node}
+use Rattle.lists.specs.declared.Node.{Node}
 use Rattle.resolver.specs.KnownInPass.{bankAt}
 use Rattle.lists.specs.Lists.{Row}
 use Rattle.resolver.specs.NodeOrder.{defAt}

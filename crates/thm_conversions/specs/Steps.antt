@@ -2,7 +2,7 @@
 use Prim.Native.Nat.{suc}
 use lib.Dec.{eqb}
 use Rattle.refusal.specs.Pick.{pick}
-use Rattle.iter.specs.declared.Node.{Node}
+use Rattle.lists.specs.declared.Node.{Node}
 
 -- a node as it stands behind the switch: one number higher, and a switch goes to bank 1
 abbrev pub up : Node → Node

@@ -8,7 +8,7 @@ use native.Mathlib.Decide.{decLe}
 use native.Mathlib.Omega.{arith}
 use borrow.Author.Tests.{leb-true, le-leb, eqb-true, eq-eqb}
 use lib.Dec.{eqb, leb}
-use Rattle.iter.specs.declared.Node.{Node}
+use Rattle.lists.specs.declared.Node.{Node}
 use Rattle.build_sights.specs.Items.{isWritten}
 use Rattle.build_sights.specs.Spans.{isSpan}
 use Rattle.build_plan.specs.Placing.{isReserve, isOffered, isPlaced}

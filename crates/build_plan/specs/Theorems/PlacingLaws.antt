@@ -9,7 +9,7 @@ use Rattle.refusal.specs.declared.Refusal.the-variants.{DefaultBank, PastBank, 
 use Rattle.refusal.specs.declared.Verdict.the-variants.{Accepted, Refused}
 use Rattle.refusal.specs.declared.Offset.{Offset}
 use Rattle.bankdef.specs.declared.Bankdef.{Bankdef}
-use Rattle.iter.specs.declared.Node.{Node}
+use Rattle.lists.specs.declared.Node.{Node}
 use Rattle.iter.specs.declared.Pos.{Pos}
 use Rattle.overlap_checker.specs.State.{State}
 use Rattle.build_sights.specs.declared.Visit.{Visit}

@@ -13,7 +13,7 @@ use Rattle.bankdef.specs.declared.Bankdef.{Bankdef}
 use Rattle.iter.specs.Step.{origin, movedBy, seenOf, advancedOf, bankAfter, kept, stopped, stepSkips}
 use Rattle.iter.specs.Step.{malformed, stepOf}
 use Rattle.iter.specs.declared.Pos.{Pos}
-use Rattle.iter.specs.declared.Node.{Node}
+use Rattle.lists.specs.declared.Node.{Node}
 use Rattle.iter.specs.declared.Walk.{Walk}
 use Rattle.iter.specs.declared.Moved.the-variants.{To, Refused}
 

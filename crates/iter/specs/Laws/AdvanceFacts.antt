@@ -20,7 +20,7 @@ use Rattle.iter.specs.Theorems.ToldFacts.{distance-told}
 use Rattle.iter.specs.declared.Distance.{Distance}
 use Rattle.iter.specs.declared.Distance.the-variants.{Refused as NoDistance}
 use Rattle.iter.specs.declared.Skipped.{Skipped}
-use Rattle.iter.specs.declared.Node.{Node}
+use Rattle.lists.specs.declared.Node.{Node}
 use Rattle.iter.specs.declared.Pos.{Pos}
 
 pub gives-same : {p q : Pos} → gives p ≡ gives q → p ≡ q

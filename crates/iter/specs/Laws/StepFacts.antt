@@ -17,7 +17,7 @@ use Rattle.iter.specs.declared.Distance.{Distance}
 use Rattle.iter.specs.declared.Distance.the-variants.{Skips}
 use Rattle.iter.specs.declared.Skipped.{Skipped}
 use Rattle.iter.specs.declared.Pos.{Pos}
-use Rattle.iter.specs.declared.Node.{Node}
+use Rattle.lists.specs.declared.Node.{Node}
 use Rattle.iter.specs.declared.Moved.the-variants.{To, Refused}
 
 pub never : (p : Pos) (why : Refusal) → To p ≡ Refused why → ⊥

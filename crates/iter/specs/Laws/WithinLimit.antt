@@ -17,7 +17,7 @@ use Rattle.iter.specs.Step.{movedOn, advancedOf}
 use Rattle.iter.specs.declared.Distance.{Distance}
 use Rattle.iter.specs.declared.Distance.the-variants.{Skips, Refused as NoDistance}
 use Rattle.iter.specs.declared.Pos.{Pos}
-use Rattle.iter.specs.declared.Node.{Node}
+use Rattle.lists.specs.declared.Node.{Node}
 use Rattle.iter.specs.declared.Moved.{Moved}
 use Rattle.iter.specs.declared.Moved.the-variants.{To, Refused}
 use Rattle.iter.specs.WithinLimit.{Small}

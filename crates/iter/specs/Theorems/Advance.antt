@@ -11,7 +11,7 @@ use Rattle.bankdef.specs.declared.Bankdef.{Bankdef}
 use Rattle.iter.specs.Known.{staysKnown}
 use Rattle.iter.specs.Step.{movedBy, alignedTo, resolved, badState, movedOn, advancedOf}
 use Rattle.iter.specs.declared.Pos.{Pos}
-use Rattle.iter.specs.declared.Node.{Node}
+use Rattle.lists.specs.declared.Node.{Node}
 use Rattle.iter.specs.declared.Moved.the-variants.{To, Refused}
 use Rattle.iter.specs.Laws.Advance.{chosen, not-at, not-from}
 

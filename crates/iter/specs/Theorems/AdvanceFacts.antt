@@ -23,7 +23,7 @@ use Rattle.iter.specs.declared.Distance.{Distance}
 use Rattle.iter.specs.declared.Distance.the-variants.{Skips}
 use Rattle.iter.specs.declared.Skipped.{Skipped}
 use Rattle.iter.specs.declared.Moved.the-variants.{To}
-use Rattle.iter.specs.declared.Node.{Node}
+use Rattle.lists.specs.declared.Node.{Node}
 use Rattle.iter.specs.declared.Pos.{Pos}
 use Rattle.iter.specs.AdvanceFacts.{AddsBits, Moves, PassesLimit, SightPasses, distance, number}
 use Rattle.iter.specs.Laws.AdvanceFacts.{either-kind, gives-same, never-gives, not-five-of, sound-test}

@@ -21,7 +21,7 @@ use Rattle.iter.specs.Figures.{toldMoved}
 use Rattle.iter.specs.StepCases.{standing}
 use Rattle.iter.specs.Laws.StepCases.{step-cases}
 use Rattle.iter.specs.declared.Pos.{Pos}
-use Rattle.iter.specs.declared.Node.{Node}
+use Rattle.lists.specs.declared.Node.{Node}
 use Rattle.iter.specs.declared.Walk.{Walk}
 use Rattle.iter.specs.declared.Stepped.{Stepped}
 use Rattle.iter.specs.declared.Moved.the-variants.{To, Refused}

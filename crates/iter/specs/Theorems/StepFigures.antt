@@ -14,7 +14,7 @@ use Rattle.iter.specs.StepCases.{standing}
 use Rattle.iter.specs.Theorems.ToldFacts.{sound-of, sight-told, sight-skips, advance-told, own-skips}
 use Rattle.iter.specs.declared.Moved.{Moved}
 use Rattle.iter.specs.declared.Moved.the-variants.{To, Refused}
-use Rattle.iter.specs.declared.Node.{Node}
+use Rattle.lists.specs.declared.Node.{Node}
 use Rattle.iter.specs.declared.Pos.{Pos}
 use Rattle.iter.specs.declared.Stepped.{Stepped}
 use Rattle.iter.specs.declared.Walk.{Walk}

@@ -31,7 +31,7 @@ use Rattle.iter.specs.declared.Motion.{Motion}
 use Rattle.iter.specs.declared.Address.{Address}
 use Rattle.iter.specs.declared.Address.the-variants.{At, Refused as NoAddress}
 use Rattle.iter.specs.declared.Moved.{Moved}
-use Rattle.iter.specs.declared.Node.{Node}
+use Rattle.lists.specs.declared.Node.{Node}
 use Rattle.iter.specs.declared.Pos.{Pos}
 use Rattle.iter.specs.Laws.ToldFacts.{added, aligning-told, has-unit, none-skipped, skipping-told}
 

@@ -8,7 +8,7 @@ use Rattle.iter.specs.Step.{origin, startOf}
 use Rattle.iter.specs.Step.{bankAfter, stepOf}
 use Rattle.iter.specs.StepCases.{standing}
 use Rattle.iter.specs.Laws.StepCases.{step-cases}
-use Rattle.iter.specs.declared.Node.{Node}
+use Rattle.lists.specs.declared.Node.{Node}
 use Rattle.iter.specs.declared.Walk.{Walk}
 use Rattle.iter.specs.declared.Stepped.{Stepped}
 use Rattle.iter.specs.Laws.WithinLimit.{Numbers, Within, advanced-within, origins, seen-within, set-all}

@@ -47,9 +47,9 @@ use Rattle.iter.specs.Step.{advanceMotion}
 use Rattle.iter.specs.declared.Pos.{Pos}
 use Rattle.iter.proofs.Pos as P
 use Rattle.iter.proofs.Pos.Laws as P′
-use Rattle.iter.specs.declared.Node.{Node}
-use Rattle.iter.proofs.Node as N
-use Rattle.iter.proofs.Node.Laws as N′
+use Rattle.lists.specs.declared.Node.{Node}
+use Rattle.lists.proofs.Node as N
+use Rattle.lists.proofs.Node.Laws as N′
 use Rattle.iter_lent.specs.Lent.{lentOf}
 use Rattle.iter_lent.specs.Theorems.Lent.{lent-told}
 use Rattle.iter_lent.specs.declared.Left.{Left}

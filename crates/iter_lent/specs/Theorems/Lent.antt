@@ -11,7 +11,7 @@ use Rattle.iter.specs.Figures as figures
 use Rattle.iter.specs.Figures.{toldMoved, Advances, OwnSkips}
 use Rattle.iter.specs.Theorems.ToldFacts.{advance-told, own-skips}
 use Rattle.iter.specs.declared.Skipped.{Skipped}
-use Rattle.iter.specs.declared.Node.{Node}
+use Rattle.lists.specs.declared.Node.{Node}
 use Rattle.iter.specs.declared.Pos.{Pos}
 use Rattle.iter.specs.declared.Moved.{Moved}
 use Rattle.iter.specs.declared.Moved.the-variants.{To, Refused}

@@ -14,7 +14,7 @@ use Rattle.iter.specs.Theorems.Advance.{bad-state, sound-state, item}
 use Rattle.iter.specs.Step.{badState, movedBy, advancedOf, stepOf}
 use Rattle.iter.specs.Laws.StepCases.{step-cases}
 use Rattle.iter.specs.declared.Moved.the-variants.{To, Refused as Stopped}
-use Rattle.iter.specs.declared.Node.{Node}
+use Rattle.lists.specs.declared.Node.{Node}
 use Rattle.iter.specs.declared.Pos.{Pos}
 use Rattle.iter.specs.declared.Stepped.{Stepped}
 use Rattle.iter.specs.declared.Walk.{Walk}

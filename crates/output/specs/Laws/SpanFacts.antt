@@ -15,7 +15,7 @@ use Rattle.refusal.specs.declared.Offset.{Offset}
 use Rattle.refusal.specs.declared.Offset.the-variants.{None as Nowhere, At as Out}
 use Rattle.iter.specs.Address.{unitsFrom, addressOf}
 use Rattle.iter.specs.Distance.{tellable}
-use Rattle.iter.specs.declared.Node.{Node}
+use Rattle.lists.specs.declared.Node.{Node}
 use Rattle.bankdef.specs.declared.Bankdef.{Bankdef}
 use Rattle.overlap_checker.specs.declared.Entry.{Entry}
 use Rattle.overlap_checker.specs.Interval.{Covers}

@@ -13,7 +13,7 @@ use Rattle.refusal.specs.declared.Offset.{Offset}
 use Rattle.refusal.specs.declared.Offset.the-variants.{At as Out}
 use Rattle.bankdef.specs.Check.{banksOf}
 use Rattle.iter.specs.Address.{outAt}
-use Rattle.iter.specs.declared.Node.{Node}
+use Rattle.lists.specs.declared.Node.{Node}
 use Rattle.bitvec.specs.Bits.{bitAt}
 use Rattle.blocks.specs.Bits.{NoSharedBit}
 use Rattle.overlap_checker.specs.declared.Entry.{Entry}

@@ -23,7 +23,7 @@ use Rattle.bankdef.specs.Theorems.Refused.{decided}
 use Rattle.bankdef.specs.declared.Bankdefs.{Bankdefs}
 use Rattle.iter.specs.declared.Moved.{Moved}
 use Rattle.iter.specs.declared.Moved.the-variants.{To, Refused as Stopped}
-use Rattle.iter.specs.declared.Node.{Node}
+use Rattle.lists.specs.declared.Node.{Node}
 use Rattle.iter.specs.declared.Pos.{Pos}
 use Rattle.resolver.specs.Laws.Ends.{Ending, early, last, ends}
 use Rattle.resolver.specs.Layout.{unless, layoutOf}

@@ -13,7 +13,7 @@ use Rattle.bankdef.specs.declared.Bankdef.{Bankdef}
 use Rattle.iter.specs.AdvanceFacts.{Moves}
 use Rattle.iter.specs.Figures as told
 use Rattle.iter.specs.Figures.{Advances}
-use Rattle.iter.specs.declared.Node.{Node}
+use Rattle.lists.specs.declared.Node.{Node}
 use Rattle.iter.specs.declared.Pos.{Pos}
 
 -- ---- one node

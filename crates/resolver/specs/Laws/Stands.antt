@@ -18,7 +18,7 @@ use Rattle.iter.specs.Laws.Crossing.{any-default}
 use Rattle.iter.specs.Step.{origin, startOf, bankAfter, stepOf}
 use Rattle.iter.specs.declared.Crossing.{Crossing}
 use Rattle.iter.specs.declared.Moved.the-variants.{To}
-use Rattle.iter.specs.declared.Node.{Node}
+use Rattle.lists.specs.declared.Node.{Node}
 use Rattle.iter.specs.declared.Pos.{Pos}
 use Rattle.iter.specs.declared.Stepped.{Stepped}
 use Rattle.resolver.specs.Theorems.Listed.{listed-bank}

@@ -20,7 +20,7 @@ use Rattle.iter.specs.Theorems.Crossing.{crossing-kept}
 use Rattle.iter.specs.Theorems.Padding.{starts-lossless}
 use Rattle.iter.specs.declared.Crossing.{Crossing}
 use Rattle.iter.specs.declared.Lost.{Lost}
-use Rattle.iter.specs.declared.Node.{Node}
+use Rattle.lists.specs.declared.Node.{Node}
 use Rattle.iter.specs.declared.Pos.{Pos}
 use Rattle.iter.specs.declared.Stepped.{Stepped}
 use Rattle.iter.specs.declared.Walk.{Walk}

@@ -18,7 +18,7 @@ use Rattle.iter.specs.Step.{bankAfter, badState}
 use Rattle.iter.specs.Theorems.StepFacts.{made-sound}
 use Rattle.iter.specs.declared.Moved.{Moved}
 use Rattle.iter.specs.declared.Moved.the-variants.{To}
-use Rattle.iter.specs.declared.Node.{Node}
+use Rattle.lists.specs.declared.Node.{Node}
 use Rattle.iter.specs.declared.Pos.{Pos}
 use Rattle.lists.specs.Lists.{Lists, Row}
 use Rattle.resolver.specs.Laws.LabelStates.{settled-told, resolved-of}

@@ -12,7 +12,7 @@ use Rattle.refusal.specs.Laws.Bools.{neither}
 use Rattle.bankdef.specs.declared.Bankdefs.{Bankdefs}
 use Rattle.iter.specs.declared.Moved.{Moved}
 use Rattle.iter.specs.declared.Moved.the-variants.{To, Refused as Stopped}
-use Rattle.iter.specs.declared.Node.{Node}
+use Rattle.lists.specs.declared.Node.{Node}
 use Rattle.lists.specs.Lists.{Lists, isItem, pastEnd, rowFault, listsOf}
 use Rattle.resolver.specs.Once.{labelState, passTo}
 use Rattle.resolver.specs.Passes.{program, rowOfPass, passAt}

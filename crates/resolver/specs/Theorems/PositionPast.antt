@@ -19,7 +19,7 @@ use Rattle.iter.specs.Step.{badState, bankAfter, malformed}
 use Rattle.iter.specs.WithinLimit.{AllSmall}
 use Rattle.iter.specs.Theorems.WithinLimit.{never-past, step-within}
 use Rattle.iter.specs.declared.Moved.the-variants.{Refused as Stopped}
-use Rattle.iter.specs.declared.Node.{Node}
+use Rattle.lists.specs.declared.Node.{Node}
 use Rattle.resolver.specs.Theorems.LabelStates.{switchedTo, bank-by-switches}
 use Rattle.resolver.specs.Layout.{Checked}
 use Rattle.lists.specs.Lists.{Lists, Row, nodeOf, headFault, anyRowFault}

@@ -15,7 +15,7 @@ use Rattle.iter.specs.Step.{origin, outermostSymbol, seenOf, badState, movedOn,
 use Rattle.iter.specs.Step.{bankAfter, stepSkips, steppedFrom, stepOf}
 use Rattle.iter.specs.declared.Moved.{Moved}
 use Rattle.iter.specs.declared.Moved.the-variants.{To, Refused as Stopped}
-use Rattle.iter.specs.declared.Node.{Node}
+use Rattle.lists.specs.declared.Node.{Node}
 use Rattle.iter.specs.declared.Pos.{Pos}
 use Rattle.iter.specs.declared.Walk.{Walk}
 use Rattle.resolver.specs.Laws.Least.{or-past}

@@ -27,7 +27,7 @@ use Rattle.iter.specs.Theorems.StepFigures.{step-told}
 use Rattle.iter.specs.declared.Distance.the-variants.{Skips as Skipping, Refused as NoDistance}
 use Rattle.iter.specs.declared.Moved.{Moved}
 use Rattle.iter.specs.declared.Moved.the-variants.{To}
-use Rattle.iter.specs.declared.Node.{Node}
+use Rattle.lists.specs.declared.Node.{Node}
 use Rattle.iter.specs.declared.Pos.{Pos}
 use Rattle.iter.specs.declared.Skipped.{Skipped}
 use Rattle.iter.specs.declared.Stepped.{Stepped}

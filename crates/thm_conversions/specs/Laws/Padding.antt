@@ -12,7 +12,7 @@ use Rattle.bankdef.specs.declared.Bankdefs.{Bankdefs}
 use Rattle.bitvec.specs.Lists.{listOf}
 use Rattle.iter.specs.Step.{origin, startOf}
 use Rattle.iter.specs.StepCases.{standing}
-use Rattle.iter.specs.declared.Node.{Node}
+use Rattle.lists.specs.declared.Node.{Node}
 use Rattle.iter.specs.declared.Walk.{Walk}
 use Rattle.resolver.specs.KnownInPass.{bankAt}
 use Rattle.lists.specs.Lists.{Row}

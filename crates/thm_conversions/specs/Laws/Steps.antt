@@ -18,7 +18,7 @@ use Rattle.iter.specs.Step.{origin, movedBy, alignedTo, outermostSymbol, labelA
 use Rattle.iter.specs.Step.{skipsBy, whenMade, seenSkips, advanceSkips, lostAfter, bankAfter, stopped, steppedTo, stepSkips, steppedFrom, stepOf}
 use Rattle.iter.specs.declared.Moved.{Moved}
 use Rattle.iter.specs.declared.Moved.the-variants.{To, Refused as Stopped}
-use Rattle.iter.specs.declared.Node.{Node}
+use Rattle.lists.specs.declared.Node.{Node}
 use Rattle.iter.specs.declared.Pos.{Pos}
 use Rattle.iter.specs.declared.Skipped.{Skipped}
 use Rattle.iter.specs.declared.Stepped.{Stepped}

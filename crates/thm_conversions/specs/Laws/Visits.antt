@@ -22,7 +22,7 @@ use Rattle.iter.specs.Distance.{tellable}
 use Rattle.iter.specs.Step.{startOf, seenOf, movedOn, advancedOf, seenSkips, advanceSkips, bankAfter, stepOf}
 use Rattle.iter.specs.declared.Moved.{Moved}
 use Rattle.iter.specs.declared.Moved.the-variants.{To, Refused as Stopped}
-use Rattle.iter.specs.declared.Node.{Node}
+use Rattle.lists.specs.declared.Node.{Node}
 use Rattle.iter.specs.declared.Pos.{Pos}
 use Rattle.iter.specs.declared.Walk.{Walk}
 use Rattle.lists.specs.Lists.{Row, firstOf}

@@ -12,7 +12,7 @@ use Rattle.refusal.specs.Pick.{pick}
 use Rattle.bankdef.specs.Check.{noBank}
 use Rattle.bankdef.specs.declared.Bankdef.{Bankdef}
 use Rattle.bankdef.specs.declared.Bankdefs.{Bankdefs}
-use Rattle.iter.specs.declared.Node.{Node}
+use Rattle.lists.specs.declared.Node.{Node}
 use Rattle.lists.specs.Lists.{Lists, Row, nodeAt, rowAt}
 use Rattle.resolver.specs.Once.{bankRecord}
 use Rattle.output.specs.Output.{Input}
