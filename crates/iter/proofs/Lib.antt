@@ -1,4 +1,4 @@
 pub mod Signed
-pub mod Advanced
+pub mod Sums
 pub mod PaceLaws
 pub mod Unique

@@ -33,7 +33,7 @@ use Rattle.lists.specs.declared.Node.{Node}
 use Rattle.iter.specs.declared.Paced.{Paced}
 use Rattle.iter.specs.declared.Pos.{Pos}
 use Rattle.iter.specs.declared.Skipped.{Skipped}
-use Rattle.iter.proofs.Advanced.{sight-plain, sight-unaligned, sight-aligned, advance-aligned}
+use Rattle.iter.specs.Laws.Advanced.{sight-plain, sight-unaligned, sight-aligned, advance-aligned}
 
 -- a node of kind 0 or 1 is no symbol
 pub early-plain : (node : Node) → node .kind < 2 → outermostSymbol node ≡ false

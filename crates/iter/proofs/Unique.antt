@@ -12,12 +12,12 @@ use Rattle.iter.proofs.places.get_output_position.Kinds as get-output-p
 use Rattle.iter.proofs.places.get_output_position.Reads as get-output-position-reads
 use Rattle.iter.proofs.places.on_boundary.Kinds as on-boundary-kinds
 use Rattle.iter.proofs.places.on_boundary.Reads as on-boundary-reads
-use Rattle.iter.proofs.steps.advance_address.Kinds as advance-kinds
-use Rattle.iter.proofs.steps.advance_address.Reads as advance-reads
 use Rattle.iter.proofs.steps.bank_after.Kinds as bank-after-kinds
 use Rattle.iter.proofs.steps.bank_after.Reads as bank-after-reads
-use Rattle.iter.proofs.paces.cross.Kinds as cross-kinds
-use Rattle.iter.proofs.paces.cross.Reads as cross-reads
+use Rattle.iter.proofs.paces.is_bad_state.Kinds as is-bad-state-kinds
+use Rattle.iter.proofs.paces.is_bad_state.Reads as is-bad-state-reads
+use Rattle.iter.proofs.paces.stays_known.Kinds as stays-known-kinds
+use Rattle.iter.proofs.paces.stays_known.Reads as stays-known-reads
 use Rattle.iter.proofs.paces.pace.Kinds as pace-kinds
 use Rattle.iter.proofs.paces.pace.Reads as pace-reads
 use Rattle.iter.proofs.paces.why_refused.Kinds as why-refused-kinds
@@ -26,8 +26,6 @@ use Rattle.iter.proofs.steps.lost_after.Kinds as lost-after-kinds
 use Rattle.iter.proofs.steps.lost_after.Reads as lost-after-reads
 use Rattle.iter.proofs.steps.start.Kinds as start-kinds
 use Rattle.iter.proofs.steps.start.Reads as start-reads
-use Rattle.iter.proofs.steps.step.Kinds as step-kinds
-use Rattle.iter.proofs.steps.step.Reads as step-reads
 
 pub bits-until-alignment-unique : OneOutcome 0 bits-until-alignment-kinds.ps bits-until-alignment-kinds.r bits-until-alignment-reads.Learnt
 bits-until-alignment-unique κs a x y e f p q = determined (p .0) (q .0)
@@ -44,14 +42,8 @@ get-output-position-unique κs a x y e f p q = determined (p .0) (q .0)
 pub on-boundary-unique : OneOutcome 0 on-boundary-kinds.ps on-boundary-kinds.r on-boundary-reads.Learnt
 on-boundary-unique κs a x y e f p q = determined p q
 
-pub advance-unique : OneOutcome 0 advance-kinds.ps advance-kinds.r advance-reads.Learnt
-advance-unique κs a x y e f p q = determined (p .0) (q .0)
-
 pub bank-after-unique : OneOutcome 0 bank-after-kinds.ps bank-after-kinds.r bank-after-reads.Learnt
 bank-after-unique κs a x y e f p q = determined p q
-
-pub cross-unique : OneOutcome 0 cross-kinds.ps cross-kinds.r cross-reads.Learnt
-cross-unique κs a x y e f p q = determined p q
 
 pub pace-unique : OneOutcome 0 pace-kinds.ps pace-kinds.r pace-reads.Learnt
 pace-unique κs a x y e f p q = determined (p .0) (q .0)
@@ -65,5 +57,8 @@ lost-after-unique κs a x y e f p q = determined p q
 pub start-unique : OneOutcome 0 start-kinds.ps start-kinds.r start-reads.Learnt
 start-unique κs a x y e f p q = determined p q
 
-pub step-unique : OneOutcome 0 step-kinds.ps step-kinds.r step-reads.Learnt
-step-unique κs a x y e f p q = determined (p .0) (q .0)
+pub is-bad-state-unique : OneOutcome 0 is-bad-state-kinds.ps is-bad-state-kinds.r is-bad-state-reads.Learnt
+is-bad-state-unique κs a x y e f p q = determined p q
+
+pub stays-known-unique : OneOutcome 0 stays-known-kinds.ps stays-known-kinds.r stays-known-reads.Learnt
+stays-known-unique κs a x y e f p q = determined p q

@@ -1,3 +1,4 @@
+pub mod Advanced
 pub mod Advance
 pub mod AdvanceFacts
 pub mod Agrees

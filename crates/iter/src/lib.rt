@@ -6,18 +6,17 @@ mod places;
 mod steps;
 
 pub use alignment::bits_until_alignment;
-pub use paces::cross;
+pub use paces::is_bad_state;
 pub use paces::pace;
+pub use paces::stays_known;
 pub use paces::why_refused;
 pub use places::get_address;
 pub use places::get_output_position;
 pub use places::on_boundary;
 use refusal::Refusal;
-pub use steps::advance_address;
 pub use steps::bank_after;
 pub use steps::lost_after;
 pub use steps::start;
-pub use steps::step;
 
 // A bank's position in bits, and whether it is known: the Rust's `BankData`.
 pub struct Pos {

@@ -1,6 +1,4 @@
 // One node's step, in numbers: what it sees, where it leads and what its alignment skips, kind by kind.
-use crate::Crossing;
-use crate::Moved;
 use crate::Paced;
 use crate::Pos;
 use crate::Skipped;
@@ -28,10 +26,9 @@ ghost use mathlib.Core.Bool.{true, false, _||_};
 ghost use Prim.Native.Nat.{_≤_};
 ghost use lib.Dec.{eqb};
 ghost use Rattle.refusal.specs.declared.Opt.the-variants.{None};
-ghost use Rattle.iter.specs.Crossing.{crossingOf};
 ghost use Rattle.iter.specs.Distance.{noSkip};
 ghost use Rattle.iter.specs.Known.{staysKnown};
-ghost use Rattle.iter.specs.Pace.{Paces, Still, bankRead, nodeWith, madeBy, haltedBy, addedBy, alignedBy, seenBy, whyBy, crossedBy};
+ghost use Rattle.iter.specs.Pace.{Paces, Still, bankRead, nodeWith, madeBy, haltedBy, addedBy, alignedBy, whyBy};
 ghost use Rattle.iter.specs.Step.{outermostSymbol, badState};
 
 // A step is made, or is refused for one of two of document 01's numbers.
@@ -325,48 +322,4 @@ pub fn why_refused(fault: u8, node: u64) -> Refusal
     } else {
         Refusal::PositionPast(node)
     }
-}
-
-// The position that a node sees, by its step.
-fn sight_of(p: Paced, node: u64) -> Moved
-    ensures { λ r. ⌜ r ≡ seenBy p node ⌝ }
-{
-    let seen = p.seen;
-    if p.fault == MADE {
-        Moved::To(seen)
-    } else {
-        Moved::Refused(why_refused(p.fault, node))
-    }
-}
-
-// The crossing that a step's numbers tell.
-fn crossing_of(p: Paced, node: u64) -> Crossing
-    ensures { λ r. ⌜ r ≡ crossedBy node p ⌝ }
-{
-    let skipped = p.skipped;
-    let after = p.after;
-    Crossing {
-        seen: sight_of(p, node),
-        skipped,
-        after,
-    }
-}
-
-// One node in the bank that it stands in, by value: what it sees, what its alignment skips, and the position after it.
-pub fn cross(def: Bankdef, at: Pos, node: Node) -> Crossing
-    ensures { λ r. ⌜ r ≡ crossingOf def at node ⌝ }
-{
-    let align = def.align;
-    let p = pace_of_parts(
-        def.unit,
-        def.start,
-        align,
-        at,
-        node.index,
-        node.kind,
-        node.operand,
-        node.number,
-        node.state,
-    );
-    crossing_of(p, node.index)
 }

@@ -3,7 +3,7 @@ use bankdef::Bankdef;
 use iter::Moved;
 use iter::Pos;
 use iter::Skipped;
-use iter::advance_address;
+use iter_step::advance_address;
 use lists::Node;
 use refusal::Verdict;
 ghost use mathlib.Core.Path.{_≡_};

@@ -58,5 +58,5 @@ module _ (p : Program) (sound : Switches (p .banks .len) (p .kinds) (p .operands
         )
 
     -- and the walk after it, with the step stored
-    pub paced-next : Walks p row (i + 1) (kept walk b (c .after) (c .bits))
+    pub paced-next : Walks p row (i + 1) (kept walk b (c .after) (c .skipped))
     paced-next = walks-next p sound room row i w k f o d other (e .1) g

@@ -2,7 +2,7 @@
 use borrow.Author.Needs.{needs}
 use Prim.Native.Nat.{_<_, _^_}
 use native.Mathlib.Omega.{arith}
-use Rattle.iter.proofs.Advanced.{sum-within, sum-stops}
+use Rattle.iter.proofs.Sums.{sum-within, sum-stops}
 use Rattle.iter.proofs.steps.sum_after.Statement.{statement}
 use Rattle.iter.proofs.steps.sum_after.Tie as tie
 

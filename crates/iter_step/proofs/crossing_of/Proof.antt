@@ -1,7 +1,7 @@
 -- The crossing that the numbers tell, part by part.
 use borrow.Author.Needs.{needs}
-use Rattle.iter.proofs.paces.crossing_of.Statement.{statement}
-use Rattle.iter.proofs.paces.crossing_of.Tie as tie
+use Rattle.iter_step.proofs.crossing_of.Statement.{statement}
+use Rattle.iter_step.proofs.crossing_of.Tie as tie
 
 sight-of-requires : tie.Need-sight-of-requires
 sight-of-requires c κs = search needs

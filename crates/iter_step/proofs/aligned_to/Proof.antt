@@ -1,8 +1,8 @@
 -- A position moved on to an alignment: by cases of the distance.
 use borrow.Author.Needs.{needs}
 use mathlib.Core.Path.{_∙_, sym}
-use Rattle.iter.proofs.steps.aligned_to.Statement.{statement}
-use Rattle.iter.proofs.steps.aligned_to.Tie as tie
+use Rattle.iter_step.proofs.aligned_to.Statement.{statement}
+use Rattle.iter_step.proofs.aligned_to.Tie as tie
 
 bits-until-alignment-requires : tie.Need-bits-until-alignment-requires
 bits-until-alignment-requires c κs = search needs

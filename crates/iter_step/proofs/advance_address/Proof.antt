@@ -3,15 +3,15 @@ use borrow.Author.Needs.{needs}
 use Prim.Native.Nat.{ℕ, _≤_, _<_}
 use native.Mathlib.Omega.{arith}
 use mathlib.Core.Path.{_≡_, refl, sym, _∙_}
 use Rattle.iter.specs.Step.{movedOn, advancedOf, still, advanceMotion}
 use Rattle.iter.specs.Theorems.Advance.{bad-state, sound-state, early, item, aligning, setting, asserting, other}
 use Rattle.iter.specs.Figures.{AdvanceTold}
 use Rattle.iter.specs.Theorems.ToldFacts.{advance-answers}
 use Rattle.iter.specs.declared.Motion.{Motion}
 use Rattle.iter.specs.declared.Moved.{Moved}
-use Rattle.iter.proofs.Advanced.{advance-stopped, advance-still, advance-aligned}
-use Rattle.iter.proofs.steps.advance_address.Statement.{statement}
-use Rattle.iter.proofs.steps.advance_address.Tie as tie
+use Rattle.iter.specs.Laws.Advanced.{advance-stopped, advance-still, advance-aligned}
+use Rattle.iter_step.proofs.advance_address.Statement.{statement}
+use Rattle.iter_step.proofs.advance_address.Tie as tie
 
 past-ten : (k : ℕ) → 8 ≤ k → (k ≡ 8 → ⊥) → (k ≡ 9 → ⊥) → (k ≡ 10 → ⊥) → 10 < k
 past-ten k h not8 not9 not10 = omega (arith, not8, not9, not10)

@@ -1,7 +1,7 @@
 -- The walk with one bank's position and sum set.
 use borrow.Author.Needs.{needs}
-use Rattle.iter.proofs.steps.moved_walk.Statement.{statement}
-use Rattle.iter.proofs.steps.moved_walk.Tie as tie
+use Rattle.iter_step.proofs.moved_walk.Statement.{statement}
+use Rattle.iter_step.proofs.moved_walk.Tie as tie
 
 mul-at : tie.Need-mul-at
 mul-at c = search needs

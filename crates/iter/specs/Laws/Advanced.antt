@@ -1,16 +1,14 @@
--- What the proofs of the walk share beyond the laws of specs/Advance.antt.
-use Prim.Native.Nat.{ℕ, _+_, _-_, _<_, _≤_}
-use mathlib.Core.Path.{_≡_, sym}
+-- What a node sees and its own advance, by cases of its kind.
+use Prim.Native.Nat.{ℕ}
+use mathlib.Core.Path.{_≡_}
 use mathlib.Core.Bool.{Bool, true, false}
-use native.Mathlib.Omega.{arith}
-use borrow.Author.Tests.{le-leb, lt-leb, eq-eqb, ne-eqb}
+use borrow.Author.Tests.{eq-eqb, ne-eqb}
 use Rattle.refusal.specs.Laws.Bools.{either}
-use Rattle.refusal.specs.Laws.Pick.{pick-true, pick-false}
 use Rattle.refusal.specs.declared.Refusal.{Refusal}
 use Rattle.refusal.specs.declared.Opt.the-variants.{None, Some}
 use Rattle.bankdef.specs.declared.Bankdef.{Bankdef}
 use Rattle.iter.specs.Step.{alignedTo, outermostSymbol, seenOf, advancedOf, still, alignedMotion, seenSkips, seenMotion, advanceSkips}
-use Rattle.iter.specs.Step.{advanceMotion, maxSum, sumAfter}
+use Rattle.iter.specs.Step.{advanceMotion}
 use Rattle.iter.specs.Laws.ToldFacts.{none-skipped}
 use Rattle.iter.specs.declared.Moved.{Moved}
 use Rattle.iter.specs.declared.Moved.the-variants.{To, Refused}
@@ -47,10 +45,3 @@ module _ (def : Bankdef) (at : Pos) (node : Node) where
       → alignedMotion def at (node .number) known (node .index) ≡ advanceMotion def at node
   unfolding advanceSkips
   advance-aligned known e k = rw (eq-eqb (node .kind) 8 k, e)
-
--- a sum that stays within 64 bits, and one that does not
-pub sum-within : (sum more : ℕ) → more ≤ maxSum → sum ≤ maxSum - more → sum + more ≡ sumAfter sum more
-sum-within sum more h k = sym (pick-true _ _ (le-leb (sum + more) maxSum (omega arith)))
-
-pub sum-stops : (sum more : ℕ) → more ≤ maxSum → maxSum - more < sum → maxSum ≡ sumAfter sum more
-sum-stops sum more h k = sym (pick-false _ _ (lt-leb (sum + more) maxSum (omega arith)))

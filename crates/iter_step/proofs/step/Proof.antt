@@ -4,15 +4,15 @@ use mathlib.Core.Path.{_≡_, _∙_, sym, ap}
 use Prim.Native.Nat.{_<_}
 use native.Mathlib.Omega.{arith}
 use lib.ListN.{getD, length, length-map}
 use Rattle.iter.specs.Step.{origin}
 use Rattle.iter.specs.Theorems.StepFigures.{step-answers}
 use Rattle.iter.specs.Crossing.{crossingOf}
 use Rattle.iter.specs.Theorems.Crossing.{no-bank, crossing-refused, crossing-made}
 use Rattle.iter.specs.Laws.Crossing.{any-default}
 use Rattle.iter.specs.Laws.Padding.{crossing-nothing}
 use Rattle.iter.specs.declared.Pos.{Pos}
-use Rattle.iter.proofs.steps.step.Statement.{statement}
-use Rattle.iter.proofs.steps.step.Tie as tie
+use Rattle.iter_step.proofs.step.Statement.{statement}
+use Rattle.iter_step.proofs.step.Tie as tie
 
 -- owning a walk tells that it has 16 positions
 sixteen : (c : tie.Start) → length (c .args .t2 .at) ≡ 16

@@ -1,7 +1,7 @@
 -- A move by a distance: by cases of the move.
 use borrow.Author.Needs.{needs}
-use Rattle.iter.proofs.steps.skipping.Statement.{statement}
-use Rattle.iter.proofs.steps.skipping.Tie as tie
+use Rattle.iter_step.proofs.skipping.Statement.{statement}
+use Rattle.iter_step.proofs.skipping.Tie as tie
 
 enum-known-to : tie.Need-enum-known-to
 enum-known-to c = search needs

@@ -1,8 +1,8 @@
 -- A sum of a position and bits: the definition picks by the same test.
 use borrow.Author.Needs.{needs}
 use borrow.Author.Tests.{le-leb, lt-leb}
-use Rattle.iter.proofs.steps.moved_by.Statement.{statement}
-use Rattle.iter.proofs.steps.moved_by.Tie as tie
+use Rattle.iter_step.proofs.moved_by.Statement.{statement}
+use Rattle.iter_step.proofs.moved_by.Tie as tie
 
 cast-sum : tie.Need-cast-sum
 cast-sum c = search needs
