@@ -1,6 +1,6 @@
 // The entries of nodes: bank, position, place in the output and size, each in a lent list.
+use crate::visits::visit_node;
 use bankdef::Bankdefs;
-use build_sights::visit_node;
 use iter::Moved;
 use lists::Node;
 use refusal::INSTRUCTION;

@@ -3,6 +3,7 @@
 mod entries;
 mod maps;
 mod tracing;
+mod visits;
 
 pub use maps::map_nodes;
 use refusal::Verdict;

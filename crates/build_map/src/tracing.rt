@@ -1,9 +1,9 @@
 // The walk that places node after node, as the build's first one does, and tells at which node it was refused.
 use crate::Fault;
 use crate::Reach;
+use crate::visits::visit_node;
 use bankdef::Bankdefs;
 use build_plan::place;
-use build_sights::visit_node;
 use refusal::Verdict;
 ghost use mathlib.Core.Path.{_≡_};
 ghost use Prim.Native.Nat.{_+_, _≤_};

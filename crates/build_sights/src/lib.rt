@@ -1,6 +1,5 @@
 // What the build sees of each node in turn, in the row of the last pass.
 use bankdef::Bankdef;
-use bankdef::Bankdefs;
 use iter::Moved;
 use iter::Walk;
 use lists::Node;
@@ -9,13 +8,9 @@ use refusal::LABEL;
 use refusal::OPEN_DATA;
 use refusal::Offset;
 ghost use mathlib.Core.Path.{_≡_};
-ghost use Prim.Native.Nat.{ℕ, _≤_};
-ghost use Rattle.refusal.specs.Limits.{maxOffer};
-ghost use Rattle.refusal.specs.declared.Offset.the-variants.{At as Out};
-ghost use Rattle.iter.specs.Address.{outputPosition};
+ghost use Prim.Native.Nat.{_≤_};
 ghost use Rattle.build_sights.specs.Items.{isWritten};
 ghost use Rattle.build_sights.specs.Spans.{isSpan, sizeOf};
-ghost use Rattle.build_sights.specs.Visits.{programOf, rowOf, seenPos, visitOf};
 
 // A node, the bank that it stands in, the position that it sees, where that is in the output, and the walk after it.
 pub struct Visit {
@@ -25,51 +20,6 @@ pub struct Visit {
     pub seen: Moved,
     pub out: Offset,
     pub walk: Walk,
-}
-
-// Where a position that a node sees is in the output; a node that the walk stops at sees none, and counts as at 0.
-fn out_of(def: Bankdef, seen: Moved) -> Offset
-    ensures { λ r. ⌜ r ≡ outputPosition def (seenPos seen .position) ⌝ }
-    ensures { λ r. ⌜ ((o : ℕ) → r ≡ Out o → o ≤ maxOffer) ⌝ }
-{
-    match seen {
-        Moved::To(at) => iter::get_output_position(def, at.position),
-        Moved::Refused(_) => iter::get_output_position(def, 0),
-    }
-}
-
-// Node i of a row, as a walk meets it.
-pub fn visit_node(
-    banks: Bankdefs,
-    kinds: &[u8],
-    operands: &[u32],
-    first: &[u32],
-    numbers: &[u32],
-    states: &[u8],
-    walk: Walk,
-    i: usize,
-) -> Visit
-    ensures { λ r. ⌜
-        r ≡ visitOf (programOf banks (now (kinds .entry)) (now (operands .entry)) (now (first .entry)))
-        (rowOf (now (numbers .entry)) (now (states .entry))) walk i
-        ⌝ }
-    ensures { λ r. ⌜ ((o : ℕ) → r .out ≡ Out o → o ≤ maxOffer) ⌝ }
-{
-    let node = lists::node_at(kinds, operands, first, numbers, states, i);
-    let bank = iter::bank_after(walk.bank, node);
-    let def = resolver::bank_record(banks, bank);
-    let stepped = iter::step(def, walk, node);
-    let seen = stepped.seen;
-    let next = stepped.walk;
-    let out = out_of(def, seen);
-    Visit {
-        node,
-        bank,
-        def,
-        seen,
-        out,
-        walk: next,
-    }
 }
 
 // "written items (4, 5, 6)"

@@ -1,12 +1,12 @@
 -- `visit_node` meets its contract: its parts are what the callees answer.
 use borrow.Author.Needs.{needs}
-use Rattle.build_sights.proofs.visit_node.Statement.{statement}
-use Rattle.build_sights.proofs.visit_node.Tie as tie
-use Rattle.build_sights.proofs.visit_node.Reads as reads
-use Rattle.build_sights.proofs.visit_node.Lts as lts
+use Rattle.build_map.proofs.visits.visit_node.Statement.{statement}
+use Rattle.build_map.proofs.visits.visit_node.Tie as tie
+use Rattle.build_map.proofs.visits.visit_node.Reads as reads
+use Rattle.build_map.proofs.visits.visit_node.Lts as lts
 use Rattle.iter.proofs.bank_after.Reads as bank-after-reads
-use Rattle.iter.proofs.step.Reads as step-reads
-use Rattle.build_sights.proofs.out_of.Reads as out-of-reads
+use Rattle.iter_step.proofs.step.Reads as step-reads
+use Rattle.build_map.proofs.visits.out_of.Reads as out-of-reads
 use Rattle.lists.proofs.node_at.Reads as node-at-reads
 use Rattle.resolver.proofs.bank_record.Reads as bank-record-reads
 

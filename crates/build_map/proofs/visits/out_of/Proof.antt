@@ -1,9 +1,9 @@
 -- `out_of` meets its contract: each arm is the position that the node sees.
 use borrow.Author.Needs.{needs}
-use Rattle.build_sights.proofs.out_of.Statement.{statement}
-use Rattle.build_sights.proofs.out_of.Tie as tie
-use Rattle.build_sights.proofs.out_of.Reads as reads
-use Rattle.build_sights.proofs.out_of.Lts as lts
+use Rattle.build_map.proofs.visits.out_of.Statement.{statement}
+use Rattle.build_map.proofs.visits.out_of.Tie as tie
+use Rattle.build_map.proofs.visits.out_of.Reads as reads
+use Rattle.build_map.proofs.visits.out_of.Lts as lts
 use Rattle.iter.proofs.get_output_position.Reads as get-output-position-reads
 
 enum-known-seen : tie.Need-enum-known-seen
