@@ -22,7 +22,7 @@ pub extern "C" fn dk_offer(
         (interval position size) r
         (lent (now (positions .exit)) (now (sizes .exit)) (r .count) (now (marks .exit)) (r .marks)) ⌝ }
 {
-    let offered = overlap_checker::check_and_insert(
+    let offered = overlap_lent::check_and_insert(
         positions,
         sizes,
         count as usize,

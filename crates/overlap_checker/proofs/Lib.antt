@@ -1,2 +1,1 @@
-pub mod Surely
 pub mod Unique

@@ -1,10 +1,12 @@
 -- Each public function's contract has one outcome: two that meet it for the same input agree in the answer and in all that is lent.
-use mathlib.Core.Path.{_≡_, sym, ap, _∙_}
+use mathlib.Core.Path.{_≡_, sym, ap, ap₂, _∙_}
+use mathlib.Core.List.{List}
 use Prim.Native.Nat.{ℕ}
 use Rattle.refusal.specs.Laws.Pick.{determined}
 use Rattle.refusal.specs.declared.Verdict.{Verdict}
 use Rattle.overlap_checker.specs.declared.Entry.{Entry}
-use Rattle.overlap_checker.specs.Lent.{Lent, stateIn, laidInto, leaving, Offers, Calls}
+use Rattle.overlap_checker.specs.declared.Offered.{Offered}
+use Rattle.overlap_checker.specs.Lent.{Lent, lent, stateIn, laidInto, leaving, Offers, Calls}
 use Rattle.overlap_checker.specs.State.{after}
 
 same-left : (a : Lent) (e : Entry) (v w : Verdict) (b c : Lent) → v ≡ w → b ≡ leaving v (laidInto a (after (stateIn a) e)) a
@@ -21,3 +23,12 @@ pub calls-unique : (a : Lent) (e : Entry) (v w : Verdict) (b c : Lent) → Calls
 calls-unique a e v w b c p q =
     let same = determined (p .verdict) (q .verdict) in
     (same, same-left a e v w b c same (p .left) (q .left))
+
+-- two answers with what they left
+pub answers-alike : (x y : Offered) (p z m q w n : List ℕ)
+    → (x .verdict ≡ y .verdict) × (lent p z (x .count) m (x .marks) ≡ lent q w (y .count) n (y .marks))
+    → (x ≡ y) × ((p ≡ q) × (z ≡ w) × (m ≡ n))
+answers-alike x y p z m q w n h = (
+  ap₂ (λ (v : Verdict) (l : Lent). record { verdict = v; count = l .count; marks = l .markCount }) (h .0) (h .1),
+  (ap (λ (l : Lent). l .positions) (h .1), ap (λ (l : Lent). l .sizes) (h .1), ap (λ (l : Lent). l .marks) (h .1)),
+)
