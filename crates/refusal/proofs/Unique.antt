@@ -1,6 +1,10 @@
 -- Uniqueness: the contract of each public function has one outcome, over its own clause.
 use Rattle.refusal.specs.Laws.Outcome.{OneOutcome}
 use Rattle.refusal.specs.Laws.Pick.{determined}
+use Rattle.refusal.proofs.greater.Kinds as greater-kinds
+use Rattle.refusal.proofs.greater.Reads as greater-reads
+use Rattle.refusal.proofs.lesser.Kinds as lesser-kinds
+use Rattle.refusal.proofs.lesser.Reads as lesser-reads
 use Rattle.refusal.proofs.number.Kinds as number-kinds
 use Rattle.refusal.proofs.number.Reads as number-reads
 use Rattle.refusal.proofs.place_of.Kinds as place-of-kinds
@@ -11,3 +15,9 @@ number-unique κs a x y e f p q = determined p q
 
 pub place-of-unique : OneOutcome 0 place-of-kinds.ps place-of-kinds.r place-of-reads.Learnt
 place-of-unique κs a x y e f p q = determined p q
+
+pub greater-unique : OneOutcome 0 greater-kinds.ps greater-kinds.r greater-reads.Learnt
+greater-unique κs a x y e f p q = determined p q
+
+pub lesser-unique : OneOutcome 0 lesser-kinds.ps lesser-kinds.r lesser-reads.Learnt
+lesser-unique κs a x y e f p q = determined p q

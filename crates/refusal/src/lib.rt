@@ -1,6 +1,7 @@
 // The numbers a caller gets back, the limits, and the two-case answers that stand for the Rust's `Option`. Every crate of the
 // layout speaks of these through this one.
 ghost use mathlib.Core.Path.{_≡_};
+ghost use Prim.Native.Nat.{min, max};
 ghost use Rattle.refusal.specs.Refusals.{numberOf, placeOf};
 
 // The limits of document 01's table that no type carries by itself. The others are types: a size, an offset, an alignment
@@ -146,4 +147,17 @@ pub fn place_of(r: Refusal) -> Place
         Refusal::PartlyCovered => Place::One(0),
         Refusal::FillBitDropped => Place::One(0),
     }
+}
+
+// The lesser of two numbers, and the greater one.
+pub fn lesser(a: u64, b: u64) -> u64
+    ensures { λ r. ⌜ r ≡ min a b ⌝ }
+{
+    if a < b { a } else { b }
+}
+
+pub fn greater(a: u64, b: u64) -> u64
+    ensures { λ r. ⌜ r ≡ max a b ⌝ }
+{
+    if a < b { b } else { a }
 }
