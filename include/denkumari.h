@@ -22,7 +22,8 @@
  * dk_build          sentences `says_build/Build.BuildSays`; `says_meets/Meets.build-meets`, `says_build/Decides.build-decides`. Refused, nothing has changed:
  *                   `says_build/Outcomes.refused-changes-nothing`. No shared bit: `says_build/Image.accepted-offers-apart`; the item's own bit:
  *                   `says_build/Image.item-own-bit`; every other: `says_build/Image.other-bit-fill`, `says_build/Image.other-bit-zero`. Padding:
- *                   `says_build/Padding.padding-is-the-sum`. A raised limit: `says_meets/RaisedLimit.raised-limit-is-harmless`
+ *                   `says_build/Padding.padding-is-the-sum`, `says_build/Padding.units-within-bits`. A raised limit:
+ *                   `says_meets/RaisedLimit.raised-limit-is-harmless`
  * dk_form           sentences `says_form/Form.FormSays`; `says_form/FormMeets.form-meets`, `says_form/FormDecides.form-decides`. A broken file:
  *                   `says_form/Forms.broken-file`; bank 0: `says_form/Forms.form-2-closes-bank-0`, `says_form/Forms.form-1-opens-bank-0`
  * dk_profile        sentences `says_profile/Profile.ProfileSays`; `says_profile/Meets.profile-meets`, `says_profile/Decides.profile-decides`. Yes and 19:
@@ -70,7 +71,7 @@ extern "C" {
 #endif
 
 /* The version of this interface. */
-#define DENKUMARI_VERSION "0.4.0"
+#define DENKUMARI_VERSION "0.5.0"
 
 /* Limits: what is beyond one of them is refused. */
 #define DK_MAX_BANKS 16
@@ -148,6 +149,13 @@ enum dk_kind {
     DK_ASSERT = 10
 };
 
+/* What a bank lost to DK_ALIGN and to label alignment: the bits, and the sum of the whole address units of each skip, its bits over the bank's unit, rounded
+ * down; skips of parts of a unit add no unit, however many there are. */
+struct dk_padding {
+    uint64_t bits;
+    uint64_t units;
+};
+
 /* The answer of a layout. */
 struct dk_layout {
     uint64_t refusal; /* enum dk_refusal */
@@ -157,7 +165,7 @@ struct dk_layout {
     uint64_t k;       /* the first pass that was not unresolved; 0 for pass limit 0 */
     uint64_t length;  /* of the image, in bits */
     uint64_t spans;   /* how many were written */
-    uint64_t padding[DK_MAX_BANKS]; /* of each bank: the bits lost to DK_ALIGN and to label alignment in the last pass; refused, zeros */
+    struct dk_padding padding[DK_MAX_BANKS]; /* of each bank, in the last pass; refused, zeros */
 };
 
 /* The answer of a call that writes a list. */
@@ -296,7 +304,7 @@ struct dk_mapped {
     uint64_t node;    /* the node at fault of 5, 7 and 9 to 13, else DK_NO_NODE */
     uint64_t passes;  /* passes run */
     uint64_t nodes;   /* how many nodes are shown, from node 0 on: all of them, or up to the one at fault, which is shown too except in 5 */
-    uint64_t padding[DK_MAX_BANKS]; /* of each bank: the bits that the nodes shown lost to DK_ALIGN and to label alignment */
+    struct dk_padding padding[DK_MAX_BANKS]; /* of each bank, what the nodes shown lost */
 };
 
 /* The map of tables, given as in dk_build: where each node stands in the row of the last pass, as far as the layout goes. The four lists have DK_MAX_NODES

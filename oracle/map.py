@@ -83,7 +83,8 @@ def word(number):
 
 
 def bank_line(i, bank, lost):
-    return "bank", i, bank.unit, bank.start, word(bank.size), word(bank.offset), word(bank.align), int(bank.fill), bank.fill_bit, lost
+    told = "bank", i, bank.unit, bank.start, word(bank.size), word(bank.offset), word(bank.align), int(bank.fill), bank.fill_bit
+    return *told, sum(lost), sum(bits // bank.unit for bits in lost)
 
 
 def node_line(layout, last, run, node):
@@ -114,7 +115,7 @@ def lines_of(data, choices):
         refused = early
     yield "file", layout.form, layout.limit, len(layout.rows), run, len(layout.nodes)
     for i, bank in enumerate(layout.banks[:model.MAX_BANKS]):
-        yield bank_line(i, bank, sum(bits for node, at, bits in (last.skips if last else ()) if at == i and node < shown))
+        yield bank_line(i, bank, [bits for node, at, bits in (last.skips if last else ()) if at == i and node < shown])
     for node in range(shown):
         yield node_line(layout, last, run, node)
     if fault is not None:

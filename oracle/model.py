@@ -10,7 +10,7 @@ beside the Rust and beside the proved program. Each part has the document's sent
 
     --fill N           the fill's choice: 0 inherited (the default), 1 full, any other is refused
     --page N           in the profile of the paged device, with this page size in bits
-    --padding          a line of the protocol has each bank's padding too, and in the profile its pages"""
+    --padding          a line of the protocol has each bank's padding too, in bits and in whole units, and in the profile its pages"""
 
 import sys
 from bisect import bisect_left, bisect_right, insort
@@ -31,7 +31,7 @@ RESOLVED, STABLE, UNRESOLVED = range(3)
 Bank = namedtuple("Bank", "unit start size offset align fill fill_bit")
 Layout = namedtuple("Layout", "form banks nodes rows values limit")
 Span = namedtuple("Span", "address offset size")
-Answer = namedtuple("Answer", "k run length hex spans blocks padding pages")
+Answer = namedtuple("Answer", "k run length hex spans blocks padding units pages")
 # What a caller chooses: the fill (Ticket 8) and, in the profile of the paged device (Ticket 9), the page size in bits.
 Choices = namedtuple("Choices", "fill page", defaults=(0, None))
 INHERITED, FULL = 0, 1
@@ -258,8 +258,10 @@ class Pass:
         # "Each bank's position starts at 0, known, and is kept through switches. The walk begins in bank 0."
         self.positions = [0] * len(layout.banks)
         self.known = [True] * len(layout.banks)
-        # Document 02, Ticket 2: "the sum of bits lost to `align` and to label alignment"
+        # Document 02, Ticket 2: "the sum of bits lost to `align` and to label alignment", and "the count of whole address units it skips", skip by skip
+        self.banks = layout.banks
         self.lost = [0] * len(layout.banks)
+        self.lost_units = [0] * len(layout.banks)
         self.state = RESOLVED
         self.seen = []          # for each node its bank and the position that it sees
         self.addresses = {}     # for each label its address
@@ -295,6 +297,8 @@ class Pass:
     def pad(self, current, bits, node):
         self.move(current, self.positions[current] + bits, node)
         self.lost[current] += bits
+        # "distance over unit, rounded down"
+        self.lost_units[current] += bits // self.banks[current].unit
 
     # "Afterwards 4 to 7 add their number, 8 adds the distance to alignment, 9 sets the position. Known-ness: 4, 6, 7, 8 keep
     # it only if state is 0; 5 and symbols leave it; 9 makes it so exactly if state is 0."
@@ -480,7 +484,7 @@ def answer(data, choices=Choices()):
     except Refused as refused:
         refused.run = passes.run
         raise
-    return Answer(passes.k, passes.run, length, image, spans, blocks_of(spans), passes.newest.lost, pages)
+    return Answer(passes.k, passes.run, length, image, spans, blocks_of(spans), passes.newest.lost, passes.newest.lost_units, pages)
 
 
 # "The first line is K. An empty image prints `image` alone. A refusal prints `refused`, number and place, one space between."
@@ -504,7 +508,7 @@ def line(data, choices=Choices(), with_padding=False):
     blocks = ",".join(f"{offset}:{size}" for offset, size in a.blocks)
     said = f"ok {a.k} {a.run} {a.length} {a.hex or '-'} | spans {spans or '-'} | blocks {blocks or '-'}"
     if with_padding:
-        said += " | padding " + ",".join(map(str, a.padding))
+        said += " | padding " + ",".join(map(str, a.padding)) + " | units " + ",".join(map(str, a.units))
         if a.pages is not None:
             said += " | pages " + ",".join("-" if n is None else str(n) for n in a.pages)
     return said

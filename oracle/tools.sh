@@ -207,7 +207,7 @@ refused 'refused 19 5 2' 'its unit, 32, is neither 8 nor 16' tools/map examples/
 is 0 tools/map examples/paged-unit.form
 is 0 tools/map --fill full --svg examples/lock.form
 is 0 tools/map examples/banks.form
-has "$room/out" ' *1 *8  256..287 *0x100..0x11f *0..255 *0..31 *256 *64 *24 *168  zeros' 'tools/map examples/banks.form'
+has "$room/out" ' *1 *8  256..287 *0x100..0x11f *0..255 *0..31 *256 *64 *24 *3 *168  zeros' 'tools/map examples/banks.form'
 has "$room/out" ' *21  instruction *1 *64 *264 *0x108  64..87 *8..10 *24' 'tools/map examples/banks.form'
 has "$room/out" ' *3  320..335 *40..41 *16' 'tools/map examples/banks.form'
 tools/map --svg examples/sequencer.form >"$room/drawn" || wrong=1
@@ -262,7 +262,7 @@ compared() {
     has "$room/out" 'grown: node 6 (reserve, 24 bits): 16 -> 24 bits' tools/compare
     has "$room/out" 'shrunk: node 11 (data, 32 bits): 48 -> 32 bits' tools/compare
     has "$room/out" 'moved: node 13 (data of open size, 16 bits): address 16388 = 0x4004 -> 16386 = 0x4002, output bit 320 -> 288' tools/compare
-    has "$room/out" 'bank 2: padding 16 -> 0, used 64 -> 48' tools/compare
+    has "$room/out" 'bank 2: padding 16 -> 0, padding in units 1 -> 0, used 64 -> 48' tools/compare
     has "$room/out" '  new  bits 0..23' tools/compare
     has "$room/out" '  .* bytes differ: 0, 3..4, .*' tools/compare
     printf 'form 2\nbank unit 8\nbank unit 8 size 64 offset 0\nswitch 1\nlabel\ndata: 8\nlabel\ndata 8: 16\nvalues 112233\nlimit 1\n' |

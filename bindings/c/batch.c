@@ -7,8 +7,8 @@
  *     batch --to N      converts each file to form N, 1 or 2, into --room BYTES, and writes `ok` and the result in hex, or the refusal (oracle/convert.py)
  *     batch --spans     reads lists of spans instead, a line each, OFFSET:SIZE,.. with - for no offset, and writes their blocks
  *
- * The first three also take --fill N, the fill's choice, --page N, the page size of a device with pages, and --padding, by which each bank's padding, and with
- * --page its pages, stand at the end of a line. */
+ * The first three also take --fill N, the fill's choice, --page N, the page size of a device with pages, and --padding, by which each bank's padding, in bits
+ * and in whole units, and with --page its pages, stand at the end of a line. */
 #include <inttypes.h>
 #include <stdio.h>
 #include <stdlib.h>
@@ -194,7 +194,13 @@ static void lay_out(size_t size, int tables)
     put(" | blocks ");
     put_blocks(r.spans);
     if (padded) {
-        put_each("padding", r.padding);
+        uint64_t lost[DK_MAX_BANKS], lost_units[DK_MAX_BANKS];
+        for (size_t i = 0; i < DK_MAX_BANKS; i++) {
+            lost[i] = r.padding[i].bits;
+            lost_units[i] = r.padding[i].units;
+        }
+        put_each("padding", lost);
+        put_each("units", lost_units);
         struct dk_tables t = as_structs(size);
         if (paged)
             put_each("pages", (structs ? dk_profile_tables(page, &t) : dk_profile(page, TABLES, fill)).pages);

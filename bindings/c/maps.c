@@ -47,6 +47,18 @@ static void hold_untouched(size_t from)
         }
 }
 
+/* in bank 0, whose unit is 8: skips of 2 and of 10 bits, of which the second has a whole unit */
+static void hold_padding(void)
+{
+    static const uint8_t skips[] = {DK_RESERVE, DK_ALIGN, DK_RESERVE, DK_ALIGN}, states[4];
+    static const uint32_t none[4], by[] = {2, 4, 2, 16};
+    struct dk_mapped r = dk_map(units, 1, starts, 1, bank_sizes, 1, bank_offsets, 1, aligns, 1, flags, 1, fill_bits, 1, skips, 4, none, 4, by, 4, states, 4,
+                                1, values, sizeof values, 10, DK_FILL_INHERITED, 0, banks_of, positions, outputs, sizes);
+    hold("refusal of a padded layout", r.refusal + r.stopped, 0);
+    hold("bits of padding", r.padding[0].bits, 12);
+    hold("whole units of padding", r.padding[0].units, 1);
+}
+
 int main(void)
 {
     static const uint32_t fitting[] = {0, 0, 8, 0, 8}, too_long[] = {0, 0, 8, 1, 8};
@@ -75,7 +87,8 @@ int main(void)
     r = map_of(fitting, 0, 0);
     hold("refusal of no bank", r.refusal, DK_BANK_COUNT);
     hold_untouched(0);
+    hold_padding();
     if (!failed)
-        puts("a map, one that stops, and two that are refused");
+        puts("a map, one that stops, two that are refused, and one that is padded");
     return failed;
 }

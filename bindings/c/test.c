@@ -55,7 +55,7 @@ static void expect_refusal(struct dk_layout r, uint64_t number, uint64_t place, 
     expect(r.refusal == number && r.place == place && r.second == second && r.passes == passes, what);
     expect(r.k == 0 && r.length == 0 && r.spans == 0, what);
     for (size_t i = 0; i < DK_MAX_BANKS; i++)
-        expect(r.padding[i] == 0, what);
+        expect(r.padding[i].bits == 0 && r.padding[i].units == 0, what);
     expect(untouched(), what);
 }
 
@@ -124,7 +124,13 @@ static void choices(void)
     static const uint32_t none[3], to[] = {0, 12, 0};
     r = dk_build(units, 1, starts, 1, bank_sizes, 1, bank_offsets, 1, aligns, 1, flags, 1, fill_bits, 1, align, 2, none, 2, to, 2, states, 2, 1,
                  values, 4, 10, 0, 1, lent.image, 8, lent.addresses, 4, lent.offsets, 4, lent.sizes, 4);
-    expect(r.refusal == DK_ACCEPTED && r.padding[0] == 0, "an align that is met costs nothing");
+    expect(r.refusal == DK_ACCEPTED && r.padding[0].bits == 0 && r.padding[0].units == 0, "an align that is met costs nothing");
+    static const uint8_t skips[] = {DK_RESERVE, DK_ALIGN, DK_RESERVE, DK_ALIGN, DK_RESERVE, DK_ALIGN};
+    static const uint32_t every[6], by[] = {4, 8, 4, 8, 4, 16};
+    static const uint8_t known[6];
+    r = dk_build(units, 1, starts, 1, bank_sizes, 1, bank_offsets, 1, aligns, 1, flags, 1, fill_bits, 1, skips, 6, every, 6, by, 6, known, 6, 1,
+                 values, 4, 10, 0, 0, lent.image, 8, lent.addresses, 4, lent.offsets, 4, lent.sizes, 4);
+    expect(r.refusal == DK_ACCEPTED && r.padding[0].bits == 20 && r.padding[0].units == 1, "4 + 4 + 12 bits, of which one skip has a whole unit");
     r = dk_build(units, 1, starts, 1, bank_sizes, 1, bank_offsets, 1, aligns, 1, flags, 1, fill_bits, 1, align, 3, none, 3, to, 3, states, 3, 1,
                  values, 4, 10, 0, 0, lent.image, 8, lent.addresses, 4, lent.offsets, 4, lent.sizes, 4);
     expect(r.refusal == DK_ACCEPTED && r.spans == 1, "bank 0 alone, open");

@@ -17,11 +17,11 @@ $1 == "image" { digits = length($2); built = 1; next }
 $1 == "passes" { k = $2; next }
 { for (i = 1; i <= NF; i++) b[n++] = $i }
 
-# `mapper`: bank I UNIT START SIZE OFFSET ALIGN FILL BIT PADDING
+# `mapper`: bank I UNIT START SIZE OFFSET ALIGN FILL BIT PADDING UNITS
 function take_bank(w,   i) {
     i = w[2] + 0
     unit[i] = w[3]; start[i] = w[4]; size[i] = w[5]; offset[i] = w[6]; align[i] = w[7]; fill[i] = w[8]; bit[i] = w[9]; padding[i] = w[10]
-    start_text[i] = w[4]
+    whole_units[i] = w[11]; start_text[i] = w[4]
     banks = i + 1
 }
 # `mapper`: node I KIND BANK POSITION ADDRESS OUTPUT SIZE

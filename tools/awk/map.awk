@@ -26,7 +26,7 @@ function print_table(   r, i, line) {
 function blanks(r, i) { return sprintf("%" (wide[i] - characters(cell[r, i])) "s", "") }
 
 function bank_row(i) {
-    return i "|" unit[i] "|" bank_addresses(i) "|" bank_output(i) "|" size[i] "|" used[i] "|" padding[i] "|" unused[i] "|" fill_word(i)
+    return i "|" unit[i] "|" bank_addresses(i) "|" bank_output(i) "|" size[i] "|" used[i] "|" padding[i] "|" whole_units[i] "|" unused[i] "|" fill_word(i)
 }
 # in decimal and hex; without a size there is no last one
 function bank_addresses(i,   first, last) {
@@ -66,7 +66,7 @@ END {
         (passes == 1 ? "1 pass" : passes " passes") " run" (full ? ", full fill" : "")
     print ""
     if (banks) {
-        open_table("bank|unit|addresses|in hex|output bits|bytes|size|used|padding|free|fill", "3 4 5 6 11")
+        open_table("bank|unit|addresses|in hex|output bits|bytes|size|used|padding|in units|free|fill", "3 4 5 6 12")
         for (i = 0; i < banks; i++) add_row(bank_row(i))
         print_table()
     }

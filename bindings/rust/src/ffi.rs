@@ -1,7 +1,7 @@
 //! The archive's functions (include/denkumari.h), called with slices. Everything `unsafe` is here: each call passes the pointers and lengths of
 //! slices that live as long as the call, those that are written behind `&mut`, so that none overlaps another.
 
-use crate::{Banks, Choices, Nodes, Spans};
+use crate::{Banks, Choices, Nodes, Padding, Spans};
 
 #[repr(C)]
 pub struct DkLayout {
@@ -12,7 +12,7 @@ pub struct DkLayout {
     pub k: u64,
     pub length: u64,
     pub spans: u64,
-    pub padding: [u64; 16],
+    pub padding: [Padding; 16],
 }
 
 #[repr(C)]
@@ -68,7 +68,7 @@ pub struct DkMap {
     pub node: u64,
     pub passes: u64,
     pub nodes: u64,
-    pub padding: [u64; 16],
+    pub padding: [Padding; 16],
 }
 
 /// What is lent to a map: each list has a place for every node that a layout can have.

@@ -159,6 +159,16 @@ pub struct Spans<'a> {
     pub sizes: &'a mut [u64],
 }
 
+/// What a bank lost to `align` and to label alignment.
+#[derive(Clone, Copy, Debug, Default, PartialEq, Eq)]
+#[repr(C)]
+pub struct Padding {
+    /// The bits.
+    pub bits: u64,
+    /// The whole address units of each skip, its bits over the bank's unit, rounded down, added up.
+    pub units: u64,
+}
+
 /// An accepted layout.
 #[derive(Clone, Copy, Debug, PartialEq, Eq)]
 pub struct Layout {
@@ -170,8 +180,8 @@ pub struct Layout {
     pub length: u64,
     /// How many spans were written.
     pub spans: usize,
-    /// The bits of each bank that were lost to `align` and to label alignment in the last pass.
-    pub padding: [u64; 16],
+    /// What each bank lost to `align` and to label alignment in the last pass.
+    pub padding: [Padding; 16],
 }
 
 /// A buffer that was too short.

@@ -1,6 +1,6 @@
 //! The map of a layout: where each node stands, as far as the layout goes, and the node at which it is refused.
 
-use crate::{ffi, Banks, Choices, Nodes, Refusal};
+use crate::{ffi, Banks, Choices, Nodes, Padding, Refusal};
 
 /// Where a node stands in the row of the last pass.
 #[derive(Clone, Copy, Debug, PartialEq, Eq)]
@@ -33,8 +33,8 @@ pub struct Map {
     pub stopped: Option<Stopped>,
     /// The nodes, from node 0 on.
     pub nodes: Vec<Standing>,
-    /// Of each bank the bits that these nodes lost to alignment.
-    pub padding: [u64; 16],
+    /// Of each bank what these nodes lost to alignment.
+    pub padding: [Padding; 16],
 }
 
 /// The map of tables; the page size of the choices is not looked at. Refused only 1 to 4, as [`build`](crate::build) refuses before its first pass.

@@ -26,7 +26,7 @@ const NUMBERS: &[u32] = &[0, 0, 10, 10, 10];
 #[test]
 fn worked_example() {
     let (answer, same) = laid_out(banks(FLAGS), nodes(KINDS, NUMBERS), 8, 4);
-    assert_eq!(answer, Ok(Layout { k: 1, passes: 2, length: 40, spans: 3, padding: [0; 16] }));
+    assert_eq!(answer, Ok(Layout { k: 1, passes: 2, length: 40, spans: 3, padding: [Padding::default(); 16] }));
     assert!(!same);
 }
 
@@ -105,7 +105,7 @@ fn choices_are_passed_on() {
     let mut alone = Program::new(10);
     alone.bank(Bank::new(8)).node(Kind::Reserve, 0).node(Kind::Align, 0).node(Kind::Label, 0);
     alone.row(&[(10, State::Resolved), (16, State::Resolved), (0, State::Resolved)]);
-    assert_eq!(alone.build(0).unwrap().layout.padding[..2], [6, 0]);
+    assert_eq!(alone.build(0).unwrap().layout.padding[..2], [Padding { bits: 6, units: 0 }, Padding::default()]);
     alone.choices(Choices { closed: true, ..Choices::default() });
     assert_eq!(alone.build(0), Err(Refusal::DefaultBank { node: 0, passes: 2 }));
 }
@@ -165,5 +165,7 @@ fn a_map_names_the_node_at_fault_of_an_overlap() {
     assert_eq!(mapped.nodes[2], Standing { bank: 0, position: 0, output: Some(0), size: 8 });
     let apart = Nodes { numbers: &[8, 8, 8], ..nodes };
     assert_eq!(map(&banks, &apart, choices).unwrap().stopped, None);
+    let padded = Nodes { kinds: &[7, 8, 7], numbers: &[4, 16, 4], ..nodes };
+    assert_eq!(map(&banks, &padded, choices).unwrap().padding[0], Padding { bits: 12, units: 1 });
     assert_eq!(map(&Banks { units: &[0], ..banks }, &apart, choices), Err(Refusal::BankNumber { bank: 0 }));
 }

@@ -11,9 +11,9 @@ use Rattle.refusal.specs.Told.{toldVerdict}
 use Rattle.refusal.specs.declared.Refusal.{Refusal}
 use Rattle.bankdef.specs.declared.Bankdefs.{Bankdefs}
 use Rattle.bitvec.specs.Lists.{listOf}
-use Rattle.bitvec.specs.Laws.Lists.{length-listOf, getD-listOf}
-use Rattle.iter.specs.Step.{startOf, bankAfter}
+use Rattle.iter.specs.Step.{noLost, startOf, bankAfter}
 use Rattle.iter.specs.Laws.StepCases.{step-cases}
+use Rattle.iter.specs.declared.Lost.{Lost}
 use Rattle.iter.specs.declared.Stepped.{Stepped}
 use Rattle.resolver.specs.Layout.{layoutOf}
 use Rattle.lists.specs.Lists.{Lists, Row, Rows}
@@ -30,6 +30,7 @@ use Rattle.resolver.specs.declared.Resolution.{Resolution}
 use Rattle.resolver.specs.declared.Settled.{Settled}
 use Rattle.resolver.specs.declared.Settled.the-variants.{At, Refused as Unsettled}
 use Rattle.output.specs.Output.{Input, input, closedOf, visitsOf, passesOf, settledOf}
+use Rattle.build_plan.specs.Laws.Plan.{length-of-banks, getD-of-banks}
 use Rattle.build_plan.specs.Placing.{Placed, holds, stops, placedAll}
 use Rattle.build_sights.specs.Visits.{programOf, rowOf}
 use Rattle.build_map.specs.Map.{walkedAll, tracedBy, settledReach, reachOf, paddingsTo, mapBy, mapOf, placedTold, settledTold, Lent, lent}
@@ -54,12 +55,12 @@ module _ (p : Program) (row : Row) where
 
   carried : (n : ℕ) → n ≤ maxNodes → Walks p row n → walkTo p row n .lost ≡ paddingsTo p row n
   carried n few walks =
-      ext-getD 0 (walkTo p row n .lost) (paddingsTo p row n) (sixteen n ∙ sym (length-listOf maxBanks (λ bank. paddingTo p row bank n)))
+      ext-getD noLost (walkTo p row n .lost) (paddingsTo p row n) (sixteen n ∙ sym (length-of-banks (λ bank. paddingTo p row bank n)))
       (λ j h.
       let low : j < maxBanks = omega (arith, sixteen n) in
-      walk-carries-padding p row n j few walks ∙ sym (getD-listOf maxBanks (λ bank. paddingTo p row bank n) j low))
+      walk-carries-padding p row n j few walks ∙ sym (getD-of-banks (λ bank. paddingTo p row bank n) j low))
 
-  lost-none : replicate 16 0 ≡ paddingsTo p row 0
+  lost-none : replicate 16 noLost ≡ paddingsTo p row 0
   unfolding listOf sumIn
   lost-none = refl
 
@@ -85,7 +86,7 @@ map-told b = settled-told b (length (b .lists .kinds)) (settledOf b)
 -- ---- a row's map, from its parts
 
 pub row-mapped : (p : Program) (row : Row) (closed : Bool) (settled : Settled) (passes : ℕ) (banks positions outputs sizes : List ℕ) (reach : Reach)
-    → reach ≡ rowReach p row closed settled → (lost : List ℕ) → lost ≡ walkTo p row (reach .nodes) .lost → (banks′ positions′ outputs′ sizes′ : List ℕ)
+    → reach ≡ rowReach p row closed settled → (lost : List Lost) → lost ≡ walkTo p row (reach .nodes) .lost → (banks′ positions′ outputs′ sizes′ : List ℕ)
     → banks′ ≡ shown (reach .nodes) (bankShown p row) banks
     → positions′ ≡ shown (reach .nodes) (positionShown p row) positions
     → outputs′ ≡ shown (reach .nodes) (outputShown p row) outputs

@@ -6,7 +6,6 @@ use mathlib.Core.List.{List, [], _∷_, _++_}
 use Prim.Native.Nat.{ℕ, suc, _-_}
 use lib.Dec.{eqb}
 use lib.ListN.{length, drop}
-use Rattle.refusal.specs.Limits.{maxBanks}
 use Rattle.refusal.specs.Pick.{pick}
 use Rattle.refusal.specs.Refusals.{numberOf, placeOf}
 use Rattle.refusal.specs.Told.{Told, gives, Nothing, nothing, toldRefusal, toldVerdict}
@@ -18,6 +17,7 @@ use Rattle.refusal.specs.declared.Verdict.the-variants.{Accepted, Refused}
 use Rattle.bitvec.specs.Lists.{listOf}
 use Rattle.blocks.specs.Offsets.{wordOf}
 use Rattle.overlap_checker.specs.State.{emptyState}
+use Rattle.iter.specs.declared.Lost.{Lost}
 use Rattle.lists.specs.Lists.{Row}
 use Rattle.resolver.specs.Once.{Program}
 use Rattle.resolver.specs.Padding.{sizeBy, paddingTo}
@@ -26,6 +26,7 @@ use Rattle.resolver.specs.declared.Settled.{Settled}
 use Rattle.resolver.specs.declared.Settled.the-variants.{At, Refused as Unsettled}
 use Rattle.build_sights.specs.Visits.{positionOf, visitAt}
 use Rattle.build_plan.specs.Placing.{Placed, holds, stops, placedNext, placedAll}
+use Rattle.build_plan.specs.Plan.{ofBanks}
 use Rattle.output.specs.Output.{Input, closedOf, visitsOf, passesOf, settledOf}
 use Rattle.build_sights.specs.declared.Visit.{Visit}
 use Rattle.build_map.specs.declared.Fault.{Fault}
@@ -93,11 +94,11 @@ settledReach closed vs n (At k) = traced closed vs
 abbrev pub reachOf : Input → Reach
 reachOf b = settledReach (closedOf b) (visitsOf b (passesOf b)) (length (b .lists .kinds)) (settledOf b)
 
--- "the sum of bits lost to `align` and to label alignment" (document 02, Ticket 2) by the first n nodes, of banks 0 to 15
-abbrev pub paddingsTo : Program → Row → ℕ → List ℕ
-paddingsTo p row n = listOf maxBanks (λ bank. paddingTo p row bank n)
+-- "the sum of bits lost to `align` and to label alignment" (document 02, Ticket 2) by the first n nodes, and of whole units, of banks 0 to 15
+abbrev pub paddingsTo : Program → Row → ℕ → List Lost
+paddingsTo p row n = ofBanks (λ bank. paddingTo p row bank n)
 
-abbrev pub mapBy : ℕ → Reach → List ℕ → Map
+abbrev pub mapBy : ℕ → Reach → List Lost → Map
 mapBy passes reach padding =
     record { verdict = reach .verdict; passes = passes; nodes = reach .nodes; fault = reach .fault; padding = padding }
 

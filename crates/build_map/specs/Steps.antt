@@ -7,6 +7,7 @@ use Rattle.refusal.specs.Limits.{maxNodes}
 use Rattle.refusal.specs.Refusals.{numberOf}
 use Rattle.refusal.specs.declared.Verdict.{Verdict}
 use Rattle.refusal.specs.declared.Verdict.the-variants.{Accepted, Refused}
+use Rattle.iter.specs.Step.{noLost}
 use Rattle.lists.specs.Lists.{Row}
 use Rattle.resolver.specs.Once.{Program, walkTo}
 use Rattle.resolver.specs.declared.Settled.{Settled}
@@ -37,4 +38,4 @@ verdictOf (At k) = Accepted
 
 -- the answer where no pass was run
 abbrev pub mapless : Settled → Map
-mapless settled = mapBy 0 (record { verdict = verdictOf settled; nodes = 0; fault = None }) (replicate 16 0)
+mapless settled = mapBy 0 (record { verdict = verdictOf settled; nodes = 0; fault = None }) (replicate 16 noLost)

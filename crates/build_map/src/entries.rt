@@ -1,6 +1,7 @@
 // The entries of nodes: bank, position, place in the output and size, each in a lent list.
 use crate::visits::visit_node;
 use bankdef::Bankdefs;
+use iter::Lost;
 use iter::Moved;
 use lists::Node;
 use refusal::INSTRUCTION;
@@ -52,7 +53,7 @@ pub fn write_entries(
     positions: &mut [u32],
     outputs: &mut [u64],
     sizes: &mut [u32],
-) -> [u64; 16]
+) -> [Lost; 16]
     requires { ⌜ nodes ≤ maxNodes ⌝ }
     requires { ⌜ (nodes ≤ length (now «banks_of»)) × (nodes ≤ length (now positions)) × (nodes ≤ length (now outputs)) × (nodes ≤ length (now sizes)) ⌝ }
     ensures { λ r. ⌜

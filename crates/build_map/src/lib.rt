@@ -5,6 +5,7 @@ mod maps;
 mod tracing;
 mod visits;
 
+use iter::Lost;
 pub use maps::map_nodes;
 use refusal::Verdict;
 
@@ -27,5 +28,5 @@ pub struct Map {
     pub passes: u64,
     pub nodes: u64,
     pub fault: Fault,
-    pub padding: [u64; 16],
+    pub padding: [Lost; 16],
 }

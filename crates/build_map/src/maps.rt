@@ -5,6 +5,7 @@ use crate::Reach;
 use crate::entries::write_entries;
 use crate::tracing::trace_row;
 use bankdef::Bankdefs;
+use iter::Lost;
 use refusal::Place;
 use refusal::Refusal;
 use refusal::Verdict;
@@ -163,12 +164,13 @@ fn verdict_of(settled: Settled) -> Verdict
 fn unmapped(settled: Settled) -> Map
     ensures { λ r. ⌜ r ≡ mapless settled ⌝ }
 {
+    let none = Lost { bits: 0, units: 0 };
     Map {
         verdict: verdict_of(settled),
         passes: 0,
         nodes: 0,
         fault: Fault::None,
-        padding: [0u64; 16],
+        padding: [none; 16],
     }
 }
 

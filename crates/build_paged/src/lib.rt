@@ -1,6 +1,7 @@
 // "A build in the profile is the ordinary build after a yes."
 use bankdef::Bankdefs;
 use build_profile::check_profile;
+use iter::Lost;
 use output::Build;
 use output::Output;
 use output::build_output;
@@ -16,10 +17,11 @@ ghost use Rattle.build_paged.specs.InProfile.{BuildsInProfile};
 fn refused(why: Refusal) -> Output
     ensures { λ r. ⌜ r ≡ refusedAfter 0 why ⌝ }
 {
+    let none = Lost { bits: 0, units: 0 };
     Output {
         build: Build::Refused(why),
         passes: 0,
-        padding: [0; 16],
+        padding: [none; 16],
     }
 }
 

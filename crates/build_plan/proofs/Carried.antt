@@ -7,8 +7,7 @@ use native.Mathlib.Omega.{arith}
 use lib.ListN.{length, getD, length-set}
 use lib.Seq.{ext-getD}
 use Rattle.refusal.specs.Limits.{maxBanks, maxNodes}
-use Rattle.bitvec.specs.Laws.Lists.{length-listOf, getD-listOf}
-use Rattle.iter.specs.Step.{startOf, bankAfter}
+use Rattle.iter.specs.Step.{noLost, startOf, bankAfter}
 use Rattle.iter.specs.Laws.StepCases.{step-cases}
 use Rattle.iter.specs.declared.Moved.the-variants.{To}
 use Rattle.iter.specs.declared.Pos.{Pos}
@@ -23,6 +22,7 @@ use Rattle.build_sights.specs.Visits.{visitAt, visits}
 use Rattle.build_sights.specs.Laws.VisitLaws.{visit-member}
 use Rattle.build_plan.specs.Placing.{holds, placedAll}
 use Rattle.build_plan.specs.Laws.PlacingLaws.{each-accepted, seen-placing}
+use Rattle.build_plan.specs.Laws.Plan.{length-of-banks, getD-of-banks}
 use Rattle.build_plan.specs.Plan.{paddingsOf}
 
 module _ (p : Program) (row : Row) where
@@ -46,8 +46,8 @@ module _ (p : Program) (row : Row) where
   pub carried : (closed : Bool) (s : State) → length (p .kinds) ≤ maxNodes → placedAll closed (visits p row) ≡ holds s
       → walkTo p row (length (p .kinds)) .lost ≡ paddingsOf p row
   carried closed s few placed =
-      ext-getD 0 (walkTo p row (length (p .kinds)) .lost) (paddingsOf p row)
-      (sixteen (length (p .kinds)) ∙ sym (length-listOf maxBanks (paddingOf p row)))
+      ext-getD noLost (walkTo p row (length (p .kinds)) .lost) (paddingsOf p row)
+      (sixteen (length (p .kinds)) ∙ sym (length-of-banks (paddingOf p row)))
       (λ j h.
       let low : j < maxBanks = omega (arith, sixteen (length (p .kinds))) in
-      walk-carries-padding p row (length (p .kinds)) j few (sees closed s placed) ∙ sym (getD-listOf maxBanks (paddingOf p row) j low))
+      walk-carries-padding p row (length (p .kinds)) j few (sees closed s placed) ∙ sym (getD-of-banks (paddingOf p row) j low))

@@ -9,6 +9,8 @@ use Rattle.refusal.specs.declared.Place.{Place}
 use Rattle.refusal.specs.declared.Place.the-variants.{One, Two}
 use Rattle.refusal.specs.declared.Verdict.{Verdict}
 use Rattle.refusal.specs.declared.Verdict.the-variants.{Accepted, Refused as TurnedAway}
+use Rattle.iter.specs.Step.{noLost}
+use Rattle.iter.specs.declared.Lost.{Lost}
 use Rattle.output.specs.declared.Build.{Build}
 use Rattle.output.specs.declared.Build.the-variants.{Done, Refused}
 use Rattle.output.specs.declared.Output.{Output}
@@ -27,9 +29,9 @@ secondOf (One a) = 0
 secondOf (Two a b) = b
 
 -- "The answer holds K and the number of passes run"; "Refusals 5 to 14 of a layout carry the passes run too". No refusal has number 0.
--- "each bank should carry the sum of bits lost to `align` and to label alignment in the last pass" (document 02, Ticket 2); a refused layout
--- carries zeros.
-abbrev pub buildTold : Build → ℕ → List ℕ → DkLayout
+-- "each bank should carry the sum of bits lost to `align` and to label alignment in the last pass", and "everything that uses the distance passes both on"
+-- (document 02, Ticket 2); a refused layout carries zeros.
+abbrev pub buildTold : Build → ℕ → List Lost → DkLayout
 buildTold (Done k length spans) passes padding =
     record { refusal = 0; place = 0; second = 0; passes = passes; k = k; length = length; spans = spans; padding = padding }
 buildTold (Refused why) passes padding =
@@ -41,7 +43,7 @@ buildTold (Refused why) passes padding =
       k = 0;
       length = 0;
       spans = 0;
-      padding = replicate maxBanks 0;
+      padding = replicate maxBanks noLost;
     }
 
 abbrev pub layoutTold : Output → DkLayout

@@ -4,6 +4,7 @@ use crate::DkProfile;
 use crate::first_of;
 use crate::second_of;
 use build_profile::Paged;
+use iter::Lost;
 use output::Build;
 use output::Output;
 use refusal::Verdict;
@@ -30,6 +31,7 @@ pub fn tell_layout(output: Output) -> DkLayout
         },
         Build::Refused(why) => {
             let place = refusal::place_of(why);
+            let none = Lost { bits: 0, units: 0 };
             DkLayout {
                 refusal: refusal::number(why),
                 place: first_of(place),
@@ -38,7 +40,7 @@ pub fn tell_layout(output: Output) -> DkLayout
                 k: 0,
                 length: 0,
                 spans: 0,
-                padding: [0; 16],
+                padding: [none; 16],
             }
         }
     }

@@ -5,6 +5,7 @@ mod layouts;
 mod offers;
 mod parts;
 
+use iter::Lost;
 use refusal::Place;
 ghost use mathlib.Core.Path.{_≡_};
 ghost use Rattle.c_answers.specs.Told.{firstOf, secondOf};
@@ -23,7 +24,7 @@ pub use parts::tell_source;
 
 // The answer of a layout. `refusal` is 0 where the layout was built, else document 01's number; then `place` and `second` are its
 // place, 0 where it has none. `passes` is how many passes ran. `k`, `length` and `spans` are 0 where it was refused. `padding` has the bits
-// of each bank that were lost to alignment in the last pass, zeros where it was refused.
+// of each bank that were lost to alignment in the last pass, and the whole address units, zeros where it was refused.
 #[repr(C)]
 pub struct DkLayout {
     pub refusal: u64,
@@ -33,7 +34,7 @@ pub struct DkLayout {
     pub k: u64,
     pub length: u64,
     pub spans: u64,
-    pub padding: [u64; 16],
+    pub padding: [Lost; 16],
 }
 
 // What the profile says of a layout. `refusal` is 0 where it is kept, and then `pages` has the pages of each bank, the largest number for none;

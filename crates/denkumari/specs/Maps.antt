@@ -10,6 +10,7 @@ use Rattle.refusal.specs.Refusals.{numberOf, placeOf}
 use Rattle.refusal.specs.declared.Refusal.{Refusal}
 use Rattle.refusal.specs.declared.Verdict.{Verdict}
 use Rattle.refusal.specs.declared.Verdict.the-variants.{Accepted, Refused}
+use Rattle.iter.specs.declared.Lost.{Lost}
 use Rattle.output.specs.Output.{Input}
 use Rattle.build_map.specs.Map.{Lent, Maps, mapOf}
 use Rattle.build_map.specs.declared.Fault.{Fault}
@@ -30,7 +31,7 @@ abbrev pub nodeTold : Fault → ℕ
 nodeTold None = 18446744073709551615
 nodeTold (At node) = node
 
-abbrev pub refusedMap : Refusal → ℕ → ℕ → ℕ → List ℕ → DkMap
+abbrev pub refusedMap : Refusal → ℕ → ℕ → ℕ → List Lost → DkMap
 refusedMap why node passes nodes padding =
     record {
       refusal = refusedBelow (numberOf why);
@@ -43,7 +44,7 @@ refusedMap why node passes nodes padding =
       padding = padding;
     }
 
-abbrev pub toldBy : Verdict → ℕ → ℕ → ℕ → List ℕ → DkMap
+abbrev pub toldBy : Verdict → ℕ → ℕ → ℕ → List Lost → DkMap
 toldBy Accepted node passes nodes padding =
     record { refusal = 0; stopped = 0; place = 0; second = 0; node = node; passes = passes; nodes = nodes; padding = padding }
 toldBy (Refused why) node passes nodes padding = refusedMap why node passes nodes padding

@@ -5,6 +5,7 @@ use c_answers::first_of;
 use c_answers::second_of;
 use c_tables::choose;
 use c_tables::make_banks;
+use iter::Lost;
 use refusal::Refusal;
 use refusal::Verdict;
 ghost use mathlib.Core.Path.{_≡_};
@@ -16,7 +17,7 @@ ghost use Rattle.denkumari.specs.Maps.{refusedBelow, stoppedFrom, nodeTo
 
 // The answer of a map. `refusal` is 1 to 4 where the call is refused, with `place` and `second`, and then nothing is shown. `stopped` is 5 to 13 where the
 // layout is refused and the map is not, with the refusal's `place` and `second`. `node` is the node at fault, the largest number for none. `passes` is how many
-// passes ran, `nodes` how many nodes are shown, from node 0 on, and `padding` the bits that these lost to alignment in each bank.
+// passes ran, `nodes` how many nodes are shown, from node 0 on, and `padding` the bits and the whole units that these lost to alignment in each bank.
 #[repr(C)]
 pub struct DkMap {
     pub refusal: u64,
@@ -26,7 +27,7 @@ pub struct DkMap {
     pub node: u64,
     pub passes: u64,
     pub nodes: u64,
-    pub padding: [u64; 16],
+    pub padding: [Lost; 16],
 }
 
 // A refusal's number where it is below 5, and where it is not.
@@ -52,7 +53,7 @@ fn node_of(fault: Fault) -> u64
 }
 
 // A map of a layout that is refused.
-fn tell_refused(why: Refusal, node: u64, passes: u64, nodes: u64, padding: [u64; 16]) -> DkMap
+fn tell_refused(why: Refusal, node: u64, passes: u64, nodes: u64, padding: [Lost; 16]) -> DkMap
     ensures { λ r. ⌜ r ≡ refusedMap why node passes nodes padding ⌝ }
 {
     let number = refusal::number(why);

@@ -2,6 +2,7 @@
 use bankdef::Bankdefs;
 use form_fields::Form;
 use form_fields::Shape;
+use iter::Lost;
 use output::Build;
 use output::Output;
 use refusal::Opt;
@@ -150,11 +151,14 @@ pub fn build_file(
         ⌝ }
 {
     match form_fields::read_shape(file) {
-        Form::Broken(why) => Output {
-            build: Build::Refused(why),
-            passes: 0,
-            padding: [0; 16],
-        },
+        Form::Broken(why) => {
+            let none = Lost { bits: 0, units: 0 };
+            Output {
+                build: Build::Refused(why),
+                passes: 0,
+                padding: [none; 16],
+            }
+        }
         Form::Sound(shape) => {
             let mut kinds = [0u8; ROOM];
             let mut operands = [0u32; ROOM];

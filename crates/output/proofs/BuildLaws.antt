@@ -17,6 +17,7 @@ use Rattle.refusal.specs.declared.Refusal.the-variants.{TooShort}
 use Rattle.refusal.specs.declared.Verdict.{Verdict}
 use Rattle.refusal.specs.declared.Verdict.the-variants.{Accepted, Refused as TurnedAway}
 use Rattle.bankdef.specs.Check.{banksOf}
+use Rattle.iter.specs.declared.Lost.{Lost}
 use Rattle.lists.specs.Lists.{Row}
 use Rattle.resolver.specs.Once.{Program}
 use Rattle.overlap_checker.specs.Laws.Ascending.{lt-or-le}
@@ -151,7 +152,7 @@ module _ (p : Program) (row : Row) (closed : Bool) (fill k passes : ℕ) (values
         row-done image′ addressed′ offsets′ sized′ a b c d =
             record {
               answer =
-                  ap (λ (l : List ℕ). record { build = Done k (plan .length) (plan .spans); passes = passes; padding = l }) (planned .padding accepted)
+                  ap (λ (l : List Lost). record { build = Done k (plan .length) (plan .spans); passes = passes; padding = l }) (planned .padding accepted)
                   ∙ ap (outputOf p row passes) (sym (answers ∙ pick-false _ _ (tests .0) ∙ pick-false _ _ (tests .1)));
               left = rw (a, b, c, d);
             }

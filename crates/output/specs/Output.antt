@@ -15,6 +15,8 @@ use Rattle.refusal.specs.declared.Refusal.the-variants.{TooShort}
 use Rattle.bankdef.specs.Check.{banksOf}
 use Rattle.bankdef.specs.Fill.{fillBy}
 use Rattle.bankdef.specs.declared.Bankdefs.{Bankdefs}
+use Rattle.iter.specs.Step.{noLost}
+use Rattle.iter.specs.declared.Lost.{Lost}
 use Rattle.lists.specs.Lists.{Lists, Row}
 use Rattle.resolver.specs.Once.{Program}
 use Rattle.resolver.specs.Passes.{program, rowOfPass}
@@ -64,18 +66,18 @@ roomOf l = record { image = length (l .image); spans = min (length (l .addresses
 
 -- ---- padding
 
--- "each bank should carry the sum of bits lost to `align` and to label alignment in the last pass" (document 02, Ticket 2): an accepted build answers
--- those sums, of banks 0 to 15, a refused one zeros
-abbrev pub paddingBy : List ℕ → Build → List ℕ
+-- "each bank should carry the sum of bits lost to `align` and to label alignment in the last pass", and "everything that uses the distance passes both on"
+-- (document 02, Ticket 2): an accepted build answers those sums, of banks 0 to 15, a refused one zeros
+abbrev pub paddingBy : List Lost → Build → List Lost
 paddingBy sums (Done k bits spans) = sums
-paddingBy sums (Refused why) = replicate maxBanks 0
+paddingBy sums (Refused why) = replicate maxBanks noLost
 
 -- a build's answer with the passes run, and each bank's padding where it is accepted
 abbrev pub outputOf : Program → Row → ℕ → Build → Output
 outputOf p row passes x = record { build = x; passes = passes; padding = paddingBy (paddingsOf p row) x }
 
 abbrev pub refusedAfter : ℕ → Refusal → Output
-refusedAfter passes why = record { build = Refused why; passes = passes; padding = replicate maxBanks 0 }
+refusedAfter passes why = record { build = Refused why; passes = passes; padding = replicate maxBanks noLost }
 
 -- ---- the answer
 

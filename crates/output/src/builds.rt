@@ -5,6 +5,7 @@ use bankdef::Bankdefs;
 use build_plan::closes_default;
 use build_plan::plan_row;
 use build_write::write_row;
+use iter::Lost;
 use refusal::Refusal;
 use refusal::Verdict;
 use resolver::Choices;
@@ -45,10 +46,11 @@ fn shorter(a: u64, b: u64) -> u64
 fn refused(why: Refusal, passes: u64) -> Output
     ensures { λ r. ⌜ r ≡ refusedAfter passes why ⌝ }
 {
+    let none = Lost { bits: 0, units: 0 };
     Output {
         build: Build::Refused(why),
         passes,
-        padding: [0u64; 16],
+        padding: [none; 16],
     }
 }
 

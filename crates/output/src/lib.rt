@@ -2,6 +2,7 @@
 mod builds;
 
 pub use builds::build_output;
+use iter::Lost;
 use refusal::Refusal;
 
 // What a build answers: pass K, the image's length in bits and the number of spans; or why it is refused. And the passes run.
@@ -10,9 +11,9 @@ pub enum Build {
     Refused(Refusal),
 }
 
-// And each bank's padding, banks 0 to 15: the bits that it lost to `align` and to label alignment in the last pass. Refused, zeros.
+// And each bank's padding, banks 0 to 15: the bits and the whole address units that it lost to `align` and to label alignment in the last pass. Refused, zeros.
 pub struct Output {
     pub build: Build,
     pub passes: u64,
-    pub padding: [u64; 16],
+    pub padding: [Lost; 16],
 }

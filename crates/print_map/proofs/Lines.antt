@@ -20,6 +20,8 @@ use Rattle.blocks.specs.Offsets.{noOffset}
 use Rattle.iter.specs.Address.{addressOf}
 use Rattle.iter.specs.declared.Address.{Address}
 use Rattle.iter.specs.declared.Address.the-variants.{At, Refused}
+use Rattle.iter.specs.Step.{noLost}
+use Rattle.iter.specs.declared.Lost.{Lost}
 use Rattle.resolver.specs.Once.{bankRecord}
 use Rattle.print_text.specs.Ascii.{ascii}
 use Rattle.print_text.specs.Decimal.{decimal}
@@ -51,31 +53,32 @@ is-word word = by (eqb word noOffset)
     by false = refl
 
 -- a bank's line
-abbrev bankCells : ℕ → ℕ → Cell → Cell → Cell → Cell → ℕ → ℕ → ℕ → List Cell
-bankCells i unit start size offset align fill bit padding =
-    number i ∷ number unit ∷ start ∷ size ∷ offset ∷ align ∷ number fill ∷ number bit ∷ number padding ∷ []
+abbrev bankCells : ℕ → ℕ → Cell → Cell → Cell → Cell → ℕ → ℕ → ℕ → ℕ → List Cell
+bankCells i unit start size offset align fill bit padding units =
+    number i ∷ number unit ∷ start ∷ size ∷ offset ∷ align ∷ number fill ∷ number bit ∷ number padding ∷ number units ∷ []
 
-bank-coded : (i unit s z mz vz mo vo ma va fill bit padding : ℕ)
-    → lineTo (ascii "bank") (0 ∷ 0 ∷ s ∷ mz ∷ mo ∷ ma ∷ 0 ∷ 0 ∷ 0 ∷ []) (i ∷ unit ∷ z ∷ vz ∷ vo ∷ va ∷ fill ∷ bit ∷ padding ∷ [])
-    ≡ lineOf (ascii "bank") (bankCells i unit (cellOf s z) (cellOf mz vz) (cellOf mo vo) (cellOf ma va) fill bit padding)
+bank-coded : (i unit s z mz vz mo vo ma va fill bit padding units : ℕ)
+    → lineTo (ascii "bank") (0 ∷ 0 ∷ s ∷ mz ∷ mo ∷ ma ∷ 0 ∷ 0 ∷ 0 ∷ 0 ∷ []) (i ∷ unit ∷ z ∷ vz ∷ vo ∷ va ∷ fill ∷ bit ∷ padding ∷ units ∷ [])
+    ≡ lineOf (ascii "bank") (bankCells i unit (cellOf s z) (cellOf mz vz) (cellOf mo vo) (cellOf ma va) fill bit padding units)
 unfolding cellsTo cellsFrom
-bank-coded i unit s z mz vz mo vo ma va fill bit padding = refl
+bank-coded i unit s z mz vz mo vo ma va fill bit padding units = refl
 
-pub bank-line : (i : ℕ) (def : Bankdef) (padding : ℕ)
+pub bank-line : (i : ℕ) (def : Bankdef) (padding : Lost)
     → lineTo (ascii "bank")
-    (0 ∷ 0 ∷ signOf (def .start) ∷ markOf (def .size) ∷ markOf (def .offset) ∷ markOf (def .align) ∷ 0 ∷ 0 ∷ 0 ∷ [])
+    (0 ∷ 0 ∷ signOf (def .start) ∷ markOf (def .size) ∷ markOf (def .offset) ∷ markOf (def .align) ∷ 0 ∷ 0 ∷ 0 ∷ 0 ∷ [])
     (i ∷ def .unit ∷ natAbs (def .start) ∷ valueOf (def .size) ∷ valueOf (def .offset) ∷ valueOf (def .align) ∷ bitOf (def .fill) ∷ def .«fill_bit» ∷
-    padding ∷
+    padding .bits ∷
+    padding .units ∷
     [])
     ≡ bankLine i def padding
 bank-line i def padding =
     bank-coded i (def .unit) (signOf (def .start)) (natAbs (def .start)) (markOf (def .size)) (valueOf (def .size)) (markOf (def .offset))
-    (valueOf (def .offset)) (markOf (def .align)) (valueOf (def .align)) (bitOf (def .fill)) (def .«fill_bit») padding
+    (valueOf (def .offset)) (markOf (def .align)) (valueOf (def .align)) (bitOf (def .fill)) (def .«fill_bit») (padding .bits) (padding .units)
     ∙ ap
     (λ (c : Cell).
     lineOf (ascii "bank")
     (bankCells i (def .unit) c (cellOf (markOf (def .size)) (valueOf (def .size))) (cellOf (markOf (def .offset)) (valueOf (def .offset)))
-    (cellOf (markOf (def .align)) (valueOf (def .align))) (bitOf (def .fill)) (def .«fill_bit») padding))
+    (cellOf (markOf (def .align)) (valueOf (def .align))) (bitOf (def .fill)) (def .«fill_bit») (padding .bits) (padding .units)))
     (is-signed (def .start))
     ∙ rw (is-optional (def .size), is-optional (def .offset), is-optional (def .align)) refl
 
@@ -153,17 +156,17 @@ module _ {old new : List ℕ} {at r : ℕ} where
   pub unmarked : {mark : ℕ} (n : ℕ) → (mark ≡ 1 → ⊥) → (mark ≡ 2 → ⊥) → Writes (decimal n) old at r new → Writes (cellText (cellOf mark n)) old at r new
   unmarked {mark} n e f w = rw (ne-eqb mark 1 e, ne-eqb mark 2 f) w
 
-  pub bank-written : (i : ℕ) (def : Bankdef) (padding : ℕ) {s z m1 m2 m3 v1 v2 v3 f : ℕ} → s ≡ signOf (def .start) → m1 ≡ markOf (def .size)
+  pub bank-written : (i : ℕ) (def : Bankdef) (padding : Lost) {s z m1 m2 m3 v1 v2 v3 f : ℕ} → s ≡ signOf (def .start) → m1 ≡ markOf (def .size)
       → m2 ≡ markOf (def .offset) → m3 ≡ markOf (def .align) → z ≡ natAbs (def .start) → v1 ≡ valueOf (def .size) → v2 ≡ valueOf (def .offset)
       → v3 ≡ valueOf (def .align) → f ≡ bitOf (def .fill)
-      → Writes (lineTo (ascii "bank") (0 ∷ 0 ∷ s ∷ m1 ∷ m2 ∷ m3 ∷ 0 ∷ 0 ∷ 0 ∷ [])
-      (i ∷ def .unit ∷ z ∷ v1 ∷ v2 ∷ v3 ∷ f ∷ def .«fill_bit» ∷ padding ∷ [])) old at r new
+      → Writes (lineTo (ascii "bank") (0 ∷ 0 ∷ s ∷ m1 ∷ m2 ∷ m3 ∷ 0 ∷ 0 ∷ 0 ∷ 0 ∷ [])
+      (i ∷ def .unit ∷ z ∷ v1 ∷ v2 ∷ v3 ∷ f ∷ def .«fill_bit» ∷ padding .bits ∷ padding .units ∷ [])) old at r new
       → Writes (bankLine i def padding) old at r new
   bank-written i def padding {s} {z} {m1} {m2} {m3} {v1} {v2} {v3} {f} a b c d e g h j k w =
       subst (λ (l : List ℕ). Writes l old at r new) (bank-line i def padding)
       (subst
-      (λ (x : Nine). Writes (lineTo (ascii "bank") (0 ∷ 0 ∷ x .s ∷ x .m1 ∷ x .m2 ∷ x .m3 ∷ 0 ∷ 0 ∷ 0 ∷ [])
-      (i ∷ def .unit ∷ x .z ∷ x .v1 ∷ x .v2 ∷ x .v3 ∷ x .f ∷ def .«fill_bit» ∷ padding ∷ [])) old at r new)
+      (λ (x : Nine). Writes (lineTo (ascii "bank") (0 ∷ 0 ∷ x .s ∷ x .m1 ∷ x .m2 ∷ x .m3 ∷ 0 ∷ 0 ∷ 0 ∷ 0 ∷ [])
+      (i ∷ def .unit ∷ x .z ∷ x .v1 ∷ x .v2 ∷ x .v3 ∷ x .f ∷ def .«fill_bit» ∷ padding .bits ∷ padding .units ∷ [])) old at r new)
       (nine-same a b c d e g h j k) w)
 
   pub node-written : (banks : Bankdefs) (i kind bank position word size : ℕ) {def : Bankdef} {address : Address} {a v w : ℕ} → def ≡ bankRecord banks bank
@@ -198,12 +201,12 @@ refused-two why {n} {p} {q} e f g =
     ∙ ap (λ (k : ℕ). lineOf (ascii "refused") (number k ∷ number p ∷ number q ∷ [])) e
     ∙ ap (λ (x : Place). lineOf (ascii "refused") (number (numberOf why) ∷ placeCells x)) (sym g ∙ f)
 
-pub banks-next : (banks : Bankdefs) (padding : List ℕ) (i : ℕ)
-    → banksText banks padding (i + 1) ≡ banksText banks padding i ++ bankLine i (bankRecord banks i) (getD padding i 0)
+pub banks-next : (banks : Bankdefs) (padding : List Lost) (i : ℕ)
+    → banksText banks padding (i + 1) ≡ banksText banks padding i ++ bankLine i (bankRecord banks i) (getD padding i noLost)
 unfolding banksText
 banks-next banks padding i = rw (add-one i)
 
-pub banks-none : (banks : Bankdefs) (padding : List ℕ) → banksText banks padding 0 ≡ []
+pub banks-none : (banks : Bankdefs) (padding : List Lost) → banksText banks padding 0 ≡ []
 unfolding banksText
 banks-none banks padding = refl
 

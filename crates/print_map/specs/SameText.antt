@@ -8,6 +8,7 @@ use Rattle.refusal.specs.declared.Opt.{Opt}
 use Rattle.refusal.specs.declared.Refusal.{Refusal}
 use Rattle.bankdef.specs.declared.Bankdefs.{Bankdefs}
 use Rattle.iter.specs.Address.{addressOf}
+use Rattle.iter.specs.Step.{noLost}
 use Rattle.lists.specs.Lists.{Row}
 use Rattle.resolver.specs.Once.{Program, bankRecord}
 use Rattle.resolver.specs.Passes.{program, rowOfPass}
@@ -57,7 +58,7 @@ pub record Same (x y : Printed) : Type 0 where
   pub passes : x .map .passes ≡ y .map .passes
   pub banks : bankLines x ≡ bankLines y
   pub bank : (i : ℕ) → i < bankLines x
-      → (bankRecord (x .banks) i ≡ bankRecord (y .banks) i) × (getD (x .map .padding) i 0 ≡ getD (y .map .padding) i 0)
+      → (bankRecord (x .banks) i ≡ bankRecord (y .banks) i) × (getD (x .map .padding) i noLost ≡ getD (y .map .padding) i noLost)
   pub nodes : x .map .nodes ≡ y .map .nodes
   pub node : (i : ℕ) → i < x .map .nodes → SameColumns (columnsOf x i) (columnsOf y i)
   pub address : (i : ℕ) → i < x .map .nodes → addressAt x i ≡ addressAt y i

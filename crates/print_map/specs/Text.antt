@@ -1,9 +1,9 @@
 -- What the map's program prints of a layout file, one record a line:
 --
 --     file FORM LIMIT ROWS PASSES NODES
---     bank I UNIT START SIZE OFFSET ALIGN FILL BIT PADDING     every bank of the table
---     node I KIND BANK POSITION ADDRESS OUTPUT SIZE            every node that has an entry
---     fault N                                                  where there is one
+--     bank I UNIT START SIZE OFFSET ALIGN FILL BIT PADDING UNITS     every bank of the table, with the bits and the whole units that it has lost
+--     node I KIND BANK POSITION ADDRESS OUTPUT SIZE                  every node that has an entry
+--     fault N                                                        where there is one
 --     accepted, or refused NUMBER PLACE
 --
 -- A file whose form is broken is a refusal's line alone.
@@ -25,8 +25,10 @@ use Rattle.bankdef.specs.declared.Bankdef.{Bankdef}
 use Rattle.bankdef.specs.declared.Bankdefs.{Bankdefs}
 use Rattle.blocks.specs.Offsets.{noOffset}
 use Rattle.iter.specs.Address.{addressOf}
+use Rattle.iter.specs.Step.{noLost}
 use Rattle.iter.specs.declared.Address.{Address}
 use Rattle.iter.specs.declared.Address.the-variants.{At, Refused as Untold}
+use Rattle.iter.specs.declared.Lost.{Lost}
 use Rattle.lists.specs.Lists.{Row}
 use Rattle.resolver.specs.Once.{Program, bankRecord}
 use Rattle.resolver.specs.Passes.{program, rowOfPass}
@@ -48,7 +50,7 @@ use Rattle.print_map.specs.Marks.{bitOf}
 
 -- ---- a bank
 
-abbrev pub bankLine : ℕ → Bankdef → ℕ → List ℕ
+abbrev pub bankLine : ℕ → Bankdef → Lost → List ℕ
 bankLine i def padding =
     lineOf (ascii "bank")
     (number i ∷
@@ -59,13 +61,14 @@ bankLine i def padding =
     optional (def .align) ∷
     number (bitOf (def .fill)) ∷
     number (def .«fill_bit») ∷
-    number padding ∷
+    number (padding .bits) ∷
+    number (padding .units) ∷
     [])
 
 -- the first n banks of a table, with what each has lost
-unfoldable pub banksText : Bankdefs → List ℕ → ℕ → List ℕ
+unfoldable pub banksText : Bankdefs → List Lost → ℕ → List ℕ
 banksText banks padding zero = []
-banksText banks padding (suc i) = banksText banks padding i ++ bankLine i (bankRecord banks i) (getD padding i 0)
+banksText banks padding (suc i) = banksText banks padding i ++ bankLine i (bankRecord banks i) (getD padding i noLost)
 
 -- ---- a node
 
@@ -145,7 +148,7 @@ saidIn (Pages bits) b = saidOf bits b
 
 abbrev pub mapAfter : Verdict → Map → Map
 mapAfter Accepted m = m
-mapAfter (Refused why) m = record { verdict = Refused why; passes = 0; nodes = 0; fault = None; padding = replicate maxBanks 0 }
+mapAfter (Refused why) m = record { verdict = Refused why; passes = 0; nodes = 0; fault = None; padding = replicate maxBanks noLost }
 
 abbrev pub mapIn : Opt → Input → Map
 mapIn page b = mapAfter (saidIn page b) (mapOf b)

@@ -12,6 +12,7 @@ use form_build::CELLS;
 use form_build::ROOM;
 use form_fields::Form;
 use form_fields::Shape;
+use iter::Lost;
 use refusal::Opt;
 use refusal::Verdict;
 use resolver::Choices;
@@ -33,13 +34,16 @@ fn after(said: Verdict, map: Map) -> Map
 {
     match said {
         Verdict::Accepted => map,
-        Verdict::Refused(why) => Map {
-            verdict: Verdict::Refused(why),
-            passes: 0,
-            nodes: 0,
-            fault: Fault::None,
-            padding: [0; 16],
-        },
+        Verdict::Refused(why) => {
+            let none = Lost { bits: 0, units: 0 };
+            Map {
+                verdict: Verdict::Refused(why),
+                passes: 0,
+                nodes: 0,
+                fault: Fault::None,
+                padding: [none; 16],
+            }
+        }
     }
 }
 

@@ -4,6 +4,7 @@ use bankdef::Bankdef;
 use bankdef::Bankdefs;
 use build_map::Fault;
 use iter::Address;
+use iter::Lost;
 use print_text::write_word;
 use refusal::Opt;
 use refusal::Place;
@@ -77,10 +78,10 @@ fn word_mark(word: u64) -> u8
     if word == NO_OFFSET { 2 } else { 0 }
 }
 
-fn write_bank(out: &mut [u8], at: usize, i: u64, def: Bankdef, padding: u64) -> usize
-    requires { ⌜ at + 208 ≤ length (now out) ⌝ }
+fn write_bank(out: &mut [u8], at: usize, i: u64, def: Bankdef, padding: Lost) -> usize
+    requires { ⌜ at + 230 ≤ length (now out) ⌝ }
     ensures { λ r. ⌜ Writes (bankLine i def padding) (now (out .entry)) at r (now (out .exit)) ⌝ }
-    ensures { λ r. ⌜ r ≤ at + 208 ⌝ }
+    ensures { λ r. ⌜ r ≤ at + 230 ⌝ }
 {
     let start = def.start;
     let size = def.size;
@@ -97,6 +98,7 @@ fn write_bank(out: &mut [u8], at: usize, i: u64, def: Bankdef, padding: u64) -> 
         0,
         0,
         0,
+        0,
     ];
     let numbers = [
         i,
@@ -107,7 +109,8 @@ fn write_bank(out: &mut [u8], at: usize, i: u64, def: Bankdef, padding: u64) -> 
         value_of(align),
         bit_of(fill),
         def.fill_bit as u64,
-        padding,
+        padding.bits,
+        padding.units,
     ];
     write_line(out, at, b"bank", &marks, &numbers)
 }
@@ -119,10 +122,10 @@ fn shorter(a: u64, b: u64) -> u64
 }
 
 // Every bank of the table, with what it has lost.
-pub fn write_banks(out: &mut [u8], at: usize, banks: Bankdefs, padding: [u64; 16]) -> usize
-    requires { ⌜ at + 3328 ≤ length (now out) ⌝ }
+pub fn write_banks(out: &mut [u8], at: usize, banks: Bankdefs, padding: [Lost; 16]) -> usize
+    requires { ⌜ at + 3680 ≤ length (now out) ⌝ }
     ensures { λ r. ⌜ Writes (banksText banks padding (min (banks .len) maxBanks)) (now (out .entry)) at r (now (out .exit)) ⌝ }
-    ensures { λ r. ⌜ r ≤ at + 3328 ⌝ }
+    ensures { λ r. ⌜ r ≤ at + 3680 ⌝ }
 {
     let count = shorter(banks.len, 16);
     let mut end = at;

@@ -5,6 +5,7 @@ use mathlib.Core.List.{List, _∷_}
 use mathlib.Core.Logic.{_⊎_}
 use Prim.Native.Nat.{ℕ, suc, _/_, _%_, _≤_, _<_}
 use lib.ListN.{getD, take, replicate}
+use Rattle.iter.specs.declared.Lost.{Lost}
 use Rattle.output.specs.Output.{Lent}
 use Rattle.c_answers.specs.declared.DkLayout.{DkLayout}
 use Rattle.says_form.specs.Files.{two, four, eight}
@@ -55,15 +56,28 @@ pub data PagedRisen (bank : List ℕ) (rows fill : ℕ) : (number place second p
 
 -- ---- two builds: the answer of the one-bank file and of the file with a bank 1, and what each leaves of what is lent
 
+-- a bank that has lost nothing
+abbrev pub unpadded : Lost
+unpadded = record { bits = 0; units = 0 }
+
 module _ (Rise : (number place second place′ second′ : ℕ) → Type 0) where
   pub data Answers : DkLayout → DkLayout → Type 0 where
     -- the same K, passes, length of the image and number of spans; "Bank 1 has bank 0's padding, bank 0 none."
-    accepted : {n k bits spans : ℕ} {sums : List ℕ}
+    accepted : {n k bits spans : ℕ} {sums : List Lost}
         → Answers (record { refusal = 0; place = 0; second = 0; passes = n; k = k; length = bits; spans = spans; padding = sums })
-        (record { refusal = 0; place = 0; second = 0; passes = n; k = k; length = bits; spans = spans; padding = 0 ∷ getD sums 0 0 ∷ replicate 14 0 })
+        (record {
+          refusal = 0;
+          place = 0;
+          second = 0;
+          passes = n;
+          k = k;
+          length = bits;
+          spans = spans;
+          padding = unpadded ∷ getD sums 0 unpadded ∷ replicate 14 unpadded;
+        })
     refused : {n number p q p′ q′ : ℕ} → Rise number p q p′ q′
-        → Answers (record { refusal = number; place = p; second = q; passes = n; k = 0; length = 0; spans = 0; padding = replicate 16 0 })
-        (record { refusal = number; place = p′; second = q′; passes = n; k = 0; length = 0; spans = 0; padding = replicate 16 0 })
+        → Answers (record { refusal = number; place = p; second = q; passes = n; k = 0; length = 0; spans = 0; padding = replicate 16 unpadded })
+        (record { refusal = number; place = p′; second = q′; passes = n; k = 0; length = 0; spans = 0; padding = replicate 16 unpadded })
 
   -- "the same image and blocks": of the spans that each build tells, `dk_blocks` answers and leaves the same, whatever is lent for the blocks
   pub record SameBuild (a : DkLayout) (left : Lent) (b : DkLayout) (left′ : Lent) : Type 0 where

@@ -6,7 +6,7 @@ use Prim.Native.Nat.{ℕ, _+_, _*_, _≤_, _<_}
 use lib.IntN.{ℤ, pos, _-ℤ_}
 use lib.ListN.{length, getD, replicate}
 use Rattle.says.specs.Words.{Is}
-use Rattle.says_build.specs.Build.{Given, Lent, Outcome, BuildSays}
+use Rattle.says_build.specs.Build.{Given, Lent, Outcome, losing, BuildSays}
 use Rattle.says_form.specs.Files.{two, four, eight, Held, Form, form-1, form-2, Sound, Broken}
 
 -- "signed start 8": two's complement
@@ -64,7 +64,7 @@ module _ (file : List ℕ) (fill : ℕ) (old : Lent) where
   -- 4 with a field's index; no pass has run, and nothing lent is changed
   abbrev pub brokenAt : ℕ → Outcome
   brokenAt index = record {
-    answer = record { refusal = 4; place = index; second = 0; passes = 0; k = 0; length = 0; spans = 0; padding = replicate 16 0 };
+    answer = record { refusal = 4; place = index; second = 0; passes = 0; k = 0; length = 0; spans = 0; padding = replicate 16 (losing 0 0) };
     lent = old;
   }
 

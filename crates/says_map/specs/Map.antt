@@ -6,10 +6,11 @@ use mathlib.Core.Bool.{Bool, true, false}
 use mathlib.Core.List.{List, []}
 use Prim.Native.Nat.{ℕ, suc, _≤_, _<_}
 use lib.ListN.{length, getD, replicate}
+use Rattle.iter.specs.declared.Lost.{Lost}
 use Rattle.denkumari.specs.declared.maps.DkMap.{DkMap}
 use Rattle.says.specs.Words.{First}
 use Rattle.says_build.specs.Build as build
-use Rattle.says_build.specs.Build.{Given, Not, nodes, kind, Number, BankAt, Sees, Reads, Unresolved, Stops, Stopped, Runs, GoesOn, Last, Refuses, AtNode}
+use Rattle.says_build.specs.Build.{Given, Not, losing, nodes, kind, Number, BankAt, Sees, Reads, Unresolved, Stops, Stopped, Runs, GoesOn, Last, Refuses, AtNode}
 use Rattle.says_build.specs.Build.{OffsetWord}
 use Rattle.says_profile.specs.Profile.{Checks}
 
@@ -47,16 +48,26 @@ module _ (g : Given) where
     before : UpTo i 5 i
     with-it : UpTo i 7 (suc i)
 
-  -- "the sum of bits lost to `align` and to label alignment" by the first c nodes, of banks 0 to 15
-  abbrev pub Sums : ℕ → ℕ → List ℕ → Type 0
-  Sums r c sums = (length sums ≡ 16) × ((b : ℕ) → b < 16 → (p : ℕ) × (k : Bool) × BankAt g r c b p k (getD sums b 0))
+  -- "the sum of bits lost to `align` and to label alignment" by the first c nodes, and of the whole units of each skip, of banks 0 to 15
+  abbrev pub Sums : ℕ → ℕ → List Lost → Type 0
+  Sums r c sums = (length sums ≡ 16) × ((b : ℕ) → b < 16 → (p : ℕ) × (k : Bool) × BankAt g r c b p k (getD sums b (losing 0 0)))
 
   -- ---- with what is lent
   module _ (old : Lent) where
     -- 1 to 4: "Each refusal returns its number and a place and changes nothing lent"; no pass is run and no node is shown
     abbrev pub refusal : (number place second : ℕ) → Outcome
     refusal number place second = record {
-      answer = record { refusal = number; stopped = 0; place = place; second = second; node = noNode; passes = 0; nodes = 0; padding = replicate 16 0 };
+      answer =
+          record {
+            refusal = number;
+            stopped = 0;
+            place = place;
+            second = second;
+            node = noNode;
+            passes = 0;
+            nodes = 0;
+            padding = replicate 16 (losing 0 0);
+          };
       lent = old;
     }
 
@@ -70,7 +81,7 @@ module _ (g : Given) where
 
     -- The map of n passes, over row r: c nodes, and what the layout is refused for, 5 to 13 with its places and the node at fault, or 0.
     pub data Shows (n r c stopped place second node : ℕ) : Outcome → Type 0 where
-      shows : {sums : List ℕ} {new : Lent} → Sums r c sums → Left r c new
+      shows : {sums : List Lost} {new : Lent} → Sums r c sums → Left r c new
           → Shows n r c stopped place second node (record {
             answer =
                 record {

@@ -10,6 +10,7 @@ use Rattle.refusal.specs.declared.Opt.the-variants.{Some}
 use Rattle.refusal.specs.declared.Place.the-variants.{One}
 use Rattle.bankdef.specs.declared.Bankdef.{Bankdef}
 use Rattle.lists.specs.declared.Node.{Node}
+use Rattle.iter.specs.declared.Lost.{Lost}
 use Rattle.iter.specs.declared.Pos.{Pos}
 use Rattle.iter.specs.declared.Skipped.{Skipped}
 use Rattle.iter.specs.declared.Walk.{Walk}
@@ -70,20 +71,24 @@ module _ (def : Bankdef) (walk : Walk) (node : Node) where
     by-align : node .kind ≡ 8 → Loses lead own own
     by-lead : (node .kind ≡ 8 → ⊥) → Loses lead own lead
 
-  -- the sum of bits lost: sums have 64 bits, and end at the largest number of 64 bits (docs/DECISIONS.md)
-  pub data Sum (lost bits : ℕ) : ℕ → Type 0 where
-    fits : lost + bits ≤ 18446744073709551615 → Sum lost bits (lost + bits)
-    full : 18446744073709551615 < lost + bits → Sum lost bits 18446744073709551615
+  -- a sum of what is lost: sums have 64 bits, and end at the largest number of 64 bits (docs/DECISIONS.md)
+  pub data Sum (lost more : ℕ) : ℕ → Type 0 where
+    fits : lost + more ≤ 18446744073709551615 → Sum lost more (lost + more)
+    full : 18446744073709551615 < lost + more → Sum lost more 18446744073709551615
+
+  -- "Everything that uses the distance passes both on": a sum of the bits, and one of the whole units of each skip
+  abbrev pub Sums : Lost → Skipped → Lost → Type 0
+  Sums was s sum = Sum (was .bits) (s .bits) (sum .bits) × Sum (was .units) (s .units) (sum .units)
 
   -- 5: "a position would pass 4,294,967,295"
   pub data Past : Type 0 where
     lead-past : {b p : ℕ} {k : Bool} {s : Skipped} → In b → At (walk .at) b (pos p k) → Lead p s → 4294967295 < p + s .bits → Past
     move-past : {b p q : ℕ} {k : Bool} {s own : Skipped} → In b → At (walk .at) b (pos p k) → Lead p s → Advance (p + s .bits) q own → 4294967295 < q → Past
 
-  -- The node sees its bank's position as well known as it was. Then its bank b has its new position and sum; every other bank keeps its own.
+  -- The node sees its bank's position as well known as it was. Then its bank b has its new position and sums; every other bank keeps its own.
   pub data Made : Outcome → Type 0 where
-    made : {b p q sum lost : ℕ} {k k′ : Bool} {lead own s : Skipped} → In b → At (walk .at) b (pos p k) → At (walk .lost) b lost → Lead p lead
-        → Advance (p + lead .bits) q own → Known k k′ → Loses lead own s → Sum lost (s .bits) sum
+    made : {b p q : ℕ} {k k′ : Bool} {lead own s : Skipped} {sum lost : Lost} → In b → At (walk .at) b (pos p k) → At (walk .lost) b lost → Lead p lead
+        → Advance (p + lead .bits) q own → Known k k′ → Loses lead own s → Sums lost s sum
         → Made (record {
           sees = gives (pos (p + lead .bits) k);
           skipped = s;

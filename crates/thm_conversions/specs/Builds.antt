@@ -1,6 +1,7 @@
 -- Ticket 13 with Ticket 9, of the build in the profile: the same answer but for places, and everything lent the same.
 use mathlib.Core.List.{_∷_}
 use lib.ListN.{getD, replicate}
+use Rattle.iter.specs.Step.{noLost}
 use Rattle.output.specs.Output.{Input}
 use Rattle.output.specs.declared.Build.{Build}
 use Rattle.output.specs.declared.Build.the-variants.{Done, Refused}
@@ -18,7 +19,7 @@ profileBuild b (Refused why) = Refused (raised b (ruleRaised why))
 
 abbrev pub profileOutput : Input → Output → Output
 profileOutput b o =
-    record { build = profileBuild b (o .build); passes = o .passes; padding = 0 ∷ getD (o .padding) 0 0 ∷ replicate 14 0 }
+    record { build = profileBuild b (o .build); passes = o .passes; padding = noLost ∷ getD (o .padding) 0 noLost ∷ replicate 14 noLost }
 
 abbrev pub profileOutcome : Input → Outcome → Outcome
 profileOutcome b o = outcome (profileOutput b (o .answer)) (o .left)

@@ -16,6 +16,7 @@ use Rattle.bankdef.specs.Check.{noBank}
 use Rattle.bankdef.specs.Numbers.{startSound, fillBit, bankFault}
 use Rattle.bankdef.specs.declared.Bankdef.{Bankdef}
 use Rattle.bankdef.specs.declared.Bankdefs.{Bankdefs}
+use Rattle.iter.specs.Step.{noLost}
 use Rattle.lists.specs.Lists.{Lists, rowCountSound, knownFill}
 use Rattle.resolver.specs.Once.{bankRecord}
 use Rattle.resolver.specs.declared.Choices.{Choices}
@@ -130,4 +131,4 @@ raisedBuild b (Refused why) = Refused (raised b why)
 -- "The converted file gives the same image and blocks": the same K, length, spans and passes run. Bank 1 has bank 0's padding, every other bank none.
 abbrev pub raisedOutput : Input → Output → Output
 raisedOutput b o =
-    record { build = raisedBuild b (o .build); passes = o .passes; padding = 0 ∷ getD (o .padding) 0 0 ∷ replicate 14 0 }
+    record { build = raisedBuild b (o .build); passes = o .passes; padding = noLost ∷ getD (o .padding) 0 noLost ∷ replicate 14 noLost }

@@ -4,9 +4,11 @@ use mathlib.Core.List.{List}
 use Prim.Native.Nat.{ℕ, _<_}
 use lib.ListN.{getD}
 use Rattle.refusal.specs.Limits.{maxBanks}
-use Rattle.bitvec.specs.Laws.Lists.{getD-listOf}
+use Rattle.iter.specs.Step.{noLost}
+use Rattle.iter.specs.declared.Lost.{Lost}
 use Rattle.resolver.specs.Padding.{paddingTo}
 use Rattle.resolver.specs.Passes.{rowOfPass}
+use Rattle.build_plan.specs.Laws.Plan.{getD-of-banks}
 use Rattle.output.specs.Output.{passesOf}
 use Rattle.build_map.specs.Map.{reachOf, paddingsTo, mapOf}
 use Rattle.build_map.specs.declared.Map.{Map}
@@ -28,9 +30,10 @@ module _ (c : Call) where
   padding-is =
       subst (λ (m : Map). m .padding ≡ paddingsTo (programIn c) (rowOfPass (c .given .lists) (m .passes)) (m .nodes)) (sym (c .meets .answer)) refl
 
-  -- A bank's figure is the sum of the bits that its `align` nodes and its symbols of depth 0 lose, as far as nodes have entries, refused or not.
+  -- A bank's figures are the sum of the bits that its `align` nodes and its symbols of depth 0 lose, and of the whole units of each skip, as far as nodes have
+  -- entries, refused or not.
   pub padding-is-lost-bits : (bank : ℕ) → bank < maxBanks
-      → getD (c .answer .padding) bank 0 ≡ paddingTo (programIn c) (rowIn c) bank (c .answer .nodes)
+      → getD (c .answer .padding) bank noLost ≡ paddingTo (programIn c) (rowIn c) bank (c .answer .nodes)
   padding-is-lost-bits bank low =
-      ap (λ (l : List ℕ). getD l bank 0) padding-is
-      ∙ getD-listOf maxBanks (λ b. paddingTo (programIn c) (rowIn c) b (c .answer .nodes)) bank low
+      ap (λ (l : List Lost). getD l bank noLost) padding-is
+      ∙ getD-of-banks (λ b. paddingTo (programIn c) (rowIn c) b (c .answer .nodes)) bank low

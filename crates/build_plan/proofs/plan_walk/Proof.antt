@@ -9,6 +9,7 @@ use Rattle.refusal.specs.Laws.Pick.{pick-true, pick-false}
 use Rattle.refusal.specs.Limits.{maxNodes}
 use Rattle.refusal.specs.declared.Refusal.{Refusal}
 use Rattle.refusal.specs.declared.Verdict.the-variants.{Accepted, Refused}
+use Rattle.iter.specs.Laws.Padding.{pace-nothing}
 use Rattle.lists.specs.Lists.{Row}
 use Rattle.resolver.specs.Once.{Program}
 use Rattle.resolver.specs.Walking.{Walks}
@@ -207,13 +208,13 @@ element-copy-out-lost-after : tie.Need-element-copy-out-lost-after Inv-loop μ-l
 element-copy-out-lost-after c = let b = banked (paced (c .before .before .before .before)) in omega (arith, listed b, head b .loop .inv .walks .sums)
 
 lost-after-requires : tie.Need-lost-after-requires Inv-loop μ-loop
-lost-after-requires c κs = search needs
+lost-after-requires c κs = pace-nothing _ _ _ (paced (c .before .before .before .before .before) .pace .ensures)
 
-mul-walk : tie.Need-mul-walk Inv-loop μ-loop
-mul-walk c = omega (arith, listed (banked (paced (c .before .before .before .before .before .before))))
+mul-lost : tie.Need-mul-lost Inv-loop μ-loop
+mul-lost c = omega (arith, listed (banked (paced (c .before .before .before .before .before .before))))
 
-element-write-walk : tie.Need-element-write-walk Inv-loop μ-loop
-element-write-walk c = let b = banked (paced (c .before .before .before .before .before .before)) in omega (arith, listed b, head b .loop .inv .walks .sums)
+element-set-from-lost : tie.Need-element-set-from-lost Inv-loop μ-loop
+element-set-from-lost c = let b = banked (paced (c .before .before .before .before .before .before)) in omega (arith, listed b, head b .loop .inv .walks .sums)
 
 add-i : tie.Need-add-i Inv-loop μ-loop
 add-i c = let b = banked (paced (c .before .before .before .before .before .before)) in omega (arith, b .before .before .loop-test .taken, few (head b))
@@ -282,8 +283,8 @@ plan-walk-spec =
     mul-lost-after
     element-copy-out-lost-after
     lost-after-requires
-    mul-walk
-    element-write-walk
+    mul-lost
+    element-set-from-lost
     add-i
     loop-less
     loop-again

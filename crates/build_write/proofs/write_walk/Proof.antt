@@ -4,6 +4,8 @@ use Prim.Native.Nat.{ℕ, _+_, _-_, _<_}
 use native.Mathlib.Omega.{arith}
 use lib.ListN.{length, length-map, set}
 use borrow.Author.Needs.{needs}
+use Rattle.iter.specs.Laws.Padding.{pace-nothing}
+use Rattle.iter.specs.declared.Lost.{Lost}
 use Rattle.lists.specs.Lists.{Row}
 use Rattle.resolver.specs.Once.{Program}
 use Rattle.resolver.specs.Walking.{Walks}
@@ -153,7 +155,7 @@ next c =
     let g = paced (itemed (c .before .before .before .before .before .before .before .before)) in
     let b = banked g in
     let h = head b in
-    subst (λ (x : ℕ). Walks (given h) (row h) (h .loop .i + 1) (record {
+    subst (λ (x : Lost). Walks (given h) (row h) (h .loop .i + 1) (record {
       at = set (h .loop .walk .at) (b .bank-after .result) (g .pace .result .after);
       lost = set (h .loop .walk .lost) (b .bank-after .result) x;
       bank = b .bank-after .result;
@@ -177,13 +179,13 @@ element-copy-out-lost-after c = let b = banked (paced (itemed (c .before .before
     (arith, listed b, head b .loop .inv .walks .sums)
 
 lost-after-requires : tie.Need-lost-after-requires Inv-loop μ-loop
-lost-after-requires c κs = search needs
+lost-after-requires c κs = pace-nothing _ _ _ (paced (itemed (c .before .before .before .before .before .before .before)) .pace .ensures)
 
-mul-walk : tie.Need-mul-walk Inv-loop μ-loop
-mul-walk c = omega (arith, listed (banked (paced (itemed (spanned c)))))
+mul-lost : tie.Need-mul-lost Inv-loop μ-loop
+mul-lost c = omega (arith, listed (banked (paced (itemed (spanned c)))))
 
-element-write-walk : tie.Need-element-write-walk Inv-loop μ-loop
-element-write-walk c = let b = banked (paced (itemed (spanned c))) in omega (arith, listed b, head b .loop .inv .walks .sums)
+element-set-from-lost : tie.Need-element-set-from-lost Inv-loop μ-loop
+element-set-from-lost c = let b = banked (paced (itemed (spanned c))) in omega (arith, listed b, head b .loop .inv .walks .sums)
 
 add-i : tie.Need-add-i Inv-loop μ-loop
 add-i c = let b = banked (paced (itemed (spanned c))) in omega (arith, b .before .before .loop-test .taken, start (head b) .good)
@@ -265,8 +267,8 @@ write-walk-spec =
     mul-lost-after
     element-copy-out-lost-after
     lost-after-requires
-    mul-walk
-    element-write-walk
+    mul-lost
+    element-set-from-lost
     add-i
     loop-less
     loop-again

@@ -11,6 +11,7 @@ use Rattle.refusal.specs.Pick.{pick}
 use Rattle.refusal.specs.Refusals.{numberOf}
 use Rattle.refusal.specs.declared.Verdict.{Verdict}
 use Rattle.refusal.specs.declared.Verdict.the-variants.{Accepted, Refused}
+use Rattle.iter.specs.declared.Lost.{Lost}
 use Rattle.output.specs.Output.{Input}
 use Rattle.build_map.specs.Map.{Lent, mapOf}
 use Rattle.build_map.specs.Calls.{Call}
@@ -26,7 +27,7 @@ from : (n : ℕ) (t : Bool) → ltb n 5 ≡ t → (pick t 0 n ≡ 0) ⊎ (5 ≤ 
 from n true e = inl refl
 from n false e = inr (ltb-false n 5 e)
 
-module _ (node passes nodes : ℕ) (padding : List ℕ) where
+module _ (node passes nodes : ℕ) (padding : List Lost) where
   told-below : (v : Verdict) → toldBy v node passes nodes padding .refusal < 5
   told-below Accepted = omega arith
   told-below (Refused why) = below (numberOf why) (ltb (numberOf why) 5) refl

@@ -1,5 +1,5 @@
 -- Laws that Theorems/SameText rests on: lines of one word one behind the other, up to a line of another word, tell how many they are and the cells of each.
-use mathlib.Core.Path.{_≡_, refl, sym, ap, _∙_}
+use mathlib.Core.Path.{_≡_, refl, sym, ap, ap₂, _∙_}
 use mathlib.Core.Bool.{Bool, true, false, _&&_}
 use mathlib.Core.List.{List, [], _∷_, _++_, append-nil, append-assoc}
 use Prim.Native.Nat.{ℕ, zero, suc, _<_}
@@ -20,6 +20,8 @@ use Rattle.refusal.specs.declared.Verdict.{Verdict}
 use Rattle.refusal.specs.declared.Verdict.the-variants.{Accepted, Refused}
 use Rattle.bankdef.specs.declared.Bankdef.{Bankdef}
 use Rattle.bankdef.specs.declared.Bankdefs.{Bankdefs}
+use Rattle.iter.specs.Step.{noLost}
+use Rattle.iter.specs.declared.Lost.{Lost}
 use Rattle.resolver.specs.Once.{bankRecord}
 use Rattle.build_map.specs.declared.Fault.{Fault}
 use Rattle.build_map.specs.declared.Fault.the-variants.{None as NoFault, At as AtNode}
@@ -89,7 +91,7 @@ rows-tell word h f g (suc n) (suc k) r s a b e =
 
 -- ---- the banks and the nodes as such lines
 
-abbrev pub bankCells : Bankdefs → List ℕ → ℕ → List Cell
+abbrev pub bankCells : Bankdefs → List Lost → ℕ → List Cell
 bankCells banks padding i =
     number i ∷
     number (bankRecord banks i .unit) ∷
@@ -99,14 +101,15 @@ bankCells banks padding i =
     optional (bankRecord banks i .align) ∷
     number (bitOf (bankRecord banks i .fill)) ∷
     number (bankRecord banks i .«fill_bit») ∷
-    number (getD padding i 0) ∷
+    number (getD padding i noLost .bits) ∷
+    number (getD padding i noLost .units) ∷
     []
 
-pub banks-rows : (banks : Bankdefs) (padding : List ℕ) (n : ℕ) → banksText banks padding n ≡ rowsOf (ascii "bank") (bankCells banks padding) n
+pub banks-rows : (banks : Bankdefs) (padding : List Lost) (n : ℕ) → banksText banks padding n ≡ rowsOf (ascii "bank") (bankCells banks padding) n
 unfolding banksText
 banks-rows banks padding zero = refl
 banks-rows banks padding (suc n) =
-    ap (λ (l : List ℕ). l ++ bankLine n (bankRecord banks n) (getD padding n 0)) (banks-rows banks padding n)
+    ap (λ (l : List ℕ). l ++ bankLine n (bankRecord banks n) (getD padding n noLost)) (banks-rows banks padding n)
     ∙ sym (rows-last (ascii "bank") (bankCells banks padding) n)
 
 pub nodes-rows : (x : Printed) (n : ℕ)
@@ -149,8 +152,8 @@ made : {u u′ : ℕ} {s s′ : ℤ} {z z′ o o′ a a′ : Opt} {f f′ : Bool
     (record { unit = u′; start = s′; size = z′; offset = o′; align = a′; fill = f′; «fill_bit» = b′ })
 made e f g h i j k = rw (e, f, g, h, i, j, k)
 
-pub bank-told : (banks other : Bankdefs) (padding lost : List ℕ) (i : ℕ) → bankCells banks padding i ≡ bankCells other lost i
-    → (bankRecord banks i ≡ bankRecord other i) × (getD padding i 0 ≡ getD lost i 0)
+pub bank-told : (banks other : Bankdefs) (padding lost : List Lost) (i : ℕ) → bankCells banks padding i ≡ bankCells other lost i
+    → (bankRecord banks i ≡ bankRecord other i) × (getD padding i noLost ≡ getD lost i noLost)
 bank-told banks other padding lost i e =
     let x = bankRecord banks i in
     let y = bankRecord other i in
@@ -160,10 +163,12 @@ bank-told banks other padding lost i e =
     let offset : optional (x .offset) ≡ optional (y .offset) = cc in
     let align : optional (x .align) ≡ optional (y .align) = cc in
     let fill : bitOf (x .fill) ≡ bitOf (y .fill) = cc in
-    let bit : x .«fill_bit» ≡ y .«fill_bit» = cc in (
+    let bit : x .«fill_bit» ≡ y .«fill_bit» = cc in
+    let bits : getD padding i noLost .bits ≡ getD lost i noLost .bits = cc in
+    let units : getD padding i noLost .units ≡ getD lost i noLost .units = cc in (
       made unit (signed-told (x .start) (y .start) start) (optional-told (x .size) (y .size) size) (optional-told (x .offset) (y .offset) offset)
           (optional-told (x .align) (y .align) align) (bit-told (x .fill) (y .fill) fill) bit,
-      cc,
+      ap₂ (λ (m n : ℕ). record { bits = m; units = n }) bits units,
     )
 
 -- ---- the node at fault and the verdict, which are the last lines

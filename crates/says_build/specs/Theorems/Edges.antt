@@ -12,16 +12,17 @@ use lib.IntN.{ℤ, pos, natAbs}
 use lib.ListN.{length, getD, replicate, length-replicate, getD-replicate, List·getD-eq-default}
 use Rattle.build_sights.specs.Laws.ItemLaws.{zeros-bit, zeros-bytes}
 use Rattle.sort.specs.Laws.Sorted.{le-or-lt}
+use Rattle.iter.specs.declared.Lost.{Lost}
 use Rattle.says.specs.Words as w
 use Rattle.says.specs.Words.{First}
 use Rattle.says.specs.Banks as bank
 use Rattle.says_build.specs.Build as b
-use Rattle.says_build.specs.Build.{Given, Lent, Outcome, Not, banks, unit, start, flag, fillBit, NoBanks, BadBank, Overlap, nodes, kind}
+use Rattle.says_build.specs.Build.{Given, Lent, Outcome, Not, losing, banks, unit, start, flag, fillBit, NoBanks, BadBank, Overlap, nodes, kind}
 use Rattle.says_build.specs.Build.{operand, BadField}
 use Rattle.says_build.specs.Build.{BadNode, In, Lead, Advance, BankAt, Sees, Reads, Stops, Runs, Unresolved, Last, Offer, Placed, Refuses}
 use Rattle.says_build.specs.Build.{Inherited, Ends, Fill}
 use Rattle.says_build.specs.Build.{Reaches, Length, Spans, Padding, Left, Accepts, Laid, refusal, BuildSays}
-use Rattle.says_build.specs.Laws.One.{in-one}
+use Rattle.says_build.specs.Laws.One.{loses-none, in-one}
 use Rattle.says_build.specs.Theorems.Cases.{BanksPass, refused-1, refused-2, refused-4-field}
 
 -- `count` banks of unit 8 that start at `from`; `size` nodes, `rows` rows
@@ -135,7 +136,7 @@ module _ (count : ℕ) (from : ℤ) (size rows limit fill closed : ℕ) where
   stays {i = i} (b.aligns e n d) = absurd (omega (arith, kind-0 i))
   stays {i = i} (b.sets e n) = absurd (omega (arith, kind-0 i))
 
-  at-0 : {r i c p s : ℕ} {k : Bool} → BankAt g r i c p k s → p ≡ 0
+  at-0 : {r i c p : ℕ} {k : Bool} {s : Lost} → BankAt g r i c p k s → p ≡ 0
   at-0 b.begins = refl
   at-0 (b.keeps x n) = at-0 x
   at-0 (b.moves x h l le a m k o) = omega (arith, at-0 x, lead-0 l, stays a)
@@ -206,18 +207,19 @@ module _ (count : ℕ) (from : ℤ) (size rows limit fill closed : ℕ) where
   in-0 zero = b.first (λ (e : kind g 0 ≡ 1). omega (arith, kind-0 0))
   in-0 (suc i) = b.same (λ (e : kind g (suc i) ≡ 1). omega (arith, kind-0 (suc i))) (in-0 i)
 
-  stands : (r i c : ℕ) → BankAt g r i c 0 true 0
+  stands : (r i c : ℕ) → BankAt g r i c 0 true (losing 0 0)
   stands r zero c = b.begins
   stands r (suc i) zero =
-      b.moves {lead = 0} {l = 0} (stands r i 0) (in-0 i) (b.other (λ s. no-symbol i (s .0))) (omega arith)
-      (b.stays (inl (omega (arith, kind-0 i)))) (omega arith) (b.left (inl (omega (arith, kind-0 i)))) (b.by-lead (λ e. omega (arith, kind-0 i)))
+      subst (BankAt g r (suc i) 0 0 true) (loses-none (unit g 0) (losing 0 0))
+      (b.moves {lead = 0} {l = 0} (stands r i 0) (in-0 i) (b.other (λ s. no-symbol i (s .0))) (omega arith)
+      (b.stays (inl (omega (arith, kind-0 i)))) (omega arith) (b.left (inl (omega (arith, kind-0 i)))) (b.by-lead (λ e. omega (arith, kind-0 i))))
   stands r (suc i) (suc c) = b.keeps (stands r i (suc c)) (λ x. let e = in-one g x (in-0 i) in omega arith)
 
   module _ (old : Lent) where
     -- the outcome of an accepted one, with K and the passes run
     abbrev pub accepted : ℕ → ℕ → Outcome
     accepted k passes = record {
-      answer = record { refusal = 0; place = 0; second = 0; passes = passes; k = k; length = 0; spans = 0; padding = replicate 16 0 };
+      answer = record { refusal = 0; place = 0; second = 0; passes = passes; k = k; length = 0; spans = 0; padding = replicate 16 (losing 0 0) };
       lent = record { image = replicate (length (old .image)) 0; addresses = old .addresses; offsets = old .offsets; sizes = old .sizes };
     }
 
@@ -233,8 +235,11 @@ module _ (count : ℕ) (from : ℤ) (size rows limit fill closed : ℕ) where
           rest = λ at h. (refl, refl, refl);
         }
 
-    padding : (r : ℕ) → Padding g r (replicate 16 0)
-    padding r = (length-replicate {A = ℕ} 16 0, λ c h. (0, true, subst (BankAt g r (nodes g) c 0 true) (sym (zeros 16 c)) (stands r (nodes g) c)))
+    padding : (r : ℕ) → Padding g r (replicate 16 (losing 0 0))
+    padding r = (
+      length-replicate {A = Lost} 16 (losing 0 0),
+      λ c h. (0, true, subst (BankAt g r (nodes g) c 0 true) (sym (getD-replicate 16 c (losing 0 0) (losing 0 0) h)) (stands r (nodes g) c)),
+    )
 
     built : fill ≤ 1 → {k n r : ℕ} → Last g k n → Reads g n r → Laid g old (accepted k n)
     built h {k} {n} {r} last reads =

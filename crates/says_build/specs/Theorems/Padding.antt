@@ -1,14 +1,19 @@
--- Ticket 2, "Padding figures", from the sentences alone: "each bank should carry the sum of bits lost to `align` and to label alignment in the last pass. An
--- `addr` that moves the position is not padding." What one node adds to a bank's sum, and that the answer holds the sums behind the last node.
-use mathlib.Core.Path.{_≡_, refl, sym, ap, subst, _∙_}
+-- Ticket 2, "Padding figures", from the sentences alone: "The distance to alignment should come with the count of whole address units it skips (distance over
+-- unit, rounded down), and each bank should carry the sum of bits lost to `align` and to label alignment in the last pass. An `addr` that moves the position is
+-- not padding. Everything that uses the distance passes both on." What one node adds to a bank's sums, of bits and of whole units, and that the answer holds
+-- the sums behind the last node.
+use mathlib.Core.Path.{_≡_, refl, sym, ap, ap₂, subst, _∙_}
 use mathlib.Core.Bool.{Bool, true, false}
 use mathlib.Core.Logic.{_⊎_, inl, inr, ⊎-elim}
-use Prim.Native.Nat.{ℕ, zero, suc, _+_, _/_, _%_, _≤_, _<_}
+use Prim.Native.Nat.{ℕ, zero, suc, _+_, _*_, _/_, _%_, _≤_, _<_}
+use native.Mathlib.Nat.{add-mul, div-mul-le-self}
 use native.Mathlib.Omega.{arith}
 use lib.ListN.{length, getD}
+use Rattle.iter.specs.declared.Lost.{Lost}
 use Rattle.says_build.specs.Build as b
-use Rattle.says_build.specs.Build.{Given, Lent, Outcome, Not, nodes, kind, operand, flag, In, Lead, Distance, Align, Number, BankAt, Loses}
-use Rattle.says_build.specs.Laws.One.{lead-one, at-one, number-one, distance-one, in-one}
+use Rattle.says_build.specs.Build.{Given, Lent, Outcome, Not, losing, unit, nodes, kind, operand, flag, In, Lead, Distance, Align, Number}
+use Rattle.says_build.specs.Build.{BankAt, Loses}
+use Rattle.says_build.specs.Laws.One.{loses-none, lead-one, at-one, number-one, distance-one, in-one}
 use Rattle.says_build.specs.Theorems.Outcomes.{AcceptedSo}
 
 module _ (g : Given) where
@@ -27,34 +32,40 @@ module _ (g : Given) where
   loses-lead n (b.by-align k m d) = absurd (n k)
   loses-lead n (b.by-lead o) = refl
 
-  -- A bank that a node does not stand in keeps its sum.
-  pub others-lose-nothing : {r i c p q s t : ℕ} {k j : Bool} → BankAt g r i c p k s → BankAt g r (suc i) c q j t → Not (In g i c) → t ≡ s
+  -- sums with one skip more
+  abbrev after : ℕ → Lost → ℕ → Lost
+  after c s d = losing (s .bits + d) (s .units + d / unit g c)
+
+  -- A bank that a node does not stand in keeps its sums.
+  pub others-lose-nothing : {r i c p q : ℕ} {k j : Bool} {s t : Lost} → BankAt g r i c p k s → BankAt g r (suc i) c q j t → Not (In g i c) → t ≡ s
   others-lose-nothing x (b.keeps y n) out = at-one g y x .2
   others-lose-nothing x (b.moves y h l le a m k o) out = absurd (out h)
 
   -- A node that is neither an `align` nor an aligned symbol adds nothing,
-  pub nothing-else-loses : {r i c p q s t : ℕ} {k j : Bool} → Not (kind g i ≡ 8) → Not (AlignedSymbol i c) → BankAt g r i c p k s → BankAt g r (suc i) c q j t
-      → t ≡ s
+  pub nothing-else-loses : {r i c p q : ℕ} {k j : Bool} {s t : Lost} → Not (kind g i ≡ 8) → Not (AlignedSymbol i c) → BankAt g r i c p k s
+      → BankAt g r (suc i) c q j t → t ≡ s
   nothing-else-loses n a x (b.keeps y m) = at-one g y x .2
-  nothing-else-loses n a x (b.moves y h l le v m k o) = omega (arith, at-one g y x .2, loses-lead n o, no-lead a l)
+  nothing-else-loses {c = c} {s = s} n a x (b.moves {s = s′} y h l le v m k o) =
+      ap (after c s′) (loses-lead n o ∙ no-lead a l) ∙ loses-none (unit g c) s′ ∙ at-one g y x .2
 
   -- so "an `addr` that moves the position is not padding",
-  pub addr-is-not-padding : {r i c p q s t : ℕ} {k j : Bool} → kind g i ≡ 9 → BankAt g r i c p k s → BankAt g r (suc i) c q j t → t ≡ s
+  pub addr-is-not-padding : {r i c p q : ℕ} {k j : Bool} {s t : Lost} → kind g i ≡ 9 → BankAt g r i c p k s → BankAt g r (suc i) c q j t → t ≡ s
   addr-is-not-padding e x y = nothing-else-loses (λ k. omega arith) (λ s. ⊎-elim (λ k. omega arith) (λ k. omega arith) (s .0)) x y
 
   -- nor is a reserve, nor an item.
-  pub items-are-not-padding : {r i c p q s t : ℕ} {k j : Bool} → 4 ≤ kind g i → kind g i ≤ 7 → BankAt g r i c p k s → BankAt g r (suc i) c q j t → t ≡ s
+  pub items-are-not-padding : {r i c p q : ℕ} {k j : Bool} {s t : Lost} → 4 ≤ kind g i → kind g i ≤ 7 → BankAt g r i c p k s → BankAt g r (suc i) c q j t
+      → t ≡ s
   items-are-not-padding h l x y = nothing-else-loses (λ k. omega arith) (λ s. ⊎-elim (λ k. omega arith) (λ k. omega arith) (s .0)) x y
 
-  -- An `align` adds its distance, which is also what it moves the position by,
-  pub align-loses-its-distance : {r i c p q s t n d : ℕ} {k j : Bool} → kind g i ≡ 8 → In g i c → BankAt g r i c p k s → BankAt g r (suc i) c q j t
-      → Number g r i n → Distance g c p n d → (t ≡ s + d) × (q ≡ p + d)
+  -- An `align` adds its distance, and the whole units in it; the distance is also what it moves the position by,
+  pub align-loses-its-distance : {r i c p q n d : ℕ} {k j : Bool} {s t : Lost} → kind g i ≡ 8 → In g i c → BankAt g r i c p k s
+      → BankAt g r (suc i) c q j t → Number g r i n → Distance g c p n d → (t ≡ losing (s .bits + d) (s .units + d / unit g c)) × (q ≡ p + d)
   align-loses-its-distance e h x (b.keeps y m) n d = absurd (m h)
-  align-loses-its-distance {r} {i} {c} {p} {q} {s} {t} {n} {d} e h x (b.moves {p = p′} {lead = lead} {l = z} y h′ l le a m k o) num dist =
+  align-loses-its-distance {r} {i} {c} {p} {q} {n} {d} e h x (b.moves {p = p′} {lead = lead} {l = z} y h′ l le a m k o) num dist =
       let same = at-one g y x in
       let none : lead ≡ 0 = align-no-lead e l in
       let seen : p′ + lead ≡ p = omega (arith, same .0) in
-      (omega (arith, same .2, lost (subst (λ (y : ℕ). Loses g r i c lead y z) seen o)), moved (subst (λ (z : ℕ). b.Advance g r i c z q) seen a))
+      (ap₂ (after c) (same .2) (lost (subst (λ (y : ℕ). Loses g r i c lead y z) seen o)), moved (subst (λ (z : ℕ). b.Advance g r i c z q) seen a))
     where
       lost : {lead z : ℕ} → Loses g r i c lead p z → z ≡ d
       lost {lead} {z} (b.by-align {n = n′} k m dist′) =
@@ -70,17 +81,24 @@ module _ (g : Given) where
           omega (arith, distance-one g (subst (λ (y : ℕ). Distance g c p y d′) one dist′) dist)
       moved (b.sets k m) = absurd (omega arith)
 
-  -- an aligned symbol the bits that it skips before it is seen.
-  pub symbol-loses-its-lead : {r i c p q s t a d : ℕ} {k j : Bool} → AlignedSymbol i c → In g i c → BankAt g r i c p k s → BankAt g r (suc i) c q j t
-      → Align g c a → Distance g c p a d → t ≡ s + d
+  -- an aligned symbol the bits that it skips before it is seen, and the whole units in them.
+  pub symbol-loses-its-lead : {r i c p q a d : ℕ} {k j : Bool} {s t : Lost} → AlignedSymbol i c → In g i c → BankAt g r i c p k s
+      → BankAt g r (suc i) c q j t → Align g c a → Distance g c p a d → t ≡ losing (s .bits + d) (s .units + d / unit g c)
   symbol-loses-its-lead sym-i h x (b.keeps y m) al dist = absurd (m h)
-  symbol-loses-its-lead {r} {i} {c} {p} {q} {s} {t} {a} {d} sym-i h x (b.moves {p = p′} {lead = lead} y h′ l le v m k o) al dist =
+  symbol-loses-its-lead {r} {i} {c} {p} {q} {a} {d} sym-i h x (b.moves {p = p′} {lead = lead} y h′ l le v m k o) al dist =
       let same = at-one g y x in
       let is : lead ≡ d = lead-one g (subst (λ (z : ℕ). Lead g i c z lead) (same .0) l) (b.symbol (sym-i .0) (sym-i .1) al dist) in
       let not-align : Not (kind g i ≡ 8) = λ e. ⊎-elim (λ k. omega arith) (λ k. omega arith) (sym-i .0) in
-      omega (arith, same .2, loses-lead not-align o)
+      ap₂ (after c) (same .2) (loses-lead not-align o ∙ is)
+
+  -- The whole units are within the bits: each skip's are rounded down by themselves.
+  pub units-within-bits : {r i c p : ℕ} {k : Bool} {s : Lost} → BankAt g r i c p k s → s .units * unit g c ≤ s .bits
+  units-within-bits b.begins = omega arith
+  units-within-bits (b.keeps x n) = units-within-bits x
+  units-within-bits {c = c} (b.moves {l = l} {s = s} x i d le a m k o) =
+      omega (arith, units-within-bits x, div-mul-le-self l (unit g c), add-mul (s .units) (l / unit g c) (unit g c))
 
   -- The answer of an accepted build has sixteen sums, each bank's behind the last node of the row of the last pass.
-  pub padding-is-the-sum : (old : Lent) (o : Outcome) (a : AcceptedSo g old o) (c p s : ℕ) (k : Bool) → c < 16 → BankAt g (a .row) (nodes g) c p k s
-      → getD (o .answer .padding) c 0 ≡ s
-  padding-is-the-sum old o a c p s k h x = at-one g (a .padding .1 c h .2) x .2
+  pub padding-is-the-sum : (old : Lent) (o : Outcome) (a : AcceptedSo g old o) (c p : ℕ) (k : Bool) (s : Lost) → c < 16 → BankAt g (a .row) (nodes g) c p k s
+      → getD (o .answer .padding) c (losing 0 0) ≡ s
+  padding-is-the-sum old o a c p k s h x = at-one g (a .padding .1 c h .2) x .2

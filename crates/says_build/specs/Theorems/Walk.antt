@@ -7,6 +7,7 @@ use Prim.Native.Nat.{ℕ, zero, suc, _+_, _%_, _≤_, _<_}
 use native.Mathlib.Omega.{arith}
 use lib.ListN.{getD}
 use Rattle.sort.specs.Laws.Sorted.{le-or-lt}
+use Rattle.iter.specs.declared.Lost.{Lost}
 use Rattle.says_build.specs.Build as b
 use Rattle.says_build.specs.Build.{Given, Lent, Outcome, Not, banks, unit, nodes, kind, operand, state, Size, Align, Number, IsWritten, In}
 use Rattle.says_build.specs.Build.{Distance, Lead}
@@ -18,7 +19,7 @@ module _ (g : Given) where
   -- ---- "Adding an item's size to the bank switched to, not the one it stood in."
 
   -- A bank that a node does not stand in is where it was, known as it was.
-  pub other-banks-stay : {r i c p q s t : ℕ} {k j : Bool} → Not (In g i c) → BankAt g r i c p k s → BankAt g r (suc i) c q j t → (q ≡ p) × (j ≡ k)
+  pub other-banks-stay : {r i c p q : ℕ} {k j : Bool} {s t : Lost} → Not (In g i c) → BankAt g r i c p k s → BankAt g r (suc i) c q j t → (q ≡ p) × (j ≡ k)
   other-banks-stay out x (b.keeps y n) = let e = at-one g y x in (e .0, e .1)
   other-banks-stay out x (b.moves y h l le a m k o) = absurd (out h)
 
@@ -27,8 +28,8 @@ module _ (g : Given) where
   no-lead h (b.other n) = refl
 
   -- "4 to 7 add their number" to the bank that they stand in.
-  pub items-advance-their-own-bank : {r i c p q s t n : ℕ} {k j : Bool} → 4 ≤ kind g i → kind g i ≤ 7 → In g i c → Number g r i n → BankAt g r i c p k s
-      → BankAt g r (suc i) c q j t → q ≡ p + n
+  pub items-advance-their-own-bank : {r i c p q n : ℕ} {k j : Bool} {s t : Lost} → 4 ≤ kind g i → kind g i ≤ 7 → In g i c → Number g r i n
+      → BankAt g r i c p k s → BankAt g r (suc i) c q j t → q ≡ p + n
   items-advance-their-own-bank h l in-c num x (b.keeps y m) = absurd (m in-c)
   items-advance-their-own-bank {r} {i} {c} {p} {q} {n = n} h l in-c num x (b.moves {p = p′} {lead = d} y in-d lead le a m k o) =
       let e = at-one g y x in
@@ -36,12 +37,12 @@ module _ (g : Given) where
       omega (arith, e .0, advance-one g a (b.adds h l num))
 
   -- "9 sets the position": to its number, wherever the bank was, and known exactly if its state is 0.
-  pub addr-sets-the-position : {r i c p q s t n : ℕ} {k j : Bool} → kind g i ≡ 9 → In g i c → Number g r i n → BankAt g r i c p k s
+  pub addr-sets-the-position : {r i c p q n : ℕ} {k j : Bool} {s t : Lost} → kind g i ≡ 9 → In g i c → Number g r i n → BankAt g r i c p k s
       → BankAt g r (suc i) c q j t → q ≡ n
   addr-sets-the-position e in-c num x (b.keeps y m) = absurd (m in-c)
   addr-sets-the-position e in-c num x (b.moves y in-d lead le a m k o) = advance-one g a (b.sets e num)
 
-  pub addr-is-known-by-its-state : {r i c p q s t : ℕ} {k : Bool} → kind g i ≡ 9 → In g i c → BankAt g r i c p k s → BankAt g r (suc i) c q true t
+  pub addr-is-known-by-its-state : {r i c p q : ℕ} {k : Bool} {s t : Lost} → kind g i ≡ 9 → In g i c → BankAt g r i c p k s → BankAt g r (suc i) c q true t
       → state g r i ≡ 0
   addr-is-known-by-its-state e in-c x y = by e in-c y
     where
@@ -50,12 +51,12 @@ module _ (g : Given) where
       by-known e (b.kept h l n z) = absurd (omega arith)
       by-known e (b.made k z) = z
 
-      by : {r i c q t : ℕ} → kind g i ≡ 9 → In g i c → BankAt g r (suc i) c q true t → state g r i ≡ 0
+      by : {r i c q : ℕ} {t : Lost} → kind g i ≡ 9 → In g i c → BankAt g r (suc i) c q true t → state g r i ≡ 0
       by e in-c (b.keeps z m) = absurd (m in-c)
       by e in-c (b.moves z in-d lead le a m k o) = by-known e k
 
   -- ---- "Label alignment for labels only; constants of depth 0 move too."
-  pub constants-of-depth-0-move-too : {r i c p a d s : ℕ} {k : Bool} → kind g i ≡ 3 → operand g i ≡ 0 → Align g c a → Distance g c p a d
+  pub constants-of-depth-0-move-too : {r i c p a d : ℕ} {k : Bool} {s : Lost} → kind g i ≡ 3 → operand g i ≡ 0 → Align g c a → Distance g c p a d
       → BankAt g r i c p k s → In g i c → p + d ≤ 4294967295 → Sees g r i c (p + d) k
   constants-of-depth-0-move-too e z al dist x h le = b.sees x h (b.symbol (inr e) z al dist) le
 

@@ -15,6 +15,7 @@ use Rattle.output.specs.declared.Build.{Build}
 use Rattle.c_answers.specs.Told.{buildTold, layoutTold}
 use Rattle.c_answers.specs.declared.DkLayout.{DkLayout}
 use Rattle.denkumari.specs.Forms.{FormTold}
+use Rattle.says_convert.specs.Built.{unpadded}
 
 abbrev pub inForm2 : List ℕ
 inForm2 =
@@ -36,7 +37,7 @@ is-1 = refl
 
 -- 9 with node 0, after one pass,
 pub alone-is-9 : (old : Lent) (r : DkLayout) (new : Lent) → FormTold inForm2 0 None old r new
-    → r ≡ record { refusal = 9; place = 0; second = 0; passes = 1; k = 0; length = 0; spans = 0; padding = replicate 16 0 }
+    → r ≡ record { refusal = 9; place = 0; second = 0; passes = 1; k = 0; length = 0; spans = 0; padding = replicate 16 unpadded }
 alone-is-9 old r new told =
     told .answer ∙ ap (λ (f : List ℕ). layoutTold (fileOutput f 0 None (roomOf old))) is-2 ∙ ap layoutTold (alone-refused-in-form2 (roomOf old))
 

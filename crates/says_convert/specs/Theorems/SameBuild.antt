@@ -21,6 +21,7 @@ use Rattle.refusal.specs.declared.Opt.{Opt}
 use Rattle.refusal.specs.declared.Opt.the-variants.{None, Some}
 use Rattle.refusal.specs.declared.Refusal.{Refusal}
 use Rattle.bankdef.specs.Search.{firstWhere}
+use Rattle.iter.specs.declared.Lost.{Lost}
 use Rattle.bankdef.specs.Laws.Search.{not-before}
 use Rattle.form_fields.specs.Laws.Columns.{column-length}
 use Rattle.form_fields.specs.Banks.{optOf, isSet, bankOf}
@@ -63,7 +64,7 @@ use Rattle.says_bits.specs.Theorems.Blocks.{dk-blocks-decides}
 use Rattle.says_form.specs.Files.{two, four, eight, form-1, form-2, Held, Sound}
 use Rattle.says_form.specs.Laws.Written.{held, contents, sound-contents}
 use Rattle.says_convert.specs.Built as built
-use Rattle.says_convert.specs.Built.{StartPast, Risen, PagedRisen, Answers, SameBuild}
+use Rattle.says_convert.specs.Built.{StartPast, Risen, PagedRisen, unpadded, Answers, SameBuild}
 use Rattle.says_convert.specs.Convert.{ShapeOf}
 use Rattle.says_convert.specs.Laws.Turns.{map-at, of-strays, shape-so, so-shape}
 use Rattle.says_convert.specs.Theorems.Trips.{To2, To1, converted}
@@ -128,8 +129,8 @@ data Changed (Rise : (number place second place′ second′ : ℕ) → Type 0) 
       → Rise (numberOf why) (firstOf (placeOf why)) (secondOf (placeOf why)) (firstOf (placeOf other)) (secondOf (placeOf other))
       → Changed Rise (Refused why) (Refused other)
 
-told-so : (Rise : (number place second place′ second′ : ℕ) → Type 0) (passes : ℕ) (sums : List ℕ) {x y : Build} → Changed Rise x y
-    → Answers Rise (buildTold x passes sums) (buildTold y passes (0 ∷ getD sums 0 0 ∷ replicate 14 0))
+told-so : (Rise : (number place second place′ second′ : ℕ) → Type 0) (passes : ℕ) (sums : List Lost) {x y : Build} → Changed Rise x y
+    → Answers Rise (buildTold x passes sums) (buildTold y passes (unpadded ∷ getD sums 0 unpadded ∷ replicate 14 unpadded))
 told-so Rise passes sums done = built.accepted
 told-so Rise passes sums (turns {why} {other} e h) =
     subst (λ (n : ℕ). Answers Rise (buildTold (Refused why) passes sums) (record {
@@ -140,7 +141,7 @@ told-so Rise passes sums (turns {why} {other} e h) =
       k = 0;
       length = 0;
       spans = 0;
-      padding = replicate 16 0;
+      padding = replicate 16 unpadded;
     })) (sym e) (built.refused h)
 
 -- ---- the layout of a one-bank file

@@ -12,6 +12,7 @@ use Rattle.refusal.specs.declared.Refusal.{Refusal}
 use Rattle.refusal.specs.declared.Refusal.the-variants.{Unresolved as EndedUnresolved}
 use Rattle.refusal.specs.declared.Verdict.{Verdict}
 use Rattle.refusal.specs.declared.Verdict.the-variants.{Refused}
+use Rattle.iter.specs.declared.Lost.{Lost}
 use Rattle.overlap_checker.specs.State.{State}
 use Rattle.overlap_checker.specs.Folds.{stateAfter}
 use Rattle.resolver.specs.Layout.{Checked}
@@ -74,7 +75,7 @@ module _ (g : Given) where
       (tries-all High (λ x. omega arith) y (λ x. absurd x))))) a
 
 -- a layout that is refused for 5 or more is told so
-told-stopped : (why : Refusal) (node : ℕ) → 5 ≤ numberOf why → (n count : ℕ) (lost : List ℕ)
+told-stopped : (why : Refusal) (node : ℕ) → 5 ≤ numberOf why → (n count : ℕ) (lost : List Lost)
     → toldBy (Refused why) node n count lost
     ≡ record {
       refusal = 0;

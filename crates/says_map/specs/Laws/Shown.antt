@@ -11,6 +11,7 @@ use lib.ListN.{length, getD, drop, length-append, length-drop}
 use Rattle.refusal.specs.Laws.Bools.{either, both, clash}
 use Rattle.bitvec.specs.Lists.{listOf}
 use Rattle.bitvec.specs.Laws.Lists.{length-listOf}
+use Rattle.iter.specs.declared.Lost.{Lost}
 use Rattle.lists.specs.Theorems.Sound.{accepted-lists}
 use Rattle.resolver.specs.Layout.{Checked}
 use Rattle.resolver.specs.Padding.{sizeBy}
@@ -56,7 +57,7 @@ module _ (g : Given) (typed : Typed g) (old : Lent) (r : DkMap) (new : Lent) (to
   abbrev pub rowNow : ℕ
   rowNow = min (passesOf b) (g .rows) - 1
 
-  abbrev sums : ℕ → List ℕ
+  abbrev sums : ℕ → List Lost
   sums c = paddingsTo (walked g (table g)) (rowNo g (table g) rowNow) c
 
   pub answer-is : r ≡ toldBy (reachOf b .verdict) (nodeTold (reachOf b .fault)) (passesOf b) (reachOf b .nodes) (sums (reachOf b .nodes))
@@ -176,7 +177,7 @@ module _ (g : Given) (typed : Typed g) (old : Lent) (r : DkMap) (new : Lent) (to
 
     -- The map shows as many nodes as the reach says, with the sums that these lose, whatever it tells of the rest.
     pub shows-of : (x : Reach) → reachOf b ≡ x → (stopped place second node : ℕ)
-        → ((n count : ℕ) (lost : List ℕ)
+        → ((n count : ℕ) (lost : List Lost)
         → toldBy (x .verdict) (nodeTold (x .fault)) n count lost
         ≡ record { refusal = 0; stopped = stopped; place = place; second = second; node = node; passes = n; nodes = count; padding = lost })
         → Shows g old (passesOf b) rowNow (x .nodes) stopped place second node outcome

@@ -10,7 +10,7 @@ use lib.IntN.{ℤ, pos, _+ℤ_}
 use lib.ListN.{getD}
 use Rattle.says.specs.Words as w
 use Rattle.says_build.specs.Build as build
-use Rattle.says_build.specs.Build.{Given, Not, unit, start, nodes, IsSpan, Spans, SpanAt, Extent, AtNode, Laid, BuildSays}
+use Rattle.says_build.specs.Build.{Given, Not, losing, unit, start, nodes, IsSpan, Spans, SpanAt, Extent, AtNode, Laid, BuildSays}
 use Rattle.says_build.specs.Laws.One.{number-one, at-one, sees-one, reads-one, word-one, three}
 use Rattle.says_build.specs.Theorems.Decides.{last-one, early, spans-less, build-decides}
 use Rattle.says_build.specs.Theorems.Outcomes.{AcceptedSo}
@@ -126,11 +126,11 @@ module _ (g : Given) (old : Lent) (lent : build.Lent) where
     built-is-whole = whole-of (cleared g (refusal g old) clear says)
 
     same-padding : (z : Outcome) → Shows g old (y .answer .passes) (a .row) (nodes g) 0 0 0 noNode z → (b : ℕ) → b < 16
-        → getD (z .answer .padding) b 0 ≡ getD (y .answer .padding) b 0
+        → getD (z .answer .padding) b (losing 0 0) ≡ getD (y .answer .padding) b (losing 0 0)
     same-padding z (m.shows s l) b h = at-one g (s .1 b h .2) (a .padding .1 b h .2) .2
 
-    -- Ticket 2: the map tells each bank's padding as the build does.
-    pub padding-as-built : (b : ℕ) → b < 16 → getD (o .answer .padding) b 0 ≡ getD (y .answer .padding) b 0
+    -- Ticket 2: the map tells each bank's padding, bits and whole units, as the build does.
+    pub padding-as-built : (b : ℕ) → b < 16 → getD (o .answer .padding) b (losing 0 0) ≡ getD (y .answer .padding) b (losing 0 0)
     padding-as-built = same-padding o built-is-whole
 
     -- ---- "Spans are labels (size 0) and written items in node order, with address and offset or none"

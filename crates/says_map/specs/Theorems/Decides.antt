@@ -8,8 +8,9 @@ use native.Mathlib.Omega.{arith}
 use lib.Seq.{ext-getD}
 use Rattle.sort.specs.Laws.Sorted.{le-or-lt}
 use Rattle.says.specs.Words.{OneOnly, first-one}
+use Rattle.iter.specs.declared.Lost.{Lost}
 use Rattle.says_build.specs.Build as build
-use Rattle.says_build.specs.Build.{Given, Stopped, Refuses}
+use Rattle.says_build.specs.Build.{Given, losing, Stopped, Refuses}
 use Rattle.says_build.specs.Laws.One.{three, number-one, at-one, sees-one, reads-one, word-one}
 use Rattle.says_build.specs.Theorems.Decides.{stops-one, last-one, early, node-one}
 use Rattle.says_profile.specs.Laws.Tried.{checks-one}
@@ -34,8 +35,8 @@ module _ (g : Given) where
   up-to-one m.with-it m.before e = absurd (omega arith)
   up-to-one m.with-it m.with-it e = refl
 
-  sums-one : {r c : ℕ} (x y : List ℕ) → Sums g r c x → Sums g r c y → x ≡ y
-  sums-one x y p q = ext-getD 0 x y (p .0 ∙ sym (q .0)) (λ i h.
+  sums-one : {r c : ℕ} (x y : List Lost) → Sums g r c x → Sums g r c y → x ≡ y
+  sums-one x y p q = ext-getD (losing 0 0) x y (p .0 ∙ sym (q .0)) (λ i h.
       at-one g (p .1 i (omega (arith, p .0)) .2) (q .1 i (omega (arith, p .0)) .2) .2)
 
   module _ (old : Lent) where

@@ -12,6 +12,8 @@ use Rattle.refusal.specs.declared.Verdict.the-variants.{Accepted, Refused}
 use Rattle.bankdef.specs.Check.{checkOf}
 use Rattle.bankdef.specs.Theorems.Refused.{decided}
 use Rattle.bitvec.specs.Lists.{listOf}
+use Rattle.iter.specs.Step.{noLost}
+use Rattle.iter.specs.declared.Lost.{Lost}
 use Rattle.lists.specs.Lists.{lists, listsOf, Row}
 use Rattle.resolver.specs.Laws.RefusedExactly.{table-number, lists-four}
 use Rattle.resolver.specs.Layout.{Checked, layoutOf}
@@ -56,8 +58,8 @@ Contract g old r new =
     (choicesBy (g .limit) (g .fill) (g .closed)))
     (lentOf old) r (lentOf new)
 
--- no node loses no bits
-no-sums : (p : Program) (row : Row) → paddingsTo p row 0 ≡ replicate 16 0
+-- no node loses nothing
+no-sums : (p : Program) (row : Row) → paddingsTo p row 0 ≡ replicate 16 noLost
 unfolding listOf sumIn
 no-sums p row = refl
 
@@ -91,7 +93,7 @@ module _ (g : Given) (typed : Typed g) (old : Lent) (places : Places old) (r : D
     abbrev row : Row
     row = rowNo g (table g) (rowNow g typed old r new told)
 
-    told-refused : (n : ℕ) (sums : List ℕ) → n ≡ 0 → sums ≡ replicate 16 0
+    told-refused : (n : ℕ) (sums : List Lost) → n ≡ 0 → sums ≡ replicate 16 noLost
         → toldBy (Refused why) (nodeTold None) n 0 sums ≡ refusal g old (numberOf why) (firstOf (placeOf why)) (secondOf (placeOf why)) .answer
     told-refused n sums e f = rw (e, f, lt-ltb (numberOf why) 5 (omega arith))
 

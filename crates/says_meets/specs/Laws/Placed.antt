@@ -12,6 +12,7 @@ use Rattle.refusal.specs.Laws.Bools.{either}
 use Rattle.refusal.specs.Laws.Pick.{pick-true, pick-false}
 use Rattle.refusal.specs.declared.Refusal.{Refusal}
 use Rattle.refusal.specs.declared.Refusal.the-variants.{TooShort}
+use Rattle.iter.specs.declared.Lost.{Lost}
 use Rattle.output.specs.Calls.{Call, closedIn, visitsIn, programIn, rowIn}
 use Rattle.output.specs.Laws.Calls.{padding-is}
 use Rattle.output.specs.Theorems.OffersMade.{refused-where}
@@ -94,7 +95,7 @@ module _ (g : Given) where
     unfolding buildOf
     passes-of = refl
 
-    told-done : (o : Output) (b m : ℕ) (sums : List ℕ) → o .build ≡ Done k b m → o .padding ≡ sums → layoutTold o
+    told-done : (o : Output) (b m : ℕ) (sums : List Lost) → o .build ≡ Done k b m → o .padding ≡ sums → layoutTold o
         ≡ record { refusal = 0; place = 0; second = 0; passes = o .passes; k = k; length = b; spans = m; padding = sums }
     told-done o b m sums e f = rw (e, f)
 

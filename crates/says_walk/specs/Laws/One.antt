@@ -1,5 +1,5 @@
--- What a step's sentences say of each part leaves one: bank, bits skipped, position, known-ness, sum.
-use mathlib.Core.Path.{_≡_, refl, sym, ap, _∙_}
+-- What a step's sentences say of each part leaves one: bank, bits skipped, position, known-ness, sums.
+use mathlib.Core.Path.{_≡_, refl, sym, ap, ap₂, _∙_}
 use mathlib.Core.Bool.{Bool}
 use mathlib.Core.List.{List}
 use mathlib.Core.Logic.{_⊎_, inl, inr}
@@ -8,12 +8,13 @@ use native.Mathlib.Omega.{arith}
 use Rattle.refusal.specs.declared.Opt.the-variants.{Some}
 use Rattle.bankdef.specs.declared.Bankdef.{Bankdef}
 use Rattle.lists.specs.declared.Node.{Node}
+use Rattle.iter.specs.declared.Lost.{Lost}
 use Rattle.iter.specs.declared.Skipped.{Skipped}
 use Rattle.iter.specs.declared.Walk.{Walk}
 use Rattle.says.specs.Laws.Lists.{any-default}
 use Rattle.says.specs.Words.{OneOnly, At}
 use Rattle.says_walk.specs.Step as says
-use Rattle.says_walk.specs.Step.{In, Lead, Advance, Known, Loses, Sum}
+use Rattle.says_walk.specs.Step.{In, Lead, Advance, Known, Loses, Sum, Sums}
 use Rattle.says_walk.specs.Theorems.Distance.{skips-one}
 
 pub at-one : {A : Type 0} (l : List A) (i : ℕ) → OneOnly (At l i)
@@ -91,8 +92,13 @@ module _ (def : Bankdef) (walk : Walk) (node : Node) where
   loses-one lead own s t (says.by-lead n) (says.by-align e) = absurd (n e)
   loses-one lead own s t (says.by-lead n) (says.by-lead m) = refl
 
-  pub sum-one : (lost bits : ℕ) → OneOnly (Sum def walk node lost bits)
-  sum-one lost bits x y (says.fits h) (says.fits k) = refl
-  sum-one lost bits x y (says.fits h) (says.full k) = absurd (omega arith)
-  sum-one lost bits x y (says.full h) (says.fits k) = absurd (omega arith)
-  sum-one lost bits x y (says.full h) (says.full k) = refl
+  sum-one : (lost more : ℕ) → OneOnly (Sum def walk node lost more)
+  sum-one lost more x y (says.fits h) (says.fits k) = refl
+  sum-one lost more x y (says.fits h) (says.full k) = absurd (omega arith)
+  sum-one lost more x y (says.full h) (says.fits k) = absurd (omega arith)
+  sum-one lost more x y (says.full h) (says.full k) = refl
+
+  pub sums-one : (lost : Lost) (s : Skipped) → OneOnly (Sums def walk node lost s)
+  sums-one lost s x y h k =
+      ap₂ (λ (bits units : ℕ). record { bits = bits; units = units }) (sum-one (lost .bits) (s .bits) (x .bits) (y .bits) (h .0) (k .0))
+      (sum-one (lost .units) (s .units) (x .units) (y .units) (h .1) (k .1))

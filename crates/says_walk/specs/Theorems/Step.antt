@@ -20,11 +20,12 @@ use Rattle.iter.specs.Laws.Aligned.{never}
 use Rattle.iter.specs.Distance.{tellable, distanceOf}
 use Rattle.iter.specs.Figures as told
 use Rattle.iter.specs.Figures.{toldMoved, Sees, Keeps, SoundState, Advances, SightSkips, OwnSkips}
-use Rattle.iter.specs.Step.{origin, bankAfter, lostAfter, kept, stepOf}
+use Rattle.iter.specs.Step.{origin, noLost, bankAfter, sumAfter, lostAfter, kept, stepOf}
 use Rattle.iter.specs.StepFigures as fig
 use Rattle.iter.specs.StepFigures.{Steps}
 use Rattle.iter.specs.Theorems.StepFigures.{step-told}
 use Rattle.iter.specs.declared.Distance.the-variants.{Skips as Skipping, Refused as NoDistance}
+use Rattle.iter.specs.declared.Lost.{Lost}
 use Rattle.iter.specs.declared.Moved.{Moved}
 use Rattle.iter.specs.declared.Moved.the-variants.{To}
 use Rattle.lists.specs.declared.Node.{Node}
@@ -36,17 +37,17 @@ use Rattle.says.specs.Laws.Lists.{any-default}
 use Rattle.says.specs.Words.{OneOnly, refused, passed, tries-one, At}
 use Rattle.says_walk.specs.Distance as d
 use Rattle.says_walk.specs.Distance.{NoAddress, Skips}
-use Rattle.says_walk.specs.Laws.One.{at-one, in-one, lead-one, advance-one, known-one, loses-one, sum-one}
+use Rattle.says_walk.specs.Laws.One.{at-one, in-one, lead-one, advance-one, known-one, loses-one, sums-one}
 use Rattle.says_walk.specs.Step as says
-use Rattle.says_walk.specs.Step.{pos, nothing, In, Aligned, Lead, Advance, Known, Loses, Sum, Past, Made, StepSays}
+use Rattle.says_walk.specs.Step.{pos, nothing, In, Aligned, Lead, Advance, Known, Loses, Sum, Sums, Past, Made, StepSays}
 use Rattle.says_walk.specs.Theorems.Distance.{no-address, has-address, distance-meets}
 
 -- ---- they leave one outcome
 
 module _ (def : Bankdef) (walk : Walk) (node : Node) where
   made-one : OneOnly (Made def walk node)
-  made-one y z (says.made {b} {p} {q} {sum} {lost} {k} {k′} {lead} {own} {s} in-b at-b lost-b lead-p adv kn los su)
-      (says.made {b = c} {p = p₂} {q = q₂} {sum = sum₂} {lost = lost₂} {k = k₂} {k′ = k₃} {lead = lead₂} {own = own₂} {s = s₂}
+  made-one y z (says.made {b} {p} {q} {k} {k′} {lead} {own} {s} {sum} {lost} in-b at-b lost-b lead-p adv kn los su)
+      (says.made {b = c} {p = p₂} {q = q₂} {k = k₂} {k′ = k₃} {lead = lead₂} {own = own₂} {s = s₂} {sum = sum₂} {lost = lost₂}
       in-c at-c lost-c lead-c adv-c kn-c los-c su-c) =
       let bank : c ≡ b = in-one def walk node c b in-c in-b in
       let here : pos p₂ k₂ ≡ pos p k = at-one (walk .at) b (pos p₂ k₂) (pos p k) (rw bank at at-c) at-b in
@@ -57,7 +58,7 @@ module _ (def : Bankdef) (walk : Walk) (node : Node) where
       let moves : (q₂ ≡ q) × (own₂ ≡ own) = advance-one def walk node (p + lead .bits) (rw (place, first) at adv-c) adv in
       let after : k₃ ≡ k′ = known-one def walk node k k₃ k′ (rw known at kn-c) kn in
       let loss : s₂ ≡ s = loses-one def walk node lead own s₂ s (rw (first, moves .1) at los-c) los in
-      let total : sum₂ ≡ sum = sum-one def walk node lost (s .bits) sum₂ sum (rw (was, loss) at su-c) su in
+      let total : sum₂ ≡ sum = sums-one def walk node lost s sum₂ sum (rw (was, loss) at su-c) su in
       rw (bank, place, known, first, moves .0, after, loss, total)
 
   pub step-decides : OneOnly (StepSays def walk node)
@@ -111,10 +112,10 @@ module _ (def : Bankdef) (walk : Walk) (node : Node) (held : Held walk node) whe
   here : bank < 16 → At (walk .at) bank (pos (at .position) (at .known))
   here h = let inside : bank < length (walk .at) = omega (arith, held .places) in (inside, any-default (walk .at) bank at origin inside)
 
-  lost-here : bank < 16 → At (walk .lost) bank (getD (walk .lost) bank 0)
+  lost-here : bank < 16 → At (walk .lost) bank (getD (walk .lost) bank noLost)
   lost-here h =
       let inside : bank < length (walk .lost) = omega (arith, held .sums) in
-      (inside, any-default (walk .lost) bank (getD (walk .lost) bank 0) 0 inside)
+      (inside, any-default (walk .lost) bank (getD (walk .lost) bank noLost) noLost inside)
 
   small : bank < 16 → at .position ≤ 4294967295
   small h = held .position bank at (here h)
@@ -287,10 +288,13 @@ module _ (def : Bankdef) (walk : Walk) (node : Node) (held : Held walk node) whe
       let same : x .lead ≡ s = lead-one def walk node (at .position) (x .lead) s (x .is) (sight-lost s p x o refl) in
       subst (Loses def walk node (x .lead) (y .own)) same (says.by-lead n)
 
-  sums : (lost bits : ℕ) → Sum def walk node lost bits (lostAfter lost bits)
-  sums lost bits = either (leb (lost + bits) 18446744073709551615)
-      (λ t. rw t (says.fits (leb-true (lost + bits) 18446744073709551615 t)))
-      (λ f. rw f (says.full (leb-false (lost + bits) 18446744073709551615 f)))
+  sum-of : (lost more : ℕ) → Sum def walk node lost more (sumAfter lost more)
+  sum-of lost more = either (leb (lost + more) 18446744073709551615)
+      (λ t. rw t (says.fits (leb-true (lost + more) 18446744073709551615 t)))
+      (λ f. rw f (says.full (leb-false (lost + more) 18446744073709551615 f)))
+
+  sums : (lost : Lost) (s : Skipped) → Sums def walk node lost s (lostAfter lost s)
+  sums lost s = (sum-of (lost .bits) (s .bits), sum-of (lost .units) (s .units))
 
   -- ---- a position within the limit
   module _ (inside : bank < 16) (p : Pos) (x : Sight p) where
@@ -316,14 +320,14 @@ module _ (def : Bankdef) (walk : Walk) (node : Node) (held : Held walk node) whe
     is-fine sound kind align = record { inside = inside; state = sound; kind = kind; symbol = x .able; align = align }
 
     made-of : (q : Pos) (s : Skipped) → SoundState node → Own p q → fig.Counts def at p q node s
-        → StepSays def walk node (record { sees = gives p; skipped = s; walk = kept walk bank q (s .bits) })
+        → StepSays def walk node (record { sees = gives p; skipped = s; walk = kept walk bank q s })
     made-of q s sound y counts =
         passed (λ _. fine (is-fine sound (y .kind) (y .able))) (passed (λ _. not-past q y)
-        (subst (λ (z : Pos). Made def walk node (record { sees = gives z; skipped = s; walk = kept walk bank q (s .bits) })) (sym (x .sum))
+        (subst (λ (z : Pos). Made def walk node (record { sees = gives z; skipped = s; walk = kept walk bank q s })) (sym (x .sum))
         (says.made {lead = x .lead} {own = y .own} stands (here inside) (lost-here inside) (x .is)
         (subst (λ (z : ℕ). Advance def walk node z (q .position) (y .own)) there (y .is))
         (subst (λ (z : Bool). Known def walk node z (q .known)) (ap (λ (z : Pos). z .known) (x .sum)) (y .known))
-        (loses s p q x y counts) (sums (getD (walk .lost) bank 0) (s .bits)))))
+        (loses s p q x y counts) (sums (getD (walk .lost) bank noLost) s))))
 
     -- its own advance is refused
     stuck-of : SoundState node → {t : Told Pos} → Advances def p node t → (n : ℕ) (place : Place) → t ≡ refuses n place

@@ -9,6 +9,7 @@ use Rattle.refusal.specs.declared.Refusal.{Refusal}
 use Rattle.refusal.specs.declared.Refusal.the-variants.{BankCount, BankNumber, BanksOverlap, Malformed}
 use Rattle.refusal.specs.declared.Refusal.the-variants.{PositionPast, LabelOffBoundary, Unresolved, DefaultBank, PastBank}
 use Rattle.refusal.specs.declared.Refusal.the-variants.{NoOutput, Overlap, StoreFull, TooShort, BadStore, BadPart, PartlyCovered, FillBitDropped, OffProfile}
+use Rattle.iter.specs.Step.{noLost}
 use Rattle.output.specs.Output.{Input, Lent, Room, roomOf, buildOf, Builds}
 use Rattle.output.specs.Output.{Figures, toldBuild}
 use Rattle.output.specs.declared.Build.{Build}
@@ -57,6 +58,6 @@ ordinary b room =
     go (Refused why) h = ap (λ (y : Refusal). Refused (raised b y)) (sym (other-stays why h))
 
     with-build : (o : Output) {x y : Build} → x ≡ y
-        → _≡_ {A = Output} (record { build = x; passes = o .passes; padding = 0 ∷ getD (o .padding) 0 0 ∷ replicate 14 0 })
-        (record { build = y; passes = o .passes; padding = 0 ∷ getD (o .padding) 0 0 ∷ replicate 14 0 })
+        → _≡_ {A = Output} (record { build = x; passes = o .passes; padding = noLost ∷ getD (o .padding) 0 noLost ∷ replicate 14 noLost })
+        (record { build = y; passes = o .passes; padding = noLost ∷ getD (o .padding) 0 noLost ∷ replicate 14 noLost })
     with-build o e = rw e

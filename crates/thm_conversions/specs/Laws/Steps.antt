@@ -14,8 +14,9 @@ use Rattle.refusal.specs.declared.Opt.the-variants.{None, Some}
 use Rattle.refusal.specs.declared.Refusal.the-variants.{Malformed}
 use Rattle.bankdef.specs.declared.Bankdef.{Bankdef}
 use Rattle.iter.specs.Distance.{tellable, addressInBits, distanceTo, distanceOf, noSkip}
-use Rattle.iter.specs.Step.{origin, movedBy, alignedTo, outermostSymbol, labelAligned, labelSkips, seenOf, badState, resolved, movedOn, advancedOf}
+use Rattle.iter.specs.Step.{origin, noLost, movedBy, alignedTo, outermostSymbol, labelAligned, labelSkips, seenOf, badState, resolved, movedOn, advancedOf}
 use Rattle.iter.specs.Step.{skipsBy, whenMade, seenSkips, advanceSkips, lostAfter, bankAfter, stopped, steppedTo, stepSkips, steppedFrom, stepOf}
+use Rattle.iter.specs.declared.Lost.{Lost}
 use Rattle.iter.specs.declared.Moved.{Moved}
 use Rattle.iter.specs.declared.Moved.the-variants.{To, Refused as Stopped}
 use Rattle.lists.specs.declared.Node.{Node}
@@ -31,16 +32,16 @@ shiftedMoved (To p) = To p
 shiftedMoved (Stopped why) = Stopped (shifted why)
 
 -- a walk that has stood in bank 0 alone, and one that has stood in bank 1 alone
-abbrev pub inFirst : Pos → ℕ → Walk
-inFirst at lost = record { at = at ∷ replicate 15 origin; lost = lost ∷ replicate 15 0; bank = 0 }
+abbrev pub inFirst : Pos → Lost → Walk
+inFirst at lost = record { at = at ∷ replicate 15 origin; lost = lost ∷ replicate 15 noLost; bank = 0 }
 
-abbrev pub inSecond : Pos → ℕ → Walk
-inSecond at lost = record { at = origin ∷ at ∷ replicate 14 origin; lost = 0 ∷ lost ∷ replicate 14 0; bank = 1 }
+abbrev pub inSecond : Pos → Lost → Walk
+inSecond at lost = record { at = origin ∷ at ∷ replicate 14 origin; lost = noLost ∷ lost ∷ replicate 14 noLost; bank = 1 }
 
 -- Two steps that go alike: they see the same, or are refused at node and node + 1, and the walks stand alike.
 pub record Alike (s t : Stepped) : Type 0 where
   pub at : Pos
-  pub lost : ℕ
+  pub lost : Lost
   pub first : s .walk ≡ inFirst at lost
   pub second : t .walk ≡ inSecond at lost
   pub seen : t .seen ≡ shiftedMoved (s .seen)
@@ -140,9 +141,9 @@ module _ (n : Node) where
     pub stays-second : bankAfter 1 (up n) ≡ 1
     stays-second = either (eqb (n .kind) 1) (λ e. rw e) (λ e. rw e)
 
-    module _ (def : Bankdef) (at : Pos) (lost : ℕ) where
+    module _ (def : Bankdef) (at : Pos) (lost : Lost) where
       moves : (p : Pos) (s : Skipped) (m : Moved) → Alike (steppedTo (inFirst at lost) 0 p s m) (steppedTo (inSecond at lost) 1 p s (shiftedMoved m))
-      moves p s (To q) = record { at = q; lost = lostAfter lost (s .bits); first = refl; second = refl; seen = refl }
+      moves p s (To q) = record { at = q; lost = lostAfter lost s; first = refl; second = refl; seen = refl }
       moves p s (Stopped why) = record { at = at; lost = lost; first = refl; second = refl; seen = refl }
 
       sees : (m : Moved) → Alike (steppedFrom def (inFirst at lost) 0 n m) (steppedFrom def (inSecond at lost) 1 (up n) (shiftedMoved m))

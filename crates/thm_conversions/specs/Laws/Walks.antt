@@ -9,7 +9,8 @@ use Rattle.refusal.specs.declared.Refusal.{Refusal}
 use Rattle.refusal.specs.declared.Refusal.the-variants.{LabelOffBoundary}
 use Rattle.bankdef.specs.declared.Bankdef.{Bankdef}
 use Rattle.bankdef.specs.declared.Bankdefs.{Bankdefs}
-use Rattle.iter.specs.Step.{origin, startOf, seenOf, movedOn, advancedOf, seenSkips, advanceSkips, bankAfter, stepOf}
+use Rattle.iter.specs.Step.{origin, noLost, startOf, seenOf, movedOn, advancedOf, seenSkips, advanceSkips, bankAfter, stepOf}
+use Rattle.iter.specs.declared.Lost.{Lost}
 use Rattle.iter.specs.declared.Moved.{Moved}
 use Rattle.iter.specs.declared.Moved.the-variants.{To, Refused as Stopped}
 use Rattle.lists.specs.declared.Node.{Node}
@@ -35,7 +36,7 @@ shiftedPass (Refused why) = Refused (shifted why)
 
 -- Two passes under way that go alike.
 pub data Going-alike : Going → Going → Type 0 where
-  both-on : (at : Pos) (lost merged : ℕ) → Going-alike (on (inFirst at lost) merged) (on (inSecond at lost) merged)
+  both-on : (at : Pos) (lost : Lost) (merged : ℕ) → Going-alike (on (inFirst at lost) merged) (on (inSecond at lost) merged)
   both-off : (why : Refusal) → Going-alike (off why) (off (shifted why))
 
 pub closed-alike : {g h : Going} → Going-alike g h → closed h ≡ shiftedPass (closed g)
@@ -64,13 +65,13 @@ module _ (p : Program) (table : Bankdefs) (leads : Leads p table) where
     pub bank-there : bankAfter 1 (node there (zeroed row) (suc i)) ≡ 1
     bank-there = ap (bankAfter 1) (leads .nodes row i) ∙ stays-second (node p row i) (leads .switches i)
 
-    pub record-here : (at : Pos) (lost : ℕ) → bankOf (p .banks) (inFirst at lost) (node p row i) ≡ here
+    pub record-here : (at : Pos) (lost : Lost) → bankOf (p .banks) (inFirst at lost) (node p row i) ≡ here
     record-here at lost = ap (bankRecord (p .banks)) bank-here
 
-    pub record-there : (at : Pos) (lost : ℕ) → bankOf table (inSecond at lost) (node there (zeroed row) (suc i)) ≡ here
+    pub record-there : (at : Pos) (lost : Lost) → bankOf table (inSecond at lost) (node there (zeroed row) (suc i)) ≡ here
     record-there at lost = ap (bankRecord table) bank-there ∙ leads .record-kept
 
-    pub step-at-alike : (at : Pos) (lost : ℕ) → Alike (stepAt p row (inFirst at lost) i) (stepAt there (zeroed row) (inSecond at lost) (suc i))
+    pub step-at-alike : (at : Pos) (lost : Lost) → Alike (stepAt p row (inFirst at lost) i) (stepAt there (zeroed row) (inSecond at lost) (suc i))
     step-at-alike at lost =
         law (record-here at lost) (record-there at lost) (leads .nodes row i) (steps-alike (node p row i) (leads .switches i) here at lost)
       where
@@ -84,30 +85,30 @@ module _ (p : Program) (table : Bankdefs) (leads : Leads p table) where
   -- where both walks stand
   pub record Standing (row : Row) (i : ℕ) : Type 0 where
     pub at : Pos
-    pub lost : ℕ
+    pub lost : Lost
     pub first : walkTo p row i ≡ inFirst at lost
     pub second : walkTo there (zeroed row) (suc i) ≡ inSecond at lost
 
-  begins : (row : Row) → walkTo there (zeroed row) 1 ≡ inSecond origin 0
+  begins : (row : Row) → walkTo there (zeroed row) 1 ≡ inSecond origin noLost
   unfolding walkTo startOf stepOf seenOf movedOn advancedOf seenSkips advanceSkips
   begins row = refl
 
-  starts : (row : Row) → walkTo p row 0 ≡ inFirst origin 0
+  starts : (row : Row) → walkTo p row 0 ≡ inFirst origin noLost
   unfolding walkTo startOf
   starts row = refl
 
-  next : (row : Row) (i : ℕ) (at : Pos) (lost : ℕ) → walkTo p row i ≡ inFirst at lost
+  next : (row : Row) (i : ℕ) (at : Pos) (lost : Lost) → walkTo p row i ≡ inFirst at lost
       → walkTo p row (suc i) ≡ stepAt p row (inFirst at lost) i .walk
   unfolding walkTo
   next row i at lost e = ap (λ (w : Walk). stepAt p row w i .walk) e
 
-  next-there : (row : Row) (i : ℕ) (at : Pos) (lost : ℕ) → walkTo there (zeroed row) (suc i) ≡ inSecond at lost
+  next-there : (row : Row) (i : ℕ) (at : Pos) (lost : Lost) → walkTo there (zeroed row) (suc i) ≡ inSecond at lost
       → walkTo there (zeroed row) (suc (suc i)) ≡ stepAt there (zeroed row) (inSecond at lost) (suc i) .walk
   unfolding walkTo
   next-there row i at lost e = ap (λ (w : Walk). stepAt there (zeroed row) w (suc i) .walk) e
 
   pub standing : (row : Row) (i : ℕ) → Standing row i
-  standing row zero = record { at = origin; lost = 0; first = starts row; second = begins row }
+  standing row zero = record { at = origin; lost = noLost; first = starts row; second = begins row }
   standing row (suc i) =
       let s = standing row i in
       let a = step-at-alike row i (s .at) (s .lost) in
@@ -134,18 +135,18 @@ module _ (p : Program) (table : Bankdefs) (leads : Leads p table) where
   label-alike def now (To q) isFirst = refl
   label-alike def now (Stopped why) isFirst = refl
 
-  pass-starts : (row before : Row) (isFirst isLast : Bool) → passTo p row before isFirst isLast 0 ≡ on (inFirst origin 0) 0
+  pass-starts : (row before : Row) (isFirst isLast : Bool) → passTo p row before isFirst isLast 0 ≡ on (inFirst origin noLost) 0
   unfolding passTo startOf
   pass-starts row before isFirst isLast = refl
 
   -- the switch itself: nothing is merged
-  pass-begins : (row before : Row) (isFirst isLast : Bool) → passTo there (zeroed row) (zeroed before) isFirst isLast 1 ≡ on (inSecond origin 0) 0
+  pass-begins : (row before : Row) (isFirst isLast : Bool) → passTo there (zeroed row) (zeroed before) isFirst isLast 1 ≡ on (inSecond origin noLost) 0
   unfolding passTo startOf stepOf seenOf movedOn advancedOf seenSkips advanceSkips
   pass-begins row before isFirst true = refl
   pass-begins row before isFirst false = refl
 
   module _ (row before : Row) (isFirst isLast : Bool) where
-    met-alike : (n : Node) (earlier seen : Moved) (merged : ℕ) (at : Pos) (lost : ℕ)
+    met-alike : (n : Node) (earlier seen : Moved) (merged : ℕ) (at : Pos) (lost : Lost)
         → Going-alike (goesOn (inFirst at lost) (met here n earlier isFirst isLast merged seen))
         (goesOn (inSecond at lost) (met here (up n) (shiftedMoved earlier) isFirst isLast merged (shiftedMoved seen)))
     met-alike n earlier (Stopped why) merged at lost = both-off why
@@ -167,7 +168,7 @@ module _ (p : Program) (table : Bankdefs) (leads : Leads p table) where
         (record-here row i at lost) (record-there row i at lost) (leads .nodes row i) (a .first) (a .second) (seen-alike before i) (a .seen)
         (met-alike (node p row i) (stepAt p before (walkTo p before i) i .seen) (stepAt p row (inFirst at lost) i .seen) merged (a .at) (a .lost))
       where
-        law : (n : Node) (f x : Moved) {d e : Bankdef} {m : Node} {w v : Walk} {y g : Moved} {q : Pos} {k : ℕ} → d ≡ here → e ≡ here → m ≡ up n
+        law : (n : Node) (f x : Moved) {d e : Bankdef} {m : Node} {w v : Walk} {y g : Moved} {q : Pos} {k : Lost} → d ≡ here → e ≡ here → m ≡ up n
             → w ≡ inFirst q k
             → v ≡ inSecond q k → g ≡ shiftedMoved f → y ≡ shiftedMoved x
             → Going-alike (goesOn (inFirst q k) (met here n f isFirst isLast merged x))
@@ -186,7 +187,7 @@ module _ (p : Program) (table : Bankdefs) (leads : Leads p table) where
 
     pass-alike : (i : ℕ)
         → Going-alike (passTo p row before isFirst isLast i) (passTo there (zeroed row) (zeroed before) isFirst isLast (suc i))
-    pass-alike zero = rw (pass-starts row before isFirst isLast, pass-begins row before isFirst isLast) (both-on origin 0 0)
+    pass-alike zero = rw (pass-starts row before isFirst isLast, pass-begins row before isFirst isLast) (both-on origin noLost 0)
     pass-alike (suc i) = rw (pass-next i, pass-next-there i) (meets-alike i (pass-alike i))
 
     -- The whole pass.

@@ -19,6 +19,8 @@ use Rattle.bankdef.specs.Fill.{fillBy}
 use Rattle.bankdef.specs.Numbers.{fillBit, bankFault}
 use Rattle.bankdef.specs.declared.Bankdef.{Bankdef}
 use Rattle.bankdef.specs.declared.Bankdefs.{Bankdefs}
+use Rattle.iter.specs.Step.{noLost}
+use Rattle.iter.specs.declared.Lost.{Lost}
 use Rattle.resolver.specs.Theorems.LastPass.{accepted-checked}
 use Rattle.resolver.specs.Layout.{unless, layoutOf}
 use Rattle.lists.specs.Lists.{Lists, Row, rowCountSound, knownFill, listsOf}
@@ -150,7 +152,8 @@ module _ (b : Input) (table : Bankdefs) (one : OneBank b) (two : TwoBanks (onlyB
     same-placed : placedAll true (visitsOf w n) ≡ shiftedPlaced (placedAll false (visitsOf b n))
     same-placed = ap (placedAll true) visits-are ∙ placed-shifts sides table led (rowOfPass l n)
 
-    same-paddings : paddingsOf (program table (withSwitch l)) (rowOfPass (withSwitch l) n) ≡ 0 ∷ getD (paddingsOf sides (rowOfPass l n)) 0 0 ∷ replicate 14 0
+    same-paddings : paddingsOf (program table (withSwitch l)) (rowOfPass (withSwitch l) n)
+        ≡ noLost ∷ getD (paddingsOf sides (rowOfPass l n)) 0 noLost ∷ replicate 14 noLost
     same-paddings = law same-program same-row ∙ paddings sides table led (rowOfPass l n)
       where
         law : {p q : Program} {r s : Row} → p ≡ q → r ≡ s → paddingsOf p r ≡ paddingsOf q s
@@ -248,7 +251,7 @@ module _ (b : Input) (table : Bankdefs) (one : OneBank b) (two : TwoBanks (onlyB
             → outputOf (program table (withSwitch l)) (rowOfPass (withSwitch l) n) n (raisedBuild b x) ≡ raisedOutput b (outputOf sides (rowOfPass l n) n x)
         output-alike n (Done k bits spans) = ap (with-padding (Done k bits spans)) (same-paddings some n)
           where
-            with-padding : Build → List ℕ → Output
+            with-padding : Build → List Lost → Output
             with-padding x sums = record { build = x; passes = n; padding = sums }
         output-alike n (Refused why) = refl
 

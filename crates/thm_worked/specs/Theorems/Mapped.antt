@@ -40,8 +40,8 @@ use Rattle.thm_worked.specs.March.{marchFile}
 -- March's file: node 7, the second table, would have been written 64 bits into the first, which node 2 wrote.
 pub march-mapped : mapText marchFile 0 None
     ≡ ascii "file 1 10 1 2 8\n"
-    ++ ascii "bank 0 8 0 - - - 0 0 0\n"
-    ++ ascii "bank 1 8 32768 512 0 - 0 0 0\n"
+    ++ ascii "bank 0 8 0 - - - 0 0 0 0\n"
+    ++ ascii "bank 1 8 32768 512 0 - 0 0 0 0\n"
     ++ ascii "node 0 1 1 0 32768 0 0\n"
     ++ ascii "node 1 2 1 0 32768 0 0\n"
     ++ ascii "node 2 5 1 0 32768 0 128\n"
@@ -62,8 +62,8 @@ march-mapped = refl
 -- document 01's example
 pub worked-mapped : mapText exampleFile 0 None
     ≡ ascii "file 1 10 1 2 5\n"
-    ++ ascii "bank 0 8 0 - - - 0 0 0\n"
-    ++ ascii "bank 1 10 64 40 0 - 1 0 0\n"
+    ++ ascii "bank 0 8 0 - - - 0 0 0 0\n"
+    ++ ascii "bank 1 10 64 40 0 - 1 0 0 0\n"
     ++ ascii "node 0 1 1 0 64 0 0\n"
     ++ ascii "node 1 2 1 0 64 0 0\n"
     ++ ascii "node 2 5 1 0 64 0 10\n"

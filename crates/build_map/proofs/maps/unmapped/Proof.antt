@@ -2,6 +2,7 @@
 use mathlib.Core.Path.{ap}
 use Rattle.refusal.specs.declared.Verdict.{Verdict}
 use lib.ListN.{replicate}
+use Rattle.iter.specs.Step.{noLost}
 use Rattle.build_map.specs.Map.{mapBy}
 use Rattle.build_map.specs.declared.Fault.the-variants.{None}
 use borrow.Author.Needs.{needs}
@@ -12,7 +13,7 @@ verdict-of-requires : tie.Need-verdict-of-requires
 verdict-of-requires c κs = search needs
 
 returns : tie.Need-returns
-returns c = ap (λ (v : Verdict). mapBy 0 (record { verdict = v; nodes = 0; fault = None }) (replicate 16 0)) (c .verdict-of .ensures)
+returns c = ap (λ (v : Verdict). mapBy 0 (record { verdict = v; nodes = 0; fault = None }) (replicate 16 noLost)) (c .verdict-of .ensures)
 
 pub unmapped-spec : {M : Type 1} → statement M
 unmapped-spec = tie.close (tie.spec verdict-of-requires returns)

@@ -4,6 +4,7 @@ use Prim.Native.Nat.{ℕ, _+_, _-_, _*_, _≤_}
 use native.Mathlib.Omega.{arith}
 use lib.ListN.{getD}
 use Rattle.bankdef.specs.declared.Bankdef.{Bankdef}
+use Rattle.iter.specs.Step.{noLost}
 use Rattle.print_text.specs.Puts.{Writes}
 use Rattle.print_map.specs.Text.{bankLine, banksText}
 use Rattle.print_map.proofs.Lines.{banks-none, banks-next, written-as}
@@ -14,7 +15,7 @@ use Rattle.print_map.proofs.records.write_banks.Tie as tie
 
 abbrev Inv-loop : tie.InvT-loop
 Inv-loop out₀ at banks padding count end₀ i₀ out end i =
-    (i ≤ count) × (end ≤ at + 208 * i) × Writes (banksText banks padding i) out₀ at end out
+    (i ≤ count) × (end ≤ at + 230 * i) × Writes (banksText banks padding i) out₀ at end out
 
 abbrev μ-loop : tie.MeasureT-loop
 μ-loop out₀ at banks padding count end₀ i₀ out end i = count - i
@@ -50,7 +51,7 @@ loop-again c =
     let a = start .args in
     let l = at-loop .loop in
     let w = c .before .before .write-bank .ensures in
-    let one = written-as (ap (λ (d : Bankdef). bankLine (l .i) d (getD (a .t4) (l .i) 0)) (at-bank-record .bank-record .ensures)) (w .0) in (
+    let one = written-as (ap (λ (d : Bankdef). bankLine (l .i) d (getD (a .t4) (l .i) noLost)) (at-bank-record .bank-record .ensures)) (w .0) in (
       omega (arith, at-in-loop .loop-test .taken),
       omega (arith, l .inv .1, w .1),
       written-as (sym (banks-next (a .banks) (a .t4) (l .i))) (writes-then (l .inv .2) one),
