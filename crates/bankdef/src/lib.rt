@@ -5,17 +5,19 @@ use refusal::Opt;
 use refusal::Refusal;
 use refusal::Verdict;
 ghost use mathlib.Core.Path.{_≡_};
-ghost use Prim.Native.Nat.{_+_, _≤_, _<_, max};
+ghost use Prim.Native.Nat.{_+_, _≤_, _<_};
+ghost use lib.Dec.{eqb, ltb};
 ghost use lib.IntN.{natAbs};
 ghost use lib.ListN.{take, drop, getD};
 ghost use Rattle.refusal.specs.Limits.{maxBanks, maxOffer};
+ghost use Rattle.refusal.specs.Pick.{pick};
 ghost use Rattle.bankdef.specs.Numbers.{isZero, bankFault};
 ghost use Rattle.bankdef.specs.Overlap.{rangesOverlap, pairOverlaps};
 ghost use Rattle.bankdef.specs.Search.{firstWhere};
 ghost use Rattle.refusal.specs.Told.{toldVerdict};
 ghost use Rattle.bankdef.specs.Check.{firstFault, firstPair, noBank, banksOf, checkOf};
 ghost use Rattle.bankdef.specs.Told.{Checks};
-ghost use Rattle.bankdef.specs.Fill.{filledBy, fillEnd, fillLength, fullLength, fillBy};
+ghost use Rattle.bankdef.specs.Fill.{fillEnd, fillBy};
 
 // A bank: address unit in bits, start address, and, each optional, size in bits, output offset and label alignment; and
 // whether its range is filled, and with which bit (Ticket 6). The types carry document 01's limits, but for a unit of 0 and the
@@ -217,66 +219,38 @@ fn fill_end(b: Bankdef) -> u64
     end(offset, size)
 }
 
-// The image's length after the bank's fill, from `length` before it. The bank's last bit is document 01's h, so its end is h + 1, and
-// `length` is below h where `length + 1` is below the end; that asks for no h where a bank ends at 0.
-fn filled(b: Bankdef, length: u64) -> u64
-    requires { ⌜ length ≤ maxOffer ⌝ }
-    ensures { λ r. ⌜ r ≡ filledBy (b .fill) (b .size) (b .offset) length ⌝ }
+// How far below the end of a filled bank a length stays as it is: by full fill, choice 1, nowhere, and otherwise one bit. The bank's last bit is document
+// 01's h, so its end is h + 1, and a length is below h where the length + 1 is below the end; that asks for no h where a bank ends at 0.
+fn gap_of(choice: u8) -> u64
+    ensures { λ r. ⌜ r ≡ pick (eqb choice 1) 0 1 ⌝ }
+    ensures { λ r. ⌜ r ≤ 1 ⌝ }
+{
+    if choice == 1 { 0 } else { 1 }
+}
+
+// The image's length after the bank's fill, from `length` before it.
+fn filled(b: Bankdef, length: u64, gap: u64) -> u64
+    requires { ⌜ (length ≤ maxOffer) × (gap ≤ 1) ⌝ }
+    ensures { λ r. ⌜ r ≡ pick (ltb (length + gap) (fillEnd b)) (fillEnd b) length ⌝ }
     ensures { λ r. ⌜ r ≤ maxOffer ⌝ }
 {
     let end = fill_end(b);
-    if length + 1 < end { end } else { length }
+    if length + gap < end { end } else { length }
 }
 
-// The length that fill gives an empty image, over the table's first `n` banks in order.
-fn fill_banks(banks: Bankdefs, n: usize) -> u64
-    requires { ⌜ n ≤ maxBanks ⌝ }
-    ensures { λ r. ⌜ r ≡ fillLength (take n (banks .defs)) ⌝ }
-    ensures { λ r. ⌜ r ≤ maxOffer ⌝ }
-{
-    let mut length = 0;
-    for i in 0..n {
-        let b = banks.defs[i];
-        length = filled(b, length);
-    }
-    length
-}
-
-// The larger of `length` and the bank's end, where the bank has fill, size and offset.
-fn reached(b: Bankdef, length: u64) -> u64
-    requires { ⌜ length ≤ maxOffer ⌝ }
-    ensures { λ r. ⌜ r ≡ max length (fillEnd b) ⌝ }
-    ensures { λ r. ⌜ r ≤ maxOffer ⌝ }
-{
-    let end = fill_end(b);
-    if length < end { end } else { length }
-}
-
-// The largest end among the table's first `n` banks.
-fn full_banks(banks: Bankdefs, n: usize) -> u64
-    requires { ⌜ n ≤ maxBanks ⌝ }
-    ensures { λ r. ⌜ r ≡ fullLength (take n (banks .defs)) ⌝ }
-    ensures { λ r. ⌜ r ≤ maxOffer ⌝ }
-{
-    let mut length = 0;
-    for i in 0..n {
-        let b = banks.defs[i];
-        length = reached(b, length);
-    }
-    length
-}
-
-// The fill's length over the table's first `n` banks, by the choice.
+// The length that fill gives an empty image, over the table's first `n` banks in order, by the choice.
 fn fill_chosen(banks: Bankdefs, n: usize, choice: u8) -> u64
     requires { ⌜ n ≤ maxBanks ⌝ }
     ensures { λ r. ⌜ r ≡ fillBy choice (take n (banks .defs)) ⌝ }
     ensures { λ r. ⌜ r ≤ maxOffer ⌝ }
 {
-    if choice == 1 {
-        full_banks(banks, n)
-    } else {
-        fill_banks(banks, n)
+    let gap = gap_of(choice);
+    let mut length = 0;
+    for i in 0..n {
+        let b = banks.defs[i];
+        length = filled(b, length, gap);
     }
+    length
 }
 
 // The length that fill gives an empty image: every bank of the table, bank 0 too; full fill where `choice` is 1, and otherwise inherited

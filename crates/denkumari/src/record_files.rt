@@ -9,7 +9,7 @@ use record_fault::Fault;
 use refusal::Refusal;
 ghost use mathlib.Core.Path.{_≡_};
 ghost use Rattle.record_write.specs.Outcome.{input, answerOf, textAfter};
-ghost use Rattle.record_srec.specs.Writing.{answerSrec, lentSrec};
+ghost use Rattle.record_write.specs.Srec.{answerSrec, lentSrec};
 ghost use Rattle.record_read.specs.Outcome.{lent};
 ghost use Rattle.denkumari.specs.RecordFiles.{WriteTold, readAs, ReadTold, FaultTold};
 
@@ -32,7 +32,7 @@ pub extern "C" fn dk_write_hex(
         r (now (text .exit))
         ⌝ }
 {
-    tell_written(record_ihex::write_ihex(image, offsets, sizes, load, text))
+    tell_written(record_write::write_ihex(image, offsets, sizes, load, text))
 }
 
 // The blocks of an image as S-records from a load address on, with addresses of `width` bytes: 2 or 4.
@@ -52,7 +52,7 @@ pub extern "C" fn dk_write_srec(
         r (now (text .exit))
         ⌝ }
 {
-    tell_written(record_srec::write_srec(image, offsets, sizes, load, width, text))
+    tell_written(record_write::write_srec(image, offsets, sizes, load, width, text))
 }
 
 // A file's bytes and blocks, from a load address on.

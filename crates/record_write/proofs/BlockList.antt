@@ -6,7 +6,7 @@ use Prim.Native.Nat.{ℕ, suc, _+_, _-_, _/_, _≤_, _<_, min}
 use native.Mathlib.Decide.{decLe}
 use native.Mathlib.Numerals.{add-one}
 use native.Mathlib.Omega.{arith}
-use borrow.Author.Tests.{lt-leb, le-leb}
+use borrow.Author.Tests.{le-leb, leb-true}
 use lib.Dec.{leb}
 use lib.ListN.{length, drop, getD, drop-of-length-le}
 use lib.Seq.{drop-cons}
@@ -34,6 +34,18 @@ none-behind : (x : List ℕ) → blocksIn x [] ≡ []
 unfolding blocksIn
 none-behind [] = refl
 none-behind (o ∷ x) = refl
+
+pub and-false : (b : Bool) → (b && false) ≡ false
+and-false true = refl
+and-false false = refl
+
+pub and-true : (b : Bool) → (b && true) ≡ b
+and-true true = refl
+and-true false = refl
+
+-- the order and the addresses, which have 16 bits or 32
+abbrev pub within : Bool → ℕ → List Block → Bool
+within s load l = pick s (allShort load l) true && allPlaced load l
 
 module _ (os ss : List ℕ) (i : ℕ) where
   abbrev pub left : List Block
@@ -68,36 +80,30 @@ module _ (os ss : List ℕ) (i : ℕ) where
       parts-on e = rw (blocks-at, e)
 
     module _ (load : ℕ) where
-      pub order-stop : startsBehind (getD os i 0 + getD ss i 0) behind ≡ false → allPlaced load left ≡ false
+      abbrev end : ℕ
+      end = load + getD os i 0 / 8 + getD ss i 0 / 8
+
+      pub order-stop : (s : Bool) → startsBehind (getD os i 0 + getD ss i 0) behind ≡ false → within s load left ≡ false
       unfolding allPlaced
-      order-stop e = rw (blocks-at, e)
+      order-stop s e = rw (blocks-at, e) (and-false (pick s (allShort load (here ∷ behind)) true))
 
-      pub address-stop : startsBehind (getD os i 0 + getD ss i 0) behind ≡ true → leb (load + getD os i 0 / 8 + getD ss i 0 / 8) 4294967296 ≡ false →
-          allPlaced load left ≡ false
-      unfolding allPlaced
-      address-stop e f = rw (blocks-at, e, f)
+      pub address-stop : (s : Bool) → startsBehind (getD os i 0 + getD ss i 0) behind ≡ true → leb end (pick s 65536 4294967296) ≡ false
+          → within s load left ≡ false
+      unfolding allPlaced allShort
+      address-stop true e f = rw (blocks-at, f)
+      address-stop false e f = rw (blocks-at, e, f)
 
-      pub placed-on : startsBehind (getD os i 0 + getD ss i 0) behind ≡ true → leb (load + getD os i 0 / 8 + getD ss i 0 / 8) 4294967296 ≡ true → allPlaced
-          load left ≡ allPlaced load behind
-      unfolding allPlaced
-      placed-on e f = rw (blocks-at, e, f)
-
-      pub short-stop : leb (load + getD os i 0 / 8 + getD ss i 0 / 8) 65536 ≡ false → allShort load left ≡ false
-      unfolding allShort
-      short-stop e = rw (blocks-at, e)
-
-      pub short-on : leb (load + getD os i 0 / 8 + getD ss i 0 / 8) 65536 ≡ true → allShort load left ≡ allShort load behind
-      unfolding allShort
-      short-on e = rw (blocks-at, e)
+      pub placed-on : (s : Bool) → startsBehind (getD os i 0 + getD ss i 0) behind ≡ true → leb end (pick s 65536 4294967296) ≡ true
+          → within s load left ≡ within s load behind
+      unfolding allPlaced allShort
+      placed-on true e f = rw (blocks-at, e, f, le-leb end 4294967296 (omega (arith, leb-true end 65536 f)))
+      placed-on false e f = rw (blocks-at, e, f)
 
   pub parts-done : (len : ℕ) → min (length os) (length ss) ≤ i → allParts len left ≡ true
   unfolding allParts
   parts-done len h = rw (blocks-none h)
 
-  pub placed-done : (load : ℕ) → min (length os) (length ss) ≤ i → allPlaced load left ≡ true
-  unfolding allPlaced
-  placed-done load h = rw (blocks-none h)
-
-  pub short-done : (load : ℕ) → min (length os) (length ss) ≤ i → allShort load left ≡ true
-  unfolding allShort
-  short-done load h = rw (blocks-none h)
+  pub placed-done : (load : ℕ) (s : Bool) → min (length os) (length ss) ≤ i → within s load left ≡ true
+  unfolding allPlaced allShort
+  placed-done load true h = rw (blocks-none h)
+  placed-done load false h = rw (blocks-none h)

@@ -1,14 +1,17 @@
 -- A text that is written piece by piece: what the private steps of the crate owe each other.
 use mathlib.Core.Path.{_≡_}
-use mathlib.Core.Bool.{true}
+use mathlib.Core.Bool.{Bool, true, _&&_}
 use mathlib.Core.List.{List, [], _∷_, _++_}
 use Prim.Native.Nat.{ℕ, _+_}
+use lib.Dec.{eqb}
 use lib.ListN.{length}
+use Rattle.refusal.specs.Pick.{pick}
+use Rattle.blocks.specs.declared.Block.{Block}
 use Rattle.record_lines.specs.Digits.{bytesText}
 use Rattle.record_lines.specs.Pieces.{piece}
 use Rattle.record_lines.specs.Puts.{Puts}
 use Rattle.record_write.specs.Text.{textBy, linesFrom, stateFrom}
-use Rattle.record_write.specs.Checks.{allParts, allPlaced}
+use Rattle.record_write.specs.Checks.{allParts, allPlaced, fitsWidth}
 use Rattle.record_write.specs.Cut.{cut, blocksIn}
 use Rattle.record_write.specs.declared.Place.{Place}
 
@@ -40,6 +43,13 @@ pub record BlockRoom (format address count : ℕ) (p r : Place) : Type 0 where
 -- A line behind its head: its bytes, the check byte and LF.
 abbrev pub tailText : List ℕ → ℕ → List ℕ
 tailText bytes check = (bytesText bytes ++ bytesText (check ∷ [])) ++ (10 ∷ [])
+
+-- Where the addresses of a format end; and what is tested of all blocks in one walk.
+abbrev pub limitOf : ℕ → ℕ
+limitOf format = pick (eqb format 2) 65536 4294967296
+
+abbrev pub placedIn : ℕ → ℕ → List Block → Bool
+placedIn format load blocks = fitsWidth format load blocks && allPlaced load blocks
 
 -- What is known of the blocks when they are written.
 pub record Ready (image offsets sizes : List ℕ) (load : ℕ) : Type 0 where

@@ -1,8 +1,9 @@
+pub mod Answered
 pub mod Bytes
 pub mod Cut
 pub mod Exactly
-pub mod Outcome
 pub mod Rising
 pub mod Said
 pub mod Shape
 pub mod Text
+pub mod Width

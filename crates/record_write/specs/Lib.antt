@@ -3,8 +3,10 @@ pub mod Checks
 pub mod Cut
 pub mod Exactly
 pub mod Going
+pub mod Hex
 pub mod Outcome
 pub mod Shape
+pub mod Srec
 pub mod Text
 pub mod Theorems
 pub mod Laws

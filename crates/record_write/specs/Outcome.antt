@@ -26,6 +26,10 @@ pub record Input : Type 0 where
 abbrev pub input : ℕ → List ℕ → List ℕ → List ℕ → ℕ → Input
 input format image offsets sizes load = record { format = format; image = image; offsets = offsets; sizes = sizes; load = load }
 
+-- 16: "a part of an image is empty, outside it, or not on byte edges".
+abbrev pub partsOk : List ℕ → List ℕ → List ℕ → Bool
+partsOk image offsets sizes = allParts (length image) (blocksIn offsets sizes)
+
 -- 4 is not given: the format is known, the addresses fit its width, the lists are as long as each other, the blocks are in order, and their addresses have
 -- 32 bits.
 abbrev pub sound : Input → Bool
@@ -43,15 +47,14 @@ PutsText i old count new = Puts (text i) old count new
 -- 16, then 4, then 14, whose place is 3 for text.
 abbrev pub answerOf : Input → List ℕ → Written
 answerOf i old =
-    pick (allParts (length (i .image)) (blocksIn (i .offsets) (i .sizes)))
+    pick (partsOk (i .image) (i .offsets) (i .sizes))
     (pick (sound i) (pick (leb (length (text i)) (length old)) (Length (length (text i))) (Refused (TooShort 3))) (Refused (Malformed 0)))
     (Refused BadPart)
 
 -- Accepted, the text stands at the front and what is behind it stays; refused, all stays.
 abbrev pub textAfter : Input → List ℕ → List ℕ
 textAfter i old =
-    pick (allParts (length (i .image)) (blocksIn (i .offsets) (i .sizes)) && sound i && leb (length (text i)) (length old))
-    (text i ++ drop (length (text i)) old) old
+    pick (partsOk (i .image) (i .offsets) (i .sizes) && sound i && leb (length (text i)) (length old)) (text i ++ drop (length (text i)) old) old
 
 -- In document 01's figures.
 abbrev pub toldWritten : Written → Told ℕ

@@ -1,6 +1,10 @@
 pub mod Bytes
 pub mod Cut
 pub mod Exactly
+pub mod HexFile
+pub mod Refusals
 pub mod Rising
 pub mod Said
 pub mod Shape
+pub mod SrecFile
+pub mod Width

@@ -10,10 +10,12 @@ ghost use lib.Dec.{leb, eqb};
 ghost use lib.ListN.{length, take, drop};
 ghost use Rattle.record_write.specs.Cut.{pieceLength, cut, blocksIn};
 ghost use Rattle.record_write.specs.Text.{known, linesFrom, endBy, textOf};
-ghost use Rattle.record_write.specs.Checks.{allParts, endsFree, allPlaced, allShort, fitsWidth};
+ghost use Rattle.record_write.specs.Checks.{allParts, endsFree};
 ghost use Rattle.record_write.specs.Outcome.{input, sound, text, PutsText, Writes};
 ghost use Rattle.bitvec.specs.Part.{isPart};
-ghost use Rattle.record_write.specs.Going.{BlockWritten, PieceRoom, BlockRoom, Ready};
+ghost use Rattle.record_write.specs.Going.{BlockWritten, PieceRoom, BlockRoom, Ready, limitOf, placedIn};
+ghost use Rattle.record_write.specs.Hex.{WritesHex};
+ghost use Rattle.record_write.specs.Srec.{formatFor, WritesSrec};
 
 // What writing answers: the length of the text, or why there is none.
 pub enum Written {
@@ -188,61 +190,40 @@ fn ends_free(offsets: &[u64], sizes: &[u64], i: usize) -> bool
     ends_before(offsets[i], sizes[i], offsets[next])
 }
 
-// Whether a block's last byte has an address below 2^32.
-fn has_address(load: u32, offset: u64, size: u64) -> bool
-    ensures { λ r. ⌜ r ≡ leb (load + offset / 8 + size / 8) 4294967296 ⌝ }
+// Where the addresses of a format end: in format 2 they have 16 bits, in the others 32.
+fn limit_of(format: u8) -> u64
+    ensures { λ r. ⌜ r ≡ limitOf format ⌝ }
 {
-    load as u64 + offset / 8 + size / 8 <= 4_294_967_296
+    if format == 2 {
+        return 65_536;
+    }
+    4_294_967_296
 }
 
-// Whether the blocks ascend, share no bit and have addresses.
-fn all_placed(offsets: &[u64], sizes: &[u64], load: u32) -> bool
-    requires { ⌜ length (now offsets) ≡ length (now sizes) ⌝ }
-    ensures { λ r. ⌜ r ≡ allPlaced load (blocksIn (now (offsets .entry)) (now (sizes .entry))) ⌝ }
+// Whether a block's last byte has an address below a limit.
+fn has_address(load: u32, offset: u64, size: u64, limit: u64) -> bool
+    ensures { λ r. ⌜ r ≡ leb (load + offset / 8 + size / 8) limit ⌝ }
 {
+    load as u64 + offset / 8 + size / 8 <= limit
+}
+
+// Whether the blocks ascend, share no bit and have addresses of a format.
+fn all_placed(format: u8, offsets: &[u64], sizes: &[u64], load: u32) -> bool
+    requires { ⌜ length (now offsets) ≡ length (now sizes) ⌝ }
+    ensures { λ r. ⌜ r ≡ placedIn format load (blocksIn (now (offsets .entry)) (now (sizes .entry))) ⌝ }
+{
+    let limit = limit_of(format);
     let mut i = 0;
     while i < offsets.len() {
         if !ends_free(offsets, sizes, i) {
             return false;
         }
-        if !has_address(load, offsets[i], sizes[i]) {
+        if !has_address(load, offsets[i], sizes[i], limit) {
             return false;
         }
         i += 1;
     }
     true
-}
-
-// Whether a block's last byte has an address of 16 bits.
-fn has_short(load: u32, offset: u64, size: u64) -> bool
-    ensures { λ r. ⌜ r ≡ leb (load + offset / 8 + size / 8) 65536 ⌝ }
-{
-    load as u64 + offset / 8 + size / 8 <= 65_536
-}
-
-// Whether the last byte of every block has.
-fn all_short(offsets: &[u64], sizes: &[u64], load: u32) -> bool
-    ensures { λ r. ⌜ r ≡ allShort load (blocksIn (now (offsets .entry)) (now (sizes .entry))) ⌝ }
-{
-    let count = least(offsets.len(), sizes.len());
-    let mut i = 0;
-    while i < count {
-        if !has_short(load, offsets[i], sizes[i]) {
-            return false;
-        }
-        i += 1;
-    }
-    true
-}
-
-// Whether no address is past the width of a format.
-fn fits_width(format: u8, offsets: &[u64], sizes: &[u64], load: u32) -> bool
-    ensures { λ r. ⌜ r ≡ fitsWidth format load (blocksIn (now (offsets .entry)) (now (sizes .entry))) ⌝ }
-{
-    if format != 2 {
-        return true;
-    }
-    all_short(offsets, sizes, load)
 }
 
 // Whether a format is known: 0 is Intel HEX, 2 and 4 are S-records of that width.
@@ -265,13 +246,10 @@ fn is_sound(format: u8, image: &[u8], offsets: &[u64], sizes: &[u64], load: u32)
     if !is_known(format) {
         return false;
     }
-    if !fits_width(format, offsets, sizes, load) {
-        return false;
-    }
     if offsets.len() != sizes.len() {
         return false;
     }
-    all_placed(offsets, sizes, load)
+    all_placed(format, offsets, sizes, load)
 }
 
 // The text of all blocks and the end record, where there is room for it.
@@ -325,4 +303,43 @@ pub fn write(
     }
     write_blocks(format, image, offsets, sizes, load, text);
     Written::Length(length as u64)
+}
+
+// Intel HEX (Ticket 1): the blocks of an image, lent as offsets and sizes in bits, as the text that the flash station takes, from a load address on: its
+// length, and it stands at the front of the lent text; or 16, then 4, then 14 with place 3, and the lent text as it was.
+pub fn write_ihex(
+    image: &[u8],
+    offsets: &[u64],
+    sizes: &[u64],
+    load: u32,
+    text: &mut [u8],
+) -> Written
+    ensures { λ r. ⌜ WritesHex (now (image .entry)) (now (offsets .entry)) (now (sizes .entry)) load (now (text .entry)) r (now (text .exit)) ⌝ }
+{
+    write(0, image, offsets, sizes, load, text)
+}
+
+// The format of a width: its number. (0 is the number of Intel HEX and no width; 1 is no format.)
+fn format_for(width: u8) -> u8
+    ensures { λ r. ⌜ r ≡ formatFor width ⌝ }
+{
+    if width == 0 {
+        return 1;
+    }
+    width
+}
+
+// Motorola S-records (Ticket 12), in the same way, for programmers that take them: S1 and S9 for width 2, S3 and S7 for width 4.
+pub fn write_srec(
+    image: &[u8],
+    offsets: &[u64],
+    sizes: &[u64],
+    load: u32,
+    width: u8,
+    text: &mut [u8],
+) -> Written
+    ensures { λ r. ⌜ WritesSrec (now (image .entry)) (now (offsets .entry)) (now (sizes .entry)) load width (now (text .entry)) r (now (text .exit)) ⌝ }
+{
+    let format = format_for(width);
+    write(format, image, offsets, sizes, load, text)
 }

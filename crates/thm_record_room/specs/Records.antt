@@ -10,7 +10,7 @@ use Rattle.refusal.specs.declared.Refusal.{Refusal}
 use Rattle.refusal.specs.declared.Refusal.the-variants.{Malformed, BadPart}
 use Rattle.blocks.specs.declared.Block.{Block}
 use Rattle.prog_args.specs.Text.{Stands}
-use Rattle.record_srec.specs.Writing.{widthOk}
+use Rattle.record_write.specs.Srec.{widthOk}
 use Rattle.record_write.specs.Checks.{allParts, allPlaced}
 use Rattle.record_write.specs.Text.{textOf}
 use Rattle.record_write.specs.declared.Written.{Written}

@@ -35,11 +35,11 @@ use Rattle.print_report.specs.Report.{lentRoom}
 use Rattle.print_answer.specs.Answer.{imageRoom}
 use Rattle.print_text.specs.Lines.{refusalText}
 use Rattle.record_fault.specs.Reading.{sound, readText}
-use Rattle.record_ihex.specs.Theorems.File as hex-file
+use Rattle.record_write.specs.Theorems.HexFile as hex-file
 use Rattle.record_lines.specs.Pieces.{GivesAt}
-use Rattle.record_srec.specs.Theorems.Exactly.{width-exactly}
-use Rattle.record_srec.specs.Theorems.File as srec-file
-use Rattle.record_srec.specs.Writing.{widthOk}
+use Rattle.record_write.specs.Theorems.Width.{width-exactly}
+use Rattle.record_write.specs.Theorems.SrecFile as srec-file
+use Rattle.record_write.specs.Srec.{widthOk}
 use Rattle.record_write.specs.Bytes.{Covers}
 use Rattle.record_write.specs.Checks.{allParts, allPlaced}
 use Rattle.record_write.specs.Cut.{blocksIn, piecesOf}

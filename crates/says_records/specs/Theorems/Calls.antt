@@ -7,7 +7,7 @@ use lib.ListN.{take}
 use Rattle.bitvec.specs.Bits.{Bytes}
 use Rattle.sort.specs.Agree.{All}
 use Rattle.record_write.specs.Outcome.{input, answerOf, textAfter}
-use Rattle.record_srec.specs.Writing.{answerSrec, lentSrec}
+use Rattle.record_write.specs.Srec.{answerSrec, lentSrec}
 use Rattle.record_read.specs.Outcome.{lent}
 use Rattle.c_answers.specs.declared.DkCount.{DkCount}
 use Rattle.c_answers.specs.declared.DkFault.{DkFault}

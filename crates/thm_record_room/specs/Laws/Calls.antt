@@ -8,21 +8,20 @@ use borrow.Author.Tests.{le-leb}
 use lib.Dec.{leb, eqb}
 use lib.ListN.{length}
 use Rattle.refusal.specs.Laws.Bools.{both, clash}
-use Rattle.refusal.specs.Pick.{pick}
-use Rattle.refusal.specs.Told.{gives, refuses, toldNumber}
-use Rattle.refusal.specs.declared.Place.the-variants.{One}
+use Rattle.refusal.specs.Told.{toldNumber}
 use Rattle.record_write.specs.Checks.{allParts, allPlaced}
 use Rattle.record_write.specs.Cut.{blocksIn}
+use Rattle.record_write.specs.Exactly.{answers}
+use Rattle.record_write.specs.Outcome.{partsOk}
 use Rattle.record_write.specs.Text.{textOf}
 use Rattle.record_write.specs.declared.Written.{Written}
-use Rattle.record_ihex.specs.Writing as hex
-use Rattle.record_ihex.specs.Writing.{WritesHex}
-use Rattle.record_srec.specs.Writing as srec
-use Rattle.record_srec.specs.Writing.{WritesSrec, widthOk}
+use Rattle.record_write.specs.Hex as hex
+use Rattle.record_write.specs.Hex.{WritesHex}
+use Rattle.record_write.specs.Srec as srec
+use Rattle.record_write.specs.Srec.{WritesSrec, widthOk}
 use Rattle.thm_record_room.specs.Calls.{NotShort}
 
-never-14 : (parts places fits : Bool) (n : ℕ) → (parts ≡ true → places ≡ true → fits ≡ true)
-    → toldNumber (pick parts (pick places (pick fits (gives n) (refuses 14 (One 3))) (refuses 4 (One 0))) (refuses 16 (One 0))) ≡ 14 → ⊥
+never-14 : (parts places fits : Bool) (n : ℕ) → (parts ≡ true → places ≡ true → fits ≡ true) → toldNumber (answers parts places fits n) ≡ 14 → ⊥
 never-14 true true true n h e = omega arith
 never-14 true true false n h e = clash (h refl refl) refl
 never-14 true false fits n h e = omega arith
@@ -39,7 +38,7 @@ module _ (image offsets sizes : List ℕ) (load : ℕ) (old : List ℕ)
     → length (textOf format load image (blocksIn offsets sizes)) ≤ length old) where
   pub hex-fits : {r : Written} {new : List ℕ} → WritesHex image offsets sizes load old r new → NotShort r
   hex-fits w e =
-      never-14 (hex.partsOk image offsets sizes) (hex.placesOk offsets sizes load) (leb (length (hex.hexOf image offsets sizes load)) (length old))
+      never-14 (partsOk image offsets sizes) (hex.placesOk offsets sizes load) (leb (length (hex.hexOf image offsets sizes load)) (length old))
       (length (hex.hexOf image offsets sizes load))
       (λ p q. le-leb (length (hex.hexOf image offsets sizes load)) (length old)
       (fit 0 p (both (eqb (length offsets) (length sizes)) (allPlaced load (blocksIn offsets sizes)) q .1)))
@@ -47,7 +46,7 @@ module _ (image offsets sizes : List ℕ) (load : ℕ) (old : List ℕ)
 
   pub srec-fits : {width : ℕ} {r : Written} {new : List ℕ} → WritesSrec image offsets sizes load width old r new → NotShort r
   srec-fits {width} w e =
-      never-14 (srec.partsOk image offsets sizes) (srec.placesOk offsets sizes load width) (srec.fitsIn image offsets sizes load width old)
+      never-14 (partsOk image offsets sizes) (srec.placesOk offsets sizes load width) (srec.fitsIn image offsets sizes load width old)
       (length (srec.srecOf image offsets sizes load width))
       (λ p q. le-leb (length (srec.srecOf image offsets sizes load width)) (length old)
       (fit width p

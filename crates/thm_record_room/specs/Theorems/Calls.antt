@@ -10,8 +10,8 @@ use Rattle.record_write.specs.Checks.{allParts, allPlaced}
 use Rattle.record_write.specs.Cut.{blocksIn}
 use Rattle.record_write.specs.Text.{textOf}
 use Rattle.record_write.specs.declared.Written.{Written}
-use Rattle.record_ihex.specs.Writing.{WritesHex}
-use Rattle.record_srec.specs.Writing.{WritesSrec}
+use Rattle.record_write.specs.Hex.{WritesHex}
+use Rattle.record_write.specs.Srec.{WritesSrec}
 use Rattle.thm_record_room.specs.Theorems.Room.{station-files-fit, turned-files-fit}
 use Rattle.thm_record_room.specs.Calls.{NotShort}
 use Rattle.thm_record_room.specs.Laws.Calls.{blocks-in, hex-fits, srec-fits}

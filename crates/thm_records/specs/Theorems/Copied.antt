@@ -38,7 +38,7 @@ use Rattle.record_write.specs.Exactly.{AllParts, WellPlaced}
 use Rattle.record_write.specs.Theorems.Exactly.{parts-exactly, placed-exactly}
 use Rattle.record_write.specs.Outcome.{toldWritten}
 use Rattle.record_write.specs.declared.Written.{Written}
-use Rattle.record_ihex.specs.Writing.{WritesHex}
+use Rattle.record_write.specs.Hex.{WritesHex}
 use Rattle.thm_records.specs.Laws.Trip.{highest-within, part-of}
 use Rattle.thm_records.specs.Theorems.Files.{hex-gives}
 use Rattle.thm_records.specs.Laws.Copied.{and-true, columns, fine-within, runs-parts, runs-placed}

@@ -1,5 +1,5 @@
 -- The files that `write_ihex` and `write_srec` leave, read again at the same load address: for every image, list of blocks and load address that they accept.
-use mathlib.Core.Path.{_≡_, ap, subst, _∙_}
+use mathlib.Core.Path.{_≡_, ap, _∙_}
 use mathlib.Core.List.{List}
 use Prim.Native.Nat.{ℕ, _≤_}
 use lib.ListN.{length, take}
@@ -9,17 +9,16 @@ use Rattle.blocks.specs.declared.Blocks.{Blocks}
 use Rattle.record_fault.specs.Reading.{sound, readText}
 use Rattle.record_read.specs.Outcome.{Lent, Reads}
 use Rattle.record_write.specs.Cut.{blocksIn, piecesOf}
-use Rattle.record_write.specs.Exactly.{AllParts, WellPlaced}
+use Rattle.record_write.specs.Exactly.{AllParts, WellPlaced, FitsWidth}
 use Rattle.record_write.specs.Theorems.Exactly.{parts-exactly}
+use Rattle.record_write.specs.Theorems.Refusals.{hex-answered, srec-answered}
+use Rattle.record_write.specs.Laws.Answered.{accepted-fits}
 use Rattle.record_write.specs.Outcome.{toldWritten}
 use Rattle.record_write.specs.declared.Written.{Written}
-use Rattle.record_ihex.specs.Writing.{hexOf, WritesHex}
-use Rattle.record_ihex.specs.Theorems.Refusals as hex
-use Rattle.record_ihex.specs.Theorems.File as hex-file
-use Rattle.record_srec.specs.Exactly.{FitsWidth}
-use Rattle.record_srec.specs.Writing.{srecOf, WritesSrec}
-use Rattle.record_srec.specs.Theorems.Refusals as srec
-use Rattle.record_srec.specs.Theorems.File as srec-file
+use Rattle.record_write.specs.Hex.{hexOf, WritesHex}
+use Rattle.record_write.specs.Theorems.HexFile as hex-file
+use Rattle.record_write.specs.Srec.{srecOf, WritesSrec}
+use Rattle.record_write.specs.Theorems.SrecFile as srec-file
 use Rattle.thm_records.specs.Theorems.Back.{hex-read, srec-read}
 use Rattle.thm_records.specs.Trip.{Room, Back}
 use Rattle.thm_records.specs.Theorems.Trip.{comes-back}
@@ -40,15 +39,13 @@ module _ (image offsets sizes : List ℕ) (load : ℕ) (good : Bytes image) wher
   module _ (text₀ : List ℕ) (w : Written) (text₁ : List ℕ) (written : WritesHex image offsets sizes load text₀ w text₁) (n : ℕ)
       (accepted : toldWritten w ≡ gives n) where
     hex-fit : AllParts (length image) offsets sizes × WellPlaced load offsets sizes × (length (hexOf image offsets sizes load) ≤ length text₀)
-    hex-fit =
-        let l = hex.written-leaves image offsets sizes load text₀ w text₁ written n accepted in
-        hex.written-exactly image offsets sizes load text₀ w text₁ written .0 (subst (λ (m : ℕ). toldWritten w ≡ gives m) (l .0) accepted)
+    hex-fit = accepted-fits (hex-answered image offsets sizes load text₀ w text₁ written) n accepted
 
     -- The file is good, and gives the pieces that were written.
     pub hex-gives : readText 0 load (take n text₁) ≡ sound (piecesOf load image (blocksIn offsets sizes))
     hex-gives =
         let f = hex-fit in
-        ap (readText 0 load) (hex.written-file image offsets sizes load text₀ w text₁ written n accepted)
+        ap (readText 0 load) (hex-answered image offsets sizes load text₀ w text₁ written .front n accepted)
         ∙ hex-read load (hexOf image offsets sizes load) (piecesOf load image (blocksIn offsets sizes))
         (hex-file.file-rises image offsets sizes load good (f .0) (f .1)) (hex-file.file-tells image offsets sizes load good (f .0) (f .1))
 
@@ -63,15 +60,13 @@ module _ (image offsets sizes : List ℕ) (load : ℕ) (good : Bytes image) wher
       (accepted : toldWritten w ≡ gives n) where
     srec-fit : AllParts (length image) offsets sizes × (FitsWidth width load offsets sizes × WellPlaced load offsets sizes)
         × (length (srecOf image offsets sizes load width) ≤ length text₀)
-    srec-fit =
-        let l = srec.written-leaves image offsets sizes load width text₀ w text₁ written n accepted in
-        srec.written-exactly image offsets sizes load width text₀ w text₁ written .0 (subst (λ (m : ℕ). toldWritten w ≡ gives m) (l .0) accepted)
+    srec-fit = accepted-fits (srec-answered image offsets sizes load text₀ w text₁ width written) n accepted
 
     module _ (format : ℕ) (other : format ≡ 0 → ⊥) where
       pub srec-gives : readText format load (take n text₁) ≡ sound (piecesOf load image (blocksIn offsets sizes))
       srec-gives =
           let f = srec-fit in
-          ap (readText format load) (srec.written-file image offsets sizes load width text₀ w text₁ written n accepted)
+          ap (readText format load) (srec-answered image offsets sizes load text₀ w text₁ width written .front n accepted)
           ∙ srec-read load (srecOf image offsets sizes load width) (piecesOf load image (blocksIn offsets sizes))
           (srec-file.file-rises image offsets sizes load width good (f .0) (f .1 .0) (f .1 .1)) format other
           (srec-file.file-tells image offsets sizes load width good (f .0) (f .1 .0) (f .1 .1))

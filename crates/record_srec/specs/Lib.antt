@@ -1,4 +1,0 @@
-pub mod Exactly
-pub mod Writing
-pub mod Theorems
-pub mod Laws

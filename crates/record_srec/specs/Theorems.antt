@@ -1,3 +1,0 @@
-pub mod Exactly
-pub mod File
-pub mod Refusals
