@@ -10,13 +10,14 @@ use build_sights::is_written;
 pub use checks::closes_default;
 use iter::Lost;
 use iter::Moved;
+use iter::Paced;
 use iter::Walk;
 use iter::bank_after;
 use iter::get_output_position;
 use iter::lost_after;
 use iter::pace;
+use iter::sight_of;
 use iter::start;
-use iter::why_refused;
 use lists::Node;
 use lists::node_at;
 use overlap_checker::Offered;
@@ -32,6 +33,7 @@ ghost use Rattle.refusal.specs.Limits.{maxOffer, maxNodes};
 ghost use Rattle.refusal.specs.Pick.{pick};
 ghost use Rattle.refusal.specs.declared.Offset.the-variants.{At as Out};
 ghost use Rattle.refusal.specs.declared.Verdict.the-variants.{Accepted};
+ghost use Rattle.iter.specs.Pace.{seenBy};
 ghost use Rattle.iter.specs.Step.{startOf};
 ghost use Rattle.resolver.specs.Once.{walkTo};
 ghost use Rattle.resolver.specs.Switches.{Switches};
@@ -42,9 +44,6 @@ ghost use Rattle.build_sights.specs.Visits.{programOf, rowOf};
 ghost use Rattle.build_plan.specs.Placing.{isPlaced, offerAt, answered, verdictSeen};
 ghost use Rattle.build_plan.specs.Plan.{maxEnd, planRefused, planAccepted, planOf};
 ghost use Rattle.build_plan.specs.Steps.{Goes};
-
-// A step that is made: `Paced`'s number of no refusal.
-const MADE: u8 = 0;
 
 // The offer of a node that is placed: a label makes none, and neither does what stands nowhere in the output.
 fn offer_node(
@@ -150,6 +149,47 @@ pub fn place(
     }
 }
 
+// The same by the node's step, whose numbers tell what it sees.
+fn place_paced(
+    closed: bool,
+    bank: u64,
+    def: Bankdef,
+    node: Node,
+    step: Paced,
+    out: Offset,
+    positions: &mut [u64; 512],
+    sizes: &mut [u64; 512],
+    marks: &mut [u64; 512],
+    stored: Offered,
+) -> Offered
+    requires { ⌜ Sound (store (now positions) (now sizes) (stored .count) (now marks) (stored .marks)) ⌝ }
+    requires { ⌜ ((o : ℕ) → out ≡ Out o → o ≤ maxOffer) ⌝ }
+    ensures { λ r. ⌜
+        r .verdict ≡ verdictSeen closed bank def
+        (stateIn (store (now (positions .entry)) (now (sizes .entry)) (stored .count) (now (marks .entry)) (stored .marks))) node out
+        (seenBy step (node .index))
+        ⌝ }
+    ensures { λ r. ⌜
+        Goes (store (now (positions .entry)) (now (sizes .entry)) (stored .count) (now (marks .entry)) (stored .marks)) (offerAt node out)
+        (r .verdict) (store (now (positions .exit)) (now (sizes .exit)) (r .count) (now (marks .exit)) (r .marks))
+        ⌝ }
+{
+    let seen = sight_of(step, node.index);
+    place(
+        closed,
+        bank,
+        def,
+        node,
+        seen,
+        out,
+        positions,
+        sizes,
+        stored.count,
+        marks,
+        stored.marks,
+    )
+}
+
 // "Image length is the larger of the fill's and the furthest end of a written item": the length after a node.
 fn length_after(node: Node, out: Offset, length: u64) -> u64
     requires { ⌜ ((o : ℕ) → out ≡ Out o → o ≤ maxOffer) ⌝ }
@@ -228,17 +268,6 @@ fn refused_plan(why: Refusal) -> Plan
     }
 }
 
-fn accepted_plan(sums: Sums, padding: [Lost; 16]) -> Plan
-    ensures { λ r. ⌜ r ≡ planAccepted (sums .length) (sums .spans) padding ⌝ }
-{
-    Plan {
-        verdict: Verdict::Accepted,
-        length: sums.length,
-        spans: sums.spans,
-        padding,
-    }
-}
-
 // An empty store.
 fn none_stored() -> Offered
     ensures { λ r. ⌜ r ≡ record { verdict = Accepted; count = 0; marks = 0 } ⌝ }
@@ -263,6 +292,21 @@ fn stopped(why: Refusal, walk: Walk) -> Planned
         plan: refused_plan(why),
         walk,
     }
+}
+
+// All nodes are placed.
+fn reached(sums: Sums, walk: Walk) -> Planned
+    ensures { λ r. ⌜ r .plan ≡ planAccepted (sums .length) (sums .spans) (walk .lost) ⌝ }
+    ensures { λ r. ⌜ r .walk ≡ walk ⌝ }
+{
+    let padding = walk.lost;
+    let plan = Plan {
+        verdict: Verdict::Accepted,
+        length: sums.length,
+        spans: sums.spans,
+        padding,
+    };
+    Planned { plan, walk }
 }
 
 // The first walk over the row of the last pass. It decides everything and writes nothing that is lent. "bank positions, an array of 16 in the walk's state":
@@ -302,23 +346,18 @@ fn plan_walk(
         let bank = bank_after(walk.bank, node);
         let def = banks.defs[bank as usize];
         let step = pace(def, walk.at[bank as usize], node);
-        if step.fault != MADE {
-            return stopped(why_refused(step.fault, node.index), walk);
-        }
-        let now = step.seen;
-        let out = get_output_position(def, now.position);
-        stored = place(
+        let out = get_output_position(def, step.seen.position);
+        stored = place_paced(
             closed,
             bank,
             def,
             node,
-            Moved::To(now),
+            step,
             out,
             &mut positions,
             &mut sizes,
-            stored.count,
             &mut marks,
-            stored.marks,
+            stored,
         );
         let verdict = stored.verdict;
         if let Verdict::Refused(why) = verdict {
@@ -332,11 +371,7 @@ fn plan_walk(
         walk.bank = bank;
         i += 1;
     }
-    let lost = walk.lost;
-    Planned {
-        plan: accepted_plan(sums, lost),
-        walk,
-    }
+    reached(sums, walk)
 }
 
 // The plan of a row, whose walk begins at the start: "Each bank's position starts at 0, known .. The walk begins in bank 0."

@@ -20,6 +20,8 @@ use Rattle.iter.proofs.paces.stays_known.Kinds as stays-known-kinds
 use Rattle.iter.proofs.paces.stays_known.Reads as stays-known-reads
 use Rattle.iter.proofs.paces.pace.Kinds as pace-kinds
 use Rattle.iter.proofs.paces.pace.Reads as pace-reads
+use Rattle.iter.proofs.paces.sight_of.Kinds as sight-of-kinds
+use Rattle.iter.proofs.paces.sight_of.Reads as sight-of-reads
 use Rattle.iter.proofs.paces.why_refused.Kinds as why-refused-kinds
 use Rattle.iter.proofs.paces.why_refused.Reads as why-refused-reads
 use Rattle.iter.proofs.steps.lost_after.Kinds as lost-after-kinds
@@ -47,6 +49,9 @@ bank-after-unique κs a x y e f p q = determined p q
 
 pub pace-unique : OneOutcome 0 pace-kinds.ps pace-kinds.r pace-reads.Learnt
 pace-unique κs a x y e f p q = determined (p .0) (q .0)
+
+pub sight-of-unique : OneOutcome 0 sight-of-kinds.ps sight-of-kinds.r sight-of-reads.Learnt
+sight-of-unique κs a x y e f p q = determined p q
 
 pub why-refused-unique : OneOutcome 0 why-refused-kinds.ps why-refused-kinds.r why-refused-reads.Learnt
 why-refused-unique κs a x y e f p q = determined p q

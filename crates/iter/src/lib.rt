@@ -8,6 +8,7 @@ mod steps;
 pub use alignment::bits_until_alignment;
 pub use paces::is_bad_state;
 pub use paces::pace;
+pub use paces::sight_of;
 pub use paces::stays_known;
 pub use paces::why_refused;
 pub use places::get_address;

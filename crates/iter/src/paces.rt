@@ -1,4 +1,5 @@
 // One node's step, in numbers: what it sees, where it leads and what its alignment skips, kind by kind.
+use crate::Moved;
 use crate::Paced;
 use crate::Pos;
 use crate::Skipped;
@@ -28,7 +29,7 @@ ghost use lib.Dec.{eqb};
 ghost use Rattle.refusal.specs.declared.Opt.the-variants.{None};
 ghost use Rattle.iter.specs.Distance.{noSkip};
 ghost use Rattle.iter.specs.Known.{staysKnown};
-ghost use Rattle.iter.specs.Pace.{Paces, Still, bankRead, nodeWith, madeBy, haltedBy, addedBy, alignedBy, whyBy};
+ghost use Rattle.iter.specs.Pace.{Paces, Still, bankRead, nodeWith, madeBy, haltedBy, addedBy, alignedBy, seenBy, whyBy};
 ghost use Rattle.iter.specs.Step.{outermostSymbol, badState};
 
 // A step is made, or is refused for one of two of document 01's numbers.
@@ -321,5 +322,17 @@ pub fn why_refused(fault: u8, node: u64) -> Refusal
         Refusal::Malformed(node)
     } else {
         Refusal::PositionPast(node)
+    }
+}
+
+// The position that a node sees, by its step.
+pub fn sight_of(p: Paced, node: u64) -> Moved
+    ensures { λ r. ⌜ r ≡ seenBy p node ⌝ }
+{
+    let seen = p.seen;
+    if p.fault == MADE {
+        Moved::To(seen)
+    } else {
+        Moved::Refused(why_refused(p.fault, node))
     }
 }

@@ -26,7 +26,7 @@ ghost use Prim.Native.Nat.{_<_};
 ghost use Rattle.refusal.specs.Limits.{maxBanks};
 ghost use Rattle.iter.specs.Crossing.{crossingOf};
 ghost use Rattle.iter.specs.Figures.{AdvanceTold};
-ghost use Rattle.iter.specs.Pace.{seenBy, crossedBy};
+ghost use Rattle.iter.specs.Pace.{crossedBy};
 ghost use Rattle.iter.specs.Step.{movedBy, still, motionOf, alignedMotion, advanceMotion, kept, stopped, stepOf};
 ghost use Rattle.iter.specs.StepFigures.{StepTold};
 
@@ -106,18 +106,6 @@ pub fn advance_address(def: Bankdef, at: Pos, node: Node) -> Motion
     }
 }
 
-// The position that a node sees, by its step.
-fn sight_of(p: Paced, node: u64) -> Moved
-    ensures { λ r. ⌜ r ≡ seenBy p node ⌝ }
-{
-    let seen = p.seen;
-    if p.fault == 0 {
-        Moved::To(seen)
-    } else {
-        Moved::Refused(iter::why_refused(p.fault, node))
-    }
-}
-
 // The crossing that a step's numbers tell.
 fn crossing_of(p: Paced, node: u64) -> Crossing
     ensures { λ r. ⌜ r ≡ crossedBy node p ⌝ }
@@ -125,7 +113,7 @@ fn crossing_of(p: Paced, node: u64) -> Crossing
     let skipped = p.skipped;
     let after = p.after;
     Crossing {
-        seen: sight_of(p, node),
+        seen: iter::sight_of(p, node),
         skipped,
         after,
     }

@@ -4,8 +4,6 @@ use Prim.Native.Nat.{ℕ, _+_, _-_, _≤_, _<_}
 use native.Mathlib.Omega.{arith}
 use lib.ListN.{length, length-map, set}
 use borrow.Author.Needs.{needs}
-use borrow.Author.Tests.{eq-eqb, ne-eqb}
-use Rattle.refusal.specs.Laws.Pick.{pick-true, pick-false}
 use Rattle.refusal.specs.Limits.{maxNodes}
 use Rattle.refusal.specs.declared.Refusal.{Refusal}
 use Rattle.refusal.specs.declared.Verdict.the-variants.{Accepted, Refused}
@@ -16,7 +14,6 @@ use Rattle.resolver.specs.Walking.{Walks}
 use Rattle.overlap_checker.specs.Lent.{lent as store}
 use Rattle.build_sights.specs.Theorems.Sights.{bank-listed, paced-is-visit, paced-next}
 use Rattle.build_sights.specs.Visits.{programOf, rowOf}
-use Rattle.build_plan.specs.Plan.{planRefused}
 use Rattle.build_plan.specs.declared.Plan.{Plan}
 use Rattle.build_plan.proofs.PlanLaws.{Going, begins, settles, goes-on, ends, ended}
 use Rattle.build_plan.proofs.plan_walk.Statement.{statement}
@@ -45,7 +42,7 @@ abbrev Paced : Type 0
 Paced = tie.After-pace Inv-loop μ-loop
 
 abbrev Offering : Type 0
-Offering = tie.After-place Inv-loop μ-loop
+Offering = tie.After-place-paced Inv-loop μ-loop
 
 abbrev entry : Head → Entry
 entry c = c .before .before .before .before .before .before .before .before
@@ -57,7 +54,7 @@ abbrev banked : Paced → Banked
 banked c = c .before .before .before
 
 abbrev paced : Offering → Paced
-paced c = c .before .before .before .before .before .before .before .before
+paced c = c .before .before .before .before .before
 
 -- what the walk is given
 abbrev given : Head → Program
@@ -133,57 +130,35 @@ element-copy-out-pace c = omega (arith, listed (c .before), head (c .before) .lo
 pace-requires : tie.Need-pace-requires Inv-loop μ-loop
 pace-requires c κs = search needs
 
-why-refused-requires : tie.Need-why-refused-requires Inv-loop μ-loop
-why-refused-requires c κs = search needs
-
-stopped-requires : tie.Need-stopped-requires Inv-loop μ-loop
-stopped-requires c κs = search needs
-
--- a node that the walk stops at
-returns : tie.Need-returns Inv-loop μ-loop
-returns c =
-    let g = c .before .before .before .before in
-    let b = banked g in
-    let h = head b in
-    let v =
-    paced-is-visit (given h) (entry h .pre .1 .0) (room h) (row h) (h .loop .i) (h .loop .inv .walks) (b .before .node-at .ensures) (b .bank-after .ensures)
-    _ _ _ refl (g .pace .ensures) refl (pick-false _ _ (ne-eqb (g .pace .result .fault) 0 (c .before .before .if1 .taken))) in (
-      c .stopped .ensures
-          ∙ ap planRefused (c .before .why-refused .ensures)
-          ∙ settles (given h) (row h) (entry h .args .closed) (entry h .args .fill) (h .loop .i) (h .loop .inv) _ v refl
-          _ (b .before .before .loop-test .taken) refl,
-      (rw (c .stopped .ensures) (omega arith), λ e. absurd (never-accepted (sym (ap (λ (x : Plan). x .verdict) (c .stopped .ensures)) ∙ e))),
-    )
-
 get-output-position-requires : tie.Need-get-output-position-requires Inv-loop μ-loop
 get-output-position-requires c κs = search needs
 
-place-requires : tie.Need-place-requires Inv-loop μ-loop
-place-requires c κs =
+place-paced-requires : tie.Need-place-paced-requires Inv-loop μ-loop
+place-paced-requires c κs =
     let o = c .before .before .before in
-    (head (banked (o .before .before .before .before)) .loop .inv .sound, o .get-output-position .ensures .1)
+    (head (banked (o .before)) .loop .inv .sound, o .get-output-position .ensures .1)
 
 enum-known-verdict : tie.Need-enum-known-verdict Inv-loop μ-loop
 enum-known-verdict c = search needs
 
-stopped-requires-2 : tie.Need-stopped-requires-2 Inv-loop μ-loop
-stopped-requires-2 c κs = search needs
+stopped-requires : tie.Need-stopped-requires Inv-loop μ-loop
+stopped-requires c κs = search needs
 
-returns-2 : tie.Need-returns-2 Inv-loop μ-loop
-returns-2 c =
+-- a node that the walk stops at, or that is refused its place
+returns : tie.Need-returns Inv-loop μ-loop
+returns c =
     let o = c .before .before .before .before in
     let g = paced o in
     let b = banked g in
     let h = head b in
     let v =
     paced-is-visit (given h) (entry h .pre .1 .0) (room h) (row h) (h .loop .i) (h .loop .inv .walks) (b .before .node-at .ensures) (b .bank-after .ensures)
-    _ _ _ refl (g .pace .ensures) (o .before .before .before .before .get-output-position .ensures .0)
-    (pick-true _ _ (eq-eqb (g .pace .result .fault) 0 (o .before .before .before .before .before .before .if1 .left))) in
+    _ _ _ refl (g .pace .ensures) (o .before .before .before .before .get-output-position .ensures .0) refl in
     let why = c .before .before .verdict .given in (
-      c .stopped2 .ensures
-          ∙ settles (given h) (row h) (entry h .args .closed) (entry h .args .fill) (h .loop .i) (h .loop .inv) _ v (o .place .ensures .0)
+      c .stopped .ensures
+          ∙ settles (given h) (row h) (entry h .args .closed) (entry h .args .fill) (h .loop .i) (h .loop .inv) _ v (o .place-paced .ensures .0)
           (why .0 .0) (b .before .before .loop-test .taken) (why .1),
-      (rw (c .stopped2 .ensures) (omega arith), λ e. absurd (never-accepted (sym (ap (λ (x : Plan). x .verdict) (c .stopped2 .ensures)) ∙ e))),
+      (rw (c .stopped .ensures) (omega arith), λ e. absurd (never-accepted (sym (ap (λ (x : Plan). x .verdict) (c .stopped .ensures)) ∙ e))),
     )
 
 enum-told : tie.Need-enum-told Inv-loop μ-loop
@@ -230,25 +205,24 @@ loop-again c =
     let h = head b in
     let v =
     paced-is-visit (given h) (entry h .pre .1 .0) (room h) (row h) (h .loop .i) (h .loop .inv .walks) (b .before .node-at .ensures) (b .bank-after .ensures)
-    _ _ _ refl (g .pace .ensures) (o .before .before .before .before .get-output-position .ensures .0)
-    (pick-true _ _ (eq-eqb (g .pace .result .fault) 0 (o .before .before .before .before .before .before .if1 .left))) in
+    _ _ _ refl (g .pace .ensures) (o .before .before .before .before .get-output-position .ensures .0) refl in
     let sums = c .before .before .before .sums-after .ensures in
-    goes-on (given h) (row h) (entry h .args .closed) (entry h .args .fill) (h .loop .i) (h .loop .inv) _ v (o .place .ensures .0)
-    (b .before .before .loop-test .taken) (c .before .before .before .before .enum-told .given .1) (next c) (o .place .ensures .1) (sums .0)
+    goes-on (given h) (row h) (entry h .args .closed) (entry h .args .fill) (h .loop .i) (h .loop .inv) _ v (o .place-paced .ensures .0)
+    (b .before .before .loop-test .taken) (c .before .before .before .before .enum-told .given .1) (next c) (o .place-paced .ensures .1) (sums .0)
     (sums .1 .0) (sums .1 .1)
 
-accepted-plan-requires : tie.Need-accepted-plan-requires Inv-loop μ-loop
-accepted-plan-requires c κs = search needs
+reached-requires : tie.Need-reached-requires Inv-loop μ-loop
+reached-requires c κs = search needs
 
-returns-3 : tie.Need-returns-3 Inv-loop μ-loop
-returns-3 c =
-    let h = c .before .before .before in (
-      c .accepted-plan .ensures
-          ∙ ends (given h) (row h) (entry h .args .closed) (entry h .args .fill) (h .loop .i) (h .loop .inv) (c .before .before .loop-test .left) (few h),
+returns-2 : tie.Need-returns-2 Inv-loop μ-loop
+returns-2 c =
+    let h = c .before .before in (
+      c .reached .ensures .0
+          ∙ ends (given h) (row h) (entry h .args .closed) (entry h .args .fill) (h .loop .i) (h .loop .inv) (c .before .loop-test .left) (few h),
       (
-        rw (c .accepted-plan .ensures) (h .loop .inv .low),
-        λ e. ended (given h) (row h) (entry h .args .closed) (entry h .args .fill) (h .loop .i)
-            (h .loop .inv) (c .before .before .loop-test .left),
+        rw (c .reached .ensures .0) (h .loop .inv .low),
+        λ e. c .reached .ensures .1
+            ∙ ended (given h) (row h) (entry h .args .closed) (entry h .args .fill) (h .loop .i) (h .loop .inv) (c .before .loop-test .left),
       ),
     )
 
@@ -268,14 +242,11 @@ plan-walk-spec =
     mul-pace
     element-copy-out-pace
     pace-requires
-    why-refused-requires
+    get-output-position-requires
+    place-paced-requires
+    enum-known-verdict
     stopped-requires
     returns
-    get-output-position-requires
-    place-requires
-    enum-known-verdict
-    stopped-requires-2
-    returns-2
     enum-told
     sums-after-requires
     mul-after
@@ -288,5 +259,5 @@ plan-walk-spec =
     add-i
     loop-less
     loop-again
-    accepted-plan-requires
-    returns-3)
+    reached-requires
+    returns-2)

@@ -216,8 +216,9 @@ mul-lost-before : tie.Need-mul-lost-before Inv-loop μ-loop
 mul-lost-before c = omega (arith, listed (banked (paced (c .before .before .before .before .before .before .before .before .before .before .before .before))))
 
 element-set-from-lost-before : tie.Need-element-set-from-lost-before Inv-loop μ-loop
-element-set-from-lost-before c = let b = banked (paced (c .before .before .before .before .before .before .before .before .before .before .before .before)) in omega
-    (arith, listed b, turn b .loop .inv .3 .sums)
+element-set-from-lost-before c =
+    let b = banked (paced (c .before .before .before .before .before .before .before .before .before .before .before .before)) in
+    omega (arith, listed b, turn b .loop .inv .3 .sums)
 
 add-i : tie.Need-add-i Inv-loop μ-loop
 add-i c = let b = banked (paced (c .before .before .before .before .before .before .before .before .before .before .before .before)) in omega

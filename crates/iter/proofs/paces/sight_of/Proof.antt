@@ -1,8 +1,8 @@
 -- What the numbers say that the node sees.
 use borrow.Author.Needs.{needs}
 use borrow.Author.Tests.{eq-eqb, ne-eqb}
-use Rattle.iter_step.proofs.sight_of.Statement.{statement}
-use Rattle.iter_step.proofs.sight_of.Tie as tie
+use Rattle.iter.proofs.paces.sight_of.Statement.{statement}
+use Rattle.iter.proofs.paces.sight_of.Tie as tie
 
 why-refused-requires : tie.Need-why-refused-requires
 why-refused-requires c κs = search needs
