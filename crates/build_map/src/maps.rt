@@ -174,19 +174,13 @@ fn unmapped(settled: Settled) -> Map
     }
 }
 
-fn shorter(a: u64, b: u64) -> u64
-    ensures { λ r. ⌜ r ≡ min a b ⌝ }
-{
-    if a < b { a } else { b }
-}
-
 // Where the row of a pass begins in the lists. "Pass n reads row n, or the last row if there are fewer." Rows are counted from 0.
 fn row_start(rows: u64, passes: u64, n: usize) -> usize
     requires { ⌜ (1 ≤ rows) × (rows ≤ maxRows) × (n ≤ maxNodes) × (1 ≤ passes) ⌝ }
     ensures { λ r. ⌜ r ≡ (min passes rows - 1) * n ⌝ }
     ensures { λ r. ⌜ r + n ≤ rows * n ⌝ }
 {
-    let last = shorter(passes, rows);
+    let last = refusal::lesser(passes, rows);
     ((last - 1) as usize) * n
 }
 

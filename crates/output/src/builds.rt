@@ -36,12 +36,6 @@ fn lacks_bytes(bytes: u64, bits: u64) -> bool
     bytes < (bits + 7) / 8
 }
 
-fn shorter(a: u64, b: u64) -> u64
-    ensures { λ r. ⌜ r ≡ min a b ⌝ }
-{
-    if a < b { a } else { b }
-}
-
 // A refused build. It tells no bank's padding.
 fn refused(why: Refusal, passes: u64) -> Output
     ensures { λ r. ⌜ r ≡ refusedAfter passes why ⌝ }
@@ -108,8 +102,8 @@ fn build_row(
     }
     let length = plan.length;
     let spans = plan.spans;
-    let two = shorter(offsets.len() as u64, sizes.len() as u64);
-    let places = shorter(addresses.len() as u64, two);
+    let two = refusal::lesser(offsets.len() as u64, sizes.len() as u64);
+    let places = refusal::lesser(addresses.len() as u64, two);
     let room = room_for(image.len() as u64, places, length, spans);
     if let Verdict::Refused(why) = room {
         return refused(why, passes);
@@ -142,7 +136,7 @@ fn row_start(rows: u64, passes: u64, n: usize) -> usize
     ensures { λ r. ⌜ r ≡ (min passes rows - 1) * n ⌝ }
     ensures { λ r. ⌜ r + n ≤ rows * n ⌝ }
 {
-    let last = shorter(passes, rows);
+    let last = refusal::lesser(passes, rows);
     if last == 0 {
         return 0;
     }

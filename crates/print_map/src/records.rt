@@ -115,19 +115,13 @@ fn write_bank(out: &mut [u8], at: usize, i: u64, def: Bankdef, padding: Lost) ->
     write_line(out, at, b"bank", &marks, &numbers)
 }
 
-fn shorter(a: u64, b: u64) -> u64
-    ensures { λ r. ⌜ r ≡ min a b ⌝ }
-{
-    if a < b { a } else { b }
-}
-
 // Every bank of the table, with what it has lost.
 pub fn write_banks(out: &mut [u8], at: usize, banks: Bankdefs, padding: [Lost; 16]) -> usize
     requires { ⌜ at + 3680 ≤ length (now out) ⌝ }
     ensures { λ r. ⌜ Writes (banksText banks padding (min (banks .len) maxBanks)) (now (out .entry)) at r (now (out .exit)) ⌝ }
     ensures { λ r. ⌜ r ≤ at + 3680 ⌝ }
 {
-    let count = shorter(banks.len, 16);
+    let count = refusal::lesser(banks.len, 16);
     let mut end = at;
     let mut i: u64 = 0;
     while i < count {

@@ -58,7 +58,7 @@ room-told c =
     let s = begin f in
     c .room-for .ensures
     ∙ ap (λ (n : ℕ). roomVerdict (length (s .args .image .now)) n (f .plan-row .result .length) (f .plan-row .result .spans))
-    (c .before .shorter2 .ensures ∙ ap (min (length (s .args .addresses .now))) (c .before .before .shorter .ensures))
+    (c .before .lesser2 .ensures ∙ ap (min (length (s .args .addresses .now))) (c .before .before .lesser .ensures))
 
 -- no node is refused
 passes-nodes : (c : tie.After-room-for) → planned-at c .plan-row .result .verdict ≡ Accepted
@@ -99,11 +99,11 @@ returns c =
 enum-told : tie.Need-enum-told
 enum-told c = search needs
 
-shorter-requires : tie.Need-shorter-requires
-shorter-requires c κs = search needs
+lesser-requires : tie.Need-lesser-requires
+lesser-requires c κs = search needs
 
-shorter-requires-2 : tie.Need-shorter-requires-2
-shorter-requires-2 c κs = search needs
+lesser-requires-2 : tie.Need-lesser-requires-2
+lesser-requires-2 c κs = search needs
 
 room-for-requires : tie.Need-room-for-requires
 room-for-requires c κs = c .before .before .before .before .plan-row .ensures .1
@@ -172,8 +172,8 @@ build-row-spec =
     refused-requires
     returns
     enum-told
-    shorter-requires
-    shorter-requires-2
+    lesser-requires
+    lesser-requires-2
     room-for-requires
     enum-known-room
     refused-requires-2

@@ -9,15 +9,15 @@ use Rattle.output.proofs.builds.row_start.Statement.{statement}
 use Rattle.output.proofs.builds.row_start.Tie as tie
 use Rattle.output.proofs.builds.row_start.Reads as reads
 use Rattle.output.proofs.builds.row_start.Lts as lts
-use Rattle.output.proofs.builds.shorter.Reads as shorter-reads
+use Rattle.refusal.proofs.lesser.Reads as lesser-reads
 
-shorter-requires : tie.Need-shorter-requires
-shorter-requires c κs = search needs
+lesser-requires : tie.Need-lesser-requires
+lesser-requires c κs = search needs
 
 returns : tie.Need-returns
 returns c =
     let a = c .before .before .args in
-    let none : min (a .passes) (a .rows) - 1 ≡ 0 = omega (arith, c .before .shorter .ensures) in
+    let none : min (a .passes) (a .rows) - 1 ≡ 0 = omega (arith, c .before .lesser .ensures) in
     let whole = mul-le-mul-right (a .n) (c .before .before .pre .0) in
     (rw (none, zero-mul (a .n)), omega (arith, whole, one-mul (a .n)))
 
@@ -27,16 +27,16 @@ sub-result c = search needs
 mul-result : tie.Need-mul-result
 mul-result c =
     let a = c .before .before .args in
-    let ends = row-ends (c .before .shorter .result) (a .rows) (a .n) (omega arith) (omega (arith, c .before .shorter .ensures)) in
+    let ends = row-ends (c .before .lesser .result) (a .rows) (a .n) (omega arith) (omega (arith, c .before .lesser .ensures)) in
     let rows-low = mul-le-mul-right (a .n) (c .before .before .pre .1) in
     record { fits = omega (arith, ends, rows-low, c .before .before .pre .2) }
 
 returns-2 : tie.Need-returns-2
 returns-2 c =
     let a = c .before .before .args in (
-      ap (λ (k : ℕ). (k - 1) * a .n) (c .before .shorter .ensures),
-      row-ends (c .before .shorter .result) (a .rows) (a .n) (omega arith) (omega (arith, c .before .shorter .ensures)),
+      ap (λ (k : ℕ). (k - 1) * a .n) (c .before .lesser .ensures),
+      row-ends (c .before .lesser .result) (a .rows) (a .n) (omega arith) (omega (arith, c .before .lesser .ensures)),
     )
 
 pub row-start-spec : {M : Type 1} → statement M
-row-start-spec = tie.close (tie.spec shorter-requires returns sub-result mul-result returns-2)
+row-start-spec = tie.close (tie.spec lesser-requires returns sub-result mul-result returns-2)

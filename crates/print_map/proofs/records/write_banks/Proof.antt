@@ -26,7 +26,7 @@ loop-holds c =
     (omega arith, omega arith, written-as (sym (banks-none (a .banks) (a .t4))) (writes-none (a .out .now) (a .at)))
 
 mul-write-bank : tie.Need-mul-write-bank Inv-loop μ-loop
-mul-write-bank c = record { fits = omega (arith, c .before .before .loop-test .taken, c .before .before .before .before .shorter .ensures) }
+mul-write-bank c = record { fits = omega (arith, c .before .before .loop-test .taken, c .before .before .before .before .lesser .ensures) }
 
 write-bank-requires : tie.Need-write-bank-requires Inv-loop μ-loop
 write-bank-requires c κs =
@@ -34,13 +34,13 @@ write-bank-requires c κs =
     let at-shorter = at-loop .before in
     let start = at-shorter .before .before in
     let l = at-loop .loop in
-    omega (arith, l .inv .1, c .before .before .loop-test .taken, at-shorter .shorter .ensures, start .pre, writes-long (l .inv .2))
+    omega (arith, l .inv .1, c .before .before .loop-test .taken, at-shorter .lesser .ensures, start .pre, writes-long (l .inv .2))
 
 add-i : tie.Need-add-i Inv-loop μ-loop
 add-i c =
     let at-in-loop = c .before .before .before .before .before in
     let at-shorter = at-in-loop .before .before in
-    record { fits = omega (arith, at-in-loop .loop-test .taken, at-shorter .shorter .ensures) }
+    record { fits = omega (arith, at-in-loop .loop-test .taken, at-shorter .lesser .ensures) }
 
 loop-again : tie.Need-loop-again Inv-loop μ-loop
 loop-again c =
@@ -62,10 +62,10 @@ returns c =
     let start = c .before .before .before .before in
     let a = start .args in
     let l = c .before .loop in
-    let all : l .i ≡ c .before .before .shorter .result = omega (arith, l .inv .0, c .loop-test .left) in (
-      subst (λ (k : ℕ). Writes (banksText (a .banks) (a .t4) k) (a .out .now) (a .at) (l .end) (l .out)) (all ∙ c .before .before .shorter .ensures)
+    let all : l .i ≡ c .before .before .lesser .result = omega (arith, l .inv .0, c .loop-test .left) in (
+      subst (λ (k : ℕ). Writes (banksText (a .banks) (a .t4) k) (a .out .now) (a .at) (l .end) (l .out)) (all ∙ c .before .before .lesser .ensures)
           (l .inv .2),
-      omega (arith, l .inv .1, all, c .before .before .shorter .ensures),
+      omega (arith, l .inv .1, all, c .before .before .lesser .ensures),
     )
 
 pub write-banks-spec : {M : Type 1} → statement M
@@ -73,5 +73,5 @@ write-banks-spec =
     tie.close
     (tie.spec
     Inv-loop μ-loop (λ c κs. search needs) loop-holds (λ c κs. search needs) mul-write-bank
-    (λ c. omega (arith, c .before .before .loop-test .taken, c .before .before .before .before .shorter .ensures)) write-bank-requires add-i
+    (λ c. omega (arith, c .before .before .loop-test .taken, c .before .before .before .before .lesser .ensures)) write-bank-requires add-i
     (λ c. omega (arith, c .before .before .before .before .before .loop-test .taken)) loop-again (λ c. writes-long (c .before .loop .inv .2)) returns)
