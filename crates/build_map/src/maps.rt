@@ -174,16 +174,6 @@ fn unmapped(settled: Settled) -> Map
     }
 }
 
-// Where the row of a pass begins in the lists. "Pass n reads row n, or the last row if there are fewer." Rows are counted from 0.
-fn row_start(rows: u64, passes: u64, n: usize) -> usize
-    requires { ⌜ (1 ≤ rows) × (rows ≤ maxRows) × (n ≤ maxNodes) × (1 ≤ passes) ⌝ }
-    ensures { λ r. ⌜ r ≡ (min passes rows - 1) * n ⌝ }
-    ensures { λ r. ⌜ r + n ≤ rows * n ⌝ }
-{
-    let last = refusal::lesser(passes, rows);
-    ((last - 1) as usize) * n
-}
-
 // The map of a layout. The lists have a place for each node that a layout can have. What is refused before any pass, 1 to 4, changes nothing that is lent;
 // for any other refusal the map is the answer, and the verdict a part of it.
 pub fn map_nodes(
@@ -225,7 +215,7 @@ pub fn map_nodes(
         return unmapped(settled);
     }
     let n = kinds.len();
-    let a = row_start(rows, passes, n);
+    let a = output::row_start(rows, passes, n);
     let e = a + n;
     let closed = build_plan::closes_default(banks.len, choices.closed);
     map_row(

@@ -131,7 +131,7 @@ fn build_row(
 }
 
 // Where the row of a pass begins in the lists. "Pass n reads row n, or the last row if there are fewer." Rows are counted from 0.
-fn row_start(rows: u64, passes: u64, n: usize) -> usize
+pub fn row_start(rows: u64, passes: u64, n: usize) -> usize
     requires { ⌜ (1 ≤ rows) × (rows ≤ maxRows) × (n ≤ maxNodes) ⌝ }
     ensures { λ r. ⌜ r ≡ (min passes rows - 1) * n ⌝ }
     ensures { λ r. ⌜ r + n ≤ rows * n ⌝ }

@@ -2,6 +2,7 @@
 mod builds;
 
 pub use builds::build_output;
+pub use builds::row_start;
 use iter::Lost;
 use refusal::Refusal;
 

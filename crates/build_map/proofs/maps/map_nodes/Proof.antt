@@ -49,7 +49,7 @@ returns c =
     (old start) _ (c .unmapped .ensures)
 
 row-start-requires : tie.Need-row-start-requires
-row-start-requires c κs = (rows c .some, rows c .few, few c, omega (arith, c .if1 .left))
+row-start-requires c κs = (rows c .some, rows c .few, few c)
 
 add-e : tie.Need-add-e
 add-e c = record { fits = omega (arith, cells (c .before), c .row-start .ensures .1) }
