@@ -416,12 +416,15 @@ enum dk_format { DK_INTEL_HEX = 0, DK_S_RECORDS = 1 };
 /* Reads a file of records: the byte at address a goes to bytes[a - load], and every other byte stays as it was. Block i is the sizes[i] bits from bit
  * offsets[i] on, ascending, touching ones joined; `count` is how many there are. S-records may have either width. Refused 4 (place 0) where the format is
  * neither of the two or the file bad: a line, a byte given twice or below `load`; then 14 where `bytes` (place 0) or a list (place 2) is too short.
- * Time grows with the text where records ascend, descend, or stand in a few blocks in any order; with the square of the number of lines where many records
- * jump. It needs less than 2 KiB of stack (1.2 KiB). */
+ * The call answers the same whatever `marks` is, and leaves it as it was; it may be empty. Time grows with the text where records ascend, descend, or stand in
+ * a few blocks in any order. Where many records jump it grows with the text too if `marks` is all zeros and has a byte for every 8 addresses from the lowest
+ * that is given to the highest; with fewer zeros the text is read once more for each 8 * marks_len of those addresses that has a byte; with none, or where
+ * `marks` has a byte that is not zero, time grows with the square of the number of lines. It needs less than 2 KiB of stack (1.2 KiB). */
 struct dk_count dk_read_records(uint8_t format, const uint8_t *text, size_t text_len, uint32_t load,
                                 uint8_t *bytes, size_t bytes_len,
                                 uint64_t *offsets, size_t offsets_len,
-                                uint64_t *sizes, size_t sizes_len);
+                                uint64_t *sizes, size_t sizes_len,
+                                uint8_t *marks, size_t marks_len);
 
 /* Where a file of records is bad. */
 struct dk_fault {
@@ -429,8 +432,10 @@ struct dk_fault {
     uint64_t line;  /* the first line at which no good file can go on, from 0 */
 };
 
-/* The same file, asked why it is refused with 4, in the same time. In a format that is neither no file is good: line 0. It needs less than 1 KiB of stack. */
-struct dk_fault dk_record_fault(uint8_t format, const uint8_t *text, size_t text_len, uint32_t load);
+/* The same file, asked why it is refused with 4, in the same time, with `marks` as above. In a format that is neither no file is good: line 0. It needs less
+ * than 1 KiB of stack. */
+struct dk_fault dk_record_fault(uint8_t format, const uint8_t *text, size_t text_len, uint32_t load,
+                                uint8_t *marks, size_t marks_len);
 
 /* Why a file of records is bad, in the order in which a line is looked at: the first of these that there is. `first` and `second` with it. */
 enum dk_cause {
@@ -460,10 +465,11 @@ struct dk_reason {
 };
 
 /* The same file, asked what is wrong with the line at fault. Nothing is refused: every text has an answer, 0 where the file is good. (A format that is
- * neither is taken for S-records here.) It takes the time of
+ * neither is taken for S-records here.) With `marks` as above, it takes the time of
  * dk_record_fault and of reading the lines before the one at fault once or twice more, and where a line is below `load` those of the whole text. It needs less
  * than 2 KiB of stack (1.1 KiB). */
-struct dk_reason dk_record_reason(uint8_t format, const uint8_t *text, size_t text_len, uint32_t load);
+struct dk_reason dk_record_reason(uint8_t format, const uint8_t *text, size_t text_len, uint32_t load,
+                                  uint8_t *marks, size_t marks_len);
 
 /* A reason in words, without its numbers. */
 static inline const char *dk_reason_words(uint64_t reason)

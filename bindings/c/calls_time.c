@@ -224,35 +224,38 @@ static void make_text(const char *order)
     text_length = told;
 }
 
+/* a mark for each byte, as a caller lends who does not know in which order the records stand */
+static uint8_t marked[LOADED / 8];
+
 static void read_hex(void)
 {
-    counted(dk_read_records(DK_INTEL_HEX, text, text_length, 0, fetched, LOADED, offsets, SPANS, sizes, SPANS));
+    counted(dk_read_records(DK_INTEL_HEX, text, text_length, 0, fetched, LOADED, offsets, SPANS, sizes, SPANS, marked, sizeof marked));
 }
 
 static void read_srec(void)
 {
-    counted(dk_read_records(DK_S_RECORDS, text, text_length, 0, fetched, LOADED, offsets, SPANS, sizes, SPANS));
+    counted(dk_read_records(DK_S_RECORDS, text, text_length, 0, fetched, LOADED, offsets, SPANS, sizes, SPANS, marked, sizeof marked));
 }
 
 static void fault_hex(void)
 {
-    refusal = dk_record_fault(DK_INTEL_HEX, text, text_length, 0).fault;
+    refusal = dk_record_fault(DK_INTEL_HEX, text, text_length, 0, marked, sizeof marked).fault;
 }
 
 static void fault_srec(void)
 {
-    refusal = dk_record_fault(DK_S_RECORDS, text, text_length, 0).fault;
+    refusal = dk_record_fault(DK_S_RECORDS, text, text_length, 0, marked, sizeof marked).fault;
 }
 
 /* The file's end record is missing: the whole of it is gone through. */
 static void reason_hex(void)
 {
-    told = dk_record_reason(DK_INTEL_HEX, text, text_length - 12, 0).reason;
+    told = dk_record_reason(DK_INTEL_HEX, text, text_length - 12, 0, marked, sizeof marked).reason;
 }
 
 static void reason_srec(void)
 {
-    told = dk_record_reason(DK_S_RECORDS, text, text_length - 15, 0).reason;
+    told = dk_record_reason(DK_S_RECORDS, text, text_length - 15, 0, marked, sizeof marked).reason;
 }
 
 /* What the compiler must not leave out. */

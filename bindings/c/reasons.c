@@ -78,8 +78,8 @@ int main(void)
     for (size_t i = 0; i < count; i++) {
         const struct test *t = &tests[i];
         const uint8_t *text = (const uint8_t *)t->text;
-        struct dk_reason r = dk_record_reason(t->format, text, strlen(t->text), t->load);
-        struct dk_fault f = dk_record_fault(t->format, text, strlen(t->text), t->load);
+        struct dk_reason r = dk_record_reason(t->format, text, strlen(t->text), t->load, NULL, 0);
+        struct dk_fault f = dk_record_fault(t->format, text, strlen(t->text), t->load, NULL, 0);
         if (memcmp(&r, &t->wanted, sizeof r) != 0 || f.fault != (r.reason != 0) || f.line != r.line) {
             printf("case %zu: %s at line %" PRIu64 ", %" PRIu64 ", %" PRIu64 "\n", i, dk_reason_words(r.reason), r.line, r.first, r.second);
             return 1;

@@ -79,37 +79,39 @@ static void write_srec(void)
     text_length = r.count;
 }
 
+static uint8_t marked[1024];
+
 static void read_hex(void)
 {
-    refusal = dk_read_records(DK_INTEL_HEX, text, text_length, 0xfff8, image, sizeof image, offsets, NODES, sizes, NODES).refusal;
+    refusal = dk_read_records(DK_INTEL_HEX, text, text_length, 0xfff8, image, sizeof image, offsets, NODES, sizes, NODES, marked, sizeof marked).refusal;
 }
 
 static void read_srec(void)
 {
-    refusal = dk_read_records(DK_S_RECORDS, text, text_length, 0xfff8, image, sizeof image, offsets, NODES, sizes, NODES).refusal;
+    refusal = dk_read_records(DK_S_RECORDS, text, text_length, 0xfff8, image, sizeof image, offsets, NODES, sizes, NODES, marked, sizeof marked).refusal;
 }
 
 static void fault(void)
 {
-    refusal = dk_record_fault(DK_S_RECORDS, text, text_length, 0xfff8).fault;
+    refusal = dk_record_fault(DK_S_RECORDS, text, text_length, 0xfff8, marked, sizeof marked).fault;
 }
 
 /* of a good file, of one that begins below the load address, and of one whose first line comes again; in the last two `refusal` is 0 where
  * the reason is that */
 static void reason(void)
 {
-    refusal = dk_record_reason(DK_S_RECORDS, text, text_length, 0xfff8).reason;
+    refusal = dk_record_reason(DK_S_RECORDS, text, text_length, 0xfff8, marked, sizeof marked).reason;
 }
 
 static void reason_below(void)
 {
-    refusal = dk_record_reason(DK_S_RECORDS, text, text_length, 0xfff9).reason != DK_BELOW_LOAD;
+    refusal = dk_record_reason(DK_S_RECORDS, text, text_length, 0xfff9, marked, sizeof marked).reason != DK_BELOW_LOAD;
 }
 
 static void reason_twice(void)
 {
     static const uint8_t twice[] = "S1040000AA51\nS1040000AA51\nS9030000FC\n";
-    refusal = dk_record_reason(DK_S_RECORDS, twice, sizeof twice - 1, 0).reason != DK_GIVEN_TWICE;
+    refusal = dk_record_reason(DK_S_RECORDS, twice, sizeof twice - 1, 0, marked, sizeof marked).reason != DK_GIVEN_TWICE;
 }
 
 static uint8_t other[FILE_MOST];

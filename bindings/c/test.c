@@ -170,25 +170,25 @@ static void records(void)
             r = dk_write_srec(image, 8, at, 2, size, 2, 0x1fffe, 4, text, sizeof text);
         expect(r.refusal == DK_ACCEPTED, "records are written");
         lent = fresh;
-        struct dk_count n = dk_read_records((uint8_t)kind, text, r.count, 0x1fffe, lent.image, 8, lent.offsets, 4, lent.sizes, 4);
+        struct dk_count n = dk_read_records((uint8_t)kind, text, r.count, 0x1fffe, lent.image, 8, lent.offsets, 4, lent.sizes, 4, NULL, 0);
         expect(n.refusal == DK_ACCEPTED && n.count == 2 && lent.offsets[0] == 0 && lent.sizes[0] == 16 && lent.offsets[1] == 40 && lent.sizes[1] == 24,
                "the blocks that are read back");
         expect(lent.image[0] == 1 && lent.image[1] == 2 && lent.image[2] == 0xa5 && lent.image[4] == 0xa5 && lent.image[5] == 6 && lent.image[7] == 8,
                "the bytes that are read back, and the gap between them");
-        struct dk_fault fault = dk_record_fault((uint8_t)kind, text, r.count, 0x1fffe);
+        struct dk_fault fault = dk_record_fault((uint8_t)kind, text, r.count, 0x1fffe, NULL, 0);
         expect(fault.fault == 0 && fault.line == 0, "a good file");
         lent = fresh;
-        n = dk_read_records((uint8_t)kind, text, r.count, 0x1ffff, lent.image, 8, lent.offsets, 4, lent.sizes, 4);
+        n = dk_read_records((uint8_t)kind, text, r.count, 0x1ffff, lent.image, 8, lent.offsets, 4, lent.sizes, 4, NULL, 0);
         expect(n.refusal == DK_MALFORMED && n.place == 0 && n.count == 0 && untouched(), "a byte below the load address");
-        fault = dk_record_fault((uint8_t)kind, text, r.count, 0x1ffff);
+        fault = dk_record_fault((uint8_t)kind, text, r.count, 0x1ffff, NULL, 0);
         expect(fault.fault == 1 && fault.line == (kind == 0), "the line with that byte");
-        n = dk_read_records((uint8_t)kind, text, r.count, 0x1fffe, lent.image, 7, lent.offsets, 4, lent.sizes, 4);
+        n = dk_read_records((uint8_t)kind, text, r.count, 0x1fffe, lent.image, 7, lent.offsets, 4, lent.sizes, 4, NULL, 0);
         expect(n.refusal == DK_TOO_SHORT && n.place == 0 && untouched(), "a byte short");
-        n = dk_read_records((uint8_t)kind, text, r.count, 0x1fffe, lent.image, 8, lent.offsets, 1, lent.sizes, 4);
+        n = dk_read_records((uint8_t)kind, text, r.count, 0x1fffe, lent.image, 8, lent.offsets, 1, lent.sizes, 4, NULL, 0);
         expect(n.refusal == DK_TOO_SHORT && n.place == 2 && untouched(), "a block short");
         for (int neither = 2; neither < 256; neither++) {
-            n = dk_read_records((uint8_t)neither, text, r.count, 0x1fffe, lent.image, 8, lent.offsets, 4, lent.sizes, 4);
-            fault = dk_record_fault((uint8_t)neither, text, r.count, 0x1fffe);
+            n = dk_read_records((uint8_t)neither, text, r.count, 0x1fffe, lent.image, 8, lent.offsets, 4, lent.sizes, 4, NULL, 0);
+            fault = dk_record_fault((uint8_t)neither, text, r.count, 0x1fffe, NULL, 0);
             expect(n.refusal == DK_MALFORMED && n.place == 0 && n.count == 0 && untouched() && fault.fault == 1 && fault.line == 0,
                    "a format that is neither");
         }
@@ -200,6 +200,41 @@ static void records(void)
     expect(r.refusal == DK_BAD_PART && memcmp(text, before, sizeof text) == 0, "a block past the image");
     r = dk_write_hex(image, 8, at, 2, size, 2, 0x1fffe, text, sizeof hex - 2);
     expect(r.refusal == DK_TOO_SHORT && r.place == 3 && memcmp(text, before, sizeof text) == 0, "a character short");
+}
+
+/* A thousand records of a byte, each 387 addresses behind the one before it, of a thousand, and, if asked for, the first of them again.
+ * Without marks, with those that are zeros, in one window and in many, and with one that is not: the answer is one, and the marks are as they were. */
+static void jumping(void)
+{
+    static char text[20000];
+    static uint8_t bytes[1000], marks[125], before[125];
+    static const size_t lengths[] = {0, 125, 124, 7, 1};
+    for (int twice = 0; twice < 2; twice++) {
+        size_t length = 0;
+        for (unsigned i = 0; i < 1000u + (unsigned)twice; i++) {
+            unsigned at = i * 387 % 1000, sum = 1 + (at >> 8) + (at & 255) + 65;
+            length += (size_t)sprintf(text + length, ":01%04X0041%02X\n", at, (0u - sum) & 255);
+        }
+        length += (size_t)sprintf(text + length, ":00000001FF\n");
+        for (size_t i = 0; i < 6; i++) {
+            uint64_t at = 0xa5, size = 0xa5;
+            size_t many = i < 5 ? lengths[i] : sizeof marks;
+            memset(marks, 0, sizeof marks);
+            marks[124] = i == 5;
+            memcpy(before, marks, sizeof marks);
+            memset(bytes, 0xa5, sizeof bytes);
+            struct dk_fault fault = dk_record_fault(DK_INTEL_HEX, (const uint8_t *)text, length, 0, marks, many);
+            struct dk_reason reason = dk_record_reason(DK_INTEL_HEX, (const uint8_t *)text, length, 0, marks, many);
+            struct dk_count n = dk_read_records(DK_INTEL_HEX, (const uint8_t *)text, length, 0, bytes, sizeof bytes, &at, 1, &size, 1, marks, many);
+            if (twice)
+                expect(n.refusal == DK_MALFORMED && at == 0xa5 && bytes[0] == 0xa5 && fault.fault == 1 && fault.line == 1000 && reason.line == 1000
+                           && reason.reason == DK_GIVEN_TWICE && reason.first == 0 && reason.second == 0, "a byte again, in records that jump");
+            else
+                expect(n.refusal == DK_ACCEPTED && n.count == 1 && at == 0 && size == 8000 && bytes[0] == 65 && bytes[999] == 65 && fault.fault == 0
+                           && reason.reason == DK_GOOD_FILE, "records that jump");
+            expect(memcmp(marks, before, sizeof marks) == 0, "the marks as they were");
+        }
+    }
 }
 
 static struct dk_layout lay_out(const uint8_t *file, size_t size)
@@ -281,6 +316,7 @@ int main(int argc, char **argv)
     other_refusals();
     choices();
     records();
+    jumping();
     null_with_length_0();
     words();
     files(argc > 1 ? argv[1] : "examples/worked.form");

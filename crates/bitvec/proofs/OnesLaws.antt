@@ -1,19 +1,22 @@
 -- How a range of ones is put together from bytes: one store makes the ones of one byte.
-use mathlib.Core.Path.{_≡_, ap, _∙_}
+use mathlib.Core.Path.{_≡_, refl, sym, ap, subst, _∙_}
+use mathlib.Core.Bool.{true, false}
 use mathlib.Core.List.{List}
-use Prim.Native.Nat.{ℕ, zero, suc, _+_, _-_, _*_, _/_, _%_, _^_, _≤_, _<_}
-use native.Mathlib.Decide.{ℕ-discrete}
+use Prim.Native.Nat.{ℕ, zero, suc, _+_, _-_, _*_, _/_, _%_, _^_, _≤_, _<_, min}
+use native.Mathlib.Decide.{decLt, ℕ-discrete}
 use native.Mathlib.Nat.{pow-zero, pow-suc}
 use native.Mathlib.Omega.{arith}
 use lib.ListN.{length, getD, set, length-set}
 use lib.Seq.{getD-set-same, getD-set-other}
+use Rattle.refusal.specs.Laws.Bools.{clash}
 use Rattle.refusal.specs.Pick.{pick}
 use Rattle.bitvec.specs.Numeral.{numeral, bitOf}
 use Rattle.bitvec.specs.Laws.Numeral.{pick-lt, bitOf-numeral}
 use Rattle.bitvec.specs.Bits.{bitAt, Bytes}
 use Rattle.bitvec.specs.Within.{covers}
 use Rattle.bitvec.specs.Laws.Within.{covers-inside, covers-not}
-use Rattle.bitvec.specs.Ones.{withOnes}
+use Rattle.bitvec.specs.Laws.Bits.{bitAt-lt, bitAt-past}
+use Rattle.bitvec.specs.Ones.{withOnes, AnyOne}
 use Rattle.bitvec.specs.Theorems.Ones.{length-ones, bytes-ones, only-ones, ones-runs}
 use Rattle.bitvec.specs.Steps.{spliced}
 
@@ -102,3 +105,43 @@ two-ranges image mid after from m m′ end first second e h l = rw (second, firs
 pub same-range : (image after : List ℕ) (from end from′ end′ : ℕ) → after ≡ withOnes image from end → from ≡ from′ → end ≡ end′
     → after ≡ withOnes image from′ end′
 same-range image after from end from′ end′ h e f = rw (h, e, f)
+
+-- ---- whether there is a one
+
+module _ (image : List ℕ) (from : ℕ) where
+  -- none before bit i
+  abbrev pub NoneBefore : ℕ → Type 0
+  NoneBefore i = (k : ℕ) → from ≤ k → k < i → bitAt image k ≡ 0
+
+  -- one bit, as it is read
+  one-bit : (i r : ℕ) → r ≡ numeral 1 (λ j. bitAt image (8 * (i / 8) + i % 8 + j)) → r ≡ bitAt image i
+  unfolding numeral
+  one-bit i r e =
+      let same : bitAt image (8 * (i / 8) + i % 8 + 0) ≡ bitAt image i = ap (bitAt image) (omega arith) in
+      let read : r ≡ 0 * 2 + bitAt image (8 * (i / 8) + i % 8 + 0) = e in
+      omega (arith, read, same)
+
+  pub none-more : (i r : ℕ) → NoneBefore i → r ≡ numeral 1 (λ j. bitAt image (8 * (i / 8) + i % 8 + j)) → (r ≡ 1 → ⊥) → NoneBefore (i + 1)
+  none-more i r h e other k p q =
+      elim (ℕ-discrete k i) [
+        | no d ↦ h k p (elim (decLt k i) [ yes l ↦ l | no l ↦ absurd (d (omega arith)) ])
+        | yes d ↦
+            let bit = one-bit i r e in
+            let small = bitAt-lt image i in
+            ap (bitAt image) d ∙ elim (ℕ-discrete (bitAt image i) 0) [ yes z ↦ z | no z ↦ absurd (other (omega (arith, bit, small, z))) ]
+      ]
+
+  pub any-none : (end stop i : ℕ) → stop ≡ min end (8 * length image) → stop ≤ i → NoneBefore i → AnyOne image from end false
+  any-none end stop i e l h =
+      record {
+        some = λ z. absurd (clash z refl);
+        none = λ z k p q. elim (decLt k (8 * length image)) [ yes b ↦ h k p (omega arith) | no b ↦ bitAt-past image k (omega arith) ];
+      }
+
+  pub any-some : (end stop i r : ℕ) → stop ≡ min end (8 * length image) → from ≤ i → i < stop
+      → r ≡ numeral 1 (λ j. bitAt image (8 * (i / 8) + i % 8 + j)) → r ≡ 1 → AnyOne image from end true
+  any-some end stop i r e l h b one =
+      record {
+        some = λ z. record { bit = i; low = l; high = omega arith; one = sym (one-bit i r b) ∙ one };
+        none = λ z. absurd (clash refl z);
+      }

@@ -7,7 +7,7 @@ ghost use Prim.Native.Nat.{_+_, _*_, _/_, _^_, _≤_, _<_, min};
 ghost use lib.ListN.{length, drop};
 ghost use Rattle.bitvec.specs.Within.{endsWithin};
 ghost use Rattle.bitvec.specs.Clear.{Clears};
-ghost use Rattle.bitvec.specs.Ones.{withOnes, SetsOnes};
+ghost use Rattle.bitvec.specs.Ones.{withOnes, SetsOnes, AnyOne};
 ghost use Rattle.bitvec.specs.Part.{isPart, Parts, Judges};
 ghost use Rattle.bitvec.specs.Lists.{listOf};
 ghost use Rattle.bitvec.specs.Numeral.{numeral};
@@ -256,6 +256,21 @@ pub fn set_ones(image: &mut [u8], from: u64, end: u64)
         return;
     }
     ones_within(image, from, stop);
+}
+
+// Whether one of the image's bits from bit `from` to before bit `end` is a one.
+pub fn any_one(image: &[u8], from: u64, end: u64) -> bool
+    ensures { λ r. ⌜ AnyOne (now (image .entry)) from end r ⌝ }
+{
+    let stop = last_bit(image.len() as u64, end);
+    let mut i = from;
+    while i < stop {
+        if bits_from(image, (i / 8) as usize, i % 8, 1) == 1 {
+            return true;
+        }
+        i += 1;
+    }
+    false
 }
 
 // Whether a part is one that can be handed out: not empty, on byte edges, within the image.

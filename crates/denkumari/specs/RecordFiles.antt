@@ -22,11 +22,12 @@ pub record WriteTold (answer : Written) (after : List ℕ) (r : DkCount) (new : 
 abbrev pub readAs : ℕ → ℕ → List ℕ → Read
 readAs format load text = pick (ltb format 2) (readText format load text) (faulty 0)
 
--- What `dk_read_records` promises: the reader's answer, told in numbers, and the bytes and blocks lent.
+-- What `dk_read_records` promises: the reader's answer, told in numbers, and everything lent.
 pub record ReadTold (load : ℕ) (read : Read) (old : Lent) (r : DkCount) (new : Lent) : Type 0 where
   pub answer : r ≡ blocksCount (answerOf load old read)
   pub left : new ≡ lentAfter load old read
 
--- What `dk_record_fault` promises: "the first line at which no good file can go on, from 0".
-pub record FaultTold (read : Read) (r : DkFault) : Type 0 where
+-- What `dk_record_fault` promises: "the first line at which no good file can go on, from 0", and the lent marks as they were.
+pub record FaultTold (read : Read) (old : List ℕ) (r : DkFault) (new : List ℕ) : Type 0 where
   pub answer : r ≡ lineTold (faultOf read)
+  pub left : new ≡ old

@@ -37,6 +37,9 @@ const SOURCE: usize = 1_048_577;
 // How many bytes from the load address on a file may give, in how many blocks, and how many runs are listed.
 const BYTES: usize = 524_288;
 
+// A mark for each of those bytes, by which a file in any order is read quickly.
+const MARKS: usize = 65_536;
+
 const BLOCKS: usize = 4_096;
 
 const RUNS: usize = 65_536;
@@ -508,7 +511,8 @@ fn load_file(
     if source.len() >= SOURCE {
         return Blocks::Refused(Refusal::Malformed(0));
     }
-    record_read::read(0, source, load, bytes, offsets, sizes)
+    let mut marks = [0u8; MARKS];
+    record_read::read(0, source, load, bytes, offsets, sizes, &mut marks)
 }
 
 // The line at fault, if there is one.
@@ -520,7 +524,8 @@ fn put_fault(load: u32, source: &[u8], at: usize, out: &mut [u8]) -> usize
     if source.len() >= SOURCE {
         return at;
     }
-    let fault = record_fault::line_at_fault(0, source, load);
+    let mut marks = [0u8; MARKS];
+    let fault = record_fault::line_at_fault(0, source, load, &mut marks);
     match fault {
         Fault::Good => at,
         Fault::At(line) => {

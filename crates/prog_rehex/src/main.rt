@@ -30,6 +30,9 @@ const BYTES: usize = 1_048_576;
 
 const BLOCKS: usize = 4_096;
 
+// A mark for each of those bytes, by which a file in any order is read quickly.
+const MARKS: usize = 131_072;
+
 // Room for those bytes as records of 16 in the longest kind, and for a short record more in each block and 64 KiB line.
 const TEXT: usize = 3_145_728;
 
@@ -52,7 +55,8 @@ fn turn(
         Turns format load (now (bytes .entry)) (readText kind load (now (source .entry))) (now (out .entry)) r (now (out .exit))
         ⌝ }
 {
-    let found = record_read::read(kind, source, load, bytes, offsets, sizes);
+    let mut marks = [0u8; MARKS];
+    let found = record_read::read(kind, source, load, bytes, offsets, sizes, &mut marks);
     match found {
         Blocks::Refused(why) => Written::Refused(why),
         Blocks::Found(count) => {
@@ -80,7 +84,8 @@ fn put_fault(why: Refusal, kind: u8, load: u32, source: &[u8], out: &mut [u8]) -
         ⌝ }
 {
     let at = prog_args::put_refusal(why, out);
-    let fault = record_fault::line_at_fault(kind, source, load);
+    let mut marks = [0u8; MARKS];
+    let fault = record_fault::line_at_fault(kind, source, load, &mut marks);
     match fault {
         Fault::Good => at,
         Fault::At(line) => put_line(at, line, out),

@@ -25,7 +25,8 @@ use Rattle.record_fault.specs.Trail.{Trail, trail, lineAt, itemAt, nextO
 use Rattle.record_ihex_line.specs.Format.{hexItem}
 use Rattle.record_srec_line.specs.Srec.{srecItem, firstOf}
 use Rattle.record_fault.specs.Laws.TrailLaws.{high-append, new-above, last-append, parts-append}
-use Rattle.record_fault.specs.Steps.{firstBy, highest, leavesBy, lowerBy, RoomAbove, FreeIs, edgeBy, freeBy, AdmitIs, lastEnd, partsOf, beginsBy}
+use Rattle.record_fault.specs.Steps.{firstBy, highest, leavesBy, lowerBy, RoomAbove, RoomIs, FreeIs, edgeBy, freeBy, AdmitIs, lastEnd, partsOf, beginsBy}
+use Rattle.record_fault.specs.Once.{isFree, allNew}
 use Rattle.record_fault.specs.Laws.Steps.{leavesOf, admits, highAfter}
 use Rattle.record_fault.specs.declared.Admit.the-variants.{No, High}
 use Rattle.record_fault.specs.declared.Free.{Free}
@@ -44,7 +45,7 @@ pick-more : (e : Bool) (x y n : ℕ) → n < x → n < y → n < pick e x y
 pick-more true x y n p q = p
 pick-more false x y n p q = q
 
-and-false : (b : Bool) → b && false ≡ false
+pub and-false : (b : Bool) → b && false ≡ false
 and-false true = refl
 and-false false = refl
 
@@ -125,7 +126,7 @@ module _ (format : ℕ) {l : List ℕ} {s : ℕ} {r : Line} where
 
 -- ---- a line that was read
 
-and-true : (b : Bool) → b && true ≡ b
+pub and-true : (b : Bool) → b && true ≡ b
 and-true true = refl
 and-true false = refl
 
@@ -209,6 +210,10 @@ module _ {l : List ℕ} {s f : ℕ} {r : Line} {i : Item} (p : Says l s f r i) (
 or-le : (a b : Bool) → (a ≡ true → ⊥) → (a || b) ≡ true → b ≡ true
 or-le true b n e = absurd (n refl)
 or-le false b n e = e
+
+pub or-right : (a : Bool) {b : Bool} → b ≡ true → (a || b) ≡ true
+or-right true e = refl
+or-right false e = e
 
 -- a part of what is free
 pub new-within : (l : List Piece) (a b c d : ℕ) → a ≤ c → d ≤ b → isNew l a b ≡ true → isNew l c d ≡ true
@@ -313,6 +318,13 @@ module _ (given : List Piece) (first end : ℕ) (some : first < end) where
   room-gap edge top e h k =
       (λ z. absurd (omega arith), λ z. (new-within given edge top first end h k e, new-within given edge top end top (omega arith) (omega arith) e))
 
+  -- the answer, whether it was looked for or not
+  pub room-known : (look : Bool) {r : ℕ} → RoomAbove given first end r → RoomIs look given first end r
+  room-known look p = (λ z. p, λ z. p)
+
+  pub room-unknown : (look : Bool) → look ≡ false → RoomIs look given first end 8589934593
+  room-unknown look e = (λ z. absurd (clash z e), λ z. absurd (z refl))
+
 -- behind the line
 pub free-more : (given new : List Piece) (free : Free) (top kind address count : ℕ) → FreeIs given free
     → isNew given (edgeBy kind address count (free .edge)) top ≡ true → ((a b : ℕ) → leavesBy kind address count a b ≡ isNew new a b)
@@ -352,40 +364,63 @@ free-more given new free top kind address count f e own =
     more : (a b : ℕ) → isNew given a b ≡ true → leavesBy kind address count a b ≡ true → isNew (given ++ new) a b ≡ true
     more a b p q = new-append given new a b ∙ rw (p, sym (own a b) ∙ q)
 
-    or-right : (a : Bool) {b : Bool} → b ≡ true → (a || b) ≡ true
-    or-right true e = refl
-    or-right false e = e
-
 -- ---- each answer of the test
 
-module _ (load : ℕ) (given : List Piece) (kind address count high edge : ℕ) where
-  pub admit-pass : (top : ℕ) → isNew given edge top ≡ true → kind ≡ 2 → AdmitIs load given kind address count high edge (High high top)
-  admit-pass top f e = rw e (refl, refl, f)
+-- nothing lies below 0
+new-zero : (l : List Piece) (first : ℕ) → isNew l first 0 ≡ true
+unfolding isNew
+new-zero [] first = refl
+new-zero (p ∷ l) first = rw (or-right (leb (endOf p) first) (le-leb 0 (p .address) (omega arith)), new-zero l first)
 
-  pub admit-other : (kind ≡ 2 → ⊥) → (kind ≡ 1 → ⊥) → AdmitIs load given kind address count high edge No
+module _ (look : Bool) (load : ℕ) (given : List Piece) (kind address count high edge : ℕ) where
+  pub admit-pass : (top : ℕ) → isNew given edge top ≡ true → kind ≡ 2 → AdmitIs look load given kind address count high edge (High high top)
+  admit-pass top f e = rw e (refl, λ z. refl, λ z. refl, refl, f)
+
+  pub admit-other : (kind ≡ 2 → ⊥) → (kind ≡ 1 → ⊥) → AdmitIs look load given kind address count high edge No
   admit-other e f = rw (ne-eqb kind 2 e, ne-eqb kind 1 f)
 
   module _ (bytes : kind ≡ 1) where
-    pub admit-empty : (top : ℕ) → isNew given edge top ≡ true → count ≡ 0 → AdmitIs load given kind address count high edge (High high top)
-    admit-empty top f e = rw (bytes, e) (refl, refl, f)
+    pub admit-empty : (top : ℕ) → isNew given edge top ≡ true → count ≡ 0 → AdmitIs look load given kind address count high edge (High high top)
+    admit-empty top f e = rw (bytes, e) (refl, λ z. refl, λ z. refl, refl, f)
 
     module _ (some : count ≡ 0 → ⊥) where
-      pub admit-below : address < load → AdmitIs load given kind address count high edge No
+      pub admit-below : address < load → AdmitIs look load given kind address count high edge No
       admit-below h = rw (bytes, ne-eqb count 0 some, lt-leb load address h)
 
       module _ (above : load ≤ address) where
-        pub admit-past : 4294967296 < address + count → AdmitIs load given kind address count high edge No
+        pub admit-past : 4294967296 < address + count → AdmitIs look load given kind address count high edge No
         admit-past h = rw (bytes, ne-eqb count 0 some, le-leb load address above, lt-leb (address + count) 4294967296 h)
 
         module _ (within : address + count ≤ 4294967296) where
-          pub admit-twice : isNew given address (address + count) ≡ false → AdmitIs load given kind address count high edge No
+          pub admit-twice : isNew given address (address + count) ≡ false → AdmitIs look load given kind address count high edge No
           admit-twice h = rw (bytes, ne-eqb count 0 some, le-leb load address above, le-leb (address + count) 4294967296 within, h)
 
           pub admit-fine : (h top : ℕ) → h ≡ max high (address + count)
               → (isNew given address (address + count) ≡ true) × (isNew given (address + count) top ≡ true)
-              → AdmitIs load given kind address count high edge (High h top)
+              → AdmitIs look load given kind address count high edge (High h top)
           admit-fine h top e n =
-              rw (bytes, ne-eqb count 0 some, le-leb load address above, le-leb (address + count) 4294967296 within, n .0) (refl, e, n .1)
+              rw (
+                bytes,
+                ne-eqb count 0 some,
+                le-leb load address above,
+                le-leb (address + count) 4294967296 within,
+                n .0,
+                new-none address (address + count),
+              )
+              (refl, λ z. refl, λ z. refl, e, n .1)
+
+          -- its bytes may be new
+          pub admit-loose : (h : ℕ) → h ≡ max high (address + count) → (look ≡ true → isNew given address (address + count) ≡ true)
+              → AdmitIs look load given kind address count high edge (High h 0)
+          admit-loose h e n =
+              rw (
+                bytes,
+                ne-eqb count 0 some,
+                le-leb load address above,
+                le-leb (address + count) 4294967296 within,
+                new-none address (address + count),
+              )
+              (refl, n, λ z. absurd (omega arith), e, new-zero given (address + count))
 
 -- ---- one more line
 
@@ -420,6 +455,66 @@ allowed-good load given s f (gives a l t) e z = let y : _≡_ {A = ℕ} 0 1 = cc
 allowed-good load given s f (passes t) e z = let y : _≡_ {A = ℕ} 0 1 = cc in omega arith
 allowed-good load given s f ends e z = let y : _≡_ {A = ℕ} 0 1 = cc in omega arith
 allowed-good load given s f bad e z = let y : _≡_ {A = ℕ} 0 1 = cc in omega arith
+
+-- ---- a line whose bytes may be new
+
+module _ (load s f : ℕ) (given : List Piece) where
+  and-with : (a b c : Bool) → (a && b) && true ≡ true → c ≡ true → (a && b) && c ≡ true
+  and-with true true c e g = g
+  and-with true false c e g = e
+  and-with false b c e g = e
+
+  -- it may stand if they are,
+  pub may : (i : Item) → admits load [] (asLine s f i) ≡ true → allNew given (newPieces i) ≡ true → admits load given (asLine s f i) ≡ true
+  may (gives a [] t) e n = refl
+  may (gives a (b ∷ l) t) e n =
+      let some = ne-eqb (suc (length l)) 0 (λ z. omega arith) in
+      let fit : (leb load a && leb (a + suc (length l)) 4294967296) && true ≡ true = rw (some, new-none a (a + suc (length l))) at e in
+      rw some (and-with (leb load a) (leb (a + suc (length l)) 4294967296) (isNew given a (a + suc (length l))) fit n)
+  may (passes t) e n = refl
+  may ends e n = e
+  may bad e n = e
+
+  -- and may not if they are not;
+  pub may-not : (i : Item) → admits load [] (asLine s f i) ≡ true → allNew given (newPieces i) ≡ false → admits load given (asLine s f i) ≡ false
+  may-not (gives a [] t) e n = absurd (clash refl n)
+  may-not (gives a (b ∷ l) t) e n =
+      let some = ne-eqb (suc (length l)) 0 (λ z. omega arith) in
+      rw (some, n) (and-false (leb load a && leb (a + suc (length l)) 4294967296))
+  may-not (passes t) e n = absurd (clash refl n)
+  may-not ends e n = absurd (clash refl n)
+  may-not bad e n = absurd (clash refl n)
+
+  -- if it may, they are.
+  pub then-new : (i : Item) → admits load given (asLine s f i) ≡ true → allNew given (newPieces i) ≡ true
+  then-new (gives a [] t) e = refl
+  then-new (gives a (b ∷ l) t) e =
+      let some = ne-eqb (suc (length l)) 0 (λ z. omega arith) in
+      let fit : (leb load a && leb (a + suc (length l)) 4294967296) && isNew given a (a + suc (length l)) ≡ true = rw some at e in
+      both (leb load a && leb (a + suc (length l)) 4294967296) (isNew given a (a + suc (length l))) fit .1
+  then-new (passes t) e = refl
+  then-new ends e = refl
+  then-new bad e = refl
+
+  -- It is not the end record, and gives nothing past 2^32.
+  pub not-end : (i : Item) → admits load given (asLine s f i) ≡ true → (asLine s f i) .kind ≡ 3 → ⊥
+  not-end (gives a l t) e k = omega arith
+  not-end (passes t) e k = omega arith
+  not-end ends e k = let z : _≡_ {A = ℕ} 0 1 = cc in omega arith
+  not-end bad e k = omega arith
+
+  pub ends-near : (i : Item) → admits load given (asLine s f i) ≡ true → (x : ℕ) → 8589934592 ≤ x → isFree (newPieces i) x ≡ true
+  unfolding isNew
+  ends-near (gives a [] t) e x h = refl
+  ends-near (gives a (b ∷ l) t) e x h =
+      let some = ne-eqb (suc (length l)) 0 (λ z. omega arith) in
+      let fit : (leb load a && leb (a + suc (length l)) 4294967296) && isNew given a (a + suc (length l)) ≡ true = rw some at e in
+      let two = both (leb load a && leb (a + suc (length l)) 4294967296) (isNew given a (a + suc (length l))) fit in
+      let end = leb-true (a + suc (length l)) 4294967296 (both (leb load a) (leb (a + suc (length l)) 4294967296) (two .0) .1) in
+      rw (le-leb (a + suc (length l)) x (omega arith))
+  ends-near (passes t) e x h = refl
+  ends-near ends e x h = refl
+  ends-near bad e x h = refl
 
 -- ---- many lines
 

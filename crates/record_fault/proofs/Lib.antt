@@ -1,4 +1,5 @@
 pub mod Ends
 pub mod Laws
 pub mod Loops
+pub mod WindowLaws
 pub mod Unique

@@ -7,9 +7,10 @@ use native.Mathlib.Nat.{le-antisymm}
 use native.Mathlib.Numerals.{add-one}
 use native.Mathlib.Omega.{arith}
 use native.Mathlib.Decide.{decLt, ℕ-discrete}
-use lib.Dec.{ltb}
+use lib.Dec.{ltb, leb}
 use lib.ListN.{length, drop}
-use borrow.Author.Tests.{lt-ltb, le-ltb}
+use borrow.Author.Tests.{lt-leb, le-leb, ltb-true}
+use Rattle.refusal.specs.Laws.Bools.{both}
 use Rattle.refusal.specs.Pick.{pick}
 use Rattle.refusal.specs.Laws.Pick.{pick-true, pick-false}
 use Rattle.record_lines.specs.Items.{Item, Format, asLine, Says}
@@ -21,16 +22,18 @@ use Rattle.record_fault.specs.declared.Fault.the-variants.{Good, At}
 use Rattle.record_fault.specs.Reading.{formatBy, Read, sound, faulty, later, newPieces, stateAfter, isNew, isNone, goOn, readFrom, readText}
 use Rattle.record_fault.specs.Trail.{Trail, trail, lineAt, itemAt, nextOf}
 use Rattle.record_fault.specs.Laws.TrailLaws.{said, moved, next-at, next-state, next-given}
-use Rattle.record_fault.specs.Steps.{firstBy, IsGood, AllGood, Stepped, highest, rises, closingOf, Scanned, ScanIs}
-use Rattle.record_fault.specs.Steps.{lowerBy, RoomAbove, FreeIs, freeBy, AdmitIs, lastEnd, partsOf, beginsBy, nowhere}
+use Rattle.record_fault.specs.Steps.{firstBy, IsGood, AllGood, Stepped, highest, rises, Scanned, ScanIs}
+use Rattle.record_fault.specs.Steps.{lowerBy, RoomAbove, FreeIs, freeBy, AdmitIs, lastEnd, partsOf, beginsBy, nowhere, looksBy, walkOf, WalkIs}
+use Rattle.record_fault.specs.Once.{isFree, newAt, newLine, Once}
 use Rattle.record_fault.specs.Laws.Steps.{leavesOf, admits}
 use Rattle.record_fault.specs.declared.Step.{Step}
 use Rattle.record_fault.specs.declared.Free.{Free}
-use Rattle.record_fault.specs.declared.Admit.the-variants.{No, High}
+use Rattle.record_fault.specs.declared.Admit.the-variants.{High}
 use Rattle.record_fault.specs.declared.Scan.{Scan}
+use Rattle.record_fault.specs.declared.Walk.{Walk}
 use Rattle.record_fault.specs.declared.Scan.the-variants.{Whole, Broken}
 use Rattle.record_fault.proofs.Laws.{allowed-good, new-none, room-more, free-more, lines-at, lines-past, leaves-new, high-new, on′, off′, end′}
-use Rattle.record_fault.proofs.Laws.{laters, laters-faulty, laters-sound, edge-new, parts-new}
+use Rattle.record_fault.proofs.Laws.{laters, laters-faulty, laters-sound, edge-new, parts-new, may, may-not, then-new, not-end, ends-near}
 
 -- ---- whether bytes are new
 
@@ -82,7 +85,8 @@ abbrev reading : ℕ → ℕ → List ℕ → ℕ → Read
 reading format load text n =
     laters n (readFrom (formatBy format) load (linesOf (drop (trail format text n .at) text)) (trail format text n .state) (trail format text n .given))
 
-pub record Scanning (format load : ℕ) (text : List ℕ) (at state high : ℕ) (ascend : Bool) (parts : ℕ) (free : Free) (n : ℕ) : Type 0 where
+pub record Walking (format load : ℕ) (text : List ℕ) (strict : Bool) (at state high : ℕ) (ascend : Bool) (parts : ℕ) (sure : Bool) (free : Free) (n : ℕ)
+    : Type 0 where
   pub few : n ≤ at
   pub inside : at ≤ length text
   pub place : at ≡ trail format text n .at
@@ -95,7 +99,19 @@ pub record Scanning (format load : ℕ) (text : List ℕ) (at state high : ℕ) 
   pub edge : free .edge ≡ lastEnd nowhere (trail format text n .given)
   pub begun : parts ≡ partsOf nowhere (trail format text n .given)
   pub fewer : parts ≤ n
-  pub reads : readText format load text ≡ reading format load text n
+  pub near : (k : ℕ) → k < n → (x : ℕ) → nowhere ≤ x → isFree (newAt format text k) x ≡ true
+  pub twice : (k : ℕ) → k < n → Once format text k → newLine format text k ≡ false → readText format load text ≡ faulty k
+  pub firm : strict ≡ true → Once format text n
+  pub certain : sure ≡ true → Once format text n
+  pub reads : Once format text n → readText format load text ≡ reading format load text n
+
+-- what holds of the lines before one and of it holds up to the next
+pub up-to : {P : ℕ → Type 0} {n : ℕ} → ((k : ℕ) → k < n → P k) → P n → (k : ℕ) → k < n + 1 → P k
+up-to {P} {n} before here k z =
+    elim (ℕ-discrete k n) [
+      | yes e ↦ subst P (sym e) here
+      | no e ↦ before k (elim (decLt k n) [ yes q ↦ q | no q ↦ absurd (e (omega arith)) ])
+    ]
 
 read-step : (f : Format) (load : ℕ) (text : List ℕ) (at state : ℕ) (given : List Piece) → at < length text
     → readFrom f load (linesOf (drop at text)) state given
@@ -103,10 +119,10 @@ read-step : (f : Format) (load : ℕ) (text : List ℕ) (at state : ℕ) (given 
 unfolding readFrom
 read-step f load text at state given h = ap (λ (ls : List (List ℕ)). readFrom f load ls state given) (lines-at text at h)
 
-module _ (format load : ℕ) (text : List ℕ) where
-  pub scanning-starts : Scanning format load text 0 0 0 true 0 (record { low = nowhere; edge = nowhere; top = nowhere }) 0
+module _ (format load : ℕ) (text : List ℕ) (strict : Bool) where
+  pub walking-starts : Walking format load text strict 0 0 0 true 0 true (record { low = nowhere; edge = nowhere; top = nowhere }) 0
   unfolding trail laters highest rises lastEnd partsOf
-  scanning-starts =
+  walking-starts =
       record {
         few = omega arith;
         inside = omega arith;
@@ -120,20 +136,33 @@ module _ (format load : ℕ) (text : List ℕ) where
         edge = refl;
         begun = refl;
         fewer = omega arith;
-        reads = refl;
+        near = λ k z. absurd (omega arith);
+        twice = λ k z. absurd (omega arith);
+        firm = λ e k z. absurd (omega arith);
+        certain = λ e k z. absurd (omega arith);
+        reads = λ o. refl;
       }
 
-  module _ {at state high : ℕ} {ascend : Bool} {parts : ℕ} {free : Free} {n : ℕ} (w : Scanning format load text at state high ascend parts free n) where
+  module _ {at state high : ℕ} {ascend : Bool} {parts : ℕ} {sure : Bool} {free : Free} {n : ℕ}
+      (w : Walking format load text strict at state high ascend parts sure free n) where
     abbrev now : Trail
     now = trail format text n
 
     abbrev behind : List (List ℕ)
     behind = linesOf (drop (nextOf text (now .at)) text)
 
-    -- the file, by the line that is next
-    turn : at < length text → readText format load text
+    -- where the walk ends
+    abbrev ended : Bool → ℕ → Walk
+    ended whole line = walkOf n sure whole line high ascend parts
+
+    answered : (whole : Bool) (line : ℕ) → (Once format text n → ScanIs format load text (pick whole (Whole n high ascend parts) (Broken line)))
+        → WalkIs format load text strict (ended whole line)
+    answered whole line a = record { good = w .good; near = w .near; twice = w .twice; firm = w .firm; sure = w .certain; scan = a }
+
+    -- the file, by the line that is next, if those before it give nothing twice
+    turn : at < length text → Once format text n → readText format load text
         ≡ laters n (goOn load (now .given) (isNone behind) (readFrom (formatBy format) load behind) (itemAt format text (now .at) (now .state)))
-    turn h = w .reads ∙ ap (laters n)
+    turn h o = w .reads o ∙ ap (laters n)
         (read-step (formatBy format) load text (now .at) (now .state) (now .given) (subst (λ (x : ℕ). x < length text) (w .place) h))
 
     module _ (h : at < length text) {r : Step} (s : Stepped format text at state r) where
@@ -157,30 +186,41 @@ module _ (format load : ℕ) (text : List ℕ) where
       abbrev kind : ℕ
       kind = r .line .kind
 
-      pub scanning-on : (h′ top : ℕ) → AdmitIs load (now .given) kind (r .line .address) (r .line .count) high (free .edge) (High h′ top)
-          → {found up : Bool} → found ≡ leavesOf (r .line) 0 high → up ≡ (ascend && found) → {more : ℕ}
+      -- the test, of what the line says
+      told : (given : List Piece) {b : Bool} → admits load given (r .line) ≡ b → admits load given (asLine (now .state) first item) ≡ b
+      told given e = ap (admits load given) (sym (stepped .says .answer)) ∙ e
+
+      barred : admits load (now .given) (asLine (now .state) first item) ≡ false → ((asLine (now .state) first item) .kind ≡ 3 → ⊥)
+          → Once format text n → readText format load text ≡ faulty n
+      barred e k o =
+          turn h o ∙ ap (laters n) (off′ load (now .state) first (now .given) (isNone behind) (readFrom (formatBy format) load behind) item e k)
+          ∙ laters-faulty n 0 ∙ ap faulty (omega arith)
+
+      pub walking-on : (h′ top : ℕ) {look : Bool} → look ≡ looksBy strict parts
+          → AdmitIs look load (now .given) kind (r .line .address) (r .line .count) high (free .edge) (High h′ top)
+          → {found up : Bool} → found ≡ leavesOf (r .line) 0 high → up ≡ (ascend && found) → {safe : Bool} → safe ≡ (sure && ltb 0 top) → {more : ℕ}
           → (more ≡ beginsBy kind (r .line .address) (r .line .count) (free .edge)) × (more ≤ 1) → {after : Free}
           → after ≡ freeBy free top kind (r .line .address) (r .line .count)
-          → Scanning format load text (r .next) (r .line .state) h′ up (parts + more) after (n + 1)
+          → Walking format load text strict (r .next) (r .line .state) h′ up (parts + more) safe after (n + 1)
       unfolding laters trail
-      scanning-on h′ top e f u {more} m {after} v =
-          let allowed : admits load (now .given) (asLine (now .state) first item) ≡ true = ap (admits load (now .given)) (sym (stepped .says .answer)) ∙ e .0 in
-          let ahead : readText format load text ≡ laters (suc n)
-          (readFrom (formatBy format) load behind (stateAfter (now .state) item) (now .given ++ newPieces item)) =
-          turn h ∙ ap (laters n) (on′ load (now .state) first (now .given) (isNone behind) (readFrom (formatBy format) load behind) item allowed) in
+      walking-on h′ top {look} l e f u {safe} q {more} m {after} v =
+          let loose : admits load [] (asLine (now .state) first item) ≡ true = told [] (e .0) in
+          let once : admits load (now .given) (r .line) ≡ true → Once format text n → Once format text (n + 1) = λ y o.
+          up-to o (then-new load (now .state) first (now .given) item (told (now .given) y)) in
+          let before : Once format text (n + 1) → Once format text n = λ o k z. o k (omega arith) in
           record {
             few = omega (arith, s .onward h, w .few);
             inside = s .inside (w .inside);
             place = next-at format text n r stepped;
             force = next-state format text n r stepped;
-            top = e .1 ∙ high-new (now .given) high (stepped .says) (w .top) ∙ ap highest (next-given format text n r);
+            top = e .3 ∙ high-new (now .given) high (stepped .says) (w .top) ∙ ap highest (next-given format text n r);
             order = still f u;
             left =
                 omega (arith, w .left, ap length (lines-at text at h), ap (λ (x : ℕ). length (linesOf (drop x text))) (s .next));
             freed =
                 subst (FreeIs (trail format text (n + 1) .given)) (sym v)
                 (subst (λ (l : List Piece). FreeIs l (freeBy free top kind (r .line .address) (r .line .count))) (next-given format text n r)
-                (free-more (now .given) (newPieces item) free top kind (r .line .address) (r .line .count) (w .freed) (e .2)
+                (free-more (now .given) (newPieces item) free top kind (r .line .address) (r .line .count) (w .freed) (e .4)
                 (λ a b. leaves-new a b (stepped .says))));
             edge =
                 ap (λ (x : Free). x .edge) v ∙ edge-new (stepped .says) (now .given) nowhere (free .edge) (w .edge)
@@ -189,44 +229,49 @@ module _ (format load : ℕ) (text : List ℕ) where
                 parts-new (stepped .says) (now .given) nowhere (free .edge) (w .edge) parts more (w .begun) (m .0)
                 ∙ ap (partsOf nowhere) (next-given format text n r);
             fewer = omega (arith, w .fewer, m .1);
-            good = λ k z.
-                elim (ℕ-discrete k n) [
-                  | yes e ↦ subst (λ (j : ℕ). IsGood format (trail format text j .state) (lineAt text (trail format text j .at))) (sym e)
-                      (allowed-good load (now .given) (now .state) first item allowed)
-                  | no e ↦ w .good k (elim (decLt k n) [ yes q ↦ q | no q ↦ absurd (e (omega arith)) ])
-                ];
-            reads = ahead ∙ ap (reading format load text) (sym (add-one n));
+            good = up-to (w .good) (allowed-good load [] (now .state) first item loose);
+            near = up-to (w .near) (ends-near load (now .state) first [] item loose);
+            twice = up-to (w .twice)
+                (λ o y. barred (may-not load (now .state) first (now .given) item loose y) (not-end load (now .state) first [] item loose) o);
+            firm = λ y. once (e .1 (l ∙ rw y)) (w .firm y);
+            certain = λ y.
+                let two = both sure (ltb 0 top) (sym q ∙ y) in
+                once (e .2 (ltb-true 0 top (two .1))) (w .certain (two .0));
+            reads = λ o.
+                turn h (before o)
+                ∙ ap (laters n)
+                (on′ load (now .state) first (now .given) (isNone behind) (readFrom (formatBy format) load behind) item
+                (may load (now .state) first (now .given) item loose (o n (omega arith))))
+                ∙ ap (reading format load text) (sym (add-one n));
           }
 
-      pub scanning-off : AdmitIs load (now .given) kind (r .line .address) (r .line .count) high (free .edge) No → (kind ≡ 3 → ⊥)
-          → readText format load text ≡ faulty n
-      scanning-off e k =
-          let barred : admits load (now .given) (asLine (now .state) first item) ≡ false = ap (admits load (now .given)) (sym (stepped .says .answer)) ∙ e in
-          let other : (asLine (now .state) first item) .kind ≡ 3 → ⊥ = λ z. k (ap (λ (x : Line). x .kind) (stepped .says .answer) ∙ z) in
-          turn h ∙ ap (laters n) (off′ load (now .state) first (now .given) (isNone behind) (readFrom (formatBy format) load behind) item barred other)
-          ∙ laters-faulty n 0 ∙ ap faulty (omega arith)
+      pub walking-off : admits load (now .given) (r .line) ≡ false → (kind ≡ 3 → ⊥)
+          → WalkIs format load text strict (ended false n)
+      walking-off e k = answered false n
+          (barred (told (now .given) e) (λ z. k (ap (λ (x : Line). x .kind) (stepped .says .answer) ∙ z)))
 
-      closed : r .line .kind ≡ 3 → readText format load text ≡ laters n (pick (isNone behind) (sound (now .given)) (faulty 1))
-      closed k =
-          turn h
+      closed : r .line .kind ≡ 3 → Once format text n → readText format load text ≡ laters n (pick (isNone behind) (sound (now .given)) (faulty 1))
+      closed k o =
+          turn h o
           ∙ ap (laters n)
           (end′ load (now .state) first (now .given) (isNone behind) (readFrom (formatBy format) load behind) item
           (ap (λ (x : Line). x .kind) (sym (stepped .says .answer)) ∙ k))
 
-      pub scanning-closes : r .line .kind ≡ 3 → ScanIs format load text (closingOf n high ascend parts (r .next) (length text))
-      scanning-closes k =
+      pub walking-closes : r .line .kind ≡ 3
+          → WalkIs format load text strict (ended (leb (length text) (r .next)) (n + 1))
+      walking-closes k = answered (leb (length text) (r .next)) (n + 1) (λ o.
           elim (decLt (r .next) (length text)) [
             | yes p ↦
-                subst (ScanIs format load text) (sym (pick-true (Broken (n + 1)) (Whole n high ascend parts) (lt-ltb (r .next) (length text) p)))
-                (closed k
+                subst (ScanIs format load text) (sym (pick-false (Whole n high ascend parts) (Broken (n + 1)) (lt-leb (length text) (r .next) p)))
+                (closed k o
                 ∙ ap (λ (ls : List (List ℕ)). laters n (pick (isNone ls) (sound (now .given)) (faulty 1)))
                 (lines-at text (nextOf text (now .at)) (subst (λ (x : ℕ). x < length text) (stepped .next) p))
                 ∙ laters-faulty n 1)
             | no p ↦
-                subst (ScanIs format load text) (sym (pick-false (Broken (n + 1)) (Whole n high ascend parts) (le-ltb (r .next) (length text) (omega arith))))
+                subst (ScanIs format load text) (sym (pick-true (Whole n high ascend parts) (Broken (n + 1)) (le-leb (length text) (r .next) (omega arith))))
                 (record {
                   reads =
-                      closed k
+                      closed k o
                       ∙ ap (λ (ls : List (List ℕ)). laters n (pick (isNone ls) (sound (now .given)) (faulty 1)))
                       (lines-past text (nextOf text (now .at)) (subst (λ (x : ℕ). length text ≤ x) (stepped .next) (omega arith)))
                       ∙ laters-sound n (now .given);
@@ -234,19 +279,21 @@ module _ (format load : ℕ) (text : List ℕ) where
                   order = w .order;
                   begun = w .begun;
                   good = w .good;
+                  once = o;
                   all =
                       omega
                       (arith, w .left, ap length (lines-at text at h), ap length (lines-past text (nextOf text at) (omega (arith, p, s .next))));
                 })
-          ]
+          ])
 
-    pub scanning-ends : length text ≤ at → readText format load text ≡ faulty n
+    pub walking-ends : length text ≤ at
+        → WalkIs format load text strict (ended false n)
     unfolding readFrom
-    scanning-ends h =
-        w .reads
+    walking-ends h = answered false n (λ o.
+        w .reads o
         ∙ ap (λ (ls : List (List ℕ)). laters n (readFrom (formatBy format) load ls (now .state) (now .given)))
         (lines-past text (now .at) (subst (λ (x : ℕ). length text ≤ x) (w .place) h))
-        ∙ laters-faulty n 0 ∙ ap faulty (omega arith)
+        ∙ laters-faulty n 0 ∙ ap faulty (omega arith))
 
 -- ---- what is answered
 

@@ -1,3 +1,4 @@
 pub mod Sound
 pub mod Steps
 pub mod TrailLaws
+pub mod Windows

@@ -1,7 +1,9 @@
+pub mod Once
 pub mod Outcome
 pub mod Reading
 pub mod Sound
 pub mod Steps
 pub mod Trail
+pub mod Windows
 pub mod Theorems
 pub mod Laws

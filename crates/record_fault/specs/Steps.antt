@@ -13,11 +13,13 @@ use Rattle.record_lines.specs.Pieces.{Piece, endOf}
 use Rattle.record_srec_line.specs.Srec.{firstOf}
 use Rattle.record_fault.specs.Reading.{formatBy, sound, faulty, newPieces, isNew, readText}
 use Rattle.record_fault.specs.Trail.{trail, lineAt, itemAt, nextOf}
+use Rattle.record_fault.specs.Once.{isFree, newAt, newLine, Once}
 use Rattle.record_fault.specs.declared.Step.{Step}
 use Rattle.record_fault.specs.declared.Free.{Free}
 use Rattle.record_fault.specs.declared.Admit.{Admit}
 use Rattle.record_fault.specs.declared.Admit.the-variants.{No, High}
 use Rattle.record_fault.specs.declared.Scan.{Scan}
+use Rattle.record_fault.specs.declared.Walk.{Walk}
 use Rattle.record_fault.specs.declared.Scan.the-variants.{Whole, Broken}
 
 -- Where in a line its data's first digit stands.
@@ -70,6 +72,10 @@ highBy kind address count high = pick (eqb kind 1) (pick (eqb count 0) high (max
 abbrev pub RoomAbove : List Piece → ℕ → ℕ → ℕ → Type 0
 RoomAbove given first end r = (r ≡ 0 → isNew given first end ≡ false) × (0 < r → (isNew given first end ≡ true) × (isNew given end r ≡ true))
 
+-- 8589934593 stands for what was not looked for.
+abbrev pub RoomIs : Bool → List Piece → ℕ → ℕ → ℕ → Type 0
+RoomIs look given first end r = (look ≡ true → RoomAbove given first end r) × ((r ≡ 8589934593 → ⊥) → RoomAbove given first end r)
+
 abbrev pub lowerBy : ℕ → ℕ → ℕ → ℕ → ℕ → ℕ → ℕ
 lowerBy top kind address count first end =
     pick (leavesBy kind address count first end) (pick (leavesBy kind address count end top) top address) 0
@@ -108,10 +114,13 @@ beginsBy kind address count edge = pick (eqb kind 1) (pick (eqb count 0) 0 (pick
 abbrev pub nowhere : ℕ
 nowhere = 8589934592
 
-abbrev pub AdmitIs : ℕ → List Piece → ℕ → ℕ → ℕ → ℕ → ℕ → Admit → Type 0
-AdmitIs load given kind address count high edge No = admitsBy load given kind address count ≡ false
-AdmitIs load given kind address count high edge (High h top) =
-    (admitsBy load given kind address count ≡ true) × (h ≡ highBy kind address count high) × (isNew given (edgeBy kind address count edge) top ≡ true)
+-- Whether a line may stand. Where it is not looked for whether its bytes are new, nothing is known of the room above it.
+abbrev pub AdmitIs : Bool → ℕ → List Piece → ℕ → ℕ → ℕ → ℕ → ℕ → Admit → Type 0
+AdmitIs look load given kind address count high edge No = admitsBy load given kind address count ≡ false
+AdmitIs look load given kind address count high edge (High h top) =
+    (admitsBy load [] kind address count ≡ true) × (look ≡ true → admitsBy load given kind address count ≡ true)
+    × (0 < top → admitsBy load given kind address count ≡ true) × (h ≡ highBy kind address count high)
+    × (isNew given (edgeBy kind address count edge) top ≡ true)
 
 -- Records ascend: every byte of a line lies at or above the highest end of those given before it.
 unfoldable pub rises : ℕ → List ℕ → ℕ → Bool
@@ -124,10 +133,6 @@ rises format text (suc n) =
 abbrev pub AllGood : ℕ → List ℕ → ℕ → Type 0
 AllGood format text n = (k : ℕ) → k < n → IsGood format (trail format text k .state) (lineAt text (trail format text k .at))
 
--- The end record, with `next` the place behind it.
-abbrev pub closingOf : ℕ → ℕ → Bool → ℕ → ℕ → ℕ → Scan
-closingOf n high ascend parts next len = pick (ltb next len) (Broken (n + 1)) (Whole n high ascend parts)
-
 -- All lines up to the end record.
 pub record Scanned (format load : ℕ) (text : List ℕ) (lines high : ℕ) (ascend : Bool) (parts : ℕ) : Type 0 where
   pub reads : readText format load text ≡ sound (trail format text lines .given)
@@ -136,7 +141,28 @@ pub record Scanned (format load : ℕ) (text : List ℕ) (lines high : ℕ) (asc
   pub begun : parts ≡ partsOf nowhere (trail format text lines .given)
   pub all : suc lines ≡ length (linesOf text)
   pub good : AllGood format text lines
+  pub once : Once format text lines
 
 abbrev pub ScanIs : ℕ → ℕ → List ℕ → Scan → Type 0
 ScanIs format load text (Whole lines high ascend parts) = Scanned format load text lines high ascend parts
 ScanIs format load text (Broken line) = readText format load text ≡ faulty line
+
+-- While there are few parts, or always.
+abbrev pub looksBy : Bool → ℕ → Bool
+looksBy strict parts = strict || ltb parts 16
+
+-- What a walk over the lines tells, and what it promises.
+abbrev pub walkOf : ℕ → Bool → Bool → ℕ → ℕ → Bool → ℕ → Walk
+walkOf lines sure whole line high ascend parts =
+    record { lines = lines; sure = sure; whole = whole; line = line; high = high; ascend = ascend; parts = parts }
+
+abbrev pub scanOf : Walk → Scan
+scanOf w = pick (w .whole) (Whole (w .lines) (w .high) (w .ascend) (w .parts)) (Broken (w .line))
+
+pub record WalkIs (format load : ℕ) (text : List ℕ) (strict : Bool) (w : Walk) : Type 0 where
+  pub good : AllGood format text (w .lines)
+  pub near : (k : ℕ) → k < w .lines → (x : ℕ) → nowhere ≤ x → isFree (newAt format text k) x ≡ true
+  pub twice : (k : ℕ) → k < w .lines → Once format text k → newLine format text k ≡ false → readText format load text ≡ faulty k
+  pub firm : strict ≡ true → Once format text (w .lines)
+  pub sure : w .sure ≡ true → Once format text (w .lines)
+  pub scan : Once format text (w .lines) → ScanIs format load text (scanOf w)

@@ -2,15 +2,18 @@
 use record_lines::Line;
 ghost use mathlib.Core.Path.{_≡_};
 ghost use mathlib.Core.Bool.{_&&_};
-ghost use Prim.Native.Nat.{_+_, _*_, _≤_, _<_, max, min};
+ghost use Prim.Native.Nat.{_+_, _-_, _*_, _≤_, _<_, max, min};
+ghost use lib.Dec.{leb, ltb};
 ghost use lib.ListN.{length};
+ghost use Rattle.bitvec.specs.Clear.{cleared};
 ghost use Rattle.record_lines.specs.Items.{Says};
 ghost use Rattle.record_lines.specs.Spelling.{Spells};
 ghost use Rattle.record_fault.specs.Reading.{formatBy, readText};
 ghost use Rattle.record_fault.specs.Trail.{trail, lineAt};
-ghost use Rattle.record_fault.specs.Steps.{firstBy, IsGood, AllGood, longBy, stopBy, Stepped, leavesBy, highest, rises, closingOf, ScanIs};
-ghost use Rattle.record_fault.specs.Steps.{lowerBy, RoomAbove, FreeIs, freeBy, AdmitIs, beginsBy};
+ghost use Rattle.record_fault.specs.Steps.{firstBy, IsGood, AllGood, longBy, stopBy, Stepped, leavesBy, highest, ScanIs};
+ghost use Rattle.record_fault.specs.Steps.{lowerBy, RoomAbove, RoomIs, FreeIs, freeBy, AdmitIs, beginsBy, looksBy, walkOf, WalkIs, scanOf};
 ghost use Rattle.record_fault.specs.Outcome.{faultOf};
+ghost use Rattle.record_fault.specs.Windows.{allZero, windowEnd, Nearer, Windowed, FirstTwice};
 
 // A line that was read, where its characters end, and where the next one begins.
 pub struct Step {
@@ -26,10 +29,36 @@ pub struct Free {
     pub top: u64,
 }
 
+// A window of addresses that was marked: the first line that gives a byte in it twice, or how many lines there are; and the lowest address behind it that
+// is given, `NOWHERE` for none.
+pub struct Window {
+    pub line: usize,
+    pub next: u64,
+}
+
+// How far a walk over the lines came: how many it passed, and whether it is sure that they give no byte twice. If they do not, the file is `whole`, with what
+// `Scan` tells of it, or at fault in line `line`.
+pub struct Walk {
+    pub lines: usize,
+    pub sure: bool,
+    pub whole: bool,
+    pub line: usize,
+    pub high: u64,
+    pub ascend: bool,
+    pub parts: u64,
+}
+
 // No address is as high.
 const NOWHERE: u64 = 8_589_934_592;
 
-// Whether a line may stand where it does: the highest end of the bytes given behind it, and how far up from its own end nothing is given.
+// The room above bytes where it is not looked for.
+const UNKNOWN: u64 = 8_589_934_593;
+
+// So many parts are held against the lines before them by reading those again, before marks are used.
+const FEW: u64 = 16;
+
+// Whether a line may stand where it does: the highest end of the bytes given behind it, and how far up from its own end nothing is given; 0 where it was
+// not looked for whether its bytes are new.
 pub enum Admit {
     No,
     High(u64, u64),
@@ -218,7 +247,17 @@ fn room_above(format: u8, text: &[u8], t: &[u8; 256], n: usize, first: u64, end:
     top
 }
 
-// The same, where it is known what is free: the lines before are read again only where the bytes lie neither there nor above all others.
+// Whether bytes lie in the gap that is known to be free.
+fn gap_holds(first: u64, end: u64, free: Free) -> bool
+    ensures { λ r. ⌜ r ≡ (leb (free .edge) first && leb end (free .top)) ⌝ }
+{
+    if first < free.edge {
+        return false;
+    }
+    end <= free.top
+}
+
+// The same, where it is known what is free: the lines before are read again only where the bytes lie neither there nor above all others, and only if `look`.
 fn room_known(
     format: u8,
     text: &[u8],
@@ -228,10 +267,11 @@ fn room_known(
     end: u64,
     high: u64,
     free: Free,
+    look: bool,
 ) -> u64
     requires { ⌜ Spells (now t) × AllGood format (now text) n × (first < end) ⌝ }
     requires { ⌜ (high ≡ highest (trail format (now text) n .given)) × FreeIs (trail format (now text) n .given) free ⌝ }
-    ensures { λ r. ⌜ RoomAbove (trail format (now (text .entry)) n .given) first end r ⌝ }
+    ensures { λ r. ⌜ RoomIs look (trail format (now (text .entry)) n .given) first end r ⌝ }
 {
     if high <= first {
         return NOWHERE;
@@ -239,13 +279,13 @@ fn room_known(
     if end <= free.low {
         return free.low;
     }
-    if first < free.edge {
+    if gap_holds(first, end, free) {
+        return free.top;
+    }
+    if look {
         return room_above(format, text, t, n, first, end);
     }
-    if free.top < end {
-        return room_above(format, text, t, n, first, end);
-    }
-    free.top
+    UNKNOWN
 }
 
 fn larger(a: u64, b: u64) -> u64
@@ -266,10 +306,11 @@ fn may_stand(
     count: u8,
     high: u64,
     free: Free,
+    look: bool,
 ) -> Admit
     requires { ⌜ Spells (now t) × AllGood format (now text) n ⌝ }
     requires { ⌜ (high ≡ highest (trail format (now text) n .given)) × FreeIs (trail format (now text) n .given) free ⌝ }
-    ensures { λ r. ⌜ AdmitIs load (trail format (now (text .entry)) n .given) kind address count high (free .edge) r ⌝ }
+    ensures { λ r. ⌜ AdmitIs look load (trail format (now (text .entry)) n .given) kind address count high (free .edge) r ⌝ }
 {
     if kind == record_lines::PASS {
         return Admit::High(high, free.top);
@@ -288,9 +329,12 @@ fn may_stand(
     if end > 4_294_967_296 {
         return Admit::No;
     }
-    let top = room_known(format, text, t, n, first, end, high, free);
+    let top = room_known(format, text, t, n, first, end, high, free, look);
     if top == 0 {
         return Admit::No;
+    }
+    if top == UNKNOWN {
+        return Admit::High(larger(high, end), 0);
     }
     Admit::High(larger(high, end), top)
 }
@@ -343,27 +387,50 @@ fn begins(kind: u8, address: u32, count: u8, edge: u64) -> u64
     1
 }
 
-// The end record: nothing stands behind it.
-fn closing(n: usize, high: u64, ascend: bool, parts: u64, next: usize, len: usize) -> Scan
-    requires { ⌜ n < len ⌝ }
-    ensures { λ r. ⌜ r ≡ closingOf n high ascend parts next len ⌝ }
+// Whether the lines before one are read again.
+fn looks(strict: bool, parts: u64) -> bool
+    ensures { λ r. ⌜ r ≡ looksBy strict parts ⌝ }
 {
-    if next < len {
-        return Scan::Broken(n + 1);
+    if strict {
+        return true;
     }
-    Scan::Whole(n, high, ascend, parts)
+    parts < FEW
 }
 
-// Reads the lines up to the end record, or to the first at fault.
-pub fn scan_lines(format: u8, text: &[u8], t: &[u8; 256], load: u32) -> Scan
+// What a walk tells.
+fn walked(
+    lines: usize,
+    sure: bool,
+    whole: bool,
+    line: usize,
+    high: u64,
+    ascend: bool,
+    parts: u64,
+) -> Walk
+    ensures { λ r. ⌜ r ≡ walkOf lines sure whole line high ascend parts ⌝ }
+{
+    Walk {
+        lines,
+        sure,
+        whole,
+        line,
+        high,
+        ascend,
+        parts,
+    }
+}
+
+// Walks over the lines up to the end record, or to the first at fault. If not `strict`, lines that jump are read again only while there are few parts.
+fn walk_lines(format: u8, text: &[u8], t: &[u8; 256], load: u32, strict: bool) -> Walk
     requires { ⌜ Spells (now t) ⌝ }
-    ensures { λ r. ⌜ ScanIs format load (now (text .entry)) r ⌝ }
+    ensures { λ r. ⌜ WalkIs format load (now (text .entry)) strict r ⌝ }
 {
     let mut at = 0usize;
     let mut state = 0u16;
     let mut high = 0u64;
     let mut ascend = true;
     let mut parts = 0u64;
+    let mut sure = true;
     let mut free = Free {
         low: NOWHERE,
         edge: NOWHERE,
@@ -374,7 +441,7 @@ pub fn scan_lines(format: u8, text: &[u8], t: &[u8; 256], load: u32) -> Scan
         let s = take_line(format, text, t, at, state);
         let line = s.line;
         if line.kind == record_lines::END {
-            return closing(n, high, ascend, parts, s.next, text.len());
+            return walked(n, sure, text.len() <= s.next, n + 1, high, ascend, parts);
         }
         let Admit::High(h, top) = may_stand(
             format,
@@ -387,11 +454,13 @@ pub fn scan_lines(format: u8, text: &[u8], t: &[u8; 256], load: u32) -> Scan
             line.count,
             high,
             free,
+            looks(strict, parts),
         ) else {
-            return Scan::Broken(n);
+            return walked(n, sure, false, n, high, ascend, parts);
         };
         // all of its bytes lie at or above the highest end
         ascend = both(ascend, leaves(line.kind, line.address, line.count, 0, high));
+        sure = both(sure, 0 < top);
         parts += begins(line.kind, line.address, line.count, free.edge);
         free = free_after(free, top, line.kind, line.address, line.count);
         high = h;
@@ -399,15 +468,157 @@ pub fn scan_lines(format: u8, text: &[u8], t: &[u8; 256], load: u32) -> Scan
         state = line.state;
         n += 1;
     }
-    Scan::Broken(n)
+    walked(n, sure, false, n, high, ascend, parts)
 }
 
-// The line at fault of a file that is read from a load address on.
-pub fn line_at_fault(format: u8, text: &[u8], load: u32) -> Fault
-    ensures { λ r. ⌜ r ≡ faultOf (readText format load (now (text .entry))) ⌝ }
+// What a walk found.
+fn scan_of(w: Walk) -> Scan
+    ensures { λ r. ⌜ r ≡ scanOf w ⌝ }
+{
+    if w.whole {
+        return Scan::Whole(w.lines, w.high, w.ascend, w.parts);
+    }
+    Scan::Broken(w.line)
+}
+
+// Whether all marks are 0.
+pub fn all_zero(marks: &[u8]) -> bool
+    ensures { λ r. ⌜ r ≡ allZero (now (marks .entry)) ⌝ }
+{
+    let mut i = 0;
+    while i < marks.len() {
+        if marks[i] != 0 {
+            return false;
+        }
+        i += 1;
+    }
+    true
+}
+
+// Where a window ends. Counted in bytes, since a product could wrap.
+fn window_end(low: u64, bytes: u64) -> u64
+    requires { ⌜ low ≤ 8589934592 ⌝ }
+    ensures { λ r. ⌜ r ≡ windowEnd low bytes ⌝ }
+{
+    if bytes < 1_073_741_824 {
+        return smaller(low + 8 * bytes, NOWHERE);
+    }
+    NOWHERE
+}
+
+// How far an address lies above another; 0 where it does not.
+fn beyond(address: u64, low: u64) -> u64
+    ensures { λ r. ⌜ r ≡ address - low ⌝ }
+{
+    if address < low {
+        return 0;
+    }
+    address - low
+}
+
+// The lowest address from `top` on that is given, with a line's bytes.
+fn nearer(next: u64, first: u64, end: u64, top: u64) -> u64
+    ensures { λ r. ⌜ Nearer next first end top r ⌝ }
+{
+    if end <= top {
+        return next;
+    }
+    if end <= first {
+        return next;
+    }
+    smaller(next, larger(first, top))
+}
+
+// Marks the addresses from `low` on that the first n lines give, up to the first line that gives one of them twice.
+pub fn mark_window(
+    format: u8,
+    text: &[u8],
+    t: &[u8; 256],
+    n: usize,
+    low: u64,
+    marks: &mut [u8],
+) -> Window
+    requires { ⌜ Spells (now t) × AllGood format (now text) n ⌝ }
+    requires { ⌜ (low ≤ 8589934592) × (now marks ≡ cleared (now marks)) ⌝ }
+    ensures { λ r. ⌜ Windowed format (now (text .entry)) n low (now (marks .entry)) (now (marks .exit)) r ⌝ }
+{
+    let top = window_end(low, marks.len() as u64);
+    let mut at = 0usize;
+    let mut state = 0u16;
+    let mut next = NOWHERE;
+    let mut k = 0usize;
+    while k < n {
+        let s = known_line(format, text, t, at, state);
+        let line = s.line;
+        let first = line.address as u64;
+        let end = first + line.count as u64;
+        let from = beyond(first, low);
+        let stop = beyond(end, low);
+        if bitvec::any_one(marks, from, stop) {
+            return Window { line: k, next };
+        }
+        bitvec::set_ones(marks, from, stop);
+        next = nearer(next, first, end, top);
+        at = s.next;
+        state = line.state;
+        k += 1;
+    }
+    Window { line: k, next }
+}
+
+// The first of n lines that gives a byte which a line before it gave, or n: window after window, the marks 0 again behind each.
+fn first_twice(format: u8, text: &[u8], t: &[u8; 256], n: usize, marks: &mut [u8]) -> usize
+    requires { ⌜ Spells (now t) × AllGood format (now text) n ⌝ }
+    requires { ⌜ (0 < length (now marks)) × (now marks ≡ cleared (now marks)) ⌝ }
+    ensures { λ r. ⌜ FirstTwice format (now (text .entry)) n r × (now (marks .exit) ≡ now (marks .entry)) ⌝ }
+{
+    let mut low = 0u64;
+    let mut limit = n;
+    while low < NOWHERE {
+        let w = mark_window(format, text, t, limit, low, marks);
+        bitvec::clear(marks);
+        limit = w.line;
+        low = w.next;
+    }
+    limit
+}
+
+// Whether marks can be used.
+fn usable(marks: &[u8]) -> bool
+    ensures { λ r. ⌜ r ≡ (ltb 0 (length (now (marks .entry))) && allZero (now (marks .entry))) ⌝ }
+{
+    if marks.len() == 0 {
+        return false;
+    }
+    all_zero(marks)
+}
+
+// Reads the lines up to the end record, or to the first at fault. Marks are used where many lines jump, if there are any and all are 0, and are 0 again
+// behind the call; without them each line that jumps has the lines before it read again.
+pub fn scan_lines(format: u8, text: &[u8], t: &[u8; 256], load: u32, marks: &mut [u8]) -> Scan
+    requires { ⌜ Spells (now t) ⌝ }
+    ensures { λ r. ⌜ ScanIs format load (now (text .entry)) r × (now (marks .exit) ≡ now (marks .entry)) ⌝ }
+{
+    let w = walk_lines(format, text, t, load, false);
+    if w.sure {
+        return scan_of(w);
+    }
+    if !usable(marks) {
+        return scan_of(walk_lines(format, text, t, load, true));
+    }
+    let line = first_twice(format, text, t, w.lines, marks);
+    if line < w.lines {
+        return Scan::Broken(line);
+    }
+    scan_of(w)
+}
+
+// The line at fault of a file that is read from a load address on. The marks are as they were behind the call.
+pub fn line_at_fault(format: u8, text: &[u8], load: u32, marks: &mut [u8]) -> Fault
+    ensures { λ r. ⌜ (r ≡ faultOf (readText format load (now (text .entry)))) × (now (marks .exit) ≡ now (marks .entry)) ⌝ }
 {
     let t = record_lines::digit_table();
-    match scan_lines(format, text, &t, load) {
+    match scan_lines(format, text, &t, load, marks) {
         Scan::Whole(_, _, _, _) => Fault::Good,
         Scan::Broken(line) => Fault::At(line as u64),
     }

@@ -21,10 +21,10 @@ use Rattle.record_fault.specs.declared.Step.{Step}
 use Rattle.record_read.specs.Given.{given}
 use Rattle.record_read.specs.Laws.BlockFacts.{none-above, all-below}
 use Rattle.record_read.specs.Runs.{isGiven, reach, inBits, runsGiven, blocksGiven}
-use Rattle.record_read.specs.Steps.{run, inRun, extentOf, keptRun, closedBy, joinedBy, Small, Lowest, Betters}
+use Rattle.record_read.specs.Steps.{run, inRun, extentOf, keptRun, closedBy, joinedBy, Small, Lowest, Betters, Listed}
 use Rattle.record_read.specs.declared.Run.{Run}
 use Rattle.record_read.proofs.LineLaws.{line-high, line-none, line-above, given-more}
-use Rattle.record_read.proofs.Walks.{closed-idle, closed-touching, closed-apart, Listed, listed-starts, listed-on, listed-idle, listed-past, listed-all}
+use Rattle.record_read.proofs.Walks.{closed-idle, closed-touching, closed-apart, listed-starts, listed-on, listed-idle, listed-past, listed-all}
 use Rattle.record_read.proofs.Walks.{listed-agree}
 
 -- ---- runs by their bytes

@@ -23,11 +23,11 @@ use Rattle.record_read.specs.Given.{given, holds}
 use Rattle.record_read.specs.Laws.BlockFacts.{none-above, all-below}
 use Rattle.record_read.specs.Laws.GivenLaws.{given-append}
 use Rattle.record_read.specs.Runs.{isGiven, reach, inBits, runsGiven, blocksGiven}
-use Rattle.record_read.specs.Steps.{run, keptRun, closedBy, joinedBy}
+use Rattle.record_read.specs.Steps.{run, keptRun, closedBy, joinedBy, Walked}
 use Rattle.record_read.specs.declared.Run.{Run}
 use Rattle.record_read.proofs.Loops.{or-in, or-out, joined-end}
 use Rattle.record_read.proofs.Walks.{kept-some, kept-none, closed-touching, closed-apart}
-use Rattle.record_read.proofs.Walks.{Walked, walked-starts, walked-on, walked-agree, walked-all}
+use Rattle.record_read.proofs.Walks.{walked-starts, walked-on, walked-agree, walked-all}
 
 -- ---- where the pieces of a sound file lie
 
@@ -49,6 +49,11 @@ within-fine {load} (more l p f e) =
     let two = both (leb load (p .address) && leb (endOf p) 4294967296) (isNew l (p .address) (endOf p)) e in
     let ends = both (leb load (p .address)) (leb (endOf p) 4294967296) (two .0) in
     within-join load l (p ∷ []) (within-fine f) ((leb-true load (p .address) (ends .0), leb-true (endOf p) 4294967296 (ends .1)), tt)
+
+pub within-low : (load : ℕ) (l : List Piece) → Within load l → highest l ≤ 4294967296
+unfolding highest
+within-low load [] w = omega arith
+within-low load (p ∷ l) w = omega (arith, w .0 .1, within-low load l (w .1))
 
 -- ---- one piece more
 

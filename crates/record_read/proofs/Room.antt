@@ -18,57 +18,61 @@ use Rattle.record_lines.specs.Pieces.{Piece}
 use Rattle.record_fault.specs.Reading.{Read, sound, faulty, readText}
 use Rattle.record_fault.specs.Trail.{trail}
 use Rattle.record_fault.specs.Steps.{AllGood, rises, Scanned, ScanIs}
+use Rattle.record_fault.specs.Sound.{Fine}
 use Rattle.record_fault.specs.Theorems.Sound.{sound-pieces-fine}
 use Rattle.record_fault.specs.declared.Scan.{Scan}
 use Rattle.record_fault.specs.declared.Scan.the-variants.{Whole, Broken}
 use Rattle.record_read.specs.Given.{filled}
 use Rattle.record_read.specs.Runs.{reach, blocksGiven}
 use Rattle.record_read.specs.Outcome.{Lent, lent, Reads}
-use Rattle.record_read.proofs.Parts.{within-fine, parts-are-blocks}
+use Rattle.record_read.specs.Steps.{Ready}
+use Rattle.record_read.proofs.Parts.{within-fine, within-low, parts-are-blocks}
 
 -- What is stored from the start on.
 sets-over : (l v : List ℕ) → length v ≤ length l → sets l 0 v ≡ over v l
 sets-over l v h = sets-eq v l 0 (rw zero-add h) ∙ rw zero-add
 
-pub reads-bad : (load : ℕ) (read : Read) (old : Lent) (line : ℕ) → read ≡ faulty line → Reads load read old (Refused (Malformed 0)) old
-reads-bad load read old line e = rw e (record { answer = refl; figures = refl; after = refl })
+pub reads-bad : (load : ℕ) (read : Read) (bytes os ss marks : List ℕ) {marks₂ : List ℕ} → marks₂ ≡ marks → (line : ℕ) → read ≡ faulty line
+    → Reads load read (lent bytes os ss marks) (Refused (Malformed 0)) (lent bytes os ss marks₂)
+reads-bad load read bytes os ss marks same line e = rw (e, same) (record { answer = refl; figures = refl; after = refl })
 
-module _ (load : ℕ) (pieces : List Piece) (bytes os ss : List ℕ) (end : ℕ) (is : end ≡ reach load pieces) where
+module _ (load : ℕ) (pieces : List Piece) (bytes os ss marks : List ℕ) (end : ℕ) (is : end ≡ reach load pieces) where
   abbrev blocks : List Block
   blocks = blocksGiven load pieces
 
-  pub reads-short : length bytes < end → Reads load (sound pieces) (lent bytes os ss) (Refused (TooShort 0)) (lent bytes os ss)
+  pub reads-short : length bytes < end → Reads load (sound pieces) (lent bytes os ss marks) (Refused (TooShort 0)) (lent bytes os ss marks)
   reads-short h =
       let e : leb (reach load pieces) (length bytes) ≡ false = lt-leb (reach load pieces) (length bytes) (rw is at h) in
       record { answer = rw e; figures = rw e; after = rw e }
 
   -- There is room for the bytes, and the blocks are counted.
-  module _ (room : end ≤ length bytes) (count : ℕ) (is-all : count ≡ length blocks) where
+  module _ (room : end ≤ length bytes) (count : ℕ) (is-all : count ≡ length blocks) {marks₂ : List ℕ} (same : marks₂ ≡ marks) where
     e : leb (reach load pieces) (length bytes) ≡ true
     e = le-leb (reach load pieces) (length bytes) (rw is at room)
 
-    pub reads-short-first : length os < count → Reads load (sound pieces) (lent bytes os ss) (Refused (TooShort 2)) (lent bytes os ss)
+    pub reads-short-first : length os < count → Reads load (sound pieces) (lent bytes os ss marks) (Refused (TooShort 2)) (lent bytes os ss marks₂)
     reads-short-first h =
         let f : leb (length blocks) (length os) ≡ false = lt-leb (length blocks) (length os) (rw is-all at h) in
-        record { answer = rw (e, f); figures = rw (e, f); after = rw (e, f) }
+        record { answer = rw (e, f); figures = rw (e, f); after = rw (e, f, same) }
 
     module _ (first : count ≤ length os) where
       f : leb (length blocks) (length os) ≡ true
       f = le-leb (length blocks) (length os) (rw is-all at first)
 
-      pub reads-short-second : length ss < count → Reads load (sound pieces) (lent bytes os ss) (Refused (TooShort 2)) (lent bytes os ss)
+      pub reads-short-second : length ss < count → Reads load (sound pieces) (lent bytes os ss marks) (Refused (TooShort 2)) (lent bytes os ss marks₂)
       reads-short-second h =
           let g : leb (length blocks) (length ss) ≡ false = lt-leb (length blocks) (length ss) (rw is-all at h) in
-          record { answer = rw (e, f, g); figures = rw (e, f, g); after = rw (e, f, g) }
+          record { answer = rw (e, f, g); figures = rw (e, f, g); after = rw (e, f, g, same) }
 
-      pub reads-all : count ≤ length ss → {r : ℕ} {os₂ ss₂ new : List ℕ} → (new ≡ filled load pieces bytes) × Put blocks 0 os ss r os₂ ss₂
-          → Reads load (sound pieces) (lent bytes os ss) (Found count) (lent new os₂ ss₂)
-      reads-all h {r} {os₂} {ss₂} {new} p =
+      pub reads-all : count ≤ length ss → {r : ℕ} {os₂ ss₂ new last : List ℕ}
+          → (new ≡ filled load pieces bytes) × Put blocks 0 os ss r os₂ ss₂ × (last ≡ marks₂)
+          → Reads load (sound pieces) (lent bytes os ss marks) (Found count) (lent new os₂ ss₂ last)
+      reads-all h {r} {os₂} {ss₂} {new} {last} p =
           let k : length blocks ≤ length ss = rw is-all at h in
           let g : leb (length blocks) (length ss) ≡ true = le-leb (length blocks) (length ss) k in
           let o : os₂ ≡ over (origins blocks) os = p .1 .first ∙ sets-over os (origins blocks) (rw length-map (rw is-all at first)) in
           let s : ss₂ ≡ over (sizes blocks) ss = p .1 .second ∙ sets-over ss (sizes blocks) (rw length-map k) in
-          record { answer = rw (e, f, g, is-all); figures = rw (e, f, g, is-all); after = rw (e, f, g, p .0, o, s) }
+          record { answer = rw (e, f, g, is-all); figures = rw (e, f, g, is-all); after = rw (e, f, g, p .0, o, s, p .2, same) }
 
 -- ---- what the scan found
 
@@ -80,20 +84,26 @@ module _ (format load : ℕ) (text : List ℕ) (r : Scan) (p : ScanIs format loa
   scan-whole lines high ascend parts e = subst (ScanIs format load text) e p
 
 module _ {format load : ℕ} {text : List ℕ} {lines high : ℕ} {ascend : Bool} {parts : ℕ} (s : Scanned format load text lines high ascend parts) where
-  pub scanned-ready : {end : ℕ} → end ≡ high - load
-      → (end ≡ reach load (trail format text lines .given)) × (ascend ≡ rises format text lines)
-      × (ascend ≡ true → parts ≡ length (blocksGiven load (trail format text lines .given)))
-  scanned-ready e = (
-    e ∙ ap (λ (h : ℕ). h - load) (s .top),
-    s .order,
-    λ up. s .begun
-        ∙ parts-are-blocks format load text lines (sym (s .order) ∙ up)
-        (within-fine (sound-pieces-fine format load text (trail format text lines .given) (s .reads))),
-  )
+  fine : Fine load (trail format text lines .given)
+  fine = sound-pieces-fine format load text (trail format text lines .given) (s .reads)
+
+  pub scanned-ready : {end : ℕ} → end ≡ high - load → Ready format text lines load end
+  scanned-ready e =
+      record {
+        ends = e ∙ ap (λ (h : ℕ). h - load) (s .top);
+        low = within-low load (trail format text lines .given) (within-fine fine);
+        once = s .once;
+      }
+
+  pub scanned-parts : (ascend ≡ rises format text lines) × (ascend ≡ true → parts ≡ length (blocksGiven load (trail format text lines .given)))
+  scanned-parts = (s .order, λ up. s .begun ∙ parts-are-blocks format load text lines (sym (s .order) ∙ up) (within-fine fine))
 
   pub scanned-good : AllGood format text lines
   scanned-good = s .good
 
-  pub scanned-reads : {old new : Lent} {r : Blocks} → Reads load (sound (trail format text lines .given)) old r new
-      → Reads load (readText format load text) old r new
-  scanned-reads {old} {new} {r} w = subst (λ (x : Read). Reads load x old r new) (sym (s .reads)) w
+  pub scanned-reads : {bytes os ss marks marks₂ : List ℕ} {new : Lent} {r : Blocks} → marks₂ ≡ marks
+      → Reads load (sound (trail format text lines .given)) (lent bytes os ss marks₂) r new
+      → Reads load (readText format load text) (lent bytes os ss marks) r new
+  scanned-reads {bytes} {os} {ss} {marks} {marks₂} {new} {r} same w =
+      subst (λ (x : Read). Reads load x (lent bytes os ss marks) r new) (sym (s .reads))
+      (subst (λ (m : List ℕ). Reads load (sound (trail format text lines .given)) (lent bytes os ss m) r new) same w)

@@ -21,7 +21,7 @@ use Rattle.record_read.specs.Runs.{runs, inBits}
 use Rattle.record_read.specs.RunLaws.{Clear, Holds, AreRuns}
 use Rattle.record_read.specs.Theorems.RunLaws.{runs-are, one-list, runs-more}
 use Rattle.record_read.specs.Laws.RunLaws.{runs-agree}
-use Rattle.record_read.specs.Steps.{run, keptRun, closedBy, joinedBy, Small}
+use Rattle.record_read.specs.Steps.{run, keptRun, closedBy, joinedBy, Small, Walked, Listed}
 use Rattle.record_read.specs.declared.Run.{Run}
 
 -- ---- runs
@@ -47,16 +47,6 @@ module _ (r next : Run) where
     rw (lt-ltb (next .first) (next .end) h, ne-eqb (next .first) (r .end) e),
     rw (lt-ltb (next .first) (next .end) h, ne-eqb (next .first) (r .end) e),
   )
-
--- Closed runs before one that goes on, with nothing between that one's end and `from`.
-pub record Walked (test : ℕ → Bool) (done : List Block) (r : Run) (from : ℕ) : Type 0 where
-  pub order : r .first ≤ r .end
-  pub reached : r .end ≤ from
-  pub few : length done ≤ r .first
-  pub closed : AreRuns test 0 (r .first) done
-  pub inside : Holds test (r .first) (r .end)
-  pub clear : Clear test (r .end) from
-  pub none : r .first ≡ r .end → (done ≡ []) × (r .first ≡ 0)
 
 module _ (test : ℕ → Bool) where
   pub walked-starts : Walked test [] (run 0 0) 0
@@ -215,13 +205,6 @@ put-then xs ys {os₀} {ss₀} {os} {ss} {os′} {ss′} {c} p q =
 
 pub put-long : {xs : List Block} {os ss os′ ss′ : List ℕ} {c c′ : ℕ} → Put xs c os ss c′ os′ ss′ → (length os′ ≡ length os) × (length ss′ ≡ length ss)
 put-long {xs} {os} {ss} {os′} {ss′} {c} p = (ap length (p .first) ∙ length-sets os c (origins xs), ap length (p .second) ∙ length-sets ss c (sizes xs))
-
--- The blocks of closed runs stand in what is lent.
-pub record Listed (test : ℕ → Bool) (os₀ ss₀ : List ℕ) (r : Run) (from count : ℕ) (os ss : List ℕ) : Type 0 where
-  pub done : List Block
-  pub walked : Walked test done r from
-  pub put : Put (map inBits done) 0 os₀ ss₀ count os ss
-  pub small : Small r
 
 module _ (test : ℕ → Bool) (os₀ ss₀ : List ℕ) where
   pub listed-starts : Listed test os₀ ss₀ (run 0 0) 0 0 os₀ ss₀

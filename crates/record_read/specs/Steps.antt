@@ -1,13 +1,23 @@
 -- What the private steps of reading owe each other.
 use mathlib.Core.Path.{_≡_}
 use mathlib.Core.Bool.{Bool, true, false, _&&_, _||_}
-use mathlib.Core.List.{List, [], _∷_}
-use Prim.Native.Nat.{ℕ, _+_, _-_, _≤_, _<_}
+use mathlib.Core.List.{List, [], _∷_, map}
+use Prim.Native.Nat.{ℕ, _+_, _-_, _*_, _≤_, _<_}
 use lib.Dec.{leb, ltb, eqb}
+use lib.ListN.{length}
 use Rattle.refusal.specs.Pick.{pick}
+use Rattle.bitvec.specs.Bits.{bitAt}
+use Rattle.bitvec.specs.Clear.{cleared}
 use Rattle.blocks.specs.declared.Block.{Block}
+use Rattle.blocks.specs.Put.{Put}
 use Rattle.blocks.specs.Walk.{block}
+use Rattle.record_fault.specs.Steps.{highest}
+use Rattle.record_fault.specs.Trail.{trail}
+use Rattle.record_fault.specs.Once.{Once}
+use Rattle.record_read.specs.RunLaws.{Clear, Holds, AreRuns}
+use Rattle.record_read.specs.Runs.{reach, inBits}
 use Rattle.record_read.specs.declared.Run.{Run}
+use Rattle.record_read.specs.declared.Walk.{Walk}
 
 abbrev pub run : ℕ → ℕ → Run
 run first end = record { first = first; end = end }
@@ -44,3 +54,60 @@ pub record Lowest (test : ℕ → Bool) (from : ℕ) (r : Run) : Type 0 where
 pub record Betters (from : ℕ) (best next r : Run) : Type 0 where
   pub goes : (test : ℕ → Bool) → Lowest test from best → Lowest (λ x. test x || inRun next x) from r
   pub small : Small best → Small next → Small r
+
+-- What is known of a sound file's lines: where their bytes end, counted from the load address, and that none is given twice.
+pub record Ready (format : ℕ) (text : List ℕ) (n load end : ℕ) : Type 0 where
+  pub ends : end ≡ reach load (trail format text n .given)
+  pub low : highest (trail format text n .given) ≤ 4294967296
+  pub once : Once format text n
+
+-- ---- runs that are found one behind the other
+
+-- Closed runs before one that goes on, with nothing between that one's end and `from`.
+pub record Walked (test : ℕ → Bool) (done : List Block) (r : Run) (from : ℕ) : Type 0 where
+  pub order : r .first ≤ r .end
+  pub reached : r .end ≤ from
+  pub few : length done ≤ r .first
+  pub closed : AreRuns test 0 (r .first) done
+  pub inside : Holds test (r .first) (r .end)
+  pub clear : Clear test (r .end) from
+  pub none : r .first ≡ r .end → (done ≡ []) × (r .first ≡ 0)
+
+-- The blocks of closed runs stand in what is lent.
+pub record Listed (test : ℕ → Bool) (os₀ ss₀ : List ℕ) (r : Run) (from count : ℕ) (os ss : List ℕ) : Type 0 where
+  pub done : List Block
+  pub walked : Walked test done r from
+  pub put : Put (map inBits done) 0 os₀ ss₀ count os ss
+  pub small : Small r
+
+-- ---- marks
+
+-- Marks that may be used: some, no more than there are addresses, and all of them zeros.
+pub record Usable (marks : List ℕ) : Type 0 where
+  pub some : 0 < length marks
+  pub few : length marks ≤ 536870912
+  pub zeros : marks ≡ cleared marks
+
+-- The first bit from one on that is `want`, or how many bits there are.
+pub record FirstBit (marks : List ℕ) (want from r : ℕ) : Type 0 where
+  pub onward : from ≤ r
+  pub within : r ≤ 8 * length marks
+  pub others : (x : ℕ) → from ≤ x → x < r → bitAt marks x ≡ 1 - want
+  pub found : r < 8 * length marks → bitAt marks r ≡ want
+
+-- A mark for each byte from `from` on: 1 where a test holds.
+abbrev pub MarkedBy : (ℕ → Bool) → ℕ → List ℕ → Type 0
+MarkedBy test from marks = (j : ℕ) → j < 8 * length marks → test (from + j) ≡ eqb (bitAt marks j) 1
+
+-- Some walk has come to `from`, and goes on over marks; whatever walk it was has then come behind them.
+pub record Underway (marks : List ℕ) (from : ℕ) (w : Walk) (os ss : List ℕ) : Type 0 where
+  pub test : ℕ → Bool
+  pub first : List ℕ
+  pub second : List ℕ
+  pub listed : Listed test first second (w .run) from (w .count) os ss
+  pub marked : MarkedBy test from marks
+
+abbrev pub Passes : List ℕ → ℕ → Walk → List ℕ → List ℕ → Walk → ℕ → List ℕ → List ℕ → Type 0
+Passes marks from w os ss r to os′ ss′ =
+    (test : ℕ → Bool) (os₀ ss₀ : List ℕ) → MarkedBy test from marks → Listed test os₀ ss₀ (w .run) from (w .count) os ss
+    → Listed test os₀ ss₀ (r .run) to (r .count) os′ ss′

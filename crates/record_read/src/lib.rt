@@ -5,10 +5,11 @@ use refusal::Refusal;
 ghost use mathlib.Core.Path.{_≡_};
 ghost use mathlib.Core.Bool.{true};
 ghost use mathlib.Core.List.{[], _∷_, map};
-ghost use Prim.Native.Nat.{_+_, _-_, _*_, _≤_, _<_, max};
-ghost use lib.Dec.{ltb};
+ghost use Prim.Native.Nat.{_+_, _-_, _*_, _/_, _≤_, _<_, max};
+ghost use lib.Dec.{ltb, eqb};
 ghost use lib.ListN.{length, set};
 ghost use Rattle.refusal.specs.Pick.{pick};
+ghost use Rattle.bitvec.specs.Numeral.{bitOf};
 ghost use Rattle.blocks.specs.Put.{Put};
 ghost use Rattle.record_lines.specs.Digits.{bytesAt};
 ghost use Rattle.record_lines.specs.Pieces.{piece};
@@ -20,6 +21,7 @@ ghost use Rattle.record_read.specs.Given.{filled};
 ghost use Rattle.record_read.specs.Runs.{isGiven, reach, inBits, runsGiven, blocksGiven};
 ghost use Rattle.record_read.specs.Outcome.{lent, Reads};
 ghost use Rattle.record_read.specs.Steps.{extentOf, keptRun, closedBy, joinedBy, Small, Lowest, Betters};
+ghost use Rattle.record_read.specs.Steps.{Ready, Usable, FirstBit, Underway, Passes};
 
 // Bytes from `first` on and before `end`, counted from the load address; none where `end` is not above `first`.
 pub struct Run {
@@ -27,10 +29,22 @@ pub struct Run {
     pub end: u64,
 }
 
+// How far the blocks are written: the run that goes on, and how many of them stand before it.
+pub struct Walk {
+    pub run: Run,
+    pub count: u64,
+}
+
 // The bytes' and the blocks' numbers among the lent outputs.
 const BYTES: u64 = 0;
 
 const BLOCKS: u64 = 2;
+
+// So many parts at most are found without marks: the file is read once for each.
+const FEW: u64 = 16;
+
+// As many marks as there are addresses take so many bytes.
+const MARKS: usize = 536_870_912;
 
 // An address, counted from the load address; 0 for one below it.
 fn above(address: u64, load: u32) -> u64
@@ -201,6 +215,148 @@ fn walk_any(
     push(run, count, offsets, sizes)
 }
 
+// Bit b of a byte, from the top.
+fn bit_in(byte: u8, b: u64) -> u8
+    requires { ⌜ b < 8 ⌝ }
+    ensures { λ r. ⌜ r ≡ bitOf 8 byte b ⌝ }
+{
+    (byte >> (7 - b)) % 2
+}
+
+// Where to look on behind bit j: behind its byte if that is to be passed over.
+fn past(byte: u8, skip: u8, j: u64) -> u64
+    requires { ⌜ j ≤ 4294967296 ⌝ }
+    ensures { λ r. ⌜ r ≡ pick (eqb byte skip) (8 * (j / 8) + 8) (j + 1) ⌝ }
+{
+    if byte == skip {
+        return 8 * (j / 8) + 8;
+    }
+    j + 1
+}
+
+// The first bit from one on that is `want`, or how many bits there are.
+fn next_bit(marks: &[u8], from: u64, want: u8) -> u64
+    requires { ⌜ (from ≤ 8 * length (now marks)) × (length (now marks) ≤ 536870912) × (want < 2) ⌝ }
+    ensures { λ r. ⌜ FirstBit (now (marks .entry)) want from r ⌝ }
+{
+    let size = 8 * marks.len() as u64;
+    // a byte that has none
+    let skip = 255 * (1 - want);
+    let mut j = from;
+    while j < size {
+        let byte = marks[(j / 8) as usize];
+        if bit_in(byte, j % 8) == want {
+            return j;
+        }
+        j = past(byte, skip, j);
+    }
+    j
+}
+
+// Goes on over the bytes of a window, the first of which is byte `from`, counted from the load address; a mark stands for each that is given.
+fn walk_window(marks: &[u8], from: u64, begun: Walk, offsets: &mut [u64], sizes: &mut [u64]) -> Walk
+    requires { ⌜ (from ≤ 4294967296) × (length (now marks) ≤ 536870912) ⌝ }
+    requires { ⌜ Underway (now marks) from begun (now offsets) (now sizes) ⌝ }
+    ensures { λ r. ⌜ Passes (now (marks .entry)) from begun (now (offsets .entry)) (now (sizes .entry))
+        r (from + 8 * length (now (marks .entry))) (now (offsets .exit)) (now (sizes .exit)) ⌝ }
+{
+    let size = 8 * marks.len() as u64;
+    let mut run = begun.run;
+    let mut count = begun.count;
+    let mut j = 0u64;
+    while j < size {
+        let first = next_bit(marks, j, 1);
+        let end = next_bit(marks, first, 0);
+        let next = Run {
+            first: from + first,
+            end: from + end,
+        };
+        count = close(run, next, count, offsets, sizes);
+        run = join(run, next);
+        j = end;
+    }
+    Walk { run, count }
+}
+
+// The blocks of a file whose records stand in any order, by a mark for each byte given, in as many windows as it takes. The lent marks are zeros, and are
+// again in the end.
+fn walk_marks(
+    format: u8,
+    text: &[u8],
+    t: &[u8; 256],
+    n: usize,
+    load: u32,
+    end: u64,
+    offsets: &mut [u64],
+    sizes: &mut [u64],
+    marks: &mut [u8],
+) -> u64
+    requires { ⌜ Spells (now t) × AllGood format (now text) n ⌝ }
+    requires { ⌜ Ready format (now text) n load end ⌝ }
+    requires { ⌜ Usable (now marks) ⌝ }
+    ensures { λ r. ⌜ Put (blocksGiven load (trail format (now (text .entry)) n .given)) 0
+        (now (offsets .entry)) (now (sizes .entry)) r (now (offsets .exit)) (now (sizes .exit))
+        × (now (marks .exit) ≡ now (marks .entry)) ⌝ }
+{
+    let mut from = 0u64;
+    let mut walk = Walk {
+        run: Run { first: 0, end: 0 },
+        count: 0,
+    };
+    while from < end {
+        let window = record_fault::mark_window(format, text, t, n, load as u64 + from, marks);
+        walk = walk_window(marks, from, walk, offsets, sizes);
+        bitvec::clear(marks);
+        from = above(window.next, load);
+    }
+    push(walk.run, walk.count, offsets, sizes)
+}
+
+// Whether the blocks are found by marks: where there are more than a few, and marks are lent and are zeros.
+fn by_marks(ascend: bool, parts: u64, marks: &[u8]) -> bool
+    ensures { λ r. ⌜ (r ≡ true → Usable (now (marks .entry))) ⌝ }
+{
+    if ascend {
+        return false;
+    }
+    if parts <= FEW {
+        return false;
+    }
+    if marks.len() == 0 {
+        return false;
+    }
+    if marks.len() > MARKS {
+        return false;
+    }
+    record_fault::all_zero(marks)
+}
+
+// The blocks of a file whose records stand in any order.
+fn find_blocks(
+    format: u8,
+    text: &[u8],
+    t: &[u8; 256],
+    n: usize,
+    load: u32,
+    end: u64,
+    marked: bool,
+    offsets: &mut [u64],
+    sizes: &mut [u64],
+    marks: &mut [u8],
+) -> u64
+    requires { ⌜ Spells (now t) × AllGood format (now text) n ⌝ }
+    requires { ⌜ Ready format (now text) n load end ⌝ }
+    requires { ⌜ (marked ≡ true → Usable (now marks)) ⌝ }
+    ensures { λ r. ⌜ Put (blocksGiven load (trail format (now (text .entry)) n .given)) 0
+        (now (offsets .entry)) (now (sizes .entry)) r (now (offsets .exit)) (now (sizes .exit))
+        × (now (marks .exit) ≡ now (marks .entry)) ⌝ }
+{
+    if marked {
+        return walk_marks(format, text, t, n, load, end, offsets, sizes, marks);
+    }
+    walk_any(format, text, t, n, load, end, offsets, sizes)
+}
+
 // Stores the byte of an address, if there is room for it.
 fn put_byte(bytes: &mut [u8], address: u64, load: u32, value: u8)
     ensures { λ _. ⌜ now (bytes .exit) ≡ filled load (piece address (value ∷ []) ∷ []) (now (bytes .entry)) ⌝ }
@@ -324,21 +480,25 @@ fn store(
     load: u32,
     end: u64,
     ascend: bool,
+    marked: bool,
     bytes: &mut [u8],
     offsets: &mut [u64],
     sizes: &mut [u64],
+    marks: &mut [u8],
 ) -> u64
     requires { ⌜ Spells (now t) × AllGood format (now text) n ⌝ }
-    requires { ⌜ (end ≡ reach load (trail format (now text) n .given)) × (ascend ≡ rises format (now text) n) ⌝ }
+    requires { ⌜ Ready format (now text) n load end ⌝ }
+    requires { ⌜ (ascend ≡ rises format (now text) n) × (marked ≡ true → Usable (now marks)) ⌝ }
     ensures { λ r. ⌜ (now (bytes .exit) ≡ filled load (trail format (now (text .entry)) n .given) (now (bytes .entry)))
         × Put (blocksGiven load (trail format (now (text .entry)) n .given)) 0
-        (now (offsets .entry)) (now (sizes .entry)) r (now (offsets .exit)) (now (sizes .exit)) ⌝ }
+        (now (offsets .entry)) (now (sizes .entry)) r (now (offsets .exit)) (now (sizes .exit))
+        × (now (marks .exit) ≡ now (marks .entry)) ⌝ }
 {
     if ascend {
         return store_up(format, text, t, n, load, bytes, offsets, sizes);
     }
     fill(format, text, t, n, load, bytes);
-    walk_any(format, text, t, n, load, end, offsets, sizes)
+    find_blocks(format, text, t, n, load, end, marked, offsets, sizes, marks)
 }
 
 // How many blocks there are: where records ascend, as many as the scan found parts; otherwise a walk writes its blocks nowhere.
@@ -351,18 +511,31 @@ fn count_blocks(
     end: u64,
     ascend: bool,
     parts: u64,
+    marked: bool,
+    marks: &mut [u8],
 ) -> u64
     requires { ⌜ Spells (now t) × AllGood format (now text) n ⌝ }
-    requires { ⌜ (end ≡ reach load (trail format (now text) n .given))
-        × (ascend ≡ true → parts ≡ length (blocksGiven load (trail format (now text) n .given))) ⌝ }
-    ensures { λ r. ⌜ r ≡ length (blocksGiven load (trail format (now (text .entry)) n .given)) ⌝ }
+    requires { ⌜ Ready format (now text) n load end ⌝ }
+    requires { ⌜ (ascend ≡ true → parts ≡ length (blocksGiven load (trail format (now text) n .given))) × (marked ≡ true → Usable (now marks)) ⌝ }
+    ensures { λ r. ⌜ (r ≡ length (blocksGiven load (trail format (now (text .entry)) n .given))) × (now (marks .exit) ≡ now (marks .entry)) ⌝ }
 {
     if ascend {
         return parts;
     }
     let mut offsets = [0u64; 1];
     let mut sizes = [0u64; 1];
-    walk_any(format, text, t, n, load, end, &mut offsets, &mut sizes)
+    find_blocks(
+        format,
+        text,
+        t,
+        n,
+        load,
+        end,
+        marked,
+        &mut offsets,
+        &mut sizes,
+        marks,
+    )
 }
 
 // A sound file's bytes and blocks, if there is room for both.
@@ -378,29 +551,46 @@ fn take(
     bytes: &mut [u8],
     offsets: &mut [u64],
     sizes: &mut [u64],
+    marks: &mut [u8],
 ) -> Blocks
     requires { ⌜ Spells (now t) × AllGood format (now text) n ⌝ }
-    requires { ⌜ (end ≡ reach load (trail format (now text) n .given)) × (ascend ≡ rises format (now text) n)
-        × (ascend ≡ true → parts ≡ length (blocksGiven load (trail format (now text) n .given))) ⌝ }
-    ensures { λ r. ⌜ Reads load (sound (trail format (now (text .entry)) n .given)) (lent (now (bytes .entry)) (now (offsets .entry)) (now (sizes .entry))) r
-        (lent (now (bytes .exit)) (now (offsets .exit)) (now (sizes .exit))) ⌝ }
+    requires { ⌜ Ready format (now text) n load end ⌝ }
+    requires { ⌜ (ascend ≡ rises format (now text) n) × (ascend ≡ true → parts ≡ length (blocksGiven load (trail format (now text) n .given))) ⌝ }
+    ensures { λ r. ⌜ Reads load (sound (trail format (now (text .entry)) n .given))
+        (lent (now (bytes .entry)) (now (offsets .entry)) (now (sizes .entry)) (now (marks .entry))) r
+        (lent (now (bytes .exit)) (now (offsets .exit)) (now (sizes .exit)) (now (marks .exit))) ⌝ }
 {
     if (bytes.len() as u64) < end {
         return Blocks::Refused(Refusal::TooShort(BYTES));
     }
-    let count = count_blocks(format, text, t, n, load, end, ascend, parts);
+    let marked = by_marks(ascend, parts, marks);
+    let count = count_blocks(format, text, t, n, load, end, ascend, parts, marked, marks);
     if (offsets.len() as u64) < count {
         return Blocks::Refused(Refusal::TooShort(BLOCKS));
     }
     if (sizes.len() as u64) < count {
         return Blocks::Refused(Refusal::TooShort(BLOCKS));
     }
-    store(format, text, t, n, load, end, ascend, bytes, offsets, sizes);
+    store(
+        format,
+        text,
+        t,
+        n,
+        load,
+        end,
+        ascend,
+        marked,
+        bytes,
+        offsets,
+        sizes,
+        marks,
+    );
     Blocks::Found(count)
 }
 
 // Reads a file of records, format 0 Intel HEX, every other number S-records, from a load address on: its bytes and its blocks, in bits, counted from that
-// address; how many blocks there are, or 4, then 14 with place 0 for the bytes and 2 for the blocks, and everything lent as it was.
+// address; how many blocks there are, or 4, then 14 with place 0 for the bytes and 2 for the blocks, and everything lent as it was. The marks make it quick
+// where they are zeros, and are left as they were.
 pub fn read(
     format: u8,
     text: &[u8],
@@ -408,13 +598,20 @@ pub fn read(
     bytes: &mut [u8],
     offsets: &mut [u64],
     sizes: &mut [u64],
+    marks: &mut [u8],
 ) -> Blocks
-    ensures { λ r. ⌜ Reads load (readText format load (now (text .entry))) (lent (now (bytes .entry)) (now (offsets .entry)) (now (sizes .entry))) r
-        (lent (now (bytes .exit)) (now (offsets .exit)) (now (sizes .exit))) ⌝ }
+    ensures { λ r. ⌜ Reads load (readText format load (now (text .entry)))
+        (lent (now (bytes .entry)) (now (offsets .entry)) (now (sizes .entry)) (now (marks .entry))) r
+        (lent (now (bytes .exit)) (now (offsets .exit)) (now (sizes .exit)) (now (marks .exit))) ⌝ }
 {
     let t = record_lines::digit_table();
-    let Scan::Whole(n, high, ascend, parts) = record_fault::scan_lines(format, text, &t, load)
-    else {
+    let Scan::Whole(n, high, ascend, parts) = record_fault::scan_lines(
+        format,
+        text,
+        &t,
+        load,
+        marks,
+    ) else {
         return Blocks::Refused(Refusal::Malformed(0));
     };
     let end = above(high, load);
@@ -430,5 +627,6 @@ pub fn read(
         bytes,
         offsets,
         sizes,
+        marks,
     )
 }

@@ -14,7 +14,7 @@ use Rattle.prog_reason.proofs.put.Statement.{statement}
 use Rattle.prog_reason.proofs.put.Tie as tie
 
 abbrev begin : tie.After-reason-of → tie.Start
-begin d = d .before .before .before
+begin d = d .before .before .before .before
 
 abbrev why : tie.After-reason-of → Why
 why d = d .reason-of .result
@@ -31,12 +31,13 @@ fits d =
 returns : tie.Need-returns
 unfolding reasonText
 returns c =
-    let d = c .before .before .before .before .before .before in
+    let d = c .before .before .before .before .before .before .before in
     let w = c .before .before .write-line .ensures in
-    rw (← d .reason-of .ensures) (put-stands (puts-writes (omega (arith, fits d)) w) (fits d) (omega (arith, w .place)))
+    rw (← d .reason-of .ensures .0) (put-stands (puts-writes (omega (arith, fits d)) w) (fits d) (omega (arith, w .place)))
 
 pub put-spec : {M : Type 1} → statement M
 put-spec =
     tie.close
     (tie.spec
-    (λ c κs. search needs) (λ c. search needs) (λ c. search needs) (λ c κs. omega (arith, fits (c .before .before .before))) (λ c. search needs) returns)
+    (λ c. search needs) (λ c κs. search needs) (λ c. search needs) (λ c. search needs) (λ c κs. omega (arith, fits (c .before .before .before .before))) (λ c. search needs)
+    returns)

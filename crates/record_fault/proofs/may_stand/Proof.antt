@@ -3,7 +3,7 @@ use mathlib.Core.List.{List}
 use native.Mathlib.Omega.{arith}
 use Rattle.record_lines.specs.Pieces.{Piece}
 use Rattle.record_fault.specs.Trail.{trail}
-use Rattle.record_fault.proofs.Laws.{admit-pass, admit-other, admit-empty, admit-below, admit-past, admit-twice, admit-fine}
+use Rattle.record_fault.proofs.Laws.{admit-pass, admit-other, admit-empty, admit-below, admit-past, admit-twice, admit-fine, admit-loose}
 use borrow.Author.Needs.{needs}
 use Rattle.record_fault.proofs.may_stand.Statement.{statement}
 use Rattle.record_fault.proofs.may_stand.Tie as tie
@@ -16,19 +16,19 @@ returns : tie.Need-returns
 returns c =
     let s = c .before .before in
     let a = s .args in
-    admit-pass (a .load) (pieces s) (a .kind) (a .address) (a .count) (a .high) (a .free .edge) (a .free .top) (s .pre .1 .1 .gap) (c .if1 .taken)
+    admit-pass (a .look) (a .load) (pieces s) (a .kind) (a .address) (a .count) (a .high) (a .free .edge) (a .free .top) (s .pre .1 .1 .gap) (c .if1 .taken)
 
 returns-2 : tie.Need-returns-2
 returns-2 c =
     let s = c .before .before .before in
     let a = s .args in
-    admit-other (a .load) (pieces s) (a .kind) (a .address) (a .count) (a .high) (a .free .edge) (c .before .if1 .left) (c .if2 .taken)
+    admit-other (a .look) (a .load) (pieces s) (a .kind) (a .address) (a .count) (a .high) (a .free .edge) (c .before .if1 .left) (c .if2 .taken)
 
 returns-3 : tie.Need-returns-3
 returns-3 c =
     let s = c .before .before .before .before in
     let a = s .args in
-    admit-empty (a .load) (pieces s) (a .kind) (a .address) (a .count) (a .high) (a .free .edge) (c .before .if2 .left) (a .free .top) (s .pre .1 .1 .gap)
+    admit-empty (a .look) (a .load) (pieces s) (a .kind) (a .address) (a .count) (a .high) (a .free .edge) (c .before .if2 .left) (a .free .top) (s .pre .1 .1 .gap)
     (c .if3 .taken)
 
 add-end : tie.Need-add-end
@@ -38,14 +38,14 @@ returns-4 : tie.Need-returns-4
 returns-4 c =
     let s = c .before .before .before .before .before in
     let a = s .args in
-    admit-below (a .load) (pieces s) (a .kind) (a .address) (a .count) (a .high) (a .free .edge) (c .before .before .if2 .left) (c .before .if3 .left)
+    admit-below (a .look) (a .load) (pieces s) (a .kind) (a .address) (a .count) (a .high) (a .free .edge) (c .before .before .if2 .left) (c .before .if3 .left)
     (c .if4 .taken)
 
 returns-5 : tie.Need-returns-5
 returns-5 c =
     let s = c .before .before .before .before .before .before in
     let a = s .args in
-    admit-past (a .load) (pieces s) (a .kind) (a .address) (a .count) (a .high) (a .free .edge) (c .before .before .before .if2 .left)
+    admit-past (a .look) (a .load) (pieces s) (a .kind) (a .address) (a .count) (a .high) (a .free .edge) (c .before .before .before .if2 .left)
     (c .before .before .if3 .left) (c .before .if4 .left) (c .if5 .taken)
 
 room-known-requires : tie.Need-room-known-requires
@@ -58,22 +58,29 @@ returns-6 c =
     let e = c .before .before in
     let s = e .before .before .before .before .before .before in
     let a = s .args in
-    admit-twice (a .load) (pieces s) (a .kind) (a .address) (a .count) (a .high) (a .free .edge) (e .before .before .before .if2 .left)
-    (e .before .before .if3 .left) (e .before .if4 .left) (e .if5 .left) (c .before .room-known .ensures .0 (c .if6 .taken))
-
-larger-requires : tie.Need-larger-requires
-larger-requires c κs = search needs
+    admit-twice (a .look) (a .load) (pieces s) (a .kind) (a .address) (a .count) (a .high) (a .free .edge) (e .before .before .before .if2 .left)
+    (e .before .before .if3 .left) (e .before .if4 .left) (e .if5 .left)
+    (c .before .room-known .ensures .1 (λ z. omega (arith, z, c .if6 .taken)) .0 (c .if6 .taken))
 
 returns-7 : tie.Need-returns-7
 returns-7 c =
-    let i = c .before in
-    let f = i .before in
+    let f = c .before .before .before in
     let e = f .before in
     let s = e .before .before .before .before .before .before in
     let a = s .args in
-    admit-fine (a .load) (pieces s) (a .kind) (a .address) (a .count) (a .high) (a .free .edge) (e .before .before .before .if2 .left)
-    (e .before .before .if3 .left) (e .before .if4 .left) (e .if5 .left) (c .larger .result) (f .room-known .result) (c .larger .ensures)
-    (f .room-known .ensures .1 (omega (arith, i .if6 .left)))
+    admit-loose (a .look) (a .load) (pieces s) (a .kind) (a .address) (a .count) (a .high) (a .free .edge) (e .before .before .before .if2 .left)
+    (e .before .before .if3 .left) (e .before .if4 .left) (e .if5 .left) (c .larger .result) (c .larger .ensures)
+    (λ z. f .room-known .ensures .0 z .1 (omega (arith, c .before .before .if6 .left)) .0)
+
+returns-8 : tie.Need-returns-8
+returns-8 c =
+    let f = c .before .before .before in
+    let e = f .before in
+    let s = e .before .before .before .before .before .before in
+    let a = s .args in
+    admit-fine (a .look) (a .load) (pieces s) (a .kind) (a .address) (a .count) (a .high) (a .free .edge) (e .before .before .before .if2 .left)
+    (e .before .before .if3 .left) (e .before .if4 .left) (e .if5 .left) (c .larger2 .result) (f .room-known .result) (c .larger2 .ensures)
+    (f .room-known .ensures .1 (c .before .if7 .left) .1 (omega (arith, c .before .before .if6 .left)))
 
 pub may-stand-spec : {M : Type 1} → statement M
 may-stand-spec =
@@ -87,5 +94,7 @@ may-stand-spec =
     returns-5
     room-known-requires
     returns-6
-    larger-requires
-    returns-7)
+    (λ c κs. search needs)
+    returns-7
+    (λ c κs. search needs)
+    returns-8)

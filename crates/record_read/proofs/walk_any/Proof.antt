@@ -3,9 +3,10 @@ use Prim.Native.Nat.{_-_}
 use mathlib.Core.Path.{_∙_}
 use native.Mathlib.Omega.{arith}
 use Rattle.record_read.specs.Runs.{isGiven}
+use Rattle.record_read.specs.Steps.{Listed}
 use Rattle.record_fault.specs.Trail.{trail}
 use Rattle.record_read.proofs.Loops.{finding-on, finding-ends, finding-less}
-use Rattle.record_read.proofs.Walks.{Listed, listed-starts, listed-few, listed-long, put-long}
+use Rattle.record_read.proofs.Walks.{listed-starts, listed-few, listed-long, put-long}
 use borrow.Author.Needs.{needs}
 use Rattle.record_read.proofs.walk_any.Statement.{statement}
 use Rattle.record_read.proofs.walk_any.Tie as tie

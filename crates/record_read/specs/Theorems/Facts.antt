@@ -1,12 +1,13 @@
 -- Theorems about what Facts defines.
 use mathlib.Core.Path.{_≡_, refl, sym, ap, _∙_}
-use mathlib.Core.Bool.{true}
+use mathlib.Core.Bool.{Bool, true, false}
 use mathlib.Core.List.{List}
 use mathlib.Core.Logic.{_⊎_, _↔_}
 use Prim.Native.Nat.{ℕ, _≤_, _<_}
 use native.Mathlib.Omega.{arith}
 use borrow.Author.Tests.{le-leb, lt-leb, leb-true, leb-false}
 use lib.ListN.{length}
+use Rattle.refusal.specs.Pick.{pick}
 use Rattle.refusal.specs.Told.{gives, refuses}
 use Rattle.refusal.specs.declared.Place.{Place}
 use Rattle.refusal.specs.declared.Place.the-variants.{One}
@@ -18,9 +19,25 @@ use Rattle.record_fault.specs.Outcome.{faultOf}
 use Rattle.record_fault.specs.Reading.{Read, sound, faulty}
 use Rattle.record_fault.specs.declared.Fault.the-variants.{At}
 use Rattle.record_read.specs.Runs.{reach, blocksGiven}
-use Rattle.record_read.specs.Outcome.{Lent, bytesFit, blocksFit, toldOf, taken, lentAfter, Reads}
+use Rattle.record_read.specs.Outcome.{Lent, lent, bytesFit, blocksFit, answerOf, toldOf, allFit, taken, lentAfter, Reads}
 use Rattle.record_read.specs.Facts.{Bad, Good}
 use Rattle.record_read.specs.Laws.Facts.{at-line, is-14-0, is-14-2, is-found, never-4, unwritten}
+
+-- Lent marks: the answer is the same with any, so is everything else afterwards, and they stay as they are.
+module _ (load : ℕ) (bytes os ss marks other : List ℕ) where
+  abbrev beside : Lent → Lent
+  beside l = lent (l .bytes) (l .offsets) (l .sizes) marks
+
+  after-aside : (b : Bool) (pieces : List Piece)
+      → pick b (taken load pieces (lent bytes os ss marks)) (lent bytes os ss marks)
+      ≡ beside (pick b (taken load pieces (lent bytes os ss other)) (lent bytes os ss other))
+  after-aside true pieces = refl
+  after-aside false pieces = refl
+
+  pub marks-aside : (read : Read) → (answerOf load (lent bytes os ss marks) read ≡ answerOf load (lent bytes os ss other) read)
+      × (lentAfter load (lent bytes os ss marks) read ≡ beside (lentAfter load (lent bytes os ss other) read))
+  marks-aside (sound pieces) = (refl, after-aside (allFit load pieces (lent bytes os ss other)) pieces)
+  marks-aside (faulty line) = (refl, refl)
 
 module _ (load : ℕ) (old : Lent) where
   abbrev pub Few : List Piece → Type 0

@@ -18,7 +18,7 @@ use Rattle.says_reason.specs.Theorems.Told.{given-twice-by-which-line, b
 -- of the two formats that there are
 module _ (format load : ℕ) (text : List ℕ) (known : format < 2) (y : Why) (c : ReasonTold format load text y) where
   -- the line is that of `dk_record_fault`
-  pub same-line : (f : DkFault) → FaultTold (readAs format load text) f
+  pub same-line : (f : DkFault) {marks left : List ℕ} → FaultTold (readAs format load text) marks f left
       → (y .line ≡ f .line) × ((f .fault ≡ 0 → y .reason ≡ 0) × (y .reason ≡ 0 → f .fault ≡ 0))
   same-line f d = line-is-faults format load text y (known-meets format load text known y c) known f (fault-meets format load text f d)
 

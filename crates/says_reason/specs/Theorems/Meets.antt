@@ -319,7 +319,8 @@ module _ (format load : ℕ) (text : List ℕ) where
   says : format < 2 → (x : Read) → readText format load text ≡ x → ReasonSays format load text (whyOf format load text x)
   says known (sound out) e = s.good (sound-good format load text known out e .1)
   says known (faulty n) e =
-      let told = fault-meets format load text (lineTold (faultOf (readAs format load text))) (record { answer = refl }) in
+      let told = fault-meets format load text (lineTold (faultOf (readAs format load text))) {marks = []} {left = []}
+      (record { answer = refl; left = refl }) in
       let on = goes-on known n told (ap (λ (y : Read). lineTold (faultOf y)) (as-known known ∙ e)) in
       s.bad (on .0) (on .1) (lines-meet text) (by-fault n (fault-within format load text n e) (fault-at format load text n e))
 

@@ -42,12 +42,15 @@ use Rattle.says_records.specs.Theorems.FaultMeets.{good-sound, sound-goo
 
 module _ (format load : ℕ) (text : List ℕ) (old : Lent) where
   abbrev before : fill.Lent
-  before = lent (old .bytes) (old .offsets) (old .sizes)
+  before = lent (old .bytes) (old .offsets) (old .sizes) (old .marks)
+
+  abbrev seen : fill.Lent → Lent
+  seen l = record { bytes = l .bytes; offsets = l .offsets; sizes = l .sizes; marks = l .marks }
 
   abbrev outcome : Read → Outcome
   outcome x = record {
     answer = blocksCount (answerOf load before x);
-    lent = record { bytes = lentAfter load before x .bytes; offsets = lentAfter load before x .offsets; sizes = lentAfter load before x .sizes };
+    lent = seen (lentAfter load before x);
   }
 
   differ : {l : List Piece} {j : ℕ} → sound l ≡ faulty j → ⊥
@@ -97,9 +100,7 @@ module _ (format load : ℕ) (text : List ℕ) (old : Lent) where
         (Accepts format load text old ps (origins made) (sizes made)))
         (record {
           answer = blocksCount (pick a (pick b (Found (length made)) (Refused (TooShort 2))) (Refused (TooShort 0)));
-          lent =
-              let after = pick (a && b) (fill.taken load out before) before in
-              record { bytes = after .bytes; offsets = after .offsets; sizes = after .sizes };
+          lent = seen (pick (a && b) (fill.taken load out before) before);
         })
     tried false b x y =
         let few = leb-false (reach load out) (length (old .bytes)) x in
@@ -124,7 +125,7 @@ module _ (format load : ℕ) (text : List ℕ) (old : Lent) where
         (passed (λ _ h. ⊎-elim (λ less. omega (arith, long, places .0)) (λ less. omega (arith, long, places .1)) h)
         (subst (λ (n : ℕ). Accepts format load text old ps (origins made) (sizes made) (record {
           answer = record { refusal = 0; place = 0; count = n };
-          lent = record { bytes = filled load out (old .bytes); offsets = over (origins made) (old .offsets); sizes = over (sizes made) (old .sizes) };
+          lent = seen (fill.taken load out before);
         })) long
         (s.accepts (filled-says room) (begins (origins made) (old .offsets) (omega (arith, long, places .0)))
         (begins (sizes made) (old .sizes) (omega (arith, wide, places .1))))))
@@ -153,11 +154,11 @@ module _ (format load : ℕ) (text : List ℕ) (old : Lent) where
       ]
 
   pub read-meets : (r : DkCount) (new : Lent)
-      → ReadTold load (readAs format load text) (lent (old .bytes) (old .offsets) (old .sizes)) r (lent (new .bytes) (new .offsets) (new .sizes))
+      → ReadTold load (readAs format load text) (lent (old .bytes) (old .offsets) (old .sizes) (old .marks)) r
+      (lent (new .bytes) (new .offsets) (new .sizes) (new .marks))
       → ReadSays format load text old (record { answer = r; lent = new })
   read-meets r new c =
-      let same : new ≡ outcome (readAs format load text) .lent = ap
-      (λ (l : fill.Lent). record { bytes = l .bytes; offsets = l .offsets; sizes = l .sizes }) (c .left) in
+      let same : new ≡ outcome (readAs format load text) .lent = ap seen (c .left) in
       subst (λ (y : DkCount). ReadSays format load text old (record { answer = y; lent = new })) (sym (c .answer))
       (subst (λ (y : Lent). ReadSays format load text old
       (record { answer = blocksCount (answerOf load before (readAs format load text)); lent = y })) (sym same)

@@ -1,0 +1,25 @@
+-- `record_read::by_marks`: what was tested.
+use native.Mathlib.Omega.{arith}
+use mathlib.Core.Path.{refl, sym, _∙_}
+use Rattle.refusal.specs.Laws.Bools.{clash}
+use Rattle.record_fault.specs.Laws.Windows.{zero-cleared}
+use Rattle.record_read.proofs.Marks.{some-marks}
+use borrow.Author.Needs.{needs}
+use Rattle.record_read.proofs.by_marks.Statement.{statement}
+use Rattle.record_read.proofs.by_marks.Tie as tie
+
+returns-5 : tie.Need-returns-5
+returns-5 c e =
+    let m = c .before .before .before .before .before .before .args .marks .now in
+    record {
+      some = some-marks m (c .before .before .if3 .left);
+      few = c .before .if4 .left;
+      zeros = zero-cleared m (sym (c .all-zero .ensures) ∙ e);
+    }
+
+pub by-marks-spec : {M : Type 1} → statement M
+by-marks-spec =
+    tie.close
+    (tie.spec
+    (λ c e. absurd (clash e refl)) (λ c e. absurd (clash e refl)) (λ c e. absurd (clash e refl)) (λ c e. absurd (clash e refl)) (λ c κs. search needs)
+    returns-5)

@@ -1,0 +1,21 @@
+-- `record_read::find_blocks`: with marks or without.
+use mathlib.Core.Path.{refl, ap}
+use lib.ListN.{length}
+use Rattle.record_read.proofs.Walks.{put-long}
+use borrow.Author.Needs.{needs}
+use Rattle.record_read.proofs.find_blocks.Statement.{statement}
+use Rattle.record_read.proofs.find_blocks.Tie as tie
+
+pub find-blocks-spec : {M : Type 1} → statement M
+find-blocks-spec =
+    tie.close
+    (tie.spec
+    (λ c κs. let s = c .before .before .before .before .before .before .before .before in (s .pre .0, (s .pre .1 .0, s .pre .1 .1 (c .before .before .before .if1 .taken))))
+    (λ c. put-long (c .before .before .before .before .before .before .walk-marks .ensures .0) .0)
+    (λ c. put-long (c .before .before .before .before .before .before .walk-marks .ensures .0) .1)
+    (λ c. ap length (c .before .before .before .before .before .before .walk-marks .ensures .1))
+    (λ c. c .before .before .before .before .before .before .walk-marks .ensures)
+    (λ c κs. let s = c .before .before .before .before .before .before .before in (s .pre .0, s .pre .1 .0 .ends))
+    (λ c. put-long (c .before .before .before .before .walk-any .ensures) .0)
+    (λ c. put-long (c .before .before .before .before .walk-any .ensures) .1)
+    (λ c. (c .before .before .before .before .walk-any .ensures, refl)))
