@@ -2,7 +2,7 @@
 use record_lines::Line;
 ghost use mathlib.Core.Path.{_≡_};
 ghost use mathlib.Core.Bool.{_&&_};
-ghost use Prim.Native.Nat.{_+_, _-_, _*_, _≤_, _<_, max, min};
+ghost use Prim.Native.Nat.{_+_, _-_, _*_, _≤_, _<_};
 ghost use lib.Dec.{leb, ltb};
 ghost use lib.ListN.{length};
 ghost use Rattle.bitvec.specs.Clear.{cleared};
@@ -100,12 +100,6 @@ fn known_in(format: u8, line: &[u8], t: &[u8; 256], state: u16) -> Line
     record_srec_line::known_line(line, t, state)
 }
 
-fn least(a: usize, b: usize) -> usize
-    ensures { λ r. ⌜ r ≡ min a b ⌝ }
-{
-    if a < b { a } else { b }
-}
-
 // How long a line is by its count; 4 characters of it are there.
 fn long_by(format: u8, text: &[u8], t: &[u8; 256], at: usize) -> usize
     requires { ⌜ Spells (now t) ⌝ }
@@ -130,7 +124,7 @@ fn stop_by(format: u8, text: &[u8], t: &[u8; 256], at: usize) -> usize
     if left < 4 {
         return text.len();
     }
-    at + least(long_by(format, text, t, at), left)
+    at + record_lines::least(long_by(format, text, t, at), left)
 }
 
 // The line that begins at a place, whose end is searched for; behind the text it is empty.
@@ -140,8 +134,8 @@ pub fn search_line(format: u8, text: &[u8], t: &[u8; 256], at: usize, state: u16
 {
     let cut = record_lines::line_from(text, at);
     let stop = cut.stop;
-    let end = least(stop, text.len());
-    let start = least(at, end);
+    let end = record_lines::least(stop, text.len());
+    let start = record_lines::least(at, end);
     let line = line_in(format, &text[start..end], t, state);
     Step {
         line,
@@ -288,12 +282,6 @@ fn room_known(
     UNKNOWN
 }
 
-fn larger(a: u64, b: u64) -> u64
-    ensures { λ r. ⌜ r ≡ max a b ⌝ }
-{
-    if a < b { b } else { a }
-}
-
 // Whether line n may stand where it does.
 fn may_stand(
     format: u8,
@@ -334,15 +322,9 @@ fn may_stand(
         return Admit::No;
     }
     if top == UNKNOWN {
-        return Admit::High(larger(high, end), 0);
+        return Admit::High(refusal::greater(high, end), 0);
     }
-    Admit::High(larger(high, end), top)
-}
-
-fn smaller(a: u64, b: u64) -> u64
-    ensures { λ r. ⌜ r ≡ min a b ⌝ }
-{
-    if a < b { a } else { b }
+    Admit::High(refusal::greater(high, end), top)
 }
 
 // What is free behind a line that may stand.
@@ -365,7 +347,7 @@ fn free_after(free: Free, top: u64, kind: u8, address: u32, count: u8) -> Free
     }
     let first = address as u64;
     Free {
-        low: smaller(free.low, first),
+        low: refusal::lesser(free.low, first),
         edge: first + count as u64,
         top,
     }
@@ -501,7 +483,7 @@ fn window_end(low: u64, bytes: u64) -> u64
     ensures { λ r. ⌜ r ≡ windowEnd low bytes ⌝ }
 {
     if bytes < 1_073_741_824 {
-        return smaller(low + 8 * bytes, NOWHERE);
+        return refusal::lesser(low + 8 * bytes, NOWHERE);
     }
     NOWHERE
 }
@@ -526,7 +508,7 @@ fn nearer(next: u64, first: u64, end: u64, top: u64) -> u64
     if end <= first {
         return next;
     }
-    smaller(next, larger(first, top))
+    refusal::lesser(next, refusal::greater(first, top))
 }
 
 // Marks the addresses from `low` on that the first n lines give, up to the first line that gives one of them twice.

@@ -8,6 +8,8 @@ use lib.ListN.{getD}
 use Rattle.refusal.specs.Laws.Outcome.{OneOutcome}
 use Rattle.refusal.specs.Laws.Pick.{determined}
 use Rattle.record_lines.specs.declared.Cut.{Cut}
+use Rattle.record_lines.proofs.least.Kinds as least-kinds
+use Rattle.record_lines.proofs.least.Reads as least-reads
 use Rattle.record_lines.proofs.char_at.Kinds as char-at-kinds
 use Rattle.record_lines.proofs.char_at.Reads as char-at-reads
 use Rattle.record_lines.proofs.digit_table.Kinds as digit-table-kinds
@@ -63,3 +65,6 @@ digit-table-unique κs a x y e f p q c h = determined (p c h) (q c h)
 pub line-from-unique : OneOutcome 1 line-from-kinds.ps line-from-kinds.r line-from-reads.Learnt
 line-from-unique κs a x y e f p q =
     ap₂ (λ (stop next : ℕ). record { stop = stop; next = next }) (determined (p .stop) (q .stop)) (determined (p .next) (q .next))
+
+pub least-unique : OneOutcome 0 least-kinds.ps least-kinds.r least-reads.Learnt
+least-unique κs a x y e f p q = determined p q

@@ -1,6 +1,6 @@
 // What Intel HEX and S-records have in common: hex digits, lines, sums of bytes, and what a line of a file says.
 ghost use mathlib.Core.Path.{_≡_};
-ghost use Prim.Native.Nat.{_+_, _*_, _%_, _≤_, _<_};
+ghost use Prim.Native.Nat.{_+_, _*_, _%_, _≤_, _<_, min};
 ghost use lib.ListN.{length, drop, getD};
 ghost use Rattle.record_lines.specs.Digits.{valueOf, allDigits, pairAt, bytesAt};
 ghost use Rattle.record_lines.specs.Sums.{sumOf};
@@ -239,4 +239,11 @@ pub fn end_at(text: &[u8], at: usize) -> u8
         return 2;
     }
     NO_END
+}
+
+// The lesser of two lengths.
+pub fn least(a: usize, b: usize) -> usize
+    ensures { λ r. ⌜ r ≡ min a b ⌝ }
+{
+    if a < b { a } else { b }
 }

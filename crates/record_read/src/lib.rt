@@ -5,7 +5,7 @@ use refusal::Refusal;
 ghost use mathlib.Core.Path.{_≡_};
 ghost use mathlib.Core.Bool.{true};
 ghost use mathlib.Core.List.{[], _∷_, map};
-ghost use Prim.Native.Nat.{_+_, _-_, _*_, _/_, _≤_, _<_, max};
+ghost use Prim.Native.Nat.{_+_, _-_, _*_, _/_, _≤_, _<_};
 ghost use lib.Dec.{ltb, eqb};
 ghost use lib.ListN.{length, set};
 ghost use Rattle.refusal.specs.Pick.{pick};
@@ -121,17 +121,11 @@ fn join(run: Run, next: Run) -> Run
     next
 }
 
-fn larger(a: u64, b: u64) -> u64
-    ensures { λ r. ⌜ r ≡ max a b ⌝ }
-{
-    if a < b { b } else { a }
-}
-
 // The lower of two stretches from a byte on, or both where the second touches the first.
 fn better(best: Run, next: Run, from: u64) -> Run
     ensures { λ r. ⌜ Betters from best next r ⌝ }
 {
-    let first = larger(next.first, from);
+    let first = refusal::greater(next.first, from);
     let end = next.end;
     if end <= first {
         return best;

@@ -3,7 +3,7 @@ mod spelling;
 
 use record_fault::Fault;
 ghost use mathlib.Core.Path.{_≡_};
-ghost use Prim.Native.Nat.{_+_, _<_, max, min};
+ghost use Prim.Native.Nat.{_+_, _<_, min};
 ghost use lib.Dec.{eqb};
 ghost use Rattle.refusal.specs.Pick.{pick};
 ghost use Rattle.record_lines.specs.Spelling.{Spells};
@@ -196,12 +196,6 @@ fn lowest_of(format: u8, text: &[u8], t: &[u8; 256]) -> u64
     low
 }
 
-fn larger(a: u64, b: u64) -> u64
-    ensures { λ r. ⌜ r ≡ max a b ⌝ }
-{
-    if a < b { b } else { a }
-}
-
 // What is wrong with the addresses of line n, whose `many` bytes begin at `start`.
 fn span_cause(
     format: u8,
@@ -228,7 +222,7 @@ fn span_cause(
     made(
         TWICE,
         first,
-        larger(start, address_at(format, text, t, first) as u64),
+        refusal::greater(start, address_at(format, text, t, first) as u64),
     )
 }
 

@@ -5,7 +5,7 @@ use refusal::Refusal;
 use refusal::Verdict;
 ghost use mathlib.Core.Path.{_≡_};
 ghost use mathlib.Core.Bool.{true, _&&_};
-ghost use Prim.Native.Nat.{_+_, _-_, _*_, _/_, _≤_, _<_, min};
+ghost use Prim.Native.Nat.{_+_, _-_, _*_, _/_, _≤_, _<_};
 ghost use lib.Dec.{leb, eqb};
 ghost use lib.ListN.{length, take, drop};
 ghost use Rattle.record_write.specs.Cut.{pieceLength, cut, blocksIn};
@@ -29,19 +29,13 @@ pub struct Place {
     pub state: u16,
 }
 
-fn least(a: usize, b: usize) -> usize
-    ensures { λ r. ⌜ r ≡ min a b ⌝ }
-{
-    if a < b { a } else { b }
-}
-
 // "each as long as 16 bytes, its block and its 64 KiB line allow"
 fn piece_length(address: u64, left: usize) -> usize
     ensures { λ r. ⌜ r ≡ pieceLength address left ⌝ }
     ensures { λ r. ⌜ (r ≤ 16) × (r ≤ left) × (0 < left → 0 < r) ⌝ }
 {
     let line = (65_536 - address % 65_536) as usize;
-    least(16, least(left, line))
+    record_lines::least(16, record_lines::least(left, line))
 }
 
 // How many characters the lines of n bytes at an address have, while a state is in force: in Intel HEX 16 for a type 04 record.
@@ -157,7 +151,7 @@ fn is_part(image: &[u8], offset: u64, size: u64) -> bool
 fn all_parts(image: &[u8], offsets: &[u64], sizes: &[u64]) -> bool
     ensures { λ r. ⌜ r ≡ allParts (length (now (image .entry))) (blocksIn (now (offsets .entry)) (now (sizes .entry))) ⌝ }
 {
-    let count = least(offsets.len(), sizes.len());
+    let count = record_lines::least(offsets.len(), sizes.len());
     let mut i = 0;
     while i < count {
         if !is_part(image, offsets[i], sizes[i]) {

@@ -15,8 +15,8 @@ returns-2 c =
     let a = c .before .before .args in
     rw (eq-eqb (a .kind) 1 (c .before .if1 .left), eq-eqb (a .count) 0 (c .if2 .taken))
 
-smaller-requires : tie.Need-smaller-requires
-smaller-requires c κs = search needs
+lesser-requires : tie.Need-lesser-requires
+lesser-requires c κs = search needs
 
 add-t10 : tie.Need-add-t10
 add-t10 c = search needs
@@ -26,7 +26,7 @@ returns-3 c =
     let i = c .before in
     let a = i .before .before .args in
     rw (eq-eqb (a .kind) 1 (i .before .if1 .left), ne-eqb (a .count) 0 (i .if2 .left))
-    (ap (λ (n : ℕ). record { low = n; edge = a .address + a .count; top = a .top }) (c .smaller .ensures))
+    (ap (λ (n : ℕ). record { low = n; edge = a .address + a .count; top = a .top }) (c .lesser .ensures))
 
 pub free-after-spec : {M : Type 1} → statement M
-free-after-spec = tie.close (tie.spec returns returns-2 smaller-requires add-t10 returns-3)
+free-after-spec = tie.close (tie.spec returns returns-2 lesser-requires add-t10 returns-3)

@@ -69,7 +69,7 @@ returns-7 c =
     let s = e .before .before .before .before .before .before in
     let a = s .args in
     admit-loose (a .look) (a .load) (pieces s) (a .kind) (a .address) (a .count) (a .high) (a .free .edge) (e .before .before .before .if2 .left)
-    (e .before .before .if3 .left) (e .before .if4 .left) (e .if5 .left) (c .larger .result) (c .larger .ensures)
+    (e .before .before .if3 .left) (e .before .if4 .left) (e .if5 .left) (c .greater .result) (c .greater .ensures)
     (λ z. f .room-known .ensures .0 z .1 (omega (arith, c .before .before .if6 .left)) .0)
 
 returns-8 : tie.Need-returns-8
@@ -79,7 +79,7 @@ returns-8 c =
     let s = e .before .before .before .before .before .before in
     let a = s .args in
     admit-fine (a .look) (a .load) (pieces s) (a .kind) (a .address) (a .count) (a .high) (a .free .edge) (e .before .before .before .if2 .left)
-    (e .before .before .if3 .left) (e .before .if4 .left) (e .if5 .left) (c .larger2 .result) (f .room-known .result) (c .larger2 .ensures)
+    (e .before .before .if3 .left) (e .before .if4 .left) (e .if5 .left) (c .greater2 .result) (f .room-known .result) (c .greater2 .ensures)
     (f .room-known .ensures .1 (c .before .if7 .left) .1 (omega (arith, c .before .before .if6 .left)))
 
 pub may-stand-spec : {M : Type 1} → statement M

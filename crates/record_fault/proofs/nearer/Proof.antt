@@ -14,7 +14,7 @@ returns-3 : tie.Need-returns-3
 returns-3 c =
     let a = c .before .before .before .before .args in
     nearer-first (a .next) (a .first) (a .end) (a .top) (c .before .before .before .if1 .left)
-    (c .before .before .if2 .left) (c .before .larger .ensures) (c .smaller .ensures)
+    (c .before .before .if2 .left) (c .before .greater .ensures) (c .lesser .ensures)
 
 pub nearer-spec : {M : Type 1} → statement M
 nearer-spec = tie.close (tie.spec returns returns-2 (λ c κs. search needs) (λ c κs. search needs) returns-3)

@@ -46,11 +46,11 @@ first-giver-requires c κs = c .before .before .before .pre .0
 address-at-requires : tie.Need-address-at-requires
 address-at-requires c κs = c .before .before .before .before .pre .0
 
-cast-larger : tie.Need-cast-larger
-cast-larger c = search needs
+cast-greater : tie.Need-cast-greater
+cast-greater c = search needs
 
-larger-requires : tie.Need-larger-requires
-larger-requires c κs = search needs
+greater-requires : tie.Need-greater-requires
+greater-requires c κs = search needs
 
 made-requires-3 : tie.Need-made-requires-3
 made-requires-3 c κs = search needs
@@ -64,7 +64,7 @@ returns-3 c =
     let address-at′ = c .before .before .address-at in
     rw (
       c .made3 .ensures,
-      c .before .larger .ensures,
+      c .before .greater .ensures,
       address-at′ .ensures,
       first-giver′ .ensures,
       le-ltb (args′ .top) (args′ .start + args′ .many) (if1′ .left),
@@ -85,7 +85,7 @@ span-cause-spec =
     returns-2
     first-giver-requires
     address-at-requires
-    cast-larger
-    larger-requires
+    cast-greater
+    greater-requires
     made-requires-3
     returns-3)
