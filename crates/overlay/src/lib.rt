@@ -2,7 +2,7 @@
 // one of the two, and the bytes at which the overlay changes something are listed.
 use refusal::Refusal;
 ghost use mathlib.Core.Path.{_≡_};
-ghost use mathlib.Core.Bool.{true, false, _&&_};
+ghost use mathlib.Core.Bool.{true, false};
 ghost use Prim.Native.Nat.{_+_, _-_, _*_, _/_, _≤_, _<_, min};
 ghost use lib.Dec.{leb, eqb};
 ghost use lib.ListN.{length, set};
@@ -212,15 +212,6 @@ pub fn pick<'a>(
     }
 }
 
-fn both(a: bool, b: bool) -> bool
-    ensures { λ r. ⌜ r ≡ (a && b) ⌝ }
-{
-    if a {
-        return b;
-    }
-    false
-}
-
 // Whether the 64 bytes from `at` on agree: no branch, so that many are compared at a time.
 fn same_stretch(overlay: &[u8], released: &[u8], at: usize) -> bool
     requires { ⌜ (at + 64 ≤ length (now overlay)) × (at + 64 ≤ length (now released)) ⌝ }
@@ -229,7 +220,7 @@ fn same_stretch(overlay: &[u8], released: &[u8], at: usize) -> bool
     let mut ok = true;
     let mut j = 0;
     while j < 64 {
-        ok = both(ok, overlay[at + j] == released[at + j]);
+        ok = refusal::both(ok, overlay[at + j] == released[at + j]);
         j += 1;
     }
     ok

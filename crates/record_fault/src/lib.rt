@@ -199,15 +199,6 @@ fn leaves(kind: u8, address: u32, count: u8, first: u64, end: u64) -> bool
     end <= start
 }
 
-fn both(a: bool, b: bool) -> bool
-    ensures { λ r. ⌜ r ≡ (a && b) ⌝ }
-{
-    if a {
-        return b;
-    }
-    false
-}
-
 // How far up from `end` nothing is given, with one line more; 0 where it gives a byte from `first` on and below `end`.
 fn lower(top: u64, kind: u8, address: u32, count: u8, first: u64, end: u64) -> u64
     ensures { λ r. ⌜ r ≡ lowerBy top kind address count first end ⌝ }
@@ -441,8 +432,8 @@ fn walk_lines(format: u8, text: &[u8], t: &[u8; 256], load: u32, strict: bool) -
             return walked(n, sure, false, n, high, ascend, parts);
         };
         // all of its bytes lie at or above the highest end
-        ascend = both(ascend, leaves(line.kind, line.address, line.count, 0, high));
-        sure = both(sure, 0 < top);
+        ascend = refusal::both(ascend, leaves(line.kind, line.address, line.count, 0, high));
+        sure = refusal::both(sure, 0 < top);
         parts += begins(line.kind, line.address, line.count, free.edge);
         free = free_after(free, top, line.kind, line.address, line.count);
         high = h;

@@ -1,6 +1,8 @@
 -- Uniqueness: the contract of each public function has one outcome, over its own clause.
 use Rattle.refusal.specs.Laws.Outcome.{OneOutcome}
 use Rattle.refusal.specs.Laws.Pick.{determined}
+use Rattle.refusal.proofs.both.Kinds as both-kinds
+use Rattle.refusal.proofs.both.Reads as both-reads
 use Rattle.refusal.proofs.greater.Kinds as greater-kinds
 use Rattle.refusal.proofs.greater.Reads as greater-reads
 use Rattle.refusal.proofs.lesser.Kinds as lesser-kinds
@@ -21,3 +23,6 @@ greater-unique κs a x y e f p q = determined p q
 
 pub lesser-unique : OneOutcome 0 lesser-kinds.ps lesser-kinds.r lesser-reads.Learnt
 lesser-unique κs a x y e f p q = determined p q
+
+pub both-unique : OneOutcome 0 both-kinds.ps both-kinds.r both-reads.Learnt
+both-unique κs a x y e f p q = determined p q

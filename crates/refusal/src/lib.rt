@@ -1,6 +1,7 @@
 // The numbers a caller gets back, the limits, and the two-case answers that stand for the Rust's `Option`. Every crate of the
 // layout speaks of these through this one.
 ghost use mathlib.Core.Path.{_≡_};
+ghost use mathlib.Core.Bool.{_&&_};
 ghost use Prim.Native.Nat.{min, max};
 ghost use Rattle.refusal.specs.Refusals.{numberOf, placeOf};
 
@@ -160,4 +161,14 @@ pub fn greater(a: u64, b: u64) -> u64
     ensures { λ r. ⌜ r ≡ max a b ⌝ }
 {
     if a < b { b } else { a }
+}
+
+// Both of two answers, without a branch in the loop that asks.
+pub fn both(a: bool, b: bool) -> bool
+    ensures { λ r. ⌜ r ≡ (a && b) ⌝ }
+{
+    if a {
+        return b;
+    }
+    false
 }
