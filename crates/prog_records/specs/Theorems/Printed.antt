@@ -47,6 +47,7 @@ use Rattle.record_write.specs.Exactly.{AllParts, WellPlaced}
 use Rattle.record_write.specs.Text.{textOf}
 use Rattle.record_write.specs.Theorems.Bytes.{pieces-give-image}
 use Rattle.record_write.specs.Theorems.Exactly.{parts-exactly, placed-exactly}
+use Rattle.record_write.specs.Theorems.Rising.{file-rises}
 use Rattle.thm_record_room.specs.Records.{formatOk, recordsOr}
 use Rattle.thm_records.specs.Laws.Copied.{columns, and-true}
 use Rattle.thm_records.specs.Theorems.Back.{hex-read, srec-read}
@@ -133,7 +134,7 @@ module _ (w : Wanted) (file : List ℕ) (fill : ℕ) (page : Opt) where
           ap (readText 0 (w .load)) (written-out ∙ ap (λ (f : ℕ). textOf f (w .load) (imageIn bits) bs) e)
           ∙ subst (λ (b : List Block). readText 0 (w .load) (textOf 0 (w .load) (imageIn bits) b) ≡ sound (piecesOf (w .load) (imageIn bits) b)) (columns bs)
           (hex-read (w .load) (textOf 0 (w .load) (imageIn bits) (blocksIn os ss)) (piecesOf (w .load) (imageIn bits) (blocksIn os ss))
-          (hex-file.file-rises (imageIn bits) os ss (w .load) image-good in-parts in-places)
+          (file-rises (imageIn bits) os ss (w .load) image-good in-parts in-places)
           (hex-file.file-tells (imageIn bits) os ss (w .load) image-good in-parts in-places))
 
       -- S-records of either width: the same
@@ -150,7 +151,7 @@ module _ (w : Wanted) (file : List ℕ) (fill : ℕ) (page : Opt) where
           ∙ subst (λ (b : List Block). readText 1 (w .load) (textOf (w .format) (w .load) (imageIn bits) b) ≡ sound (piecesOf (w .load) (imageIn bits) b))
           (columns bs)
           (srec-read (w .load) (textOf (w .format) (w .load) (imageIn bits) (blocksIn os ss)) (piecesOf (w .load) (imageIn bits) (blocksIn os ss))
-          (srec-file.file-rises (imageIn bits) os ss (w .load) (w .format) image-good in-parts fits in-places) 1 (λ z. omega (arith, z))
+          (file-rises (imageIn bits) os ss (w .load) image-good in-parts in-places) 1 (λ z. omega (arith, z))
           (srec-file.file-tells (imageIn bits) os ss (w .load) (w .format) image-good in-parts fits in-places))
 
       -- and these pieces give exactly the image's bytes where a block is, counted from the load address.

@@ -1,5 +1,5 @@
 -- `record_write::all_parts`: what is left decides as the whole does.
-use mathlib.Core.Path.{_≡_, refl, sym, ap, _∙_}
+use mathlib.Core.Path.{_≡_, refl, sym, _∙_}
 use Prim.Native.Nat.{_-_}
 use native.Mathlib.Omega.{arith}
 use borrow.Author.Tests.{not-true, not-false}
@@ -18,24 +18,29 @@ Inv-loop image offsets sizes count i₀ i =
 abbrev μ-loop : tie.MeasureT-loop
 μ-loop image offsets sizes count i₀ i = count - i
 
+-- the start, seen from the loop
+abbrev start : tie.At-loop Inv-loop μ-loop → tie.Start Inv-loop μ-loop
+start l = l .before .before .before .before .before
+
 returns : tie.Need-returns Inv-loop μ-loop
 returns c =
-    sym (c .before .before .before .before .before .loop .inv ∙ parts-stop
-    (c .before .before .before .before .before .before .before .before .before .before .args .offsets .now)
-    (c .before .before .before .before .before .before .before .before .before .before .args .sizes .now)
-    (c .before .before .before .before .before .loop .i) (omega arith) (omega arith) _ (sym (c .before .is-part .ensures) ∙ not-true _ (c .if1 .taken)))
+    let l = c .before .before .before .before .before in
+    let a = start l .args in
+    sym (l .loop .inv ∙ parts-stop (a .offsets .now) (a .sizes .now) (l .loop .i) (omega arith) (omega arith) (length (a .image .now))
+    (sym (c .before .is-part .ensures) ∙ not-true _ (c .if1 .taken)))
 
 loop-again : tie.Need-loop-again Inv-loop μ-loop
 loop-again c =
-    c .before .before .before .before .before .loop .inv ∙ parts-on
-    (c .before .before .before .before .before .before .before .before .before .before .args .offsets .now)
-    (c .before .before .before .before .before .before .before .before .before .before .args .sizes .now)
-    (c .before .before .before .before .before .loop .i) (omega arith) (omega arith) _ (sym (c .before .is-part .ensures) ∙ not-false _ (c .if1 .left))
+    let l = c .before .before .before .before .before in
+    let a = start l .args in
+    l .loop .inv ∙ parts-on (a .offsets .now) (a .sizes .now) (l .loop .i) (omega arith) (omega arith) (length (a .image .now))
+    (sym (c .before .is-part .ensures) ∙ not-false _ (c .if1 .left))
 
 returns-2 : tie.Need-returns-2 Inv-loop μ-loop
 returns-2 c =
-    sym (c .before .loop .inv ∙ parts-done (c .before .before .before .before .before .before .args .offsets .now)
-    (c .before .before .before .before .before .before .args .sizes .now) (c .before .loop .i) _ (omega arith))
+    let l = c .before in
+    let a = start l .args in
+    sym (l .loop .inv ∙ parts-done (a .offsets .now) (a .sizes .now) (l .loop .i) (length (a .image .now)) (omega arith))
 
 pub all-parts-spec : {M : Type 1} → statement M
 all-parts-spec =

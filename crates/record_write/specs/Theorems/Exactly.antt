@@ -87,6 +87,9 @@ module _ (load : ℕ) where
       )
       (apart-placed os ss (λ i j lt h. a (suc i) (suc j) (omega arith) (omega arith)) (λ k h. l (suc k) (omega arith)))
 
+  pub placed-all : (offsets sizes : List ℕ) → WellPlaced load offsets sizes → allPlaced load (blocksIn offsets sizes) ≡ true
+  placed-all offsets sizes w = apart-placed offsets sizes (w .apart) (w .low)
+
   pub placed-exactly : (offsets sizes : List ℕ)
       → ((eqb (length offsets) (length sizes) && allPlaced load (blocksIn offsets sizes)) ≡ true) ↔ WellPlaced load offsets sizes
   placed-exactly offsets sizes = (
@@ -94,7 +97,7 @@ module _ (load : ℕ) where
         let (same, all) = both (eqb (length offsets) (length sizes)) (allPlaced load (blocksIn offsets sizes)) e in
         let n = eqb-true (length offsets) (length sizes) same in
         record { paired = n; apart = placed-apart offsets sizes n all; low = placed-low offsets sizes n all },
-    λ w. rw (eq-eqb (length offsets) (length sizes) (w .paired)) (apart-placed offsets sizes (w .apart) (w .low)),
+    λ w. rw (eq-eqb (length offsets) (length sizes) (w .paired)) (placed-all offsets sizes w),
   )
 
 -- Ticket 12: "4 also for an address that doesn't fit the width". A block that ends past 16 bits is refused in format 2, whoever calls.

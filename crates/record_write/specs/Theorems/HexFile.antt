@@ -3,9 +3,7 @@ use mathlib.Core.Path.{_≡_, sym, ap, subst, _∙_}
 use mathlib.Core.Bool.{true}
 use mathlib.Core.List.{List}
 use Prim.Native.Nat.{ℕ}
-use lib.Dec.{eqb}
 use lib.ListN.{length}
-use Rattle.refusal.specs.Laws.Bools.{both}
 use Rattle.bitvec.specs.Bits.{Bytes}
 use Rattle.sort.specs.Agree.{All}
 use Rattle.blocks.specs.declared.Block.{Block}
@@ -18,8 +16,8 @@ use Rattle.record_ihex_line.specs.Format.{hexItem}
 use Rattle.record_write.specs.Checks.{allParts, allPlaced}
 use Rattle.record_write.specs.Cut.{blocksIn, piecesOf}
 use Rattle.record_write.specs.Exactly.{AllParts, WellPlaced}
-use Rattle.record_write.specs.Theorems.Exactly.{parts-exactly, placed-exactly}
-use Rattle.record_write.specs.Theorems.Rising.{pieces-rise}
+use Rattle.record_write.specs.Theorems.Exactly.{parts-exactly, placed-all}
+use Rattle.record_write.specs.Theorems.Rising.{file-rises}
 use Rattle.record_write.specs.Laws.Said.{hexLines, hex-text-lines, hex-lines-upper}
 use Rattle.record_write.specs.Theorems.Said.{hex-lines-cut, hex-tells}
 use Rattle.record_write.specs.Shape.{HexFile, Good}
@@ -38,11 +36,10 @@ module _ (image offsets sizes : List ℕ) (load : ℕ) (good : Bytes image) (par
   all-parts = parts-exactly (length image) offsets sizes .1 parts
 
   all-placed : allPlaced load blocks ≡ true
-  all-placed = both (eqb (length offsets) (length sizes)) (allPlaced load blocks) (placed-exactly load offsets sizes .1 places) .1
+  all-placed = placed-all load offsets sizes places
 
-  -- The pieces ascend from the load address on and end at 2^32 at the latest.
-  pub file-rises : Rises 4294967296 load (piecesOf load image (blocksIn offsets sizes))
-  file-rises = pieces-rise load image blocks good all-parts all-placed
+  rises : Rises 4294967296 load (piecesOf load image (blocksIn offsets sizes))
+  rises = file-rises image offsets sizes load good parts places
 
   cut-lines : linesOf (hexOf image offsets sizes load) ≡ hexLines 0 pieces
   cut-lines = hex-lines-cut load image blocks good all-parts all-placed
@@ -53,11 +50,11 @@ module _ (image offsets sizes : List ℕ) (load : ℕ) (good : Bytes image) (par
 
   -- A data record for each piece, a type 04 record before one whose upper half differs from that in force, one end record and that last.
   pub file-shape : HexFile 0 (piecesOf load image (blocksIn offsets sizes)) (linesOf (hexOf image offsets sizes load))
-  file-shape = subst (HexFile 0 pieces) (sym cut-lines) (hex-file load 0 pieces file-rises)
+  file-shape = subst (HexFile 0 pieces) (sym cut-lines) (hex-file load 0 pieces rises)
 
   -- Every record is good by the reader's own rule.
   pub file-good : All Good (linesOf (hexOf image offsets sizes load))
-  file-good = subst (All Good) (sym cut-lines) (hex-lines-good load 0 pieces file-rises)
+  file-good = subst (All Good) (sym cut-lines) (hex-lines-good load 0 pieces rises)
 
   -- "LF ends": the text is its lines, each with an LF behind it.
   pub file-ended : hexOf image offsets sizes load ≡ ended (linesOf (hexOf image offsets sizes load))
@@ -65,4 +62,4 @@ module _ (image offsets sizes : List ℕ) (load : ℕ) (good : Bytes image) (par
 
   -- "upper case": each character is 0 to 9, A to F, a colon, an S or an LF.
   pub file-upper : AllWritten (hexOf image offsets sizes load)
-  file-upper = subst AllWritten (sym (hex-text-lines 0 pieces)) (ended-written (hexLines 0 pieces) (hex-lines-upper load 0 pieces file-rises))
+  file-upper = subst AllWritten (sym (hex-text-lines 0 pieces)) (ended-written (hexLines 0 pieces) (hex-lines-upper load 0 pieces rises))

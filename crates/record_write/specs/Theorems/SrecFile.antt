@@ -3,9 +3,7 @@ use mathlib.Core.Path.{_≡_, sym, ap, subst, _∙_}
 use mathlib.Core.Bool.{true}
 use mathlib.Core.List.{List}
 use Prim.Native.Nat.{ℕ, _^_}
-use lib.Dec.{eqb}
 use lib.ListN.{length, getD}
-use Rattle.refusal.specs.Laws.Bools.{both}
 use Rattle.bitvec.specs.Bits.{Bytes}
 use Rattle.sort.specs.Agree.{All}
 use Rattle.blocks.specs.declared.Block.{Block}
@@ -19,8 +17,7 @@ use Rattle.record_srec_line.specs.ReadBack.{Width}
 use Rattle.record_write.specs.Checks.{allParts, allPlaced}
 use Rattle.record_write.specs.Cut.{blocksIn, piecesOf}
 use Rattle.record_write.specs.Exactly.{AllParts, WellPlaced, FitsWidth}
-use Rattle.record_write.specs.Theorems.Exactly.{parts-exactly, placed-exactly}
-use Rattle.record_write.specs.Theorems.Rising.{pieces-rise}
+use Rattle.record_write.specs.Theorems.Exactly.{parts-exactly, placed-all}
 use Rattle.record_write.specs.Laws.Said.{srecLines, srec-text-lines, srec-lines-upper}
 use Rattle.record_write.specs.Theorems.Said.{srec-lines-cut, srec-tells}
 use Rattle.record_write.specs.Shape.{SrecFile, Sound, Plain}
@@ -41,15 +38,12 @@ module _ (image offsets sizes : List ℕ) (load width : ℕ) (good : Bytes image
   all-parts = parts-exactly (length image) offsets sizes .1 parts
 
   all-placed : allPlaced load blocks ≡ true
-  all-placed = both (eqb (length offsets) (length sizes)) (allPlaced load blocks) (placed-exactly load offsets sizes .1 places) .1
+  all-placed = placed-all load offsets sizes places
 
   own : Width width
   own = width-is width load offsets sizes fits
 
-  -- The pieces ascend from the load address on and end at 2^32 at the latest, and at the end of the addresses that the width has.
-  pub file-rises : Rises 4294967296 load (piecesOf load image (blocksIn offsets sizes))
-  file-rises = pieces-rise load image blocks good all-parts all-placed
-
+  -- The pieces ascend from the load address on and end at the end of the addresses that the width has.
   pub file-fits : Rises (256 ^ width) load (piecesOf load image (blocksIn offsets sizes))
   file-fits = pieces-fit width load image offsets sizes good all-parts all-placed fits
 

@@ -8,6 +8,7 @@ use Rattle.refusal.specs.declared.Verdict.the-variants.{Accepted}
 use Rattle.bankdef.specs.Check.{checkOf}
 use Rattle.bankdef.specs.declared.Bankdefs.{Bankdefs}
 use Rattle.lists.specs.Lists.{Lists, listsOf}
+use Rattle.iter.specs.declared.Lost.{Lost}
 use Rattle.output.specs.Output as out
 use Rattle.output.specs.Output.{Input, roomOf, buildOf, passesOf}
 use Rattle.output.specs.declared.Build.{Build}
@@ -50,7 +51,7 @@ module _ (g : Given) (typed : Typed g) where
   unfolding buildOf
   by-definition old = has-outcome g typed (lentSo old)
 
-  told-passes : (x : Build) (n : ℕ) (sums : List ℕ) → buildTold x n sums .passes ≡ n
+  told-passes : (x : Build) (n : ℕ) (sums : List Lost) → buildTold x n sums .passes ≡ n
   told-passes (Done k length spans) n sums = refl
   told-passes (Refused why) n sums = refl
 

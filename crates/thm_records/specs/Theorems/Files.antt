@@ -10,8 +10,9 @@ use Rattle.record_fault.specs.Reading.{sound, readText}
 use Rattle.record_read.specs.Outcome.{Lent, Reads}
 use Rattle.record_write.specs.Cut.{blocksIn, piecesOf}
 use Rattle.record_write.specs.Exactly.{AllParts, WellPlaced, FitsWidth}
-use Rattle.record_write.specs.Theorems.Exactly.{parts-exactly}
+use Rattle.record_write.specs.Theorems.Exactly.{parts-exactly, placed-all}
 use Rattle.record_write.specs.Theorems.Refusals.{hex-answered, srec-answered}
+use Rattle.record_write.specs.Theorems.Rising.{file-rises}
 use Rattle.record_write.specs.Laws.Answered.{accepted-fits}
 use Rattle.record_write.specs.Outcome.{toldWritten}
 use Rattle.record_write.specs.declared.Written.{Written}
@@ -22,7 +23,6 @@ use Rattle.record_write.specs.Theorems.SrecFile as srec-file
 use Rattle.thm_records.specs.Theorems.Back.{hex-read, srec-read}
 use Rattle.thm_records.specs.Trip.{Room, Back}
 use Rattle.thm_records.specs.Theorems.Trip.{comes-back}
-use Rattle.thm_records.specs.Laws.Files.{placed-all}
 
 module _ (image offsets sizes : List ℕ) (load : ℕ) (good : Bytes image) where
   -- Any file that gives the pieces of the blocks brings them back.
@@ -47,7 +47,7 @@ module _ (image offsets sizes : List ℕ) (load : ℕ) (good : Bytes image) wher
         let f = hex-fit in
         ap (readText 0 load) (hex-answered image offsets sizes load text₀ w text₁ written .front n accepted)
         ∙ hex-read load (hexOf image offsets sizes load) (piecesOf load image (blocksIn offsets sizes))
-        (hex-file.file-rises image offsets sizes load good (f .0) (f .1)) (hex-file.file-tells image offsets sizes load good (f .0) (f .1))
+        (file-rises image offsets sizes load good (f .0) (f .1)) (hex-file.file-tells image offsets sizes load good (f .0) (f .1))
 
     -- "Reading back our own file gives the same bytes at the same addresses, touching blocks joined."
     pub hex-back : (old : Lent) (r : Blocks) (new : Lent) → Reads load (readText 0 load (take n text₁)) old r new → Room (blocksIn offsets sizes) old
@@ -68,7 +68,7 @@ module _ (image offsets sizes : List ℕ) (load : ℕ) (good : Bytes image) wher
           let f = srec-fit in
           ap (readText format load) (srec-answered image offsets sizes load text₀ w text₁ width written .front n accepted)
           ∙ srec-read load (srecOf image offsets sizes load width) (piecesOf load image (blocksIn offsets sizes))
-          (srec-file.file-rises image offsets sizes load width good (f .0) (f .1 .0) (f .1 .1)) format other
+          (file-rises image offsets sizes load good (f .0) (f .1 .1)) format other
           (srec-file.file-tells image offsets sizes load width good (f .0) (f .1 .0) (f .1 .1))
 
       pub srec-back : (old : Lent) (r : Blocks) (new : Lent) → Reads load (readText format load (take n text₁)) old r new → Room (blocksIn offsets sizes) old

@@ -30,21 +30,21 @@ mul-write-bank c = record { fits = omega (arith, c .before .before .loop-test .t
 
 write-bank-requires : tie.Need-write-bank-requires Inv-loop μ-loop
 write-bank-requires c κs =
-    let at-loop = c .before .before .before in
+    let at-loop = c .before .before .before .before in
     let at-shorter = at-loop .before in
     let start = at-shorter .before .before in
     let l = at-loop .loop in
-    omega (arith, l .inv .1, c .before .before .loop-test .taken, at-shorter .lesser .ensures, start .pre, writes-long (l .inv .2))
+    omega (arith, l .inv .1, c .before .before .before .loop-test .taken, at-shorter .lesser .ensures, start .pre, writes-long (l .inv .2))
 
 add-i : tie.Need-add-i Inv-loop μ-loop
 add-i c =
-    let at-in-loop = c .before .before .before .before .before in
+    let at-in-loop = c .before .before .before .before .before .before in
     let at-shorter = at-in-loop .before .before in
     record { fits = omega (arith, at-in-loop .loop-test .taken, at-shorter .lesser .ensures) }
 
 loop-again : tie.Need-loop-again Inv-loop μ-loop
 loop-again c =
-    let at-bank-record = c .before .before .before .before in
+    let at-bank-record = c .before .before .before .before .before in
     let at-in-loop = at-bank-record .before in
     let at-loop = at-in-loop .before in
     let start = at-loop .before .before .before in
@@ -74,4 +74,4 @@ write-banks-spec =
     (tie.spec
     Inv-loop μ-loop (λ c κs. search needs) loop-holds (λ c κs. search needs) mul-write-bank
     (λ c. omega (arith, c .before .before .loop-test .taken, c .before .before .before .before .lesser .ensures)) write-bank-requires add-i
-    (λ c. omega (arith, c .before .before .before .before .before .loop-test .taken)) loop-again (λ c. writes-long (c .before .loop .inv .2)) returns)
+    (λ c. omega (arith, c .before .before .before .before .before .before .loop-test .taken)) loop-again (λ c. writes-long (c .before .loop .inv .2)) returns)
