@@ -210,7 +210,7 @@ struct dk_offer {
  * Writes the image, bits from the top of each byte, and the spans, labels and written items in the order of the nodes: span i has addresses[i],
  * offsets[i] (in bits, or DK_NO_OFFSET) and sizes[i] (in bits, 0 for a label). The shortest of the three lists counts.
  *
- * It needs less than 24 KiB of stack (23.1 KiB). */
+ * It needs less than 28 KiB of stack (24.5 KiB). */
 struct dk_layout dk_build(const uint16_t *units, size_t units_len,
                           const int64_t *starts, size_t starts_len,
                           const uint32_t *bank_sizes, size_t bank_sizes_len,
@@ -231,7 +231,7 @@ struct dk_layout dk_build(const uint16_t *units, size_t units_len,
                           uint64_t *sizes, size_t sizes_len);
 
 /* The same for a file of form 1, at most 65,000 bytes, or of form 2, at most 65,536: image and spans as above. Bank 0 is closed in form 2, open in form 1.
- * It needs less than 136 KiB of stack (130.3 KiB), most of it for the lists of the file. */
+ * It needs less than 136 KiB of stack (131.9 KiB), most of it for the lists of the file. */
 struct dk_layout dk_form(const uint8_t *file, size_t file_len, uint8_t fill,
                          uint8_t *image, size_t image_len,
                          int64_t *addresses, size_t addresses_len,
@@ -265,7 +265,7 @@ struct dk_profile dk_profile(uint32_t page,
                              uint8_t fill);
 
 /* dk_build and dk_form in the profile of a device with pages of `page` bits: what dk_profile refuses is refused so, with no pass run; everything else is as
- * without a profile. They need less than 28 KiB and 136 KiB of stack (25.4 and 130.3 KiB). */
+ * without a profile. They need less than 28 KiB and 136 KiB of stack (26.9 and 132.0 KiB). */
 struct dk_layout dk_build_paged(uint32_t page,
                                 const uint16_t *units, size_t units_len,
                                 const int64_t *starts, size_t starts_len,
@@ -312,7 +312,7 @@ struct dk_mapped {
  * DK_NO_OFFSET, and takes sizes[i] bits if it is an item or a reserve. Elements past `nodes` stay. The call is refused 1, 2, 3 and 4 in this order, and then
  * changes nothing; there is no 14, since the lists have a place for every node that a layout can have. Where dk_build refuses from 5 to 13 the map is the
  * answer, and says it in `stopped`, with its place and the node: so the node at fault of 12 is learnt, whose own place is the interval that it meets. Time
- * grows with passes times nodes, and with the nodes times those stored before them. It needs less than 24 KiB of stack (19.8 KiB). */
+ * grows with passes times nodes, and with the nodes times those stored before them. It needs less than 24 KiB of stack (20.8 KiB). */
 struct dk_mapped dk_map(const uint16_t *units, size_t units_len,
                         const int64_t *starts, size_t starts_len,
                         const uint32_t *bank_sizes, size_t bank_sizes_len,
@@ -416,15 +416,15 @@ enum dk_format { DK_INTEL_HEX = 0, DK_S_RECORDS = 1 };
 /* Reads a file of records: the byte at address a goes to bytes[a - load], and every other byte stays as it was. Block i is the sizes[i] bits from bit
  * offsets[i] on, ascending, touching ones joined; `count` is how many there are. S-records may have either width. Refused 4 (place 0) where the format is
  * neither of the two or the file bad: a line, a byte given twice or below `load`; then 14 where `bytes` (place 0) or a list (place 2) is too short.
- * The call answers the same whatever `marks` is, and leaves it as it was; it may be empty. Time grows with the text where records ascend, descend, or stand in
- * a few blocks in any order. Where many records jump it grows with the text too if `marks` is all zeros and has a byte for every 8 addresses from the lowest
- * that is given to the highest; with fewer zeros the text is read once more for each 8 * marks_len of those addresses that has a byte; with none, or where
- * `marks` has a byte that is not zero, time grows with the square of the number of lines. It needs less than 2 KiB of stack (1.2 KiB). */
+ * The call answers the same whatever `scratch` is, and leaves it as it was; it may be empty. Time grows with the text where records ascend, descend, or stand in
+ * a few blocks in any order. Where many records jump it grows with the text too if `scratch` is all zeros and has a byte for every 8 addresses from the lowest
+ * that is given to the highest; with fewer zeros the text is read once more for each 8 * scratch_len of those addresses that has a byte; with none, or where
+ * `scratch` has a byte that is not zero, time grows with the square of the number of lines. It needs less than 2 KiB of stack (1.2 KiB). */
 struct dk_count dk_read_records(uint8_t format, const uint8_t *text, size_t text_len, uint32_t load,
                                 uint8_t *bytes, size_t bytes_len,
                                 uint64_t *offsets, size_t offsets_len,
                                 uint64_t *sizes, size_t sizes_len,
-                                uint8_t *marks, size_t marks_len);
+                                uint8_t *scratch, size_t scratch_len);
 
 /* Where a file of records is bad. */
 struct dk_fault {
@@ -432,10 +432,10 @@ struct dk_fault {
     uint64_t line;  /* the first line at which no good file can go on, from 0 */
 };
 
-/* The same file, asked why it is refused with 4, in the same time, with `marks` as above. In a format that is neither no file is good: line 0. It needs less
+/* The same file, asked why it is refused with 4, in the same time, with `scratch` as above. In a format that is neither no file is good: line 0. It needs less
  * than 1 KiB of stack. */
 struct dk_fault dk_record_fault(uint8_t format, const uint8_t *text, size_t text_len, uint32_t load,
-                                uint8_t *marks, size_t marks_len);
+                                uint8_t *scratch, size_t scratch_len);
 
 /* Why a file of records is bad, in the order in which a line is looked at: the first of these that there is. `first` and `second` with it. */
 enum dk_cause {
@@ -465,11 +465,11 @@ struct dk_reason {
 };
 
 /* The same file, asked what is wrong with the line at fault. Nothing is refused: every text has an answer, 0 where the file is good. (A format that is
- * neither is taken for S-records here.) With `marks` as above, it takes the time of
+ * neither is taken for S-records here.) With `scratch` as above, it takes the time of
  * dk_record_fault and of reading the lines before the one at fault once or twice more, and where a line is below `load` those of the whole text. It needs less
  * than 2 KiB of stack (1.1 KiB). */
 struct dk_reason dk_record_reason(uint8_t format, const uint8_t *text, size_t text_len, uint32_t load,
-                                  uint8_t *marks, size_t marks_len);
+                                  uint8_t *scratch, size_t scratch_len);
 
 /* A reason in words, without its numbers. */
 static inline const char *dk_reason_words(uint64_t reason)

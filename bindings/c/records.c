@@ -77,14 +77,14 @@ static void write_records(char **words)
 }
 
 /* Marks, none in one call of five, and that they are zeros again. */
-static uint8_t marks[4];
+static uint8_t scratch[4];
 
 static size_t marked(void)
 {
     static size_t calls;
-    for (size_t i = 0; i < sizeof marks; i++)
-        if (marks[i]) {
-            puts("marks were left");
+    for (size_t i = 0; i < sizeof scratch; i++)
+        if (scratch[i]) {
+            puts("scratch were left");
             exit(1);
         }
     return calls++ % 5;
@@ -99,7 +99,7 @@ static void read_records(char **words)
         offsets[i] = 1000003 * (i + 1) + 1;
         sizes[i] = 1000003 * (i + 1) + 2;
     }
-    print_count(dk_read_records(format(words[1]), text, length, load, image, n, offsets, lists, sizes, lists, marks, marked()));
+    print_count(dk_read_records(format(words[1]), text, length, load, image, n, offsets, lists, sizes, lists, scratch, marked()));
     print_octets(image, n);
     print_list(offsets, lists);
     print_list(sizes, lists);
@@ -109,7 +109,7 @@ static void read_records(char **words)
 static void find_fault(char **words)
 {
     size_t length = octets(words[3], text);
-    struct dk_fault r = dk_record_fault(format(words[1]), text, length, (uint32_t)strtoul(words[2], NULL, 10), marks, marked());
+    struct dk_fault r = dk_record_fault(format(words[1]), text, length, (uint32_t)strtoul(words[2], NULL, 10), scratch, marked());
     if (r.fault)
         printf("line %" PRIu64, r.line);
     else
@@ -120,7 +120,7 @@ static void find_fault(char **words)
 static void find_reason(char **words)
 {
     size_t length = octets(words[3], text);
-    struct dk_reason r = dk_record_reason(format(words[1]), text, length, (uint32_t)strtoul(words[2], NULL, 10), marks, marked());
+    struct dk_reason r = dk_record_reason(format(words[1]), text, length, (uint32_t)strtoul(words[2], NULL, 10), scratch, marked());
     printf("reason %" PRIu64 " %" PRIu64 " %" PRIu64 " %" PRIu64, r.reason, r.line, r.first, r.second);
 }
 

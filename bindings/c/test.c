@@ -203,11 +203,11 @@ static void records(void)
 }
 
 /* A thousand records of a byte, each 387 addresses behind the one before it, of a thousand, and, if asked for, the first of them again.
- * Without marks, with those that are zeros, in one window and in many, and with one that is not: the answer is one, and the marks are as they were. */
+ * Without scratch, with scratch that is zeros, in one window and in many, and with a byte that is not: the answer is one, and the scratch is as it was. */
 static void jumping(void)
 {
     static char text[20000];
-    static uint8_t bytes[1000], marks[125], before[125];
+    static uint8_t bytes[1000], scratch[125], before[125];
     static const size_t lengths[] = {0, 125, 124, 7, 1};
     for (int twice = 0; twice < 2; twice++) {
         size_t length = 0;
@@ -218,21 +218,21 @@ static void jumping(void)
         length += (size_t)sprintf(text + length, ":00000001FF\n");
         for (size_t i = 0; i < 6; i++) {
             uint64_t at = 0xa5, size = 0xa5;
-            size_t many = i < 5 ? lengths[i] : sizeof marks;
-            memset(marks, 0, sizeof marks);
-            marks[124] = i == 5;
-            memcpy(before, marks, sizeof marks);
+            size_t many = i < 5 ? lengths[i] : sizeof scratch;
+            memset(scratch, 0, sizeof scratch);
+            scratch[124] = i == 5;
+            memcpy(before, scratch, sizeof scratch);
             memset(bytes, 0xa5, sizeof bytes);
-            struct dk_fault fault = dk_record_fault(DK_INTEL_HEX, (const uint8_t *)text, length, 0, marks, many);
-            struct dk_reason reason = dk_record_reason(DK_INTEL_HEX, (const uint8_t *)text, length, 0, marks, many);
-            struct dk_count n = dk_read_records(DK_INTEL_HEX, (const uint8_t *)text, length, 0, bytes, sizeof bytes, &at, 1, &size, 1, marks, many);
+            struct dk_fault fault = dk_record_fault(DK_INTEL_HEX, (const uint8_t *)text, length, 0, scratch, many);
+            struct dk_reason reason = dk_record_reason(DK_INTEL_HEX, (const uint8_t *)text, length, 0, scratch, many);
+            struct dk_count n = dk_read_records(DK_INTEL_HEX, (const uint8_t *)text, length, 0, bytes, sizeof bytes, &at, 1, &size, 1, scratch, many);
             if (twice)
                 expect(n.refusal == DK_MALFORMED && at == 0xa5 && bytes[0] == 0xa5 && fault.fault == 1 && fault.line == 1000 && reason.line == 1000
                            && reason.reason == DK_GIVEN_TWICE && reason.first == 0 && reason.second == 0, "a byte again, in records that jump");
             else
                 expect(n.refusal == DK_ACCEPTED && n.count == 1 && at == 0 && size == 8000 && bytes[0] == 65 && bytes[999] == 65 && fault.fault == 0
                            && reason.reason == DK_GOOD_FILE, "records that jump");
-            expect(memcmp(marks, before, sizeof marks) == 0, "the marks as they were");
+            expect(memcmp(scratch, before, sizeof scratch) == 0, "the scratch as it was");
         }
     }
 }

@@ -135,12 +135,12 @@ extern "C" {
     ) -> DkCount;
     fn dk_read_records(
         format: u8, text: *const u8, text_len: usize, load: u32, bytes: *mut u8, bytes_len: usize,
-        offsets: *mut u64, offsets_len: usize, sizes: *mut u64, sizes_len: usize, marks: *mut u8, marks_len: usize,
+        offsets: *mut u64, offsets_len: usize, sizes: *mut u64, sizes_len: usize, scratch: *mut u8, scratch_len: usize,
     ) -> DkCount;
     fn dk_to_form2(file: *const u8, file_len: usize, out: *mut u8, out_len: usize) -> DkCount;
     fn dk_to_form1(file: *const u8, file_len: usize, out: *mut u8, out_len: usize) -> DkCount;
-    fn dk_record_fault(format: u8, text: *const u8, text_len: usize, load: u32, marks: *mut u8, marks_len: usize) -> DkFault;
-    fn dk_record_reason(format: u8, text: *const u8, text_len: usize, load: u32, marks: *mut u8, marks_len: usize) -> DkReason;
+    fn dk_record_fault(format: u8, text: *const u8, text_len: usize, load: u32, scratch: *mut u8, scratch_len: usize) -> DkFault;
+    fn dk_record_reason(format: u8, text: *const u8, text_len: usize, load: u32, scratch: *mut u8, scratch_len: usize) -> DkReason;
     fn dk_form(
         file: *const u8, file_len: usize, fill: u8, image: *mut u8, image_len: usize, addresses: *mut i64, addresses_len: usize,
         offsets: *mut u64, offsets_len: usize, sizes: *mut u64, sizes_len: usize,
@@ -248,13 +248,13 @@ pub fn write_srec(image: &[u8], offsets: &[u64], sizes: &[u64], load: u32, width
 
 #[rustfmt::skip]
 pub fn read_records(
-    format: u8, text: &[u8], load: u32, bytes: &mut [u8], offsets: &mut [u64], sizes: &mut [u64], marks: &mut [u8],
+    format: u8, text: &[u8], load: u32, bytes: &mut [u8], offsets: &mut [u64], sizes: &mut [u64], scratch: &mut [u8],
 ) -> DkCount {
     // SAFETY: see the module
     unsafe {
         dk_read_records(
             format, text.as_ptr(), text.len(), load, bytes.as_mut_ptr(), bytes.len(),
-            offsets.as_mut_ptr(), offsets.len(), sizes.as_mut_ptr(), sizes.len(), marks.as_mut_ptr(), marks.len(),
+            offsets.as_mut_ptr(), offsets.len(), sizes.as_mut_ptr(), sizes.len(), scratch.as_mut_ptr(), scratch.len(),
         )
     }
 }
@@ -269,9 +269,9 @@ pub fn to_form1(file: &[u8], out: &mut [u8]) -> DkCount {
     unsafe { dk_to_form1(file.as_ptr(), file.len(), out.as_mut_ptr(), out.len()) }
 }
 
-pub fn record_fault(format: u8, text: &[u8], load: u32, marks: &mut [u8]) -> DkFault {
+pub fn record_fault(format: u8, text: &[u8], load: u32, scratch: &mut [u8]) -> DkFault {
     // SAFETY: see the module
-    unsafe { dk_record_fault(format, text.as_ptr(), text.len(), load, marks.as_mut_ptr(), marks.len()) }
+    unsafe { dk_record_fault(format, text.as_ptr(), text.len(), load, scratch.as_mut_ptr(), scratch.len()) }
 }
 
 #[rustfmt::skip]
@@ -290,9 +290,9 @@ pub fn map(b: &Banks<'_>, n: &Nodes<'_>, c: Choices, lists: &mut MapLists) -> Dk
     }
 }
 
-pub fn record_reason(format: u8, text: &[u8], load: u32, marks: &mut [u8]) -> DkReason {
+pub fn record_reason(format: u8, text: &[u8], load: u32, scratch: &mut [u8]) -> DkReason {
     // SAFETY: see the module
-    unsafe { dk_record_reason(format, text.as_ptr(), text.len(), load, marks.as_mut_ptr(), marks.len()) }
+    unsafe { dk_record_reason(format, text.as_ptr(), text.len(), load, scratch.as_mut_ptr(), scratch.len()) }
 }
 
 #[rustfmt::skip]

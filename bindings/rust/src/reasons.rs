@@ -1,7 +1,7 @@
 //! Why a file of records is bad: the line at fault, one reason, and what goes with it, in words too.
 
-use crate::records::{marks_for, Format};
 use crate::ffi;
+use crate::records::{marks_for, Format};
 use std::fmt;
 
 /// What is wrong with the line at fault: the first of these that there is, in this order.

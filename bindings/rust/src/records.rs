@@ -54,17 +54,17 @@ pub fn write_srec(image: &[u8], offsets: &[u64], sizes: &[u64], load: u32, width
 /// joined, to the two lists. Answers how many blocks there are. Refused 4 for a bad file, then 14 for the bytes or the lists. It takes zeros for an eighth of
 /// `bytes` meanwhile, so that records in any order cost no more than those that ascend.
 pub fn read(format: Format, text: &[u8], load: u32, bytes: &mut [u8], offsets: &mut [u64], sizes: &mut [u64]) -> Result<usize, Refusal> {
-    let mut marks = marks_for(bytes.len());
-    count_of(ffi::read_records(format as u8, text, load, bytes, offsets, sizes, &mut marks))
+    let mut scratch = scratch_for(bytes.len());
+    count_of(ffi::read_records(format as u8, text, load, bytes, offsets, sizes, &mut scratch))
 }
 
 /// A mark for each of so many addresses, a bit each, by which records that jump are held against those before them.
-pub(crate) fn marks_for(addresses: usize) -> Vec<u8> {
+pub(crate) fn scratch_for(addresses: usize) -> Vec<u8> {
     vec![0; addresses / 8 + 1]
 }
 
 /// The first line, from 0, at which no good file can go on; `None` of a good file.
 pub fn line_at_fault(format: Format, text: &[u8], load: u32) -> Option<u64> {
-    let r = ffi::record_fault(format as u8, text, load, &mut marks_for(text.len()));
+    let r = ffi::record_fault(format as u8, text, load, &mut scratch_for(text.len()));
     (r.fault != 0).then_some(r.line)
 }

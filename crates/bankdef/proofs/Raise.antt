@@ -9,7 +9,7 @@ use lib.Dec.{ltb}
 use Rattle.refusal.specs.Laws.Bools.{either}
 use Rattle.refusal.specs.Pick.{pick}
 use Rattle.bankdef.specs.declared.Bankdef.{Bankdef}
-use Rattle.bankdef.specs.Fill.{raisedTo, filledBy, fillEnd, fillFrom, fullLength}
+use Rattle.bankdef.specs.Fill.{raisedTo, fillEnd, fillFrom, fullLength}
 use Rattle.bankdef.specs.Laws.FullFill.{filled-by-end}
 
 abbrev pub raised : ℕ → ℕ → ℕ → ℕ

@@ -239,7 +239,7 @@ fn filled(b: Bankdef, length: u64, gap: u64) -> u64
 }
 
 // The length that fill gives an empty image, over the table's first `n` banks in order, by the choice.
-fn fill_chosen(banks: Bankdefs, n: usize, choice: u8) -> u64
+fn fill_banks(banks: Bankdefs, n: usize, choice: u8) -> u64
     requires { ⌜ n ≤ maxBanks ⌝ }
     ensures { λ r. ⌜ r ≡ fillBy choice (take n (banks .defs)) ⌝ }
     ensures { λ r. ⌜ r ≤ maxOffer ⌝ }
@@ -260,8 +260,8 @@ pub fn fill_length(banks: Bankdefs, choice: u8) -> u64
 {
     let len = banks.len;
     if len < MAX_BANKS {
-        fill_chosen(banks, len as usize, choice)
+        fill_banks(banks, len as usize, choice)
     } else {
-        fill_chosen(banks, MAX_BANKS as usize, choice)
+        fill_banks(banks, MAX_BANKS as usize, choice)
     }
 }

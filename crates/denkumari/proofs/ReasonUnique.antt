@@ -1,4 +1,4 @@
--- Uniqueness of the reason, over the contract's own clause: the answer, and the marks afterwards.
+-- Uniqueness of the reason, over the contract's own clause: the answer, and the scratch afterwards.
 use mathlib.Core.List.{List}
 use Prim.Native.Nat.{ℕ}
 use Rattle.refusal.specs.Laws.Outcome.{OneView}

@@ -12,8 +12,8 @@ use Rattle.record_reason.specs.declared.Why.{Why}
 abbrev pub kindOf : ℕ → ℕ
 kindOf format = pick (eqb format 0) 0 1
 
--- What `dk_record_reason` promises: the line that `dk_record_fault` tells, the first reason that there is, and its two numbers; and the lent marks as they
--- were.
+-- What `dk_record_reason` promises: the line that `dk_record_fault` tells, the first reason that there is, and its two numbers; and the lent scratch as it
+-- was.
 pub record ReasonTold (format load : ℕ) (text old : List ℕ) (r : Why) (new : List ℕ) : Type 0 where
   pub answer : r ≡ whyOf (kindOf format) load text (readText (kindOf format) load text)
   pub left : new ≡ old

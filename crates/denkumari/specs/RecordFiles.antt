@@ -27,7 +27,7 @@ pub record ReadTold (load : ℕ) (read : Read) (old : Lent) (r : DkCount) (new :
   pub answer : r ≡ blocksCount (answerOf load old read)
   pub left : new ≡ lentAfter load old read
 
--- What `dk_record_fault` promises: "the first line at which no good file can go on, from 0", and the lent marks as they were.
+-- What `dk_record_fault` promises: "the first line at which no good file can go on, from 0", and the lent scratch as it was.
 pub record FaultTold (read : Read) (old : List ℕ) (r : DkFault) (new : List ℕ) : Type 0 where
   pub answer : r ≡ lineTold (faultOf read)
   pub left : new ≡ old

@@ -15,8 +15,8 @@ fn kind_of(format: u8) -> u8
 
 // The line at which a file that is read so is at fault, and why.
 #[no_mangle]
-pub extern "C" fn dk_record_reason(format: u8, text: &[u8], load: u32, marks: &mut [u8]) -> Why
-    ensures { λ r. ⌜ ReasonTold format load (now (text .entry)) (now (marks .entry)) r (now (marks .exit)) ⌝ }
+pub extern "C" fn dk_record_reason(format: u8, text: &[u8], load: u32, scratch: &mut [u8]) -> Why
+    ensures { λ r. ⌜ ReasonTold format load (now (text .entry)) (now (scratch .entry)) r (now (scratch .exit)) ⌝ }
 {
-    record_reason::reason_of(kind_of(format), text, load, marks)
+    record_reason::reason_of(kind_of(format), text, load, scratch)
 }

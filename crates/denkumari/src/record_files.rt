@@ -55,7 +55,7 @@ pub extern "C" fn dk_write_srec(
     tell_written(record_write::write_srec(image, offsets, sizes, load, width, text))
 }
 
-// A file's bytes and blocks, from a load address on. The marks make it quick where they are zeros, and are left as they were.
+// A file's bytes and blocks, from a load address on. The scratch makes it quick where it is zeros, and is left as it was.
 #[no_mangle]
 pub extern "C" fn dk_read_records(
     format: u8,
@@ -64,27 +64,27 @@ pub extern "C" fn dk_read_records(
     bytes: &mut [u8],
     offsets: &mut [u64],
     sizes: &mut [u64],
-    marks: &mut [u8],
+    scratch: &mut [u8],
 ) -> DkCount
     ensures { λ r. ⌜
         ReadTold load (readAs format load (now (text .entry)))
-        (lent (now (bytes .entry)) (now (offsets .entry)) (now (sizes .entry)) (now (marks .entry))) r
-        (lent (now (bytes .exit)) (now (offsets .exit)) (now (sizes .exit)) (now (marks .exit)))
+        (lent (now (bytes .entry)) (now (offsets .entry)) (now (sizes .entry)) (now (scratch .entry))) r
+        (lent (now (bytes .exit)) (now (offsets .exit)) (now (sizes .exit)) (now (scratch .exit)))
         ⌝ }
 {
     if format >= FORMATS {
         return tell_blocks(Blocks::Refused(Refusal::Malformed(0)));
     }
-    tell_blocks(record_read::read(format, text, load, bytes, offsets, sizes, marks))
+    tell_blocks(record_read::read(format, text, load, bytes, offsets, sizes, scratch))
 }
 
 // The line at which a file that is read so is at fault.
 #[no_mangle]
-pub extern "C" fn dk_record_fault(format: u8, text: &[u8], load: u32, marks: &mut [u8]) -> DkFault
-    ensures { λ r. ⌜ FaultTold (readAs format load (now (text .entry))) (now (marks .entry)) r (now (marks .exit)) ⌝ }
+pub extern "C" fn dk_record_fault(format: u8, text: &[u8], load: u32, scratch: &mut [u8]) -> DkFault
+    ensures { λ r. ⌜ FaultTold (readAs format load (now (text .entry))) (now (scratch .entry)) r (now (scratch .exit)) ⌝ }
 {
     if format >= FORMATS {
         return tell_fault(Fault::At(0));
     }
-    tell_fault(record_fault::line_at_fault(format, text, load, marks))
+    tell_fault(record_fault::line_at_fault(format, text, load, scratch))
 }

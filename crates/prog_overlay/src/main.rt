@@ -511,8 +511,8 @@ fn load_file(
     if source.len() >= SOURCE {
         return Blocks::Refused(Refusal::Malformed(0));
     }
-    let mut marks = [0u8; MARKS];
-    record_read::read(0, source, load, bytes, offsets, sizes, &mut marks)
+    let mut scratch = [0u8; MARKS];
+    record_read::read(0, source, load, bytes, offsets, sizes, &mut scratch)
 }
 
 // The line at fault, if there is one.
@@ -524,8 +524,8 @@ fn put_fault(load: u32, source: &[u8], at: usize, out: &mut [u8]) -> usize
     if source.len() >= SOURCE {
         return at;
     }
-    let mut marks = [0u8; MARKS];
-    let fault = record_fault::line_at_fault(0, source, load, &mut marks);
+    let mut scratch = [0u8; MARKS];
+    let fault = record_fault::line_at_fault(0, source, load, &mut scratch);
     match fault {
         Fault::Good => at,
         Fault::At(line) => {

@@ -22,8 +22,8 @@ fn put(kind: u8, load: u32, source: &[u8], out: &mut [u8]) -> usize
     requires { ⌜ lineRoom ≤ length (now out) ⌝ }
     ensures { λ r. ⌜ Stands (reasonText kind load (now (source .entry))) (now (out .entry)) r (now (out .exit)) ⌝ }
 {
-    let mut marks = [0u8; MARKS];
-    let w = record_reason::reason_of(kind, source, load, &mut marks);
+    let mut scratch = [0u8; MARKS];
+    let w = record_reason::reason_of(kind, source, load, &mut scratch);
     let numbers = [w.reason, w.line, w.first, w.second];
     print_text::write_line(out, 0, b"reason", &numbers)
 }

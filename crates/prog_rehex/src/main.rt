@@ -55,8 +55,8 @@ fn turn(
         Turns format load (now (bytes .entry)) (readText kind load (now (source .entry))) (now (out .entry)) r (now (out .exit))
         ⌝ }
 {
-    let mut marks = [0u8; MARKS];
-    let found = record_read::read(kind, source, load, bytes, offsets, sizes, &mut marks);
+    let mut scratch = [0u8; MARKS];
+    let found = record_read::read(kind, source, load, bytes, offsets, sizes, &mut scratch);
     match found {
         Blocks::Refused(why) => Written::Refused(why),
         Blocks::Found(count) => {
@@ -84,8 +84,8 @@ fn put_fault(why: Refusal, kind: u8, load: u32, source: &[u8], out: &mut [u8]) -
         ⌝ }
 {
     let at = prog_args::put_refusal(why, out);
-    let mut marks = [0u8; MARKS];
-    let fault = record_fault::line_at_fault(kind, source, load, &mut marks);
+    let mut scratch = [0u8; MARKS];
+    let fault = record_fault::line_at_fault(kind, source, load, &mut scratch);
     match fault {
         Fault::Good => at,
         Fault::At(line) => put_line(at, line, out),

@@ -38,7 +38,7 @@ use Rattle.record_fault.proofs.search_line.Reads as search-line-reads
 use Rattle.record_fault.proofs.take_line.Kinds as take-line-kinds
 use Rattle.record_fault.proofs.take_line.Reads as take-line-reads
 
--- the answer, and the marks afterwards
+-- the answer, and the scratch afterwards
 pub line-at-fault-unique : OneView 2 line-at-fault-kinds.ps line-at-fault-kinds.r line-at-fault-reads.Learnt (Fault × List ℕ)
     (λ κs x e. (x, e .1 .1 .1 .0 .now))
 line-at-fault-unique κs a x y e f p q = paired (determined (p .0) (q .0)) (determined (p .1) (q .1))
@@ -83,16 +83,16 @@ module _ (format load : ℕ) (text : List ℕ) where
 
 -- ---- a window
 
-module _ (format : ℕ) (text : List ℕ) (n low : ℕ) (marks : List ℕ) where
+module _ (format : ℕ) (text : List ℕ) (n low : ℕ) (scratch : List ℕ) where
   -- no line before the first that gives a byte twice does so
-  none-earlier : (a b : List ℕ) (r s : Window) → Windowed format text n low marks a r → Windowed format text n low marks b s → r .line < s .line → ⊥
+  none-earlier : (a b : List ℕ) (r s : Window) → Windowed format text n low scratch a r → Windowed format text n low scratch b s → r .line < s .line → ⊥
   none-earlier a b r s p q l =
       let m = p .shared (omega (arith, l, q .few)) in
       let one = q .once (r .line) l (m .at) (m .above) (m .below) in
       let z : _≡_ {A = Bool} false true = rw (m .old, m .again) at one in
       clash z refl
 
-  same-line : (a b : List ℕ) (r s : Window) → Windowed format text n low marks a r → Windowed format text n low marks b s → r .line ≡ s .line
+  same-line : (a b : List ℕ) (r s : Window) → Windowed format text n low scratch a r → Windowed format text n low scratch b s → r .line ≡ s .line
   same-line a b r s p q =
       elim (decLt (r .line) (s .line)) [
         | yes l ↦ absurd (none-earlier a b r s p q l)
@@ -100,13 +100,13 @@ module _ (format : ℕ) (text : List ℕ) (n low : ℕ) (marks : List ℕ) where
       ]
 
   -- nothing is given between two next addresses
-  none-nearer : (a b : List ℕ) (r s : Window) → Windowed format text n low marks a r → Windowed format text n low marks b s → r .next < s .next → ⊥
+  none-nearer : (a b : List ℕ) (r s : Window) → Windowed format text n low scratch a r → Windowed format text n low scratch b s → r .next < s .next → ⊥
   none-nearer a b r s p q l =
       let old = p .least (omega (arith, l, q .near)) in
       let free = q .free (r .next) (p .onward) l in
       clash (subst (λ (k : ℕ). isFree (trail format text k .given) (r .next) ≡ true) (sym (same-line a b r s p q)) free) old
 
-  one-window : (a b : List ℕ) (r s : Window) → Windowed format text n low marks a r → Windowed format text n low marks b s → (r ≡ s) × (a ≡ b)
+  one-window : (a b : List ℕ) (r s : Window) → Windowed format text n low scratch a r → Windowed format text n low scratch b s → (r ≡ s) × (a ≡ b)
   one-window a b r s p q =
       let lines = same-line a b r s p q in
       let nexts : r .next ≡ s .next = elim (decLt (r .next) (s .next)) [
@@ -119,7 +119,7 @@ module _ (format : ℕ) (text : List ℕ) (n low : ℕ) (marks : List ℕ) where
             ∙ sym (q .marked j (omega (arith, h, p .long, q .long)))),
       )
 
--- the answer, and the marks afterwards
+-- the answer, and the scratch afterwards
 pub mark-window-unique : OneView 3 mark-window-kinds.ps mark-window-kinds.r mark-window-reads.Learnt (Window × List ℕ)
     (λ κs x e. (x, e .1 .1 .1 .1 .1 .0 .now))
 mark-window-unique κs a x y e f p q =
@@ -127,7 +127,7 @@ mark-window-unique κs a x y e f p q =
     (f .1 .1 .1 .1 .1 .0 .now) x y p q in
     paired (same .0) (same .1)
 
--- the answer, and the marks afterwards
+-- the answer, and the scratch afterwards
 pub scan-lines-unique : OneView 3 scan-lines-kinds.ps scan-lines-kinds.r scan-lines-reads.Learnt (Scan × List ℕ)
     (λ κs x e. (x, e .1 .1 .1 .1 .0 .now))
 scan-lines-unique κs a x y e f p q = paired (one-scan (a .0) (a .1 .1 .1 .0) (a .1 .0 .now) x y (p .0) (q .0)) (determined (p .1) (q .1))

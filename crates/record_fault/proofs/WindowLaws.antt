@@ -159,14 +159,14 @@ each-free format text (suc n) k x h e =
 
 -- ---- a window
 
-pub record Marking (format : ℕ) (text : List ℕ) (n low : ℕ) (before : List ℕ) (at state next : ℕ) (marks : List ℕ) (k : ℕ) : Type 0 where
+pub record Marking (format : ℕ) (text : List ℕ) (n low : ℕ) (before : List ℕ) (at state next : ℕ) (scratch : List ℕ) (k : ℕ) : Type 0 where
   pub few : k ≤ n
   pub place : at ≡ trail format text k .at
   pub force : state ≡ trail format text k .state
   pub inside : at ≤ length text
-  pub long : length marks ≡ length before
-  pub bytes : Bytes marks
-  pub marked : Marked (trail format text k .given) low marks
+  pub long : length scratch ≡ length before
+  pub bytes : Bytes scratch
+  pub marked : Marked (trail format text k .given) low scratch
   pub once : (j : ℕ) → j < k → (x : ℕ) → low ≤ x → x < windowEnd low (length before)
       → (isFree (trail format text j .given) x || isFree (newAt format text j) x) ≡ true
   pub free : (x : ℕ) → windowEnd low (length before) ≤ x → x < next → isFree (trail format text k .given) x ≡ true
@@ -206,7 +206,7 @@ module _ (format : ℕ) (text : List ℕ) (n low : ℕ) (before : List ℕ) wher
         near = omega arith;
       }
 
-  module _ {at state next : ℕ} {marks : List ℕ} {k : ℕ} (w : Marking format text n low before at state next marks k) (h : k < n)
+  module _ {at state next : ℕ} {scratch : List ℕ} {k : ℕ} (w : Marking format text n low before at state next scratch k) (h : k < n)
       {r : Step} (s : Stepped format text at state r) where
     abbrev given : List Piece
     given = trail format text k .given
@@ -232,13 +232,13 @@ module _ (format : ℕ) (text : List ℕ) (n low : ℕ) (before : List ℕ) wher
 
     module _ {from stop : ℕ} (f : from ≡ first - low) (g : stop ≡ end - low) where
       -- a mark that was set before
-      pub marking-hit : end < nowhere → AnyOne marks from stop true → Windowed format text n low before marks (record { line = k; next = next })
+      pub marking-hit : end < nowhere → AnyOne scratch from stop true → Windowed format text n low before scratch (record { line = k; next = next })
       marking-hit near a =
           let o = a .some refl in
           let j = o .bit in
-          let there : j < 8 * length marks = elim (decLt j (8 * length marks)) [
+          let there : j < 8 * length scratch = elim (decLt j (8 * length scratch)) [
             | yes q ↦ q
-            | no q ↦ absurd (omega (arith, o .one, bitAt-past marks j (omega arith)))
+            | no q ↦ absurd (omega (arith, o .one, bitAt-past scratch j (omega arith)))
           ] in
           let old : isFree given (low + j) ≡ false = bit-one (isFree given (low + j)) (sym (w .marked j there) ∙ o .one) in
           record {
@@ -261,7 +261,7 @@ module _ (format : ℕ) (text : List ℕ) (n low : ℕ) (before : List ℕ) wher
             near = w .near;
           }
 
-      pub marking-on : AnyOne marks from stop false → {after : List ℕ} → SetsOnes marks from stop after → {top : ℕ}
+      pub marking-on : AnyOne scratch from stop false → {after : List ℕ} → SetsOnes scratch from stop after → {top : ℕ}
           → top ≡ windowEnd low (length before) → {nearest : ℕ} → Nearer next first end top nearest
           → Marking format text n low before (r .next) (r .line .state) nearest after (k + 1)
       marking-on a {after} o {top} t {nearest} c =
@@ -270,8 +270,8 @@ module _ (format : ℕ) (text : List ℕ) (n low : ℕ) (before : List ℕ) wher
             place = next-at format text k r stepped;
             force = next-state format text k r stepped;
             inside = s .inside (w .inside);
-            long = ap length (o .bytes) ∙ length-ones marks from stop ∙ w .long;
-            bytes = λ i. subst (λ (l : List ℕ). getD l i 0 < 256) (sym (o .bytes)) (bytes-ones marks from stop i);
+            long = ap length (o .bytes) ∙ length-ones scratch from stop ∙ w .long;
+            bytes = λ i. subst (λ (l : List ℕ). getD l i 0 < 256) (sym (o .bytes)) (bytes-ones scratch from stop i);
             marked = marked;
             once = up-to (w .once) (λ x p q. elim (decLt x first) [
               | yes l ↦ or-right (isFree given x) (own x ∙ outside first end x (λ y z. omega arith))
@@ -279,9 +279,9 @@ module _ (format : ℕ) (text : List ℕ) (n low : ℕ) (before : List ℕ) wher
                 | no m ↦ or-right (isFree given x) (own x ∙ outside first end x (λ y z. omega arith))
                 | yes m ↦
                     let low-j : low + (x - low) ≡ x = omega arith in
-                    let in-marks : x - low < 8 * length marks = omega (arith, w .long, q) in
+                    let in-scratch : x - low < 8 * length scratch = omega (arith, w .long, q) in
                     let zero-bit = a .none refl (x - low) (omega arith) (omega arith) in
-                    let new = bit-zero (isFree given (low + (x - low))) (sym (w .marked (x - low) in-marks) ∙ zero-bit) in
+                    let new = bit-zero (isFree given (low + (x - low))) (sym (w .marked (x - low) in-scratch) ∙ zero-bit) in
                     or-left (isFree given x) (isFree (newAt format text k) x) (ap (isFree given) (sym low-j) ∙ new)
               ]
             ]);
@@ -301,11 +301,11 @@ module _ (format : ℕ) (text : List ℕ) (n low : ℕ) (before : List ℕ) wher
 
           marked : Marked (trail format text (k + 1) .given) low after
           marked j l =
-              let len : length after ≡ length marks = ap length (o .bytes) ∙ length-ones marks from stop in
-              let here : j < 8 * length marks = omega (arith, len) in
-              let same : bitAt after j ≡ bitAt (withOnes marks from stop) j = ap (λ (m : List ℕ). bitAt m j) (o .bytes) in
+              let len : length after ≡ length scratch = ap length (o .bytes) ∙ length-ones scratch from stop in
+              let here : j < 8 * length scratch = omega (arith, len) in
+              let same : bitAt after j ≡ bitAt (withOnes scratch from stop) j = ap (λ (m : List ℕ). bitAt m j) (o .bytes) in
               let kept : ((first ≤ low + j → low + j < end → ⊥)) → bitAt after j ≡ pick (isFree (trail format text (k + 1) .given) (low + j)) 0 1 = λ out.
-              same ∙ ones-outside marks from stop j (λ p q. out (omega (arith, f)) (omega (arith, g))) ∙ w .marked j here
+              same ∙ ones-outside scratch from stop j (λ p q. out (omega (arith, f)) (omega (arith, g))) ∙ w .marked j here
               ∙ ap (λ (b : Bool). pick b 0 1)
               (sym (more (low + j) ∙ ap (λ (b : Bool). isFree given (low + j) && b) (outside first end (low + j) out) ∙ and-true (isFree given (low + j)))) in
               elim (decLt (low + j) first) [
@@ -313,15 +313,15 @@ module _ (format : ℕ) (text : List ℕ) (n low : ℕ) (before : List ℕ) wher
                 | no p ↦ elim (decLt (low + j) end) [
                   | no q ↦ kept (λ y z. omega arith)
                   | yes q ↦
-                      same ∙ ones-inside marks from stop j here (omega (arith, f)) (omega (arith, g))
+                      same ∙ ones-inside scratch from stop j here (omega (arith, f)) (omega (arith, g))
                       ∙ sym (ap (λ (b : Bool). pick b 0 1)
                       (more (low + j) ∙ ap (λ (b : Bool). isFree given (low + j) && b) (inside first end (low + j) (omega arith) q)
                       ∙ and-false (isFree given (low + j))))
                 ]
               ]
 
-  pub marking-ends : {at state next : ℕ} {marks : List ℕ} {k : ℕ} → Marking format text n low before at state next marks k → n ≤ k
-      → Windowed format text n low before marks (record { line = k; next = next })
+  pub marking-ends : {at state next : ℕ} {scratch : List ℕ} {k : ℕ} → Marking format text n low before at state next scratch k → n ≤ k
+      → Windowed format text n low before scratch (record { line = k; next = next })
   marking-ends w h =
       record {
         few = w .few;
@@ -354,7 +354,7 @@ module _ (next first end top : ℕ) where
         exact = elim (decLt m next) [ yes l ↦ inr (omega arith, omega arith) | no l ↦ inl (omega arith) ];
       }
 
--- marks that are all 0
+-- scratch that is all 0
 module _ (l : List ℕ) (i : ℕ) where
   pub zero-stop : i < length l → (getD l i 0 ≡ 0 → ⊥) → allZero (drop i l) ≡ false
   unfolding allZero
@@ -376,9 +376,9 @@ good-fewer format text h g k z = g k (omega arith)
 
 -- ---- window after window
 
-pub record Seeking (format : ℕ) (text : List ℕ) (n : ℕ) (before : List ℕ) (low limit : ℕ) (marks : List ℕ) : Type 0 where
+pub record Seeking (format : ℕ) (text : List ℕ) (n : ℕ) (before : List ℕ) (low limit : ℕ) (scratch : List ℕ) : Type 0 where
   pub few : limit ≤ n
-  pub same : marks ≡ before
+  pub same : scratch ≡ before
   pub once : (k : ℕ) → k < limit → (x : ℕ) → x < low → (isFree (trail format text k .given) x || isFree (newAt format text k) x) ≡ true
   pub twice : limit < n → newLine format text limit ≡ false
   pub near : low ≤ nowhere
@@ -394,8 +394,8 @@ module _ (format : ℕ) (text : List ℕ) (n : ℕ) (before : List ℕ) where
         near = omega arith;
       }
 
-  module _ {low limit : ℕ} {marks : List ℕ} (w : Seeking format text n before low limit marks) (h : low < nowhere) {after : List ℕ} {r : Window}
-      (v : Windowed format text limit low marks after r) where
+  module _ {low limit : ℕ} {scratch : List ℕ} (w : Seeking format text n before low limit scratch) (h : low < nowhere) {after : List ℕ} {r : Window}
+      (v : Windowed format text limit low scratch after r) where
     pub seeking-onward : 0 < length before → low < r .next
     seeking-onward some = let len = ap length (w .same) in omega (arith, v .onward)
 
@@ -406,7 +406,7 @@ module _ (format : ℕ) (text : List ℕ) (n : ℕ) (before : List ℕ) where
           same = c .zeros ∙ ap (λ (m : ℕ). replicate m 0) (v .long ∙ ap length (w .same)) ∙ sym e;
           once = λ k z x q. elim (decLt x low) [
             | yes l ↦ w .once k (omega (arith, v .few)) x l
-            | no l ↦ elim (decLt x (windowEnd low (length marks))) [
+            | no l ↦ elim (decLt x (windowEnd low (length scratch))) [
               | yes m ↦ v .once k z x (omega arith) m
               | no m ↦
                   or-right (isFree (trail format text k .given) x) (each-free format text (r .line) k x z (v .free x (omega arith) q))
@@ -421,11 +421,11 @@ module _ (format : ℕ) (text : List ℕ) (n : ℕ) (before : List ℕ) where
           near = v .near;
         }
 
-  pub seeking-ends : {low limit : ℕ} {marks : List ℕ} → Seeking format text n before low limit marks → nowhere ≤ low
-      → FirstTwice format text n limit × (marks ≡ before)
+  pub seeking-ends : {low limit : ℕ} {scratch : List ℕ} → Seeking format text n before low limit scratch → nowhere ≤ low
+      → FirstTwice format text n limit × (scratch ≡ before)
   seeking-ends w h = (record { few = w .few; once = λ k z x q. w .once k z x (omega arith); twice = w .twice }, w .same)
 
--- ---- the walk, with what the marks told
+-- ---- the walk, with what the scratch told
 
 module _ (format load : ℕ) (text : List ℕ) (strict : Bool) (w : Walk) (p : WalkIs format load text strict w) where
   once-to : (r : ℕ) → FirstTwice format text (w .lines) r → Once format text r

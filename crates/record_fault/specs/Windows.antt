@@ -14,16 +14,16 @@ use Rattle.record_fault.specs.Steps.{nowhere}
 use Rattle.record_fault.specs.Trail.{trail}
 use Rattle.record_fault.specs.declared.Window.{Window}
 
--- Lent marks are used only where all of them are 0.
+-- Lent scratch is used only where all of it is 0.
 unfoldable pub allZero : List ℕ → Bool
 allZero [] = true
 allZero (b ∷ l) = eqb b 0 && allZero l
 
--- Bit j of the marks stands for the address low + j: it is 1 exactly where a byte is given.
+-- Bit j of the scratch stands for the address low + j: it is 1 exactly where a byte is given.
 abbrev pub Marked : List Piece → ℕ → List ℕ → Type 0
-Marked given low marks = (j : ℕ) → j < 8 * length marks → bitAt marks j ≡ pick (isFree given (low + j)) 0 1
+Marked given low scratch = (j : ℕ) → j < 8 * length scratch → bitAt scratch j ≡ pick (isFree given (low + j)) 0 1
 
--- Where the window of some bytes of marks ends.
+-- Where the window of some bytes of scratch ends.
 abbrev pub windowEnd : ℕ → ℕ → ℕ
 windowEnd low bytes = min (low + 8 * bytes) nowhere
 
@@ -43,18 +43,18 @@ pub record Shared (given new : List Piece) (low end : ℕ) : Type 0 where
   pub again : isFree new at ≡ false
 
 -- The first n lines, marked up to the first that gives a byte of the window twice; and from where on they give bytes behind the window.
-pub record Windowed (format : ℕ) (text : List ℕ) (n low : ℕ) (marks after : List ℕ) (r : Window) : Type 0 where
+pub record Windowed (format : ℕ) (text : List ℕ) (n low : ℕ) (scratch after : List ℕ) (r : Window) : Type 0 where
   pub few : r .line ≤ n
-  pub long : length after ≡ length marks
+  pub long : length after ≡ length scratch
   pub bytes : Bytes after
   pub marked : Marked (trail format text (r .line) .given) low after
-  pub once : (k : ℕ) → k < r .line → (x : ℕ) → low ≤ x → x < windowEnd low (length marks)
+  pub once : (k : ℕ) → k < r .line → (x : ℕ) → low ≤ x → x < windowEnd low (length scratch)
       → (isFree (trail format text k .given) x || isFree (newAt format text k) x) ≡ true
-  pub shared : r .line < n → Shared (trail format text (r .line) .given) (newAt format text (r .line)) low (windowEnd low (length marks))
+  pub shared : r .line < n → Shared (trail format text (r .line) .given) (newAt format text (r .line)) low (windowEnd low (length scratch))
   pub twice : r .line < n → newLine format text (r .line) ≡ false
-  pub free : (x : ℕ) → windowEnd low (length marks) ≤ x → x < r .next → isFree (trail format text (r .line) .given) x ≡ true
+  pub free : (x : ℕ) → windowEnd low (length scratch) ≤ x → x < r .next → isFree (trail format text (r .line) .given) x ≡ true
   pub least : r .next < nowhere → isFree (trail format text (r .line) .given) (r .next) ≡ false
-  pub onward : windowEnd low (length marks) ≤ r .next
+  pub onward : windowEnd low (length scratch) ≤ r .next
   pub near : r .next ≤ nowhere
 
 -- The first of n lines that gives a byte twice, or n.

@@ -54,7 +54,7 @@ const NOWHERE: u64 = 8_589_934_592;
 // The room above bytes where it is not looked for.
 const UNKNOWN: u64 = 8_589_934_593;
 
-// So many parts are held against the lines before them by reading those again, before marks are used.
+// So many parts are held against the lines before them by reading those again, before scratch is used.
 const FEW: u64 = 16;
 
 // Whether a line may stand where it does: the highest end of the bytes given behind it, and how far up from its own end nothing is given; 0 where it was
@@ -454,13 +454,13 @@ fn scan_of(w: Walk) -> Scan
     Scan::Broken(w.line)
 }
 
-// Whether all marks are 0.
-pub fn all_zero(marks: &[u8]) -> bool
-    ensures { λ r. ⌜ r ≡ allZero (now (marks .entry)) ⌝ }
+// Whether all scratch is 0.
+pub fn all_zero(scratch: &[u8]) -> bool
+    ensures { λ r. ⌜ r ≡ allZero (now (scratch .entry)) ⌝ }
 {
     let mut i = 0;
-    while i < marks.len() {
-        if marks[i] != 0 {
+    while i < scratch.len() {
+        if scratch[i] != 0 {
             return false;
         }
         i += 1;
@@ -509,13 +509,13 @@ pub fn mark_window(
     t: &[u8; 256],
     n: usize,
     low: u64,
-    marks: &mut [u8],
+    scratch: &mut [u8],
 ) -> Window
     requires { ⌜ Spells (now t) × AllGood format (now text) n ⌝ }
-    requires { ⌜ (low ≤ 8589934592) × (now marks ≡ cleared (now marks)) ⌝ }
-    ensures { λ r. ⌜ Windowed format (now (text .entry)) n low (now (marks .entry)) (now (marks .exit)) r ⌝ }
+    requires { ⌜ (low ≤ 8589934592) × (now scratch ≡ cleared (now scratch)) ⌝ }
+    ensures { λ r. ⌜ Windowed format (now (text .entry)) n low (now (scratch .entry)) (now (scratch .exit)) r ⌝ }
 {
-    let top = window_end(low, marks.len() as u64);
+    let top = window_end(low, scratch.len() as u64);
     let mut at = 0usize;
     let mut state = 0u16;
     let mut next = NOWHERE;
@@ -527,10 +527,10 @@ pub fn mark_window(
         let end = first + line.count as u64;
         let from = beyond(first, low);
         let stop = beyond(end, low);
-        if bitvec::any_one(marks, from, stop) {
+        if bitvec::any_one(scratch, from, stop) {
             return Window { line: k, next };
         }
-        bitvec::set_ones(marks, from, stop);
+        bitvec::set_ones(scratch, from, stop);
         next = nearer(next, first, end, top);
         at = s.next;
         state = line.state;
@@ -539,59 +539,59 @@ pub fn mark_window(
     Window { line: k, next }
 }
 
-// The first of n lines that gives a byte which a line before it gave, or n: window after window, the marks 0 again behind each.
-fn first_twice(format: u8, text: &[u8], t: &[u8; 256], n: usize, marks: &mut [u8]) -> usize
+// The first of n lines that gives a byte which a line before it gave, or n: window after window, the scratch 0 again behind each.
+fn first_twice(format: u8, text: &[u8], t: &[u8; 256], n: usize, scratch: &mut [u8]) -> usize
     requires { ⌜ Spells (now t) × AllGood format (now text) n ⌝ }
-    requires { ⌜ (0 < length (now marks)) × (now marks ≡ cleared (now marks)) ⌝ }
-    ensures { λ r. ⌜ FirstTwice format (now (text .entry)) n r × (now (marks .exit) ≡ now (marks .entry)) ⌝ }
+    requires { ⌜ (0 < length (now scratch)) × (now scratch ≡ cleared (now scratch)) ⌝ }
+    ensures { λ r. ⌜ FirstTwice format (now (text .entry)) n r × (now (scratch .exit) ≡ now (scratch .entry)) ⌝ }
 {
     let mut low = 0u64;
     let mut limit = n;
     while low < NOWHERE {
-        let w = mark_window(format, text, t, limit, low, marks);
-        bitvec::clear(marks);
+        let w = mark_window(format, text, t, limit, low, scratch);
+        bitvec::clear(scratch);
         limit = w.line;
         low = w.next;
     }
     limit
 }
 
-// Whether marks can be used.
-fn usable(marks: &[u8]) -> bool
-    ensures { λ r. ⌜ r ≡ (ltb 0 (length (now (marks .entry))) && allZero (now (marks .entry))) ⌝ }
+// Whether scratch can be used.
+fn usable(scratch: &[u8]) -> bool
+    ensures { λ r. ⌜ r ≡ (ltb 0 (length (now (scratch .entry))) && allZero (now (scratch .entry))) ⌝ }
 {
-    if marks.len() == 0 {
+    if scratch.len() == 0 {
         return false;
     }
-    all_zero(marks)
+    all_zero(scratch)
 }
 
 // Reads the lines up to the end record, or to the first at fault. Marks are used where many lines jump, if there are any and all are 0, and are 0 again
 // behind the call; without them each line that jumps has the lines before it read again.
-pub fn scan_lines(format: u8, text: &[u8], t: &[u8; 256], load: u32, marks: &mut [u8]) -> Scan
+pub fn scan_lines(format: u8, text: &[u8], t: &[u8; 256], load: u32, scratch: &mut [u8]) -> Scan
     requires { ⌜ Spells (now t) ⌝ }
-    ensures { λ r. ⌜ ScanIs format load (now (text .entry)) r × (now (marks .exit) ≡ now (marks .entry)) ⌝ }
+    ensures { λ r. ⌜ ScanIs format load (now (text .entry)) r × (now (scratch .exit) ≡ now (scratch .entry)) ⌝ }
 {
     let w = walk_lines(format, text, t, load, false);
     if w.sure {
         return scan_of(w);
     }
-    if !usable(marks) {
+    if !usable(scratch) {
         return scan_of(walk_lines(format, text, t, load, true));
     }
-    let line = first_twice(format, text, t, w.lines, marks);
+    let line = first_twice(format, text, t, w.lines, scratch);
     if line < w.lines {
         return Scan::Broken(line);
     }
     scan_of(w)
 }
 
-// The line at fault of a file that is read from a load address on. The marks are as they were behind the call.
-pub fn line_at_fault(format: u8, text: &[u8], load: u32, marks: &mut [u8]) -> Fault
-    ensures { λ r. ⌜ (r ≡ faultOf (readText format load (now (text .entry)))) × (now (marks .exit) ≡ now (marks .entry)) ⌝ }
+// The line at fault of a file that is read from a load address on. The scratch is as it was behind the call.
+pub fn line_at_fault(format: u8, text: &[u8], load: u32, scratch: &mut [u8]) -> Fault
+    ensures { λ r. ⌜ (r ≡ faultOf (readText format load (now (text .entry)))) × (now (scratch .exit) ≡ now (scratch .entry)) ⌝ }
 {
     let t = record_lines::digit_table();
-    match scan_lines(format, text, &t, load, marks) {
+    match scan_lines(format, text, &t, load, scratch) {
         Scan::Whole(_, _, _, _) => Fault::Good,
         Scan::Broken(line) => Fault::At(line as u64),
     }

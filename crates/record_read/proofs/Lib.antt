@@ -3,7 +3,7 @@ pub mod LineLaws
 pub mod Loops
 pub mod Parts
 pub mod Lower
-pub mod Marks
+pub mod Scratch
 pub mod Room
 pub mod Walks
 pub mod Unique

@@ -32,25 +32,25 @@ use Rattle.record_read.proofs.Parts.{within-fine, within-low, parts-are
 sets-over : (l v : List ℕ) → length v ≤ length l → sets l 0 v ≡ over v l
 sets-over l v h = sets-eq v l 0 (rw zero-add h) ∙ rw zero-add
 
-pub reads-bad : (load : ℕ) (read : Read) (bytes os ss marks : List ℕ) {marks₂ : List ℕ} → marks₂ ≡ marks → (line : ℕ) → read ≡ faulty line
-    → Reads load read (lent bytes os ss marks) (Refused (Malformed 0)) (lent bytes os ss marks₂)
-reads-bad load read bytes os ss marks same line e = rw (e, same) (record { answer = refl; figures = refl; after = refl })
+pub reads-bad : (load : ℕ) (read : Read) (bytes os ss scratch : List ℕ) {scratch₂ : List ℕ} → scratch₂ ≡ scratch → (line : ℕ) → read ≡ faulty line
+    → Reads load read (lent bytes os ss scratch) (Refused (Malformed 0)) (lent bytes os ss scratch₂)
+reads-bad load read bytes os ss scratch same line e = rw (e, same) (record { answer = refl; figures = refl; after = refl })
 
-module _ (load : ℕ) (pieces : List Piece) (bytes os ss marks : List ℕ) (end : ℕ) (is : end ≡ reach load pieces) where
+module _ (load : ℕ) (pieces : List Piece) (bytes os ss scratch : List ℕ) (end : ℕ) (is : end ≡ reach load pieces) where
   abbrev blocks : List Block
   blocks = blocksGiven load pieces
 
-  pub reads-short : length bytes < end → Reads load (sound pieces) (lent bytes os ss marks) (Refused (TooShort 0)) (lent bytes os ss marks)
+  pub reads-short : length bytes < end → Reads load (sound pieces) (lent bytes os ss scratch) (Refused (TooShort 0)) (lent bytes os ss scratch)
   reads-short h =
       let e : leb (reach load pieces) (length bytes) ≡ false = lt-leb (reach load pieces) (length bytes) (rw is at h) in
       record { answer = rw e; figures = rw e; after = rw e }
 
   -- There is room for the bytes, and the blocks are counted.
-  module _ (room : end ≤ length bytes) (count : ℕ) (is-all : count ≡ length blocks) {marks₂ : List ℕ} (same : marks₂ ≡ marks) where
+  module _ (room : end ≤ length bytes) (count : ℕ) (is-all : count ≡ length blocks) {scratch₂ : List ℕ} (same : scratch₂ ≡ scratch) where
     e : leb (reach load pieces) (length bytes) ≡ true
     e = le-leb (reach load pieces) (length bytes) (rw is at room)
 
-    pub reads-short-first : length os < count → Reads load (sound pieces) (lent bytes os ss marks) (Refused (TooShort 2)) (lent bytes os ss marks₂)
+    pub reads-short-first : length os < count → Reads load (sound pieces) (lent bytes os ss scratch) (Refused (TooShort 2)) (lent bytes os ss scratch₂)
     reads-short-first h =
         let f : leb (length blocks) (length os) ≡ false = lt-leb (length blocks) (length os) (rw is-all at h) in
         record { answer = rw (e, f); figures = rw (e, f); after = rw (e, f, same) }
@@ -59,14 +59,14 @@ module _ (load : ℕ) (pieces : List Piece) (bytes os ss marks : List ℕ) (end 
       f : leb (length blocks) (length os) ≡ true
       f = le-leb (length blocks) (length os) (rw is-all at first)
 
-      pub reads-short-second : length ss < count → Reads load (sound pieces) (lent bytes os ss marks) (Refused (TooShort 2)) (lent bytes os ss marks₂)
+      pub reads-short-second : length ss < count → Reads load (sound pieces) (lent bytes os ss scratch) (Refused (TooShort 2)) (lent bytes os ss scratch₂)
       reads-short-second h =
           let g : leb (length blocks) (length ss) ≡ false = lt-leb (length blocks) (length ss) (rw is-all at h) in
           record { answer = rw (e, f, g); figures = rw (e, f, g); after = rw (e, f, g, same) }
 
       pub reads-all : count ≤ length ss → {r : ℕ} {os₂ ss₂ new last : List ℕ}
-          → (new ≡ filled load pieces bytes) × Put blocks 0 os ss r os₂ ss₂ × (last ≡ marks₂)
-          → Reads load (sound pieces) (lent bytes os ss marks) (Found count) (lent new os₂ ss₂ last)
+          → (new ≡ filled load pieces bytes) × Put blocks 0 os ss r os₂ ss₂ × (last ≡ scratch₂)
+          → Reads load (sound pieces) (lent bytes os ss scratch) (Found count) (lent new os₂ ss₂ last)
       reads-all h {r} {os₂} {ss₂} {new} {last} p =
           let k : length blocks ≤ length ss = rw is-all at h in
           let g : leb (length blocks) (length ss) ≡ true = le-leb (length blocks) (length ss) k in
@@ -101,9 +101,9 @@ module _ {format load : ℕ} {text : List ℕ} {lines high : ℕ} {ascend : Bool
   pub scanned-good : AllGood format text lines
   scanned-good = s .good
 
-  pub scanned-reads : {bytes os ss marks marks₂ : List ℕ} {new : Lent} {r : Blocks} → marks₂ ≡ marks
-      → Reads load (sound (trail format text lines .given)) (lent bytes os ss marks₂) r new
-      → Reads load (readText format load text) (lent bytes os ss marks) r new
-  scanned-reads {bytes} {os} {ss} {marks} {marks₂} {new} {r} same w =
-      subst (λ (x : Read). Reads load x (lent bytes os ss marks) r new) (sym (s .reads))
+  pub scanned-reads : {bytes os ss scratch scratch₂ : List ℕ} {new : Lent} {r : Blocks} → scratch₂ ≡ scratch
+      → Reads load (sound (trail format text lines .given)) (lent bytes os ss scratch₂) r new
+      → Reads load (readText format load text) (lent bytes os ss scratch) r new
+  scanned-reads {bytes} {os} {ss} {scratch} {scratch₂} {new} {r} same w =
+      subst (λ (x : Read). Reads load x (lent bytes os ss scratch) r new) (sym (s .reads))
       (subst (λ (m : List ℕ). Reads load (sound (trail format text lines .given)) (lent bytes os ss m) r new) same w)

@@ -18,15 +18,15 @@ use Rattle.record_fault.specs.Reading.{Read, sound, faulty}
 use Rattle.record_read.specs.Given.{filled}
 use Rattle.record_read.specs.Runs.{reach, blocksGiven}
 
--- What is lent to a call; the marks for nothing but its speed.
+-- What is lent to a call; the scratch for nothing but its speed.
 pub record Lent : Type 0 where
   pub bytes : List ℕ
   pub offsets : List ℕ
   pub sizes : List ℕ
-  pub marks : List ℕ
+  pub scratch : List ℕ
 
 abbrev pub lent : List ℕ → List ℕ → List ℕ → List ℕ → Lent
-lent bytes offsets sizes marks = record { bytes = bytes; offsets = offsets; sizes = sizes; marks = marks }
+lent bytes offsets sizes scratch = record { bytes = bytes; offsets = offsets; sizes = sizes; scratch = scratch }
 
 -- Room for the bytes up to the highest end, and for the blocks: in both lists.
 abbrev pub bytesFit : ℕ → List Piece → Lent → Bool
@@ -48,7 +48,7 @@ toldOf load l (sound pieces) =
     pick (bytesFit load pieces l) (pick (blocksFit load pieces l) (gives (length (blocksGiven load pieces))) (refuses 14 (One 2))) (refuses 14 (One 0))
 toldOf load l (faulty line) = refuses 4 (One 0)
 
--- What is lent afterwards: accepted, the bytes that the file gives and its blocks stand there, and everything else, the marks too, is as it was; refused,
+-- What is lent afterwards: accepted, the bytes that the file gives and its blocks stand there, and everything else, the scratch too, is as it was; refused,
 -- everything.
 abbrev pub allFit : ℕ → List Piece → Lent → Bool
 allFit load pieces l = bytesFit load pieces l && blocksFit load pieces l
@@ -56,7 +56,7 @@ allFit load pieces l = bytesFit load pieces l && blocksFit load pieces l
 abbrev pub taken : ℕ → List Piece → Lent → Lent
 taken load pieces l =
     let blocks = blocksGiven load pieces in
-    lent (filled load pieces (l .bytes)) (over (origins blocks) (l .offsets)) (over (sizes blocks) (l .sizes)) (l .marks)
+    lent (filled load pieces (l .bytes)) (over (origins blocks) (l .offsets)) (over (sizes blocks) (l .sizes)) (l .scratch)
 
 abbrev pub lentAfter : ℕ → Lent → Read → Lent
 lentAfter load l (sound pieces) = pick (allFit load pieces l) (taken load pieces l) l

@@ -80,34 +80,34 @@ pub record Listed (test : ℕ → Bool) (os₀ ss₀ : List ℕ) (r : Run) (from
   pub put : Put (map inBits done) 0 os₀ ss₀ count os ss
   pub small : Small r
 
--- ---- marks
+-- ---- scratch
 
 -- Marks that may be used: some, no more than there are addresses, and all of them zeros.
-pub record Usable (marks : List ℕ) : Type 0 where
-  pub some : 0 < length marks
-  pub few : length marks ≤ 536870912
-  pub zeros : marks ≡ cleared marks
+pub record Usable (scratch : List ℕ) : Type 0 where
+  pub some : 0 < length scratch
+  pub few : length scratch ≤ 536870912
+  pub zeros : scratch ≡ cleared scratch
 
 -- The first bit from one on that is `want`, or how many bits there are.
-pub record FirstBit (marks : List ℕ) (want from r : ℕ) : Type 0 where
+pub record FirstBit (scratch : List ℕ) (want from r : ℕ) : Type 0 where
   pub onward : from ≤ r
-  pub within : r ≤ 8 * length marks
-  pub others : (x : ℕ) → from ≤ x → x < r → bitAt marks x ≡ 1 - want
-  pub found : r < 8 * length marks → bitAt marks r ≡ want
+  pub within : r ≤ 8 * length scratch
+  pub others : (x : ℕ) → from ≤ x → x < r → bitAt scratch x ≡ 1 - want
+  pub found : r < 8 * length scratch → bitAt scratch r ≡ want
 
 -- A mark for each byte from `from` on: 1 where a test holds.
 abbrev pub MarkedBy : (ℕ → Bool) → ℕ → List ℕ → Type 0
-MarkedBy test from marks = (j : ℕ) → j < 8 * length marks → test (from + j) ≡ eqb (bitAt marks j) 1
+MarkedBy test from scratch = (j : ℕ) → j < 8 * length scratch → test (from + j) ≡ eqb (bitAt scratch j) 1
 
--- Some walk has come to `from`, and goes on over marks; whatever walk it was has then come behind them.
-pub record Underway (marks : List ℕ) (from : ℕ) (w : Walk) (os ss : List ℕ) : Type 0 where
+-- Some walk has come to `from`, and goes on over scratch; whatever walk it was has then come behind it.
+pub record Underway (scratch : List ℕ) (from : ℕ) (w : Walk) (os ss : List ℕ) : Type 0 where
   pub test : ℕ → Bool
   pub first : List ℕ
   pub second : List ℕ
   pub listed : Listed test first second (w .run) from (w .count) os ss
-  pub marked : MarkedBy test from marks
+  pub marked : MarkedBy test from scratch
 
 abbrev pub Passes : List ℕ → ℕ → Walk → List ℕ → List ℕ → Walk → ℕ → List ℕ → List ℕ → Type 0
-Passes marks from w os ss r to os′ ss′ =
-    (test : ℕ → Bool) (os₀ ss₀ : List ℕ) → MarkedBy test from marks → Listed test os₀ ss₀ (w .run) from (w .count) os ss
+Passes scratch from w os ss r to os′ ss′ =
+    (test : ℕ → Bool) (os₀ ss₀ : List ℕ) → MarkedBy test from scratch → Listed test os₀ ss₀ (w .run) from (w .count) os ss
     → Listed test os₀ ss₀ (r .run) to (r .count) os′ ss′

@@ -40,10 +40,10 @@ const BYTES: u64 = 0;
 
 const BLOCKS: u64 = 2;
 
-// So many parts at most are found without marks: the file is read once for each.
+// So many parts at most are found without scratch: the file is read once for each.
 const FEW: u64 = 16;
 
-// As many marks as there are addresses take so many bytes.
+// Scratch with a bit for every address takes so many bytes.
 const MARKS: usize = 536_870_912;
 
 // An address, counted from the load address; 0 for one below it.
@@ -229,16 +229,16 @@ fn past(byte: u8, skip: u8, j: u64) -> u64
 }
 
 // The first bit from one on that is `want`, or how many bits there are.
-fn next_bit(marks: &[u8], from: u64, want: u8) -> u64
-    requires { ⌜ (from ≤ 8 * length (now marks)) × (length (now marks) ≤ 536870912) × (want < 2) ⌝ }
-    ensures { λ r. ⌜ FirstBit (now (marks .entry)) want from r ⌝ }
+fn next_bit(scratch: &[u8], from: u64, want: u8) -> u64
+    requires { ⌜ (from ≤ 8 * length (now scratch)) × (length (now scratch) ≤ 536870912) × (want < 2) ⌝ }
+    ensures { λ r. ⌜ FirstBit (now (scratch .entry)) want from r ⌝ }
 {
-    let size = 8 * marks.len() as u64;
+    let size = 8 * scratch.len() as u64;
     // a byte that has none
     let skip = 255 * (1 - want);
     let mut j = from;
     while j < size {
-        let byte = marks[(j / 8) as usize];
+        let byte = scratch[(j / 8) as usize];
         if bit_in(byte, j % 8) == want {
             return j;
         }
@@ -248,19 +248,25 @@ fn next_bit(marks: &[u8], from: u64, want: u8) -> u64
 }
 
 // Goes on over the bytes of a window, the first of which is byte `from`, counted from the load address; a mark stands for each that is given.
-fn walk_window(marks: &[u8], from: u64, begun: Walk, offsets: &mut [u64], sizes: &mut [u64]) -> Walk
-    requires { ⌜ (from ≤ 4294967296) × (length (now marks) ≤ 536870912) ⌝ }
-    requires { ⌜ Underway (now marks) from begun (now offsets) (now sizes) ⌝ }
-    ensures { λ r. ⌜ Passes (now (marks .entry)) from begun (now (offsets .entry)) (now (sizes .entry))
-        r (from + 8 * length (now (marks .entry))) (now (offsets .exit)) (now (sizes .exit)) ⌝ }
+fn walk_window(
+    scratch: &[u8],
+    from: u64,
+    begun: Walk,
+    offsets: &mut [u64],
+    sizes: &mut [u64],
+) -> Walk
+    requires { ⌜ (from ≤ 4294967296) × (length (now scratch) ≤ 536870912) ⌝ }
+    requires { ⌜ Underway (now scratch) from begun (now offsets) (now sizes) ⌝ }
+    ensures { λ r. ⌜ Passes (now (scratch .entry)) from begun (now (offsets .entry)) (now (sizes .entry))
+        r (from + 8 * length (now (scratch .entry))) (now (offsets .exit)) (now (sizes .exit)) ⌝ }
 {
-    let size = 8 * marks.len() as u64;
+    let size = 8 * scratch.len() as u64;
     let mut run = begun.run;
     let mut count = begun.count;
     let mut j = 0u64;
     while j < size {
-        let first = next_bit(marks, j, 1);
-        let end = next_bit(marks, first, 0);
+        let first = next_bit(scratch, j, 1);
+        let end = next_bit(scratch, first, 0);
         let next = Run {
             first: from + first,
             end: from + end,
@@ -272,9 +278,9 @@ fn walk_window(marks: &[u8], from: u64, begun: Walk, offsets: &mut [u64], sizes:
     Walk { run, count }
 }
 
-// The blocks of a file whose records stand in any order, by a mark for each byte given, in as many windows as it takes. The lent marks are zeros, and are
+// The blocks of a file whose records stand in any order, by a bit for each byte given, in as many windows as it takes. The lent scratch is zeros, and is
 // again in the end.
-fn walk_marks(
+fn walk_scratch(
     format: u8,
     text: &[u8],
     t: &[u8; 256],
@@ -283,14 +289,14 @@ fn walk_marks(
     end: u64,
     offsets: &mut [u64],
     sizes: &mut [u64],
-    marks: &mut [u8],
+    scratch: &mut [u8],
 ) -> u64
     requires { ⌜ Spells (now t) × AllGood format (now text) n ⌝ }
     requires { ⌜ Ready format (now text) n load end ⌝ }
-    requires { ⌜ Usable (now marks) ⌝ }
+    requires { ⌜ Usable (now scratch) ⌝ }
     ensures { λ r. ⌜ Put (blocksGiven load (trail format (now (text .entry)) n .given)) 0
         (now (offsets .entry)) (now (sizes .entry)) r (now (offsets .exit)) (now (sizes .exit))
-        × (now (marks .exit) ≡ now (marks .entry)) ⌝ }
+        × (now (scratch .exit) ≡ now (scratch .entry)) ⌝ }
 {
     let mut from = 0u64;
     let mut walk = Walk {
@@ -298,17 +304,17 @@ fn walk_marks(
         count: 0,
     };
     while from < end {
-        let window = record_fault::mark_window(format, text, t, n, load as u64 + from, marks);
-        walk = walk_window(marks, from, walk, offsets, sizes);
-        bitvec::clear(marks);
+        let window = record_fault::mark_window(format, text, t, n, load as u64 + from, scratch);
+        walk = walk_window(scratch, from, walk, offsets, sizes);
+        bitvec::clear(scratch);
         from = above(window.next, load);
     }
     push(walk.run, walk.count, offsets, sizes)
 }
 
-// Whether the blocks are found by marks: where there are more than a few, and marks are lent and are zeros.
-fn by_marks(ascend: bool, parts: u64, marks: &[u8]) -> bool
-    ensures { λ r. ⌜ (r ≡ true → Usable (now (marks .entry))) ⌝ }
+// Whether the blocks are found by scratch: where there are more than a few, and scratch is lent and is zeros.
+fn by_scratch(ascend: bool, parts: u64, scratch: &[u8]) -> bool
+    ensures { λ r. ⌜ (r ≡ true → Usable (now (scratch .entry))) ⌝ }
 {
     if ascend {
         return false;
@@ -316,13 +322,13 @@ fn by_marks(ascend: bool, parts: u64, marks: &[u8]) -> bool
     if parts <= FEW {
         return false;
     }
-    if marks.len() == 0 {
+    if scratch.len() == 0 {
         return false;
     }
-    if marks.len() > MARKS {
+    if scratch.len() > MARKS {
         return false;
     }
-    record_fault::all_zero(marks)
+    record_fault::all_zero(scratch)
 }
 
 // The blocks of a file whose records stand in any order.
@@ -336,17 +342,17 @@ fn find_blocks(
     marked: bool,
     offsets: &mut [u64],
     sizes: &mut [u64],
-    marks: &mut [u8],
+    scratch: &mut [u8],
 ) -> u64
     requires { ⌜ Spells (now t) × AllGood format (now text) n ⌝ }
     requires { ⌜ Ready format (now text) n load end ⌝ }
-    requires { ⌜ (marked ≡ true → Usable (now marks)) ⌝ }
+    requires { ⌜ (marked ≡ true → Usable (now scratch)) ⌝ }
     ensures { λ r. ⌜ Put (blocksGiven load (trail format (now (text .entry)) n .given)) 0
         (now (offsets .entry)) (now (sizes .entry)) r (now (offsets .exit)) (now (sizes .exit))
-        × (now (marks .exit) ≡ now (marks .entry)) ⌝ }
+        × (now (scratch .exit) ≡ now (scratch .entry)) ⌝ }
 {
     if marked {
-        return walk_marks(format, text, t, n, load, end, offsets, sizes, marks);
+        return walk_scratch(format, text, t, n, load, end, offsets, sizes, scratch);
     }
     walk_any(format, text, t, n, load, end, offsets, sizes)
 }
@@ -478,21 +484,32 @@ fn store(
     bytes: &mut [u8],
     offsets: &mut [u64],
     sizes: &mut [u64],
-    marks: &mut [u8],
+    scratch: &mut [u8],
 ) -> u64
     requires { ⌜ Spells (now t) × AllGood format (now text) n ⌝ }
     requires { ⌜ Ready format (now text) n load end ⌝ }
-    requires { ⌜ (ascend ≡ rises format (now text) n) × (marked ≡ true → Usable (now marks)) ⌝ }
+    requires { ⌜ (ascend ≡ rises format (now text) n) × (marked ≡ true → Usable (now scratch)) ⌝ }
     ensures { λ r. ⌜ (now (bytes .exit) ≡ filled load (trail format (now (text .entry)) n .given) (now (bytes .entry)))
         × Put (blocksGiven load (trail format (now (text .entry)) n .given)) 0
         (now (offsets .entry)) (now (sizes .entry)) r (now (offsets .exit)) (now (sizes .exit))
-        × (now (marks .exit) ≡ now (marks .entry)) ⌝ }
+        × (now (scratch .exit) ≡ now (scratch .entry)) ⌝ }
 {
     if ascend {
         return store_up(format, text, t, n, load, bytes, offsets, sizes);
     }
     fill(format, text, t, n, load, bytes);
-    find_blocks(format, text, t, n, load, end, marked, offsets, sizes, marks)
+    find_blocks(
+        format,
+        text,
+        t,
+        n,
+        load,
+        end,
+        marked,
+        offsets,
+        sizes,
+        scratch,
+    )
 }
 
 // How many blocks there are: where records ascend, as many as the scan found parts; otherwise a walk writes its blocks nowhere.
@@ -506,12 +523,12 @@ fn count_blocks(
     ascend: bool,
     parts: u64,
     marked: bool,
-    marks: &mut [u8],
+    scratch: &mut [u8],
 ) -> u64
     requires { ⌜ Spells (now t) × AllGood format (now text) n ⌝ }
     requires { ⌜ Ready format (now text) n load end ⌝ }
-    requires { ⌜ (ascend ≡ true → parts ≡ length (blocksGiven load (trail format (now text) n .given))) × (marked ≡ true → Usable (now marks)) ⌝ }
-    ensures { λ r. ⌜ (r ≡ length (blocksGiven load (trail format (now (text .entry)) n .given))) × (now (marks .exit) ≡ now (marks .entry)) ⌝ }
+    requires { ⌜ (ascend ≡ true → parts ≡ length (blocksGiven load (trail format (now text) n .given))) × (marked ≡ true → Usable (now scratch)) ⌝ }
+    ensures { λ r. ⌜ (r ≡ length (blocksGiven load (trail format (now (text .entry)) n .given))) × (now (scratch .exit) ≡ now (scratch .entry)) ⌝ }
 {
     if ascend {
         return parts;
@@ -528,7 +545,7 @@ fn count_blocks(
         marked,
         &mut offsets,
         &mut sizes,
-        marks,
+        scratch,
     )
 }
 
@@ -545,20 +562,31 @@ fn take(
     bytes: &mut [u8],
     offsets: &mut [u64],
     sizes: &mut [u64],
-    marks: &mut [u8],
+    scratch: &mut [u8],
 ) -> Blocks
     requires { ⌜ Spells (now t) × AllGood format (now text) n ⌝ }
     requires { ⌜ Ready format (now text) n load end ⌝ }
     requires { ⌜ (ascend ≡ rises format (now text) n) × (ascend ≡ true → parts ≡ length (blocksGiven load (trail format (now text) n .given))) ⌝ }
     ensures { λ r. ⌜ Reads load (sound (trail format (now (text .entry)) n .given))
-        (lent (now (bytes .entry)) (now (offsets .entry)) (now (sizes .entry)) (now (marks .entry))) r
-        (lent (now (bytes .exit)) (now (offsets .exit)) (now (sizes .exit)) (now (marks .exit))) ⌝ }
+        (lent (now (bytes .entry)) (now (offsets .entry)) (now (sizes .entry)) (now (scratch .entry))) r
+        (lent (now (bytes .exit)) (now (offsets .exit)) (now (sizes .exit)) (now (scratch .exit))) ⌝ }
 {
     if (bytes.len() as u64) < end {
         return Blocks::Refused(Refusal::TooShort(BYTES));
     }
-    let marked = by_marks(ascend, parts, marks);
-    let count = count_blocks(format, text, t, n, load, end, ascend, parts, marked, marks);
+    let marked = by_scratch(ascend, parts, scratch);
+    let count = count_blocks(
+        format,
+        text,
+        t,
+        n,
+        load,
+        end,
+        ascend,
+        parts,
+        marked,
+        scratch,
+    );
     if (offsets.len() as u64) < count {
         return Blocks::Refused(Refusal::TooShort(BLOCKS));
     }
@@ -577,14 +605,14 @@ fn take(
         bytes,
         offsets,
         sizes,
-        marks,
+        scratch,
     );
     Blocks::Found(count)
 }
 
 // Reads a file of records, format 0 Intel HEX, every other number S-records, from a load address on: its bytes and its blocks, in bits, counted from that
-// address; how many blocks there are, or 4, then 14 with place 0 for the bytes and 2 for the blocks, and everything lent as it was. The marks make it quick
-// where they are zeros, and are left as they were.
+// address; how many blocks there are, or 4, then 14 with place 0 for the bytes and 2 for the blocks, and everything lent as it was. The scratch makes it quick
+// where it is zeros, and is left as it was.
 pub fn read(
     format: u8,
     text: &[u8],
@@ -592,11 +620,11 @@ pub fn read(
     bytes: &mut [u8],
     offsets: &mut [u64],
     sizes: &mut [u64],
-    marks: &mut [u8],
+    scratch: &mut [u8],
 ) -> Blocks
     ensures { λ r. ⌜ Reads load (readText format load (now (text .entry)))
-        (lent (now (bytes .entry)) (now (offsets .entry)) (now (sizes .entry)) (now (marks .entry))) r
-        (lent (now (bytes .exit)) (now (offsets .exit)) (now (sizes .exit)) (now (marks .exit))) ⌝ }
+        (lent (now (bytes .entry)) (now (offsets .entry)) (now (sizes .entry)) (now (scratch .entry))) r
+        (lent (now (bytes .exit)) (now (offsets .exit)) (now (sizes .exit)) (now (scratch .exit))) ⌝ }
 {
     let t = record_lines::digit_table();
     let Scan::Whole(n, high, ascend, parts) = record_fault::scan_lines(
@@ -604,7 +632,7 @@ pub fn read(
         text,
         &t,
         load,
-        marks,
+        scratch,
     ) else {
         return Blocks::Refused(Refusal::Malformed(0));
     };
@@ -621,6 +649,6 @@ pub fn read(
         bytes,
         offsets,
         sizes,
-        marks,
+        scratch,
     )
 }

@@ -15,7 +15,7 @@ use Rattle.record_reason.proofs.spelling.many_of.Reads as many-of-reads
 use Rattle.record_reason.proofs.spelling.top_of.Kinds as top-of-kinds
 use Rattle.record_reason.proofs.spelling.top_of.Reads as top-of-reads
 
--- the answer, and the marks afterwards
+-- the answer, and the scratch afterwards
 pub reason-of-unique : OneView 2 reason-of-kinds.ps reason-of-kinds.r reason-of-reads.Learnt (Why × List ℕ) (λ κs x e. (x, e .1 .1 .1 .0 .now))
 reason-of-unique κs a x y e f p q = paired (determined (p .0) (q .0)) (determined (p .1) (q .1))
 

@@ -276,11 +276,11 @@ fn cause_at(format: u8, text: &[u8], t: &[u8; 256], load: u32, n: u64) -> Cause
     line_cause(format, text, t, load, n, state, &text[at..stop])
 }
 
-// The line at fault of a file that is read from a load address on, and why. The marks are as they were behind the call.
-pub fn reason_of(format: u8, text: &[u8], load: u32, marks: &mut [u8]) -> Why
-    ensures { λ r. ⌜ (r ≡ whyOf format load (now (text .entry)) (readText format load (now (text .entry)))) × (now (marks .exit) ≡ now (marks .entry)) ⌝ }
+// The line at fault of a file that is read from a load address on, and why. The scratch is as it was behind the call.
+pub fn reason_of(format: u8, text: &[u8], load: u32, scratch: &mut [u8]) -> Why
+    ensures { λ r. ⌜ (r ≡ whyOf format load (now (text .entry)) (readText format load (now (text .entry)))) × (now (scratch .exit) ≡ now (scratch .entry)) ⌝ }
 {
-    match record_fault::line_at_fault(format, text, load, marks) {
+    match record_fault::line_at_fault(format, text, load, scratch) {
         Fault::Good => Why {
             reason: 0,
             line: 0,

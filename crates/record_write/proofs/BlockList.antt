@@ -1,8 +1,8 @@
 -- The lent lists of blocks, gone through from the front: a law for each way that a test goes.
-use mathlib.Core.Path.{_≡_, refl, sym, ap, _∙_}
+use mathlib.Core.Path.{_≡_, refl}
 use mathlib.Core.Bool.{Bool, true, false, _&&_}
 use mathlib.Core.List.{List, [], _∷_}
-use Prim.Native.Nat.{ℕ, suc, _+_, _-_, _/_, _≤_, _<_, min}
+use Prim.Native.Nat.{ℕ, _+_, _/_, _≤_, _<_, min}
 use native.Mathlib.Decide.{decLe}
 use native.Mathlib.Numerals.{add-one}
 use native.Mathlib.Omega.{arith}
@@ -18,7 +18,7 @@ use Rattle.refusal.specs.declared.Verdict.the-variants.{Accepted, Refused}
 use Rattle.blocks.specs.declared.Block.{Block}
 use Rattle.blocks.specs.Walk.{block}
 use Rattle.bitvec.specs.Part.{isPart}
-use Rattle.record_write.specs.Checks.{allParts, startsBehind, placed, allPlaced, allShort}
+use Rattle.record_write.specs.Checks.{allParts, startsBehind, allPlaced, allShort}
 use Rattle.record_write.specs.Cut.{blocksIn}
 
 -- a test whose outcome a verdict tells

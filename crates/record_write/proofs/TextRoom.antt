@@ -1,22 +1,20 @@
 -- The room of a text, added up piece by piece and block by block: what holds between two, and a law for a turn.
-use mathlib.Core.Path.{_≡_, refl, sym, ap, ap₂, _∙_}
-use mathlib.Core.Bool.{true}
+use mathlib.Core.Path.{_≡_, refl, sym, ap, _∙_}
 use mathlib.Core.List.{List, [], _∷_, _++_}
-use Prim.Native.Nat.{ℕ, _+_, _-_, _*_, _/_, _≤_, _<_, min}
+use Prim.Native.Nat.{ℕ, _+_, _-_, _*_, _/_, _≤_, _<_}
 use native.Mathlib.Omega.{arith}
-use lib.ListN.{length, take, drop, getD, length-append, length-take, length-drop, drop-of-length-le}
+use lib.ListN.{length, take, drop, getD, length-append, length-drop, drop-of-length-le}
 use lib.Seq.{drop-drop, length-take-le}
 use Rattle.blocks.specs.declared.Block.{Block}
 use Rattle.record_lines.specs.Pieces.{Piece, piece}
 use Rattle.record_write.specs.declared.Place.{Place}
-use Rattle.record_write.specs.Checks.{allParts, allPlaced}
 use Rattle.record_write.specs.Cut.{pieceLength, cutIn, cut, blocksIn, piecesOf}
 use Rattle.record_write.specs.Theorems.Cut.{cut-first}
 use Rattle.record_write.specs.Going.{PieceRoom, BlockRoom, Ready}
 use Rattle.record_write.specs.Text.{textBy, endBy, linesFrom, stateFrom, textOf}
 use Rattle.record_write.specs.Laws.Text.{lines-append}
-use Rattle.record_write.proofs.BlockList.{left, behind, here, blocks-at, blocks-none}
-use Rattle.record_write.proofs.AllBlocks.{Few, few-none, few-rest, parts-rest, places-rest, block-fits, Fits}
+use Rattle.record_write.proofs.BlockList.{left, behind}
+use Rattle.record_write.proofs.AllBlocks.{Standing, stands-first, stands-on, now-at, now-fits, last-none}
 
 -- ---- one block
 module _ (format address count at₀ state₀ : ℕ) where
@@ -85,33 +83,15 @@ module _ (format address count at₀ state₀ : ℕ) where
 -- ---- all blocks
 module _ (format : ℕ) (image os ss : List ℕ) (load : ℕ) where
   pub record AllAdding (p : Place) (i : ℕ) : Type 0 where
-    pub within : i ≤ length os
-    pub parts : allParts (length image) (left os ss i) ≡ true
-    pub places : allPlaced load (left os ss i) ≡ true
-    pub few : Few load (p .at) (left os ss i)
+    pub stands : Standing image os ss load (p .at) i
     pub long : p .at + length (linesFrom format (p .state) (piecesOf load image (left os ss i)))
         ≡ length (linesFrom format 0 (piecesOf load image (blocksIn os ss)))
 
   pub adds-first : Ready image os ss load → AllAdding (record { at = 0; state = 0 }) 0
-  adds-first r = record { within = omega arith; parts = r .parts; places = r .places; few = few-none load (blocksIn os ss); long = omega arith }
+  adds-first r = record { stands = stands-first image os ss load r; long = omega arith }
 
-  module _ (r : Ready image os ss load) (p : Place) (i : ℕ) (a : AllAdding p i) where
+  module _ (r : Ready image os ss load) {p : Place} {i : ℕ} (a : AllAdding p i) where
     module _ (h : i < length os) where
-      now-at : left os ss i ≡ here os ss i ∷ behind os ss i
-      now-at = blocks-at os ss i h (omega (arith, r .paired))
-
-      parts-now : allParts (length image) (here os ss i ∷ behind os ss i) ≡ true
-      parts-now = rw now-at at (a .parts)
-
-      places-now : allPlaced load (here os ss i ∷ behind os ss i) ≡ true
-      places-now = rw now-at at (a .places)
-
-      pub add-fits : Fits (length image) load (here os ss i)
-      add-fits = block-fits (length image) load (here os ss i) (behind os ss i) parts-now places-now
-
-      pub add-few : p .at ≤ 1044 * (load + getD os i 0 / 8)
-      add-few = rw now-at at (a .few)
-
       pub adds-on : (q : Place) → BlockRoom format (load + getD os i 0 / 8) (getD ss i 0 / 8) p q
           → q .at ≤ 1044 * (load + getD os i 0 / 8 + getD ss i 0 / 8) → AllAdding q (i + 1)
       unfolding piecesOf
@@ -120,16 +100,13 @@ module _ (format : ℕ) (image os ss : List ℕ) (load : ℕ) where
           let mine = cut (load + getD os i 0 / 8) bytes in
           let rest = piecesOf load image (behind os ss i) in
           let full : length bytes ≡ getD ss i 0 / 8 = length-take-le (getD ss i 0 / 8) (drop (getD os i 0 / 8) image)
-          (omega (arith, length-drop (getD os i 0 / 8) image, add-fits .inside)) in
-          let pieces : piecesOf load image (left os ss i) ≡ mine ++ rest = ap (piecesOf load image) now-at in
+          (omega (arith, length-drop (getD os i 0 / 8) image, now-fits image os ss load r (a .stands) h .inside)) in
+          let pieces : piecesOf load image (left os ss i) ≡ mine ++ rest = ap (piecesOf load image) (now-at image os ss load r (a .stands) h) in
           let lines : linesFrom format (p .state) (piecesOf load image (left os ss i)) ≡ linesFrom format (p .state) mine ++ linesFrom format (q .state) rest =
           ap (linesFrom format (p .state)) pieces ∙ lines-append format (p .state) mine rest
           ∙ ap (λ (s : ℕ). linesFrom format (p .state) mine ++ linesFrom format s rest) (sym (w .state bytes full)) in
           record {
-            within = omega arith;
-            parts = parts-rest (length image) load (here os ss i) (behind os ss i) parts-now places-now;
-            places = places-rest (length image) load (here os ss i) (behind os ss i) parts-now places-now;
-            few = few-rest (length image) load (here os ss i) (behind os ss i) parts-now places-now (q .at) b;
+            stands = stands-on image os ss load r (a .stands) h (q .at) b;
             long = grown (p .at) (length (linesFrom format (p .state) mine)) (length (linesFrom format (q .state) rest)) (w .at bytes full) (ap length
                 lines ∙ length-append (linesFrom format (p .state) mine) (linesFrom format (q .state) rest)) ∙ a .long;
           }
@@ -138,15 +115,9 @@ module _ (format : ℕ) (image os ss : List ℕ) (load : ℕ) where
           grown x u v e f = omega arith
 
     module _ (h : length os ≤ i) where
-      last-none : left os ss i ≡ []
-      last-none = blocks-none os ss i (omega (arith, r .paired))
-
-      pub adds-few : p .at ≤ 1044 * 4294967296
-      adds-few = rw last-none at (a .few)
-
       pub adds-done : (m : ℕ) → m ≡ length (endBy format) → p .at + m ≡ length (textOf format load image (blocksIn os ss))
       unfolding piecesOf linesFrom
       adds-done m e =
           let none : length (linesFrom format (p .state) (piecesOf load image (left os ss i))) ≡ 0 =
-          ap (λ (l : List Block). length (linesFrom format (p .state) (piecesOf load image l))) last-none in
+          ap (λ (l : List Block). length (linesFrom format (p .state) (piecesOf load image l))) (last-none image os ss load r (a .stands) h) in
           omega (arith, a .long, length-append (linesFrom format 0 (piecesOf load image (blocksIn os ss))) (endBy format))

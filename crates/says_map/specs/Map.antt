@@ -10,8 +10,8 @@ use Rattle.iter.specs.declared.Lost.{Lost}
 use Rattle.denkumari.specs.declared.maps.DkMap.{DkMap}
 use Rattle.says.specs.Words.{First}
 use Rattle.says_build.specs.Build as build
-use Rattle.says_build.specs.Build.{Given, Not, losing, nodes, kind, Number, BankAt, Sees, Reads, Unresolved, Stops, Stopped, Runs, GoesOn, Last, Refuses, AtNode}
-use Rattle.says_build.specs.Build.{OffsetWord}
+use Rattle.says_build.specs.Build.{Given, Not, losing, nodes, kind, Number, BankAt, Sees, Reads, Unresolved, Stops, Stopped, Runs, GoesOn, Last}
+use Rattle.says_build.specs.Build.{OffsetWord, Refuses, AtNode}
 use Rattle.says_profile.specs.Profile.{Checks}
 
 -- ---- what is lent, before the call and after it: a place for each node

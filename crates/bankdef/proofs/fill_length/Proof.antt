@@ -15,7 +15,7 @@ returns-2 c =
     let all = sym (length-map (t .defs) _) ∙ s .good .0 .1 .1 .0 .1 .0 .1 in
     let e : take 16 (t .defs) ≡ take (t .len) (t .defs) =
     take-all 16 (t .defs) (omega (arith, all)) ∙ sym (take-all (t .len) (t .defs) (omega (arith, all, c .before .if1 .left))) in
-    (c .fill-chosen2 .ensures .0 ∙ ap (fillBy (s .args .choice)) e, search needs)
+    (c .fill-banks2 .ensures .0 ∙ ap (fillBy (s .args .choice)) e, search needs)
 
 pub fill-length-spec : {M : Type 1} → statement M
 fill-length-spec = tie.close (tie.spec (λ c κs. search needs) (λ c κs. search needs) (λ c. search needs) returns-2)

@@ -12,35 +12,17 @@ returns c =
     let a = start .args in
     too-long (a .load) (a .bytes .now) (a .source .now) (omega (arith, c .if1 .taken))
 
-read-requires : tie.Need-read-requires
-read-requires c κs = search needs
-
-same-length : tie.Need-same-length
-same-length c = search needs
-
-same-length-2 : tie.Need-same-length-2
-same-length-2 c = search needs
-
-same-length-3 : tie.Need-same-length-3
-same-length-3 c = search needs
-
 returns-2 : tie.Need-returns-2
 returns-2 c =
-    let at-read = c .before .before .before .before .before .before in
-    let at-if1 = at-read .before .before .before .before in
+    let at-read = c .before .before .before .before .before .before .before in
+    let at-if1 = at-read .before .before .before .before .before in
     let s = at-if1 .before .before .before .before .before in
     let a = s .args in
-    loaded (a .load) (lent (a .bytes .now) (a .offsets .now) (a .sizes .now)) (s .pre .0) (s .pre .1 .0) (s .pre .1 .1) (a .source .now)
+    loaded (a .load) (lent (a .bytes .now) (a .offsets .now) (a .sizes .now) _) (s .pre .0) (s .pre .1 .0) (s .pre .1 .1) (a .source .now)
     (omega (arith, at-if1 .if1 .left)) (at-read .read .result)
-    (lent (at-read .read .last .1 .1 .1 .0) (at-read .read .last .1 .1 .1 .1 .0) (at-read .read .last .1 .1 .1 .1 .1 .0)) (at-read .read .ensures)
+    (lent (at-read .read .last .1 .1 .1 .0) (at-read .read .last .1 .1 .1 .1 .0) (at-read .read .last .1 .1 .1 .1 .1 .0) _) (at-read .read .ensures)
 
 pub load-file-spec : {M : Type 1} → statement M
 load-file-spec =
     tie.close
-    (tie.spec
-    returns
-    read-requires
-    same-length
-    same-length-2
-    same-length-3
-    returns-2)
+    (tie.spec returns (λ c. search needs) (λ c κs. search needs) (λ c. search needs) (λ c. search needs) (λ c. search needs) returns-2)

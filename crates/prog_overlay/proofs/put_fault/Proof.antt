@@ -22,6 +22,9 @@ returns c =
     let a = start .args in
     (writes-as (fault-long (a .load) (a .source .now) (omega (arith, c .if1 .taken))) (writes-none (a .at)), omega arith)
 
+slice-aggregate-line-at-fault : tie.Need-slice-aggregate-line-at-fault
+slice-aggregate-line-at-fault c = search needs
+
 line-at-fault-requires : tie.Need-line-at-fault-requires
 line-at-fault-requires c κs = search needs
 
@@ -40,16 +43,17 @@ slice-aggregate-put-line-2 c = search needs
 put-line-requires : tie.Need-put-line-requires
 put-line-requires c κs =
     let at-known-told = c .before .before .before in
-    let start = at-known-told .before .before .before .before .before .before .before in
+    let start = at-known-told .before .before .before .before .before .before .before .before .before in
     omega (arith, short at-known-told, start .pre)
 
 returns-2 : tie.Need-returns-2
 returns-2 c =
-    let at-if1 = c .before .before .before in
+    let at-if1 = c .before .before .before .before .before in
     let start = at-if1 .before .before .before in
-    let a = start .args in (
+    let a = start .args in
+    let told = c .before .before .before .line-at-fault .ensures .0 in (
       writes-as
-          (fault-good (a .load) (a .source .now) (omega (arith, at-if1 .if1 .left)) (sym (c .enum-told .given .1) ∙ c .before .before .line-at-fault .ensures))
+          (fault-good (a .load) (a .source .now) (omega (arith, at-if1 .if1 .left)) (sym (c .enum-told .given .1) ∙ told))
           (writes-none (a .at)),
       omega arith,
     )
@@ -61,15 +65,15 @@ returns-3 : tie.Need-returns-3
 returns-3 c =
     let at-known-told = c .before .before .before .before .before .before in
     let at-fault = at-known-told .before in
-    let at-line-at-fault = at-fault .before .before in
-    let at-if1 = at-line-at-fault .before in
+    let at-line-at-fault = at-fault .before .before .before in
+    let at-if1 = at-line-at-fault .before .before in
     let start = at-if1 .before .before .before in
     let a = start .args in
     let n = at-fault .fault .given .0 .0 in
     let w = c .before .before .put-line .ensures in (
       writes-as
           (fault-at (a .load) (a .source .now) (omega (arith, at-if1 .if1 .left)) n
-          (sym (at-fault .fault .given .1) ∙ at-line-at-fault .line-at-fault .ensures))
+          (sym (at-fault .fault .given .1) ∙ at-line-at-fault .line-at-fault .ensures .0))
           w,
       omega (arith, w .place, short at-known-told),
     )
@@ -79,6 +83,7 @@ put-fault-spec =
     tie.close
     (tie.spec
     returns
+    slice-aggregate-line-at-fault
     line-at-fault-requires
     enum-told
     enum-known-fault

@@ -16,20 +16,20 @@ use Rattle.prog_rehex.proofs.put_fault.Tie as tie
 
 returns : tie.Need-returns
 returns c =
-    let s = c .before .before .before .before .before .before .before .before .before in
+    let s = c .before .before .before .before .before .before .before .before .before .before .before in
     let read = readText (s .args .kind) (s .args .load) (s .args .source .now) in
-    let none = good-behind read (sym (c .enum-told .given .1) ∙ c .before .before .line-at-fault .ensures) in
-    rw (none, append-nil (refusalText (s .args .why))) (c .before .before .before .before .before .put-refusal .ensures .0)
+    let none = good-behind read (sym (c .enum-told .given .1) ∙ c .before .before .before .line-at-fault .ensures .0) in
+    rw (none, append-nil (refusalText (s .args .why))) (c .before .before .before .before .before .before .before .put-refusal .ensures .0)
 
 returns-2 : tie.Need-returns-2
 returns-2 c =
-    let s = c .before .before .before .before .before .before .before .before .before .before .before .before .before .before in
-    let p = c .before .before .before .before .before .before .before .before .before .before .put-refusal .ensures in
+    let s = c .before .before .before .before .before .before .before .before .before .before .before .before .before .before .before .before in
+    let p = c .before .before .before .before .before .before .before .before .before .before .before .before .put-refusal .ensures in
     let n = c .before .before .before .before .before .fault .given .0 .0 in
     let read = readText (s .args .kind) (s .args .load) (s .args .source .now) in
     let some = fault-behind read n
     (sym (c .before .before .before .before .before .fault .given .1)
-    ∙ c .before .before .before .before .before .before .before .line-at-fault .ensures) in
+    ∙ c .before .before .before .before .before .before .before .before .line-at-fault .ensures .0) in
     let puts = c .before .before .put-line .ensures in
     let short = line-words (ascii "line") (n ∷ []) (search needs, tt) in
     let room : length (refusalText (s .args .why)) + length (line (ascii "line") (n ∷ [])) ≤ length (s .args .out .now) = omega
@@ -40,5 +40,6 @@ pub put-fault-spec : {M : Type 1} → statement M
 put-fault-spec =
     tie.close
     (tie.spec
-    (λ c κs. search needs) (λ c κs. search needs) (λ c. search needs) (λ c. search needs) (λ c κs. search needs) (λ c. search needs) returns
+    (λ c κs. search needs) (λ c. search needs) (λ c κs. search needs) (λ c. search needs) (λ c. search needs) (λ c κs. search needs) (λ c. search needs)
+    returns
     (λ c. search needs) returns-2)

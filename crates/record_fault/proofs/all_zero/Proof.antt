@@ -9,23 +9,23 @@ use Rattle.record_fault.proofs.all_zero.Statement.{statement}
 use Rattle.record_fault.proofs.all_zero.Tie as tie
 
 abbrev Inv-loop : tie.InvT-loop
-Inv-loop marks i₀ i = allZero marks ≡ allZero (drop i marks)
+Inv-loop scratch i₀ i = allZero scratch ≡ allZero (drop i scratch)
 
 abbrev μ-loop : tie.MeasureT-loop
-μ-loop marks i₀ i = length marks - i
+μ-loop scratch i₀ i = length scratch - i
 
 returns : tie.Need-returns Inv-loop μ-loop
 returns c =
     let l = c .before .before .before in
-    sym (l .loop .inv ∙ zero-stop (l .before .args .marks .now) (l .loop .i) (c .before .before .loop-test .taken) (c .if1 .taken))
+    sym (l .loop .inv ∙ zero-stop (l .before .args .scratch .now) (l .loop .i) (c .before .before .loop-test .taken) (c .if1 .taken))
 
 loop-again : tie.Need-loop-again Inv-loop μ-loop
 loop-again c =
     let l = c .before .before .before in
-    l .loop .inv ∙ zero-on (l .before .args .marks .now) (l .loop .i) (c .before .before .loop-test .taken) (c .if1 .left)
+    l .loop .inv ∙ zero-on (l .before .args .scratch .now) (l .loop .i) (c .before .before .loop-test .taken) (c .if1 .left)
 
 returns-2 : tie.Need-returns-2 Inv-loop μ-loop
-returns-2 c = let l = c .before in sym (l .loop .inv ∙ zero-done (l .before .args .marks .now) (l .loop .i) (c .loop-test .left))
+returns-2 c = let l = c .before in sym (l .loop .inv ∙ zero-done (l .before .args .scratch .now) (l .loop .i) (c .loop-test .left))
 
 pub all-zero-spec : {M : Type 1} → statement M
 all-zero-spec =

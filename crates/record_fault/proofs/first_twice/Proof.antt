@@ -12,13 +12,13 @@ use Rattle.record_fault.proofs.first_twice.Statement.{statement}
 use Rattle.record_fault.proofs.first_twice.Tie as tie
 
 abbrev Inv-loop : tie.InvT-loop
-Inv-loop format text t n marks₀ low₀ limit₀ marks low limit = Seeking format text n marks₀ low limit marks
+Inv-loop format text t n scratch₀ low₀ limit₀ scratch low limit = Seeking format text n scratch₀ low limit scratch
 
 abbrev μ-loop : tie.MeasureT-loop
-μ-loop format text t n marks₀ low₀ limit₀ marks low limit = 8589934592 - low
+μ-loop format text t n scratch₀ low₀ limit₀ scratch low limit = 8589934592 - low
 
 loop-holds : tie.Need-loop-holds Inv-loop μ-loop
-loop-holds c = let a = c .before .before .args in seeking-starts (a .format) (a .text .now) (a .n) (a .marks .now)
+loop-holds c = let a = c .before .before .args in seeking-starts (a .format) (a .text .now) (a .n) (a .scratch .now)
 
 mark-window-requires : tie.Need-mark-window-requires Inv-loop μ-loop
 mark-window-requires c κs =
@@ -36,7 +36,7 @@ loop-less c =
     let l = i .before in
     let s = l .before .before .before in
     let a = s .args in
-    let on = seeking-onward (a .format) (a .text .now) (a .n) (a .marks .now) (l .loop .inv) (i .loop-test .taken) (m .mark-window .ensures) (s .pre .1 .0) in
+    let on = seeking-onward (a .format) (a .text .now) (a .n) (a .scratch .now) (l .loop .inv) (i .loop-test .taken) (m .mark-window .ensures) (s .pre .1 .0) in
     omega (arith, on, i .loop-test .taken)
 
 loop-again : tie.Need-loop-again Inv-loop μ-loop
@@ -46,7 +46,7 @@ loop-again c =
     let l = i .before in
     let s = l .before .before .before in
     let a = s .args in
-    seeking-on (a .format) (a .text .now) (a .n) (a .marks .now) (l .loop .inv) (i .loop-test .taken) (m .mark-window .ensures) (s .pre .1 .1)
+    seeking-on (a .format) (a .text .now) (a .n) (a .scratch .now) (l .loop .inv) (i .loop-test .taken) (m .mark-window .ensures) (s .pre .1 .1)
     (c .before .before .clear .ensures)
 
 same-length : tie.Need-same-length Inv-loop μ-loop
@@ -56,7 +56,7 @@ returns : tie.Need-returns Inv-loop μ-loop
 returns c =
     let l = c .before in
     let a = l .before .before .before .args in
-    seeking-ends (a .format) (a .text .now) (a .n) (a .marks .now) (l .loop .inv) (c .loop-test .left)
+    seeking-ends (a .format) (a .text .now) (a .n) (a .scratch .now) (l .loop .inv) (c .loop-test .left)
 
 pub first-twice-spec : {M : Type 1} → statement M
 first-twice-spec =

@@ -26,5 +26,6 @@ pub line-at-fault-spec : {M : Type 1} → statement M
 line-at-fault-spec =
     tie.close
     (tie.spec
-    (λ c κs. search needs) (λ c κs. search needs) (λ c. search needs) (λ c. search needs) (λ c. ap length (c .before .before .before .before .scan-lines .ensures .1)) returns
+    (λ c κs. search needs) (λ c κs. search needs) (λ c. search needs) (λ c. search needs)
+    (λ c. ap length (c .before .before .before .before .scan-lines .ensures .1)) returns
     (λ c. ap length (c .before .before .before .before .before .scan-lines .ensures .1)) returns-2)

@@ -11,10 +11,10 @@ use Rattle.record_fault.proofs.mark_window.Statement.{statement}
 use Rattle.record_fault.proofs.mark_window.Tie as tie
 
 abbrev Inv-loop : tie.InvT-loop
-Inv-loop format text t n low marks₀ top at₀ state₀ next₀ k₀ marks at state next k = Marking format text n low marks₀ at state next marks k
+Inv-loop format text t n low scratch₀ top at₀ state₀ next₀ k₀ scratch at state next k = Marking format text n low scratch₀ at state next scratch k
 
 abbrev μ-loop : tie.MeasureT-loop
-μ-loop format text t n low marks₀ top at₀ state₀ next₀ k₀ marks at state next k = n - k
+μ-loop format text t n low scratch₀ top at₀ state₀ next₀ k₀ scratch at state next k = n - k
 
 abbrev start : tie.At-loop Inv-loop μ-loop → tie.Start Inv-loop μ-loop
 start l = l .before .before .before .before
@@ -26,7 +26,7 @@ loop-holds : tie.Need-loop-holds Inv-loop μ-loop
 loop-holds c =
     let s = c .before .before .before in
     let a = s .args in
-    marking-starts (a .format) (a .text .now) (a .n) (a .low) (a .marks .now) (s .pre .1 .1) (s .pre .1 .0)
+    marking-starts (a .format) (a .text .now) (a .n) (a .low) (a .scratch .now) (s .pre .1 .1) (s .pre .1 .0)
 
 known-line-requires : tie.Need-known-line-requires Inv-loop μ-loop
 known-line-requires c κs =
@@ -40,7 +40,8 @@ same-length : tie.Need-same-length Inv-loop μ-loop
 same-length c = c .before .before .before .before .before .before .before .before .before .before .loop .inv .long
 
 -- an address of 32 bits and a count of 8
-near : (c : tie.After-struct-known2 Inv-loop μ-loop) → c .before .before .before .known-line .result .line .address + c .before .before .before .known-line .result .line .count < 8589934592
+near : (c : tie.After-struct-known2 Inv-loop μ-loop)
+    → c .before .before .before .known-line .result .line .address + c .before .before .before .known-line .result .line .count < 8589934592
 near c =
     let line = c .struct-known2 .given in
     omega (arith, line .1 .0 .fits, line .1 .1 .1 .0 .fits)
@@ -52,9 +53,9 @@ returns c =
     let t = e .before .before .before .before .before in
     let l = t .before .before in
     let a = start l .args in
-    marking-hit (a .format) (a .text .now) (a .n) (a .low) (a .marks .now) (l .loop .inv) (t .before .loop-test .taken) (t .known-line .ensures)
+    marking-hit (a .format) (a .text .now) (a .n) (a .low) (a .scratch .now) (l .loop .inv) (t .before .loop-test .taken) (t .known-line .ensures)
     (e .before .beyond .ensures) (e .beyond2 .ensures) (near (e .before .before))
-    (subst (AnyOne (l .loop .marks) (e .before .beyond .result) (e .beyond2 .result)) (c .if1 .taken) (o .any-one .ensures))
+    (subst (AnyOne (l .loop .scratch) (e .before .beyond .result) (e .beyond2 .result)) (c .if1 .taken) (o .any-one .ensures))
 
 add-k : tie.Need-add-k Inv-loop μ-loop
 add-k c =
@@ -72,9 +73,9 @@ loop-again c =
     let t = e .before .before .before .before .before in
     let l = t .before .before in
     let a = start l .args in
-    marking-on (a .format) (a .text .now) (a .n) (a .low) (a .marks .now) (l .loop .inv) (t .before .loop-test .taken) (t .known-line .ensures)
+    marking-on (a .format) (a .text .now) (a .n) (a .low) (a .scratch .now) (l .loop .inv) (t .before .loop-test .taken) (t .known-line .ensures)
     (e .before .beyond .ensures) (e .beyond2 .ensures)
-    (subst (AnyOne (l .loop .marks) (e .before .beyond .result) (e .beyond2 .result)) (i .if1 .left) (o .any-one .ensures)) (f .set-ones .ensures)
+    (subst (AnyOne (l .loop .scratch) (e .before .beyond .result) (e .beyond2 .result)) (i .if1 .left) (o .any-one .ensures)) (f .set-ones .ensures)
     (l .before .window-end .ensures) (c .nearer .ensures)
 
 same-length-2 : tie.Need-same-length-2 Inv-loop μ-loop
@@ -84,7 +85,7 @@ returns-2 : tie.Need-returns-2 Inv-loop μ-loop
 returns-2 c =
     let l = c .before in
     let a = start l .args in
-    marking-ends (a .format) (a .text .now) (a .n) (a .low) (a .marks .now) (l .loop .inv) (c .loop-test .left)
+    marking-ends (a .format) (a .text .now) (a .n) (a .low) (a .scratch .now) (l .loop .inv) (c .loop-test .left)
 
 pub mark-window-spec : {M : Type 1} → statement M
 mark-window-spec =

@@ -28,8 +28,8 @@ returns-3 : tie.Need-returns-3
 returns-3 c =
     let s = c .before .before .before .before in
     let a = s .args in
-    admit-empty (a .look) (a .load) (pieces s) (a .kind) (a .address) (a .count) (a .high) (a .free .edge) (c .before .if2 .left) (a .free .top) (s .pre .1 .1 .gap)
-    (c .if3 .taken)
+    admit-empty (a .look) (a .load) (pieces s) (a .kind) (a .address) (a .count) (a .high) (a .free .edge) (c .before .if2 .left)
+    (a .free .top) (s .pre .1 .1 .gap) (c .if3 .taken)
 
 add-end : tie.Need-add-end
 add-end c = search needs

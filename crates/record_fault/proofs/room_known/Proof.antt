@@ -42,8 +42,12 @@ returns-4 c =
     room-known (pieces s) (s .args .first) (s .args .end) (s .pre .0 .2) (s .args .look) (c .room-above .ensures)
 
 returns-5 : tie.Need-returns-5
-returns-5 c = let s = c .before .before .before .before .before .before .before in room-unknown (pieces s) (s .args .first) (s .args .end) (s .pre .0 .2) (s .args .look) (c .if4 .left)
+returns-5 c =
+    let s = c .before .before .before .before .before .before .before in
+    room-unknown (pieces s) (s .args .first) (s .args .end) (s .pre .0 .2) (s .args .look) (c .if4 .left)
+
+room-above-requires : tie.Need-room-above-requires
+room-above-requires c κs = c .before .before .before .before .before .before .before .pre .0
 
 pub room-known-spec : {M : Type 1} → statement M
-room-known-spec =
-    tie.close (tie.spec returns returns-2 (λ c κs. search needs) returns-3 (λ c κs. c .before .before .before .before .before .before .before .pre .0) returns-4 returns-5)
+room-known-spec = tie.close (tie.spec returns returns-2 (λ c κs. search needs) returns-3 room-above-requires returns-4 returns-5)

@@ -33,7 +33,7 @@ first-twice-requires c κs =
     let u = e .before in
     let w = u .before .before .before in
     let s = w .before .before .before in
-    let m = s .args .marks .now in
+    let m = s .args .scratch .now in
     let two = both (ltb 0 (length m)) (allZero m) (sym (u .usable .ensures) ∙ not-false _ (e .if2 .left)) in
     ((s .pre, w .walk-lines .ensures .good), (ltb-true 0 (length m) (two .0), zero-cleared m (two .1)))
 

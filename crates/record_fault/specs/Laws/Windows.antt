@@ -1,4 +1,4 @@
--- Laws that users of marks need.
+-- Laws that users of scratch need.
 use mathlib.Core.Path.{_≡_, refl, ap₂}
 use mathlib.Core.Bool.{true}
 use mathlib.Core.List.{List, [], _∷_}

@@ -19,44 +19,54 @@ returns : tie.Need-returns
 returns c =
     let s = c .before .before .before .before .before .before in
     let a = s .args in
-    reads-short (a .load) (pieces s) (a .bytes .now) (a .offsets .now) (a .sizes .now) (a .marks .now) (a .end) (s .pre .1 .0 .ends) (c .if1 .taken)
+    reads-short (a .load) (pieces s) (a .bytes .now) (a .offsets .now) (a .sizes .now) (a .scratch .now) (a .end) (s .pre .1 .0 .ends) (c .if1 .taken)
 
 count-blocks-requires : tie.Need-count-blocks-requires
-count-blocks-requires c κs = let s = c .before .before .before .before .before .before .before .before .before in (s .pre .0, (s .pre .1 .0, (s .pre .1 .1 .1, c .before .by-marks .ensures)))
+count-blocks-requires c κs =
+    let s = c .before .before .before .before .before .before .before .before .before in
+    (s .pre .0, (s .pre .1 .0, (s .pre .1 .1 .1, c .before .by-scratch .ensures)))
 
 returns-2 : tie.Need-returns-2
 returns-2 c =
     let w = c .before .before .before in
-    let s = c .before .before .before .before .before .before .before .before .before .before .before .before .before in
+    let i = w .before .before .before .before in
+    let s = i .before .before .before .before .before .before in
     let a = s .args in
-    reads-short-first (a .load) (pieces s) (a .bytes .now) (a .offsets .now) (a .sizes .now) (a .marks .now) (a .end) (s .pre .1 .0 .ends) (c .before .before .before .before .before .before .before .if1 .left)
-    (w .count-blocks .result) (w .count-blocks .ensures .0) (w .count-blocks .ensures .1) (c .if2 .taken)
+    reads-short-first (a .load) (pieces s) (a .bytes .now) (a .offsets .now) (a .sizes .now) (a .scratch .now) (a .end) (s .pre .1 .0 .ends)
+    (i .if1 .left) (w .count-blocks .result) (w .count-blocks .ensures .0) (w .count-blocks .ensures .1) (c .if2 .taken)
 
 returns-3 : tie.Need-returns-3
 returns-3 c =
     let w = c .before .before .before .before in
-    let s = c .before .before .before .before .before .before .before .before .before .before .before .before .before .before in
+    let i = w .before .before .before .before in
+    let s = i .before .before .before .before .before .before in
     let a = s .args in
-    reads-short-second (a .load) (pieces s) (a .bytes .now) (a .offsets .now) (a .sizes .now) (a .marks .now) (a .end) (s .pre .1 .0 .ends) (c .before .before .before .before .before .before .before .before .if1 .left)
-    (w .count-blocks .result) (w .count-blocks .ensures .0) (w .count-blocks .ensures .1) (c .before .if2 .left) (c .if3 .taken)
+    reads-short-second (a .load) (pieces s) (a .bytes .now) (a .offsets .now) (a .sizes .now) (a .scratch .now) (a .end) (s .pre .1 .0 .ends)
+    (i .if1 .left) (w .count-blocks .result) (w .count-blocks .ensures .0) (w .count-blocks .ensures .1) (c .before .if2 .left) (c .if3 .taken)
 
 store-requires : tie.Need-store-requires
 store-requires c κs =
-    let s = c .before .before .before .before .before .before .before .before .before .before .before .before .before .before .before .before .before .before in
-    let same = c .before .before .before .before .before .before .before .before .count-blocks .ensures .1 in
-    (s .pre .0, (s .pre .1 .0, (s .pre .1 .1 .0, λ e. subst Usable (sym same) (c .before .before .before .before .before .before .before .before .before .before .by-marks .ensures e))))
+    let w = c .before .before .before .before .before .before .before .before in
+    let m = w .before .before in
+    let s = m .before .before .before .before .before .before .before .before in
+    (s .pre .0, (s .pre .1 .0, (s .pre .1 .1 .0, λ e. subst Usable (sym (w .count-blocks .ensures .1)) (m .by-scratch .ensures e))))
 
 same-length-6 : tie.Need-same-length-6
-same-length-6 c = ap length (c .before .before .before .before .before .before .before .before .store .ensures .2) ∙ ap length (c .before .before .before .before .before .before .before .before .before .before .before .before .before .before .before .before .before .count-blocks .ensures .1)
+same-length-6 c =
+    let u = c .before .before .before .before .before .before .before .before in
+    ap length (u .store .ensures .2) ∙ ap length (u .before .before .before .before .before .before .before .before .before .count-blocks .ensures .1)
 
 returns-4 : tie.Need-returns-4
 returns-4 c =
-    let w = c .before .before .before .before .before .before .before .before .before .before .before .before .before .before .before .before .before in
-    let s = c .before .before .before .before .before .before .before .before .before .before .before .before .before .before .before .before .before .before .before .before .before .before .before .before .before .before .before in
-    let a = s .args in
     let u = c .before .before .before .before .before .before .before .before in
-    reads-all (a .load) (pieces s) (a .bytes .now) (a .offsets .now) (a .sizes .now) (a .marks .now) (a .end) (s .pre .1 .0 .ends) (c .before .before .before .before .before .before .before .before .before .before .before .before .before .before .before .before .before .before .before .before .before .if1 .left)
-    (w .count-blocks .result) (w .count-blocks .ensures .0) (w .count-blocks .ensures .1) (c .before .before .before .before .before .before .before .before .before .before .before .before .before .before .if2 .left) (c .before .before .before .before .before .before .before .before .before .before .before .before .before .if3 .left) (u .store .ensures)
+    let k = u .before .before .before .before .before in
+    let j = k .before in
+    let w = j .before .before .before in
+    let i = w .before .before .before .before in
+    let s = i .before .before .before .before .before .before in
+    let a = s .args in
+    reads-all (a .load) (pieces s) (a .bytes .now) (a .offsets .now) (a .sizes .now) (a .scratch .now) (a .end) (s .pre .1 .0 .ends) (i .if1 .left)
+    (w .count-blocks .result) (w .count-blocks .ensures .0) (w .count-blocks .ensures .1) (j .if2 .left) (k .if3 .left) (u .store .ensures)
 
 pub take-spec : {M : Type 1} → statement M
 take-spec =

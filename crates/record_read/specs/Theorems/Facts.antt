@@ -23,21 +23,21 @@ use Rattle.record_read.specs.Outcome.{Lent, lent, bytesFit, blocksFit, a
 use Rattle.record_read.specs.Facts.{Bad, Good}
 use Rattle.record_read.specs.Laws.Facts.{at-line, is-14-0, is-14-2, is-found, never-4, unwritten}
 
--- Lent marks: the answer is the same with any, so is everything else afterwards, and they stay as they are.
-module _ (load : ℕ) (bytes os ss marks other : List ℕ) where
+-- Lent scratch: the answer is the same with any, so is everything else afterwards, and they stay as they are.
+module _ (load : ℕ) (bytes os ss scratch other : List ℕ) where
   abbrev beside : Lent → Lent
-  beside l = lent (l .bytes) (l .offsets) (l .sizes) marks
+  beside l = lent (l .bytes) (l .offsets) (l .sizes) scratch
 
   after-aside : (b : Bool) (pieces : List Piece)
-      → pick b (taken load pieces (lent bytes os ss marks)) (lent bytes os ss marks)
+      → pick b (taken load pieces (lent bytes os ss scratch)) (lent bytes os ss scratch)
       ≡ beside (pick b (taken load pieces (lent bytes os ss other)) (lent bytes os ss other))
   after-aside true pieces = refl
   after-aside false pieces = refl
 
-  pub marks-aside : (read : Read) → (answerOf load (lent bytes os ss marks) read ≡ answerOf load (lent bytes os ss other) read)
-      × (lentAfter load (lent bytes os ss marks) read ≡ beside (lentAfter load (lent bytes os ss other) read))
-  marks-aside (sound pieces) = (refl, after-aside (allFit load pieces (lent bytes os ss other)) pieces)
-  marks-aside (faulty line) = (refl, refl)
+  pub scratch-aside : (read : Read) → (answerOf load (lent bytes os ss scratch) read ≡ answerOf load (lent bytes os ss other) read)
+      × (lentAfter load (lent bytes os ss scratch) read ≡ beside (lentAfter load (lent bytes os ss other) read))
+  scratch-aside (sound pieces) = (refl, after-aside (allFit load pieces (lent bytes os ss other)) pieces)
+  scratch-aside (faulty line) = (refl, refl)
 
 module _ (load : ℕ) (old : Lent) where
   abbrev pub Few : List Piece → Type 0

@@ -32,4 +32,5 @@ reason-of-spec =
     tie.close
     (tie.spec
     (λ c κs. search needs) (λ c. search needs) (λ c. search needs) (λ c κs. search needs) (λ c κs. c .before .digit-table .ensures)
-    (λ c. ap length (c .before .before .before .before .line-at-fault .ensures .1)) returns (λ c. ap length (c .before .before .before .before .before .before .before .before .line-at-fault .ensures .1)) returns-2)
+    (λ c. ap length (c .before .before .before .before .line-at-fault .ensures .1)) returns
+    (λ c. ap length (c .before .before .before .before .before .before .before .before .line-at-fault .ensures .1)) returns-2)

@@ -1,5 +1,5 @@
 -- `record_write::block_room`: what holds between two pieces is `Adding`.
-use Prim.Native.Nat.{_-_}
+use Prim.Native.Nat.{_-_, _<_}
 use native.Mathlib.Omega.{arith}
 use Rattle.record_write.proofs.BlockTurns.{some-left, less-left}
 use Rattle.record_write.proofs.TextRoom.{Adding, adding-first, adding-on, adding-done}
@@ -13,53 +13,33 @@ Inv-loop format count address at₀ state₀ here₀ k₀ at state here k = Addi
 abbrev μ-loop : tie.MeasureT-loop
 μ-loop format count address at₀ state₀ here₀ k₀ at state here k = count - k
 
+-- an address that is met has 32 bits, and a piece some bytes
+low : (c : tie.In-loop Inv-loop μ-loop) → c .before .loop .here < 4294967296
+low c = omega (arith, c .before .loop .inv .place, c .loop-test .taken, c .before .before .pre .0)
+
+some : (c : tie.After-piece-room Inv-loop μ-loop) → 0 < c .before .piece-length .result
+some c =
+    let l = c .before .before .before in
+    c .before .piece-length .ensures .1 .2 (some-left (l .before .args .count) (l .loop .k) 0 (c .before .before .loop-test .taken))
+
 loop-holds : tie.Need-loop-holds Inv-loop μ-loop
 loop-holds c = adding-first (c .args .format) (c .args .address) (c .args .count) (c .args .place .at) (c .args .place .state) (c .pre .1)
-
-cast-piece-room : tie.Need-cast-piece-room Inv-loop μ-loop
-cast-piece-room c = omega (arith, c .before .before .loop .inv .place, c .before .loop-test .taken, c .before .before .before .pre .0)
-
-add-at : tie.Need-add-at Inv-loop μ-loop
-add-at c = omega (
-  arith,
-  c .before .before .before .loop .inv .place,
-  c .before .before .loop-test .taken,
-  c .before .before .before .before .pre .0,
-  c
-      .before .before .before .loop .inv .few,
-  c .piece-room .ensures .1,
-)
-
-cast-state : tie.Need-cast-state Inv-loop μ-loop
-cast-state c = omega (arith, c .before .before .before .loop .inv .place, c .before .before .loop-test .taken, c .before .before .before .before .pre .0)
-
-add-here : tie.Need-add-here Inv-loop μ-loop
-add-here c = omega (
-  arith,
-  c .before .before .before .loop .inv .place,
-  c .before .before .loop-test .taken,
-  c .before .before .before .before .pre .0,
-  c
-      .before .piece-length .ensures .1 .0,
-)
 
 add-k : tie.Need-add-k Inv-loop μ-loop
 add-k c = omega (arith, c .before .before .loop-test .taken, c .before .before .before .before .pre .0, c .before .piece-length .ensures .1 .0)
 
 loop-less : tie.Need-loop-less Inv-loop μ-loop
 loop-less c =
-    let k = c .before .before .before .loop .k in
-    less-left (c .before .before .before .before .args .count) k (c .before .piece-length .result) (c .before .before .loop-test .taken)
-    (c .before .piece-length .ensures .1 .2 (some-left (c .before .before .before .before .args .count) k 0 (c .before .before .loop-test .taken)))
+    let l = c .before .before .before in
+    less-left (l .before .args .count) (l .loop .k) (c .before .piece-length .result) (c .before .before .loop-test .taken) (some c)
 
 loop-again : tie.Need-loop-again Inv-loop μ-loop
 loop-again c =
-    let a = c .before .before .before .before .args in
-    let n = c .before .piece-length .ensures in
-    adding-on (a .format) (a .address) (a .count) (a .place .at) (a .place .state) (c .before .before .before .loop .inv) (c .before .before .loop-test .taken)
-    (c .before .piece-length .result) (c .piece-room .result) (n .0) (n .1 .1)
-    (n .1 .2 (some-left (a .count) (c .before .before .before .loop .k) 0 (c .before .before .loop-test .taken))) (c .piece-room .ensures .0) (c
-    .piece-room .ensures .1)
+    let l = c .before .before .before in
+    let a = l .before .args in
+    let n = c .before .piece-length in
+    adding-on (a .format) (a .address) (a .count) (a .place .at) (a .place .state) (l .loop .inv) (c .before .before .loop-test .taken) (n .result)
+    (c .piece-room .result) (n .ensures .0) (n .ensures .1 .1) (some c) (c .piece-room .ensures .0) (c .piece-room .ensures .1)
 
 returns : tie.Need-returns Inv-loop μ-loop
 returns c =
@@ -73,5 +53,7 @@ pub block-room-spec : {M : Type 1} → statement M
 block-room-spec =
     tie.close
     (tie.spec
-    Inv-loop μ-loop loop-holds (λ c. search needs) (λ c κs. search needs) cast-piece-room (λ c κs. c .piece-length .ensures .1 .0) add-at cast-state
-    add-here add-k loop-less loop-again returns)
+    Inv-loop μ-loop loop-holds (λ c. search needs) (λ c κs. search needs) (λ c. omega (arith, low (c .before))) (λ c κs. c .piece-length .ensures .1 .0)
+    (λ c. omega (arith, low (c .before .before), c .before .before .before .loop .inv .few, c .piece-room .ensures .1))
+    (λ c. omega (arith, low (c .before .before))) (λ c. omega (arith, low (c .before .before), c .before .piece-length .ensures .1 .0)) add-k loop-less
+    loop-again returns)

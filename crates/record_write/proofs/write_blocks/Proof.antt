@@ -1,5 +1,5 @@
 -- `record_write::write_blocks`: what holds between two blocks is `AllGoing`.
-use Prim.Native.Nat.{_+_, _-_, _/_}
+use Prim.Native.Nat.{_+_, _-_, _/_, _≤_}
 use native.Mathlib.Omega.{arith}
 use lib.ListN.{length, getD}
 use Rattle.record_lines.specs.Laws.Puts.{puts-long}
@@ -16,86 +16,77 @@ Inv-loop format image offsets sizes load text₀ base place₀ i₀ text place i
 abbrev μ-loop : tie.MeasureT-loop
 μ-loop format image offsets sizes load text₀ base place₀ i₀ text place i = length offsets - i
 
+-- the start, seen from the loop
+abbrev start : tie.At-loop Inv-loop μ-loop → tie.Start Inv-loop μ-loop
+start l = l .before .before .before .before .before
+
+-- behind the loop there is room for the end record
+last-room : (c : tie.After-loop Inv-loop μ-loop)
+    → c .before .loop .place .at + length (endBy (start (c .before) .args .format)) ≤ length (c .before .loop .text)
+last-room c =
+    let s = start (c .before) in
+    let a = s .args in
+    end-room (a .format) (a .image .now) (a .offsets .now) (a .sizes .now) (a .load) (a .text .now) (s .pre .0) (c .before .loop .inv) (c .loop-test .left)
+    (s .pre .1)
+
 written : tie.Need-returns Inv-loop μ-loop
 written c =
-    let a = c .before .before .before .before .before .before .before .before .before .before .args in
-    let l = c .before .before .before .before .before .loop in
-    let r = end-room (a .format) (a .image .now) (a .offsets .now) (a .sizes .now) (a .load) (a .text .now) (c .before .before .before .before .before
-    .before .before .before .before .before .pre .0) (l .place) (l .i) (l .text) (l .inv) (c .before .before .before .before .loop-test .left) (c .before
-    .before .before .before .before .before .before .before .before .before .pre .1) in
-    all-done (a .format) (a .image .now) (a .offsets .now) (a .sizes .now) (a .load) (a .text .now) (c .before .before .before .before .before .before
-    .before .before .before .before .pre .0) (l .place) (l .i) (l .text) (l .inv) (c .before .before .before .before .loop-test .left) (omega arith) (c
-    .before .before .put-end .ensures)
+    let behind = c .before .before .before .before in
+    let l = behind .before in
+    let s = start l in
+    let a = s .args in
+    let r = last-room behind in
+    all-done (a .format) (a .image .now) (a .offsets .now) (a .sizes .now) (a .load) (a .text .now) (s .pre .0) (l .loop .inv) (behind .loop-test .left)
+    (omega arith) (c .before .before .put-end .ensures)
 
 loop-holds : tie.Need-loop-holds Inv-loop μ-loop
-loop-holds c = let a = c .before .before .before .before .args in all-first (a .format) (a .image .now) (a .offsets .now) (a .sizes .now) (a .load) (a
-    .text .now) (c .before .before .before .before .pre .0)
+loop-holds c =
+    let s = c .before .before .before .before in
+    let a = s .args in
+    all-first (a .format) (a .image .now) (a .offsets .now) (a .sizes .now) (a .load) (a .text .now) (s .pre .0)
 
 add-end : tie.Need-add-end Inv-loop μ-loop
-add-end c = omega (
-  arith,
-  c .before .shared-slice-known4 .given (c .before .before .before .loop .i),
-  c .shared-slice-known5 .given (c .before .before
-      .before .loop .i),
-)
+add-end c =
+    let i = c .before .before .before .loop .i in
+    omega (arith, c .before .shared-slice-known4 .given i, c .shared-slice-known5 .given i)
 
 write-block-requires : tie.Need-write-block-requires Inv-loop μ-loop
 write-block-requires c κs =
-    let a = c .before .before .before .before .before .before .before .before .before .args in
-    let l = c .before .before .before .before .loop in
-    let f = now-fits (a .format) (a .image .now) (a .offsets .now) (a .sizes .now) (a .load) (a .text .now) (c .before .before .before .before .before
-    .before .before .before .before .pre .0) (l .place) (l .i) (l .text) (l .inv) (c .before .before .before .loop-test .taken) in
-    let g = now-few (a .format) (a .image .now) (a .offsets .now) (a .sizes .now) (a .load) (a .text .now) (c .before .before .before .before .before
-    .before .before .before .before .pre .0) (l .place) (l .i) (l .text) (l .inv) (c .before .before .before .loop-test .taken) in (
+    let l = c .before .before .before .before in
+    let s = start l in
+    let a = s .args in
+    let h = c .before .before .before .loop-test .taken in
+    let f = now-fits (a .image .now) (a .offsets .now) (a .sizes .now) (a .load) (s .pre .0) (l .loop .inv .stands) h in
+    let g = now-few (a .image .now) (a .offsets .now) (a .sizes .now) (a .load) (s .pre .0) (l .loop .inv .stands) h in (
       (omega arith, omega (arith, f .inside), omega (arith, f .below), omega (arith, g)),
-      now-room (a .format) (a .image .now) (a .offsets .now) (a .sizes .now) (a .load) (a .text .now) (c .before .before .before .before .before .before
-          .before .before .before .pre .0) (l .place) (l .i) (l .text) (l .inv) (c .before .before .before .loop-test .taken) (c .before .before .before
-          .before .before .before .before .before .before .pre .1)
-          (getD (a .offsets .now) (l .i) 0 / 8 + getD (a .sizes .now) (l .i) 0 / 8 - getD (a .offsets .now) (l .i) 0 / 8) (omega arith),
+      now-room (a .format) (a .image .now) (a .offsets .now) (a .sizes .now) (a .load) (a .text .now) (s .pre .0) (l .loop .inv) h (s .pre .1)
+          (getD (a .offsets .now) (l .loop .i) 0 / 8 + getD (a .sizes .now) (l .loop .i) 0 / 8 - getD (a .offsets .now) (l .loop .i) 0 / 8) (omega arith),
     )
 
 loop-again : tie.Need-loop-again Inv-loop μ-loop
 loop-again c =
-    let a = c .before .before .before .before .before .before .before .before .before .before .before .before .args in
-    let l = c .before .before .before .before .before .before .before .loop in
-    let n = getD (a .offsets .now) (l .i) 0 / 8 + getD (a .sizes .now) (l .i) 0 / 8 - getD (a .offsets .now) (l .i) 0 / 8 in
-    all-on (a .format) (a .image .now) (a .offsets .now) (a .sizes .now) (a .load) (a .text .now) (c .before .before .before .before .before .before
-    .before .before .before .before .before .before .pre .0) (l .place) (l .i) (l .text) (l .inv) (c .before .before .before .before .before .before
-    .loop-test .taken) n (c .before .before .write-block .result) _ (omega arith)
-    (c .before .before .write-block .ensures .0) (c .before .before .write-block .ensures .1)
-
-sub-put-end : tie.Need-sub-put-end Inv-loop μ-loop
-sub-put-end c =
-    let a = c .before .before .before .before .before .before .args in
-    let l = c .before .loop in
-    let r = end-room (a .format) (a .image .now) (a .offsets .now) (a .sizes .now) (a .load) (a .text .now) (c .before .before .before .before .before
-    .before .pre .0) (l .place) (l .i) (l .text) (l .inv) (c .loop-test .left) (c .before .before .before .before .before .before .pre .1) in
-    omega arith
-
-part-put-end-start : tie.Need-part-put-end-start Inv-loop μ-loop
-part-put-end-start c =
-    let a = c .before .before .before .before .before .before .args in
-    let l = c .before .loop in
-    let r = end-room (a .format) (a .image .now) (a .offsets .now) (a .sizes .now) (a .load) (a .text .now) (c .before .before .before .before .before
-    .before .pre .0) (l .place) (l .i) (l .text) (l .inv) (c .loop-test .left) (c .before .before .before .before .before .before .pre .1) in
-    omega arith
+    let w = c .before .before .write-block in
+    let l = c .before .before .before .before .before .before .before in
+    let s = start l in
+    let a = s .args in
+    let n = getD (a .offsets .now) (l .loop .i) 0 / 8 + getD (a .sizes .now) (l .loop .i) 0 / 8 - getD (a .offsets .now) (l .loop .i) 0 / 8 in
+    all-on (a .format) (a .image .now) (a .offsets .now) (a .sizes .now) (a .load) (a .text .now) (s .pre .0) (l .loop .inv)
+    (c .before .before .before .before .before .before .loop-test .taken) n (w .result) _ (omega arith) (w .ensures .0) (w .ensures .1)
 
 put-end-requires : tie.Need-put-end-requires Inv-loop μ-loop
 put-end-requires c κs =
-    let a = c .before .before .before .before .before .before .before .args in
-    let l = c .before .before .loop in
-    part-room (l .text) (l .place .at) (length (endBy (a .format)))
-    (end-room (a .format) (a .image .now) (a .offsets .now) (a .sizes .now) (a .load) (a .text .now) (c .before .before .before .before .before .before
-    .before .pre .0) (l .place) (l .i) (l .text) (l .inv) (c .before .loop-test .left) (c .before .before .before .before .before .before .before .pre .1))
+    let l = c .before .before in
+    part-room (l .loop .text) (l .loop .place .at) (length (endBy (start l .args .format))) (last-room (c .before))
 
 add-result : tie.Need-add-result Inv-loop μ-loop
 add-result c =
-    let a = c .before .before .before .before .before .before .before .before .before .before .args in
-    let l = c .before .before .before .before .before .loop in
+    let behind = c .before .before .before .before in
+    let l = behind .before in
+    let s = start l in
+    let a = s .args in
     omega (
       arith,
-      last-few (a .format) (a .image .now) (a .offsets .now) (a .sizes .now) (a .load) (a .text .now) (c .before .before .before .before .before .before
-          .before .before .before .before .pre .0) (l .place) (l .i) (l .text) (l .inv) (c .before .before .before .before .loop-test .left),
+      last-few (a .image .now) (a .offsets .now) (a .sizes .now) (a .load) (s .pre .0) (l .loop .inv .stands) (behind .loop-test .left),
       c .before .before .put-end .ensures .long,
       end-few (a .format),
     )
@@ -107,5 +98,5 @@ write-blocks-spec =
     Inv-loop μ-loop loop-holds (λ c. search needs) (λ c. search needs) (λ c. search needs)
     (λ c. let e = c .before .before .before .before .before .before .before .before .pre .0 .paired in omega arith) add-end
     (λ c. omega (arith, c .before .shared-slice-known4 .given (c .before .before .before .loop .i))) write-block-requires (λ c. search needs)
-    (λ c. search needs) loop-again sub-put-end part-put-end-start (λ c. search needs) put-end-requires add-result (λ c. puts-long (written c))
-    (λ c. written c))
+    (λ c. search needs) loop-again (λ c. let r = last-room c in omega arith) (λ c. let r = last-room c in omega arith) (λ c. search needs) put-end-requires
+    add-result (λ c. puts-long (written c)) (λ c. written c))

@@ -16,9 +16,9 @@ use Rattle.says_reason.specs.Theorems.Told.{ChecksumTold, TwiceTold, Bel
 use Rattle.says_reason.specs.Theorems.Told.{given-twice-by-which-line, below-with-lowest}
 
 -- of the two formats that there are
-module _ (format load : ℕ) (text : List ℕ) (known : format < 2) (y : Why) (c : ReasonTold format load text y) where
+module _ (format load : ℕ) (text scratch left : List ℕ) (known : format < 2) (y : Why) (c : ReasonTold format load text scratch y left) where
   -- the line is that of `dk_record_fault`
-  pub same-line : (f : DkFault) {marks left : List ℕ} → FaultTold (readAs format load text) marks f left
+  pub same-line : (f : DkFault) {lent kept : List ℕ} → FaultTold (readAs format load text) lent f kept
       → (y .line ≡ f .line) × ((f .fault ≡ 0 → y .reason ≡ 0) × (y .reason ≡ 0 → f .fault ≡ 0))
   same-line f d = line-is-faults format load text y (known-meets format load text known y c) known f (fault-meets format load text f d)
 
@@ -28,6 +28,10 @@ module _ (format load : ℕ) (text : List ℕ) (known : format < 2) (y : Why) (c
   reason-exactly old new r d =
       refused-4-exactly format load text y (known-meets format load text known y c) old (record { answer = r; lent = new })
       (read-meets format load text old r new d)
+
+  -- lent scratch stay as they are
+  pub reason-keeps-scratch : left ≡ scratch
+  reason-keeps-scratch = c .left
 
   pub checksum-both : y .reason ≡ 5 → ChecksumTold format load text y
   checksum-both = checksum-with-both-values format load text y (known-meets format load text known y c)

@@ -319,7 +319,7 @@ module _ (format load : ℕ) (text : List ℕ) where
   says : format < 2 → (x : Read) → readText format load text ≡ x → ReasonSays format load text (whyOf format load text x)
   says known (sound out) e = s.good (sound-good format load text known out e .1)
   says known (faulty n) e =
-      let told = fault-meets format load text (lineTold (faultOf (readAs format load text))) {marks = []} {left = []}
+      let told = fault-meets format load text (lineTold (faultOf (readAs format load text))) {scratch = []} {left = []}
       (record { answer = refl; left = refl }) in
       let on = goes-on known n told (ap (λ (y : Read). lineTold (faultOf y)) (as-known known ∙ e)) in
       s.bad (on .0) (on .1) (lines-meet text) (by-fault n (fault-within format load text n e) (fault-at format load text n e))
@@ -329,14 +329,14 @@ module _ (format load : ℕ) (text : List ℕ) where
 
 -- ---- the call
 module _ (format load : ℕ) (text : List ℕ) where
-  by-kind : {k : ℕ} {r : Why} → kindOf format ≡ k → ReasonTold format load text r → r ≡ whyOf k load text (readText k load text)
+  by-kind : {k : ℕ} {r : Why} {old new : List ℕ} → kindOf format ≡ k → ReasonTold format load text old r new → r ≡ whyOf k load text (readText k load text)
   by-kind e c = c .answer ∙ ap (λ (k : ℕ). whyOf k load text (readText k load text)) e
 
-  pub dk-reason-meets : (r : Why) → ReasonTold format load text r → DkReasonSays format load text r
+  pub dk-reason-meets : (r : Why) {old new : List ℕ} → ReasonTold format load text old r new → DkReasonSays format load text r
   dk-reason-meets r c = either (eqb format 0)
       (λ t. s.reads-as (s.as-hex (eqb-true format 0 t)) (reason-meets 0 load text (omega arith) r (by-kind {k = 0} (rw t refl) c)))
       (λ t. s.reads-as (s.as-s-records (eqb-false format 0 t)) (reason-meets 1 load text (omega arith) r (by-kind {k = 1} (rw t refl) c)))
 
   -- in one of the two formats it is read as what it is
-  pub known-meets : format < 2 → (r : Why) → ReasonTold format load text r → ReasonSays format load text r
+  pub known-meets : format < 2 → (r : Why) {old new : List ℕ} → ReasonTold format load text old r new → ReasonSays format load text r
   known-meets known r c = reason-meets format load text known r (by-kind (kind-known format known) c)

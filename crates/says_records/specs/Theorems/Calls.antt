@@ -11,7 +11,7 @@ use Rattle.record_write.specs.Outcome.{input, answerOf, textAfter}
 use Rattle.record_write.specs.Srec.{answerSrec, lentSrec}
 use Rattle.record_read.specs.Outcome as fill
 use Rattle.record_read.specs.Outcome.{lent}
-use Rattle.record_read.specs.Theorems.Facts.{marks-aside}
+use Rattle.record_read.specs.Theorems.Facts.{scratch-aside}
 use Rattle.c_answers.specs.Counts.{blocksCount}
 use Rattle.c_answers.specs.declared.DkCount.{DkCount}
 use Rattle.c_answers.specs.declared.DkFault.{DkFault}
@@ -41,8 +41,8 @@ WritesSrec g width old r new =
 
 abbrev pub Reads : ℕ → ℕ → List ℕ → Lent → DkCount → Lent → Type 0
 Reads format load text old r new =
-    ReadTold load (readAs format load text) (lent (old .bytes) (old .offsets) (old .sizes) (old .marks)) r
-    (lent (new .bytes) (new .offsets) (new .sizes) (new .marks))
+    ReadTold load (readAs format load text) (lent (old .bytes) (old .offsets) (old .sizes) (old .scratch)) r
+    (lent (new .bytes) (new .offsets) (new .sizes) (new .scratch))
 
 abbrev written : DkCount → List ℕ → w.Outcome
 written r new = record { answer = r; text = new }
@@ -98,22 +98,22 @@ module _ (format load : ℕ) (text other : List ℕ) (old : Lent) (r q : DkCount
   either-end a x c d =
       both (cr-lf-free a x old (read r new) (read q after) (read-meets format load text old r new c) (read-meets format load other old q after d))
 
-pub either-end-fault : (format load : ℕ) (text other marks kept left : List ℕ) (r q : DkFault) {ls : List (List ℕ)} → Lines text ls → LineEnds text other
-    → FaultTold (readAs format load text) marks r kept → FaultTold (readAs format load other) marks q left → r ≡ q
-either-end-fault format load text other marks kept left r q a x c d =
+pub either-end-fault : (format load : ℕ) (text other scratch kept left : List ℕ) (r q : DkFault) {ls : List (List ℕ)} → Lines text ls → LineEnds text other
+    → FaultTold (readAs format load text) scratch r kept → FaultTold (readAs format load other) scratch q left → r ≡ q
+either-end-fault format load text other scratch kept left r q a x c d =
     cr-lf-fault a x r q (fault-meets format load text r c) (fault-meets format load other q d)
 
--- ---- lent marks: they stay as they are, and nothing else depends on them
+-- ---- lent scratch: they stay as they are, and nothing else depends on them
 module _ (format load : ℕ) (text : List ℕ) where
-  pub read-keeps-marks : (old : Lent) (r : DkCount) (new : Lent) → Reads format load text old r new → new .marks ≡ old .marks
-  read-keeps-marks old r new c =
-      ap (λ (l : fill.Lent). l .marks) (c .left ∙ marks-aside load (old .bytes) (old .offsets) (old .sizes) (old .marks) [] (readAs format load text) .1)
+  pub read-keeps-scratch : (old : Lent) (r : DkCount) (new : Lent) → Reads format load text old r new → new .scratch ≡ old .scratch
+  read-keeps-scratch old r new c =
+      ap (λ (l : fill.Lent). l .scratch) (c .left ∙ scratch-aside load (old .bytes) (old .offsets) (old .sizes) (old .scratch) [] (readAs format load text) .1)
 
-  pub any-marks : (old : Lent) (marks : List ℕ) (r q : DkCount) (new after : Lent) → Reads format load text old r new
-      → Reads format load text (record { bytes = old .bytes; offsets = old .offsets; sizes = old .sizes; marks = marks }) q after
+  pub any-scratch : (old : Lent) (scratch : List ℕ) (r q : DkCount) (new after : Lent) → Reads format load text old r new
+      → Reads format load text (record { bytes = old .bytes; offsets = old .offsets; sizes = old .sizes; scratch = scratch }) q after
       → (r ≡ q) × (new .bytes ≡ after .bytes) × (new .offsets ≡ after .offsets) × (new .sizes ≡ after .sizes)
-  any-marks old marks r q new after c d =
-      let aside = marks-aside load (old .bytes) (old .offsets) (old .sizes) (old .marks) marks (readAs format load text) in
+  any-scratch old scratch r q new after c d =
+      let aside = scratch-aside load (old .bytes) (old .offsets) (old .sizes) (old .scratch) scratch (readAs format load text) in
       let left = c .left ∙ aside .1 in (
         c .answer ∙ ap blocksCount (aside .0) ∙ sym (d .answer),
         ap (λ (l : fill.Lent). l .bytes) left ∙ sym (ap (λ (l : fill.Lent). l .bytes) (d .left)),
@@ -121,12 +121,12 @@ module _ (format load : ℕ) (text : List ℕ) where
         ap (λ (l : fill.Lent). l .sizes) left ∙ sym (ap (λ (l : fill.Lent). l .sizes) (d .left)),
       )
 
-  pub fault-keeps-marks : (marks : List ℕ) (r : DkFault) (left : List ℕ) → FaultTold (readAs format load text) marks r left → left ≡ marks
-  fault-keeps-marks marks r left c = c .left
+  pub fault-keeps-scratch : (scratch : List ℕ) (r : DkFault) (left : List ℕ) → FaultTold (readAs format load text) scratch r left → left ≡ scratch
+  fault-keeps-scratch scratch r left c = c .left
 
-  pub any-marks-fault : (marks other left kept : List ℕ) (r q : DkFault) → FaultTold (readAs format load text) marks r left
+  pub any-scratch-fault : (scratch other left kept : List ℕ) (r q : DkFault) → FaultTold (readAs format load text) scratch r left
       → FaultTold (readAs format load text) other q kept → r ≡ q
-  any-marks-fault marks other left kept r q c d = determined (c .answer) (d .answer)
+  any-scratch-fault scratch other left kept r q c d = determined (c .answer) (d .answer)
 
 -- ---- "A file read from S-records and written as Intel HEX gives the same bytes at the same addresses."
 module _ (format load : ℕ) (text : List ℕ) (old : Lent) (r : DkCount) (new : Lent) (c : Reads format load text old r new) (accepted : r .refusal ≡ 0)

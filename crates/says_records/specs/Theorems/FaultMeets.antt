@@ -57,7 +57,7 @@ module _ (format load : ℕ) where
     fault-says known (sound out) e = s.none (sound-good format load text known out e .1)
     fault-says known (faulty i) e = s.at (goes-before format load text known i e) (no-good-file text i e)
 
-    pub fault-meets : (r : DkFault) {marks left : List ℕ} → FaultTold (readAs format load text) marks r left → FaultSays format load text r
+    pub fault-meets : (r : DkFault) {scratch left : List ℕ} → FaultTold (readAs format load text) scratch r left → FaultSays format load text r
     fault-meets r c =
         subst (FaultSays format load text) (sym (c .answer))
         (elim (decLt format 2) [

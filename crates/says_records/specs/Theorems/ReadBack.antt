@@ -264,7 +264,10 @@ module _ (g : Given) (format : ℕ) (text : List ℕ) (ps : List Piece) (fit : G
 
     -- the blocks stand at the front of the lent lists
     returned : {bytes at ns : List ℕ} → Filled format (g .load) text old ps bytes → Begins os (old .offsets) at → Begins ss (old .sizes) ns
-        → Returned g old (record { answer = record { refusal = 0; place = 0; count = length os }; lent = record { bytes = bytes; offsets = at; sizes = ns; marks = old .marks } })
+        → Returned g old (record {
+          answer = record { refusal = 0; place = 0; count = length os };
+          lent = record { bytes = bytes; offsets = at; sizes = ns; scratch = old .scratch };
+        })
     returned {bytes} {at} {ns} f o n =
         let many = b .as-many in
         record {

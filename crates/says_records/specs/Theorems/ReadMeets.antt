@@ -42,10 +42,10 @@ use Rattle.says_records.specs.Theorems.FaultMeets.{good-sound, sound-goo
 
 module _ (format load : ℕ) (text : List ℕ) (old : Lent) where
   abbrev before : fill.Lent
-  before = lent (old .bytes) (old .offsets) (old .sizes) (old .marks)
+  before = lent (old .bytes) (old .offsets) (old .sizes) (old .scratch)
 
   abbrev seen : fill.Lent → Lent
-  seen l = record { bytes = l .bytes; offsets = l .offsets; sizes = l .sizes; marks = l .marks }
+  seen l = record { bytes = l .bytes; offsets = l .offsets; sizes = l .sizes; scratch = l .scratch }
 
   abbrev outcome : Read → Outcome
   outcome x = record {
@@ -154,8 +154,8 @@ module _ (format load : ℕ) (text : List ℕ) (old : Lent) where
       ]
 
   pub read-meets : (r : DkCount) (new : Lent)
-      → ReadTold load (readAs format load text) (lent (old .bytes) (old .offsets) (old .sizes) (old .marks)) r
-      (lent (new .bytes) (new .offsets) (new .sizes) (new .marks))
+      → ReadTold load (readAs format load text) (lent (old .bytes) (old .offsets) (old .sizes) (old .scratch)) r
+      (lent (new .bytes) (new .offsets) (new .sizes) (new .scratch))
       → ReadSays format load text old (record { answer = r; lent = new })
   read-meets r new c =
       let same : new ≡ outcome (readAs format load text) .lent = ap seen (c .left) in

@@ -2,6 +2,7 @@
 use mathlib.Core.Path.{_≡_, ap, _∙_}
 use mathlib.Core.List.{List}
 use Prim.Native.Nat.{ℕ}
+use lib.ListN.{length}
 use borrow.Author.Needs.{needs}
 use Rattle.record_fault.specs.Reading.{readText}
 use Rattle.record_reason.specs.Reasons.{whyOf}
@@ -10,10 +11,13 @@ use Rattle.denkumari.specs.Reasons.{kindOf, ReasonTold}
 use Rattle.denkumari.proofs.reasons.dk_record_reason.Statement.{statement}
 use Rattle.denkumari.proofs.reasons.dk_record_reason.Tie as tie
 
-as-read : {r : Why} {load k format : ℕ} {text : List ℕ} → r ≡ whyOf k load text (readText k load text) → k ≡ kindOf format → ReasonTold format load text r
-as-read {load = load} {text = text} e h = record { answer = e ∙ ap (λ (n : ℕ). whyOf n load text (readText n load text)) h }
+as-read : {r : Why} {load k format : ℕ} {text old new : List ℕ} → (r ≡ whyOf k load text (readText k load text)) × (new ≡ old) → k ≡ kindOf format
+    → ReasonTold format load text old r new
+as-read {load = load} {text = text} e h = record { answer = e .0 ∙ ap (λ (n : ℕ). whyOf n load text (readText n load text)) h; left = e .1 }
 
 pub dk-record-reason-spec : {M : Type 1} → statement M
 dk-record-reason-spec =
     tie.close
-    (tie.spec (λ c κs. search needs) (λ c κs. search needs) (λ c. as-read (c .reason-of .ensures) (c .before .kind-of .ensures)))
+    (tie.spec
+    (λ c κs. search needs) (λ c κs. search needs) (λ c. ap length (c .before .before .reason-of .ensures .1))
+    (λ c. as-read (c .before .before .reason-of .ensures) (c .before .before .before .before .kind-of .ensures)))

@@ -1,4 +1,4 @@
--- `record_read::walk_marks`: each turn goes on over a window, whose marks are zeros before and behind it.
+-- `record_read::walk_scratch`: each turn goes on over a window, whose scratch is zeros before and behind it.
 use Prim.Native.Nat.{_-_}
 use native.Mathlib.Omega.{arith}
 use mathlib.Core.Path.{_≡_, refl, sym, ap, subst, _∙_}
@@ -11,18 +11,18 @@ use Rattle.record_fault.specs.Trail.{trail}
 use Rattle.record_read.specs.Runs.{isGiven}
 use Rattle.record_read.specs.Steps.{Listed}
 use Rattle.record_read.proofs.Loops.{finding-ends}
-use Rattle.record_read.proofs.Marks.{low-inside, window-marked, window-next, window-past, window-cleared}
+use Rattle.record_read.proofs.Scratch.{low-inside, window-marked, window-next, window-past, window-cleared}
 use Rattle.record_read.proofs.Walks.{listed-starts, listed-few, listed-long, put-long}
 use borrow.Author.Needs.{needs}
-use Rattle.record_read.proofs.walk_marks.Statement.{statement}
-use Rattle.record_read.proofs.walk_marks.Tie as tie
+use Rattle.record_read.proofs.walk_scratch.Statement.{statement}
+use Rattle.record_read.proofs.walk_scratch.Tie as tie
 
 abbrev Inv-loop : tie.InvT-loop
-Inv-loop format text t n load end os₀ ss₀ marks₀ from₀ walk₀ os ss marks from walk =
-    Listed (isGiven load (trail format text n .given)) os₀ ss₀ (walk .run) from (walk .count) os ss × (marks ≡ marks₀)
+Inv-loop format text t n load end os₀ ss₀ scratch₀ from₀ walk₀ os ss scratch from walk =
+    Listed (isGiven load (trail format text n .given)) os₀ ss₀ (walk .run) from (walk .count) os ss × (scratch ≡ scratch₀)
 
 abbrev μ-loop : tie.MeasureT-loop
-μ-loop format text t n load end os₀ ss₀ marks₀ from₀ walk₀ os ss marks from walk = end - from
+μ-loop format text t n load end os₀ ss₀ scratch₀ from₀ walk₀ os ss scratch from walk = end - from
 
 abbrev start : tie.At-loop Inv-loop μ-loop → tie.Start Inv-loop μ-loop
 start l = l .before .before .before .before .before
@@ -50,8 +50,8 @@ walk-window-requires c κs =
     let l = c .before .before .before .before .before .before .before .before in
     let s = start l in
     let a = s .args in
-    let few = s .pre .1 .1 .few in (
-      (omega (arith, inside (c .before .before .before .before .before .before .before)), omega (arith, few, w .mark-window .ensures .long, ap length (l .loop .inv .1))),
+    let low = inside (c .before .before .before .before .before .before .before) in (
+      (omega (arith, low), omega (arith, s .pre .1 .1 .few, w .mark-window .ensures .long, ap length (l .loop .inv .1))),
       record {
         test = test s;
         first = a .offsets .now;
@@ -121,8 +121,8 @@ returns c =
       l .loop .inv .1,
     )
 
-pub walk-marks-spec : {M : Type 1} → statement M
-walk-marks-spec =
+pub walk-scratch-spec : {M : Type 1} → statement M
+walk-scratch-spec =
     tie.close
     (tie.spec
     Inv-loop μ-loop loop-holds (λ c. omega (arith, inside c)) mark-window-requires walk-window-requires (λ c κs. search needs) (λ c κs. search needs)

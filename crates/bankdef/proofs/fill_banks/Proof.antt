@@ -1,4 +1,4 @@
--- `bankdef::fill_chosen` meets its contract. The loop's invariant: going on from here over the banks left gives the whole length.
+-- `bankdef::fill_banks` meets its contract. The loop's invariant: going on from here over the banks left gives the whole length.
 use mathlib.Core.Path.{_≡_, refl, sym, ap, _∙_}
 use Prim.Native.Nat.{ℕ, _-_, _≤_}
 use borrow.Author.Needs.{needs}
@@ -9,8 +9,8 @@ use Rattle.refusal.specs.Limits.{maxOffer}
 use Rattle.bankdef.specs.Check.{noBank}
 use Rattle.bankdef.proofs.Raise.{raiseFrom, chosen}
 use Rattle.bankdef.proofs.Walk.{within, met, ended}
-use Rattle.bankdef.proofs.fill_chosen.Statement.{statement}
-use Rattle.bankdef.proofs.fill_chosen.Tie as tie
+use Rattle.bankdef.proofs.fill_banks.Statement.{statement}
+use Rattle.bankdef.proofs.fill_banks.Tie as tie
 
 abbrev Inv-loop : tie.InvT-loop
 Inv-loop n choice banks gap length₀ i₀ length i =
@@ -44,8 +44,8 @@ returns c =
       search needs,
     )
 
-pub fill-chosen-spec : {M : Type 1} → statement M
-fill-chosen-spec =
+pub fill-banks-spec : {M : Type 1} → statement M
+fill-banks-spec =
     tie.close
     (tie.spec
     Inv-loop μ-loop (λ c κs. search needs) (λ c. (search needs, refl)) (λ c. search needs) (λ c. search needs) (λ c κs. search needs) (λ c. search needs)

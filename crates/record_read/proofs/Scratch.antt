@@ -51,52 +51,52 @@ same-bit want b w h =
     ]
 
 -- All bits of a byte that is passed over.
-passed : (marks : List ℕ) (want j x : ℕ) → want < 2 → getD marks (j / 8) 0 ≡ 255 * (1 - want) → x / 8 ≡ j / 8 → bitAt marks x ≡ 1 - want
+passed : (scratch : List ℕ) (want j x : ℕ) → want < 2 → getD scratch (j / 8) 0 ≡ 255 * (1 - want) → x / 8 ≡ j / 8 → bitAt scratch x ≡ 1 - want
 unfolding bitAt
-passed marks want j x w e s =
-    ap (λ (k : ℕ). bitOf 8 (getD marks k 0) (x % 8)) s ∙ ap (λ (byte : ℕ). bitOf 8 byte (x % 8)) e ∙ same-bit want (x % 8) w (omega arith)
+passed scratch want j x w e s =
+    ap (λ (k : ℕ). bitOf 8 (getD scratch k 0) (x % 8)) s ∙ ap (λ (byte : ℕ). bitOf 8 byte (x % 8)) e ∙ same-bit want (x % 8) w (omega arith)
 
 -- A bit that was read out of its byte.
-pub bit-is : (marks : List ℕ) (j : ℕ) {b : ℕ} → b ≡ bitOf 8 (getD marks (j / 8) 0) (j % 8) → b ≡ bitAt marks j
+pub bit-is : (scratch : List ℕ) (j : ℕ) {b : ℕ} → b ≡ bitOf 8 (getD scratch (j / 8) 0) (j % 8) → b ≡ bitAt scratch j
 unfolding bitAt
-bit-is marks j e = e
+bit-is scratch j e = e
 
 -- What was looked at before bit j.
-pub record Seeking (marks : List ℕ) (want from j : ℕ) : Type 0 where
+pub record Seeking (scratch : List ℕ) (want from j : ℕ) : Type 0 where
   pub onward : from ≤ j
-  pub within : j ≤ 8 * length marks
-  pub others : (x : ℕ) → from ≤ x → x < j → bitAt marks x ≡ 1 - want
+  pub within : j ≤ 8 * length scratch
+  pub others : (x : ℕ) → from ≤ x → x < j → bitAt scratch x ≡ 1 - want
 
-module _ (marks : List ℕ) (want from : ℕ) where
-  pub seeking-starts : from ≤ 8 * length marks → Seeking marks want from from
+module _ (scratch : List ℕ) (want from : ℕ) where
+  pub seeking-starts : from ≤ 8 * length scratch → Seeking scratch want from from
   seeking-starts h = record { onward = omega arith; within = h; others = λ x l u. absurd (omega arith) }
 
-  module _ {j : ℕ} (w : Seeking marks want from j) (h : j < 8 * length marks) where
-    pub seeking-found : bitAt marks j ≡ want → FirstBit marks want from j
+  module _ {j : ℕ} (w : Seeking scratch want from j) (h : j < 8 * length scratch) where
+    pub seeking-found : bitAt scratch j ≡ want → FirstBit scratch want from j
     seeking-found e = record { onward = w .onward; within = w .within; others = w .others; found = λ u. e }
 
-    module _ (small : want < 2) (other : bitAt marks j ≡ want → ⊥) {next : ℕ}
-        (is : next ≡ pick (eqb (getD marks (j / 8) 0) (255 * (1 - want))) (8 * (j / 8) + 8) (j + 1)) where
+    module _ (small : want < 2) (other : bitAt scratch j ≡ want → ⊥) {next : ℕ}
+        (is : next ≡ pick (eqb (getD scratch (j / 8) 0) (255 * (1 - want))) (8 * (j / 8) + 8) (j + 1)) where
       -- by a byte or by a bit
-      to-next : ((next ≡ 8 * (j / 8) + 8) × (getD marks (j / 8) 0 ≡ 255 * (1 - want))) ⊎ (next ≡ j + 1)
+      to-next : ((next ≡ 8 * (j / 8) + 8) × (getD scratch (j / 8) 0 ≡ 255 * (1 - want))) ⊎ (next ≡ j + 1)
       to-next =
-          elim (ℕ-discrete (getD marks (j / 8) 0) (255 * (1 - want))) [
-            | yes e ↦ inl (is ∙ rw (eq-eqb (getD marks (j / 8) 0) (255 * (1 - want)) e), e)
-            | no e ↦ inr (is ∙ rw (ne-eqb (getD marks (j / 8) 0) (255 * (1 - want)) e))
+          elim (ℕ-discrete (getD scratch (j / 8) 0) (255 * (1 - want))) [
+            | yes e ↦ inl (is ∙ rw (eq-eqb (getD scratch (j / 8) 0) (255 * (1 - want)) e), e)
+            | no e ↦ inr (is ∙ rw (ne-eqb (getD scratch (j / 8) 0) (255 * (1 - want)) e))
           ]
 
-      here : bitAt marks j ≡ 1 - want
+      here : bitAt scratch j ≡ 1 - want
       here =
-          let two = bitAt-lt marks j in
-          elim (ℕ-discrete (bitAt marks j) want) [
+          let two = bitAt-lt scratch j in
+          elim (ℕ-discrete (bitAt scratch j) want) [
             | yes e ↦ absurd (other e)
-            | no e ↦ elim (decLt (bitAt marks j) want) [ yes p ↦ omega (arith, two) | no p ↦ apart two p e ]
+            | no e ↦ elim (decLt (bitAt scratch j) want) [ yes p ↦ omega (arith, two) | no p ↦ apart two p e ]
           ]
         where
-          apart : bitAt marks j < 2 → (bitAt marks j < want → ⊥) → (bitAt marks j ≡ want → ⊥) → bitAt marks j ≡ 1 - want
-          apart two p e = elim (decLt want (bitAt marks j)) [ yes q ↦ omega arith | no q ↦ absurd (e (omega arith)) ]
+          apart : bitAt scratch j < 2 → (bitAt scratch j < want → ⊥) → (bitAt scratch j ≡ want → ⊥) → bitAt scratch j ≡ 1 - want
+          apart two p e = elim (decLt want (bitAt scratch j)) [ yes q ↦ omega arith | no q ↦ absurd (e (omega arith)) ]
 
-      pub seeking-on : Seeking marks want from next
+      pub seeking-on : Seeking scratch want from next
       seeking-on =
           ⊎-elim
           (λ b.
@@ -106,7 +106,7 @@ module _ (marks : List ℕ) (want from : ℕ) where
             others = λ x l u.
                 elim (decLt x j) [
                   | yes p ↦ w .others x l p
-                  | no p ↦ passed marks want j x small (b .1) (omega (arith, b .0))
+                  | no p ↦ passed scratch want j x small (b .1) (omega (arith, b .0))
                 ];
           })
           (λ b.
@@ -116,7 +116,7 @@ module _ (marks : List ℕ) (want from : ℕ) where
             others = λ x l u.
                 elim (decLt x j) [
                   | yes p ↦ w .others x l p
-                  | no p ↦ let e : x ≡ j = omega (arith, b) in ap (bitAt marks) e ∙ here
+                  | no p ↦ let e : x ≡ j = omega (arith, b) in ap (bitAt scratch) e ∙ here
                 ];
           })
           to-next
@@ -124,31 +124,31 @@ module _ (marks : List ℕ) (want from : ℕ) where
       pub seeking-less : j < next
       seeking-less = ⊎-elim (λ b. omega (arith, b .0)) (λ b. omega (arith, b)) to-next
 
-  pub seeking-ends : {j : ℕ} → Seeking marks want from j → 8 * length marks ≤ j → FirstBit marks want from j
+  pub seeking-ends : {j : ℕ} → Seeking scratch want from j → 8 * length scratch ≤ j → FirstBit scratch want from j
   seeking-ends w h = record { onward = w .onward; within = w .within; others = w .others; found = λ u. absurd (omega arith) }
 
 -- ---- a window
 
-module _ (marks : List ℕ) (from j first end : ℕ) (f : FirstBit marks 1 j first) (g : FirstBit marks 0 first end) where
+module _ (scratch : List ℕ) (from j first end : ℕ) (f : FirstBit scratch 1 j first) (g : FirstBit scratch 0 first end) where
   -- nothing marked from there on
-  none-marked : first ≡ end → first ≡ 8 * length marks
+  none-marked : first ≡ end → first ≡ 8 * length scratch
   none-marked e =
-      elim (decLt first (8 * length marks)) [
+      elim (decLt first (8 * length scratch)) [
         | yes p ↦
             let one = f .found p in
-            let zero : bitAt marks first ≡ 0 = ap (bitAt marks) e ∙ g .found (omega arith) in
+            let zero : bitAt scratch first ≡ 0 = ap (bitAt scratch) e ∙ g .found (omega arith) in
             absurd (omega arith)
         | no p ↦ omega (arith, f .within)
       ]
 
-  pub window-less : j < 8 * length marks → j < end
+  pub window-less : j < 8 * length scratch → j < end
   window-less h =
       elim (decLt first end) [
         | yes p ↦ omega (arith, f .onward)
         | no p ↦ let e : first ≡ end = omega (arith, g .onward) in let z = none-marked e in omega arith
       ]
 
-  module _ (test : ℕ → Bool) (os₀ ss₀ : List ℕ) (m : MarkedBy test from marks) {r : Run} {count : ℕ} {os ss : List ℕ}
+  module _ (test : ℕ → Bool) (os₀ ss₀ : List ℕ) (m : MarkedBy test from scratch) {r : Run} {count : ℕ} {os ss : List ℕ}
       (w : Listed test os₀ ss₀ r (from + j) count os ss) where
     gap : (x : ℕ) → from + j ≤ x → x < from + first → test x ≡ false
     gap x l u =
@@ -176,35 +176,35 @@ abbrev pub walk : Run → ℕ → Walk
 walk r count = record { run = r; count = count }
 
 -- How far the walk over a window came, from whatever it began with.
-pub record Passing (marks : List ℕ) (from : ℕ) (w : Walk) (os ss : List ℕ) (r : Run) (count j : ℕ) (os′ ss′ : List ℕ) : Type 0 where
-  pub inside : j ≤ 8 * length marks
-  pub listed : Passes marks from w os ss (walk r count) (from + j) os′ ss′
+pub record Passing (scratch : List ℕ) (from : ℕ) (w : Walk) (os ss : List ℕ) (r : Run) (count j : ℕ) (os′ ss′ : List ℕ) : Type 0 where
+  pub inside : j ≤ 8 * length scratch
+  pub listed : Passes scratch from w os ss (walk r count) (from + j) os′ ss′
 
-module _ (marks : List ℕ) (from : ℕ) (w : Walk) (os ss : List ℕ) where
-  pub passing-starts : Passing marks from w os ss (w .run) (w .count) 0 os ss
+module _ (scratch : List ℕ) (from : ℕ) (w : Walk) (os ss : List ℕ) where
+  pub passing-starts : Passing scratch from w os ss (w .run) (w .count) 0 os ss
   passing-starts =
       record {
         inside = omega arith;
         listed = λ test os₀ ss₀ m l. subst (λ (x : ℕ). Listed test os₀ ss₀ (w .run) x (w .count) os ss) (sym (add-zero from)) l;
       }
 
-  module _ {r : Run} {count j : ℕ} {os′ ss′ : List ℕ} (p : Passing marks from w os ss r count j os′ ss′) where
-    pub passing-on : (first end : ℕ) → FirstBit marks 1 j first → FirstBit marks 0 first end → {count″ : ℕ} {os″ ss″ : List ℕ} {r″ : Run}
+  module _ {r : Run} {count j : ℕ} {os′ ss′ : List ℕ} (p : Passing scratch from w os ss r count j os′ ss′) where
+    pub passing-on : (first end : ℕ) → FirstBit scratch 1 j first → FirstBit scratch 0 first end → {count″ : ℕ} {os″ ss″ : List ℕ} {r″ : Run}
         → Put (map inBits (closedBy r (run (from + first) (from + end)))) count os′ ss′ count″ os″ ss″
-        → r″ ≡ joinedBy r (run (from + first) (from + end)) → from + end ≤ 8589934592 → Passing marks from w os ss r″ count″ end os″ ss″
+        → r″ ≡ joinedBy r (run (from + first) (from + end)) → from + end ≤ 8589934592 → Passing scratch from w os ss r″ count″ end os″ ss″
     passing-on first end f g put e small =
         record {
           inside = g .within;
-          listed = λ test os₀ ss₀ m l. window-on marks from j first end f g test os₀ ss₀ m (p .listed test os₀ ss₀ m l) put e small;
+          listed = λ test os₀ ss₀ m l. window-on scratch from j first end f g test os₀ ss₀ m (p .listed test os₀ ss₀ m l) put e small;
         }
 
-    pub passing-ends : 8 * length marks ≤ j → Passes marks from w os ss (walk r count) (from + 8 * length marks) os′ ss′
+    pub passing-ends : 8 * length scratch ≤ j → Passes scratch from w os ss (walk r count) (from + 8 * length scratch) os′ ss′
     passing-ends h =
-        subst (λ (x : ℕ). Passes marks from w os ss (walk r count) (from + x) os′ ss′) (le-antisymm (p .inside) h) (p .listed)
+        subst (λ (x : ℕ). Passes scratch from w os ss (walk r count) (from + x) os′ ss′) (le-antisymm (p .inside) h) (p .listed)
 
 -- Whatever is underway has room for its next block.
-module _ {marks : List ℕ} {from : ℕ} {w : Walk} {os ss : List ℕ} (u : Underway marks from w os ss) {r : Run} {count j : ℕ} {os′ ss′ : List ℕ}
-    (p : Passing marks from w os ss r count j os′ ss′) where
+module _ {scratch : List ℕ} {from : ℕ} {w : Walk} {os ss : List ℕ} (u : Underway scratch from w os ss) {r : Run} {count j : ℕ} {os′ ss′ : List ℕ}
+    (p : Passing scratch from w os ss r count j os′ ss′) where
   reached : Listed (u .test) (u .first) (u .second) r (from + j) count os′ ss′
   reached = p .listed (u .test) (u .first) (u .second) (u .marked) (u .listed)
 
@@ -222,8 +222,8 @@ module _ {marks : List ℕ} {from : ℕ} {w : Walk} {os ss : List ℕ} (u : Unde
 pub low-inside : {format : ℕ} {text : List ℕ} {n load end from : ℕ} → Ready format text n load end → from < end → load + from < 4294967296
 low-inside r h = omega (arith, r .ends, r .low)
 
-pub some-marks : (marks : List ℕ) → (length marks ≡ 0 → ⊥) → 0 < length marks
-some-marks marks h = elim (decLt 0 (length marks)) [ yes p ↦ p | no p ↦ absurd (h (omega arith)) ]
+pub some-scratch : (scratch : List ℕ) → (length scratch ≡ 0 → ⊥) → 0 < length scratch
+some-scratch scratch h = elim (decLt 0 (length scratch)) [ yes p ↦ p | no p ↦ absurd (h (omega arith)) ]
 
 -- A byte that is not free is given.
 not-free : (l : List Piece) (x : ℕ) → isFree l x ≡ false → given l x ≡ true
@@ -251,7 +251,7 @@ module _ (format : ℕ) (text : List ℕ) (n load : ℕ) (once : Once format tex
   abbrev pieces : List Piece
   pieces = trail format text n .given
 
-  module _ {low : ℕ} {marks after : List ℕ} {r : Window} (w : Windowed format text n low marks after r) where
+  module _ {low : ℕ} {scratch after : List ℕ} {r : Window} (w : Windowed format text n low scratch after r) where
     every-line : r .line ≡ n
     every-line = elim (decLt (r .line) n) [ yes p ↦ absurd (clash (once (r .line) p) (w .twice p)) | no p ↦ omega (arith, w .few) ]
 
@@ -262,12 +262,12 @@ module _ (format : ℕ) (text : List ℕ) (n load : ℕ) (once : Once format tex
         ∙ ap (λ (b : ℕ). eqb b 1)
         (sym (subst (λ (k : ℕ). bitAt after j ≡ pick (isFree (trail format text k .given) (low + j)) 0 1) every-line (w .marked j h)))
 
-    -- cleared behind the window, the marks are what they were
-    pub window-cleared : {first last : List ℕ} → marks ≡ first → first ≡ cleared first → last ≡ cleared after → last ≡ first
+    -- cleared behind the window, the scratch is what it was
+    pub window-cleared : {first last : List ℕ} → scratch ≡ first → first ≡ cleared first → last ≡ cleared after → last ≡ first
     window-cleared e z c = c ∙ ap (λ (k : ℕ). replicate k 0) (w .long ∙ ap length e) ∙ sym z
 
-    module _ (from : ℕ) (e : low ≡ load + from) (few : length marks ≤ 536870912) (inside : low < 4294967296) where
-      pub window-next : {to : ℕ} → to ≡ r .next - load → from + 8 * length marks ≤ to
+    module _ (from : ℕ) (e : low ≡ load + from) (few : length scratch ≤ 536870912) (inside : low < 4294967296) where
+      pub window-next : {to : ℕ} → to ≡ r .next - load → from + 8 * length scratch ≤ to
       window-next t = omega (arith, w .onward)
 
       pub window-past : (os₀ ss₀ : List ℕ) {q : Run} {count : ℕ} {os ss : List ℕ} {to : ℕ} → to ≡ r .next - load
