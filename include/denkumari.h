@@ -416,10 +416,11 @@ enum dk_format { DK_INTEL_HEX = 0, DK_S_RECORDS = 1 };
 /* Reads a file of records: the byte at address a goes to bytes[a - load], and every other byte stays as it was. Block i is the sizes[i] bits from bit
  * offsets[i] on, ascending, touching ones joined; `count` is how many there are. S-records may have either width. Refused 4 (place 0) where the format is
  * neither of the two or the file bad: a line, a byte given twice or below `load`; then 14 where `bytes` (place 0) or a list (place 2) is too short.
- * The call answers the same whatever `scratch` is, and leaves it as it was; it may be empty. Time grows with the text where records ascend, descend, or stand in
+ * The call answers the same whatever `scratch` is, and leaves it as it was; it may be empty. Time grows with the text where records ascend, descend or stand in
  * a few blocks in any order. Where many records jump it grows with the text too if `scratch` is all zeros and has a byte for every 8 addresses from the lowest
- * that is given to the highest; with fewer zeros the text is read once more for each 8 * scratch_len of those addresses that has a byte; with none, or where
- * `scratch` has a byte that is not zero, time grows with the square of the number of lines. It needs less than 2 KiB of stack (1.2 KiB). */
+ * that is given to the highest; with fewer zeros the text is read once more for each 8 * scratch_len of those addresses that has a byte; with none, with more
+ * than 2^29 bytes, or where `scratch` has a byte that is not zero, time grows with the square of the number of lines. It needs less than 2 KiB of stack
+ * (1.2 KiB). */
 struct dk_count dk_read_records(uint8_t format, const uint8_t *text, size_t text_len, uint32_t load,
                                 uint8_t *bytes, size_t bytes_len,
                                 uint64_t *offsets, size_t offsets_len,

@@ -366,10 +366,13 @@ fn plan_walk(
         sums = sums_after(node, out, sums);
         let after = step.after;
         walk.at[bank as usize] = after;
-        let lost = lost_after(walk.lost[bank as usize], step.skipped);
-        walk.lost[bank as usize] = lost;
         walk.bank = bank;
         i += 1;
+        if step.skipped.bits == 0 {
+            continue;
+        }
+        let lost = lost_after(walk.lost[bank as usize], step.skipped);
+        walk.lost[bank as usize] = lost;
     }
     reached(sums, walk)
 }

@@ -161,10 +161,13 @@ fn write_walk(
         );
         let after = step.after;
         walk.at[bank as usize] = after;
-        let lost = lost_after(walk.lost[bank as usize], step.skipped);
-        walk.lost[bank as usize] = lost;
         walk.bank = bank;
         i += 1;
+        if step.skipped.bits == 0 {
+            continue;
+        }
+        let lost = lost_after(walk.lost[bank as usize], step.skipped);
+        walk.lost[bank as usize] = lost;
     }
     walk
 }

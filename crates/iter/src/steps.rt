@@ -50,14 +50,10 @@ fn sum_after(sum: u64, by: u32) -> u64
     }
 }
 
-// "the sum of bits lost", and that of whole units, with what one node more skips. Nearly all skip nothing: no bits, and then no units.
+// "the sum of bits lost", and that of whole units, with what one node more skips
 pub fn lost_after(lost: Lost, skipped: Skipped) -> Lost
-    requires { ⌜ (skipped .bits ≡ 0 → skipped .units ≡ 0) ⌝ }
     ensures { λ r. ⌜ r ≡ lostAfter lost skipped ⌝ }
 {
-    if skipped.bits == 0 {
-        return lost;
-    }
     Lost {
         bits: sum_after(lost.bits, skipped.bits),
         units: sum_after(lost.units, skipped.units),

@@ -129,7 +129,6 @@ pub fn cross(def: Bankdef, at: Pos, node: Node) -> Crossing
 // The walk with a bank's new position, and what it lost.
 fn moved_walk(walk: Walk, bank: u64, to: Pos, skipped: Skipped) -> Walk
     requires { ⌜ bank < maxBanks ⌝ }
-    requires { ⌜ (skipped .bits ≡ 0 → skipped .units ≡ 0) ⌝ }
     ensures { λ r. ⌜ r ≡ kept walk bank to skipped ⌝ }
 {
     let mut at = walk.at;

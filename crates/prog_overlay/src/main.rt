@@ -38,7 +38,7 @@ const SOURCE: usize = 1_048_577;
 const BYTES: usize = 524_288;
 
 // A mark for each of those bytes, by which a file in any order is read quickly.
-const MARKS: usize = 65_536;
+const SCRATCH: usize = 65_536;
 
 const BLOCKS: usize = 4_096;
 
@@ -511,7 +511,7 @@ fn load_file(
     if source.len() >= SOURCE {
         return Blocks::Refused(Refusal::Malformed(0));
     }
-    let mut scratch = [0u8; MARKS];
+    let mut scratch = [0u8; SCRATCH];
     record_read::read(0, source, load, bytes, offsets, sizes, &mut scratch)
 }
 
@@ -524,7 +524,7 @@ fn put_fault(load: u32, source: &[u8], at: usize, out: &mut [u8]) -> usize
     if source.len() >= SOURCE {
         return at;
     }
-    let mut scratch = [0u8; MARKS];
+    let mut scratch = [0u8; SCRATCH];
     let fault = record_fault::line_at_fault(0, source, load, &mut scratch);
     match fault {
         Fault::Good => at,

@@ -15,14 +15,14 @@ ghost use Rattle.prog_reason.specs.Program.{reasonText, Told};
 const SOURCE: usize = 3_276_801;
 
 // Marks for half a million addresses, by which records in any order are held against each other quickly.
-const MARKS: usize = 65_536;
+const SCRATCH: usize = 65_536;
 
 // The line for a file, put at the front of a buffer that holds every such line: how long it is.
 fn put(kind: u8, load: u32, source: &[u8], out: &mut [u8]) -> usize
     requires { ⌜ lineRoom ≤ length (now out) ⌝ }
     ensures { λ r. ⌜ Stands (reasonText kind load (now (source .entry))) (now (out .entry)) r (now (out .exit)) ⌝ }
 {
-    let mut scratch = [0u8; MARKS];
+    let mut scratch = [0u8; SCRATCH];
     let w = record_reason::reason_of(kind, source, load, &mut scratch);
     let numbers = [w.reason, w.line, w.first, w.second];
     print_text::write_line(out, 0, b"reason", &numbers)

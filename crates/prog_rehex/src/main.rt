@@ -31,7 +31,7 @@ const BYTES: usize = 1_048_576;
 const BLOCKS: usize = 4_096;
 
 // A mark for each of those bytes, by which a file in any order is read quickly.
-const MARKS: usize = 131_072;
+const SCRATCH: usize = 131_072;
 
 // Room for those bytes as records of 16 in the longest kind, and for a short record more in each block and 64 KiB line.
 const TEXT: usize = 3_145_728;
@@ -55,7 +55,7 @@ fn turn(
         Turns format load (now (bytes .entry)) (readText kind load (now (source .entry))) (now (out .entry)) r (now (out .exit))
         ⌝ }
 {
-    let mut scratch = [0u8; MARKS];
+    let mut scratch = [0u8; SCRATCH];
     let found = record_read::read(kind, source, load, bytes, offsets, sizes, &mut scratch);
     match found {
         Blocks::Refused(why) => Written::Refused(why),
@@ -84,7 +84,7 @@ fn put_fault(why: Refusal, kind: u8, load: u32, source: &[u8], out: &mut [u8]) -
         ⌝ }
 {
     let at = prog_args::put_refusal(why, out);
-    let mut scratch = [0u8; MARKS];
+    let mut scratch = [0u8; SCRATCH];
     let fault = record_fault::line_at_fault(kind, source, load, &mut scratch);
     match fault {
         Fault::Good => at,

@@ -566,8 +566,8 @@ fn usable(scratch: &[u8]) -> bool
     all_zero(scratch)
 }
 
-// Reads the lines up to the end record, or to the first at fault. Marks are used where many lines jump, if there are any and all are 0, and are 0 again
-// behind the call; without them each line that jumps has the lines before it read again.
+// Reads the lines up to the end record, or to the first at fault. Scratch is used where many lines jump, if there is any and all of it is 0, and is 0 again
+// behind the call; without it each line that jumps has the lines before it read again.
 pub fn scan_lines(format: u8, text: &[u8], t: &[u8; 256], load: u32, scratch: &mut [u8]) -> Scan
     requires { ⌜ Spells (now t) ⌝ }
     ensures { λ r. ⌜ ScanIs format load (now (text .entry)) r × (now (scratch .exit) ≡ now (scratch .entry)) ⌝ }

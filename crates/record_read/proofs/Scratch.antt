@@ -1,4 +1,4 @@
--- Marks: the first bit of a kind, a window gone through, and a file's windows.
+-- Scratch: the first bit of a kind, a window gone through, and a file's windows.
 use mathlib.Core.Path.{_≡_, refl, sym, ap, subst, _∙_}
 use mathlib.Core.Bool.{Bool, true, false}
 use mathlib.Core.List.{List, [], _∷_, map}

@@ -82,7 +82,7 @@ pub record Listed (test : ℕ → Bool) (os₀ ss₀ : List ℕ) (r : Run) (from
 
 -- ---- scratch
 
--- Marks that may be used: some, no more than there are addresses, and all of them zeros.
+-- Scratch that may be used: some, no more bits than there are addresses, and all of it zeros.
 pub record Usable (scratch : List ℕ) : Type 0 where
   pub some : 0 < length scratch
   pub few : length scratch ≤ 536870912

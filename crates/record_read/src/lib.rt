@@ -44,7 +44,7 @@ const BLOCKS: u64 = 2;
 const FEW: u64 = 16;
 
 // Scratch with a bit for every address takes so many bytes.
-const MARKS: usize = 536_870_912;
+const SCRATCH: usize = 536_870_912;
 
 // An address, counted from the load address; 0 for one below it.
 fn above(address: u64, load: u32) -> u64
@@ -325,7 +325,7 @@ fn by_scratch(ascend: bool, parts: u64, scratch: &[u8]) -> bool
     if scratch.len() == 0 {
         return false;
     }
-    if scratch.len() > MARKS {
+    if scratch.len() > SCRATCH {
         return false;
     }
     record_fault::all_zero(scratch)

@@ -24,7 +24,7 @@ use refusal::STABLE;
 use refusal::SWITCH;
 use refusal::UNRESOLVED;
 ghost use mathlib.Core.Path.{_≡_};
-ghost use mathlib.Core.Bool.{false};
+ghost use mathlib.Core.Bool.{true, false};
 ghost use Prim.Native.Nat.{ℕ, max};
 ghost use lib.ListN.{length};
 ghost use Rattle.iter.specs.Pace.{seenBy};
@@ -184,10 +184,13 @@ fn walk_alone(
         merged = larger(merged, node_state(def, node, now, step, is_first));
         let after = step.after;
         walk.at[bank as usize] = after;
-        let lost = lost_after(walk.lost[bank as usize], step.skipped);
-        walk.lost[bank as usize] = lost;
         walk.bank = bank;
         i += 1;
+        if step.skipped.bits == 0 {
+            continue;
+        }
+        let lost = lost_after(walk.lost[bank as usize], step.skipped);
+        walk.lost[bank as usize] = lost;
     }
     Passed {
         pass: Pass::State(merged),
@@ -225,6 +228,13 @@ pub fn pass_alone(
     );
     let pass = passed.pass;
     pass
+}
+
+// Whether neither of two steps skips any bits.
+fn skip_nothing(step: Paced, other: Paced) -> bool
+    ensures { λ r. ⌜ (r ≡ true → (step .skipped .bits ≡ 0) × (other .skipped .bits ≡ 0)) ⌝ }
+{
+    step.skipped.bits == 0 && other.skipped.bits == 0
 }
 
 // The walk of a pass beside the walk of the pass before, which reads another row: two walks side by side, in one bank after another.
@@ -272,15 +282,18 @@ fn walk_beside(
         merged = larger(merged, node_state(def, node, now, before, false));
         let after = step.after;
         walk.at[bank as usize] = after;
-        let lost = lost_after(walk.lost[bank as usize], step.skipped);
-        walk.lost[bank as usize] = lost;
         walk.bank = bank;
         let after_before = before.after;
         old.at[bank as usize] = after_before;
-        let lost_before = lost_after(old.lost[bank as usize], before.skipped);
-        old.lost[bank as usize] = lost_before;
         old.bank = bank;
         i += 1;
+        if skip_nothing(step, before) {
+            continue;
+        }
+        let lost = lost_after(walk.lost[bank as usize], step.skipped);
+        walk.lost[bank as usize] = lost;
+        let lost_before = lost_after(old.lost[bank as usize], before.skipped);
+        old.lost[bank as usize] = lost_before;
     }
     Passed {
         pass: Pass::State(merged),

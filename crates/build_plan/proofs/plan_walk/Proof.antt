@@ -7,12 +7,11 @@ use borrow.Author.Needs.{needs}
 use Rattle.refusal.specs.Limits.{maxNodes}
 use Rattle.refusal.specs.declared.Refusal.{Refusal}
 use Rattle.refusal.specs.declared.Verdict.the-variants.{Accepted, Refused}
-use Rattle.iter.specs.Laws.Padding.{pace-nothing}
 use Rattle.lists.specs.Lists.{Row}
 use Rattle.resolver.specs.Once.{Program}
 use Rattle.resolver.specs.Walking.{Walks}
 use Rattle.overlap_checker.specs.Lent.{lent as store}
-use Rattle.build_sights.specs.Theorems.Sights.{bank-listed, paced-is-visit, paced-next}
+use Rattle.build_sights.specs.Theorems.Sights.{bank-listed, paced-is-visit, paced-next, paced-still}
 use Rattle.build_sights.specs.Visits.{programOf, rowOf}
 use Rattle.build_plan.specs.declared.Plan.{Plan}
 use Rattle.build_plan.proofs.PlanLaws.{Going, begins, settles, goes-on, ends, ended}
@@ -78,7 +77,7 @@ few c = entry c .pre .0 .1
 
 -- the walk after node i, with its step stored
 next : (c : tie.After-lost-after Inv-loop μ-loop) →
-    let g = paced (c .before .before .before .before .before .before) in
+    let g = paced (c .before .before .before .before .before .before .before .before) in
     let b = banked g in
     let h = head b in
     Walks (given h) (row h) (h .loop .i + 1) (record {
@@ -87,7 +86,7 @@ next : (c : tie.After-lost-after Inv-loop μ-loop) →
       bank = b .bank-after .result;
     })
 next c =
-    let g = paced (c .before .before .before .before .before .before) in
+    let g = paced (c .before .before .before .before .before .before .before .before) in
     let b = banked g in
     let h = head b in
     rw (c .lost-after .ensures)
@@ -176,27 +175,13 @@ mul-after c = omega (arith, listed (banked (paced (c .before .before .before .be
 element-set-from-after : tie.Need-element-set-from-after Inv-loop μ-loop
 element-set-from-after c = let b = banked (paced (c .before .before .before .before)) in omega (arith, listed b, head b .loop .inv .walks .sixteen)
 
-mul-lost-after : tie.Need-mul-lost-after Inv-loop μ-loop
-mul-lost-after c = omega (arith, listed (banked (paced (c .before .before .before .before))))
-
-element-copy-out-lost-after : tie.Need-element-copy-out-lost-after Inv-loop μ-loop
-element-copy-out-lost-after c = let b = banked (paced (c .before .before .before .before)) in omega (arith, listed b, head b .loop .inv .walks .sums)
-
-lost-after-requires : tie.Need-lost-after-requires Inv-loop μ-loop
-lost-after-requires c κs = pace-nothing _ _ _ (paced (c .before .before .before .before .before) .pace .ensures)
-
-mul-lost : tie.Need-mul-lost Inv-loop μ-loop
-mul-lost c = omega (arith, listed (banked (paced (c .before .before .before .before .before .before))))
-
-element-set-from-lost : tie.Need-element-set-from-lost Inv-loop μ-loop
-element-set-from-lost c = let b = banked (paced (c .before .before .before .before .before .before)) in omega (arith, listed b, head b .loop .inv .walks .sums)
-
 add-i : tie.Need-add-i Inv-loop μ-loop
-add-i c = let b = banked (paced (c .before .before .before .before .before .before)) in omega (arith, b .before .before .loop-test .taken, few (head b))
+add-i c = let b = banked (paced (c .before .before .before .before)) in omega (arith, b .before .before .loop-test .taken, few (head b))
 
 loop-less : tie.Need-loop-less Inv-loop μ-loop
 loop-less c = let b = banked (paced (c .before .before .before .before .before .before)) in omega (arith, b .before .before .loop-test .taken)
 
+-- a node that skips nothing
 loop-again : tie.Need-loop-again Inv-loop μ-loop
 loop-again c =
     let o = c .before .before .before .before .before .before in
@@ -208,7 +193,47 @@ loop-again c =
     _ _ _ refl (g .pace .ensures) (o .before .before .before .before .get-output-position .ensures .0) refl in
     let sums = c .before .before .before .sums-after .ensures in
     goes-on (given h) (row h) (entry h .args .closed) (entry h .args .fill) (h .loop .i) (h .loop .inv) _ v (o .place-paced .ensures .0)
-    (b .before .before .loop-test .taken) (c .before .before .before .before .enum-told .given .1) (next c) (o .place-paced .ensures .1) (sums .0)
+    (b .before .before .loop-test .taken) (c .before .before .before .before .enum-told .given .1)
+    (paced-still (given h) (entry h .pre .1 .0) (room h) (row h) (h .loop .i) (h .loop .inv .walks) (b .before .node-at .ensures) (b .bank-after .ensures)
+    _ _ _ refl (g .pace .ensures) (c .if1 .taken))
+    (o .place-paced .ensures .1) (sums .0)
+    (sums .1 .0) (sums .1 .1)
+
+mul-lost-after : tie.Need-mul-lost-after Inv-loop μ-loop
+mul-lost-after c = omega (arith, listed (banked (paced (c .before .before .before .before .before .before))))
+
+element-copy-out-lost-after : tie.Need-element-copy-out-lost-after Inv-loop μ-loop
+element-copy-out-lost-after c =
+    let b = banked (paced (c .before .before .before .before .before .before)) in
+    omega (arith, listed b, head b .loop .inv .walks .sums)
+
+lost-after-requires : tie.Need-lost-after-requires Inv-loop μ-loop
+lost-after-requires c κs = search needs
+
+mul-lost : tie.Need-mul-lost Inv-loop μ-loop
+mul-lost c = omega (arith, listed (banked (paced (c .before .before .before .before .before .before .before .before))))
+
+element-set-from-lost : tie.Need-element-set-from-lost Inv-loop μ-loop
+element-set-from-lost c =
+    let b = banked (paced (c .before .before .before .before .before .before .before .before)) in
+    omega (arith, listed b, head b .loop .inv .walks .sums)
+
+loop-less-2 : tie.Need-loop-less-2 Inv-loop μ-loop
+loop-less-2 c = let b = banked (paced (c .before .before .before .before .before .before .before .before)) in omega (arith, b .before .before .loop-test .taken)
+
+loop-again-2 : tie.Need-loop-again-2 Inv-loop μ-loop
+loop-again-2 c =
+    let o = c .before .before .before .before .before .before .before .before in
+    let g = paced o in
+    let b = banked g in
+    let h = head b in
+    let v =
+    paced-is-visit (given h) (entry h .pre .1 .0) (room h) (row h) (h .loop .i) (h .loop .inv .walks) (b .before .node-at .ensures) (b .bank-after .ensures)
+    _ _ _ refl (g .pace .ensures) (o .before .before .before .before .get-output-position .ensures .0) refl in
+    let sums = c .before .before .before .before .before .sums-after .ensures in
+    goes-on (given h) (row h) (entry h .args .closed) (entry h .args .fill) (h .loop .i) (h .loop .inv) _ v (o .place-paced .ensures .0)
+    (b .before .before .loop-test .taken) (c .before .before .before .before .before .before .enum-told .given .1) (next c)
+    (o .place-paced .ensures .1) (sums .0)
     (sums .1 .0) (sums .1 .1)
 
 reached-requires : tie.Need-reached-requires Inv-loop μ-loop
@@ -251,13 +276,15 @@ plan-walk-spec =
     sums-after-requires
     mul-after
     element-set-from-after
+    add-i
+    loop-less
+    loop-again
     mul-lost-after
     element-copy-out-lost-after
     lost-after-requires
     mul-lost
     element-set-from-lost
-    add-i
-    loop-less
-    loop-again
+    loop-less-2
+    loop-again-2
     reached-requires
     returns-2)

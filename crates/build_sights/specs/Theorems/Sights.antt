@@ -1,7 +1,7 @@
 -- Theorems about what Sights defines.
 use Prim.Native.Nat.{ℕ, _+_, _<_}
 use mathlib.Core.Path.{_≡_, refl, sym, ap, _∙_}
-use lib.ListN.{getD, length}
+use lib.ListN.{getD, set, length}
 use Rattle.refusal.specs.Limits.{maxBanks}
 use Rattle.refusal.specs.declared.Offset.{Offset}
 use Rattle.bankdef.specs.declared.Bankdef.{Bankdef}
@@ -18,7 +18,7 @@ use Rattle.iter.specs.declared.Pos.{Pos}
 use Rattle.iter.specs.declared.Walk.{Walk}
 use Rattle.lists.specs.Lists.{Row}
 use Rattle.resolver.specs.Once.{Program, node, walkTo}
-use Rattle.resolver.specs.Laws.Walking.{in-table, its-record, sees, walks-next}
+use Rattle.resolver.specs.Laws.Walking.{in-table, its-record, sees, walks-next, walks-still}
 use Rattle.resolver.specs.Switches.{Switches}
 use Rattle.resolver.specs.Walking.{Walks}
 use Rattle.build_sights.specs.Visits.{seenPos, visitAt}
@@ -60,3 +60,7 @@ module _ (p : Program) (sound : Switches (p .banks .len) (p .kinds) (p .operands
     -- and the walk after it, with the step stored
     pub paced-next : Walks p row (i + 1) (kept walk b (c .after) (c .skipped))
     paced-next = walks-next p sound room row i w k f o d other (e .1) g
+
+    -- where nothing is skipped, with the sums as they are
+    pub paced-still : c .skipped .bits ≡ 0 → Walks p row (i + 1) (record { at = set (walk .at) b (c .after); lost = walk .lost; bank = b })
+    paced-still none = walks-still p sound room row i w k f o d other (e .1) g none

@@ -4,12 +4,11 @@ use Prim.Native.Nat.{ℕ, _+_, _-_, _<_}
 use native.Mathlib.Omega.{arith}
 use lib.ListN.{length, length-map, set}
 use borrow.Author.Needs.{needs}
-use Rattle.iter.specs.Laws.Padding.{pace-nothing}
 use Rattle.iter.specs.declared.Lost.{Lost}
 use Rattle.lists.specs.Lists.{Row}
 use Rattle.resolver.specs.Once.{Program}
 use Rattle.resolver.specs.Walking.{Walks}
-use Rattle.build_sights.specs.Theorems.Sights.{bank-listed, paced-position, paced-is-visit, paced-next}
+use Rattle.build_sights.specs.Theorems.Sights.{bank-listed, paced-position, paced-is-visit, paced-next, paced-still}
 use Rattle.build_sights.specs.Visits.{programOf, rowOf, visits}
 use Rattle.build_write.specs.Writes.{HasRoom}
 use Rattle.build_write.proofs.WritingSteps.{Writing, begins, goes-on, ends, item-fits, spans-fit, same-image, same-first, same-second, same-third}
@@ -139,11 +138,11 @@ put-span-requires c κs =
 
 -- where node i's step is stored, from the place where its span is put
 abbrev spanned : tie.After-lost-after Inv-loop μ-loop → Spanned
-spanned c = c .before .before .before .before .before .before .before .before
+spanned c = c .before .before .before .before .before .before .before .before .before .before
 
 -- the walk after node i, with its step stored
 next : (c : tie.After-lost-after Inv-loop μ-loop) →
-    let g = paced (itemed (c .before .before .before .before .before .before .before .before)) in
+    let g = paced (itemed (c .before .before .before .before .before .before .before .before .before .before)) in
     let b = banked g in
     let h = head b in
     Walks (given h) (row h) (h .loop .i + 1) (record {
@@ -152,7 +151,7 @@ next : (c : tie.After-lost-after Inv-loop μ-loop) →
       bank = b .bank-after .result;
     })
 next c =
-    let g = paced (itemed (c .before .before .before .before .before .before .before .before)) in
+    let g = paced (itemed (c .before .before .before .before .before .before .before .before .before .before)) in
     let b = banked g in
     let h = head b in
     subst (λ (x : Lost). Walks (given h) (row h) (h .loop .i + 1) (record {
@@ -168,18 +167,47 @@ mul-after : tie.Need-mul-after Inv-loop μ-loop
 mul-after c = omega (arith, listed (banked (paced (itemed (c .before .before .before .before .before .before)))))
 
 element-set-from-after : tie.Need-element-set-from-after Inv-loop μ-loop
-element-set-from-after c = let b = banked (paced (itemed (c .before .before .before .before .before .before))) in omega
-    (arith, listed b, head b .loop .inv .walks .sixteen)
+element-set-from-after c =
+    let b = banked (paced (itemed (c .before .before .before .before .before .before))) in
+    omega (arith, listed b, head b .loop .inv .walks .sixteen)
+
+add-i : tie.Need-add-i Inv-loop μ-loop
+add-i c =
+    let b = banked (paced (itemed (c .before .before .before .before .before .before))) in
+    omega (arith, b .before .before .loop-test .taken, start (head b) .good)
+
+loop-less : tie.Need-loop-less Inv-loop μ-loop
+loop-less c =
+    let b = banked (paced (itemed (c .before .before .before .before .before .before .before .before))) in
+    omega (arith, b .before .before .loop-test .taken)
+
+-- a node that skips nothing
+loop-again : tie.Need-loop-again Inv-loop μ-loop
+loop-again c =
+    let n = c .before .before .before .before .before .before .before .before in
+    let g = paced (itemed n) in
+    let b = banked g in
+    let h = head b in
+    let a = start h .args in
+    let put = n .put-span .ensures in
+    goes-on (given h) (row h) (a .values .now) (a .image .now) (a .addresses .now) (a .offsets .now) (a .sizes .now) (h .loop .i) (h .loop .inv) (roomy h)
+    (paced-is-visit (given h) (start h .pre .0) (table h) (row h) (h .loop .i) (h .loop .inv .walks) (b .before .node-at .ensures) (b .bank-after .ensures)
+    _ _ _ refl (g .pace .ensures) (itemed n .before .before .get-output-position .ensures .0) refl)
+    (b .before .before .loop-test .taken)
+    (paced-still (given h) (start h .pre .0) (table h) (row h) (h .loop .i) (h .loop .inv .walks) (b .before .node-at .ensures) (b .bank-after .ensures)
+    _ _ _ refl (g .pace .ensures) (c .if1 .taken))
+    (itemed n .write-item .ensures) (put .0) (rw (paced-position _ _ _ (g .pace .ensures) refl) (put .1 .0)) (put .1 .1 .0) (put .1 .1 .1)
 
 mul-lost-after : tie.Need-mul-lost-after Inv-loop μ-loop
-mul-lost-after c = omega (arith, listed (banked (paced (itemed (c .before .before .before .before .before .before)))))
+mul-lost-after c = omega (arith, listed (banked (paced (itemed (c .before .before .before .before .before .before .before .before)))))
 
 element-copy-out-lost-after : tie.Need-element-copy-out-lost-after Inv-loop μ-loop
-element-copy-out-lost-after c = let b = banked (paced (itemed (c .before .before .before .before .before .before))) in omega
-    (arith, listed b, head b .loop .inv .walks .sums)
+element-copy-out-lost-after c =
+    let b = banked (paced (itemed (c .before .before .before .before .before .before .before .before))) in
+    omega (arith, listed b, head b .loop .inv .walks .sums)
 
 lost-after-requires : tie.Need-lost-after-requires Inv-loop μ-loop
-lost-after-requires c κs = pace-nothing _ _ _ (paced (itemed (c .before .before .before .before .before .before .before)) .pace .ensures)
+lost-after-requires c κs = search needs
 
 mul-lost : tie.Need-mul-lost Inv-loop μ-loop
 mul-lost c = omega (arith, listed (banked (paced (itemed (spanned c)))))
@@ -187,14 +215,11 @@ mul-lost c = omega (arith, listed (banked (paced (itemed (spanned c)))))
 element-set-from-lost : tie.Need-element-set-from-lost Inv-loop μ-loop
 element-set-from-lost c = let b = banked (paced (itemed (spanned c))) in omega (arith, listed b, head b .loop .inv .walks .sums)
 
-add-i : tie.Need-add-i Inv-loop μ-loop
-add-i c = let b = banked (paced (itemed (spanned c))) in omega (arith, b .before .before .loop-test .taken, start (head b) .good)
+loop-less-2 : tie.Need-loop-less-2 Inv-loop μ-loop
+loop-less-2 c = let b = banked (paced (itemed (spanned c))) in omega (arith, b .before .before .loop-test .taken)
 
-loop-less : tie.Need-loop-less Inv-loop μ-loop
-loop-less c = let b = banked (paced (itemed (spanned c))) in omega (arith, b .before .before .loop-test .taken)
-
-loop-again : tie.Need-loop-again Inv-loop μ-loop
-loop-again c =
+loop-again-2 : tie.Need-loop-again-2 Inv-loop μ-loop
+loop-again-2 c =
     let n = spanned c in
     let g = paced (itemed n) in
     let b = banked g in
@@ -264,14 +289,16 @@ write-walk-spec =
     put-span-requires
     mul-after
     element-set-from-after
+    add-i
+    loop-less
+    loop-again
     mul-lost-after
     element-copy-out-lost-after
     lost-after-requires
     mul-lost
     element-set-from-lost
-    add-i
-    loop-less
-    loop-again
+    loop-less-2
+    loop-again-2
     same-length
     same-length-2
     same-length-3

@@ -20,7 +20,6 @@ use Rattle.iter.specs.Theorems.Advance.{bad-state, sound-state, aligning
 use Rattle.iter.specs.Crossing.{crossingOf, halted, crossedTo, crossedFrom}
 use Rattle.iter.specs.Distance.{tellable, addressInBits, distanceTo, skipsOf, noSkip, distanceOf}
 use Rattle.iter.specs.Known.{staysKnown}
-use Rattle.iter.specs.Pace.{Paces}
 use Rattle.iter.specs.Padding.{Part, the-bits, the-units, lostPart, skippedPart}
 use Rattle.iter.specs.Step.{noLost, movedByDistance, outermostSymbol, labelAligned, seenOf, badState, advancedOf, skipsBy, whenMade}
 use Rattle.iter.specs.Step.{labelSkips, seenSkips, advanceSkips, maxSum, sumAfter, lostAfter, stepSkips}
@@ -32,7 +31,6 @@ use Rattle.iter.specs.declared.Lost.{Lost}
 use Rattle.iter.specs.declared.Moved.{Moved}
 use Rattle.iter.specs.declared.Moved.the-variants.{To, Refused}
 use Rattle.lists.specs.declared.Node.{Node}
-use Rattle.iter.specs.declared.Paced.{Paced}
 use Rattle.iter.specs.declared.Pos.{Pos}
 use Rattle.iter.specs.declared.Skipped.{Skipped}
 
@@ -168,15 +166,11 @@ module _ (def : Bankdef) where
       go false (To p) = whole-crossed at p (stepSkips def at p node) (advancedOf def p node) (step-whole at p node)
       go false (Refused why) = whole-none
 
-  -- a node that skips no bits skips no units
-  whole-nothing : (s : Skipped) → Whole s → s .bits ≡ 0 → s .units ≡ 0
-  whole-nothing s w none = w ∙ ap (λ (b : ℕ). b / def .unit) none ∙ zero-div (def .unit)
-
-  pub crossing-nothing : (at : Pos) (node : Node) {c : Crossing} → c ≡ crossingOf def at node → c .skipped .bits ≡ 0 → c .skipped .units ≡ 0
-  crossing-nothing at node {c} e = whole-nothing (c .skipped) (rw e (crossing-whole at node))
-
-  pub pace-nothing : (at : Pos) (node : Node) {p : Paced} → Paces def at node p → p .skipped .bits ≡ 0 → p .skipped .units ≡ 0
-  pace-nothing at node {p} e = whole-nothing (p .skipped) (rw (e .0) (crossing-whole at node))
+  -- a node that skips no bits skips nothing
+  pub crossing-still : (at : Pos) (node : Node) {c : Crossing} → c ≡ crossingOf def at node → c .skipped .bits ≡ 0 → c .skipped ≡ noSkip
+  crossing-still at node {c} e none =
+      let units : c .skipped .units ≡ 0 = rw e (crossing-whole at node) ∙ ap (λ (b : ℕ). b / def .unit) none ∙ zero-div (def .unit) in
+      ap (λ (b : ℕ). record { bits = b; units = c .skipped .units }) none ∙ ap (λ (u : ℕ). record { bits = 0; units = u }) units
 
   -- so they are no more than the bits
   pub part-small : (part : Part) (s : Skipped) → Whole s → s .bits ≤ maxPosition → skippedPart part s ≤ maxPosition

@@ -9,7 +9,6 @@ use Rattle.iter.specs.Theorems.StepFigures.{step-answers}
 use Rattle.iter.specs.Crossing.{crossingOf}
 use Rattle.iter.specs.Theorems.Crossing.{no-bank, crossing-refused, crossing-made}
 use Rattle.iter.specs.Laws.Crossing.{any-default}
-use Rattle.iter.specs.Laws.Padding.{crossing-nothing}
 use Rattle.iter.specs.declared.Pos.{Pos}
 use Rattle.iter_step.proofs.step.Statement.{statement}
 use Rattle.iter_step.proofs.step.Tie as tie
@@ -52,9 +51,7 @@ enum-known-sight : tie.Need-enum-known-sight
 enum-known-sight c = search needs
 
 moved-walk-requires : tie.Need-moved-walk-requires
-moved-walk-requires c κs =
-    let s = c .before .before .before .before in
-    (omega (arith, s .before .before .if1 .left), crossing-nothing _ _ _ (crosses s))
+moved-walk-requires c κs = search needs
 
 enum-known-sight-2 : tie.Need-enum-known-sight-2
 enum-known-sight-2 c = search needs

@@ -9,7 +9,7 @@ use Rattle.refusal.specs.Laws.Bools.{both}
 use Rattle.bitvec.specs.Clear.{cleared}
 use Rattle.record_fault.specs.Windows.{allZero}
 
--- Marks that are all 0 are as a cleared image is.
+-- Scratch that is all 0 is as a cleared image is.
 pub zero-cleared : (l : List ℕ) → allZero l ≡ true → l ≡ cleared l
 unfolding allZero
 zero-cleared [] e = refl

@@ -1,11 +1,12 @@
 -- Laws that proofs about Walking need.
 use Prim.Native.Nat.{ℕ, zero, suc, _+_, _^_, _<_}
-use mathlib.Core.Path.{_≡_, refl, sym, ap, _∙_}
+use mathlib.Core.Path.{_≡_, refl, sym, ap, subst, _∙_}
 use mathlib.Core.List.{List, [], _∷_}
 use native.Mathlib.Numerals.{add-one}
 use native.Mathlib.Omega.{arith}
 use lib.Dec.{leb}
 use lib.ListN.{getD, set, length, length-set}
+use lib.Seq.{set-getD}
 use Rattle.refusal.specs.Laws.Bools.{either}
 use Rattle.refusal.specs.Limits.{maxBanks}
 use borrow.Author.Tests.{leb-true}
@@ -13,15 +14,16 @@ use Rattle.bankdef.specs.declared.Bankdef.{Bankdef}
 use Rattle.iter.specs.Crossing.{crossingOf}
 use Rattle.iter.specs.Laws.Crossing.{any-default}
 use Rattle.iter.specs.Laws.StepCases.{step-cases}
-use Rattle.iter.specs.Laws.Padding.{part-after}
-use Rattle.iter.specs.Padding.{lostPart, lostIn, Fits}
-use Rattle.iter.specs.Step.{origin, noLost, startOf, bankAfter, maxSum, sumAfter, kept, stepOf}
-use Rattle.iter.specs.Theorems.Crossing.{crossing-kept}
+use Rattle.iter.specs.Laws.Padding.{crossing-still, part-after}
+use Rattle.iter.specs.Padding.{the-bits, the-units, lostPart, lostIn, Fits}
+use Rattle.iter.specs.Step.{origin, noLost, startOf, bankAfter, maxSum, sumAfter, lostAfter, kept, stepOf}
+use Rattle.iter.specs.Theorems.Crossing.{crossing-kept, none-lost}
 use Rattle.iter.specs.Theorems.Padding.{starts-lossless}
 use Rattle.iter.specs.declared.Crossing.{Crossing}
 use Rattle.iter.specs.declared.Lost.{Lost}
 use Rattle.lists.specs.declared.Node.{Node}
 use Rattle.iter.specs.declared.Pos.{Pos}
+use Rattle.iter.specs.declared.Skipped.{Skipped}
 use Rattle.iter.specs.declared.Stepped.{Stepped}
 use Rattle.iter.specs.declared.Walk.{Walk}
 use Rattle.lists.specs.Lists.{Row}
@@ -111,3 +113,14 @@ module _ (p : Program) (sound : Switches (p .banks .len) (p .kinds) (p .operands
             sums = length-set (walk .lost) b _ ∙ w .sums;
             listed = standing.still-listed p sound room row i parts in-bank;
           }
+
+      -- A node that skips no bits leaves the sums as they are, and need not store them.
+      pub walks-still : c .skipped .bits ≡ 0 → Walks p row (i + 1) (record { at = set (walk .at) b (c .after); lost = walk .lost; bank = b })
+      walks-still none =
+          let was = getD (walk .lost) b noLost in
+          let fits : Fits walk = rw (sym (w .is)) (sums-small p row i) in
+          let same : set (walk .lost) b (lostAfter was (c .skipped)) ≡ walk .lost =
+          ap (λ (s : Skipped). set (walk .lost) b (lostAfter was s)) (crossing-still d (getD (walk .at) b origin) (node p row i) crosses none)
+          ∙ ap (set (walk .lost) b) (sym (none-lost was (fits the-bits b) (fits the-units b)))
+          ∙ set-getD (walk .lost) b noLost in
+          subst (λ (l : List Lost). Walks p row (i + 1) (record { at = set (walk .at) b (c .after); lost = l; bank = b })) same walks-next

@@ -7,10 +7,9 @@ use borrow.Author.Needs.{needs}
 use borrow.Author.Tests.{eq-eqb, ne-eqb}
 use Rattle.refusal.specs.Laws.Pick.{pick-true, pick-false}
 use Rattle.refusal.specs.declared.Refusal.{Refusal}
-use Rattle.iter.specs.Laws.Padding.{pace-nothing}
 use Rattle.iter.specs.Pace.{seenBy}
 use Rattle.lists.specs.Lists.{Row, rowWith}
-use Rattle.resolver.specs.Laws.Walking.{walks-start, in-table, its-record, sees, walks-next}
+use Rattle.resolver.specs.Laws.Walking.{walks-start, in-table, its-record, sees, walks-next, walks-still}
 use Rattle.resolver.specs.Once.{Program, programWith, stepAt, passTo, walkTo, goesOn, on}
 use Rattle.resolver.specs.Walking.{Walks}
 use Rattle.resolver.specs.declared.Pass.the-variants.{Refused}
@@ -158,49 +157,73 @@ mul-after c = omega (arith, listed (banked (paced (c .before .before .before .be
 element-set-from-after : tie.Need-element-set-from-after Inv-loop μ-loop
 element-set-from-after c = let b = banked (paced (c .before .before .before .before)) in omega (arith, listed b, its b .sixteen)
 
-mul-lost-after : tie.Need-mul-lost-after Inv-loop μ-loop
-mul-lost-after c = omega (arith, listed (banked (paced (c .before .before .before .before))))
-
-element-copy-out-lost-after : tie.Need-element-copy-out-lost-after Inv-loop μ-loop
-element-copy-out-lost-after c = let b = banked (paced (c .before .before .before .before)) in omega (arith, listed b, its b .sums)
-
-lost-after-requires : tie.Need-lost-after-requires Inv-loop μ-loop
-lost-after-requires c κs = pace-nothing _ _ _ (paced (c .before .before .before .before .before) .pace .ensures)
-
-mul-lost : tie.Need-mul-lost Inv-loop μ-loop
-mul-lost c = omega (arith, listed (banked (paced (c .before .before .before .before .before .before))))
-
-element-set-from-lost : tie.Need-element-set-from-lost Inv-loop μ-loop
-element-set-from-lost c = let b = banked (paced (c .before .before .before .before .before .before)) in omega (arith, listed b, its b .sums)
-
 add-i : tie.Need-add-i Inv-loop μ-loop
-add-i c = let b = banked (paced (c .before .before .before .before .before .before)) in omega (
-  arith,
-  b .before .before .loop-test .taken,
-  begun
-      (turn b) .good,
-)
+add-i c = let b = banked (paced (c .before .before .before .before)) in omega (arith, b .before .before .loop-test .taken, begun (turn b) .good)
 
-loop-less : tie.Need-loop-less Inv-loop μ-loop
-loop-less c = let b = banked (paced (c .before .before .before .before .before .before)) in omega (arith, b .before .before .loop-test .taken)
-
-loop-again : tie.Need-loop-again Inv-loop μ-loop
-loop-again c =
-    let o = c .before .before .before .before .before .before in
+-- the pass after node i
+met-next : (c : tie.After-after Inv-loop μ-loop) →
+    let b = banked (paced (c .before .before .before .before)) in
+    let i = turn b .loop .i in
+    let s = begun (turn b) in
+    passTo (given s) (row s) (row s) (s .args .is-first) (s .args .is-last) (i + 1) ≡ on (walkTo (given s) (row s) (i + 1)) (c .before .larger .result)
+met-next c =
+    let o = c .before .before .before .before in
     let g = paced o in
     let b = banked g in
     let l = turn b .loop in
     let s = begun (turn b) in
     let n = b .before .node-at .result in
-    let made = pick-true _ _ (eq-eqb (g .pace .result .fault) 0 (o .before .before .if1 .left)) in (
+    let made = pick-true _ _ (eq-eqb (g .pace .result .fault) 0 (o .before .before .if1 .left)) in
+    pass-goes (given s) (row s) (row s) (s .args .is-first) (s .args .is-last) (l .i + 1)
+    (pass-meets (given s) (row s) (row s) (s .args .is-first) (s .args .is-last) (l .i) (l .inv .1) (b .before .node-at .ensures)
+    (its-record (given s) (s .pre .0) (room s) (row s) (l .i) (l .inv .2) (b .before .node-at .ensures) (b .bank-after .ensures) _ refl) (seen-is g)
+    (seen-is g)
+    (met-paced _ _ (g .pace .result) (n .index) _ _ _ made (o .off-boundary .ensures) (c .before .before .before .if2 .left)
+    (c .before .before .node-state .ensures) (c .before .larger .ensures)))
+    refl
+
+loop-less : tie.Need-loop-less Inv-loop μ-loop
+loop-less c = let b = banked (paced (c .before .before .before .before .before .before)) in omega (arith, b .before .before .loop-test .taken)
+
+-- a node that skips nothing
+loop-again : tie.Need-loop-again Inv-loop μ-loop
+loop-again c =
+    let g = paced (c .before .before .before .before .before .before) in
+    let b = banked g in
+    let l = turn b .loop in
+    let s = begun (turn b) in (
       omega (arith, b .before .before .loop-test .taken),
-      pass-goes (given s) (row s) (row s) (s .args .is-first) (s .args .is-last) (l .i + 1)
-          (pass-meets (given s) (row s) (row s) (s .args .is-first) (s .args .is-last) (l .i) (l .inv .1) (b .before .node-at .ensures)
-          (its-record (given s) (s .pre .0) (room s) (row s) (l .i) (l .inv .2) (b .before .node-at .ensures) (b .bank-after .ensures) _ refl) (seen-is g)
-          (seen-is g)
-          (met-paced _ _ (g .pace .result) (n .index) _ _ _ made (o .off-boundary .ensures) (c .before .before .before .before .before .if2 .left)
-          (c .before .before .before .before .node-state .ensures) (c .before .before .before .larger .ensures)))
-          refl,
+      met-next (c .before .before),
+      walks-still (given s) (s .pre .0) (room s) (row s) (l .i) (l .inv .2) (b .before .node-at .ensures) (b .bank-after .ensures) _ _ _
+          (g .pace .ensures .1) refl (c .if3 .taken),
+    )
+
+mul-lost-after : tie.Need-mul-lost-after Inv-loop μ-loop
+mul-lost-after c = omega (arith, listed (banked (paced (c .before .before .before .before .before .before))))
+
+element-copy-out-lost-after : tie.Need-element-copy-out-lost-after Inv-loop μ-loop
+element-copy-out-lost-after c = let b = banked (paced (c .before .before .before .before .before .before)) in omega (arith, listed b, its b .sums)
+
+lost-after-requires : tie.Need-lost-after-requires Inv-loop μ-loop
+lost-after-requires c κs = search needs
+
+mul-lost : tie.Need-mul-lost Inv-loop μ-loop
+mul-lost c = omega (arith, listed (banked (paced (c .before .before .before .before .before .before .before .before))))
+
+element-set-from-lost : tie.Need-element-set-from-lost Inv-loop μ-loop
+element-set-from-lost c = let b = banked (paced (c .before .before .before .before .before .before .before .before)) in omega (arith, listed b, its b .sums)
+
+loop-less-2 : tie.Need-loop-less-2 Inv-loop μ-loop
+loop-less-2 c = let b = banked (paced (c .before .before .before .before .before .before .before .before)) in omega (arith, b .before .before .loop-test .taken)
+
+loop-again-2 : tie.Need-loop-again-2 Inv-loop μ-loop
+loop-again-2 c =
+    let g = paced (c .before .before .before .before .before .before .before .before) in
+    let b = banked g in
+    let l = turn b .loop in
+    let s = begun (turn b) in (
+      omega (arith, b .before .before .loop-test .taken),
+      met-next (c .before .before .before .before),
       rw (c .lost-after .ensures) (walks-next (given s) (s .pre .0) (room s) (row s) (l .i) (l .inv .2) (b .before .node-at .ensures)
           (b .bank-after .ensures) _ _ _ (g .pace .ensures .1) refl),
     )
@@ -239,12 +262,14 @@ walk-alone-spec =
     larger-requires
     mul-after
     element-set-from-after
+    add-i
+    loop-less
+    loop-again
     mul-lost-after
     element-copy-out-lost-after
     lost-after-requires
     mul-lost
     element-set-from-lost
-    add-i
-    loop-less
-    loop-again
+    loop-less-2
+    loop-again-2
     returns-3)

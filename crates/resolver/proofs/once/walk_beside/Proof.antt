@@ -9,10 +9,10 @@ use borrow.Author.Needs.{needs}
 use borrow.Author.Tests.{eq-eqb, ne-eqb}
 use Rattle.refusal.specs.Laws.Pick.{pick-true, pick-false}
 use Rattle.refusal.specs.declared.Refusal.{Refusal}
-use Rattle.iter.specs.Laws.Padding.{pace-nothing}
 use Rattle.iter.specs.Pace.{seenBy}
+use Rattle.iter.specs.Step.{bankAfter}
 use Rattle.lists.specs.Lists.{Row, rowWith}
-use Rattle.resolver.specs.Laws.Walking.{walks-start, in-table, its-record, sees, walks-next, other-row}
+use Rattle.resolver.specs.Laws.Walking.{walks-start, in-table, its-record, sees, walks-next, walks-still, other-row}
 use Rattle.resolver.specs.Once.{Program, programWith, stepAt, passTo, walkTo, goesOn, on}
 use Rattle.resolver.specs.Walking.{Walks}
 use Rattle.resolver.specs.declared.Pass.the-variants.{Refused}
@@ -179,83 +179,137 @@ mul-after c = omega (arith, listed (banked (paced (c .before .before .before .be
 element-set-from-after : tie.Need-element-set-from-after Inv-loop μ-loop
 element-set-from-after c = let b = banked (paced (c .before .before .before .before .before .before .before)) in omega (arith, listed b, its b .sixteen)
 
-mul-lost-after : tie.Need-mul-lost-after Inv-loop μ-loop
-mul-lost-after c = omega (arith, listed (banked (paced (c .before .before .before .before .before .before .before))))
-
-element-copy-out-lost-after : tie.Need-element-copy-out-lost-after Inv-loop μ-loop
-element-copy-out-lost-after c = let b = banked (paced (c .before .before .before .before .before .before .before)) in omega (arith, listed b, its b .sums)
-
-lost-after-requires : tie.Need-lost-after-requires Inv-loop μ-loop
-lost-after-requires c κs = pace-nothing _ _ _ (paced (c .before .before .before .before .before .before .before .before) .pace .ensures)
-
-mul-lost : tie.Need-mul-lost Inv-loop μ-loop
-mul-lost c = omega (arith, listed (banked (paced (c .before .before .before .before .before .before .before .before .before))))
-
-element-set-from-lost : tie.Need-element-set-from-lost Inv-loop μ-loop
-element-set-from-lost c = let b = banked (paced (c .before .before .before .before .before .before .before .before .before)) in omega
-    (arith, listed b, its b .sums)
-
 mul-after-before : tie.Need-mul-after-before Inv-loop μ-loop
-mul-after-before c = omega (arith, listed (banked (paced (c .before .before .before .before .before .before .before .before .before .before))))
+mul-after-before c = omega (arith, listed (banked (paced (c .before .before .before .before .before .before .before .before))))
 
 element-set-from-after-before : tie.Need-element-set-from-after-before Inv-loop μ-loop
-element-set-from-after-before c = let b = banked (paced (c .before .before .before .before .before .before .before .before .before .before)) in omega
-    (arith, listed b, turn b .loop .inv .3 .sixteen)
-
-mul-lost-after-2 : tie.Need-mul-lost-after-2 Inv-loop μ-loop
-mul-lost-after-2 c = omega (arith, listed (banked (paced (c .before .before .before .before .before .before .before .before .before .before))))
-
-element-copy-out-lost-after-2 : tie.Need-element-copy-out-lost-after-2 Inv-loop μ-loop
-element-copy-out-lost-after-2 c = let b = banked (paced (c .before .before .before .before .before .before .before .before .before .before)) in omega
-    (arith, listed b, turn b .loop .inv .3 .sums)
-
-lost-after-requires-2 : tie.Need-lost-after-requires-2 Inv-loop μ-loop
-lost-after-requires-2 c κs = pace-nothing _ _ _ (c .before .before .before .before .before .before .before .pace2 .ensures)
-
-mul-lost-before : tie.Need-mul-lost-before Inv-loop μ-loop
-mul-lost-before c = omega (arith, listed (banked (paced (c .before .before .before .before .before .before .before .before .before .before .before .before))))
-
-element-set-from-lost-before : tie.Need-element-set-from-lost-before Inv-loop μ-loop
-element-set-from-lost-before c =
-    let b = banked (paced (c .before .before .before .before .before .before .before .before .before .before .before .before)) in
-    omega (arith, listed b, turn b .loop .inv .3 .sums)
+element-set-from-after-before c =
+    let b = banked (paced (c .before .before .before .before .before .before .before .before)) in omega (arith, listed b, turn b .loop .inv .3 .sixteen)
 
 add-i : tie.Need-add-i Inv-loop μ-loop
-add-i c = let b = banked (paced (c .before .before .before .before .before .before .before .before .before .before .before .before)) in omega
-    (arith, b .before .before .loop-test .taken, begun (turn b) .good)
+add-i c =
+    let b = banked (paced (c .before .before .before .before .before .before .before .before)) in
+    omega (arith, b .before .before .loop-test .taken, begun (turn b) .good)
 
-loop-less : tie.Need-loop-less Inv-loop μ-loop
-loop-less c = let b = banked (paced (c .before .before .before .before .before .before .before .before .before .before .before .before)) in omega
-    (arith, b .before .before .loop-test .taken)
+skip-nothing-requires : tie.Need-skip-nothing-requires Inv-loop μ-loop
+skip-nothing-requires c κs = search needs
 
-loop-again : tie.Need-loop-again Inv-loop μ-loop
-loop-again c =
-    let o = c .before .before .before .before .before .before .before .before .before .before .before .before in
+-- the bank that node i stands in, by the row before
+there : (c : tie.After-after-before Inv-loop μ-loop) →
+    let b = banked (paced (c .before .before .before .before .before .before .before .before)) in
+    b .bank-after .result ≡ bankAfter (turn b .loop .old .bank) (c .before .before .before .before .before .before .node-at2 .result)
+there c =
+    let b = banked (paced (c .before .before .before .before .before .before .before .before)) in
+    let l = turn b .loop in
+    let s = begun (turn b) in
+    other-row (given s) (row s) (row-before s) (l .i) (b .before .node-at .ensures)
+    (c .before .before .before .before .before .before .node-at2 .ensures) (l .inv .4) (b .bank-after .ensures)
+
+-- the pass after node i
+met-next : (c : tie.After-after-before Inv-loop μ-loop) →
+    let b = banked (paced (c .before .before .before .before .before .before .before .before)) in
+    let i = turn b .loop .i in
+    let s = begun (turn b) in
+    passTo (given s) (row s) (row-before s) false (s .args .is-last) (i + 1) ≡ on (walkTo (given s) (row s) (i + 1)) (c .before .before .larger .result)
+met-next c =
+    let o = c .before .before .before .before .before .before .before .before in
     let g = paced o in
     let b = banked g in
     let l = turn b .loop in
     let s = begun (turn b) in
-    let there = other-row (given s) (row s) (row-before s) (l .i) (b .before .node-at .ensures)
-    (c .before .before .before .before .before .before .before .before .before .before .node-at2 .ensures) (l .inv .4) (b .bank-after .ensures) in
-    let made = pick-true _ _ (eq-eqb (g .pace .result .fault) 0 (o .before .before .if1 .left)) in (
+    let made = pick-true _ _ (eq-eqb (g .pace .result .fault) 0 (o .before .before .if1 .left)) in
+    pass-goes (given s) (row s) (row-before s) false (s .args .is-last) (l .i + 1)
+    (pass-meets (given s) (row s) (row-before s) false (s .args .is-last) (l .i) (l .inv .1) (b .before .node-at .ensures)
+    (its-record (given s) (s .pre .0) (room s) (row s) (l .i) (l .inv .2) (b .before .node-at .ensures) (b .bank-after .ensures) _ refl) (seen-is g)
+    (sees (given s) (s .pre .0) (room s) (row-before s) (l .i) (l .inv .3) (c .before .before .before .before .before .before .node-at2 .ensures)
+    (there c) _ _ _
+    (c .before .before .before .before .pace2 .ensures .1) refl)
+    (met-paced _ _ (c .before .before .before .before .pace2 .result)
+    (c .before .before .before .before .before .before .node-at2 .result .index) _ _ _ made (o .off-boundary .ensures)
+    (c .before .before .before .before .before .before .before .if2 .left) (c .before .before .before .node-state .ensures)
+    (c .before .before .larger .ensures)))
+    refl
+
+loop-less : tie.Need-loop-less Inv-loop μ-loop
+loop-less c =
+    let b = banked (paced (c .before .before .before .before .before .before .before .before .before .before)) in
+    omega (arith, b .before .before .loop-test .taken)
+
+-- a node that skips nothing in either row
+loop-again : tie.Need-loop-again Inv-loop μ-loop
+loop-again c =
+    let a = c .before .before in
+    let g = paced (a .before .before .before .before .before .before .before .before) in
+    let b = banked g in
+    let l = turn b .loop in
+    let s = begun (turn b) in
+    let none = c .before .skip-nothing .ensures (c .if3 .taken) in (
       omega (arith, b .before .before .loop-test .taken),
-      pass-goes (given s) (row s) (row-before s) false (s .args .is-last) (l .i + 1)
-          (pass-meets (given s) (row s) (row-before s) false (s .args .is-last) (l .i) (l .inv .1) (b .before .node-at .ensures)
-          (its-record (given s) (s .pre .0) (room s) (row s) (l .i) (l .inv .2) (b .before .node-at .ensures) (b .bank-after .ensures) _ refl) (seen-is g)
-          (sees (given s) (s .pre .0) (room s) (row-before s) (l .i) (l .inv .3)
-          (c .before .before .before .before .before .before .before .before .before .before .node-at2 .ensures) there _ _ _
-          (c .before .before .before .before .before .before .before .before .pace2 .ensures .1) refl)
-          (met-paced _ _ (c .before .before .before .before .before .before .before .before .pace2 .result)
-          (c .before .before .before .before .before .before .before .before .before .before .node-at2 .result .index) _ _ _ made (o .off-boundary .ensures)
-          (c .before .before .before .before .before .before .before .before .before .before .before .if2 .left)
-          (c .before .before .before .before .before .before .before .node-state .ensures)
-          (c .before .before .before .before .before .before .larger .ensures)))
-          refl,
-      rw (c .before .before .before .lost-after .ensures) (walks-next (given s) (s .pre .0) (room s) (row s) (l .i) (l .inv .2)
+      met-next a,
+      walks-still (given s) (s .pre .0) (room s) (row s) (l .i) (l .inv .2) (b .before .node-at .ensures) (b .bank-after .ensures) _ _ _
+          (g .pace .ensures .1) refl (none .0),
+      walks-still (given s) (s .pre .0) (room s) (row-before s) (l .i) (l .inv .3)
+          (a .before .before .before .before .before .before .node-at2 .ensures) (there a) _ _ _
+          (a .before .before .before .before .pace2 .ensures .1) refl (none .1),
+      refl,
+    )
+
+mul-lost-after : tie.Need-mul-lost-after Inv-loop μ-loop
+mul-lost-after c = omega (arith, listed (banked (paced (c .before .before .before .before .before .before .before .before .before .before))))
+
+element-copy-out-lost-after : tie.Need-element-copy-out-lost-after Inv-loop μ-loop
+element-copy-out-lost-after c =
+    let b = banked (paced (c .before .before .before .before .before .before .before .before .before .before)) in omega (arith, listed b, its b .sums)
+
+lost-after-requires : tie.Need-lost-after-requires Inv-loop μ-loop
+lost-after-requires c κs = search needs
+
+mul-lost : tie.Need-mul-lost Inv-loop μ-loop
+mul-lost c = omega (arith, listed (banked (paced (c .before .before .before .before .before .before .before .before .before .before .before .before))))
+
+element-set-from-lost : tie.Need-element-set-from-lost Inv-loop μ-loop
+element-set-from-lost c =
+    let b = banked (paced (c .before .before .before .before .before .before .before .before .before .before .before .before)) in
+    omega (arith, listed b, its b .sums)
+
+mul-lost-after-2 : tie.Need-mul-lost-after-2 Inv-loop μ-loop
+mul-lost-after-2 c = omega (arith, listed (banked (paced (c .before .before .before .before .before .before .before .before .before .before .before .before))))
+
+element-copy-out-lost-after-2 : tie.Need-element-copy-out-lost-after-2 Inv-loop μ-loop
+element-copy-out-lost-after-2 c =
+    let b = banked (paced (c .before .before .before .before .before .before .before .before .before .before .before .before)) in
+    omega (arith, listed b, turn b .loop .inv .3 .sums)
+
+lost-after-requires-2 : tie.Need-lost-after-requires-2 Inv-loop μ-loop
+lost-after-requires-2 c κs = search needs
+
+mul-lost-before : tie.Need-mul-lost-before Inv-loop μ-loop
+mul-lost-before c =
+    omega (arith, listed (banked (paced (c .before .before .before .before .before .before .before .before .before .before .before .before .before .before))))
+
+element-set-from-lost-before : tie.Need-element-set-from-lost-before Inv-loop μ-loop
+element-set-from-lost-before c =
+    let b = banked (paced (c .before .before .before .before .before .before .before .before .before .before .before .before .before .before)) in
+    omega (arith, listed b, turn b .loop .inv .3 .sums)
+
+loop-less-2 : tie.Need-loop-less-2 Inv-loop μ-loop
+loop-less-2 c =
+    let b = banked (paced (c .before .before .before .before .before .before .before .before .before .before .before .before .before .before)) in
+    omega (arith, b .before .before .loop-test .taken)
+
+loop-again-2 : tie.Need-loop-again-2 Inv-loop μ-loop
+loop-again-2 c =
+    let a = c .before .before .before .before .before .before in
+    let g = paced (a .before .before .before .before .before .before .before .before) in
+    let b = banked g in
+    let l = turn b .loop in
+    let s = begun (turn b) in (
+      omega (arith, b .before .before .loop-test .taken),
+      met-next a,
+      rw (c .before .before .lost-after .ensures) (walks-next (given s) (s .pre .0) (room s) (row s) (l .i) (l .inv .2)
           (b .before .node-at .ensures) (b .bank-after .ensures) _ _ _ (g .pace .ensures .1) refl),
       rw (c .lost-after2 .ensures) (walks-next (given s) (s .pre .0) (room s) (row-before s) (l .i) (l .inv .3)
-          (c .before .before .before .before .before .before .before .before .before .before .node-at2 .ensures) there _ _ _
-          (c .before .before .before .before .before .before .before .before .pace2 .ensures .1) refl),
+          (a .before .before .before .before .before .before .node-at2 .ensures) (there a) _ _ _ (a .before .before .before .before .pace2 .ensures .1) refl),
       refl,
     )
 
@@ -294,19 +348,22 @@ walk-beside-spec =
     larger-requires
     mul-after
     element-set-from-after
+    mul-after-before
+    element-set-from-after-before
+    add-i
+    skip-nothing-requires
+    loop-less
+    loop-again
     mul-lost-after
     element-copy-out-lost-after
     lost-after-requires
     mul-lost
     element-set-from-lost
-    mul-after-before
-    element-set-from-after-before
     mul-lost-after-2
     element-copy-out-lost-after-2
     lost-after-requires-2
     mul-lost-before
     element-set-from-lost-before
-    add-i
-    loop-less
-    loop-again
+    loop-less-2
+    loop-again-2
     returns-3)
