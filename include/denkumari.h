@@ -420,7 +420,7 @@ enum dk_format { DK_INTEL_HEX = 0, DK_S_RECORDS = 1 };
  * a few blocks in any order. Where many records jump it grows with the text too if `scratch` is all zeros and has a byte for every 8 addresses from the lowest
  * that is given to the highest; with fewer zeros the text is read once more for each 8 * scratch_len of those addresses that has a byte; with none, with more
  * than 2^29 bytes, or where `scratch` has a byte that is not zero, time grows with the square of the number of lines. It needs less than 2 KiB of stack
- * (1.2 KiB). */
+ * (1.5 KiB). */
 struct dk_count dk_read_records(uint8_t format, const uint8_t *text, size_t text_len, uint32_t load,
                                 uint8_t *bytes, size_t bytes_len,
                                 uint64_t *offsets, size_t offsets_len,
@@ -468,7 +468,7 @@ struct dk_reason {
 /* The same file, asked what is wrong with the line at fault. Nothing is refused: every text has an answer, 0 where the file is good. (A format that is
  * neither is taken for S-records here.) With `scratch` as above, it takes the time of
  * dk_record_fault and of reading the lines before the one at fault once or twice more, and where a line is below `load` those of the whole text. It needs less
- * than 2 KiB of stack (1.1 KiB). */
+ * than 2 KiB of stack (1.4 KiB). */
 struct dk_reason dk_record_reason(uint8_t format, const uint8_t *text, size_t text_len, uint32_t load,
                                   uint8_t *scratch, size_t scratch_len);
 

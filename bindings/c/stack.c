@@ -114,6 +114,26 @@ static void reason_twice(void)
     refusal = dk_record_reason(DK_S_RECORDS, twice, sizeof twice - 1, 0, marked, sizeof marked).reason != DK_GIVEN_TWICE;
 }
 
+/* Records of a byte that jump, so that the scratch is used. */
+static char jumps[2048];
+static size_t jumps_length;
+
+static void read_jumps(void)
+{
+    refusal = dk_read_records(DK_INTEL_HEX, (const uint8_t *)jumps, jumps_length, 0, image, sizeof image, offsets, NODES, sizes, NODES, marked,
+                              sizeof marked).refusal;
+}
+
+static void fault_jumps(void)
+{
+    refusal = dk_record_fault(DK_INTEL_HEX, (const uint8_t *)jumps, jumps_length, 0, marked, sizeof marked).fault;
+}
+
+static void reason_jumps(void)
+{
+    refusal = dk_record_reason(DK_INTEL_HEX, (const uint8_t *)jumps, jumps_length, 0, marked, sizeof marked).reason;
+}
+
 static uint8_t other[FILE_MOST];
 static uint64_t other_length;
 
@@ -303,6 +323,14 @@ int main(void)
     bad |= measure("dk_write_srec", write_srec, 1024);
     bad |= measure("dk_read_records, S-records", read_srec, 2048);
     bad |= measure("dk_record_fault", fault, 1024);
+    for (unsigned i = 0; i < 97; i++) {
+        unsigned at = i * 41 % 97;
+        jumps_length += (size_t)sprintf(jumps + jumps_length, ":0100%02X0041%02X\n", at, (0u - (1 + at + 65)) & 255);
+    }
+    jumps_length += (size_t)sprintf(jumps + jumps_length, ":00000001FF\n");
+    bad |= measure("dk_read_records, jumps", read_jumps, 2048);
+    bad |= measure("dk_record_fault, jumps", fault_jumps, 1024);
+    bad |= measure("dk_record_reason, jumps", reason_jumps, 2048);
     bad |= measure("dk_record_reason", reason, 2048);
     bad |= measure("dk_record_reason, below", reason_below, 2048);
     bad |= measure("dk_record_reason, twice", reason_twice, 2048);

@@ -1,11 +1,10 @@
 -- `turn` meets its contract: what was read is never refused when it is written, but for a width that does not fit.
-use mathlib.Core.List.{List, []}
+use mathlib.Core.List.{List}
 use mathlib.Core.Path.{_≡_, refl, sym, _∙_}
 use Prim.Native.Nat.{ℕ, _≤_}
 use native.Mathlib.Omega.{arith}
 use lib.ListN.{length, take}
 use Rattle.blocks.specs.declared.Blocks.the-variants.{Found}
-use Rattle.record_fault.specs.Reading.{readText}
 use Rattle.record_read.specs.Outcome.{Lent, lent}
 use Rattle.print_text.specs.Lines.{refusalText}
 use Rattle.thm_record_room.specs.Laws.Records.{puts-records}
@@ -74,9 +73,7 @@ returns : tie.Need-returns
 returns c =
     let d = c .before .before .before .before .before .before .before .before .before .before in
     let s = begin d in (
-      unread (s .args .format) (s .args .load) (old d []) (s .pre .0) (s .pre .1 .0) (s .pre .1 .1 .0)
-          (readText (s .args .kind) (s .args .load) (s .args .source .now)) _
-          (sym (d .read .ensures .answer) ∙ c .before .found .given .1),
+      unread (s .args .format) (s .args .load) (old d _) (s .pre .0) (s .pre .1 .0) (s .pre .1 .1 .0) (d .read .ensures) (c .before .found .given .1),
       refl,
     )
 

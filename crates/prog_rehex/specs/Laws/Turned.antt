@@ -63,10 +63,10 @@ module _ (format load : ℕ) (l : Lent) (hb : length (l .bytes) ≡ bytesRoom) (
   twice true = refl
   twice false = refl
 
-  pub unread : (read : Read) (why : Refusal) → answerOf load l read ≡ Unread why
+  not-read : (read : Read) (why : Refusal) → answerOf load l read ≡ Unread why
       → turned format load (l .bytes) read ≡ refusalText why ++ faultText read
-  unread (faulty n) why e = ap (λ (w : Refusal). refusalText w ++ faultText (faulty n)) (same-refusal e)
-  unread (sound pieces) why e =
+  not-read (faulty n) why e = ap (λ (w : Refusal). refusalText w ++ faultText (faulty n)) (same-refusal e)
+  not-read (sound pieces) why e =
       let blocks = blocksGiven load pieces in
       let text = pick (formatOk format load blocks) (textOf format load (filled load pieces (l .bytes)) blocks) (refusalText (Malformed 0)) in
       let one : leb (reach load pieces) (length (l .bytes)) ≡ leb (reach load pieces) bytesRoom = ap (leb (reach load pieces)) hb in
@@ -74,6 +74,10 @@ module _ (format load : ℕ) (l : Lent) (hb : length (l .bytes) ≡ bytesRoom) (
       ap₂ (λ (a b : ℕ). pick (leb (length blocks) a) (leb (length blocks) b) false) ho hs ∙ twice (leb (length blocks) blocksRoom) in
       sym (ap₂ (λ (p q : Bool). pick p (pick q text (refusalText (TooShort 2))) (refusalText (TooShort 0))) one two)
       ∙ by-room (leb (reach load pieces) (length (l .bytes))) (roomFor blocks (l .offsets) (l .sizes)) (length blocks) text why e
+
+  pub unread : {read : Read} {r : Blocks} {new : Lent} {why : Refusal} → Reads load read l r new → r ≡ Unread why
+      → turned format load (l .bytes) read ≡ refusalText why ++ faultText read
+  unread {read} {why = why} c e = not-read read why (sym (c .answer) ∙ e)
 
 -- ---- a file that is read
 
