@@ -167,9 +167,8 @@ mul-after : tie.Need-mul-after Inv-loop μ-loop
 mul-after c = omega (arith, listed (banked (paced (itemed (c .before .before .before .before .before .before)))))
 
 element-set-from-after : tie.Need-element-set-from-after Inv-loop μ-loop
-element-set-from-after c =
-    let b = banked (paced (itemed (c .before .before .before .before .before .before))) in
-    omega (arith, listed b, head b .loop .inv .walks .sixteen)
+element-set-from-after c = let b = banked (paced (itemed (c .before .before .before .before .before .before))) in omega
+    (arith, listed b, head b .loop .inv .walks .sixteen)
 
 add-i : tie.Need-add-i Inv-loop μ-loop
 add-i c =

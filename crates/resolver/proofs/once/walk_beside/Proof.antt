@@ -179,40 +179,46 @@ mul-after c = omega (arith, listed (banked (paced (c .before .before .before .be
 element-set-from-after : tie.Need-element-set-from-after Inv-loop μ-loop
 element-set-from-after c = let b = banked (paced (c .before .before .before .before .before .before .before)) in omega (arith, listed b, its b .sixteen)
 
+-- where the step in the row before is stored, from the place where the node is met, and from the places of its node and its step there
+abbrev stored : tie.After-after-before Inv-loop μ-loop → tie.After-off-boundary Inv-loop μ-loop
+stored c = c .before .before .before .before .before .before .before .before
+
+abbrev node-before : tie.After-after-before Inv-loop μ-loop → tie.After-node-at2 Inv-loop μ-loop
+node-before c = c .before .before .before .before .before .before
+
+abbrev paced-before : tie.After-after-before Inv-loop μ-loop → tie.After-pace2 Inv-loop μ-loop
+paced-before c = c .before .before .before .before
+
 mul-after-before : tie.Need-mul-after-before Inv-loop μ-loop
-mul-after-before c = omega (arith, listed (banked (paced (c .before .before .before .before .before .before .before .before))))
+mul-after-before c = omega (arith, listed (banked (paced (stored c))))
 
 element-set-from-after-before : tie.Need-element-set-from-after-before Inv-loop μ-loop
-element-set-from-after-before c =
-    let b = banked (paced (c .before .before .before .before .before .before .before .before)) in omega (arith, listed b, turn b .loop .inv .3 .sixteen)
+element-set-from-after-before c = let b = banked (paced (stored c)) in omega (arith, listed b, turn b .loop .inv .3 .sixteen)
 
 add-i : tie.Need-add-i Inv-loop μ-loop
-add-i c =
-    let b = banked (paced (c .before .before .before .before .before .before .before .before)) in
-    omega (arith, b .before .before .loop-test .taken, begun (turn b) .good)
+add-i c = let b = banked (paced (stored c)) in omega (arith, b .before .before .loop-test .taken, begun (turn b) .good)
 
 skip-nothing-requires : tie.Need-skip-nothing-requires Inv-loop μ-loop
 skip-nothing-requires c κs = search needs
 
 -- the bank that node i stands in, by the row before
 there : (c : tie.After-after-before Inv-loop μ-loop) →
-    let b = banked (paced (c .before .before .before .before .before .before .before .before)) in
-    b .bank-after .result ≡ bankAfter (turn b .loop .old .bank) (c .before .before .before .before .before .before .node-at2 .result)
+    let b = banked (paced (stored c)) in
+    b .bank-after .result ≡ bankAfter (turn b .loop .old .bank) (node-before c .node-at2 .result)
 there c =
-    let b = banked (paced (c .before .before .before .before .before .before .before .before)) in
+    let b = banked (paced (stored c)) in
     let l = turn b .loop in
     let s = begun (turn b) in
-    other-row (given s) (row s) (row-before s) (l .i) (b .before .node-at .ensures)
-    (c .before .before .before .before .before .before .node-at2 .ensures) (l .inv .4) (b .bank-after .ensures)
+    other-row (given s) (row s) (row-before s) (l .i) (b .before .node-at .ensures) (node-before c .node-at2 .ensures) (l .inv .4) (b .bank-after .ensures)
 
 -- the pass after node i
 met-next : (c : tie.After-after-before Inv-loop μ-loop) →
-    let b = banked (paced (c .before .before .before .before .before .before .before .before)) in
+    let b = banked (paced (stored c)) in
     let i = turn b .loop .i in
     let s = begun (turn b) in
     passTo (given s) (row s) (row-before s) false (s .args .is-last) (i + 1) ≡ on (walkTo (given s) (row s) (i + 1)) (c .before .before .larger .result)
 met-next c =
-    let o = c .before .before .before .before .before .before .before .before in
+    let o = stored c in
     let g = paced o in
     let b = banked g in
     let l = turn b .loop in
@@ -221,25 +227,22 @@ met-next c =
     pass-goes (given s) (row s) (row-before s) false (s .args .is-last) (l .i + 1)
     (pass-meets (given s) (row s) (row-before s) false (s .args .is-last) (l .i) (l .inv .1) (b .before .node-at .ensures)
     (its-record (given s) (s .pre .0) (room s) (row s) (l .i) (l .inv .2) (b .before .node-at .ensures) (b .bank-after .ensures) _ refl) (seen-is g)
-    (sees (given s) (s .pre .0) (room s) (row-before s) (l .i) (l .inv .3) (c .before .before .before .before .before .before .node-at2 .ensures)
-    (there c) _ _ _
-    (c .before .before .before .before .pace2 .ensures .1) refl)
-    (met-paced _ _ (c .before .before .before .before .pace2 .result)
-    (c .before .before .before .before .before .before .node-at2 .result .index) _ _ _ made (o .off-boundary .ensures)
-    (c .before .before .before .before .before .before .before .if2 .left) (c .before .before .before .node-state .ensures)
-    (c .before .before .larger .ensures)))
+    (sees (given s) (s .pre .0) (room s) (row-before s) (l .i) (l .inv .3) (node-before c .node-at2 .ensures) (there c) _ _ _
+    (paced-before c .pace2 .ensures .1) refl)
+    (met-paced _ _ (paced-before c .pace2 .result) (node-before c .node-at2 .result .index) _ _ _ made (o .off-boundary .ensures)
+    (c .before .before .before .before .before .before .before .if2 .left)
+    (c .before .before .before .node-state .ensures) (c .before .before .larger .ensures)))
     refl
 
 loop-less : tie.Need-loop-less Inv-loop μ-loop
-loop-less c =
-    let b = banked (paced (c .before .before .before .before .before .before .before .before .before .before)) in
-    omega (arith, b .before .before .loop-test .taken)
+loop-less c = let b = banked (paced (c .before .before .before .before .before .before .before .before .before .before)) in omega
+    (arith, b .before .before .loop-test .taken)
 
 -- a node that skips nothing in either row
 loop-again : tie.Need-loop-again Inv-loop μ-loop
 loop-again c =
     let a = c .before .before in
-    let g = paced (a .before .before .before .before .before .before .before .before) in
+    let g = paced (stored a) in
     let b = banked g in
     let l = turn b .loop in
     let s = begun (turn b) in
@@ -248,9 +251,8 @@ loop-again c =
       met-next a,
       walks-still (given s) (s .pre .0) (room s) (row s) (l .i) (l .inv .2) (b .before .node-at .ensures) (b .bank-after .ensures) _ _ _
           (g .pace .ensures .1) refl (none .0),
-      walks-still (given s) (s .pre .0) (room s) (row-before s) (l .i) (l .inv .3)
-          (a .before .before .before .before .before .before .node-at2 .ensures) (there a) _ _ _
-          (a .before .before .before .before .pace2 .ensures .1) refl (none .1),
+      walks-still (given s) (s .pre .0) (room s) (row-before s) (l .i) (l .inv .3) (node-before a .node-at2 .ensures) (there a) _ _ _
+          (paced-before a .pace2 .ensures .1) refl (none .1),
       refl,
     )
 
@@ -259,7 +261,8 @@ mul-lost-after c = omega (arith, listed (banked (paced (c .before .before .befor
 
 element-copy-out-lost-after : tie.Need-element-copy-out-lost-after Inv-loop μ-loop
 element-copy-out-lost-after c =
-    let b = banked (paced (c .before .before .before .before .before .before .before .before .before .before)) in omega (arith, listed b, its b .sums)
+    let b = banked (paced (c .before .before .before .before .before .before .before .before .before .before)) in
+    omega (arith, listed b, its b .sums)
 
 lost-after-requires : tie.Need-lost-after-requires Inv-loop μ-loop
 lost-after-requires c κs = search needs
@@ -268,9 +271,8 @@ mul-lost : tie.Need-mul-lost Inv-loop μ-loop
 mul-lost c = omega (arith, listed (banked (paced (c .before .before .before .before .before .before .before .before .before .before .before .before))))
 
 element-set-from-lost : tie.Need-element-set-from-lost Inv-loop μ-loop
-element-set-from-lost c =
-    let b = banked (paced (c .before .before .before .before .before .before .before .before .before .before .before .before)) in
-    omega (arith, listed b, its b .sums)
+element-set-from-lost c = let b = banked (paced (c .before .before .before .before .before .before .before .before .before .before .before .before)) in omega
+    (arith, listed b, its b .sums)
 
 mul-lost-after-2 : tie.Need-mul-lost-after-2 Inv-loop μ-loop
 mul-lost-after-2 c = omega (arith, listed (banked (paced (c .before .before .before .before .before .before .before .before .before .before .before .before))))
@@ -283,24 +285,26 @@ element-copy-out-lost-after-2 c =
 lost-after-requires-2 : tie.Need-lost-after-requires-2 Inv-loop μ-loop
 lost-after-requires-2 c κs = search needs
 
+-- where both sums are stored, from the place where the node is met
+abbrev stepped : tie.After-lost-after2 Inv-loop μ-loop → tie.After-off-boundary Inv-loop μ-loop
+stepped c = c .before .before .before .before .before .before .before .before .before .before .before .before .before .before
+
 mul-lost-before : tie.Need-mul-lost-before Inv-loop μ-loop
-mul-lost-before c =
-    omega (arith, listed (banked (paced (c .before .before .before .before .before .before .before .before .before .before .before .before .before .before))))
+mul-lost-before c = omega (arith, listed (banked (paced (stepped c))))
 
 element-set-from-lost-before : tie.Need-element-set-from-lost-before Inv-loop μ-loop
 element-set-from-lost-before c =
-    let b = banked (paced (c .before .before .before .before .before .before .before .before .before .before .before .before .before .before)) in
+    let b = banked (paced (stepped c)) in
     omega (arith, listed b, turn b .loop .inv .3 .sums)
 
 loop-less-2 : tie.Need-loop-less-2 Inv-loop μ-loop
-loop-less-2 c =
-    let b = banked (paced (c .before .before .before .before .before .before .before .before .before .before .before .before .before .before)) in
-    omega (arith, b .before .before .loop-test .taken)
+loop-less-2 c = let b = banked (paced (stepped c)) in omega
+    (arith, b .before .before .loop-test .taken)
 
 loop-again-2 : tie.Need-loop-again-2 Inv-loop μ-loop
 loop-again-2 c =
     let a = c .before .before .before .before .before .before in
-    let g = paced (a .before .before .before .before .before .before .before .before) in
+    let g = paced (stored a) in
     let b = banked g in
     let l = turn b .loop in
     let s = begun (turn b) in (
@@ -309,7 +313,7 @@ loop-again-2 c =
       rw (c .before .before .lost-after .ensures) (walks-next (given s) (s .pre .0) (room s) (row s) (l .i) (l .inv .2)
           (b .before .node-at .ensures) (b .bank-after .ensures) _ _ _ (g .pace .ensures .1) refl),
       rw (c .lost-after2 .ensures) (walks-next (given s) (s .pre .0) (room s) (row-before s) (l .i) (l .inv .3)
-          (a .before .before .before .before .before .before .node-at2 .ensures) (there a) _ _ _ (a .before .before .before .before .pace2 .ensures .1) refl),
+          (node-before a .node-at2 .ensures) (there a) _ _ _ (paced-before a .pace2 .ensures .1) refl),
       refl,
     )
 
