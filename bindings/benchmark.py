@@ -5,7 +5,7 @@
     oracle/build.sh --edit bindings/long.edit --flags "-C opt-level=3" build/fast
     python3 bindings/benchmark.py [--ours FOLDER] [--rust FOLDER] [--rehex PROGRAM] [--only TABLE ..] [--turns N] [--write DOCUMENT]
 
-FOLDERs are where the two builds put their programs. Prints the tables machine, layouts, where, series, calls, programs and stack; with --write
+FOLDERs are where the two builds put their programs. Prints the tables machine, layouts, where, series, calls, programs, stack and orders; with --write
 they take the place of those in the document. Ends with 1 where two sides give different answers, where an exported call has no row, or where a stack figure of
 include/denkumari.h is not the measured one."""
 
@@ -17,6 +17,7 @@ from pathlib import Path
 from benchmark_calls import call_rows, ratio
 from benchmark_count import Differ, each, manners, times, wanted
 from benchmark_layouts import LAYOUTS, MARKED, SERIES
+from benchmark_orders import order_rows
 from benchmark_stack import stack_rows
 from benchmark_where import where_rows
 from form1 import encode
@@ -24,7 +25,7 @@ from generate import batched
 from programs_time import program_rows
 
 LONGEST = 65_000
-TABLES = ("machine", "layouts", "where", "series", "calls", "programs", "stack")
+TABLES = ("machine", "layouts", "where", "series", "calls", "programs", "stack", "orders")
 
 
 def big(number):
@@ -123,7 +124,7 @@ def main():
     tables = {"machine": machine_rows, "layouts": lambda: layout_rows(sides, asked.turns), "where": lambda: where_rows(asked.ours, asked.rust),
               "series": lambda: series_rows(sides), "calls": lambda: call_rows(asked.ours, asked.rust, asked.turns),
               "programs": lambda: program_rows([asked.rehex] if asked.rehex else manners.command("rehex"), asked.turns),
-              "stack": lambda: stack_rows(asked.ours)}
+              "stack": lambda: stack_rows(asked.ours), "orders": lambda: order_rows(asked.ours)}
     for name in asked.only or tables:
         rows = []
         print(f"\n<!-- {name} -->")

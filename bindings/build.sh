@@ -1,8 +1,8 @@
 #!/bin/sh
 # Builds the proved archive and the programs over it: target/staticlib/libdenkumari.a, and in build/bindings the C programs batch, test, store, overlays,
-# records, reasons, maps, stack, structs and calls_time, structs_cpp where there is a C++ compiler, and, where a Rust compiler has the x86-64 target, the
-# Rust ones batch_rust, worked_rust, calls_rust, store_rust and overlays_rust. Says what it skipped for want of something, and what it left out since this
-# machine cannot run it.
+# records, reasons, maps, stack, structs, calls_time and orders_time, structs_cpp where there is a C++ compiler, and, where a Rust compiler has the x86-64
+# target, the Rust ones batch_rust, worked_rust, calls_rust, store_rust and overlays_rust. Says what it skipped for want of something, and what it left out
+# since this machine cannot run it.
 #
 # Not on x86-64, CC names a C compiler for it (default x86_64-linux-gnu-gcc; Debian: gcc-x86-64-linux-gnu libc6-dev-amd64-cross), and CXX one for C++
 # (x86_64-linux-gnu-g++; g++-x86-64-linux-gnu). RUSTC names the Rust compiler.
@@ -31,7 +31,7 @@ if ! command -v "$cc" >/dev/null; then
     echo "$skipped: the Rust programs, for want of a C compiler for x86-64 ($cc), which links them"
     exit 0
 fi
-for program in batch test store overlays stack records reasons maps calls_time; do
+for program in batch test store overlays stack records reasons maps calls_time orders_time; do
     "$cc" -std=c11 -O2 -Wall -Wextra -Werror -static -pthread -o "$out/$program" "bindings/c/$program.c" "$out/libdenkumari.a"
 done
 "$cc" -std=c99 -O2 -Wall -Wextra -Wshadow -Wpedantic -Werror -static -o "$out/structs" bindings/c/structs.c "$out/libdenkumari.a"
