@@ -28,18 +28,20 @@ def promised():
 
 def stack_rows(ours):
     yield "| call | needs less than | measured, bytes |\n|---|---|---|"
-    header, wrong, seen = promised(), [], set()
+    header, wrong, most = promised(), [], {}
     lines = subprocess.run([ours / "stack"], stdout=subprocess.PIPE, check=True).stdout.decode().splitlines()
     for name, measured, limit in (re.match(r"(.*): (\d+) bytes of stack, below (\d+)", line).groups() for line in lines):
         call = name.split(",")[0]
-        said, figure = header[call]
-        seen.add(call)
-        kib = math.ceil(int(measured) / 102.4) / 10  # the header rounds up
-        if said * 1024 != int(limit) or (figure is not None and figure != kib):
-            wrong.append(f"{call}: less than {int(limit) // 1024} KiB ({kib} KiB)")
+        # of a call that was made in several ways the header has the most
+        most[call] = max(int(measured), most.get(call, (0, 0))[0]), int(limit)
         yield f"| {name} | {int(limit) // 1024} KiB | {'at most ' * (int(measured) <= 128)}{int(measured):,} |"
-    if seen != set(header):
-        raise Differ(f"bindings/c/stack.c does not measure {sorted(set(header) - seen)}")
+    if set(most) != set(header):
+        raise Differ(f"bindings/c/stack.c does not measure {sorted(set(header) - set(most))}")
+    for call, (measured, limit) in most.items():
+        said, figure = header[call]
+        kib = math.ceil(measured / 102.4) / 10  # the header rounds up
+        if said * 1024 != limit or (figure is not None and figure != kib):
+            wrong.append(f"{call}: less than {limit // 1024} KiB ({kib} KiB)")
     if wrong:
         raise Differ("include/denkumari.h is to say: " + "; ".join(wrong))
 

@@ -1,7 +1,7 @@
 //! Why a file of records is bad: the line at fault, one reason, and what goes with it, in words too.
 
 use crate::ffi;
-use crate::records::{marks_for, Format};
+use crate::records::{scratch_for, Format};
 use std::fmt;
 
 /// What is wrong with the line at fault: the first of these that there is, in this order.
@@ -56,7 +56,7 @@ pub struct BadFile {
 /// assert_eq!(bad.quoted(b":0100000041BF\n:00000001FF\n"), "line 1: the checksum is BF, should be BE: \":0100000041BF\"");
 /// ```
 pub fn reason(format: Format, text: &[u8], load: u32) -> Option<BadFile> {
-    let r = ffi::record_reason(format as u8, text, load, &mut marks_for(text.len()));
+    let r = ffi::record_reason(format as u8, text, load, &mut scratch_for(text.len()));
     let (a, b) = (r.first, r.second);
     let reason = match r.reason {
         0 => return None,

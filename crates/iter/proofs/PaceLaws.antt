@@ -8,27 +8,23 @@ use borrow.Author.Tests.{eq-eqb, ne-eqb}
 use Rattle.refusal.specs.Laws.Bools.{either}
 use Rattle.refusal.specs.Laws.Pick.{pick-true, pick-false}
 use Rattle.refusal.specs.Limits.{maxPosition}
-use Rattle.refusal.specs.Pick.{pick}
-use Rattle.refusal.specs.declared.Opt.{Opt}
 use Rattle.refusal.specs.declared.Opt.the-variants.{None, Some}
 use Rattle.refusal.specs.declared.Refusal.the-variants.{Malformed, PositionPast}
 use Rattle.bankdef.specs.declared.Bankdef.{Bankdef}
-use Rattle.iter.specs.Crossing.{crossingOf, halted, crossedTo, crossedFrom}
+use Rattle.iter.specs.Crossing.{crossingOf, halted}
 use Rattle.iter.specs.Distance.{tellable, addressInBits, distanceTo, skipsOf, noSkip, distanceOf}
 use Rattle.iter.specs.Known.{staysKnown}
 use Rattle.iter.specs.Laws.Crossing.{cross-malformed, cross-blind, cross-stuck, cross-moves}
 use Rattle.iter.specs.Laws.StepFacts.{sees-plain}
-use Rattle.iter.specs.Pace.{numbersOf, crossedBy, Paces, madeBy, haltedBy, onward, addedBy, alignedBy, bankRead}
+use Rattle.iter.specs.Pace.{numbersOf, crossedBy, Paces, madeBy, haltedBy, onward, addedBy, alignedBy}
 use Rattle.iter.specs.Step.{movedBy, movedByDistance, alignedTo, outermostSymbol, seenOf, badState, resolved, movedOn, advancedOf, still, motionOf}
-use Rattle.iter.specs.Step.{alignedMotion, seenMotion, advanceMotion, labelAligned, whenMade, labelSkips, counted, seenSkips, advanceSkips}
+use Rattle.iter.specs.Step.{alignedMotion, seenMotion, advanceMotion}
 use Rattle.iter.specs.Theorems.Advance.{sound-state, early, item, aligning, setting, asserting, other}
 use Rattle.iter.specs.Theorems.Aligned.{four-when, told-when}
-use Rattle.iter.specs.declared.Crossing.{Crossing}
 use Rattle.iter.specs.declared.Distance.{Distance}
 use Rattle.iter.specs.declared.Distance.the-variants.{Skips}
 use Rattle.iter.specs.declared.Motion.{Motion}
-use Rattle.iter.specs.declared.Moved.{Moved}
-use Rattle.iter.specs.declared.Moved.the-variants.{To, Refused}
+use Rattle.iter.specs.declared.Moved.the-variants.{To}
 use Rattle.lists.specs.declared.Node.{Node}
 use Rattle.iter.specs.declared.Paced.{Paced}
 use Rattle.iter.specs.declared.Pos.{Pos}
@@ -46,55 +42,6 @@ skips : {m n : Motion} → m ≡ n → m .skipped ≡ n .skipped
 skips e = ap (λ (m : Motion). m .skipped) e
 
 module _ (def : Bankdef) (at : Pos) (node : Node) where
-  -- ---- what a step reads of a bank's record
-
-  abbrev shown : Bankdef
-  shown = bankRead (def .unit) (def .start) (def .align)
-
-  label-read : (o : Opt) → labelAligned shown o at (node .index) ≡ labelAligned def o at (node .index)
-  unfolding distanceOf
-  label-read None = refl
-  label-read (Some a) = refl
-
-  label-skips-read : (o : Opt) → labelSkips shown o at (node .index) ≡ labelSkips def o at (node .index)
-  unfolding distanceOf
-  label-skips-read None = refl
-  label-skips-read (Some a) = refl
-
-  sees-read : seenOf shown at node ≡ seenOf def at node
-  unfolding seenOf
-  sees-read = ap (λ (m : Moved). pick (outermostSymbol node) m (To at)) (label-read (def .align))
-
-  sight-skips-read : seenSkips shown at node ≡ seenSkips def at node
-  unfolding seenSkips
-  sight-skips-read =
-      ap (λ (s : Skipped). whenMade (seenOf shown at node) (pick (outermostSymbol node) s noSkip)) (label-skips-read (def .align))
-      ∙ ap (λ (m : Moved). whenMade m (pick (outermostSymbol node) (labelSkips def (def .align) at (node .index)) noSkip)) sees-read
-
-  moves-read : (p : Pos) → advancedOf shown p node ≡ advancedOf def p node
-  unfolding advancedOf movedOn distanceOf
-  moves-read p = refl
-
-  own-skips-read : (p : Pos) → advanceSkips shown p node ≡ advanceSkips def p node
-  unfolding advanceSkips advancedOf movedOn distanceOf
-  own-skips-read p = refl
-
-  crossed-read : (m : Moved) → crossedFrom shown at node m ≡ crossedFrom def at node m
-  crossed-read (To p) =
-      ap (λ (s : Skipped). crossedTo at p (counted node s (advanceSkips shown p node)) (advancedOf shown p node)) sight-skips-read
-      ∙ ap (λ (s : Skipped). crossedTo at p (counted node (seenSkips def at node) s) (advancedOf shown p node)) (own-skips-read p)
-      ∙ ap (λ (q : Moved). crossedTo at p (counted node (seenSkips def at node) (advanceSkips def p node)) q) (moves-read p)
-  crossed-read (Refused why) = refl
-
-  bank-read : crossingOf shown at node ≡ crossingOf def at node
-  unfolding crossingOf
-  bank-read =
-      ap (λ (c : Crossing). pick (badState node) (halted at (Malformed (node .index))) c)
-      (ap (λ (m : Moved). crossedFrom shown at node m) sees-read ∙ crossed-read (seenOf def at node))
-
-  pub paces-read : {r : Paced} → Paces shown at node r → Paces def at node r
-  paces-read e = (e .0 ∙ ap numbersOf bank-read, e .1 ∙ bank-read)
-
   -- ---- the numbers of a crossing
 
   pub paces-made : (p q : Pos) (s : Skipped) {r : Paced} → crossingOf def at node ≡ record { seen = To p; skipped = s; after = q }

@@ -18,6 +18,8 @@ use Rattle.iter.proofs.paces.is_bad_state.Kinds as is-bad-state-kinds
 use Rattle.iter.proofs.paces.is_bad_state.Reads as is-bad-state-reads
 use Rattle.iter.proofs.paces.stays_known.Kinds as stays-known-kinds
 use Rattle.iter.proofs.paces.stays_known.Reads as stays-known-reads
+use Rattle.iter.proofs.paces.pace_of_parts.Kinds as pace-of-parts-kinds
+use Rattle.iter.proofs.paces.pace_of_parts.Reads as pace-of-parts-reads
 use Rattle.iter.proofs.paces.pace.Kinds as pace-kinds
 use Rattle.iter.proofs.paces.pace.Reads as pace-reads
 use Rattle.iter.proofs.paces.sight_of.Kinds as sight-of-kinds
@@ -67,3 +69,6 @@ is-bad-state-unique κs a x y e f p q = determined p q
 
 pub stays-known-unique : OneOutcome 0 stays-known-kinds.ps stays-known-kinds.r stays-known-reads.Learnt
 stays-known-unique κs a x y e f p q = determined p q
+
+pub pace-of-parts-unique : OneOutcome 0 pace-of-parts-kinds.ps pace-of-parts-kinds.r pace-of-parts-reads.Learnt
+pace-of-parts-unique κs a x y e f p q = determined (p .0) (q .0)

@@ -6,6 +6,7 @@ pub mod Aligned
 pub mod Cases
 pub mod Crossing
 pub mod Padding
+pub mod Shown
 pub mod Signs
 pub mod StepCases
 pub mod StepFacts

@@ -8,6 +8,7 @@ mod steps;
 pub use alignment::bits_until_alignment;
 pub use paces::is_bad_state;
 pub use paces::pace;
+pub use paces::pace_of_parts;
 pub use paces::sight_of;
 pub use paces::stays_known;
 pub use paces::why_refused;

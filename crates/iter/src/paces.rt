@@ -205,7 +205,7 @@ fn pace_by_kind(def: Bankdef, at: Pos, node: Node) -> Paced
 
 // The same of what it reads of a bank's record and of a node, each part by itself. A struct that is handed to a function is stored first, and what only the
 // rare step reads need not be stored at each node.
-fn pace_of_parts(
+pub fn pace_of_parts(
     unit: u16,
     start: i64,
     align: Opt,

@@ -123,7 +123,19 @@ fn crossing_of(p: Paced, node: u64) -> Crossing
 pub fn cross(def: Bankdef, at: Pos, node: Node) -> Crossing
     ensures { λ r. ⌜ r ≡ crossingOf def at node ⌝ }
 {
-    crossing_of(iter::pace(def, at, node), node.index)
+    let align = def.align;
+    let p = iter::pace_of_parts(
+        def.unit,
+        def.start,
+        align,
+        at,
+        node.index,
+        node.kind,
+        node.operand,
+        node.number,
+        node.state,
+    );
+    crossing_of(p, node.index)
 }
 
 // The walk with a bank's new position, and what it lost.

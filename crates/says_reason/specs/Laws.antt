@@ -1,6 +1,8 @@
 pub mod Bytes
 pub mod Chain
+pub mod Formats
 pub mod Items
+pub mod NoReason
 pub mod One
 pub mod Span
 pub mod Spelling

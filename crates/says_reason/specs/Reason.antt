@@ -8,15 +8,14 @@ use Rattle.record_lines.specs.Pieces.{Piece}
 use Rattle.record_reason.specs.declared.Why.{Why}
 use Rattle.says.specs.Words.{Tries, First, FirstPair, At}
 use Rattle.says_records.specs.Records.{Not, either, Lines, Digit, Spells, total, Hex, IsS, Srec, Width}
-use Rattle.says_records.specs.Read.{Good, GoesOn}
 
+-- "(A format that is neither is taken for S-records.)" (include/denkumari.h): nothing is refused here, and only whether it is 0 is asked
 module _ (format : ℕ) where
   -- ---- one line after the other. In force is the upper half of addresses; in S-records the width of those before, 0 where there are none. A data line: its
   -- piece, what is in force behind it, and the first address that doesn't fit
   pub data DataLine (s : ℕ) (l : List ℕ) : (after top : ℕ) → Piece → Type 0 where
     hex : {field : ℕ} {p : Piece} → format ≡ 0 → Hex either l 0 field (p .bytes) → p .address ≡ 65536 * s + field → DataLine s l s 4294967296 p
-    s-record : {d e w top : ℕ} {p : Piece} → Not (format ≡ 0) → Width d e w top → (s ≡ 0) ⊎ (s ≡ w) → Srec either l d w (p .address) (p .bytes)
-        → DataLine s l w top p
+    s-record : {d e w m : ℕ} {p : Piece} → Not (format ≡ 0) → Width d e w m → (s ≡ 0) ⊎ (s ≡ w) → Srec either l d w (p .address) (p .bytes) → DataLine s l w m p
 
   -- "lines that are bad give none": an S-record whose last address doesn't fit its width is one, an Intel HEX record is not bad by that alone
   pub data LineGives (s : ℕ) (l : List ℕ) : (after : ℕ) → Piece → Type 0 where
@@ -35,8 +34,7 @@ module _ (format : ℕ) where
 
   -- Line k of a file gives a byte to address a.
   pub data GivesTo (ls : List (List ℕ)) (k a : ℕ) : Type 0 where
-    gives-to : {s after : ℕ} {l : List ℕ} {p : Piece} → LineAt 0 ls k s l → LineGives s l after p → p .address ≤ a → a < p .address + length (p .bytes)
-        → GivesTo ls k a
+    gives-to : {s t : ℕ} {l : List ℕ} {p : Piece} → LineAt 0 ls k s l → LineGives s l t p → p .address ≤ a → a < p .address + length (p .bytes) → GivesTo ls k a
 
   -- ---- how a line is spelled. The characters before the digits, those of a line whose count is 0, and the least count
   pub data Form : (from bare least : ℕ) → Type 0 where
@@ -73,8 +71,7 @@ module _ (format : ℕ) where
 
     -- "the checksum: what it is, and what it should be"
     pub data WrongSum (from found should : ℕ) : Type 0 where
-      wrong-sum : (bytes : List ℕ) → Spells either (drop from l) (bytes ++ found ∷ []) → Checksum (total bytes) should → Not (found ≡ should)
-          → WrongSum from found should
+      wrong-sum : (b : List ℕ) → Spells either (drop from l) (b ++ found ∷ []) → Checksum (total b) should → Not (found ≡ should) → WrongSum from found should
 
     -- ---- what its type asks for: "types 00, 01 and 04", "S0, S1, S3, S7 and S9"; in S-records the type is the second character
     pub data OtherType (t : ℕ) : Type 0 where
@@ -85,12 +82,10 @@ module _ (format : ℕ) where
     pub data OtherWidth (s w : ℕ) : Type 0 where
       other-width : {d e top t : ℕ} → Not (format ≡ 0) → Width d e w top → At l 1 t → (t ≡ d) ⊎ (t ≡ e) → Not (s ≡ 0) → Not (s ≡ w) → OtherWidth s w
 
-    -- "0 in type 01, 2 in type 04, 5 in S7, 3 in S9; at least 3 in S0 and S1, 5 in S3"
-    pub data OtherCount (c should : ℕ) : Type 0 where
-      hex : {t f : ℕ} {b : List ℕ} → format ≡ 0 → Hex either l t f b → ((t ≡ 1) × (should ≡ 0)) ⊎ ((t ≡ 4) × (should ≡ 2)) → c ≡ length b
-          → Not (c ≡ should) → OtherCount c should
-      s-data : {d e w top : ℕ} → Not (format ≡ 0) → Width d e w top → At l 1 d → Count 2 c → should ≡ w + 1 → c < should → OtherCount c should
-      s-end : {d e w top : ℕ} → Not (format ≡ 0) → Width d e w top → At l 1 e → Count 2 c → should ≡ w + 1 → Not (c ≡ should) → OtherCount c should
+    -- the count, and what it should be: "0 in type 01, 2 in type 04, 5 in S7, 3 in S9; at least 3 in S0 and S1, 5 in S3"
+    pub data OtherCount (c m : ℕ) : Type 0 where
+      hex : {t f : ℕ} {b : List ℕ} → format ≡ 0 → Hex either l t f b → ((t ≡ 1) × (m ≡ 0)) ⊎ ((t ≡ 4) × (m ≡ 2)) → c ≡ length b → Not (c ≡ m) → OtherCount c m
+      s-record : {d e w top : ℕ} → Not (format ≡ 0) → Width d e w top → Count 2 c → m ≡ w + 1 → (At l 1 d × (c < m)) ⊎ (At l 1 e × Not (c ≡ m)) → OtherCount c m
 
     -- "address field 0000"
     pub data OtherField (f : ℕ) : Type 0 where
@@ -98,15 +93,14 @@ module _ (format : ℕ) where
 
     -- ---- its bytes: the address of the last, and the last that there is
     pub data Past (s : ℕ) : (last greatest : ℕ) → Type 0 where
-      past : {after top : ℕ} {p : Piece} → DataLine s l after top p → top < p .address + length (p .bytes)
-          → Past s (p .address + length (p .bytes) - 1) (top - 1)
+      past : {t top : ℕ} {p : Piece} → DataLine s l t top p → top < p .address + length (p .bytes) → Past s (p .address + length (p .bytes) - 1) (top - 1)
 
     -- "the address of the line's first byte, and the lowest that a line of the file gives a byte at"
     pub data Below (load : ℕ) (ls : List (List ℕ)) (s : ℕ) : (first lowest : ℕ) → Type 0 where
       below : {after lowest : ℕ} {p : Piece} → LineGives s l after p → 0 < length (p .bytes) → p .address < load
           → First (λ (a : ℕ). (k : ℕ) × GivesTo ls k a) lowest → Below load ls s (p .address) lowest
 
-  -- ---- the line at fault, and the first reason in this order
+  -- ---- a line by its number, from 0, and the first reason in this order
   module _ (load : ℕ) (ls : List (List ℕ)) (n : ℕ) where
     abbrev pub why : ℕ → ℕ → ℕ → Why
     why reason first second = record { reason = reason; line = n; first = first; second = second }
@@ -132,21 +126,18 @@ module _ (format : ℕ) where
           (Tries (λ (x : ℕ × ℕ). Below l load ls s (x .0) (x .1)) (λ x. why 10 (x .0) (x .1))
           Twice)))))))))) y → LineSays y
 
+    -- the line before is an end record
+    abbrev pub Ended : Type 0
+    Ended = (m : ℕ) × (l : List ℕ) × (n ≡ suc m) × At ls m l × EndRecord l
+
     -- "a line behind the end record"; "the text ends without an end record: `line` is the number of its lines"
-    abbrev pub FaultLine : Why → Type 0
-    FaultLine =
-        Tries (λ (m : ℕ). (n ≡ suc m) × ((l : List ℕ) × At ls m l × EndRecord l)) (λ _. why 12 0 0)
-        (Tries (λ (_ : Unit {0}). n ≡ length ls) (λ _. why 13 0 0) LineSays)
+    pub data FaultLine : Why → Type 0 where
+      behind : n < length ls → Ended → FaultLine (why 12 0 0)
+      no-end : n ≡ length ls → Not Ended → FaultLine (why 13 0 0)
+      line : {y : Why} → Not Ended → LineSays y → FaultLine y
 
-  pub data ReasonSays (load : ℕ) (text : List ℕ) : Why → Type 0 where
-    good : {ps : List Piece} → Good format load text ps → ReasonSays load text (record { reason = 0; line = 0; first = 0; second = 0 })
-    bad : {n : ℕ} {ls : List (List ℕ)} {y : Why} → GoesOn format load text n → Not (GoesOn format load text (suc n)) → Lines text ls
-        → FaultLine load ls n y → ReasonSays load text y
-
--- ---- the call. "(A format that is neither is taken for S-records.)" (include/denkumari.h): nothing is refused here
-pub data ReadAs (format : ℕ) : ℕ → Type 0 where
-  as-hex : format ≡ 0 → ReadAs format 0
-  as-s-records : Not (format ≡ 0) → ReadAs format 1
-
-pub data DkReasonSays (format load : ℕ) (text : List ℕ) (y : Why) : Type 0 where
-  reads-as : {kind : ℕ} → ReadAs format kind → ReasonSays kind load text y → DkReasonSays format load text y
+  -- the first line that has a reason is told
+  pub data DkReasonSays (load : ℕ) (text : List ℕ) : Why → Type 0 where
+    none : {ls : List (List ℕ)} → Lines text ls → ((n : ℕ) (y : Why) → Not (FaultLine load ls n y)) → DkReasonSays load text (why load ls 0 0 0 0)
+    first : {n : ℕ} {ls : List (List ℕ)} {y : Why} → Lines text ls → First (λ (k : ℕ). (z : Why) × FaultLine load ls k z) n → FaultLine load ls n y
+        → DkReasonSays load text y

@@ -1,17 +1,24 @@
 -- A crossing is what its numbers tell.
 use borrow.Author.Needs.{needs}
+use mir.Syntax.{w64}
+use mir.Val.{SFits}
+use mir.ValLaws.{toZ-ofZ}
 use mathlib.Core.Path.{_∙_}
+use Rattle.iter.specs.Laws.Shown.{paces-read}
 use Rattle.iter_step.proofs.cross.Statement.{statement}
 use Rattle.iter_step.proofs.cross.Tie as tie
 
-pace-requires : tie.Need-pace-requires
-pace-requires c κs = search needs
+pace-of-parts-requires : tie.Need-pace-of-parts-requires
+pace-of-parts-requires c κs = search needs
 
 crossing-of-requires : tie.Need-crossing-of-requires
 crossing-of-requires c κs = search needs
 
 returns : tie.Need-returns
-returns c = c .crossing-of .ensures ∙ c .before .pace .ensures .1
+returns c =
+    let a = c .before .before .before .args in
+    let fits : SFits w64 (a .def .start) = search needs in
+    c .crossing-of .ensures ∙ paces-read (a .def) (a .at) (a .node) (rw (toZ-ofZ w64 _ fits) at (c .before .pace-of-parts .ensures)) .1
 
 pub cross-spec : {M : Type 1} → statement M
-cross-spec = tie.close (tie.spec pace-requires crossing-of-requires returns)
+cross-spec = tie.close (tie.spec pace-of-parts-requires crossing-of-requires returns)

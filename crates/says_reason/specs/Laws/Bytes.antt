@@ -83,7 +83,7 @@ module _ (format : ℕ) where
     covers-gives {t = t} {l = l} x c = s.gives-to x (item-gives format t l (c .3)) (c .4) (c .5)
 
     pub gives-covers : (k a : ℕ) → GivesTo format (lines format text) k a → Covers (itemOf format text k) a
-    gives-covers k a (s.gives-to {s = st} {after} {l} {p} x g h i) =
+    gives-covers k a (s.gives-to {s = st} {t = after} {l} {p} x g h i) =
         let d = drop-line format x in
         let same = line-one format (line-at format text k (d .1)) x in
         let e : itemOf format text k ≡ gives (p .address) (p .bytes) after =
@@ -126,6 +126,19 @@ module _ (format : ℕ) where
         new-append (trail format text n .given) (newPieces (itemOf format text n)) first end
         ∙ rw (all-new first end n (λ k i. h k (omega arith)), h n (omega arith)) refl
 
+    each-new : (first end n : ℕ) → isNew (trail format text n .given) first end ≡ true → (k : ℕ) → k < n
+        → isNew (newPieces (itemOf format text k)) first end ≡ true
+    unfolding trail isNew
+    each-new first end zero e k h = absurd (omega arith)
+    each-new first end (suc n) e k h =
+        let before = trail format text n .given in
+        let own = newPieces (itemOf format text n) in
+        let two = both (isNew before first end) (isNew own first end) (sym (new-append before own first end) ∙ e) in
+        elim (decLt k n) [
+          | yes p ↦ each-new first end n (two .0) k p
+          | no p ↦ let same : n ≡ k = omega arith in subst (λ (i : ℕ). isNew (newPieces (itemOf format text i)) first end ≡ true) same (two .1)
+        ]
+
     -- an item that is in the way gives bytes, and some of them
     in-way : (x : Item) (first end : ℕ) → isNew (newPieces x) first end ≡ false
         → (start : ℕ) × (b : List ℕ) × (after : ℕ) × (x ≡ gives start b after) × (first < start + length b) × (start < end) × (0 < length b)
@@ -149,6 +162,22 @@ module _ (format : ℕ) where
         either (leb (endOf p) first)
         (λ q. omega (arith, leb-true (endOf p) first q))
         (λ q. omega (arith, leb-true end start (rw q at (w .0))))
+
+    -- a byte of an item that gives bytes is one of them
+    within : {x : Item} {start y after : ℕ} {b : List ℕ} → x ≡ gives start b after → Covers x y → (start ≤ y) × (y < start + length b)
+    within {start = start} {after = after} {b = b} item c =
+        let same : gives (c .0) (c .1) (c .2) ≡ gives start b after = sym (c .3) ∙ item in
+        let z : c .0 ≡ start = cc in
+        let w : c .1 ≡ b = cc in
+        (omega (arith, c .4), omega (arith, c .5, ap (λ (k : List ℕ). length k) w))
+
+    -- what is new was given by no line before
+    pub new-once : (n start : ℕ) (b : List ℕ) (after : ℕ) → itemOf format text n ≡ gives start b after
+        → isNew (trail format text n .given) start (start + length b) ≡ true → (k y : ℕ) → k < n → GivesTo format (lines format text) k y
+        → GivesTo format (lines format text) n y → ⊥
+    new-once n start b after item e k y h one two =
+        let own = within item (gives-covers n y two) in
+        shares (itemOf format text k) start (start + length b) y (gives-covers k y one) (own .0) (own .1) (each-new start (start + length b) n e k h)
 
     module _ (n start : ℕ) (b : List ℕ) (after : ℕ) (l : List ℕ) (rest : List (List ℕ)) (here : drop n (lines format text) ≡ l ∷ rest)
         (item : itemOf format text n ≡ gives start b after) (some : 0 < length b) where
@@ -189,12 +218,7 @@ module _ (format : ℕ) where
           drop-before h = drop-some (lines format text) first (omega (arith, h, drop-long n (lines format text) here))
 
           own-start : (y : ℕ) → GivesTo format (lines format text) n y → (start ≤ y) × (y < end)
-          own-start y g =
-              let c = gives-covers n y g in
-              let same : gives (c .0) (c .1) (c .2) ≡ gives start b after = sym (c .3) ∙ item in
-              let z : c .0 ≡ start = cc in
-              let w : c .1 ≡ b = cc in
-              (omega (arith, c .4), omega (arith, c .5, ap (λ (k : List ℕ). length k) w))
+          own-start y g = within item (gives-covers n y g)
 
           order : (c y : ℕ) → (c < n) × GivesTo format (lines format text) c y × GivesTo format (lines format text) n y → (a : ℕ) (bs : List ℕ) (t : ℕ)
               → itemOf format text first ≡ gives a bs t → first < n → (first < c) ⊎ ((first ≡ c) × (max start a ≤ y))

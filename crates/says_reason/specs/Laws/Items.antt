@@ -1,17 +1,18 @@
 -- What a line says, by the definitions and by the sentences: the same, for Intel HEX and for S-records.
 use mathlib.Core.Path.{_≡_, refl, sym, ap, _∙_, subst}
-use mathlib.Core.Bool.{Bool, true, false, _||_}
+use mathlib.Core.Bool.{Bool, true, false, _&&_, _||_}
 use mathlib.Core.List.{List, [], _∷_}
-use mathlib.Core.Logic.{_⊎_, inl, inr}
+use mathlib.Core.Logic.{_⊎_, inl, inr, ⊎-elim}
 use Prim.Native.Nat.{ℕ, _+_, _*_}
 use native.Mathlib.Omega.{arith}
 use borrow.Author.Tests.{eq-eqb, ne-eqb, eqb-true, eqb-false}
-use lib.Dec.{eqb}
+use lib.Dec.{ltb, eqb}
 use Rattle.refusal.specs.Laws.Bools.{either}
+use Rattle.record_lines.specs.Digits.{pairAt}
 use Rattle.record_lines.specs.Items.{Item, gives, passes, ends, bad}
 use Rattle.record_lines.specs.Pieces.{Piece, piece}
 use Rattle.record_ihex_line.specs.Format.{hexItem}
-use Rattle.record_srec_line.specs.Srec.{endDigit, agrees, endLine, typed, srecItem}
+use Rattle.record_srec_line.specs.Srec.{dataDigit, endDigit, addressOf, dataOf, agrees, fits, dataLine, endLine, typed, srecItem}
 use Rattle.record_srec_line.specs.ReadBack as back
 use Rattle.record_fault.specs.Reading.{formatBy, stateAfter}
 use Rattle.says_records.specs.Records as r
@@ -22,7 +23,18 @@ use Rattle.says_records.specs.Laws.SrecLine as srec
 use Rattle.says_records.specs.Laws.SrecLine.{SrecSaid, width-is, is-width, srec-sound, kind-back}
 use Rattle.says_records.specs.Theorems.WriteDecides.{same-piece}
 use Rattle.says_reason.specs.Reason as s
-use Rattle.says_reason.specs.Reason.{LineGives, After, EndRecord}
+use Rattle.says_reason.specs.Reason.{DataLine, LineGives, After, EndRecord}
+
+-- an end record, and a line that is skipped: neither bad nor with bytes
+pub data Kept : Item → Type 0 where
+  ended : Kept ends
+  skipped : {a : ℕ} → Kept (passes a)
+
+pub clashes : {a b : Item} → Kept a → a ≡ b → (b ≡ bad) ⊎ ((x : ℕ) × (y : List ℕ) × (z : ℕ) × (b ≡ gives x y z)) → ⊥
+clashes ended e (inl f) = let z : _≡_ {A = ℕ} 0 1 = cc in omega arith
+clashes ended e (inr (x, y, z, f)) = let z : _≡_ {A = ℕ} 0 1 = cc in omega arith
+clashes skipped e (inl f) = let z : _≡_ {A = ℕ} 0 1 = cc in omega arith
+clashes skipped e (inr (x, y, z, f)) = let z : _≡_ {A = ℕ} 0 1 = cc in omega arith
 
 -- ---- the width in force
 pub own-width : (st w : ℕ) → agrees st w ≡ true → (st ≡ 0) ⊎ (st ≡ w)
@@ -42,6 +54,15 @@ unfolding srecItem typed endLine
 other-end st back.two x f = rw (srec-sound x, kind-back x, f)
 other-end st back.four x f = rw (srec-sound x, kind-back x, f)
 
+-- a data record is bad or gives bytes
+data-or-bad : (st : ℕ) {w a : ℕ} {l b : List ℕ} → back.Width w → Srec r.either l (dataDigit w) w a b
+    → (srecItem st l ≡ bad) ⊎ ((x : ℕ) × (y : List ℕ) × (z : ℕ) × (srecItem st l ≡ gives x y z))
+unfolding srecItem typed dataLine
+data-or-bad st {l = l} back.two x = either (agrees st 2 && ltb 2 (pairAt l 2) && fits 2 l)
+    (λ t. inr (addressOf 2 l, dataOf 2 l, 2, rw (srec-sound x, kind-back x, t) refl)) (λ f. inl (rw (srec-sound x, kind-back x, f) refl))
+data-or-bad st {l = l} back.four x = either (agrees st 4 && ltb 4 (pairAt l 2) && fits 4 l)
+    (λ t. inr (addressOf 4 l, dataOf 4 l, 4, rw (srec-sound x, kind-back x, t) refl)) (λ f. inl (rw (srec-sound x, kind-back x, f) refl))
+
 module _ (format : ℕ) where
   pub as-hex : format ≡ 0 → (st : ℕ) (l : List ℕ) → formatBy format st l ≡ hexItem st l
   as-hex f st l = rw (eq-eqb format 0 f)
@@ -58,6 +79,15 @@ module _ (format : ℕ) where
       let k = is-width v in
       as-srec n st l ∙ srec.item-data (k .0) st (subst (λ (d : ℕ). Srec r.either l d w (p .address) (p .bytes)) (k .1) h) (agrees-own st w o)
       (omega (arith, k .3))
+
+  pub data-item : {st after top : ℕ} {l : List ℕ} {p : Piece} → DataLine format st l after top p
+      → (formatBy format st l ≡ bad) ⊎ ((x : ℕ) × (y : List ℕ) × (z : ℕ) × (formatBy format st l ≡ gives x y z))
+  data-item {st} {after} {p = p} (s.hex f h e) = inr (p .address, p .bytes, after, gives-item (s.line-gives (s.hex f h e) (inl f)))
+  data-item {st} {l = l} (s.s-record {w = w} {p = p} n v o h) =
+      let k = is-width v in
+      let same = as-srec n st l in
+      ⊎-elim (λ e. inl (same ∙ e)) (λ x. inr (x .0, x .1, x .2, same ∙ x .3))
+      (data-or-bad st (k .0) (subst (λ (d : ℕ). Srec r.either l d w (p .address) (p .bytes)) (k .1) h))
 
   pub upper-item : (st : ℕ) {a b : ℕ} {l : List ℕ} → format ≡ 0 → Hex r.either l 4 0 (a ∷ b ∷ []) → formatBy format st l ≡ passes (256 * a + b)
   upper-item st {l = l} f h = as-hex f st l ∙ hex.item-upper st h

@@ -126,22 +126,16 @@ module _ (format : ℕ) where
     other-count-one (s.hex f h o e n) (s.hex g k o′ e′ n′) =
         let same = hex-one h k in
         (e ∙ ap (λ (b : List ℕ). length b) (same .2) ∙ sym e′, should-one (same .0) o o′)
-    other-count-one (s.hex f h o e n) (s.s-data m v x c i j) = absurd (m f)
-    other-count-one (s.hex f h o e n) (s.s-end m v x c i j) = absurd (m f)
-    other-count-one (s.s-data m v x c i j) (s.hex f h o e n) = absurd (m f)
-    other-count-one (s.s-data m v x c i j) (s.s-data m′ v′ y d i′ j′) =
+    other-count-one (s.hex f h o e n) (s.s-record m v c i (inl (x, j))) = absurd (m f)
+    other-count-one (s.hex f h o e n) (s.s-record m v c i (inr (x, j))) = absurd (m f)
+    other-count-one (s.s-record m v c i (inl (x, j))) (s.hex f h o e n) = absurd (m f)
+    other-count-one (s.s-record m v c i (inl (x, j))) (s.s-record m′ v′ d i′ (inl (y, j′))) =
         (count-one 2 c d, omega (arith, by-data v v′ (at-one l 1 x y)))
-    other-count-one (s.s-data m v x c i j) (s.s-end m′ v′ y d i′ j′) = absurd (distinct v v′ .0 (at-one l 1 x y))
-    other-count-one (s.s-end m v x c i j) (s.hex f h o e n) = absurd (m f)
-    other-count-one (s.s-end m v x c i j) (s.s-data m′ v′ y d i′ j′) = absurd (distinct v v′ .1 (at-one l 1 x y))
-    other-count-one (s.s-end m v x c i j) (s.s-end m′ v′ y d i′ j′) =
+    other-count-one (s.s-record m v c i (inl (x, j))) (s.s-record m′ v′ d i′ (inr (y, j′))) = absurd (distinct v v′ .0 (at-one l 1 x y))
+    other-count-one (s.s-record m v c i (inr (x, j))) (s.hex f h o e n) = absurd (m f)
+    other-count-one (s.s-record m v c i (inr (x, j))) (s.s-record m′ v′ d i′ (inl (y, j′))) = absurd (distinct v v′ .1 (at-one l 1 x y))
+    other-count-one (s.s-record m v c i (inr (x, j))) (s.s-record m′ v′ d i′ (inr (y, j′))) =
         (count-one 2 c d, omega (arith, width-by v v′ (at-one l 1 x y) (inr refl) (inr refl)))
 
     pub other-field-one : {f g : ℕ} → OtherField format l f → OtherField format l g → f ≡ g
     other-field-one (s.other-field f h o n) (s.other-field g k o′ n′) = hex-one h k .1
-
--- one of the two formats
-pub one-of-two : (format : ℕ) → format < 2 → (format ≡ 0 → ⊥) → (format ≡ 1 → ⊥) → ⊥
-one-of-two zero h a b = a refl
-one-of-two (suc zero) h a b = b refl
-one-of-two (suc (suc n)) h a b = omega (arith, h)

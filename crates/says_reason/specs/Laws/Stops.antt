@@ -1,8 +1,8 @@
--- Where a reader stops: what is known of the line at fault and of the line before it.
+-- Where a reader stops: what is known of the line at fault, of the line before it, and of all lines before.
 use mathlib.Core.Path.{_≡_, refl, ap, _∙_}
 use mathlib.Core.Bool.{Bool, true, false}
 use mathlib.Core.List.{List, [], _∷_, _++_, append-nil}
-use Prim.Native.Nat.{ℕ, zero, suc, _+_, _≤_, _<_}
+use Prim.Native.Nat.{ℕ, zero, suc, _+_, _-_, _≤_, _<_}
 use native.Mathlib.Omega.{arith}
 use lib.ListN.{length, drop}
 use Rattle.refusal.specs.Pick.{pick}
@@ -12,7 +12,8 @@ use Rattle.record_fault.specs.Reading.{formatBy, Read, sound, faulty, later, ne
 use Rattle.record_fault.specs.Trail.{trail}
 use Rattle.record_reason.specs.Reasons.{itemOf, isEnd, endsBefore}
 use Rattle.says_records.specs.Laws.Faults.{later-fault}
-use Rattle.says_reason.specs.Laws.Trails.{lines, line-is, drop-next, drop-long}
+use Rattle.says_reason.specs.Laws.Items.{Kept, ended, skipped}
+use Rattle.says_reason.specs.Laws.Trails.{lines, line-is, drop-next, drop-long, empty-drop}
 
 is-end-not : (x : Item) → (x ≡ ends → ⊥) → isEnd x ≡ false
 is-end-not (gives a b c) n = refl
@@ -51,8 +52,8 @@ module _ (format load : ℕ) (text : List ℕ) where
     item-is : itemOf format text n ≡ formatBy format (stateAt n) l
     item-is = ap (λ (k : List ℕ). formatBy format (stateAt n) k) (line-is format text n here)
 
-    next-reads : (x : Item) → itemOf format text n ≡ x → reads ls (stateAfter (stateAt n) x) (givenAt n ++ newPieces x) ≡ faulty m
-        → reads (drop (suc n) (lines format text)) (stateAt (suc n)) (givenAt (suc n)) ≡ faulty m
+    next-reads : (x : Item) {y : Read} → itemOf format text n ≡ x → reads ls (stateAfter (stateAt n) x) (givenAt n ++ newPieces x) ≡ y
+        → reads (drop (suc n) (lines format text)) (stateAt (suc n)) (givenAt (suc n)) ≡ y
     unfolding trail
     next-reads x e h =
         ap (λ (k : List (List ℕ)). reads k (stateAfter (stateAt n) (itemOf format text n)) (givenAt n ++ newPieces (itemOf format text n))) next
@@ -156,3 +157,94 @@ module _ (format load : ℕ) (text : List ℕ) where
   pub fault-within : (n : ℕ) → readText format load text ≡ faulty n → n ≤ length (lines format text)
   fault-within zero e = omega arith
   fault-within (suc n) e = let z : suc n ≡ n + 1 = omega arith in omega (arith, left-by n (reach n 1 (e ∙ ap faulty z)))
+
+  -- ---- the lines before it, and all of a good file: nothing is wrong with them, and behind the last line stands nothing
+  pub data Stands (n : ℕ) : Type 0 where
+    given : {l : List ℕ} {rest : List (List ℕ)} (a : ℕ) (b : List ℕ) (after : ℕ) → Goes n → drop n (lines format text) ≡ l ∷ rest
+        → formatBy format (stateAt n) l ≡ gives a b after → fine load (givenAt n) (newPieces (gives a b after)) ≡ true → Stands n
+    kept : {l : List ℕ} {rest : List (List ℕ)} {x : Item} → Goes n → drop n (lines format text) ≡ l ∷ rest → formatBy format (stateAt n) l ≡ x → Kept x
+        → Stands n
+    over : length (lines format text) ≤ n → (n ≡ length (lines format text) → endsBefore format text n ≡ true) → Stands n
+
+  module _ (n : ℕ) (l : List ℕ) (ls : List (List ℕ)) (goes : Goes n) (here : drop n (lines format text) ≡ l ∷ ls) where
+    stands-piece : (a : ℕ) (b : List ℕ) (after : ℕ) → formatBy format (stateAt n) l ≡ gives a b after → (t : Bool)
+        → fine load (givenAt n) (newPieces (gives a b after)) ≡ t
+        → (pick t (later (reads ls after (givenAt n ++ newPieces (gives a b after)))) (faulty 0) ≡ faulty 0 → ⊥) → Stands n
+    stands-piece a b after e true f h = given a b after goes here e f
+    stands-piece a b after e false f h = absurd (h refl)
+
+    stands-by : (x : Item) → formatBy format (stateAt n) l ≡ x → (goOn load (givenAt n) (isNone ls) (reads ls) x ≡ faulty 0 → ⊥) → Stands n
+    stands-by (gives a b after) e h = stands-piece a b after e (fine load (givenAt n) (newPieces (gives a b after))) refl h
+    stands-by (passes after) e h = kept goes here e skipped
+    stands-by ends e h = kept goes here e ended
+    stands-by bad e h = absurd (h refl)
+
+  stands-here : (n : ℕ) (k : List (List ℕ)) → Goes n → drop n (lines format text) ≡ k → (reads k (stateAt n) (givenAt n) ≡ faulty 0 → ⊥) → Stands n
+  unfolding readFrom
+  stands-here n [] g here h = absurd (h refl)
+  stands-here n (l ∷ ls) g here h = stands-by n l ls g here (formatBy format (stateAt n) l) refl h
+
+  stands-from : (n m : ℕ) → Reaches n (suc m) → Stands n
+  stands-from n m (on e g) = stands-here n (drop n (lines format text)) g refl (λ f. let z : _≡_ {A = ℕ} 0 (suc m) = cc in omega arith)
+  stands-from n m (behind z e f) = absurd (omega arith)
+
+  pub stands-before : (n k : ℕ) → readText format load text ≡ faulty n → k < n → Stands k
+  stands-before n k e h =
+      let m = n - k - 1 in
+      let z : n ≡ k + suc m = omega arith in
+      stands-from k m (reach k (suc m) (e ∙ ap faulty z))
+
+  -- a good file, n lines on
+  data Sounds (out : List Piece) (n : ℕ) : Type 0 where
+    still : reads (drop n (lines format text)) (stateAt n) (givenAt n) ≡ sound out → Goes n → Sounds out n
+    over : length (lines format text) ≤ n → (n ≡ length (lines format text) → endsBefore format text n ≡ true) → Sounds out n
+
+  module _ (out : List Piece) (n : ℕ) (l : List ℕ) (ls : List (List ℕ)) (here : drop n (lines format text) ≡ l ∷ ls) where
+    same-sound : (x : Read) → later x ≡ sound out → x ≡ sound out
+    same-sound (sound p) e = e
+    same-sound (faulty i) e = let z : _≡_ {A = ℕ} 0 1 = cc in absurd (omega arith)
+
+    sound-piece : (a : ℕ) (b : List ℕ) (after : ℕ) → itemOf format text n ≡ gives a b after → (t : Bool)
+        → pick t (later (reads ls after (givenAt n ++ newPieces (gives a b after)))) (faulty 0) ≡ sound out → Sounds out (suc n)
+    sound-piece a b after e true h = still (next-reads n 0 l ls here (gives a b after) e (same-sound _ h)) (
+      λ f. let z : _≡_ {A = ℕ} 0 1 = cc in omega arith,
+      λ f. let z : _≡_ {A = ℕ} 0 1 = cc in omega arith,
+    )
+    sound-piece a b after e false h = let z : _≡_ {A = ℕ} 0 1 = cc in absurd (omega arith)
+
+    sound-end : (ms : List (List ℕ)) → ls ≡ ms → itemOf format text n ≡ ends → pick (isNone ms) (sound (givenAt n)) (faulty 1) ≡ sound out
+        → Sounds out (suc n)
+    sound-end [] s e h = over (empty-drop (suc n) (lines format text) (next n 0 l ls here ∙ s)) (λ z. ap isEnd e)
+    sound-end (k ∷ ms) s e h = let z : _≡_ {A = ℕ} 0 1 = cc in absurd (omega arith)
+
+    sound-by : (x : Item) → itemOf format text n ≡ x → goOn load (givenAt n) (isNone ls) (reads ls) x ≡ sound out → Sounds out (suc n)
+    sound-by (gives a b after) e h = sound-piece a b after e (fine load (givenAt n) (newPieces (gives a b after))) h
+    sound-by (passes after) e h =
+        still (next-reads n 0 l ls here (passes after) e (ap (λ (g : List Piece). reads ls after g) (append-nil (givenAt n)) ∙ same-sound _ h)) (
+          λ f. let z : _≡_ {A = ℕ} 0 1 = cc in omega arith,
+          λ f. let z : _≡_ {A = ℕ} 0 1 = cc in omega arith,
+        )
+    sound-by ends e h = sound-end ls refl e h
+    sound-by bad e h = let z : _≡_ {A = ℕ} 0 1 = cc in absurd (omega arith)
+
+  sound-step : (out : List Piece) (n : ℕ) (k : List (List ℕ)) → drop n (lines format text) ≡ k → reads k (stateAt n) (givenAt n) ≡ sound out
+      → Sounds out (suc n)
+  unfolding readFrom
+  sound-step out n [] here e = let z : _≡_ {A = ℕ} 0 1 = cc in absurd (omega arith)
+  sound-step out n (l ∷ ls) here e = sound-by out n l ls here (formatBy format (stateAt n) l) (item-is n 0 l ls here) e
+
+  sounds : (out : List Piece) → readText format load text ≡ sound out → (n : ℕ) → Sounds out n
+  unfolding trail
+  sounds out e zero = still e tt
+  sounds out e (suc n) = on-from (sounds out e n)
+    where
+      on-from : Sounds out n → Sounds out (suc n)
+      on-from (still f g) = sound-step out n (drop n (lines format text)) refl f
+      on-from (over h f) = over (omega arith) (λ z. absurd (omega arith))
+
+  pub stands-good : (out : List Piece) → readText format load text ≡ sound out → (n : ℕ) → Stands n
+  stands-good out e n = go (sounds out e n)
+    where
+      go : Sounds out n → Stands n
+      go (still f g) = stands-here n (drop n (lines format text)) g refl (λ h. let z : _≡_ {A = ℕ} 0 1 = cc in omega arith)
+      go (over h f) = over h f

@@ -12,7 +12,7 @@ use Rattle.refusal.specs.Laws.Bools.{either, clash}
 use Rattle.refusal.specs.Pick.{pick}
 use Rattle.bitvec.specs.Laws.Lists.{length-listOf}
 use Rattle.record_lines.specs.Digits.{pairAt, bytesAt}
-use Rattle.record_lines.specs.Items.{Item, gives, passes, ends, bad}
+use Rattle.record_lines.specs.Items.{Item}
 use Rattle.record_ihex_line.specs.Format.{wordAt, countOf, fieldOf, typeOf, goodLine, byType, hexItem}
 use Rattle.record_srec_line.specs.Srec.{dataDigit, endDigit, isSound, agrees, endLine, headerLine, typed, srecItem}
 use Rattle.record_srec_line.specs.ReadBack as back
@@ -23,7 +23,7 @@ use Rattle.record_reason.specs.Reasons.{toldOf}
 use Rattle.record_reason.specs.declared.Cause.{Cause}
 use Rattle.record_reason.specs.declared.Why.{Why}
 use Rattle.says.specs.Words as w
-use Rattle.says.specs.Words.{Tries, At}
+use Rattle.says.specs.Words.{Tries, First, At}
 use Rattle.says_records.specs.Records as r
 use Rattle.says_records.specs.Records.{Hex, Width}
 use Rattle.says_records.specs.Laws.One.{hex-one}
@@ -31,9 +31,9 @@ use Rattle.says_records.specs.Laws.HexLine.{good-hex}
 use Rattle.says_records.specs.Laws.SrecLine.{width-is}
 use Rattle.says_records.specs.Theorems.ReadDecides.{distinct, by-data}
 use Rattle.says_reason.specs.Reason as s
-use Rattle.says_reason.specs.Reason.{Count, OtherType, OtherWidth, OtherCount, OtherField, why}
+use Rattle.says_reason.specs.Reason.{NoDigit, Count, Long, WrongSum, OtherType, OtherWidth, OtherCount, OtherField, why}
 use Rattle.says_reason.specs.Laws.One.{at-one, inside, count-one, width-by}
-use Rattle.says_reason.specs.Laws.Items.{own-width, agrees-own, as-hex, as-srec}
+use Rattle.says_reason.specs.Laws.Items.{Kept, ended, skipped, clashes, own-width, agrees-own, as-hex, as-srec}
 use Rattle.says_reason.specs.Laws.Chain.{unless, where-so}
 use Rattle.says_reason.specs.Laws.Span.{SpanSays, AtFault, broken, unfit}
 
@@ -50,17 +50,17 @@ TypeSays format load ls n st l =
     Tries (OtherType format l) (λ t. why format load ls n 6 t 0)
     (Tries (OtherWidth format l st) (λ w. why format load ls n 7 w st) (CountSays format load ls n st l))
 
+-- and all of them, from how a line is spelled on
+abbrev pub LineChain : (format load : ℕ) (ls : List (List ℕ)) (n st from bare least : ℕ) (l : List ℕ) → Why → Type 0
+LineChain format load ls n st from bare least l =
+    Tries (λ (_ : Unit {0}). s.Starts format l → ⊥) (λ _. why format load ls n 1 0 0)
+    (Tries (First (NoDigit format l from)) (λ k. why format load ls n 2 k (getD l k 0))
+    (Tries (λ (m : ℕ). Long format l from bare least m × (length l ≡ m → ⊥)) (λ m. why format load ls n 3 (length l) m)
+    (Tries (λ (c : ℕ). Count format l from c × (c < least)) (λ c. why format load ls n 4 c least)
+    (Tries (λ (x : ℕ × ℕ). WrongSum format l from (x .0) (x .1)) (λ x. why format load ls n 5 (x .0) (x .1))
+    (TypeSays format load ls n st l)))))
+
 -- a line at fault is neither an end record nor skipped
-data Kept : Item → Type 0 where
-  ended : Kept ends
-  skipped : {a : ℕ} → Kept (passes a)
-
-clashes : {a b : Item} → Kept a → a ≡ b → (b ≡ bad) ⊎ ((x : ℕ) × (y : List ℕ) × (z : ℕ) × (b ≡ gives x y z)) → ⊥
-clashes ended e (inl f) = let z : _≡_ {A = ℕ} 0 1 = cc in omega arith
-clashes ended e (inr (x, y, z, f)) = let z : _≡_ {A = ℕ} 0 1 = cc in omega arith
-clashes skipped e (inl f) = let z : _≡_ {A = ℕ} 0 1 = cc in omega arith
-clashes skipped e (inr (x, y, z, f)) = let z : _≡_ {A = ℕ} 0 1 = cc in omega arith
-
 not-kept : (format load : ℕ) (text : List ℕ) (n : ℕ) (l : List ℕ) {x : Item} → AtFault format load text n l → Kept x
     → formatBy format (trail format text n .state) l ≡ x → ⊥
 not-kept format load text n l (broken e) k f = clashes k (sym f) (inl e)
@@ -95,8 +95,8 @@ module _ (format load : ℕ) (text : List ℕ) (ls : List (List ℕ)) (n : ℕ) 
           ⊎-elim (λ z. inl (sym (same .0) ∙ z .0, z .1)) (λ z. inr (sym (same .0) ∙ z .0, z .1)) o,
           λ z. m (e ∙ size ∙ z),
         )
-    counts (c, d) (s.s-data m v x i j k) = absurd (m f)
-    counts (c, d) (s.s-end m v x i j k) = absurd (m f)
+    counts (c, d) (s.s-record m v i j (inl (x, k))) = absurd (m f)
+    counts (c, d) (s.s-record m v i j (inr (x, k))) = absurd (m f)
 
     fields : (g : ℕ) → OtherField format l g → (typeOf l ≡ 1) ⊎ (typeOf l ≡ 4)
     fields g (s.other-field i h o m) = let e = hex-one h line .0 in ⊎-elim (λ z. inl (sym e ∙ z)) (λ z. inr (sym e ∙ z)) o
@@ -183,9 +183,9 @@ module _ (format load : ℕ) (text : List ℕ) (ls : List (List ℕ)) (n : ℕ) 
     module _ (rest : Cause) where
       enough : {v : ℕ} → back.Width v → kind ≡ dataDigit v → v < pairAt l 2 → (x : ℕ × ℕ) → OtherCount format l (x .0) (x .1) → ⊥
       enough {v} b e h (c, d) (s.hex f i o j k) = m f
-      enough {v} b e h (c, d) (s.s-data g x y i j k) =
+      enough {v} b e h (c, d) (s.s-record g x i j (inl (y, k))) =
           omega (arith, count-one format l 2 i count, by-data (width-is b) x (at-one l 1 (second-is (dataDigit v) e) y))
-      enough {v} b e h (c, d) (s.s-end g x y i j k) = distinct (width-is b) x .0 (at-one l 1 (second-is (dataDigit v) e) y)
+      enough {v} b e h (c, d) (s.s-record g x i j (inr (y, k))) = distinct (width-is b) x .0 (at-one l 1 (second-is (dataDigit v) e) y)
 
       data-typed : {v : ℕ} → back.Width v → kind ≡ dataDigit v → (agrees st v ≡ true → v < pairAt l 2 → SpanSays format load ls n st l (toldOf n rest))
           → TypeSays format load ls n st l (toldOf n (orElse (dataTyped v st l) rest))
@@ -195,7 +195,7 @@ module _ (format load : ℕ) (text : List ℕ) (ls : List (List ℕ)) (n : ℕ) 
           (wrong-width b (inl e))
           (λ a. no-width-other b (inl e) a)
           (λ a. where-so n (leb (pairAt l 2) v) (pairAt l 2, v + 1) (causeOf 4 (pairAt l 2) (v + 1)) nothing rest refl refl
-          (λ t. s.s-data m (width-is b) (second-is (dataDigit v) e) count refl (omega (arith, leb-true (pairAt l 2) v t)))
+          (λ t. s.s-record m (width-is b) count refl (inl (second-is (dataDigit v) e, omega (arith, leb-true (pairAt l 2) v t))))
           (λ t. enough b e (leb-false (pairAt l 2) v t))
           (λ t. w.passed no-field (span a (leb-false (pairAt l 2) v t)))))
 
@@ -212,7 +212,7 @@ module _ (format load : ℕ) (text : List ℕ) (ls : List (List ℕ)) (n : ℕ) 
           (unless n (agrees st v) v (causeOf 7 v st) (causeOf 4 (pairAt l 2) (v + 1)) rest refl refl
           (wrong-width b (inr e))
           (λ a. no-width-other b (inr e) a)
-          (λ a. w.refused (pairAt l 2, v + 1) (s.s-end m (width-is b) (second-is (endDigit v) e) count refl (not-end-record b e a))))
+          (λ a. w.refused (pairAt l 2, v + 1) (s.s-record m (width-is b) count refl (inr (second-is (endDigit v) e, not-end-record b e a)))))
 
       not-header : kind ≡ 48 → ⊥
       unfolding srecItem typed headerLine

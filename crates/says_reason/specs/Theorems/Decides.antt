@@ -1,20 +1,18 @@
 -- The sentences of `dk_record_reason` leave one answer. From the sentences alone.
 use mathlib.Core.Path.{_≡_, refl, ap, ap₂, subst}
 use mathlib.Core.List.{List}
-use Prim.Native.Nat.{ℕ, suc, _+_, _-_}
+use Prim.Native.Nat.{ℕ, _+_, _-_, _<_}
 use native.Mathlib.Omega.{arith}
 use lib.ListN.{length, getD}
 use Rattle.record_lines.specs.Pieces.{Piece}
 use Rattle.record_reason.specs.declared.Why.{Why}
-use Rattle.c_answers.specs.declared.DkFault.{DkFault}
 use Rattle.says.specs.Words.{OneOnly, tries-one, first-one, first-pair-one}
-use Rattle.says_records.specs.Read as r
 use Rattle.says_records.specs.Laws.One.{lines-one}
-use Rattle.says_records.specs.Theorems.FaultDecides.{fault-decides}
 use Rattle.says_reason.specs.Reason as s
-use Rattle.says_reason.specs.Reason.{Form, GivesTo, NoDigit, Past, Below, why, Twice, LineSays, FaultLine, ReasonSays, ReadAs, DkReasonSays}
+use Rattle.says_reason.specs.Reason.{Form, GivesTo, NoDigit, Past, Below, why, Twice, LineSays, FaultLine, DkReasonSays}
 use Rattle.says_reason.specs.Laws.One.{data-one, gives-one, line-one, count-one, long-one, sum-one, type-one, other-width-one, other-count-one}
 use Rattle.says_reason.specs.Laws.One.{other-field-one}
+use Rattle.says_reason.specs.Laws.Trails.{drop-line, drop-long}
 
 module _ (format load : ℕ) (ls : List (List ℕ)) (n : ℕ) where
   past-one : {l : List ℕ} {st a b c d : ℕ} → Past format l st a b → Past format l st c d → (a ≡ c) × (b ≡ d)
@@ -57,34 +55,28 @@ module _ (format load : ℕ) (ls : List (List ℕ)) (n : ℕ) where
       (tries-one _ _ _ (λ a b h k. let e = past-one h k in ap₂ (tell 9) (e .0) (e .1))
       (tries-one _ _ _ (λ a b h k. let e = below-one h k in ap₂ (tell 10) (e .0) (e .1)) twice-one)))))))))) y z t u
 
+  inside : (y : Why) → LineSays format load ls n y → n < length ls
+  inside y (s.line-says x f t) = drop-long n ls (drop-line format x .1)
+
   pub fault-line-decides : OneOnly (FaultLine format load ls n)
-  fault-line-decides = tries-one _ _ _ (λ a b h k. refl) (tries-one _ _ _ (λ a b h k. refl) line-decides)
-
-module _ (format load : ℕ) (text : List ℕ) where
-  -- a good file is told no line
-  pub not-both : {ps : List Piece} {i : ℕ} {X : Type 0} → r.Good format load text ps → r.GoesOn format load text i
-      → (r.GoesOn format load text (suc i) → ⊥) → X
-  not-both g on never =
-      let e = fault-decides format load text _ _ (r.none g) (r.at on never) in
-      let z : _≡_ {A = ℕ} 0 1 = ap (λ (f : DkFault). f .fault) e in
-      absurd (omega arith)
-
-  pub reason-decides : OneOnly (ReasonSays format load text)
-  reason-decides y z (s.good g) (s.good h) = refl
-  reason-decides y z (s.good g) (s.bad on never x t) = not-both g on never
-  reason-decides y z (s.bad on never x t) (s.good g) = not-both g on never
-  reason-decides y z (s.bad {n = n} {ls} on never x t) (s.bad {n = m} {ls = ms} on′ never′ x′ t′) =
-      let same : m ≡ n = ap (λ (f : DkFault). f .line) (fault-decides format load text _ _ (r.at on′ never′) (r.at on never)) in
-      fault-line-decides format load ls n y z t (rw (same, lines-one x′ x) at t′)
-
--- ---- the call
-read-as-one : {format a b : ℕ} → ReadAs format a → ReadAs format b → a ≡ b
-read-as-one (s.as-hex e) (s.as-hex f) = refl
-read-as-one (s.as-hex e) (s.as-s-records m) = absurd (m e)
-read-as-one (s.as-s-records m) (s.as-hex e) = absurd (m e)
-read-as-one (s.as-s-records m) (s.as-s-records n) = refl
+  fault-line-decides y z (s.behind h x) (s.behind k w) = refl
+  fault-line-decides y z (s.behind h x) (s.no-end e m) = absurd (m x)
+  fault-line-decides y z (s.behind h x) (s.line m t) = absurd (m x)
+  fault-line-decides y z (s.no-end e m) (s.behind h x) = absurd (m x)
+  fault-line-decides y z (s.no-end e m) (s.no-end f k) = refl
+  fault-line-decides y z (s.no-end e m) (s.line k t) = absurd (omega (arith, inside z t))
+  fault-line-decides y z (s.line m t) (s.behind h x) = absurd (m x)
+  fault-line-decides y z (s.line m t) (s.no-end e k) = absurd (omega (arith, inside y t))
+  fault-line-decides y z (s.line m t) (s.line k u) = line-decides y z t u
 
 module _ (format load : ℕ) (text : List ℕ) where
   pub dk-reason-decides : OneOnly (DkReasonSays format load text)
-  dk-reason-decides y z (s.reads-as {kind = kind} a p) (s.reads-as {kind = other} b q) =
-      reason-decides kind load text y z p (subst (λ (k : ℕ). ReasonSays k load text z) (read-as-one b a) q)
+  dk-reason-decides y z (s.none x none) (s.none a never) = refl
+  dk-reason-decides y z (s.none x none) (s.first {n = n} a f t) =
+      absurd (none n z (subst (λ (k : List (List ℕ)). FaultLine format load k n z) (lines-one a x) t))
+  dk-reason-decides y z (s.first {n = n} a f t) (s.none x none) =
+      absurd (none n y (subst (λ (k : List (List ℕ)). FaultLine format load k n y) (lines-one a x) t))
+  dk-reason-decides y z (s.first {n = n} {ls} a f t) (s.first {n = m} b g u) =
+      let lines = lines-one b a in
+      let same : m ≡ n = first-one (λ (k : ℕ). (z : Why) × FaultLine format load ls k z) m n (rw lines at g) f in
+      fault-line-decides format load ls n y z t (rw (same, lines) at u)

@@ -4,8 +4,9 @@ use mathlib.Core.Bool.{Bool, true, false}
 use mathlib.Core.List.{List, [], _∷_}
 use mathlib.Core.Logic.{_⊎_, inl, inr, ⊎-elim}
 use Prim.Native.Nat.{ℕ, zero, suc, _+_, _*_, _-_, _≤_, _<_, _%_, _^_}
+use native.Mathlib.Decide.{decLt}
 use native.Mathlib.Omega.{arith}
-use borrow.Author.Tests.{ltb-true, ltb-false, eqb-true, eqb-false, eq-eqb, ne-eqb, le-leb, lt-leb, lt-ltb}
+use borrow.Author.Tests.{ltb-true, ltb-false, eqb-true, eqb-false, eq-eqb, ne-eqb, le-leb, lt-leb}
 use lib.Dec.{ltb, eqb}
 use lib.ListN.{length, getD, drop, length-drop}
 use Rattle.refusal.specs.Laws.Bools.{either, clash}
@@ -21,51 +22,35 @@ use Rattle.record_lines.specs.Sums.{sumOf}
 use Rattle.record_ihex_line.specs.Format.{goodLine, typeOf, fieldOf, countOf}
 use Rattle.record_srec_line.specs.Srec.{isS, isSound, addressOf, dataOf, dataDigit, agrees, numberFrom}
 use Rattle.record_srec_line.specs.ReadBack as back
-use Rattle.record_fault.specs.Reading.{Read, sound, faulty, readText}
+use Rattle.record_fault.specs.Reading.{formatBy, Read, sound, faulty, readText}
 use Rattle.record_fault.specs.Trail.{trail}
 use Rattle.record_reason.specs.Spelling.{causeOf, orElse, leading, wantedOf, sumCause, spelled, hexTyped, srecTyped, ownCause}
 use Rattle.record_reason.specs.Spelling.{startBy, manyBy, topBy}
 use Rattle.record_reason.specs.Reasons.{itemOf, isEnd, endsBefore, spanCause, lineCause, causeAt, toldOf, whyOf}
 use Rattle.record_reason.specs.declared.Cause.{Cause}
 use Rattle.record_reason.specs.declared.Why.{Why}
-use Rattle.c_answers.specs.Parts.{lineTold}
-use Rattle.c_answers.specs.declared.DkFault.{DkFault}
-use Rattle.record_fault.specs.Outcome.{faultOf}
-use Rattle.denkumari.specs.RecordFiles.{readAs}
 use Rattle.denkumari.specs.Reasons.{kindOf, ReasonTold}
-use Rattle.says.specs.Words as w
-use Rattle.says.specs.Words.{Tries, First, At}
 use Rattle.says_records.specs.Records as r
 use Rattle.says_records.specs.Records.{Hex, IsS, Srec}
-use Rattle.says_records.specs.Read as f
-use Rattle.says_records.specs.Read.{GoesOn, FaultSays}
 use Rattle.says_records.specs.Laws.Spelled.{lines-meet}
 use Rattle.says_records.specs.Laws.HexLine.{good-hex}
 use Rattle.says_records.specs.Laws.SrecLine.{width-is, good-srec}
-use Rattle.says_records.specs.Theorems.FaultMeets.{sound-good, fault-meets}
 use Rattle.says_reason.specs.Reason as s
-use Rattle.says_reason.specs.Reason.{DataLine, EndRecord, Starts, NoDigit, Count, Long, WrongSum, why, LineSays, FaultLine, ReasonSays, DkReasonSays}
-use Rattle.says_reason.specs.Laws.One.{inside, count-one, one-of-two}
+use Rattle.says_reason.specs.Reason.{DataLine, EndRecord, Starts, LineSays, Ended, FaultLine, DkReasonSays}
+use Rattle.says_reason.specs.Laws.One.{inside, count-one}
 use Rattle.says_reason.specs.Laws.Items.{own-width, said, end-item}
 use Rattle.says_reason.specs.Laws.Items as items
-use Rattle.says_reason.specs.Laws.Trails.{lines, lines-from, line-is, line-at, drop-at, at-drop, drop-some, drop-long, empty-drop, not-empty}
+use Rattle.says_reason.specs.Laws.Trails.{lines, lines-from, line-is, line-at, drop-at, at-drop, drop-some, drop-long, drop-line, empty-drop, not-empty}
 use Rattle.says_reason.specs.Laws.Stops as stops
-use Rattle.says_reason.specs.Laws.Stops.{Goes, goes-no-end, Fault, fault-at, fault-within}
+use Rattle.says_reason.specs.Laws.Stops.{Goes, goes-no-end, Fault, fault-at, fault-within, Stands, stands-before, stands-good}
+use Rattle.says_reason.specs.Laws.NoReason.{kept-none, given-none}
 use Rattle.says_reason.specs.Laws.Spelling.{no-digit, all-digits, count-is, long-is, long-right, long-by, sum-wrong, sum-right}
+use Rattle.says_reason.specs.Laws.Formats.{same-read, same-why}
 use Rattle.says_reason.specs.Laws.Chain.{or-assoc, unless, where-so}
 use Rattle.says_reason.specs.Laws.Span.{SpanSays, AtFault, broken, unfit, span-says}
-use Rattle.says_reason.specs.Laws.Typed.{TypeSays, hex-typed, srec-typed}
+use Rattle.says_reason.specs.Laws.Typed.{TypeSays, LineChain, hex-typed, srec-typed}
 
 -- ---- how a line is spelled, once over both formats
-abbrev LineChain : (format load : ℕ) (ls : List (List ℕ)) (n st from bare least : ℕ) (l : List ℕ) → Why → Type 0
-LineChain format load ls n st from bare least l =
-    Tries (λ (_ : Unit {0}). s.Starts format l → ⊥) (λ _. why format load ls n 1 0 0)
-    (Tries (First (NoDigit format l from)) (λ k. why format load ls n 2 k (getD l k 0))
-    (Tries (λ (m : ℕ). Long format l from bare least m × (length l ≡ m → ⊥)) (λ m. why format load ls n 3 (length l) m)
-    (Tries (λ (c : ℕ). Count format l from c × (c < least)) (λ c. why format load ls n 4 c least)
-    (Tries (λ (x : ℕ × ℕ). WrongSum format l from (x .0) (x .1)) (λ x. why format load ls n 5 (x .0) (x .1))
-    (TypeSays format load ls n st l)))))
-
 module _ (format load : ℕ) (ls : List (List ℕ)) (n st from body least target bare : ℕ) (l : List ℕ) (sizes : bare ≡ from + 2 * (body + 1))
     (is : ((format ≡ 0) × (target ≡ 0)) ⊎ ((format ≡ 0 → ⊥) × (target ≡ 255))) (begun : Bool) (starts : begun ≡ true → Starts format l)
     (never : begun ≡ false → Starts format l → ⊥) (rest : Cause) where
@@ -231,11 +216,6 @@ module _ (format load : ℕ) (text : List ℕ) (n : ℕ) (l : List ℕ) (left : 
       (λ t. let h = eqb-true format 0 t in s.line-says (line-at format text n here) (s.hex h) (hex-says h))
       (λ t. let m = eqb-false format 0 t in s.line-says (line-at format text n here) (s.s-records m) (srec-says m))
 
-kind-known : (format : ℕ) → format < 2 → kindOf format ≡ format
-kind-known zero h = refl
-kind-known (suc zero) h = refl
-kind-known (suc (suc n)) h = omega (arith, h)
-
 -- ---- the line at fault
 no-lines : (t : List ℕ) → linesOf t ≡ [] → length t ≡ 0
 unfolding linesOf
@@ -268,23 +248,22 @@ module _ (format load : ℕ) (text : List ℕ) where
   end-record st l items.none e = let z : _≡_ {A = ℕ} 0 1 = cc in absurd (omega arith)
 
   -- behind the end record
-  behind : (n : ℕ) {l : List ℕ} {left : List (List ℕ)} → endsBefore format text n ≡ true → drop n all ≡ l ∷ left
-      → (m : ℕ) × (n ≡ suc m) × ((k : List ℕ) × At all m k × EndRecord format k)
+  behind : (n : ℕ) → endsBefore format text n ≡ true → n ≤ length all → Ended format load all n
   behind zero e d = absurd (clash e refl)
   behind (suc m) e d =
-      let k = drop-some all m (omega (arith, drop-long (suc m) all d)) in
+      let k = drop-some all m (omega arith) in
       let st = trail format text m .state in
       let item = is-end (itemOf format text m) e in
-      let same = sym (ap (λ (x : List ℕ). Rattle.record_fault.specs.Reading.formatBy format st x) (line-is format text m (k .2))) ∙ item in
-      (m, refl, (k .0, drop-at m all (k .2), end-record st (k .0) (said format st (k .0)) same))
+      let same = sym (ap (λ (x : List ℕ). formatBy format st x) (line-is format text m (k .2))) ∙ item in
+      (m, k .0, refl, drop-at m all (k .2), end-record st (k .0) (said format st (k .0)) same)
 
-  not-behind : (n : ℕ) → Goes format load text n → (m : ℕ) → (n ≡ suc m) × ((k : List ℕ) × At all m k × EndRecord format k) → ⊥
-  not-behind n g m x =
-      let goes = subst (λ (j : ℕ). Goes format load text j) (x .0) g in
-      let k = x .1 .0 in
-      let d = at-drop m all k (x .1 .1) in
-      let same = ap (λ (y : List ℕ). Rattle.record_fault.specs.Reading.formatBy format (trail format text m .state) y) (line-is format text m (d .1)) in
-      ⊎-elim (λ e. goes .0 (same ∙ e)) (λ e. goes .1 (same ∙ e)) (end-item format (trail format text m .state) (x .1 .2))
+  not-behind : (n : ℕ) → Goes format load text n → Ended format load all n → ⊥
+  not-behind n g x =
+      let m = x .0 in
+      let goes = subst (λ (j : ℕ). Goes format load text j) (x .2) g in
+      let d = at-drop m all (x .1) (x .3) in
+      let same = ap (λ (y : List ℕ). formatBy format (trail format text m .state) y) (line-is format text m (d .1)) in
+      ⊎-elim (λ e. goes .0 (same ∙ e)) (λ e. goes .1 (same ∙ e)) (end-item format (trail format text m .state) (x .4))
 
   at-line : (n : ℕ) {l : List ℕ} {left : List (List ℕ)} → Goes format load text n → drop n all ≡ l ∷ left → AtFault format load text n l
       → FaultLine format load all n (toldOf n (reason n))
@@ -292,40 +271,45 @@ module _ (format load : ℕ) (text : List ℕ) where
       let at = trail format text n .at in
       let some = some-lines (drop at text) (lines-from format text n ∙ d) in
       rw (goes-no-end format load text n g, lt-leb (length text) at (omega (arith, length-drop at text)), line-is format text n d)
-      (w.passed (not-behind n g) (w.passed (λ x e. omega (arith, drop-long n all d)) (line-says format load text n l left d a)))
+      (s.line (not-behind n g) (line-says format load text n l left d a))
 
-  by-fault : (n : ℕ) → n ≤ length all → Fault format load text n → FaultLine format load all n (toldOf n (reason n))
-  by-fault n h (stops.after-end e d) = let x = behind n e d in rw e (w.refused (x .0) (x .1, x .2))
+  pub by-fault : (n : ℕ) → n ≤ length all → Fault format load text n → FaultLine format load all n (toldOf n (reason n))
+  by-fault n h (stops.after-end e d) = rw e (s.behind (drop-long n all d) (behind n e h))
   by-fault n h (stops.missing g d) =
       let at = trail format text n .at in
       let none = no-lines (drop at text) (lines-from format text n ∙ d) in
       rw (goes-no-end format load text n g, le-leb (length text) at (omega (arith, length-drop at text)))
-      (w.passed (not-behind n g) (w.refused tt (omega (arith, empty-drop n all d))))
+      (s.no-end (omega (arith, empty-drop n all d)) (not-behind n g))
   by-fault n h (stops.broken g d e) = at-line n g d (broken e)
   by-fault n h (stops.unfit a b c g d e f) = at-line n g d (unfit a b c e f)
 
-  -- ---- the file, in one of the two formats
-  goes-on : format < 2 → (n : ℕ) {y : DkFault} → FaultSays format load text y → y ≡ record { fault = 1; line = n }
-      → GoesOn format load text n × (GoesOn format load text (suc n) → ⊥)
-  goes-on known n (f.none g) e = let z : _≡_ {A = ℕ} 0 1 = ap (λ (y : DkFault). y .fault) e in absurd (omega arith)
-  goes-on known n (f.at {i} on never) e =
-      let same : i ≡ n = ap (λ (y : DkFault). y .line) e in
-      subst (λ (k : ℕ). GoesOn format load text k × (GoesOn format load text (suc k) → ⊥)) same (on, never)
-  goes-on known n (f.no-format a b) e = absurd (one-of-two format known a b)
+  -- ---- the lines before it have none
+  no-fault : (n : ℕ) → Stands format load text n → (y : Why) → FaultLine format load all n y → ⊥
+  no-fault n (stops.given a b c g d e f) y (s.behind h x) = not-behind n g x
+  no-fault n (stops.given a b c g d e f) y (s.no-end z m) = omega (arith, drop-long n all d)
+  no-fault n (stops.given {l} {rest} a b c g d e f) y (s.line m x) = given-none format load text n l rest d a b c e f y x
+  no-fault n (stops.kept g d e k) y (s.behind h x) = not-behind n g x
+  no-fault n (stops.kept g d e k) y (s.no-end z m) = omega (arith, drop-long n all d)
+  no-fault n (stops.kept {l} {rest} g d e k) y (s.line m x) = kept-none format load text n l rest d k e y x
+  no-fault n (stops.over h f) y (s.behind k x) = omega arith
+  no-fault n (stops.over h f) y (s.no-end z m) = m (behind n (f z) (omega arith))
+  no-fault n (stops.over h f) y (s.line m (s.line-says x g t)) = omega (arith, drop-long n all (drop-line format x .1))
 
-  as-known : format < 2 → readAs format load text ≡ readText format load text
-  as-known known = rw (lt-ltb format 2 known) refl
+  -- ---- the file
+  says : (x : Read) → readText format load text ≡ x → DkReasonSays format load text (whyOf format load text x)
+  says (sound out) e = s.none (lines-meet text) (λ n. no-fault n (stands-good format load text out e n))
+  says (faulty n) e =
+      let told = by-fault n (fault-within format load text n e) (fault-at format load text n e) in
+      s.first (lines-meet text) (record {
+        so = (toldOf n (reason n), told);
+        none-below = λ k x. elim (decLt k n) [
+          | yes h ↦ absurd (no-fault k (stands-before format load text n k e h) (x .0) (x .1))
+          | no h ↦ omega arith
+        ];
+      }) told
 
-  says : format < 2 → (x : Read) → readText format load text ≡ x → ReasonSays format load text (whyOf format load text x)
-  says known (sound out) e = s.good (sound-good format load text known out e .1)
-  says known (faulty n) e =
-      let told = fault-meets format load text (lineTold (faultOf (readAs format load text))) {scratch = []} {left = []}
-      (record { answer = refl; left = refl }) in
-      let on = goes-on known n told (ap (λ (y : Read). lineTold (faultOf y)) (as-known known ∙ e)) in
-      s.bad (on .0) (on .1) (lines-meet text) (by-fault n (fault-within format load text n e) (fault-at format load text n e))
-
-  pub reason-meets : format < 2 → (r : Why) → r ≡ whyOf format load text (readText format load text) → ReasonSays format load text r
-  reason-meets known r e = subst (ReasonSays format load text) (sym e) (says known (readText format load text) refl)
+  pub reason-meets : (r : Why) → r ≡ whyOf format load text (readText format load text) → DkReasonSays format load text r
+  reason-meets r e = subst (DkReasonSays format load text) (sym e) (says (readText format load text) refl)
 
 -- ---- the call
 module _ (format load : ℕ) (text : List ℕ) where
@@ -333,10 +317,9 @@ module _ (format load : ℕ) (text : List ℕ) where
   by-kind e c = c .answer ∙ ap (λ (k : ℕ). whyOf k load text (readText k load text)) e
 
   pub dk-reason-meets : (r : Why) {old new : List ℕ} → ReasonTold format load text old r new → DkReasonSays format load text r
-  dk-reason-meets r c = either (eqb format 0)
-      (λ t. s.reads-as (s.as-hex (eqb-true format 0 t)) (reason-meets 0 load text (omega arith) r (by-kind {k = 0} (rw t refl) c)))
-      (λ t. s.reads-as (s.as-s-records (eqb-false format 0 t)) (reason-meets 1 load text (omega arith) r (by-kind {k = 1} (rw t refl) c)))
-
-  -- in one of the two formats it is read as what it is
-  pub known-meets : format < 2 → (r : Why) {old new : List ℕ} → ReasonTold format load text old r new → ReasonSays format load text r
-  known-meets known r c = reason-meets format load text known r (by-kind (kind-known format known) c)
+  dk-reason-meets r c = reason-meets format load text r (either (eqb format 0)
+      (λ t. by-kind {k = format} (rw t (sym (eqb-true format 0 t))) c)
+      (λ t.
+      let m = eqb-false format 0 t in
+      by-kind {k = 1} (rw t refl) c
+      ∙ sym (same-why format load text m (readText format load text) ∙ ap (whyOf 1 load text) (same-read format load text m))))

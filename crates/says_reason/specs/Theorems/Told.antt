@@ -1,24 +1,35 @@
 -- What a caller has of the sentences of `dk_record_reason`: the line is that of `dk_record_fault`, a file has a reason exactly when it is bad, the checksum
--- with both values, a byte given twice and by which line, the lowest address. From the sentences alone.
-use mathlib.Core.Path.{_≡_, refl, ap, _∙_}
+-- with both values, a byte given twice and by which line, the lowest address.
+use mathlib.Core.Path.{_≡_, refl, sym, ap, _∙_}
 use mathlib.Core.List.{List, [], _∷_, _++_}
 use mathlib.Core.Logic.{_⊎_, inl, inr, ⊎-elim}
 use Prim.Native.Nat.{ℕ, _≤_, _<_}
 use native.Mathlib.Omega.{arith}
+use borrow.Author.Tests.{lt-ltb}
 use lib.ListN.{drop}
 use Rattle.record_lines.specs.Pieces.{Piece}
+use Rattle.record_fault.specs.Reading.{Read, sound, faulty, readText}
+use Rattle.record_fault.specs.Outcome.{faultOf}
+use Rattle.record_reason.specs.Reasons.{whyOf}
 use Rattle.record_reason.specs.declared.Why.{Why}
+use Rattle.c_answers.specs.Parts.{lineTold}
 use Rattle.c_answers.specs.declared.DkFault.{DkFault}
+use Rattle.denkumari.specs.RecordFiles.{readAs, FaultTold}
 use Rattle.says.specs.Words as w
 use Rattle.says.specs.Words.{Tries, At}
 use Rattle.says_records.specs.Records.{Not, either, Lines, Spells, total}
 use Rattle.says_records.specs.Read as r
 use Rattle.says_records.specs.Read.{Good, Bad, FaultSays, ReadSays, Lent, Outcome}
+use Rattle.says_records.specs.Laws.Spelled.{lines-meet}
+use Rattle.says_records.specs.Laws.Sits.{solid}
 use Rattle.says_records.specs.Theorems.FaultDecides.{fault-decides}
+use Rattle.says_records.specs.Theorems.FaultMeets.{good-sound, sound-good, fault-meets}
 use Rattle.says_reason.specs.Reason as s
-use Rattle.says_reason.specs.Reason.{GivesTo, LineAt, Checksum, why, Twice, LineSays, FaultLine, ReasonSays}
-use Rattle.says_reason.specs.Laws.One.{one-of-two}
-use Rattle.says_reason.specs.Theorems.Decides.{not-both}
+use Rattle.says_reason.specs.Reason.{GivesTo, LineAt, Checksum, why, Twice, LineSays, FaultLine, DkReasonSays}
+use Rattle.says_reason.specs.Laws.Trails.{lines}
+use Rattle.says_reason.specs.Laws.Stops.{fault-at, fault-within}
+use Rattle.says_reason.specs.Theorems.Decides.{dk-reason-decides}
+use Rattle.says_reason.specs.Theorems.Meets.{by-fault, reason-meets}
 
 tries-all : {X Y : Type 0} {Met : X → Type 0} {refusal : X → Y} {Then : Y → Type 0} (P : Y → Type 0) → ((x : X) → Met x → P (refusal x))
     → ((y : Y) → Then y → P y) → (y : Y) → Tries Met refusal Then y → P y
@@ -140,72 +151,94 @@ module _ (format load : ℕ) (text : List ℕ) (ls : List (List ℕ)) (cut : Lin
       )
 
   fault-told : (y : Why) → FaultLine format load ls n y → P y
-  fault-told y t =
-      tries-all P (λ x m. plain 12 0 0 (λ e. omega arith) (λ e. omega arith) (λ e. omega arith) (λ e. omega arith))
-      (tries-all P (λ x m. plain 13 0 0 (λ e. omega arith) (λ e. omega arith) (λ e. omega arith) (λ e. omega arith)) line-told) y t
+  fault-told y (s.behind h x) = plain 12 0 0 (λ e. omega arith) (λ e. omega arith) (λ e. omega arith) (λ e. omega arith)
+  fault-told y (s.no-end e m) = plain 13 0 0 (λ e. omega arith) (λ e. omega arith) (λ e. omega arith) (λ e. omega arith)
+  fault-told y (s.line m x) = line-told y x
 
 module _ (format load : ℕ) (text : List ℕ) where
-  no-reason : {ps : List Piece} {y : Why} → Good format load text ps → ReasonSays format load text y → y .reason ≡ 0
-  no-reason g (s.good h) = refl
-  no-reason g (s.bad on never cut t) = not-both format load text g on never
+  -- where the reader stops there is a reason
+  stops-told : (n : ℕ) {y : Why} → readText format load text ≡ faulty n → y ≡ whyOf format load text (faulty n) → y .reason ≡ 0 → ⊥
+  stops-told n e same z =
+      let t = by-fault format load text n (fault-within format load text n e) (fault-at format load text n e) in
+      fault-told format load text (lines format text) (lines-meet text) n _ t .1 .0 (sym (ap (λ (k : Why). k .reason) same) ∙ z)
 
-module _ (format load : ℕ) (text : List ℕ) (y : Why) (c : ReasonSays format load text y) where
-  -- "a file has a reason exactly when it is bad"
-  pub bad-exactly : (Bad format load text → y .reason ≡ 0 → ⊥) × ((y .reason ≡ 0 → ⊥) → Bad format load text)
-  bad-exactly = (go c, λ n ps g. n (no-reason format load text g c))
+module _ (format load : ℕ) (text : List ℕ) (y : Why) (c : DkReasonSays format load text y) where
+  told : Tells format load text y ⊎ (y ≡ record { reason = 0; line = 0; first = 0; second = 0 })
+  told = go c
     where
-      go : {y : Why} → ReasonSays format load text y → Bad format load text → y .reason ≡ 0 → ⊥
-      go (s.good {ps} g) b e = b ps g
-      go (s.bad {n} {ls} {y} on never cut t) b e = fault-told format load text ls cut n y t .1 .0 e
+      go : {y : Why} → DkReasonSays format load text y → Tells format load text y ⊎ (y ≡ record { reason = 0; line = 0; first = 0; second = 0 })
+      go (s.none cut never) = inr refl
+      go (s.first {n} {ls} {y} cut f t) = inl (fault-told format load text ls cut n y t .1)
+
+  -- the answer is the definition's, since the sentences leave one
+  why-by : {x : Read} → readText format load text ≡ x → y ≡ whyOf format load text x
+  why-by e = dk-reason-decides format load text y _ c (reason-meets format load text _ refl) ∙ ap (whyOf format load text) e
+
+  sound-told : (out : List Piece) → readText format load text ≡ sound out → (y .line ≡ 0) × (y .reason ≡ 0)
+  sound-told out e = let same = why-by e in (ap (λ (z : Why). z .line) same, ap (λ (z : Why). z .reason) same)
+
+  fault-line : (n : ℕ) → readText format load text ≡ faulty n → (y .line ≡ n) × (y .reason ≡ 0 → ⊥)
+  fault-line n e =
+      (ap (λ (z : Why). z .line) (why-by e), stops-told format load text n e (why-by e))
+
+  no-reason : {ps : List Piece} → Good format load text ps → y .reason ≡ 0
+  no-reason {ps} g = sound-told (solid ps) (good-sound format load text g) .1
+
+  -- "a file has a reason exactly when it is bad"
+  pub bad-exactly : format < 2 → (Bad format load text → y .reason ≡ 0 → ⊥) × ((y .reason ≡ 0 → ⊥) → Bad format load text)
+  bad-exactly known = (go (readText format load text) refl, λ n ps g. n (no-reason g))
+    where
+      go : (x : Read) → readText format load text ≡ x → Bad format load text → y .reason ≡ 0 → ⊥
+      go (sound out) e b z = let k = sound-good format load text known out e in b (k .0) (k .1)
+      go (faulty n) e b z = fault-line n e .1 z
 
   -- the line is that of `dk_record_fault`, which tells a fault exactly where there is a reason
   pub line-is-faults : format < 2 → (f : DkFault) → FaultSays format load text f
       → (y .line ≡ f .line) × ((f .fault ≡ 0 → y .reason ≡ 0) × (y .reason ≡ 0 → f .fault ≡ 0))
-  line-is-faults known f d = go c d
+  line-is-faults known f d = go (readText format load text) refl
     where
-      go : {y : Why} {f : DkFault} → ReasonSays format load text y → FaultSays format load text f
-          → (y .line ≡ f .line) × ((f .fault ≡ 0 → y .reason ≡ 0) × (y .reason ≡ 0 → f .fault ≡ 0))
-      go (s.good g) (r.none h) = (refl, (λ e. refl, λ e. refl))
-      go (s.good g) (r.at on never) = not-both format load text g on never
-      go (s.bad on never cut t) (r.none h) = not-both format load text h on never
-      go (s.bad {n} {ls} {y} on never cut t) (r.at {i} on′ never′) =
-          let same : n ≡ i = ap (λ (k : DkFault). k .line) (fault-decides format load text _ _ (r.at on never) (r.at on′ never′)) in
-          let k = fault-told format load text ls cut n y t in
-          (k .0 ∙ same, (λ e. absurd (omega arith), λ e. absurd (k .1 .0 e)))
-      go x (r.no-format a b) = absurd (one-of-two format known a b)
+      same : {x : Read} → readText format load text ≡ x → f ≡ lineTold (faultOf x)
+      same e =
+          let c : FaultTold (readAs format load text) [] (lineTold (faultOf (readAs format load text))) [] = record { answer = refl; left = refl } in
+          fault-decides format load text _ _ d (fault-meets format load text _ c) ∙ ap (λ (x : Read). lineTold (faultOf x)) (as-known ∙ e)
+        where
+          as-known : readAs format load text ≡ readText format load text
+          as-known = rw (lt-ltb format 2 known) refl
+
+      go : (x : Read) → readText format load text ≡ x → (y .line ≡ f .line) × ((f .fault ≡ 0 → y .reason ≡ 0) × (y .reason ≡ 0 → f .fault ≡ 0))
+      go (sound out) e =
+          let k = sound-told out e in
+          (k .0 ∙ sym (ap (λ (g : DkFault). g .line) (same e)), (λ z. k .1, λ z. ap (λ (g : DkFault). g .fault) (same e)))
+      go (faulty n) e =
+          let k = fault-line n e in
+          let one : f .fault ≡ 1 = ap (λ (g : DkFault). g .fault) (same e) in
+          (k .0 ∙ sym (ap (λ (g : DkFault). g .line) (same e)), (λ z. absurd (omega arith), λ z. absurd (k .1 z)))
 
   -- `dk_read_records` refuses it with 4 exactly then
-  pub refused-4-exactly : (old : Lent) (o : Outcome) → ReadSays format load text old o
+  pub refused-4-exactly : format < 2 → (old : Lent) (o : Outcome) → ReadSays format load text old o
       → (o .answer .refusal ≡ 4 → y .reason ≡ 0 → ⊥) × ((y .reason ≡ 0 → ⊥) → o .answer .refusal ≡ 4)
-  refused-4-exactly old o d = go o d
+  refused-4-exactly known old o d = go o d
     where
       other : (o : Outcome) {ps : List Piece} {os ss : List ℕ} → r.Accepts format load text old ps os ss o → o .answer .refusal ≡ 4 → ⊥
       other o (r.accepts a b e) z = omega arith
 
       go : (o : Outcome) → ReadSays format load text old o
           → (o .answer .refusal ≡ 4 → y .reason ≡ 0 → ⊥) × ((y .reason ≡ 0 → ⊥) → o .answer .refusal ≡ 4)
-      go o (r.bad b w.is) = (λ e. bad-exactly .0 b, λ n. refl)
+      go o (r.bad b w.is) = (λ e. bad-exactly known .0 b, λ n. refl)
       go o (r.read g x t) = (
         λ e z. tries-all (λ (u : Outcome). u .answer .refusal ≡ 4 → ⊥) (λ a m q. omega arith)
             (tries-all (λ (u : Outcome). u .answer .refusal ≡ 4 → ⊥) (λ a m q. omega arith) (λ u v. other u v)) o t e,
-        λ n. absurd (n (no-reason format load text g c)),
+        λ n. absurd (n (no-reason g)),
       )
-
-  told : Tells format load text y ⊎ (y .reason ≡ 0)
-  told = go c
-    where
-      go : {y : Why} → ReasonSays format load text y → Tells format load text y ⊎ (y .reason ≡ 0)
-      go (s.good g) = inr refl
-      go (s.bad {n} {ls} {y} on never cut t) = inl (fault-told format load text ls cut n y t .1)
 
   -- "the checksum with both values"
   pub checksum-with-both-values : y .reason ≡ 5 → ChecksumTold format load text y
-  checksum-with-both-values e = ⊎-elim (λ t. t .1 e) (λ z. absurd (omega arith)) told
+  checksum-with-both-values e = ⊎-elim (λ t. t .1 e) (λ z. absurd (omega (arith, ap (λ (k : Why). k .reason) z))) told
 
   -- "given twice and by which line"
   pub given-twice-by-which-line : y .reason ≡ 11 → TwiceTold format load text y
-  given-twice-by-which-line e = ⊎-elim (λ t. t .2 e) (λ z. absurd (omega arith)) told
+  given-twice-by-which-line e = ⊎-elim (λ t. t .2 e) (λ z. absurd (omega (arith, ap (λ (k : Why). k .reason) z))) told
 
   -- "below the load address (with the lowest address that the file gives)"
   pub below-with-lowest : y .reason ≡ 10 → BelowTold format load text y
-  below-with-lowest e = ⊎-elim (λ t. t .3 e) (λ z. absurd (omega arith)) told
+  below-with-lowest e = ⊎-elim (λ t. t .3 e) (λ z. absurd (omega (arith, ap (λ (k : Why). k .reason) z))) told

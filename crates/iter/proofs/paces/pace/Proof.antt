@@ -3,7 +3,8 @@ use borrow.Author.Needs.{needs}
 use mir.Syntax.{w64}
 use mir.Val.{SFits}
 use mir.ValLaws.{toZ-ofZ}
-use Rattle.iter.proofs.PaceLaws.{paces-read, paces-item}
+use Rattle.iter.specs.Laws.Shown.{paces-read}
+use Rattle.iter.proofs.PaceLaws.{paces-item}
 use Rattle.iter.proofs.paces.pace.Statement.{statement}
 use Rattle.iter.proofs.paces.pace.Tie as tie
 
