@@ -1,4 +1,4 @@
--- What `iter::step` says of a node, by the record of the bank that the node stands in, from document 01, "The walk", and document 02, Ticket 2. To be read
+-- What `iter_step::step` says of a node, by the record of the bank that the node stands in, from document 01, "The walk", and document 02, Ticket 2. To be read
 -- instead of the definitions. That it says it, and that it leaves one outcome, what the node sees, what is skipped and the walk then: Theorems/Step.
 use mathlib.Core.Path.{_≡_}
 use mathlib.Core.Bool.{Bool, true, false}

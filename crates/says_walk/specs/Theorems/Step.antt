@@ -1,4 +1,4 @@
--- `iter::step`: by its contract it says the sentences of Step (`step-meets`), and they leave one outcome (`step-decides`).
+-- `iter_step::step`: by its contract it says the sentences of Step (`step-meets`), and they leave one outcome (`step-decides`).
 use mathlib.Core.Path.{_≡_, refl, sym, ap, subst, _∙_}
 use mathlib.Core.Bool.{Bool, true, false}
 use mathlib.Core.Logic.{_⊎_, inl, inr}
