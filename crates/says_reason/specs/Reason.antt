@@ -136,8 +136,9 @@ module _ (format : ℕ) where
       no-end : n ≡ length ls → Not Ended → FaultLine (why 13 0 0)
       line : {y : Why} → Not Ended → LineSays y → FaultLine y
 
-  -- the first line that has a reason is told
-  pub data DkReasonSays (load : ℕ) (text : List ℕ) : Why → Type 0 where
-    none : {ls : List (List ℕ)} → Lines text ls → ((n : ℕ) (y : Why) → Not (FaultLine load ls n y)) → DkReasonSays load text (why load ls 0 0 0 0)
-    first : {n : ℕ} {ls : List (List ℕ)} {y : Why} → Lines text ls → First (λ (k : ℕ). (z : Why) × FaultLine load ls k z) n → FaultLine load ls n y
-        → DkReasonSays load text y
+  module _ (load : ℕ) (text scratch : List ℕ) where
+    -- the first line that has a reason is told; beside the answer stands the lent scratch afterwards: the call "leaves it as it was" (include/denkumari.h)
+    pub data DkReasonSays : Why × List ℕ → Type 0 where
+      none : {ls : List (List ℕ)} → Lines text ls → ((n : ℕ) (y : Why) → Not (FaultLine load ls n y)) → DkReasonSays (why load ls 0 0 0 0, scratch)
+      first : {n : ℕ} {ls : List (List ℕ)} {y : Why} → Lines text ls → First (λ (k : ℕ). (z : Why) × FaultLine load ls k z) n → FaultLine load ls n y
+          → DkReasonSays (y, scratch)

@@ -17,31 +17,27 @@ use Rattle.says_reason.specs.Theorems.Told.{ChecksumTold, TwiceTold, Bel
 use Rattle.says_reason.specs.Theorems.Told.{given-twice-by-which-line, below-with-lowest}
 
 module _ (format load : ℕ) (text scratch left : List ℕ) (y : Why) (c : ReasonTold format load text scratch y left) where
-  -- lent scratch stays as it is
-  pub reason-keeps-scratch : left ≡ scratch
-  reason-keeps-scratch = c .left
-
-  says : DkReasonSays format load text y
-  says = dk-reason-meets format load text y c
+  says : DkReasonSays format load text scratch (y, left)
+  says = dk-reason-meets format load text scratch y left c
 
   pub checksum-both : y .reason ≡ 5 → ChecksumTold format load text y
-  checksum-both = checksum-with-both-values format load text y says
+  checksum-both = checksum-with-both-values format load text scratch left y says
 
   pub twice-by : y .reason ≡ 11 → TwiceTold format load text y
-  twice-by = given-twice-by-which-line format load text y says
+  twice-by = given-twice-by-which-line format load text scratch left y says
 
   pub below-lowest : y .reason ≡ 10 → BelowTold format load text y
-  below-lowest = below-with-lowest format load text y says
+  below-lowest = below-with-lowest format load text scratch left y says
 
   -- of the two formats that there are
   module _ (known : format < 2) where
     -- the line is that of `dk_record_fault`
     pub same-line : (f : DkFault) {lent kept : List ℕ} → FaultTold (readAs format load text) lent f kept
         → (y .line ≡ f .line) × ((f .fault ≡ 0 → y .reason ≡ 0) × (y .reason ≡ 0 → f .fault ≡ 0))
-    same-line f d = line-is-faults format load text y says known f (fault-meets format load text f d)
+    same-line f {lent} {kept} d = line-is-faults format load text scratch left y says known f (fault-meets format load text lent f kept d)
 
     -- there is a reason exactly where `dk_read_records` refuses the file with 4
     pub reason-exactly : (old new : Lent) (r : DkCount) → Reads format load text old r new
         → (r .refusal ≡ 4 → y .reason ≡ 0 → ⊥) × ((y .reason ≡ 0 → ⊥) → r .refusal ≡ 4)
     reason-exactly old new r d =
-        refused-4-exactly format load text y says known old (record { answer = r; lent = new }) (read-meets format load text old r new d)
+        refused-4-exactly format load text scratch left y says known old (record { answer = r; lent = new }) (read-meets format load text old r new d)

@@ -1,9 +1,11 @@
--- The sentences of `dk_record_reason` leave one answer. From the sentences alone.
+-- The sentences of `dk_record_reason` leave one outcome, the answer and the lent scratch: the scratch as it was, and an answer that does not depend on it.
+-- From the sentences alone.
 use mathlib.Core.Path.{_≡_, refl, ap, ap₂, subst}
 use mathlib.Core.List.{List}
 use Prim.Native.Nat.{ℕ, _+_, _-_, _<_}
 use native.Mathlib.Omega.{arith}
 use lib.ListN.{length, getD}
+use Rattle.refusal.specs.Laws.Pick.{paired}
 use Rattle.record_lines.specs.Pieces.{Piece}
 use Rattle.record_reason.specs.declared.Why.{Why}
 use Rattle.says.specs.Words.{OneOnly, tries-one, first-one, first-pair-one}
@@ -70,13 +72,29 @@ module _ (format load : ℕ) (ls : List (List ℕ)) (n : ℕ) where
   fault-line-decides y z (s.line m t) (s.line k u) = line-decides y z t u
 
 module _ (format load : ℕ) (text : List ℕ) where
-  pub dk-reason-decides : OneOnly (DkReasonSays format load text)
-  dk-reason-decides y z (s.none x none) (s.none a never) = refl
-  dk-reason-decides y z (s.none x none) (s.first {n = n} a f t) =
-      absurd (none n z (subst (λ (k : List (List ℕ)). FaultLine format load k n z) (lines-one a x) t))
-  dk-reason-decides y z (s.first {n = n} a f t) (s.none x none) =
-      absurd (none n y (subst (λ (k : List (List ℕ)). FaultLine format load k n y) (lines-one a x) t))
-  dk-reason-decides y z (s.first {n = n} {ls} a f t) (s.first {n = m} b g u) =
+  pub dk-reason-decides : (scratch : List ℕ) → OneOnly (DkReasonSays format load text scratch)
+  dk-reason-decides scratch y z (s.none x none) (s.none a never) = refl
+  dk-reason-decides scratch y z (s.none x none) (s.first {n = n} {y = v} a f t) =
+      absurd (none n v (subst (λ (k : List (List ℕ)). FaultLine format load k n v) (lines-one a x) t))
+  dk-reason-decides scratch y z (s.first {n = n} {y = v} a f t) (s.none x none) =
+      absurd (none n v (subst (λ (k : List (List ℕ)). FaultLine format load k n v) (lines-one a x) t))
+  dk-reason-decides scratch y z (s.first {n = n} {ls} {y = v} a f t) (s.first {n = m} {y = w} b g u) =
       let lines = lines-one b a in
       let same : m ≡ n = first-one (λ (k : ℕ). (z : Why) × FaultLine format load ls k z) m n (rw lines at g) f in
-      fault-line-decides format load ls n y z t (rw (same, lines) at u)
+      paired (fault-line-decides format load ls n v w t (rw (same, lines) at u)) refl
+
+  -- the scratch is given back as it was
+  pub reason-keeps-scratch : {scratch : List ℕ} (y : Why × List ℕ) → DkReasonSays format load text scratch y → y .1 ≡ scratch
+  reason-keeps-scratch y (s.none x none) = refl
+  reason-keeps-scratch y (s.first a f t) = refl
+
+  -- with other scratch it answers the same
+  other-scratch : {scratch : List ℕ} (other : List ℕ) (y : Why × List ℕ) → DkReasonSays format load text scratch y
+      → DkReasonSays format load text other (y .0, other)
+  other-scratch other y (s.none x none) = s.none x none
+  other-scratch other y (s.first a f t) = s.first a f t
+
+  pub any-scratch-reason : {scratch other : List ℕ} (y z : Why × List ℕ) → DkReasonSays format load text scratch y → DkReasonSays format load text other z
+      → y .0 ≡ z .0
+  any-scratch-reason {scratch} {other} y z a b =
+      ap (λ (x : Why × List ℕ). x .0) (dk-reason-decides other (y .0, other) z (other-scratch other y a) b)

@@ -10,6 +10,7 @@ use borrow.Author.Tests.{ltb-true, ltb-false, eqb-true, eqb-false, eq-eqb, ne-eq
 use lib.Dec.{ltb, eqb}
 use lib.ListN.{length, getD, drop, length-drop}
 use Rattle.refusal.specs.Laws.Bools.{either, clash}
+use Rattle.refusal.specs.Laws.Pick.{paired}
 use Rattle.refusal.specs.Pick.{pick}
 use Rattle.bitvec.specs.Lists.{listOf}
 use Rattle.bitvec.specs.Laws.Lists.{length-listOf}
@@ -296,9 +297,9 @@ module _ (format load : ℕ) (text : List ℕ) where
   no-fault n (stops.over h f) y (s.line m (s.line-says x g t)) = omega (arith, drop-long n all (drop-line format x .1))
 
   -- ---- the file
-  says : (x : Read) → readText format load text ≡ x → DkReasonSays format load text (whyOf format load text x)
-  says (sound out) e = s.none (lines-meet text) (λ n. no-fault n (stands-good format load text out e n))
-  says (faulty n) e =
+  says : (scratch : List ℕ) (x : Read) → readText format load text ≡ x → DkReasonSays format load text scratch (whyOf format load text x, scratch)
+  says scratch (sound out) e = s.none (lines-meet text) (λ n. no-fault n (stands-good format load text out e n))
+  says scratch (faulty n) e =
       let told = by-fault n (fault-within format load text n e) (fault-at format load text n e) in
       s.first (lines-meet text) (record {
         so = (toldOf n (reason n), told);
@@ -308,18 +309,19 @@ module _ (format load : ℕ) (text : List ℕ) where
         ];
       }) told
 
-  pub reason-meets : (r : Why) → r ≡ whyOf format load text (readText format load text) → DkReasonSays format load text r
-  reason-meets r e = subst (DkReasonSays format load text) (sym e) (says (readText format load text) refl)
+  pub reason-meets : (scratch : List ℕ) (r : Why) (new : List ℕ) → r ≡ whyOf format load text (readText format load text) → new ≡ scratch
+      → DkReasonSays format load text scratch (r, new)
+  reason-meets scratch r new e f = subst (DkReasonSays format load text scratch) (sym (paired e f)) (says scratch (readText format load text) refl)
 
 -- ---- the call
-module _ (format load : ℕ) (text : List ℕ) where
-  by-kind : {k : ℕ} {r : Why} {old new : List ℕ} → kindOf format ≡ k → ReasonTold format load text old r new → r ≡ whyOf k load text (readText k load text)
+module _ (format load : ℕ) (text scratch : List ℕ) where
+  by-kind : {k : ℕ} {r : Why} {new : List ℕ} → kindOf format ≡ k → ReasonTold format load text scratch r new → r ≡ whyOf k load text (readText k load text)
   by-kind e c = c .answer ∙ ap (λ (k : ℕ). whyOf k load text (readText k load text)) e
 
-  pub dk-reason-meets : (r : Why) {old new : List ℕ} → ReasonTold format load text old r new → DkReasonSays format load text r
-  dk-reason-meets r c = reason-meets format load text r (either (eqb format 0)
+  pub dk-reason-meets : (r : Why) (new : List ℕ) → ReasonTold format load text scratch r new → DkReasonSays format load text scratch (r, new)
+  dk-reason-meets r new c = reason-meets format load text scratch r new (either (eqb format 0)
       (λ t. by-kind {k = format} (rw t (sym (eqb-true format 0 t))) c)
       (λ t.
       let m = eqb-false format 0 t in
       by-kind {k = 1} (rw t refl) c
-      ∙ sym (same-why format load text m (readText format load text) ∙ ap (whyOf 1 load text) (same-read format load text m))))
+      ∙ sym (same-why format load text m (readText format load text) ∙ ap (whyOf 1 load text) (same-read format load text m)))) (c .left)

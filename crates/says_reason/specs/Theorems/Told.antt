@@ -162,17 +162,20 @@ module _ (format load : ℕ) (text : List ℕ) where
       let t = by-fault format load text n (fault-within format load text n e) (fault-at format load text n e) in
       fault-told format load text (lines format text) (lines-meet text) n _ t .1 .0 (sym (ap (λ (k : Why). k .reason) same) ∙ z)
 
-module _ (format load : ℕ) (text : List ℕ) (y : Why) (c : DkReasonSays format load text y) where
+module _ (format load : ℕ) (text scratch left : List ℕ) (y : Why) (c : DkReasonSays format load text scratch (y, left)) where
   told : Tells format load text y ⊎ (y ≡ record { reason = 0; line = 0; first = 0; second = 0 })
   told = go c
     where
-      go : {y : Why} → DkReasonSays format load text y → Tells format load text y ⊎ (y ≡ record { reason = 0; line = 0; first = 0; second = 0 })
+      go : {x : Why × List ℕ} → DkReasonSays format load text scratch x
+          → Tells format load text (x .0) ⊎ (x .0 ≡ record { reason = 0; line = 0; first = 0; second = 0 })
       go (s.none cut never) = inr refl
       go (s.first {n} {ls} {y} cut f t) = inl (fault-told format load text ls cut n y t .1)
 
   -- the answer is the definition's, since the sentences leave one
   why-by : {x : Read} → readText format load text ≡ x → y ≡ whyOf format load text x
-  why-by e = dk-reason-decides format load text y _ c (reason-meets format load text _ refl) ∙ ap (whyOf format load text) e
+  why-by e =
+      let one = dk-reason-decides format load text scratch (y, left) _ c (reason-meets format load text scratch _ scratch refl refl) in
+      ap (λ (x : Why × List ℕ). x .0) one ∙ ap (whyOf format load text) e
 
   sound-told : (out : List Piece) → readText format load text ≡ sound out → (y .line ≡ 0) × (y .reason ≡ 0)
   sound-told out e = let same = why-by e in (ap (λ (z : Why). z .line) same, ap (λ (z : Why). z .reason) same)
@@ -193,14 +196,15 @@ module _ (format load : ℕ) (text : List ℕ) (y : Why) (c : DkReasonSays forma
       go (faulty n) e b z = fault-line n e .1 z
 
   -- the line is that of `dk_record_fault`, which tells a fault exactly where there is a reason
-  pub line-is-faults : format < 2 → (f : DkFault) → FaultSays format load text f
+  pub line-is-faults : format < 2 → (f : DkFault) {lent kept : List ℕ} → FaultSays format load text lent (f, kept)
       → (y .line ≡ f .line) × ((f .fault ≡ 0 → y .reason ≡ 0) × (y .reason ≡ 0 → f .fault ≡ 0))
-  line-is-faults known f d = go (readText format load text) refl
+  line-is-faults known f {lent} d = go (readText format load text) refl
     where
       same : {x : Read} → readText format load text ≡ x → f ≡ lineTold (faultOf x)
       same e =
-          let c : FaultTold (readAs format load text) [] (lineTold (faultOf (readAs format load text))) [] = record { answer = refl; left = refl } in
-          fault-decides format load text _ _ d (fault-meets format load text _ c) ∙ ap (λ (x : Read). lineTold (faultOf x)) (as-known ∙ e)
+          let c : FaultTold (readAs format load text) lent (lineTold (faultOf (readAs format load text))) lent = record { answer = refl; left = refl } in
+          let one = fault-decides format load text lent _ _ d (fault-meets format load text lent _ lent c) in
+          ap (λ (x : DkFault × List ℕ). x .0) one ∙ ap (λ (x : Read). lineTold (faultOf x)) (as-known ∙ e)
         where
           as-known : readAs format load text ≡ readText format load text
           as-known = rw (lt-ltb format 2 known) refl

@@ -4,7 +4,6 @@ use mathlib.Core.Path.{_≡_, sym, ap, _∙_}
 use mathlib.Core.List.{List, []}
 use Prim.Native.Nat.{ℕ}
 use lib.ListN.{take}
-use Rattle.refusal.specs.Laws.Pick.{determined}
 use Rattle.bitvec.specs.Bits.{Bytes}
 use Rattle.sort.specs.Agree.{All}
 use Rattle.record_write.specs.Outcome.{input, answerOf, textAfter}
@@ -99,11 +98,12 @@ module _ (format load : ℕ) (text other : List ℕ) (old : Lent) (r q : DkCount
       both (cr-lf-free a x old (read r new) (read q after) (read-meets format load text old r new c) (read-meets format load other old q after d))
 
 pub either-end-fault : (format load : ℕ) (text other scratch kept left : List ℕ) (r q : DkFault) {ls : List (List ℕ)} → Lines text ls → LineEnds text other
-    → FaultTold (readAs format load text) scratch r kept → FaultTold (readAs format load other) scratch q left → r ≡ q
+    → FaultTold (readAs format load text) scratch r kept → FaultTold (readAs format load other) scratch q left → (r ≡ q) × (kept ≡ left)
 either-end-fault format load text other scratch kept left r q a x c d =
-    cr-lf-fault a x r q (fault-meets format load text r c) (fault-meets format load other q d)
+    let same = cr-lf-fault a x scratch (r, kept) (q, left) (fault-meets format load text scratch r kept c) (fault-meets format load other scratch q left d) in
+    (ap (λ (y : DkFault × List ℕ). y .0) same, ap (λ (y : DkFault × List ℕ). y .1) same)
 
--- ---- lent scratch: they stay as they are, and nothing else depends on them
+-- ---- lent scratch: they stay as they are, and nothing else depends on them (of `dk_record_fault` in FaultDecides)
 module _ (format load : ℕ) (text : List ℕ) where
   pub read-keeps-scratch : (old : Lent) (r : DkCount) (new : Lent) → Reads format load text old r new → new .scratch ≡ old .scratch
   read-keeps-scratch old r new c =
@@ -120,13 +120,6 @@ module _ (format load : ℕ) (text : List ℕ) where
         ap (λ (l : fill.Lent). l .offsets) left ∙ sym (ap (λ (l : fill.Lent). l .offsets) (d .left)),
         ap (λ (l : fill.Lent). l .sizes) left ∙ sym (ap (λ (l : fill.Lent). l .sizes) (d .left)),
       )
-
-  pub fault-keeps-scratch : (scratch : List ℕ) (r : DkFault) (left : List ℕ) → FaultTold (readAs format load text) scratch r left → left ≡ scratch
-  fault-keeps-scratch scratch r left c = c .left
-
-  pub any-scratch-fault : (scratch other left kept : List ℕ) (r q : DkFault) → FaultTold (readAs format load text) scratch r left
-      → FaultTold (readAs format load text) other q kept → r ≡ q
-  any-scratch-fault scratch other left kept r q c d = determined (c .answer) (d .answer)
 
 -- ---- "A file read from S-records and written as Intel HEX gives the same bytes at the same addresses."
 module _ (format load : ℕ) (text : List ℕ) (old : Lent) (r : DkCount) (new : Lent) (c : Reads format load text old r new) (accepted : r .refusal ≡ 0)

@@ -5,6 +5,7 @@ use Prim.Native.Nat.{ℕ, suc, _<_}
 use native.Mathlib.Decide.{decLt}
 use native.Mathlib.Omega.{arith}
 use borrow.Author.Tests.{lt-ltb, le-ltb}
+use Rattle.refusal.specs.Laws.Pick.{paired}
 use Rattle.record_lines.specs.Lines.{linesOf}
 use Rattle.record_lines.specs.Pieces.{Piece}
 use Rattle.record_fault.specs.Reading.{formatBy, Read, sound, faulty, readFrom, readText}
@@ -52,14 +53,14 @@ module _ (format load : ℕ) where
       let read : readText format load other ≡ faulty i = ap (λ (l : List (List ℕ)). readFrom f load l 0 []) (lines-one (lines-meet other) b) ∙ there in
       differ (sym (good-sound format load other fit) ∙ read)
 
-  module _ (text : List ℕ) where
-    fault-says : format < 2 → (x : Read) → readText format load text ≡ x → FaultSays format load text (lineTold (faultOf x))
+  module _ (text scratch : List ℕ) where
+    fault-says : format < 2 → (x : Read) → readText format load text ≡ x → FaultSays format load text scratch (lineTold (faultOf x), scratch)
     fault-says known (sound out) e = s.none (sound-good format load text known out e .1)
     fault-says known (faulty i) e = s.at (goes-before format load text known i e) (no-good-file text i e)
 
-    pub fault-meets : (r : DkFault) {scratch left : List ℕ} → FaultTold (readAs format load text) scratch r left → FaultSays format load text r
-    fault-meets r c =
-        subst (FaultSays format load text) (sym (c .answer))
+    pub fault-meets : (r : DkFault) (new : List ℕ) → FaultTold (readAs format load text) scratch r new → FaultSays format load text scratch (r, new)
+    fault-meets r new c =
+        subst (FaultSays format load text scratch) (sym (paired (c .answer) (c .left)))
         (elim (decLt format 2) [
           | yes h ↦ rw (lt-ltb format 2 h) (fault-says h (readText format load text) refl)
           | no h ↦ rw (le-ltb format 2 (omega arith)) (s.no-format (λ z. omega arith) (λ z. omega arith))

@@ -215,11 +215,11 @@ module _ {format load : ℕ} {text other : List ℕ} {ls : List (List ℕ)} (a :
   pub lines-free : (old : Lent) (y z : Outcome) → ReadSays format load text old y → ReadSays format load other old z → y ≡ z
   lines-free old = alike format load text other old (λ ps g. (ps, same-lines a b g, shuffle.same)) (λ ps g. (ps, same-lines b a g, shuffle.same))
 
-  pub fault-free : (y z : DkFault) → FaultSays format load text y → FaultSays format load other z → y ≡ z
-  fault-free y z (s.none g) x = fault-decides format load other y z (s.none (same-lines a b g)) x
-  fault-free y z (s.at {i} on never) x =
-      fault-decides format load other y z (s.at {i = i} (goes-there a b i on) (λ o. never (goes-there b a (suc i) o))) x
-  fault-free y z (s.no-format p q) x = fault-decides format load other y z (s.no-format p q) x
+  pub fault-free : (scratch : List ℕ) (y z : DkFault × List ℕ) → FaultSays format load text scratch y → FaultSays format load other scratch z → y ≡ z
+  fault-free scratch y z (s.none g) x = fault-decides format load other scratch y z (s.none (same-lines a b g)) x
+  fault-free scratch y z (s.at {i} on never) x =
+      fault-decides format load other scratch y z (s.at {i = i} (goes-there a b i on) (λ o. never (goes-there b a (suc i) o))) x
+  fault-free scratch y z (s.no-format p q) x = fault-decides format load other scratch y z (s.no-format p q) x
 
 -- CR LF in the place of LF, at any lines of a text without CR.
 pub data LineEnds : List ℕ → List ℕ → Type 0 where
@@ -243,5 +243,5 @@ module _ {format load : ℕ} {text other : List ℕ} {ls : List (List ℕ)} (a :
   pub cr-lf-free : (old : Lent) (y z : Outcome) → ReadSays format load text old y → ReadSays format load other old z → y ≡ z
   cr-lf-free = lines-free a (ends-lines x a)
 
-  pub cr-lf-fault : (y z : DkFault) → FaultSays format load text y → FaultSays format load other z → y ≡ z
+  pub cr-lf-fault : (scratch : List ℕ) (y z : DkFault × List ℕ) → FaultSays format load text scratch y → FaultSays format load other scratch z → y ≡ z
   cr-lf-fault = fault-free a (ends-lines x a)
