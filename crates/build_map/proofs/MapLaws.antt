@@ -16,8 +16,8 @@ use Rattle.iter.specs.Laws.StepCases.{step-cases}
 use Rattle.iter.specs.declared.Lost.{Lost}
 use Rattle.iter.specs.declared.Stepped.{Stepped}
 use Rattle.resolver.specs.Layout.{layoutOf}
-use Rattle.lists.specs.Lists.{Lists, Row, Rows}
-use Rattle.resolver.specs.Once.{Program, node, bankOf, walkTo}
+use Rattle.lists.specs.Lists.{Lists, Row, Rows, rowWith}
+use Rattle.resolver.specs.Once.{Program, node, bankOf, walkTo, programWith}
 use Rattle.resolver.specs.Padding.{paddingTo, sumIn}
 use Rattle.resolver.specs.Laws.Padding.{Walks}
 use Rattle.resolver.specs.Theorems.Padding.{walk-carries-padding}
@@ -32,7 +32,6 @@ use Rattle.resolver.specs.declared.Settled.the-variants.{At, Refused as Unsettl
 use Rattle.output.specs.Output.{Input, input, closedOf, visitsOf, passesOf, settledOf}
 use Rattle.build_plan.specs.Laws.Plan.{length-of-banks, getD-of-banks}
 use Rattle.build_plan.specs.Placing.{Placed, holds, stops, placedAll}
-use Rattle.build_sights.specs.Visits.{programOf, rowOf}
 use Rattle.build_map.specs.Map.{walkedAll, tracedBy, settledReach, reachOf, paddingsTo, mapBy, mapOf, placedTold, settledTold, Lent, lent}
 use Rattle.build_map.specs.Map.{bankShown, positionShown, outputShown, sizeShown, shown, leftBy, Maps}
 use Rattle.build_map.specs.Theorems.Reached.{Seen, ran-checked, none-run, shown-sees, off-listed}
@@ -167,22 +166,22 @@ module _ (banks : Bankdefs) (l : Lists) (m : Choices) (r : Resolution) (resolves
 
     module _ (start : ℕ) (starts : start ≡ (min (r .passes) (l .rows) - 1) * length (l .kinds)) (closed : Bool) (closes : closed ≡ closedOf given) where
       abbrev parted : Program
-      parted = programOf banks (l .kinds) (l .operands) (take (length (l .kinds) - 0) (drop 0 (l .numbers)))
+      parted = programWith banks (l .kinds) (l .operands) (take (length (l .kinds) - 0) (drop 0 (l .numbers)))
 
       abbrev partOf : List ℕ → List ℕ
       partOf xs = take (start + length (l .kinds) - start) (drop start xs)
 
       abbrev partRow : Row
-      partRow = rowOf (partOf (l .numbers)) (partOf (l .states))
+      partRow = rowWith (partOf (l .numbers)) (partOf (l .states))
 
       part-program : parted ≡ program banks l
-      part-program = ap (programOf banks (l .kinds) (l .operands)) (first-part (length (l .kinds)) (l .numbers))
+      part-program = ap (programWith banks (l .kinds) (l .operands)) (first-part (length (l .kinds)) (l .numbers))
 
       part : (xs : List ℕ) → partOf xs ≡ take (length (l .kinds)) (drop ((min (r .passes) (l .rows) - 1) * length (l .kinds)) xs)
       part xs = rw starts (row-part (min (r .passes) (l .rows) - 1) (length (l .kinds)) xs)
 
       part-row : partRow ≡ rowOfPass l (r .passes)
-      part-row = ap₂ rowOf (part (l .numbers)) (part (l .states))
+      part-row = ap₂ rowWith (part (l .numbers)) (part (l .states))
 
       seen : Seen given (reachBy r .nodes)
       seen = subst (λ (q : Resolution). Seen given (reachBy q .nodes)) (sym resolves) (shown-sees given)

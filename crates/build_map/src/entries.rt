@@ -10,9 +10,9 @@ ghost use mathlib.Core.Path.{_≡_};
 ghost use Prim.Native.Nat.{_≤_};
 ghost use lib.ListN.{length};
 ghost use Rattle.refusal.specs.Limits.{maxNodes};
-ghost use Rattle.resolver.specs.Once.{walkTo};
+ghost use Rattle.resolver.specs.Once.{walkTo, programWith};
 ghost use Rattle.resolver.specs.Padding.{sizeBy};
-ghost use Rattle.build_sights.specs.Visits.{programOf, rowOf};
+ghost use Rattle.lists.specs.Lists.{rowWith};
 ghost use Rattle.build_sights.specs.Visits.{seenPos};
 ghost use Rattle.build_map.specs.Map.{shown, bankShown, positionShown, outputShown, sizeShown};
 
@@ -57,28 +57,28 @@ pub fn write_entries(
     requires { ⌜ nodes ≤ maxNodes ⌝ }
     requires { ⌜ (nodes ≤ length (now «banks_of»)) × (nodes ≤ length (now positions)) × (nodes ≤ length (now outputs)) × (nodes ≤ length (now sizes)) ⌝ }
     ensures { λ r. ⌜
-        r ≡ walkTo (programOf banks (now (kinds .entry)) (now (operands .entry)) (now (first .entry)))
-        (rowOf (now (numbers .entry)) (now (states .entry))) nodes .lost
+        r ≡ walkTo (programWith banks (now (kinds .entry)) (now (operands .entry)) (now (first .entry)))
+        (rowWith (now (numbers .entry)) (now (states .entry))) nodes .lost
         ⌝ }
     ensures { λ _. ⌜
         now («banks_of» .exit) ≡ shown nodes
-        (bankShown (programOf banks (now (kinds .entry)) (now (operands .entry)) (now (first .entry)))
-        (rowOf (now (numbers .entry)) (now (states .entry)))) (now («banks_of» .entry))
+        (bankShown (programWith banks (now (kinds .entry)) (now (operands .entry)) (now (first .entry)))
+        (rowWith (now (numbers .entry)) (now (states .entry)))) (now («banks_of» .entry))
         ⌝ }
     ensures { λ _. ⌜
         now (positions .exit) ≡ shown nodes
-        (positionShown (programOf banks (now (kinds .entry)) (now (operands .entry)) (now (first .entry)))
-        (rowOf (now (numbers .entry)) (now (states .entry)))) (now (positions .entry))
+        (positionShown (programWith banks (now (kinds .entry)) (now (operands .entry)) (now (first .entry)))
+        (rowWith (now (numbers .entry)) (now (states .entry)))) (now (positions .entry))
         ⌝ }
     ensures { λ _. ⌜
         now (outputs .exit) ≡ shown nodes
-        (outputShown (programOf banks (now (kinds .entry)) (now (operands .entry)) (now (first .entry)))
-        (rowOf (now (numbers .entry)) (now (states .entry)))) (now (outputs .entry))
+        (outputShown (programWith banks (now (kinds .entry)) (now (operands .entry)) (now (first .entry)))
+        (rowWith (now (numbers .entry)) (now (states .entry)))) (now (outputs .entry))
         ⌝ }
     ensures { λ _. ⌜
         now (sizes .exit) ≡ shown nodes
-        (sizeShown (programOf banks (now (kinds .entry)) (now (operands .entry)) (now (first .entry)))
-        (rowOf (now (numbers .entry)) (now (states .entry)))) (now (sizes .entry))
+        (sizeShown (programWith banks (now (kinds .entry)) (now (operands .entry)) (now (first .entry)))
+        (rowWith (now (numbers .entry)) (now (states .entry)))) (now (sizes .entry))
         ⌝ }
 {
     let mut walk = iter::start();

@@ -14,10 +14,10 @@ use resolver::Settled;
 ghost use mathlib.Core.Path.{_≡_};
 ghost use Prim.Native.Nat.{_≤_, _<_};
 ghost use lib.ListN.{length};
+ghost use Rattle.resolver.specs.Once.{programWith};
 ghost use Rattle.refusal.specs.Limits.{maxNodes};
 ghost use Rattle.refusal.specs.Refusals.{numberOf};
-ghost use Rattle.lists.specs.Lists.{lists};
-ghost use Rattle.build_sights.specs.Visits.{programOf, rowOf};
+ghost use Rattle.lists.specs.Lists.{lists, rowWith};
 ghost use Rattle.output.specs.Output.{input};
 ghost use Rattle.build_map.specs.Map.{nodeOf, metReach, firstIn, lent, Maps};
 ghost use Rattle.build_map.specs.Steps.{Few, rowReach, RowMapped, verdictOf, mapless};
@@ -74,8 +74,8 @@ fn reach_row(
     requires { ⌜ length (now kinds) ≤ maxNodes ⌝ }
     requires { ⌜ Few settled ⌝ }
     ensures { λ r. ⌜
-        r ≡ rowReach (programOf banks (now (kinds .entry)) (now (operands .entry)) (now (first .entry)))
-        (rowOf (now (numbers .entry)) (now (states .entry))) closed settled
+        r ≡ rowReach (programWith banks (now (kinds .entry)) (now (operands .entry)) (now (first .entry)))
+        (rowWith (now (numbers .entry)) (now (states .entry))) closed settled
         ⌝ }
 {
     match settled {
@@ -107,11 +107,11 @@ fn map_row(
         × (length (now sizes) ≡ maxNodes)
         ⌝ }
     requires { ⌜
-        rowReach (programOf banks (now kinds) (now operands) (now first)) (rowOf (now numbers) (now states)) closed settled .nodes ≤ maxNodes
+        rowReach (programWith banks (now kinds) (now operands) (now first)) (rowWith (now numbers) (now states)) closed settled .nodes ≤ maxNodes
         ⌝ }
     ensures { λ r. ⌜
-        RowMapped (programOf banks (now (kinds .entry)) (now (operands .entry)) (now (first .entry)))
-        (rowOf (now (numbers .entry)) (now (states .entry))) closed settled passes
+        RowMapped (programWith banks (now (kinds .entry)) (now (operands .entry)) (now (first .entry)))
+        (rowWith (now (numbers .entry)) (now (states .entry))) closed settled passes
         (lent (now («banks_of» .entry)) (now (positions .entry)) (now (outputs .entry)) (now (sizes .entry))) r
         (lent (now («banks_of» .exit)) (now (positions .exit)) (now (outputs .exit)) (now (sizes .exit)))
         ⌝ }

@@ -9,7 +9,8 @@ ghost use mathlib.Core.Path.{_≡_};
 ghost use Prim.Native.Nat.{_+_, _≤_};
 ghost use lib.ListN.{length};
 ghost use Rattle.refusal.specs.Limits.{maxNodes};
-ghost use Rattle.build_sights.specs.Visits.{programOf, rowOf};
+ghost use Rattle.resolver.specs.Once.{programWith};
+ghost use Rattle.lists.specs.Lists.{rowWith};
 ghost use Rattle.build_sights.specs.Visits.{visits};
 ghost use Rattle.build_map.specs.Map.{traced, wholeReach, stoppedReach};
 
@@ -47,8 +48,8 @@ pub fn trace_row(
 ) -> Reach
     requires { ⌜ length (now kinds) ≤ maxNodes ⌝ }
     ensures { λ r. ⌜
-        r ≡ traced closed (visits (programOf banks (now (kinds .entry)) (now (operands .entry)) (now (first .entry)))
-        (rowOf (now (numbers .entry)) (now (states .entry))))
+        r ≡ traced closed (visits (programWith banks (now (kinds .entry)) (now (operands .entry)) (now (first .entry)))
+        (rowWith (now (numbers .entry)) (now (states .entry))))
         ⌝ }
 {
     let mut positions = [0u64; 512];

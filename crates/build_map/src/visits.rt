@@ -10,7 +10,9 @@ ghost use Prim.Native.Nat.{ℕ, _≤_};
 ghost use Rattle.refusal.specs.Limits.{maxOffer};
 ghost use Rattle.refusal.specs.declared.Offset.the-variants.{At as Out};
 ghost use Rattle.iter.specs.Address.{outputPosition};
-ghost use Rattle.build_sights.specs.Visits.{programOf, rowOf, seenPos, visitOf};
+ghost use Rattle.resolver.specs.Once.{programWith};
+ghost use Rattle.lists.specs.Lists.{rowWith};
+ghost use Rattle.build_sights.specs.Visits.{seenPos, visitOf};
 
 // Where a position that a node sees is in the output; a node that the walk stops at sees none, and counts as at 0.
 fn out_of(def: Bankdef, seen: Moved) -> Offset
@@ -35,8 +37,8 @@ pub fn visit_node(
     i: usize,
 ) -> Visit
     ensures { λ r. ⌜
-        r ≡ visitOf (programOf banks (now (kinds .entry)) (now (operands .entry)) (now (first .entry)))
-        (rowOf (now (numbers .entry)) (now (states .entry))) walk i
+        r ≡ visitOf (programWith banks (now (kinds .entry)) (now (operands .entry)) (now (first .entry)))
+        (rowWith (now (numbers .entry)) (now (states .entry))) walk i
         ⌝ }
     ensures { λ r. ⌜ ((o : ℕ) → r .out ≡ Out o → o ≤ maxOffer) ⌝ }
 {

@@ -35,12 +35,12 @@ ghost use Rattle.refusal.specs.declared.Offset.the-variants.{At as Out};
 ghost use Rattle.refusal.specs.declared.Verdict.the-variants.{Accepted};
 ghost use Rattle.iter.specs.Pace.{seenBy};
 ghost use Rattle.iter.specs.Step.{startOf};
-ghost use Rattle.resolver.specs.Once.{walkTo};
+ghost use Rattle.resolver.specs.Once.{walkTo, programWith};
 ghost use Rattle.resolver.specs.Switches.{Switches};
 ghost use Rattle.overlap_checker.specs.Lent.{lent as store, stateIn, Sound};
+ghost use Rattle.lists.specs.Lists.{rowWith};
 ghost use Rattle.build_sights.specs.Items.{itemAt, lengthOf};
 ghost use Rattle.build_sights.specs.Spans.{isSpan};
-ghost use Rattle.build_sights.specs.Visits.{programOf, rowOf};
 ghost use Rattle.build_plan.specs.Placing.{isPlaced, offerAt, answered, verdictSeen};
 ghost use Rattle.build_plan.specs.Plan.{maxEnd, planRefused, planAccepted, planOf};
 ghost use Rattle.build_plan.specs.Steps.{Goes};
@@ -326,13 +326,13 @@ fn plan_walk(
     requires { ⌜ Switches (banks .len) (now kinds) (now operands) ⌝ }
     requires { ⌜ begun ≡ startOf ⌝ }
     ensures { λ r. ⌜
-        r .plan ≡ planOf (programOf banks (now (kinds .entry)) (now (operands .entry)) (now (first .entry)))
-        (rowOf (now (numbers .entry)) (now (states .entry))) closed fill
+        r .plan ≡ planOf (programWith banks (now (kinds .entry)) (now (operands .entry)) (now (first .entry)))
+        (rowWith (now (numbers .entry)) (now (states .entry))) closed fill
         ⌝ }
     ensures { λ r. ⌜ r .plan .length ≤ maxEnd ⌝ }
     ensures { λ r. ⌜ (r .plan .verdict ≡ Accepted
-        → r .walk ≡ walkTo (programOf banks (now (kinds .entry)) (now (operands .entry)) (now (first .entry)))
-        (rowOf (now (numbers .entry)) (now (states .entry))) (length (now (kinds .entry)))) ⌝ }
+        → r .walk ≡ walkTo (programWith banks (now (kinds .entry)) (now (operands .entry)) (now (first .entry)))
+        (rowWith (now (numbers .entry)) (now (states .entry))) (length (now (kinds .entry)))) ⌝ }
 {
     let mut positions = [0u64; 512];
     let mut sizes = [0u64; 512];
@@ -391,8 +391,8 @@ pub fn plan_row(
     requires { ⌜ (fill ≤ maxOffer) × (length (now kinds) ≤ maxNodes) ⌝ }
     requires { ⌜ Switches (banks .len) (now kinds) (now operands) ⌝ }
     ensures { λ r. ⌜
-        r ≡ planOf (programOf banks (now (kinds .entry)) (now (operands .entry)) (now (first .entry)))
-        (rowOf (now (numbers .entry)) (now (states .entry))) closed fill
+        r ≡ planOf (programWith banks (now (kinds .entry)) (now (operands .entry)) (now (first .entry)))
+        (rowWith (now (numbers .entry)) (now (states .entry))) closed fill
         ⌝ }
     ensures { λ r. ⌜ r .length ≤ maxEnd ⌝ }
 {

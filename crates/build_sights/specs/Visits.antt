@@ -2,7 +2,6 @@
 use Prim.Native.Nat.{ℕ, zero, suc}
 use mathlib.Core.List.{List, [], _∷_, _++_}
 use lib.ListN.{length}
-use Rattle.bankdef.specs.declared.Bankdefs.{Bankdefs}
 use Rattle.iter.specs.Address.{outputPosition}
 use Rattle.iter.specs.Step.{origin, bankAfter}
 use Rattle.iter.specs.declared.Pos.{Pos}
@@ -12,13 +11,6 @@ use Rattle.iter.specs.declared.Moved.the-variants.{To, Refused as Stopped}
 use Rattle.lists.specs.Lists.{Row}
 use Rattle.resolver.specs.Once.{Program, node, bankOf, stepAt, walkTo}
 use Rattle.build_sights.specs.declared.Visit.{Visit}
-
--- what lists of nodes say of them, with the numbers of the first row; and a row
-abbrev pub programOf : Bankdefs → List ℕ → List ℕ → List ℕ → Program
-programOf banks kinds operands first = record { banks = banks; kinds = kinds; operands = operands; first = first }
-
-abbrev pub rowOf : List ℕ → List ℕ → Row
-rowOf numbers states = record { numbers = numbers; states = states }
 
 -- the position that a node sees; a node that the walk stops at sees none, and no build gets past it
 abbrev pub seenPos : Moved → Pos

@@ -26,11 +26,12 @@ ghost use Rattle.bankdef.specs.Check.{banksOf};
 ghost use Rattle.blocks.specs.Offsets.{wordOf};
 ghost use Rattle.iter.specs.Address.{addressOf};
 ghost use Rattle.iter.specs.Step.{startOf};
-ghost use Rattle.resolver.specs.Once.{walkTo};
+ghost use Rattle.resolver.specs.Once.{walkTo, programWith};
 ghost use Rattle.resolver.specs.Switches.{Switches};
+ghost use Rattle.lists.specs.Lists.{rowWith};
 ghost use Rattle.build_sights.specs.Items.{itemAt, itemsOf, imageOf};
 ghost use Rattle.build_sights.specs.Spans.{isSpan, sizeOf, addressTold, spansOf, over, addresses as addressesOf, words as wordsOf, sizes as sizesOf};
-ghost use Rattle.build_sights.specs.Visits.{programOf, rowOf, visits};
+ghost use Rattle.build_sights.specs.Visits.{visits};
 ghost use Rattle.build_write.specs.Blank.{blankOf};
 ghost use Rattle.build_write.specs.Writes.{Fit, HasRoom};
 
@@ -109,32 +110,32 @@ fn write_walk(
 ) -> Walk
     requires { ⌜ Switches (banks .len) (now kinds) (now operands) ⌝ }
     requires { ⌜
-        HasRoom (visits (programOf banks (now kinds) (now operands) (now first)) (rowOf (now numbers) (now states))) (length (now values))
+        HasRoom (visits (programWith banks (now kinds) (now operands) (now first)) (rowWith (now numbers) (now states))) (length (now values))
         (length (now image)) (length (now addresses)) (length (now offsets)) (length (now sizes))
         ⌝ }
     requires { ⌜ begun ≡ startOf ⌝ }
     ensures walk { λ r. ⌜
-        r ≡ walkTo (programOf banks (now (kinds .entry)) (now (operands .entry)) (now (first .entry)))
-        (rowOf (now (numbers .entry)) (now (states .entry))) (length (now (kinds .entry)))
+        r ≡ walkTo (programWith banks (now (kinds .entry)) (now (operands .entry)) (now (first .entry)))
+        (rowWith (now (numbers .entry)) (now (states .entry))) (length (now (kinds .entry)))
         ⌝ }
     ensures image { λ r. ⌜
         now (image .exit) ≡ imageOf (now (values .entry)) (now (image .entry))
-        (itemsOf (visits (programOf banks (now (kinds .entry)) (now (operands .entry)) (now (first .entry)))
-        (rowOf (now (numbers .entry)) (now (states .entry)))))
+        (itemsOf (visits (programWith banks (now (kinds .entry)) (now (operands .entry)) (now (first .entry)))
+        (rowWith (now (numbers .entry)) (now (states .entry)))))
         ⌝ }
     ensures addresses { λ r. ⌜
-        now (addresses .exit) ≡ over (addressesOf (spansOf (visits (programOf banks (now (kinds .entry)) (now (operands .entry)) (now (first .entry)))
-        (rowOf (now (numbers .entry)) (now (states .entry))))))
+        now (addresses .exit) ≡ over (addressesOf (spansOf (visits (programWith banks (now (kinds .entry)) (now (operands .entry)) (now (first .entry)))
+        (rowWith (now (numbers .entry)) (now (states .entry))))))
         (now (addresses .entry))
         ⌝ }
     ensures offsets { λ r. ⌜
-        now (offsets .exit) ≡ over (wordsOf (spansOf (visits (programOf banks (now (kinds .entry)) (now (operands .entry)) (now (first .entry)))
-        (rowOf (now (numbers .entry)) (now (states .entry))))))
+        now (offsets .exit) ≡ over (wordsOf (spansOf (visits (programWith banks (now (kinds .entry)) (now (operands .entry)) (now (first .entry)))
+        (rowWith (now (numbers .entry)) (now (states .entry))))))
         (now (offsets .entry))
         ⌝ }
     ensures sizes { λ r. ⌜
-        now (sizes .exit) ≡ over (sizesOf (spansOf (visits (programOf banks (now (kinds .entry)) (now (operands .entry)) (now (first .entry)))
-        (rowOf (now (numbers .entry)) (now (states .entry))))))
+        now (sizes .exit) ≡ over (sizesOf (spansOf (visits (programWith banks (now (kinds .entry)) (now (operands .entry)) (now (first .entry)))
+        (rowWith (now (numbers .entry)) (now (states .entry))))))
         (now (sizes .entry))
         ⌝ }
 {
@@ -190,27 +191,27 @@ pub fn write_row(
 )
     requires { ⌜ Switches (banks .len) (now kinds) (now operands) ⌝ }
     requires { ⌜
-        HasRoom (visits (programOf banks (now kinds) (now operands) (now first)) (rowOf (now numbers) (now states))) (length (now values))
+        HasRoom (visits (programWith banks (now kinds) (now operands) (now first)) (rowWith (now numbers) (now states))) (length (now values))
         (length (now image)) (length (now addresses)) (length (now offsets)) (length (now sizes))
         ⌝ }
     ensures image { λ _. ⌜
         now (image .exit) ≡ imageOf (now (values .entry)) (blankOf (banksOf banks) bits (length (now (image .entry))))
-        (itemsOf (visits (programOf banks (now (kinds .entry)) (now (operands .entry)) (now (first .entry)))
-        (rowOf (now (numbers .entry)) (now (states .entry)))))
+        (itemsOf (visits (programWith banks (now (kinds .entry)) (now (operands .entry)) (now (first .entry)))
+        (rowWith (now (numbers .entry)) (now (states .entry)))))
         ⌝ }
     ensures addresses { λ _. ⌜
-        now (addresses .exit) ≡ over (addressesOf (spansOf (visits (programOf banks (now (kinds .entry)) (now (operands .entry)) (now (first .entry)))
-        (rowOf (now (numbers .entry)) (now (states .entry))))))
+        now (addresses .exit) ≡ over (addressesOf (spansOf (visits (programWith banks (now (kinds .entry)) (now (operands .entry)) (now (first .entry)))
+        (rowWith (now (numbers .entry)) (now (states .entry))))))
         (now (addresses .entry))
         ⌝ }
     ensures offsets { λ _. ⌜
-        now (offsets .exit) ≡ over (wordsOf (spansOf (visits (programOf banks (now (kinds .entry)) (now (operands .entry)) (now (first .entry)))
-        (rowOf (now (numbers .entry)) (now (states .entry))))))
+        now (offsets .exit) ≡ over (wordsOf (spansOf (visits (programWith banks (now (kinds .entry)) (now (operands .entry)) (now (first .entry)))
+        (rowWith (now (numbers .entry)) (now (states .entry))))))
         (now (offsets .entry))
         ⌝ }
     ensures sizes { λ _. ⌜
-        now (sizes .exit) ≡ over (sizesOf (spansOf (visits (programOf banks (now (kinds .entry)) (now (operands .entry)) (now (first .entry)))
-        (rowOf (now (numbers .entry)) (now (states .entry))))))
+        now (sizes .exit) ≡ over (sizesOf (spansOf (visits (programWith banks (now (kinds .entry)) (now (operands .entry)) (now (first .entry)))
+        (rowWith (now (numbers .entry)) (now (states .entry))))))
         (now (sizes .entry))
         ⌝ }
 {

@@ -23,8 +23,8 @@ use Rattle.refusal.specs.declared.Verdict.the-variants.{Accepted, Refused as Tu
 use Rattle.bankdef.specs.Check.{banksOf, checkOf}
 use Rattle.bankdef.specs.Fill.{fillBy}
 use Rattle.bankdef.specs.declared.Bankdefs.{Bankdefs}
-use Rattle.lists.specs.Lists.{Lists, Row, Rows, rowAt, isItem, pastEnd, rowFault, nodeOf, nodesTo, listsOf}
-use Rattle.resolver.specs.Once.{Program, node}
+use Rattle.lists.specs.Lists.{Lists, Row, Rows, rowAt, isItem, pastEnd, rowFault, nodeOf, nodesTo, listsOf, rowWith}
+use Rattle.resolver.specs.Once.{Program, node, programWith}
 use Rattle.resolver.specs.Passes.{program, rowOfPass, resolutionOf}
 use Rattle.resolver.specs.Layout.{unless, layoutOf}
 use Rattle.lists.specs.Theorems.Sound.{accepted-row, accepted-rows}
@@ -45,7 +45,6 @@ use Rattle.build_plan.specs.Laws.PlacingLaws.{picked-some}
 use Rattle.output.specs.Output.{Input, input, closedOf, Lent, Room, roomOf, roomFor, outputOf, refusedAfter, placedBuild, settledBuild}
 use Rattle.output.specs.Output.{buildOf, visitsOf, passesOf, settledOf}
 use Rattle.output.specs.Output.{toldBuild, roomTold, placedTold, settledTold, leftBy, Builds}
-use Rattle.build_sights.specs.Visits.{programOf, rowOf}
 use Rattle.output.specs.Steps.{InValues, RowBuilt}
 use Rattle.build_sights.specs.declared.Visit.{Visit}
 use Rattle.output.specs.declared.Build.{Build}
@@ -179,22 +178,22 @@ module _ (banks : Bankdefs) (l : Lists) (m : Choices) (r : Resolution) (resolves
     module _ (start : ℕ) (starts : start ≡ (min (r .passes) (l .rows) - 1) * length (l .kinds)) where
       -- the parts of the lists that the row's build is lent
       abbrev lent-program : Program
-      lent-program = programOf banks (l .kinds) (l .operands) (take (length (l .kinds) - 0) (drop 0 (l .numbers)))
+      lent-program = programWith banks (l .kinds) (l .operands) (take (length (l .kinds) - 0) (drop 0 (l .numbers)))
 
       abbrev lent-part : List ℕ → List ℕ
       lent-part xs = take (start + length (l .kinds) - start) (drop start xs)
 
       abbrev lent-row : Row
-      lent-row = rowOf (lent-part (l .numbers)) (lent-part (l .states))
+      lent-row = rowWith (lent-part (l .numbers)) (lent-part (l .states))
 
       part-program : lent-program ≡ program banks l
-      part-program = ap (programOf banks (l .kinds) (l .operands)) (first-part (length (l .kinds)) (l .numbers))
+      part-program = ap (programWith banks (l .kinds) (l .operands)) (first-part (length (l .kinds)) (l .numbers))
 
       part : (xs : List ℕ) → lent-part xs ≡ take (length (l .kinds)) (drop ((min (r .passes) (l .rows) - 1) * length (l .kinds)) xs)
       part xs = rw starts (row-part (min (r .passes) (l .rows) - 1) (length (l .kinds)) xs)
 
       part-row : lent-row ≡ rowOfPass l (r .passes)
-      part-row = ap₂ rowOf (part (l .numbers)) (part (l .states))
+      part-row = ap₂ rowWith (part (l .numbers)) (part (l .states))
 
       pub part-values : InValues (length (l .values)) (itemsOf (visits lent-program lent-row))
       part-values =

@@ -18,13 +18,13 @@ ghost use lib.ListN.{length};
 ghost use Rattle.refusal.specs.Limits.{maxNodes, maxRows};
 ghost use Rattle.bankdef.specs.Check.{banksOf};
 ghost use Rattle.bankdef.specs.Fill.{fillBy};
-ghost use Rattle.lists.specs.Lists.{lists};
+ghost use Rattle.lists.specs.Lists.{lists, rowWith};
 ghost use Rattle.resolver.specs.Switches.{Switches};
+ghost use Rattle.resolver.specs.Once.{programWith};
 ghost use Rattle.build_sights.specs.Visits.{visits};
 ghost use Rattle.build_sights.specs.Items.{itemsOf};
 ghost use Rattle.build_plan.specs.Placing.{closesDefault};
 ghost use Rattle.output.specs.Output.{input, lent, refusedAfter, Builds};
-ghost use Rattle.build_sights.specs.Visits.{programOf, rowOf};
 ghost use Rattle.build_plan.specs.Plan.{maxEnd};
 ghost use Rattle.output.specs.Steps.{InValues, roomVerdict, RowBuilt};
 
@@ -83,11 +83,11 @@ fn build_row(
     requires { ⌜ Switches (banks .len) (now kinds) (now operands) ⌝ }
     requires { ⌜
         InValues (length (now values))
-        (itemsOf (visits (programOf banks (now kinds) (now operands) (now first)) (rowOf (now numbers) (now states))))
+        (itemsOf (visits (programWith banks (now kinds) (now operands) (now first)) (rowWith (now numbers) (now states))))
         ⌝ }
     ensures { λ r. ⌜
-        RowBuilt (programOf banks (now (kinds .entry)) (now (operands .entry)) (now (first .entry)))
-        (rowOf (now (numbers .entry)) (now (states .entry))) (closesDefault (banks .len) (choices .closed))
+        RowBuilt (programWith banks (now (kinds .entry)) (now (operands .entry)) (now (first .entry)))
+        (rowWith (now (numbers .entry)) (now (states .entry))) (closesDefault (banks .len) (choices .closed))
         (fillBy (choices .fill) (banksOf banks)) k passes (now (values .entry))
         (lent (now (image .entry)) (now (addresses .entry)) (now (offsets .entry)) (now (sizes .entry))) r
         (lent (now (image .exit)) (now (addresses .exit)) (now (offsets .exit)) (now (sizes .exit)))

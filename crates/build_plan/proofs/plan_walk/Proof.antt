@@ -7,12 +7,11 @@ use borrow.Author.Needs.{needs}
 use Rattle.refusal.specs.Limits.{maxNodes}
 use Rattle.refusal.specs.declared.Refusal.{Refusal}
 use Rattle.refusal.specs.declared.Verdict.the-variants.{Accepted, Refused}
-use Rattle.lists.specs.Lists.{Row}
-use Rattle.resolver.specs.Once.{Program}
+use Rattle.lists.specs.Lists.{Row, rowWith}
+use Rattle.resolver.specs.Once.{Program, programWith}
 use Rattle.resolver.specs.Walking.{Walks}
 use Rattle.overlap_checker.specs.Lent.{lent as store}
 use Rattle.build_sights.specs.Theorems.Sights.{bank-listed, paced-is-visit, paced-next, paced-still}
-use Rattle.build_sights.specs.Visits.{programOf, rowOf}
 use Rattle.build_plan.specs.declared.Plan.{Plan}
 use Rattle.build_plan.proofs.PlanLaws.{Going, begins, settles, goes-on, ends, ended}
 use Rattle.build_plan.proofs.plan_walk.Statement.{statement}
@@ -20,7 +19,7 @@ use Rattle.build_plan.proofs.plan_walk.Tie as tie
 
 abbrev Inv-loop : tie.InvT-loop
 Inv-loop kinds operands first numbers states closed fill banks positions₀ sizes₀ marks₀ stored₀ walk₀ sums₀ i₀ positions sizes marks stored walk sums i =
-    Going (programOf banks kinds operands first) (rowOf numbers states) closed fill i walk (store positions sizes (stored .count) marks (stored .marks)) sums
+    Going (programWith banks kinds operands first) (rowWith numbers states) closed fill i walk (store positions sizes (stored .count) marks (stored .marks)) sums
 
 abbrev μ-loop : tie.MeasureT-loop
 μ-loop kinds operands first numbers states closed fill banks positions₀ sizes₀ marks₀ stored₀ walk₀ sums₀ i₀ positions sizes marks stored walk sums i =
@@ -57,10 +56,10 @@ paced c = c .before .before .before .before .before
 
 -- what the walk is given
 abbrev given : Head → Program
-given c = programOf (entry c .args .t1) (entry c .args .kinds .now) (entry c .args .operands .now) (entry c .args .first .now)
+given c = programWith (entry c .args .t1) (entry c .args .kinds .now) (entry c .args .operands .now) (entry c .args .first .now)
 
 abbrev row : Head → Row
-row c = rowOf (entry c .args .numbers .now) (entry c .args .states .now)
+row c = rowWith (entry c .args .numbers .now) (entry c .args .states .now)
 
 -- owning a table tells that it has 16 records
 room : (c : Head) → length (entry c .args .t1 .defs) ≡ 16
@@ -105,7 +104,7 @@ no-sums-requires c κs = search needs
 loop-holds : tie.Need-loop-holds Inv-loop μ-loop
 loop-holds c =
     let s = c .before .before .before .before .before .before .before in
-    begins (programOf (s .args .t1) (s .args .kinds .now) (s .args .operands .now) (s .args .first .now)) (rowOf (s .args .numbers .now) (s .args .states .now))
+    begins (programWith (s .args .t1) (s .args .kinds .now) (s .args .operands .now) (s .args .first .now)) (rowWith (s .args .numbers .now) (s .args .states .now))
     (s .pre .1 .0) (s .args .closed) (s .args .fill) (s .pre .0 .0) (s .pre .1 .1) (c .before .none-stored .ensures) (c .no-sums .ensures)
 
 node-at-requires : tie.Need-node-at-requires Inv-loop μ-loop

@@ -4,8 +4,10 @@ use mathlib.Core.List.{List}
 use Prim.Native.Nat.{ℕ}
 use lib.ListN.{length}
 use borrow.Author.Needs.{needs}
+use Rattle.resolver.specs.Once.{programWith}
+use Rattle.lists.specs.Lists.{rowWith}
 use Rattle.build_sights.specs.Items.{imageOf, itemsOf}
-use Rattle.build_sights.specs.Visits.{programOf, rowOf, visits}
+use Rattle.build_sights.specs.Visits.{visits}
 use Rattle.build_write.specs.Laws.Blank.{blank-length}
 use Rattle.build_write.proofs.write_row.Statement.{statement}
 use Rattle.build_write.proofs.write_row.Tie as tie
@@ -46,7 +48,7 @@ returns c =
     let w = c .before .before .before .before .before .before .before in
     let l = c .before .before .before .before .before .before .before .before .before .before .before .before .before .before .before in
     let a = entry l .args in
-    let vs = visits (programOf (a .banks) (a .kinds .now) (a .operands .now) (a .first .now)) (rowOf (a .numbers .now) (a .states .now)) in
+    let vs = visits (programWith (a .banks) (a .kinds .now) (a .operands .now) (a .first .now)) (rowWith (a .numbers .now) (a .states .now)) in
     let left = w .write-walk .ensures .1 in
     (left .0 ∙ ap (λ (m : List ℕ). imageOf (a .values .now) m (itemsOf vs)) (l .lay-blank .ensures), left .1)
 

@@ -5,11 +5,11 @@ use native.Mathlib.Omega.{arith}
 use lib.ListN.{length, length-map, set}
 use borrow.Author.Needs.{needs}
 use Rattle.iter.specs.declared.Lost.{Lost}
-use Rattle.lists.specs.Lists.{Row}
-use Rattle.resolver.specs.Once.{Program}
+use Rattle.lists.specs.Lists.{Row, rowWith}
+use Rattle.resolver.specs.Once.{Program, programWith}
 use Rattle.resolver.specs.Walking.{Walks}
 use Rattle.build_sights.specs.Theorems.Sights.{bank-listed, paced-position, paced-is-visit, paced-next, paced-still}
-use Rattle.build_sights.specs.Visits.{programOf, rowOf, visits}
+use Rattle.build_sights.specs.Visits.{visits}
 use Rattle.build_write.specs.Writes.{HasRoom}
 use Rattle.build_write.proofs.WritingSteps.{Writing, begins, goes-on, ends, item-fits, spans-fit, same-image, same-first, same-second, same-third}
 use Rattle.build_write.proofs.write_walk.Statement.{statement}
@@ -18,7 +18,7 @@ use Rattle.build_write.proofs.write_walk.Tie as tie
 abbrev Inv-loop : tie.InvT-loop
 Inv-loop kinds operands first numbers states values image₀ addresses₀ offsets₀ sizes₀ banks walk₀ count₀ i₀
     image addresses offsets sizes walk count i =
-    Writing (programOf banks kinds operands first) (rowOf numbers states) values image₀ addresses₀ offsets₀ sizes₀ i walk count image addresses offsets sizes
+    Writing (programWith banks kinds operands first) (rowWith numbers states) values image₀ addresses₀ offsets₀ sizes₀ i walk count image addresses offsets sizes
 
 abbrev μ-loop : tie.MeasureT-loop
 μ-loop kinds operands first numbers states values image₀ addresses₀ offsets₀ sizes₀ banks walk₀ count₀ i₀
@@ -62,10 +62,10 @@ itemed c = c .before .before .before .before .before .before
 
 -- what the walk is given
 abbrev given : Head → Program
-given h = programOf (start h .args .t1) (start h .args .kinds .now) (start h .args .operands .now) (start h .args .first .now)
+given h = programWith (start h .args .t1) (start h .args .kinds .now) (start h .args .operands .now) (start h .args .first .now)
 
 abbrev row : Head → Row
-row h = rowOf (start h .args .numbers .now) (start h .args .states .now)
+row h = rowWith (start h .args .numbers .now) (start h .args .states .now)
 
 -- owning a table tells that it has 16 records
 table : (h : Head) → length (start h .args .t1 .defs) ≡ 16
@@ -87,7 +87,7 @@ loop-holds : tie.Need-loop-holds Inv-loop μ-loop
 loop-holds c =
     let e = c .before .before .before .before .before .before .before .before .before in
     let a = e .args in
-    begins (programOf (a .t1) (a .kinds .now) (a .operands .now) (a .first .now)) (rowOf (a .numbers .now) (a .states .now)) (a .values .now)
+    begins (programWith (a .t1) (a .kinds .now) (a .operands .now) (a .first .now)) (rowWith (a .numbers .now) (a .states .now)) (a .values .now)
     (a .image .now) (a .addresses .now) (a .offsets .now) (a .sizes .now) (e .pre .0) (e .pre .1 .1)
 
 node-at-requires : tie.Need-node-at-requires Inv-loop μ-loop

@@ -1,7 +1,8 @@
 -- `write_entries` meets its contract. The loop's invariant is `Writing`: each node is met by a law of EntryLaws.
 use Prim.Native.Nat.{_-_}
 use native.Mathlib.Omega.{arith}
-use Rattle.build_sights.specs.Visits.{programOf, rowOf}
+use Rattle.lists.specs.Lists.{rowWith}
+use Rattle.resolver.specs.Once.{programWith}
 use Rattle.build_map.proofs.EntryLaws.{Writing, begins, goes-on, first-fits, second-fits, third-fits, fourth-fits}
 use Rattle.build_map.proofs.EntryLaws.{lost-at-end, banks-at-end, positions-at-end, outputs-at-end, sizes-at-end}
 use borrow.Author.Needs.{needs}
@@ -10,7 +11,7 @@ use Rattle.build_map.proofs.entries.write_entries.Tie as tie
 
 abbrev Inv-loop : tie.InvT-loop
 Inv-loop banks kinds operands first numbers states nodes banks-of₀ positions₀ outputs₀ sizes₀ walk₀ i₀ banks-of positions outputs sizes walk i =
-    Writing (programOf banks kinds operands first) (rowOf numbers states) nodes i walk banks-of₀ positions₀ outputs₀ sizes₀ banks-of positions outputs sizes
+    Writing (programWith banks kinds operands first) (rowWith numbers states) nodes i walk banks-of₀ positions₀ outputs₀ sizes₀ banks-of positions outputs sizes
 
 abbrev μ-loop : tie.MeasureT-loop
 μ-loop banks kinds operands first numbers states nodes banks-of₀ positions₀ outputs₀ sizes₀ walk₀ i₀ banks-of positions outputs sizes walk i = nodes - i
@@ -22,7 +23,7 @@ loop-holds : tie.Need-loop-holds Inv-loop μ-loop
 loop-holds c =
     let start = c .before .before .before .before .before .before .before .before .before .before in
     let a = start .args in
-    begins (programOf (a .banks) (a .kinds .now) (a .operands .now) (a .first .now)) (rowOf (a .numbers .now) (a .states .now)) (a .nodes)
+    begins (programWith (a .banks) (a .kinds .now) (a .operands .now) (a .first .now)) (rowWith (a .numbers .now) (a .states .now)) (a .nodes)
     (c .start .ensures) (a .banks-of .now) (a .positions .now) (a .outputs .now) (a .sizes .now)
 
 visit-node-requires : tie.Need-visit-node-requires Inv-loop μ-loop

@@ -2,8 +2,9 @@
 use mathlib.Core.Path.{sym, subst}
 use Prim.Native.Nat.{_≤_}
 use native.Mathlib.Omega.{arith}
+use Rattle.lists.specs.Lists.{rowWith}
+use Rattle.resolver.specs.Once.{programWith}
 use Rattle.refusal.specs.Limits.{maxNodes}
-use Rattle.build_sights.specs.Visits.{programOf, rowOf}
 use Rattle.build_map.specs.declared.Reach.{Reach}
 use Rattle.build_map.proofs.MapLaws.{row-mapped}
 use borrow.Author.Needs.{needs}
@@ -45,7 +46,7 @@ returns c =
     let start = at-reach-row .before .before .before .before .before .before .before .before .before .before in
     let a = start .args in
     let w = at-write-entries .write-entries .ensures in
-    row-mapped (programOf (a .banks) (a .kinds .now) (a .operands .now) (a .first .now)) (rowOf (a .numbers .now) (a .states .now)) (a .closed) (a .settled)
+    row-mapped (programWith (a .banks) (a .kinds .now) (a .operands .now) (a .first .now)) (rowWith (a .numbers .now) (a .states .now)) (a .closed) (a .settled)
     (a .passes) (a .banks-of .now) (a .positions .now) (a .outputs .now) (a .sizes .now) (at-reach-row .reach-row .result) (at-reach-row .reach-row .ensures)
     (at-write-entries .write-entries .result) (w .0) _ _ _ _ (w .1 .0) (w .1 .1 .0) (w .1 .1 .1 .0) (w .1 .1 .1 .1)
 

@@ -1,6 +1,7 @@
 -- `reach_row` meets its contract: the passes were refused, or the row is traced.
 use mathlib.Core.Path.{sym, ap, subst, _∙_}
-use Rattle.build_sights.specs.Visits.{programOf, rowOf}
+use Rattle.lists.specs.Lists.{rowWith}
+use Rattle.resolver.specs.Once.{programWith}
 use Rattle.build_map.specs.Steps.{Few, rowReach}
 use borrow.Author.Needs.{needs}
 use Rattle.build_map.proofs.maps.reach_row.Statement.{statement}
@@ -21,14 +22,14 @@ trace-row-requires c κs = search needs
 returns : tie.Need-returns
 returns c =
     let a = c .before .before .before .before .before .before .before .before .before .args in
-    let p = programOf (a .banks) (a .kinds .now) (a .operands .now) (a .first .now) in
-    c .met .ensures ∙ sym (ap (rowReach p (rowOf (a .numbers .now) (a .states .now)) (a .closed)) (c .before .before .settled .given .1))
+    let p = programWith (a .banks) (a .kinds .now) (a .operands .now) (a .first .now) in
+    c .met .ensures ∙ sym (ap (rowReach p (rowWith (a .numbers .now) (a .states .now)) (a .closed)) (c .before .before .settled .given .1))
 
 returns-2 : tie.Need-returns-2
 returns-2 c =
     let a = c .before .before .before .before .before .before .before .before .args in
-    let p = programOf (a .banks) (a .kinds .now) (a .operands .now) (a .first .now) in
-    c .trace-row .ensures ∙ sym (ap (rowReach p (rowOf (a .numbers .now) (a .states .now)) (a .closed)) (c .before .enum-told .given .1))
+    let p = programWith (a .banks) (a .kinds .now) (a .operands .now) (a .first .now) in
+    c .trace-row .ensures ∙ sym (ap (rowReach p (rowWith (a .numbers .now) (a .states .now)) (a .closed)) (c .before .enum-told .given .1))
 
 pub reach-row-spec : {M : Type 1} → statement M
 reach-row-spec =

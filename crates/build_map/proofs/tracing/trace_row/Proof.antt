@@ -3,7 +3,8 @@ use mathlib.Core.Path.{sym, _∙_}
 use Prim.Native.Nat.{_-_}
 use native.Mathlib.Omega.{arith}
 use lib.ListN.{length}
-use Rattle.build_sights.specs.Visits.{programOf, rowOf}
+use Rattle.lists.specs.Lists.{rowWith}
+use Rattle.resolver.specs.Once.{programWith}
 use Rattle.build_map.proofs.TraceLaws.{Going, begins, settles, goes-on, ends}
 use borrow.Author.Needs.{needs}
 use Rattle.build_map.proofs.tracing.trace_row.Statement.{statement}
@@ -11,7 +12,7 @@ use Rattle.build_map.proofs.tracing.trace_row.Tie as tie
 
 abbrev Inv-loop : tie.InvT-loop
 Inv-loop banks kinds operands first numbers states closed positions₀ sizes₀ count₀ marks₀ mark-count₀ walk₀ i₀ positions sizes count marks mark-count walk i =
-    Going (programOf banks kinds operands first) (rowOf numbers states) closed i walk positions sizes count marks mark-count
+    Going (programWith banks kinds operands first) (rowWith numbers states) closed i walk positions sizes count marks mark-count
 
 abbrev μ-loop : tie.MeasureT-loop
 μ-loop banks kinds operands first numbers states closed positions₀ sizes₀ count₀ marks₀ mark-count₀ walk₀ i₀ positions sizes count marks mark-count walk i =
@@ -23,7 +24,7 @@ start-requires c κs = search needs
 loop-holds : tie.Need-loop-holds Inv-loop μ-loop
 loop-holds c =
     let a = c .before .before .before .before .before .before .args in
-    begins (programOf (a .banks) (a .kinds .now) (a .operands .now) (a .first .now)) (rowOf (a .numbers .now) (a .states .now)) (a .closed)
+    begins (programWith (a .banks) (a .kinds .now) (a .operands .now) (a .first .now)) (rowWith (a .numbers .now) (a .states .now)) (a .closed)
     (c .start .result) (c .start .ensures)
 
 visit-node-requires : tie.Need-visit-node-requires Inv-loop μ-loop

@@ -6,9 +6,8 @@ use lib.ListN.{length}
 use Rattle.refusal.specs.declared.Verdict.the-variants.{Accepted}
 use Rattle.bankdef.specs.Check.{banksOf}
 use Rattle.bankdef.specs.Fill.{fillBy}
-use Rattle.lists.specs.Lists.{Row}
-use Rattle.resolver.specs.Once.{Program}
-use Rattle.build_sights.specs.Visits.{programOf, rowOf}
+use Rattle.lists.specs.Lists.{Row, rowWith}
+use Rattle.resolver.specs.Once.{Program, programWith}
 use Rattle.build_plan.specs.Placing.{closesDefault}
 use Rattle.build_plan.specs.Laws.Plan.{Planned, plan-parts}
 use Rattle.build_plan.specs.Plan.{planOf}
@@ -28,10 +27,10 @@ abbrev planned-at : tie.After-room-for → tie.After-plan-row
 planned-at c = c .before .before .before .before .before
 
 abbrev given : tie.Start → Program
-given s = programOf (s .args .banks) (s .args .kinds .now) (s .args .operands .now) (s .args .first .now)
+given s = programWith (s .args .banks) (s .args .kinds .now) (s .args .operands .now) (s .args .first .now)
 
 abbrev row : tie.Start → Row
-row s = rowOf (s .args .numbers .now) (s .args .states .now)
+row s = rowWith (s .args .numbers .now) (s .args .states .now)
 
 abbrev old : tie.Start → Lent
 old s = lent (s .args .image .now) (s .args .addresses .now) (s .args .offsets .now) (s .args .sizes .now)
