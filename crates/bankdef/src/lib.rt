@@ -60,54 +60,6 @@ fn is_zero(size: Opt) -> bool
     }
 }
 
-// Whether a number of the bank is beyond its limit, its fill bit is neither 0 nor 1, or the bank is filled and has size 0.
-fn at_fault(b: Bankdef) -> bool
-    ensures { λ r. ⌜ r ≡ bankFault b ⌝ }
-{
-    let unit = b.unit;
-    if unit == 0 {
-        return true;
-    }
-    let start = b.start;
-    if MAX_START < magnitude(start) {
-        return true;
-    }
-    let bit = b.fill_bit;
-    if 1 < bit {
-        return true;
-    }
-    let fill = b.fill;
-    let size = b.size;
-    fill && is_zero(size)
-}
-
-// The first of the table's `n` banks that is at fault by its own record, or `n` where none is.
-fn first_unsound(banks: Bankdefs, n: usize) -> usize
-    requires { ⌜ n ≤ maxBanks ⌝ }
-    ensures { λ r. ⌜ r ≡ firstWhere bankFault (take n (banks .defs)) ⌝ }
-{
-    for i in 0..n {
-        let b = banks.defs[i];
-        if at_fault(b) {
-            return i;
-        }
-    }
-    n
-}
-
-// The first of the table's `n` banks that is at fault, or `n` where none is: bank 0 also for a fill bit of one.
-fn first_fault(banks: Bankdefs, n: usize) -> usize
-    requires { ⌜ (0 < n) × (n ≤ maxBanks) ⌝ }
-    ensures { λ r. ⌜ r ≡ firstFault (take n (banks .defs)) ⌝ }
-{
-    let zero = banks.defs[0];
-    let bit = zero.fill_bit;
-    if bit == 1 {
-        return 0;
-    }
-    first_unsound(banks, n)
-}
-
 // The bit after the last of `size` bits from `offset`.
 fn end(offset: u32, size: u32) -> u64
     ensures { λ r. ⌜ r ≡ offset + size ⌝ }
@@ -131,23 +83,103 @@ fn ranges_overlap(o: u32, m: Opt, p: u32, n: Opt) -> bool
     }
 }
 
-// Whether two banks overlap: both with an offset, and their ranges do.
-fn overlaps(a: Bankdef, b: Bankdef) -> bool
-    ensures { λ r. ⌜ r ≡ pairOverlaps a b ⌝ }
-{
-    let first = a.offset;
-    let second = b.offset;
-    match first {
-        Opt::None => false,
-        Opt::Some(o) => match second {
-            Opt::None => false,
-            Opt::Some(p) => {
-                let m = a.size;
-                let n = b.size;
-                ranges_overlap(o, m, p, n)
-            }
-        },
+impl Bankdef {
+    // Whether a number of the bank is beyond its limit, its fill bit is neither 0 nor 1, or the bank is filled and has size 0.
+    fn at_fault(self) -> bool
+        ensures { λ r. ⌜ r ≡ bankFault self ⌝ }
+    {
+        let unit = self.unit;
+        if unit == 0 {
+            return true;
+        }
+        let start = self.start;
+        if MAX_START < magnitude(start) {
+            return true;
+        }
+        let bit = self.fill_bit;
+        if 1 < bit {
+            return true;
+        }
+        let fill = self.fill;
+        let size = self.size;
+        fill && is_zero(size)
     }
+
+    // Whether two banks overlap: both with an offset, and their ranges do.
+    fn overlaps(self, other: Bankdef) -> bool
+        ensures { λ r. ⌜ r ≡ pairOverlaps self other ⌝ }
+    {
+        let first = self.offset;
+        let second = other.offset;
+        match first {
+            Opt::None => false,
+            Opt::Some(o) => match second {
+                Opt::None => false,
+                Opt::Some(p) => {
+                    let m = self.size;
+                    let n = other.size;
+                    ranges_overlap(o, m, p, n)
+                }
+            },
+        }
+    }
+
+    // The end of a bank with fill, size and offset; of any other, 0.
+    fn fill_end(self) -> u64
+        ensures { λ r. ⌜ r ≡ fillEnd self ⌝ }
+        ensures { λ r. ⌜ r ≤ maxOffer ⌝ }
+    {
+        let fill = self.fill;
+        if !fill {
+            return 0;
+        }
+        let size = self.size;
+        let Opt::Some(size) = size else {
+            return 0;
+        };
+        let offset = self.offset;
+        let Opt::Some(offset) = offset else {
+            return 0;
+        };
+        end(offset, size)
+    }
+
+    // The image's length after the bank's fill, from `length` before it.
+    fn filled(self, length: u64, gap: u64) -> u64
+        requires { ⌜ (length ≤ maxOffer) × (gap ≤ 1) ⌝ }
+        ensures { λ r. ⌜ r ≡ pick (ltb (length + gap) (fillEnd self)) (fillEnd self) length ⌝ }
+        ensures { λ r. ⌜ r ≤ maxOffer ⌝ }
+    {
+        let end = self.fill_end();
+        if length + gap < end { end } else { length }
+    }
+}
+
+// The first of the table's `n` banks that is at fault by its own record, or `n` where none is.
+fn first_unsound(banks: Bankdefs, n: usize) -> usize
+    requires { ⌜ n ≤ maxBanks ⌝ }
+    ensures { λ r. ⌜ r ≡ firstWhere bankFault (take n (banks .defs)) ⌝ }
+{
+    for i in 0..n {
+        let b = banks.defs[i];
+        if b.at_fault() {
+            return i;
+        }
+    }
+    n
+}
+
+// The first of the table's `n` banks that is at fault, or `n` where none is: bank 0 also for a fill bit of one.
+fn first_fault(banks: Bankdefs, n: usize) -> usize
+    requires { ⌜ (0 < n) × (n ≤ maxBanks) ⌝ }
+    ensures { λ r. ⌜ r ≡ firstFault (take n (banks .defs)) ⌝ }
+{
+    let zero = banks.defs[0];
+    let bit = zero.fill_bit;
+    if bit == 1 {
+        return 0;
+    }
+    first_unsound(banks, n)
 }
 
 // The first of the table's `n` banks after bank `i` that overlaps it, or `n` where none does.
@@ -158,7 +190,7 @@ fn first_overlap_after(banks: Bankdefs, n: usize, i: usize) -> usize
     let a = banks.defs[i];
     for j in i + 1..n {
         let b = banks.defs[j];
-        if overlaps(a, b) {
+        if a.overlaps(b) {
             return j;
         }
     }
@@ -199,26 +231,6 @@ pub fn check(banks: Bankdefs) -> Verdict
     check_bank_overlap(banks, n)
 }
 
-// The end of a bank with fill, size and offset; of any other, 0.
-fn fill_end(b: Bankdef) -> u64
-    ensures { λ r. ⌜ r ≡ fillEnd b ⌝ }
-    ensures { λ r. ⌜ r ≤ maxOffer ⌝ }
-{
-    let fill = b.fill;
-    if !fill {
-        return 0;
-    }
-    let size = b.size;
-    let Opt::Some(size) = size else {
-        return 0;
-    };
-    let offset = b.offset;
-    let Opt::Some(offset) = offset else {
-        return 0;
-    };
-    end(offset, size)
-}
-
 // How far below the end of a filled bank a length stays as it is: by full fill, choice 1, nowhere, and otherwise one bit. The bank's last bit is document
 // 01's h, so its end is h + 1, and a length is below h where the length + 1 is below the end; that asks for no h where a bank ends at 0.
 fn gap_of(choice: u8) -> u64
@@ -226,16 +238,6 @@ fn gap_of(choice: u8) -> u64
     ensures { λ r. ⌜ r ≤ 1 ⌝ }
 {
     if choice == 1 { 0 } else { 1 }
-}
-
-// The image's length after the bank's fill, from `length` before it.
-fn filled(b: Bankdef, length: u64, gap: u64) -> u64
-    requires { ⌜ (length ≤ maxOffer) × (gap ≤ 1) ⌝ }
-    ensures { λ r. ⌜ r ≡ pick (ltb (length + gap) (fillEnd b)) (fillEnd b) length ⌝ }
-    ensures { λ r. ⌜ r ≤ maxOffer ⌝ }
-{
-    let end = fill_end(b);
-    if length + gap < end { end } else { length }
 }
 
 // The length that fill gives an empty image, over the table's first `n` banks in order, by the choice.
@@ -248,7 +250,7 @@ fn fill_banks(banks: Bankdefs, n: usize, choice: u8) -> u64
     let mut length = 0;
     for i in 0..n {
         let b = banks.defs[i];
-        length = filled(b, length, gap);
+        length = b.filled(length, gap);
     }
     length
 }

@@ -1,13 +1,13 @@
--- `bankdef::fill_end` meets its contract: each return is a clause of `endBy`.
+-- `bankdef::Bankdef::fill_end` meets its contract: each return is a clause of `endBy`.
 use mathlib.Core.Path.{_≡_}
 use mathlib.Core.Bool.{true}
 use borrow.Author.Needs.{needs}
 use borrow.Author.Tests.{not-true, not-false}
-use Rattle.bankdef.proofs.fill_end.Statement.{statement}
-use Rattle.bankdef.proofs.fill_end.Tie as tie
+use Rattle.bankdef.proofs.Bankdef.fill_end.Statement.{statement}
+use Rattle.bankdef.proofs.Bankdef.fill_end.Tie as tie
 
-fill : (c : tie.Else1) → c .before .args .b .fill ≡ true
-fill c = not-false (c .before .args .b .fill) (c .if1 .left)
+fill : (c : tie.Else1) → c .before .args .self .fill ≡ true
+fill c = not-false (c .before .args .self .fill) (c .if1 .left)
 
 returns-3 : tie.Need-returns-3
 returns-3 c =
@@ -23,6 +23,6 @@ pub fill-end-spec : {M : Type 1} → statement M
 fill-end-spec =
     tie.close
     (tie.spec
-    (λ c. (rw (not-true (c .before .args .b .fill) (c .if1 .taken)), search needs)) (λ c. search needs) (λ c. search needs)
+    (λ c. (rw (not-true (c .before .args .self .fill) (c .if1 .taken)), search needs)) (λ c. search needs) (λ c. search needs)
     (λ c. (rw (fill (c .before .before), c .enum-told .given .1), search needs)) (λ c. search needs) (λ c. search needs) returns-3
     (λ c κs. search needs) returns-4)
