@@ -12,6 +12,21 @@ ghost use Rattle.form_fields.specs.Kind.{form1, form2, begins2, kindOf, 
 ghost use Rattle.form_fields.specs.Shape.{Counted, formIn};
 ghost use Rattle.form_fields.specs.Told.{FormIs};
 
+// A field's tag: a bank of either form, a node, a row, the value bytes, the pass limit, and the form's number.
+pub const TAG_BANK: u8 = 1;
+
+pub const TAG_NODE: u8 = 2;
+
+pub const TAG_ROW: u8 = 3;
+
+pub const TAG_VALUES: u8 = 4;
+
+pub const TAG_LIMIT: u8 = 5;
+
+pub const TAG_FORM: u8 = 16;
+
+pub const TAG_BANK_2: u8 = 17;
+
 // What differs between the forms: a form's number, how many fields stand ahead of the banks, a bank's tag and how long its
 // payload is, and the longest file.
 pub struct Kind {
@@ -124,10 +139,10 @@ fn is_field(file: &[u8], tag: u8, len: usize, at: usize) -> bool
 fn ends_well(tag: u8, before: u8, last: u8) -> bool
     ensures { λ r. ⌜ r ≡ endsWell tag before last ⌝ }
 {
-    if tag == 1 {
+    if tag == TAG_BANK {
         return last <= 15;
     }
-    if tag != 17 {
+    if tag != TAG_BANK_2 {
         return true;
     }
     if 15 < before {
@@ -166,7 +181,7 @@ fn form1() -> Kind
     Kind {
         form: 1,
         heads: 0,
-        tag: 1,
+        tag: TAG_BANK,
         bank: 23,
         longest: 65_000,
     }
@@ -178,7 +193,7 @@ fn form2() -> Kind
     Kind {
         form: 2,
         heads: 1,
-        tag: 17,
+        tag: TAG_BANK_2,
         bank: 24,
         longest: 65_536,
     }
@@ -188,7 +203,7 @@ fn form2() -> Kind
 fn begins2(file: &[u8]) -> bool
     ensures { λ r. ⌜ r ≡ begins2 (now (file .entry)) ⌝ }
 {
-    if !is_field(file, 16, 1, 0) {
+    if !is_field(file, TAG_FORM, 1, 0) {
         return false;
     }
     file[3] == 2
@@ -222,11 +237,11 @@ fn read_rest(file: &[u8], kind: Kind, banks: u64, nodes: u64, rows: u64, at: usi
         return Form::Broken(Refusal::Malformed(field));
     }
     let size = read16(file, at + 1) as usize;
-    if !is_field(file, 4, size, at) {
+    if !is_field(file, TAG_VALUES, size, at) {
         return Form::Broken(Refusal::Malformed(field));
     }
     let limit = at + 3 + size;
-    if !is_field(file, 5, 1, limit) {
+    if !is_field(file, TAG_LIMIT, 1, limit) {
         return Form::Broken(Refusal::Malformed(field + 1));
     }
     if limit + 4 < file.len() {
@@ -255,8 +270,8 @@ fn read_as(file: &[u8], kind: Kind) -> Form
         return Form::Broken(Refusal::Malformed(0));
     }
     let banks = count_run(file, kind.tag, kind.bank, kind.heads as usize * 4);
-    let nodes = count_run(file, 2, 5, banks.end);
-    let rows = count_run(file, 3, 5 * nodes.count as usize, nodes.end);
+    let nodes = count_run(file, TAG_NODE, 5, banks.end);
+    let rows = count_run(file, TAG_ROW, 5 * nodes.count as usize, nodes.end);
     read_rest(file, kind, banks.count, nodes.count, rows.count, rows.end)
 }
 
