@@ -1,4 +1,6 @@
 pub mod Breaks
+pub mod FileMeets
+pub mod FileSays
 pub mod Numbers
 pub mod OneLayout
 pub mod Read

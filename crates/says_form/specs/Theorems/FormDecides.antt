@@ -1,27 +1,17 @@
 -- What `dk_form` says of a file leaves one outcome: the bytes leave one layout or one broken field, and a layout leaves one outcome (`build-decides`).
-use mathlib.Core.Path.{_≡_, ap, subst}
 use mathlib.Core.List.{List}
 use Prim.Native.Nat.{ℕ}
-use Rattle.says.specs.Words as words
 use Rattle.says.specs.Words.{OneOnly}
-use Rattle.says_build.specs.Build.{Given, Lent, BuildSays}
+use Rattle.says_build.specs.Build.{Given, Lent, Outcome, BuildSays}
 use Rattle.says_build.specs.Theorems.Decides.{build-decides}
-use Rattle.says_form.specs.Files.{Form, Held, Sound, Broken}
-use Rattle.says_form.specs.Form.{Layout, brokenAt, FormSays, broken, laid}
-use Rattle.says_form.specs.Laws.OneLayout.{layout-one, broken-one, not-both, form-one}
-use Rattle.says_form.specs.Laws.Written.{sound-one}
+use Rattle.says_form.specs.Form.{FormSays, broken, laid}
+use Rattle.says_form.specs.Laws.FileSays as file-says
+use Rattle.says_form.specs.Laws.FileSays.{FileSays, file-decides}
 
 module _ (file : List ℕ) (fill : ℕ) (old : Lent) where
+  so : {y : Outcome} → FormSays file fill old y → FileSays file fill old (λ (g : Given). BuildSays g old) y
+  so (broken o b x) = file-says.broken o b x
+  so (laid o s l t) = file-says.laid o s l t
+
   pub form-decides : OneOnly (FormSays file fill old)
-  form-decides y z (broken {f} {i} o b words.is) (broken {f = f′} {i = i′} o′ b′ words.is) =
-      let e : f′ ≡ f = form-one o′ o in
-      ap (brokenAt file fill old) (broken-one b (subst (λ (k : Form). Broken k file i′) e b′))
-  form-decides y z (broken {f} o b x) (laid {f = f′} {h} o′ s l t) = absurd (not-both b (subst (λ (k : Form). Sound k file h) (form-one o′ o) s))
-  form-decides y z (laid {f} {h} o s l t) (broken {f = f′} o′ b x) = absurd (not-both b (subst (λ (k : Form). Sound k file h) (form-one o o′) s))
-  form-decides y z (laid {f} {h} {g} o s l t) (laid {f = f′} {h = h′} {g = g′} o′ s′ l′ t′) =
-      let e : f′ ≡ f = form-one o′ o in
-      let s″ = subst (λ (k : Form). Sound k file h′) e s′ in
-      let l″ = subst (λ (k : Form). Layout k h′ fill g′) e l′ in
-      let same : h′ ≡ h = sound-one s″ s in
-      let one : g′ ≡ g = layout-one (subst (λ (k : Held). Layout f k fill g′) same l″) l in
-      build-decides g old y z t (subst (λ (k : Given). BuildSays k old z) one t′)
+  form-decides y z a b = file-decides file fill old _ (λ g. build-decides g old) y z (so a) (so b)
