@@ -18,6 +18,7 @@ use Rattle.blocks.specs.declared.Block.{Block}
 use Rattle.blocks.specs.Theorems.Acceptable.{acceptable-parts as parts}
 use Rattle.blocks.specs.Offsets.{noOffset, offsetOf}
 use Rattle.blocks.specs.Put.{Put}
+use Rattle.blocks.specs.Laws.Put.{put-nothing, kept-none, kept-some}
 use Rattle.blocks.specs.Spans.{span, within, offsetWithin, spansOf, allWithin, acceptable}
 use Rattle.blocks.specs.Walk.{block, endOf, kept, closed, joined}
 
@@ -71,22 +72,14 @@ module _ (words sizes : List ℕ) where
   pub acceptable-few : length words ≡ length sizes → length words ≤ maxNodes → allWithin (spansOf words sizes) ≡ acceptable words sizes
   acceptable-few e h = rw (eq-eqb (length words) (length sizes) e, le-leb (length words) maxNodes h)
 
-pub put-nothing : (count : ℕ) (os ss : List ℕ) → Put [] count os ss count os ss
-put-nothing count os ss = record { counted = sym (add-zero count); first = refl; second = refl }
-
+-- One block, and what closes and joins one.
 module _ (b : Block) where
-  pub kept-none : b .size ≡ 0 → kept b ≡ []
-  kept-none e = rw (eq-eqb (b .size) 0 e)
+  pub push-none : b .size ≡ 0 → (count : ℕ) (os ss : List ℕ) → Put (kept b) count os ss (count + 0) os ss
+  push-none e count os ss = rw (kept-none b e) (record { counted = refl; first = refl; second = refl })
 
-  pub kept-some : (b .size ≡ 0 → ⊥) → kept b ≡ b ∷ []
-  kept-some e = rw (ne-eqb (b .size) 0 e)
-
-  pub push-none : b .size ≡ 0 → (count : ℕ) (os ss : List ℕ) → Put (kept b) count os ss count os ss
-  push-none e count os ss = rw (kept-none e) (put-nothing count os ss)
-
-  pub push-some : (b .size ≡ 0 → ⊥) → (count : ℕ) (os ss os′ ss′ : List ℕ) → os′ ≡ set os count (b .origin) → ss′ ≡ set ss count (b .size)
+  pub push-some : (b .size ≡ 0 → ⊥) → (count : ℕ) (os ss : List ℕ) {os′ ss′ : List ℕ} → os′ ≡ set os count (b .origin) → ss′ ≡ set ss count (b .size)
       → Put (kept b) count os ss (count + 1) os′ ss′
-  push-some e count os ss os′ ss′ p q = rw (kept-some e) (record { counted = refl; first = p; second = q })
+  push-some e count os ss p q = rw (kept-some b e) (record { counted = refl; first = p; second = q })
 
   module _ (o : ℕ) where
     pub closed-none : o ≡ endOf b → (count : ℕ) (os ss : List ℕ) → Put (closed b (At o)) count os ss count os ss

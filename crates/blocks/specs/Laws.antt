@@ -6,6 +6,8 @@ pub mod Joins
 pub mod Measure
 pub mod Offsets
 pub mod Passed
+pub mod Put
 pub mod Rising
+pub mod Room
 pub mod Row
 pub mod Taken

@@ -39,10 +39,15 @@ originsAfter blocks origins₀ sizes₀ = pick (roomFor blocks origins₀ sizes�
 abbrev pub sizesAfter : List Block → List ℕ → List ℕ → List ℕ
 sizesAfter blocks origins₀ sizes₀ = pick (roomFor blocks origins₀ sizes₀) (over (sizes blocks) sizes₀) sizes₀
 
-pub record Written (blocks : List Block) (origins₀ sizes₀ : List ℕ) (r : Blocks) (origins₁ sizes₁ : List ℕ) : Type 0 where
-  pub answer : r ≡ answerOf blocks origins₀ sizes₀
+-- Blocks written where there is room for all of them, in answers of any kind.
+pub record WrittenAs {A : Type 0} (found : ℕ → A) (short : A) (blocks : List Block) (origins₀ sizes₀ : List ℕ) (r : A) (origins₁ sizes₁ : List ℕ)
+    : Type 0 where
+  pub answer : r ≡ pick (roomFor blocks origins₀ sizes₀) (found (length blocks)) short
   pub first : origins₁ ≡ originsAfter blocks origins₀ sizes₀
   pub second : sizes₁ ≡ sizesAfter blocks origins₀ sizes₀
+
+abbrev pub Written : List Block → List ℕ → List ℕ → Blocks → List ℕ → List ℕ → Type 0
+Written = WrittenAs Found (Refused (TooShort 2))
 
 -- An answer in document 01's figures: how many blocks there are, or the refusal's number and place.
 abbrev pub toldBy : Blocks → Told ℕ

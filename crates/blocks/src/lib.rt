@@ -12,7 +12,7 @@ ghost use Rattle.refusal.specs.Limits.{maxNodes};
 ghost use Rattle.blocks.specs.Numbered.{Walkable, numberedBlocks};
 ghost use Rattle.blocks.specs.Offsets.{OffsetIs, WordIs};
 ghost use Rattle.blocks.specs.Spans.{span, within, spansOf, allWithin, acceptable};
-ghost use Rattle.blocks.specs.Walk.{endOf, kept, closed, joined, blocksOf};
+ghost use Rattle.blocks.specs.Walk.{block, endOf, kept, closed, joined, blocksOf};
 ghost use Rattle.blocks.specs.Put.{Put};
 ghost use Rattle.blocks.specs.Outcome.{Written, Contract};
 
@@ -108,26 +108,32 @@ fn put(column: &mut [u64], at: usize, value: u64)
     }
 }
 
+// Writes a block behind the first `count`, as far as the lent slices go, unless it is empty. How many were written: none or one.
+pub fn push(
+    origin: u64,
+    size: u64,
+    count: usize,
+    block_offsets: &mut [u64],
+    block_sizes: &mut [u64],
+) -> usize
+    ensures { λ r. ⌜ Put (kept (block origin size)) count (now («block_offsets» .entry)) (now («block_sizes» .entry)) (count + r)
+        (now («block_offsets» .exit)) (now («block_sizes» .exit)) ⌝ }
+    ensures { λ r. ⌜ r ≤ 1 ⌝ }
+{
+    if size == 0 {
+        return 0;
+    }
+    put(block_offsets, count, origin);
+    put(block_sizes, count, size);
+    1
+}
+
 // The bit behind a block's last.
 fn end_of(block: Block) -> u64
     requires { ⌜ endOf block < 2 ^ 63 ⌝ }
     ensures { λ r. ⌜ r ≡ endOf block ⌝ }
 {
     block.origin + block.size
-}
-
-// Writes a block behind those written, unless it is empty, and counts it.
-fn push(block: Block, count: usize, block_offsets: &mut [u64], block_sizes: &mut [u64]) -> usize
-    requires { ⌜ count ≤ maxNodes ⌝ }
-    ensures { λ r. ⌜ Put (kept block) count (now («block_offsets» .entry)) (now («block_sizes» .entry)) r
-        (now («block_offsets» .exit)) (now («block_sizes» .exit)) ⌝ }
-{
-    if block.size == 0 {
-        return count;
-    }
-    put(block_offsets, count, block.origin);
-    put(block_sizes, count, block.size);
-    count + 1
 }
 
 // Writes the running block if a span at an offset closes it.
@@ -145,7 +151,7 @@ fn close(
     if offset == end_of(block) {
         return count;
     }
-    push(block, count, block_offsets, block_sizes)
+    count + push(block.origin, block.size, count, block_offsets, block_sizes)
 }
 
 // The block that runs on after a span at an offset.
@@ -190,7 +196,7 @@ fn walk(
         count = close(current, offset, count, block_offsets, block_sizes);
         current = join(current, offset, sizes[place]);
     }
-    push(current, count, block_offsets, block_sizes)
+    count + push(current.origin, current.size, count, block_offsets, block_sizes)
 }
 
 // Writes the blocks, if there is room for all of them: a walk that is lent no room counts them first.

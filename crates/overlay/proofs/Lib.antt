@@ -2,7 +2,6 @@ pub mod BlockLaws
 pub mod CoverLaws
 pub mod RunLaws
 pub mod StretchLaws
-pub mod Filling
 pub mod WalkLaws
 pub mod Room
 pub mod AnswerLaws

@@ -6,13 +6,14 @@ use Prim.Native.Nat.{ℕ, zero, suc, _+_, _-_, _≤_, _<_}
 use native.Mathlib.Nat.{add-zero, zero-add, suc-add, add-suc}
 use native.Mathlib.Decide.{decLt}
 use native.Mathlib.Omega.{arith}
-use borrow.Author.Tests.{eq-eqb, ne-eqb}
 use lib.ListN.{length, length-append}
 use Rattle.refusal.specs.Pick.{pick}
+use Rattle.blocks.specs.declared.Block.{Block}
+use Rattle.blocks.specs.Walk.{block, kept}
+use Rattle.blocks.specs.Laws.Put.{kept-none, kept-some}
 use Rattle.overlay.specs.Laws.CoverFacts.{either, clash}
-use Rattle.overlay.specs.Runs.{Run, run, lengthFrom, begun, runsFrom}
+use Rattle.overlay.specs.Runs.{lengthFrom, begun, runsFrom}
 use Rattle.overlay.specs.Laws.RunFacts.{length-le, length-holds, length-stops}
-use Rattle.overlay.specs.Put.{kept}
 
 module _ (test : ℕ → Bool) where
   -- ---- how far a test holds
@@ -53,7 +54,7 @@ module _ (test : ℕ → Bool) where
   few-runs at (suc n) inside = go (test at) inside (few-runs (suc at) n (test at))
     where
       go : (t u : Bool) → length (runsFrom test (suc at) n (test at)) ≤ n
-          → length (begun t u (run at (lengthFrom test at (suc n))) ++ runsFrom test (suc at) n (test at)) ≤ suc n
+          → length (begun t u (block at (lengthFrom test at (suc n))) ++ runsFrom test (suc at) n (test at)) ≤ suc n
       go true true h = omega arith
       go true false h = omega arith
       go false u h = omega arith
@@ -67,7 +68,7 @@ module _ (test : ℕ → Bool) where
   unfolding runsFrom
   runs-inside at n e = rw e
 
-  runs-begin : (at n : ℕ) → test at ≡ true → runsFrom test at (suc n) false ≡ run at (lengthFrom test at (suc n)) ∷ runsFrom test (suc at) n true
+  runs-begin : (at n : ℕ) → test at ≡ true → runsFrom test at (suc n) false ≡ block at (lengthFrom test at (suc n)) ∷ runsFrom test (suc at) n true
   unfolding runsFrom
   runs-begin at n e = rw e
 
@@ -104,14 +105,13 @@ module _ (test : ℕ → Bool) where
   -- the run at a place, taken whole
   take-run : (at n : ℕ) → test at ≡ true
       → runsFrom test at n false
-      ≡ kept at (at + lengthFrom test at n) ++ runsFrom test (at + lengthFrom test at n) (n - lengthFrom test at n) false
+      ≡ kept (block at (lengthFrom test at n)) ++ runsFrom test (at + lengthFrom test at n) (n - lengthFrom test at n) false
   unfolding lengthFrom
-  take-run at zero e = runs-none at false ∙ rw (eq-eqb at (at + 0) (omega arith)) (sym (runs-none (at + 0) false))
+  take-run at zero e = runs-none at false ∙ sym (runs-none (at + 0) false)
   take-run at (suc n) e =
       let l = lengthFrom test (suc at) n in
       let le : l ≤ n = length-le test (suc at) n in
       let is : lengthFrom test at (suc n) ≡ suc l = length-on at n e in
-      let ne : (at ≡ at + suc l → ⊥) = λ z. omega arith in
       let stop : (0 < n - l → test (suc at + l) ≡ false) = λ p. length-stops test (suc at) n (omega arith) in
       let rest : runsFrom test (suc at) n true ≡ runsFrom test (at + suc l) (suc n - suc l) false =
       ap (λ (m : ℕ). runsFrom test (suc at) m true) (omega arith)
@@ -119,10 +119,8 @@ module _ (test : ℕ → Bool) where
       ∙ flag-free (suc at + l) (n - l) true stop
       ∙ ap (λ (m : ℕ). runsFrom test m (n - l) false) (omega arith)
       ∙ ap (λ (m : ℕ). runsFrom test (at + suc l) m false) (omega arith) in
-      let size : suc l ≡ at + suc l - at = omega arith in
       runs-begin at n e
-      ∙ (rw is (rw (ne-eqb at (at + suc l) ne)
-      (ap (λ (m : ℕ). run at m ∷ runsFrom test (suc at) n true) size ∙ ap (λ (m : List Run). run at (at + suc l - at) ∷ m) rest)))
+      ∙ (rw is (rw (kept-some (block at (suc l)) (λ z. omega arith)) (ap (λ (m : List Block). block at (suc l) ∷ m) rest)))
 
   -- ---- the bytes cut in two where the test fails
 
@@ -146,10 +144,10 @@ module _ (test : ℕ → Bool) where
       let long : lengthFrom test at (suc (k + n)) ≡ lengthFrom test at (suc k) =
       ap (lengthFrom test at) (sym (suc-add k n)) ∙ length-cut (suc k) n at h in
       ap (λ (m : ℕ). runsFrom test at m inside) (suc-add k n)
-      ∙ ap (λ (m : ℕ). begun (test at) inside (run at m) ++ runsFrom test (suc at) (k + n) (test at)) long
-      ∙ ap (λ (l : List Run). begun (test at) inside (run at (lengthFrom test at (suc k))) ++ l) (cut k n (suc at) (test at) there)
-      ∙ ap (λ (m : ℕ). begun (test at) inside (run at (lengthFrom test at (suc k))) ++ (runsFrom test (suc at) k (test at) ++ runsFrom test m n false)) place
-      ∙ sym (append-assoc (begun (test at) inside (run at (lengthFrom test at (suc k)))) (runsFrom test (suc at) k (test at))
+      ∙ ap (λ (m : ℕ). begun (test at) inside (block at m) ++ runsFrom test (suc at) (k + n) (test at)) long
+      ∙ ap (λ (l : List Block). begun (test at) inside (block at (lengthFrom test at (suc k))) ++ l) (cut k n (suc at) (test at) there)
+      ∙ ap (λ (m : ℕ). begun (test at) inside (block at (lengthFrom test at (suc k))) ++ (runsFrom test (suc at) k (test at) ++ runsFrom test m n false)) place
+      ∙ sym (append-assoc (begun (test at) inside (block at (lengthFrom test at (suc k)))) (runsFrom test (suc at) k (test at))
       (runsFrom test (at + suc k) n false))
 
 -- Two tests that agree on the bytes have the same runs there.
@@ -165,13 +163,13 @@ module _ (f g : ℕ → Bool) where
   runs-same (suc n) at inside h =
       let here = h at (omega arith) (omega arith) in
       let rest = runs-same n (suc at) (f at) (λ x l u. h x (omega arith) (omega arith)) in
-      ap (λ (l : List Run). begun (f at) inside (run at (lengthFrom f at (suc n))) ++ l) rest
-      ∙ ap (λ (m : ℕ). begun (f at) inside (run at m) ++ runsFrom g (suc at) n (f at)) (length-same (suc n) at h)
-      ∙ ap (λ (t : Bool). begun t inside (run at (lengthFrom g at (suc n))) ++ runsFrom g (suc at) n t) here
+      ap (λ (l : List Block). begun (f at) inside (block at (lengthFrom f at (suc n))) ++ l) rest
+      ∙ ap (λ (m : ℕ). begun (f at) inside (block at m) ++ runsFrom g (suc at) n (f at)) (length-same (suc n) at h)
+      ∙ ap (λ (t : Bool). begun t inside (block at (lengthFrom g at (suc n))) ++ runsFrom g (suc at) n t) here
 
 -- One turn of the loop: from `at` the images agree up to a, and from there they differ up to e.
 pub turn : (same : ℕ → Bool) (at to a e : ℕ) → at ≤ to → a ≡ at + lengthFrom same at (to - at) → e ≡ a + lengthFrom (λ b. not (same b)) a (to - a)
-    → runsFrom (λ b. not (same b)) at (to - at) false ≡ kept a e ++ runsFrom (λ b. not (same b)) e (to - e) false
+    → runsFrom (λ b. not (same b)) at (to - at) false ≡ kept (block a (e - a)) ++ runsFrom (λ b. not (same b)) e (to - e) false
 turn same at to a e h ia ie =
     let g = lengthFrom same at (to - at) in
     let le : g ≤ to - at = length-le same at (to - at) in
@@ -181,18 +179,28 @@ turn same at to a e h ia ie =
     ∙ ap (λ (m : ℕ). runsFrom (λ b. not (same b)) m (to - a) false) (sym ia) in
     let long = lengthFrom (λ b. not (same b)) a (to - a) in
     let cutoff : to - a - long ≡ to - (a + long) = omega arith in
+    let size : long ≡ e - a = omega arith in
     skipped
     ∙ elim (decLt a to) [
       | yes l ↦
           let fails : same a ≡ false = subst (λ (m : ℕ). same m ≡ false) (sym ia) (length-stops same at (to - at) (omega arith)) in
           take-run (λ b. not (same b)) a (to - a) (rw fails)
-          ∙ ap (λ (m : ℕ). kept a (a + long) ++ runsFrom (λ b. not (same b)) (a + long) m false) cutoff
-          ∙ ap (λ (m : ℕ). kept a m ++ runsFrom (λ b. not (same b)) m (to - m) false) (sym ie)
+          ∙ ap (λ (m : ℕ). kept (block a long) ++ runsFrom (λ b. not (same b)) (a + long) m false) cutoff
+          ∙ ap (λ (m : ℕ). kept (block a long) ++ runsFrom (λ b. not (same b)) m (to - m) false) (sym ie)
+          ∙ ap (λ (m : ℕ). kept (block a m) ++ runsFrom (λ b. not (same b)) e (to - e) false) size
       | no l ↦
           let none : to - a ≡ 0 = omega arith in
           let short : lengthFrom (λ b. not (same b)) a (to - a) ≤ to - a = length-le (λ b. not (same b)) a (to - a) in
           let end : a ≡ e = omega arith in
-          rw (eq-eqb a e end) (ap (λ (m : ℕ). runsFrom (λ b. not (same b)) m (to - m) false) end)
+          rw (kept-none (block a (e - a)) (omega arith)) (ap (λ (m : ℕ). runsFrom (λ b. not (same b)) m (to - m) false) end)
+    ]
+
+-- It has no more runs than bytes.
+pub kept-few : (a e : ℕ) → a ≤ e → a + length (kept (block a (e - a))) ≤ e
+kept-few a e h =
+    elim (decLt a e) [
+      | yes l ↦ rw (kept-some (block a (e - a)) (λ z. omega arith)) (omega arith)
+      | no l ↦ rw (kept-none (block a (e - a)) (omega arith)) (omega arith)
     ]
 
 -- A turn goes on by a byte at least.

@@ -7,16 +7,17 @@ use native.Mathlib.Nat.{min-le-left, min-le-right, min-eq-left, min-eq-right}
 use native.Mathlib.Decide.{decLt, decLe}
 use native.Mathlib.Omega.{arith}
 use lib.ListN.{length, getD}
+use Rattle.blocks.specs.declared.Block.{Block}
+use Rattle.blocks.specs.Put.{Put}
+use Rattle.blocks.specs.Laws.Put.{Filling, filling-starts, filling-on, filling-ends}
 use Rattle.overlay.specs.Cover.{coveredBit, coveredByte}
 use Rattle.overlay.specs.Theorems.CoverFacts.{byte-from, byte-fails}
 use Rattle.overlay.specs.Laws.Order.{Row}
-use Rattle.overlay.specs.Runs.{Run, run, runsFrom, differ, listed, shorter, runsOf}
-use Rattle.overlay.specs.Put.{Put}
+use Rattle.overlay.specs.Runs.{runsFrom, differ, listed, shorter, runsOf}
 use Rattle.overlay.specs.Steps.{Chain}
 use Rattle.overlay.specs.Trial.{Trial}
 use Rattle.overlay.proofs.BlockLaws.{starts-rise, gap-free, chain-covers, chain-rises, chain-next, chain-gap}
 use Rattle.overlay.proofs.RunLaws.{skip, cut, runs-same, runs-end, runs-none, few-runs}
-use Rattle.overlay.proofs.Filling.{Filling, filling-starts, filling-on, filling-ends}
 
 -- the smaller of two numbers
 record Least (a b m : ℕ) : Type 0 where
@@ -66,7 +67,7 @@ module _ (t : Trial) where
   listed-differ x e = rw e
 
   -- the runs that begin at byte `place` or later
-  abbrev left : ℕ → List Run
+  abbrev left : ℕ → List Block
   left place = runsFrom (listed t) place (shorter t - place) false
 
   -- Before block i: the runs of the bytes below `place` are written, and no byte from there on is covered that begins before block i.
@@ -148,7 +149,7 @@ module _ (t : Trial) where
                   ∙ ap (λ (k : ℕ). runsFrom (listed t) k (shorter t - from) false) (joined place from a)
                   ∙ ap (λ (k : ℕ). runsFrom (listed t) from k false) m
                   ∙ cut (listed t) (to - from) (shorter t - to) from false stop
-                  ∙ ap (λ (l : List Run). l ++ runsFrom (listed t) (from + (to - from)) (shorter t - to) false)
+                  ∙ ap (λ (l : List Block). l ++ runsFrom (listed t) (from + (to - from)) (shorter t - to) false)
                   (runs-same (listed t) (differ (t .overlay) (t .released)) (to - from) from false
                   (λ x l u. listed-differ x (whole x l (subst (λ (k : ℕ). x < k) (joined from to y) u))))
                   ∙ ap (λ (k : ℕ). runsFrom (differ (t .overlay) (t .released)) from (to - from) false ++ runsFrom (listed t) k (shorter t - to) false)
@@ -159,7 +160,7 @@ module _ (t : Trial) where
                   ap (λ (k : ℕ). runsFrom (listed t) place k false) n
                   ∙ skip (listed t) (to - place) (shorter t - to) place (λ x l u. passed x l (omega arith))
                   ∙ ap (λ (k : ℕ). runsFrom (listed t) k (shorter t - to) false) (joined place to b)
-                  ∙ ap (λ (l : List Run). l ++ left to) (sym (runs-end (differ (t .overlay) (t .released)) from to (omega arith)))
+                  ∙ ap (λ (l : List Block). l ++ left to) (sym (runs-end (differ (t .overlay) (t .released)) from to (omega arith)))
             ]
 
     left-ends : (i place : ℕ) → Walked i place → length os ≤ i → left place ≡ []
@@ -183,7 +184,7 @@ module _ (t : Trial) where
       where
         all-left : Filling (runsOf t) (left 0) 0 0 fs₀ cs₀ fs₀ cs₀
         all-left =
-            subst (λ (k : ℕ). Filling (runsOf t) (runsFrom (listed t) 0 k false) 0 0 fs₀ cs₀ fs₀ cs₀) (omega arith) (filling-starts (runsOf t) 0 fs₀ cs₀)
+            subst (λ (k : ℕ). Filling (runsOf t) (runsFrom (listed t) 0 k false) 0 0 fs₀ cs₀ fs₀ cs₀) (omega arith) filling-starts
 
     pub walking-on : (i last from to count count′ : ℕ) (fs cs fs′ cs′ : List ℕ) → i < length os → Chain os ss i last
         → from ≡ min ((getD os i 0 + 0 + 7) / 8) (shorter t) → to ≡ min ((getD os last 0 + getD ss last 0) / 8) (shorter t)
@@ -198,11 +199,10 @@ module _ (t : Trial) where
           walked = walked-next r i last from to c f g;
           few = omega (arith, w .few, p .counted, few-runs (differ (t .overlay) (t .released)) from (to - from) false);
           filling =
-              filling-on (runsOf t) 0 fs₀ cs₀ (left (w .place)) (runsFrom (differ (t .overlay) (t .released)) from (to - from) false)
-              (left to) count count′ fs cs fs′ cs′
+              filling-on (runsFrom (differ (t .overlay) (t .released)) from (to - from) false) (left to)
               (left-cut r i last from to c f g (w .place) (w .walked) more) (w .filling) p;
         }
 
     pub walking-ends : (i count : ℕ) (fs cs : List ℕ) → length os ≤ i → Walking i count fs₀ cs₀ fs cs → Put (runsOf t) 0 fs₀ cs₀ count fs cs
     walking-ends i count fs cs h w =
-        filling-ends (runsOf t) 0 fs₀ cs₀ (left (w .place)) count fs cs (left-ends r i (w .place) (w .walked) h) (w .filling)
+        filling-ends (left-ends r i (w .place) (w .walked) h) (w .filling)

@@ -1,6 +1,5 @@
 pub mod CoverFacts
 pub mod Joined
-pub mod ListFacts
 pub mod Order
 pub mod Range
 pub mod RunFacts

@@ -1,7 +1,6 @@
 pub mod Cover
 pub mod List
 pub mod Order
-pub mod Put
 pub mod Range
 pub mod RangeFacts
 pub mod RunFacts

@@ -1,33 +1,23 @@
 -- What a call of `differences` gives.
 use mathlib.Core.Path.{_≡_}
-use mathlib.Core.Bool.{Bool, false}
-use mathlib.Core.List.{List, _++_}
+use mathlib.Core.List.{List}
 use Prim.Native.Nat.{ℕ}
-use lib.Dec.{leb}
-use lib.ListN.{length, drop}
+use lib.ListN.{length}
 use Rattle.refusal.specs.Pick.{pick}
 use Rattle.refusal.specs.Told.{Told, gives, refuses, toldRefusal}
 use Rattle.refusal.specs.declared.Place.the-variants.{One}
 use Rattle.refusal.specs.declared.Refusal.the-variants.{Malformed, TooShort}
+use Rattle.blocks.specs.declared.Block.{Block}
+use Rattle.blocks.specs.Outcome.{roomFor, originsAfter, sizesAfter, WrittenAs}
 use Rattle.overlay.specs.declared.Listed.{Listed}
 use Rattle.overlay.specs.declared.Listed.the-variants.{Runs, Refused}
 use Rattle.overlay.specs.Order.{inOrder}
-use Rattle.overlay.specs.Put.{firsts, counts}
-use Rattle.overlay.specs.Runs.{Run, runsOf}
+use Rattle.overlay.specs.Runs.{runsOf}
 use Rattle.overlay.specs.Trial.{Trial}
 
--- What is written stands at the front; what stands past it stays.
-abbrev pub over : List ℕ → List ℕ → List ℕ
-over new old = new ++ drop (length new) old
-
--- "14 for a short list": there is room for all runs, in both of the lent slices.
-abbrev pub roomFor : List Run → List ℕ → List ℕ → Bool
-roomFor runs firsts₀ counts₀ = pick (leb (length runs) (length firsts₀)) (leb (length runs) (length counts₀)) false
-
-pub record Written (runs : List Run) (firsts₀ counts₀ : List ℕ) (r : Listed) (firsts₁ counts₁ : List ℕ) : Type 0 where
-  pub answer : r ≡ pick (roomFor runs firsts₀ counts₀) (Runs (length runs)) (Refused (TooShort 2))
-  pub first : firsts₁ ≡ pick (roomFor runs firsts₀ counts₀) (over (firsts runs) firsts₀) firsts₀
-  pub second : counts₁ ≡ pick (roomFor runs firsts₀ counts₀) (over (counts runs) counts₀) counts₀
+-- "14 for a short list": the runs are written where there is room for all of them, in both of the lent slices; what stands past them stays.
+abbrev pub Written : List Block → List ℕ → List ℕ → Listed → List ℕ → List ℕ → Type 0
+Written = WrittenAs Runs (Refused (TooShort 2))
 
 -- An answer in the document's figures: how many runs there are, or a refusal's number and place.
 abbrev pub toldListed : Listed → Told ℕ
@@ -48,12 +38,10 @@ listFigures t firsts₀ counts₀ =
     (refuses 4 (One 0))
 
 abbrev pub firstsAfter : Trial → List ℕ → List ℕ → List ℕ
-firstsAfter t firsts₀ counts₀ =
-    pick (inOrder 0 (t .offsets) (t .sizes)) (pick (roomFor (runsOf t) firsts₀ counts₀) (over (firsts (runsOf t)) firsts₀) firsts₀) firsts₀
+firstsAfter t firsts₀ counts₀ = pick (inOrder 0 (t .offsets) (t .sizes)) (originsAfter (runsOf t) firsts₀ counts₀) firsts₀
 
 abbrev pub countsAfter : Trial → List ℕ → List ℕ → List ℕ
-countsAfter t firsts₀ counts₀ =
-    pick (inOrder 0 (t .offsets) (t .sizes)) (pick (roomFor (runsOf t) firsts₀ counts₀) (over (counts (runsOf t)) counts₀) counts₀) counts₀
+countsAfter t firsts₀ counts₀ = pick (inOrder 0 (t .offsets) (t .sizes)) (sizesAfter (runsOf t) firsts₀ counts₀) counts₀
 
 -- What `differences` promises.
 pub record Lists (t : Trial) (firsts₀ counts₀ : List ℕ) (r : Listed) (firsts₁ counts₁ : List ℕ) : Type 0 where

@@ -4,16 +4,18 @@ use mathlib.Core.Bool.{true}
 use mathlib.Core.List.{List}
 use Prim.Native.Nat.{ℕ, _+_, _*_, _≤_, _<_}
 use lib.ListN.{length, getD}
+use Rattle.blocks.specs.declared.Block.{Block}
+use Rattle.blocks.specs.Walk.{block}
 use Rattle.overlay.specs.Cover.{coveredBit}
-use Rattle.overlay.specs.Runs.{Run, run, listed}
+use Rattle.overlay.specs.Runs.{listed}
 use Rattle.overlay.specs.Trial.{Trial}
 
 -- Byte b is one of the bytes of some run of the list.
-pub record Holds (runs : List Run) (b : ℕ) : Type 0 where
+pub record Holds (runs : List Block) (b : ℕ) : Type 0 where
   pub place : ℕ
   pub listed : place < length runs
-  pub from : getD runs place (run 0 0) .first ≤ b
-  pub below : b < getD runs place (run 0 0) .first + getD runs place (run 0 0) .count
+  pub from : getD runs place (block 0 0) .origin ≤ b
+  pub below : b < getD runs place (block 0 0) .origin + getD runs place (block 0 0) .size
 
 -- ---- the list of the bench
 

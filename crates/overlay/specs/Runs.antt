@@ -1,4 +1,5 @@
--- The list of the bench: "each maximal run of covered bytes, inside both images, that differ between the two", ascending.
+-- The list of the bench: "each maximal run of covered bytes, inside both images, that differ between the two", ascending. A run of bytes is
+-- told as a block: its first byte is the origin, its count of bytes the size.
 use mathlib.Core.Path.{_≡_}
 use mathlib.Core.Bool.{Bool, true, false, not, _&&_}
 use mathlib.Core.List.{List, [], _∷_, _++_}
@@ -6,16 +7,10 @@ use Prim.Native.Nat.{ℕ, zero, suc, min, _+_, _≤_, _<_}
 use lib.Dec.{eqb}
 use lib.ListN.{length, getD}
 use Rattle.refusal.specs.Pick.{pick}
+use Rattle.blocks.specs.declared.Block.{Block}
+use Rattle.blocks.specs.Walk.{block}
 use Rattle.overlay.specs.Cover.{coveredBit, coveredByte}
 use Rattle.overlay.specs.Trial.{Trial}
-
--- A run: its first byte and its count of bytes.
-pub record Run : Type 0 where
-  pub first : ℕ
-  pub count : ℕ
-
-abbrev pub run : ℕ → ℕ → Run
-run first count = record { first = first; count = count }
 
 -- How far a test holds from `at` on without a break, of at most n.
 unfoldable pub lengthFrom : (ℕ → Bool) → ℕ → ℕ → ℕ
@@ -24,12 +19,12 @@ lengthFrom test at (suc n) = pick (test at) (suc (lengthFrom test (suc at) n)) 0
 
 -- The runs that begin among the n bytes from `at` on, each as far as the test holds. One begins where the test holds and did not
 -- hold at the byte before; `inside` says whether it held there.
-abbrev pub begun : Bool → Bool → Run → List Run
+abbrev pub begun : Bool → Bool → Block → List Block
 begun here inside r = pick here (pick inside [] (r ∷ [])) []
 
-unfoldable pub runsFrom : (ℕ → Bool) → ℕ → ℕ → Bool → List Run
+unfoldable pub runsFrom : (ℕ → Bool) → ℕ → ℕ → Bool → List Block
 runsFrom test at zero inside = []
-runsFrom test at (suc n) inside = begun (test at) inside (run at (lengthFrom test at (suc n))) ++ runsFrom test (suc at) n (test at)
+runsFrom test at (suc n) inside = begun (test at) inside (block at (lengthFrom test at (suc n))) ++ runsFrom test (suc at) n (test at)
 
 -- Two images at a byte.
 abbrev pub agree : List ℕ → List ℕ → ℕ → Bool
@@ -49,5 +44,5 @@ listed t b = coveredByte (coveredBit (t .offsets) (t .sizes)) b && differ (t .ov
 unfoldable pub shorter : Trial → ℕ
 shorter t = min (length (t .overlay)) (length (t .released))
 
-unfoldable pub runsOf : Trial → List Run
+unfoldable pub runsOf : Trial → List Block
 runsOf t = runsFrom (listed t) 0 (shorter t) false

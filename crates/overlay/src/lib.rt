@@ -5,13 +5,13 @@ ghost use mathlib.Core.Path.{_≡_};
 ghost use mathlib.Core.Bool.{true, false};
 ghost use Prim.Native.Nat.{_+_, _-_, _*_, _/_, _≤_, _<_, min};
 ghost use lib.Dec.{leb, eqb};
-ghost use lib.ListN.{length, set};
+ghost use lib.ListN.{length};
+ghost use Rattle.blocks.specs.Put.{Put};
 ghost use Rattle.overlay.specs.Cover.{coveredBit};
 ghost use Rattle.overlay.specs.Order.{inOrder};
 ghost use Rattle.overlay.specs.Trial.{trial};
 ghost use Rattle.overlay.specs.Range.{inside, judged, Answers, Picks};
 ghost use Rattle.overlay.specs.Runs.{agree, differ, lengthFrom, runsFrom, runsOf, AgreeOn};
-ghost use Rattle.overlay.specs.Put.{kept, Put};
 ghost use Rattle.overlay.specs.List.{Written, Lists};
 ghost use Rattle.overlay.specs.Steps.{Finds, Chain};
 
@@ -275,28 +275,6 @@ fn next_agreement(overlay: &[u8], released: &[u8], at: usize, to: usize) -> usiz
     i
 }
 
-// Stores a number at a place, if there is one.
-fn put(column: &mut [u64], at: usize, value: u64)
-    ensures { λ _. ⌜ now (column .exit) ≡ set (now (column .entry)) at value ⌝ }
-{
-    if at < column.len() {
-        column[at] = value;
-    }
-}
-
-// Writes the run of the bytes from `first` to `end` behind those written, unless it is empty, and counts it.
-fn push(first: usize, end: usize, count: usize, firsts: &mut [u64], counts: &mut [u64]) -> usize
-    requires { ⌜ (first ≤ end) × (count ≤ first) ⌝ }
-    ensures { λ r. ⌜ Put (kept first end) count (now (firsts .entry)) (now (counts .entry)) r (now (firsts .exit)) (now (counts .exit)) ⌝ }
-{
-    if first == end {
-        return count;
-    }
-    put(firsts, count, first as u64);
-    put(counts, count, (end - first) as u64);
-    count + 1
-}
-
 // Writes the runs of bytes that differ from byte `from` on and before `to`, as far as the lent slices go, and counts all of them.
 fn list_stretch(
     overlay: &[u8],
@@ -316,7 +294,7 @@ fn list_stretch(
     while at < to {
         let first = next_difference(overlay, released, at, to);
         let end = next_agreement(overlay, released, first, to);
-        n = push(first, end, n, firsts, counts);
+        n += blocks::push(first as u64, (end - first) as u64, n, firsts, counts);
         at = end;
     }
     n

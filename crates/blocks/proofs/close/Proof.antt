@@ -17,6 +17,9 @@ returns c =
 push-requires : tie.Need-push-requires
 push-requires c κs = search needs
 
+add-result : tie.Need-add-result
+add-result c = search needs
+
 same-length : tie.Need-same-length
 same-length c = search needs
 
@@ -29,8 +32,8 @@ returns-2 c =
     let e = p .before .before .before in
     let d = e .before in
     let a = d .before .before .before .args in
-    rw (closed-kept (a .block) (a .offset) (λ q. e .if1 .left (q ∙ sym (d .end-of .ensures)))) (p .push .ensures)
+    rw (closed-kept (a .block) (a .offset) (λ q. e .if1 .left (q ∙ sym (d .end-of .ensures)))) (p .push .ensures .0)
 
 pub close-spec : {M : Type 1} → statement M
 close-spec =
-    tie.close (tie.spec end-of-requires returns push-requires same-length same-length-2 returns-2)
+    tie.close (tie.spec end-of-requires returns push-requires add-result same-length same-length-2 returns-2)

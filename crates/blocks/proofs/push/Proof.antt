@@ -1,22 +1,21 @@
 -- `push` meets its contract: an empty block is dropped, another takes the next place.
 use borrow.Author.Needs.{needs}
+use native.Mathlib.Omega.{arith}
+use Rattle.blocks.specs.Walk.{block}
 use Rattle.blocks.proofs.Laws.{push-none, push-some}
 use Rattle.blocks.proofs.push.Statement.{statement}
 use Rattle.blocks.proofs.push.Tie as tie
 
 returns : tie.Need-returns
 returns c =
-    let a = c .before .before .before .before .args in
-    push-none (a .block) (c .if1 .taken) (a .count) (a .block-offsets .now) (a .block-sizes .now)
+    let a = c .before .before .before .args in
+    (push-none (block (a .origin) (a .size)) (c .if1 .taken) (a .count) (a .block-offsets .now) (a .block-sizes .now), omega arith)
 
 put-requires : tie.Need-put-requires
 put-requires c κs = search needs
 
 put-requires-2 : tie.Need-put-requires-2
 put-requires-2 c κs = search needs
-
-add-result : tie.Need-add-result
-add-result c = search needs
 
 same-length : tie.Need-same-length
 same-length c = search needs
@@ -29,11 +28,11 @@ returns-2 c =
     let p2 = c .before .before in
     let p1 = p2 .before .before .before .before in
     let e = p1 .before .before in
-    let a = e .before .before .before .before .args in
-    push-some (a .block) (e .if1 .left) (a .count) (a .block-offsets .now) (a .block-sizes .now) (p1 .put .last .0) (p2 .put2 .last .0)
-    (p1 .put .ensures) (p2 .put2 .ensures)
+    let a = e .before .before .before .args in
+    (push-some (block (a .origin) (a .size)) (e .if1 .left) (a .count) (a .block-offsets .now) (a .block-sizes .now) (p1 .put .ensures) (p2 .put2 .ensures),
+    omega arith)
 
 pub push-spec : {M : Type 1} → statement M
 push-spec =
     tie.close
-    (tie.spec returns put-requires put-requires-2 add-result same-length same-length-2 returns-2)
+    (tie.spec returns put-requires put-requires-2 same-length same-length-2 returns-2)

@@ -9,6 +9,7 @@ use Rattle.refusal.specs.Limits.{maxPosition}
 use Rattle.blocks.specs.Offsets.{offsetOf}
 use Rattle.blocks.specs.Spans.{offsetWithin}
 use Rattle.blocks.specs.Laws.Acceptable.{within-parts}
+use Rattle.blocks.specs.Laws.Put.{put-long}
 use Rattle.blocks.proofs.Laws.{at-most}
 use Rattle.blocks.proofs.Walking.{Walking, walking-starts, walking-past, walking-on, walking-ends}
 use Rattle.blocks.proofs.walk.Statement.{statement}
@@ -97,7 +98,7 @@ loop-again c =
     let a = start (head d) .args in
     let l = head d .loop in
     walking-past (a .numbers .now) (a .offsets .now) (a .sizes .now) (a .block-offsets .now) (a .block-sizes .now)
-    (l .current) (l .count) (l .block-offsets) (l .block-sizes) (l .i) (l .inv)
+    (l .inv)
     (body d .loop-test .taken)
     (sym (d .offset-of .ensures) ∙ c .enum-told .given .1)
 
@@ -138,25 +139,29 @@ loop-again-2 c =
     let is = sym (d .offset-of .ensures) ∙ o .1 in
     rw (c .join .ensures)
     (walking-on (a .numbers .now) (a .offsets .now) (a .sizes .now) (a .block-offsets .now) (a .block-sizes .now)
-    (l .current) (l .count) (l .block-offsets) (l .block-sizes) (l .i) (l .inv)
+    (l .inv)
     (body d .loop-test .taken)
     (o .0 .0)
     is
     (at-most (offsetOf (word (head d))) (o .0 .0) is (span-within d .0))
     (span-within d .1)
-    (k .close .result)
-    (k .close .last .1 .1 .1 .0)
-    (k .close .last .1 .1 .1 .1 .0)
     (k .close .ensures))
 
 push-requires : tie.Need-push-requires Inv-loop μ-loop
 push-requires c κs = search needs
 
+add-result : tie.Need-add-result Inv-loop μ-loop
+add-result c = search needs
+
 same-length : tie.Need-same-length Inv-loop μ-loop
-same-length c = search needs
+same-length c =
+    let p = c .before .before .before .before in
+    put-long (p .push .ensures .0) .0 ∙ put-long (p .before .before .before .before .loop .inv .filling .put) .0
 
 same-length-2 : tie.Need-same-length-2 Inv-loop μ-loop
-same-length-2 c = search needs
+same-length-2 c =
+    let p = c .before .before .before .before in
+    put-long (p .push .ensures .0) .1 ∙ put-long (p .before .before .before .before .loop .inv .filling .put) .1
 
 returns : tie.Need-returns Inv-loop μ-loop
 returns c =
@@ -165,12 +170,9 @@ returns c =
     let a = start (e .before) .args in
     let l = e .before .loop in
     walking-ends (a .numbers .now) (a .offsets .now) (a .sizes .now) (a .block-offsets .now) (a .block-sizes .now)
-    (l .current) (l .count) (l .block-offsets) (l .block-sizes) (l .i) (l .inv)
+    (l .inv)
     (e .loop-test .left)
-    (p .push .result)
-    (p .push .last .1 .1 .0)
-    (p .push .last .1 .1 .1 .0)
-    (p .push .ensures)
+    (p .push .ensures .0)
 
 pub walk-spec : {M : Type 1} → statement M
 walk-spec =
@@ -198,6 +200,7 @@ walk-spec =
     loop-less-2
     loop-again-2
     push-requires
+    add-result
     same-length
     same-length-2
     returns)

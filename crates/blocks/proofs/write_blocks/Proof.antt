@@ -1,7 +1,9 @@
 -- `write_blocks` meets its contract: the first walk counts the blocks, and the second is made only where there is room for all.
 use borrow.Author.Needs.{needs}
+use Rattle.refusal.specs.declared.Refusal.the-variants.{TooShort}
+use Rattle.blocks.specs.declared.Blocks.the-variants.{Found, Refused}
 use Rattle.blocks.specs.Numbered.{numberedBlocks}
-use Rattle.blocks.proofs.Room.{short-first, short-second, enough}
+use Rattle.blocks.specs.Laws.Room.{short-first, short-second, enough}
 use Rattle.blocks.proofs.write_blocks.Statement.{statement}
 use Rattle.blocks.proofs.write_blocks.Tie as tie
 
@@ -35,8 +37,7 @@ returns c =
     let w = c .before .before .before .before .before in
     let a = start w .args in
     let b = numberedBlocks (a .offsets .now) (a .sizes .now) (a .numbers .now) in
-    short-first b (a .block-offsets .now) (a .block-sizes .now) (w .walk .result) (w .walk .last .1 .1 .1 .0) (w .walk .last .1 .1 .1 .1 .0)
-    (w .walk .ensures) (c .if1 .taken)
+    short-first Found (Refused (TooShort 2)) b (a .block-offsets .now) (a .block-sizes .now) (w .walk .ensures) (c .if1 .taken)
 
 same-length-3 : tie.Need-same-length-3
 same-length-3 c = search needs
@@ -49,8 +50,7 @@ returns-2 c =
     let w = c .before .before .before .before .before .before in
     let a = start w .args in
     let b = numberedBlocks (a .offsets .now) (a .sizes .now) (a .numbers .now) in
-    short-second b (a .block-offsets .now) (a .block-sizes .now) (w .walk .result) (w .walk .last .1 .1 .1 .0) (w .walk .last .1 .1 .1 .1 .0)
-    (w .walk .ensures) (c .before .if1 .left) (c .if2 .taken)
+    short-second Found (Refused (TooShort 2)) b (a .block-offsets .now) (a .block-sizes .now) (w .walk .ensures) (c .before .if1 .left) (c .if2 .taken)
 
 walk-requires-2 : tie.Need-walk-requires-2
 walk-requires-2 c κs = search needs
@@ -68,8 +68,7 @@ returns-3 c =
     let w = e .before .before .before .before .before .before in
     let a = start w .args in
     let b = numberedBlocks (a .offsets .now) (a .sizes .now) (a .numbers .now) in
-    enough b (a .block-offsets .now) (a .block-sizes .now) (w .walk .result) (w .walk .last .1 .1 .1 .0) (w .walk .last .1 .1 .1 .1 .0)
-    (w .walk .ensures) (e .before .if1 .left) (e .if2 .left) (v .walk2 .result) (v .walk2 .last .1 .1 .1 .0) (v .walk2 .last .1 .1 .1 .1 .0) (v .walk2 .ensures)
+    enough Found (Refused (TooShort 2)) b (a .block-offsets .now) (a .block-sizes .now) (w .walk .ensures) (e .before .if1 .left) (e .if2 .left) (v .walk2 .ensures)
 
 pub write-blocks-spec : {M : Type 1} → statement M
 write-blocks-spec =

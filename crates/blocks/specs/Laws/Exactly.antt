@@ -1,16 +1,18 @@
 -- Laws that Theorems/Exactly rests on.
 use mathlib.Core.Path.{_≡_, refl, sym, ap, _∙_}
 use mathlib.Core.Bool.{Bool, true, false}
-use mathlib.Core.List.{List}
+use mathlib.Core.List.{List, map}
 use Prim.Native.Nat.{ℕ, _+_, _-_, _≤_, _<_}
 use native.Mathlib.Omega.{arith}
-use lib.ListN.{length, getD, drop, List·getD-append, length-append, length-drop}
+use lib.ListN.{length, getD, drop, List·getD-append, List·getD-map, length-append, length-drop, length-map}
 use lib.Seq.{getD-append-add, getD-drop}
 use Rattle.refusal.specs.declared.Place.{Place}
 use Rattle.refusal.specs.declared.Place.the-variants.{One}
 use Rattle.refusal.specs.Pick.{pick}
 use Rattle.refusal.specs.Told.{Told, gives, refuses}
+use Rattle.blocks.specs.declared.Block.{Block}
 use Rattle.blocks.specs.Outcome.{over}
+use Rattle.blocks.specs.Walk.{block}
 
 -- The answers of a call, by its two tests.
 abbrev pub answers : Bool → Bool → ℕ → Told ℕ
@@ -38,11 +40,8 @@ unwritten true false n k p x y e = refl
 unwritten false b n k p x y e = refl
 
 -- What is written over the front of a list.
-module _ (new old : List ℕ) (fits : length new ≤ length old) where
-  pub over-front : (i : ℕ) → i < length new → getD (over new old) i 0 ≡ getD new i 0
-  over-front i h = List·getD-append new (drop (length new) old) 0 i h
-
-  pub over-rest : (i : ℕ) → length new ≤ i → getD (over new old) i 0 ≡ getD old i 0
+module _ (new old : List ℕ) where
+  over-rest : (i : ℕ) → length new ≤ i → getD (over new old) i 0 ≡ getD old i 0
   over-rest i h =
       let e : i ≡ length new + (i - length new) = omega arith in
       ap (λ (k : ℕ). getD (over new old) k 0) e
@@ -50,5 +49,15 @@ module _ (new old : List ℕ) (fits : length new ≤ length old) where
       ∙ getD-drop (length new) old (i - length new) 0
       ∙ sym (ap (λ (k : ℕ). getD old k 0) e)
 
-  pub over-length : length (over new old) ≡ length old
-  over-length = omega (arith, length-append new (drop (length new) old), length-drop (length new) old)
+  pub over-length : length new ≤ length old → length (over new old) ≡ length old
+  over-length fits = omega (arith, length-append new (drop (length new) old), length-drop (length new) old)
+
+-- A column of blocks written there.
+module _ (column : Block → ℕ) (blocks : List Block) (old : List ℕ) where
+  pub column-front : (i : ℕ) → i < length blocks → getD (over (map column blocks) old) i (column (block 0 0)) ≡ column (getD blocks i (block 0 0))
+  column-front i h =
+      List·getD-append (map column blocks) (drop (length (map column blocks)) old) (column (block 0 0)) i (rw length-map h)
+      ∙ List·getD-map column blocks i (block 0 0)
+
+  pub column-rest : (i : ℕ) → length blocks ≤ i → getD (over (map column blocks) old) i 0 ≡ getD old i 0
+  column-rest i h = over-rest (map column blocks) old i (rw length-map h)

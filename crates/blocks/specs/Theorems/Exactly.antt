@@ -7,7 +7,7 @@ use Prim.Native.Nat.{ℕ, _≤_, _<_}
 use native.Mathlib.Omega.{arith}
 use borrow.Author.Tests.{le-leb, lt-leb, leb-true, leb-false}
 use lib.Dec.{leb}
-use lib.ListN.{length, getD, List·getD-map, length-map}
+use lib.ListN.{length, getD, length-map}
 use Rattle.refusal.specs.declared.Place.{Place}
 use Rattle.refusal.specs.declared.Place.the-variants.{One}
 use Rattle.refusal.specs.Laws.Bools.{either, clash}
@@ -20,7 +20,7 @@ use Rattle.blocks.specs.Theorems.Acceptable.{acceptable-exactly}
 use Rattle.blocks.specs.Outcome.{origins, sizes, over, roomFor, toldBy, Contract}
 use Rattle.blocks.specs.Spans.{spansOf, acceptable}
 use Rattle.blocks.specs.Walk.{block, blocksOf}
-use Rattle.blocks.specs.Laws.Exactly.{given, is-14, is-4, over-front, over-length, over-rest, unwritten}
+use Rattle.blocks.specs.Laws.Exactly.{given, is-14, is-4, over-length, column-front, column-rest, unwritten}
 
 module _ (blocks : List Block) (os ss : List ℕ) where
   -- Room for the blocks is room in both lists.
@@ -109,15 +109,15 @@ module _ (words lengths os ss : List ℕ) (r : Blocks) (os₁ ss₁ : List ℕ) 
     -- The lists begin with the blocks, in their order,
     pub found-written : (i : ℕ) → i < n → (getD os₁ i 0 ≡ (getD made i (block 0 0)) .origin) × (getD ss₁ i 0 ≡ (getD made i (block 0 0)) .size)
     found-written i h = (
-      rw os-is (over-front (origins made) os os-fits i (rw length-map (omega (arith, tests .2))) ∙ List·getD-map (λ b. b .origin) made i (block 0 0)),
-      rw ss-is (over-front (sizes made) ss ss-fits i (rw length-map (omega (arith, tests .2))) ∙ List·getD-map (λ b. b .size) made i (block 0 0)),
+      rw os-is (column-front (λ b. b .origin) made os i (omega (arith, tests .2))),
+      rw ss-is (column-front (λ b. b .size) made ss i (omega (arith, tests .2))),
     )
 
     -- "After success, lent spans, blocks and hex keep their old contents past what was written."
     pub past-written-kept : (i : ℕ) → n ≤ i → (getD os₁ i 0 ≡ getD os i 0) × (getD ss₁ i 0 ≡ getD ss i 0)
     past-written-kept i h = (
-      rw os-is (over-rest (origins made) os os-fits i (rw length-map (omega (arith, tests .2)))),
-      rw ss-is (over-rest (sizes made) ss ss-fits i (rw length-map (omega (arith, tests .2)))),
+      rw os-is (column-rest (λ b. b .origin) made os i (omega (arith, tests .2))),
+      rw ss-is (column-rest (λ b. b .size) made ss i (omega (arith, tests .2))),
     )
 
     pub lengths-kept : (length os₁ ≡ length os) × (length ss₁ ≡ length ss)

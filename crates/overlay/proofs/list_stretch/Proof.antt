@@ -3,10 +3,10 @@ use borrow.Author.Needs.{needs}
 use mathlib.Core.Bool.{false}
 use Prim.Native.Nat.{_-_, _≤_}
 use native.Mathlib.Omega.{arith}
+use Rattle.blocks.specs.Walk.{block, kept}
+use Rattle.blocks.specs.Laws.Put.{put-long, Filling, filling-starts, filling-on, filling-ends}
 use Rattle.overlay.specs.Runs.{agree, differ, runsFrom}
-use Rattle.overlay.specs.Put.{kept}
-use Rattle.overlay.proofs.RunLaws.{turn, turn-moves, runs-end}
-use Rattle.overlay.proofs.Filling.{Filling, kept-few, filling-starts, filling-on, filling-ends}
+use Rattle.overlay.proofs.RunLaws.{kept-few, turn, turn-moves, runs-end}
 use Rattle.overlay.proofs.list_stretch.Statement.{statement}
 use Rattle.overlay.proofs.list_stretch.Tie as tie
 
@@ -24,12 +24,7 @@ abbrev start : tie.At-loop Inv-loop μ-loop → tie.Start Inv-loop μ-loop
 start h = h .before .before .before .before .before
 
 loop-holds : tie.Need-loop-holds Inv-loop μ-loop
-loop-holds c =
-    let a = c .before .before .before .before .args in (
-      omega arith,
-      filling-starts (runsFrom (differ (a .overlay .now) (a .released .now)) (a .from) (a .to - a .from) false) (a .count) (a .firsts .now)
-          (a .counts .now),
-    )
+loop-holds c = (omega arith, filling-starts)
 
 next-difference-requires : tie.Need-next-difference-requires Inv-loop μ-loop
 next-difference-requires c κs = search needs
@@ -37,10 +32,17 @@ next-difference-requires c κs = search needs
 next-agreement-requires : tie.Need-next-agreement-requires Inv-loop μ-loop
 next-agreement-requires c κs = search needs
 
+sub-push : tie.Need-sub-push Inv-loop μ-loop
+sub-push c = omega (arith, c .next-agreement .ensures)
+
 push-requires : tie.Need-push-requires Inv-loop μ-loop
-push-requires c κs =
-    let g = c .before .before in
-    omega (arith, g .next-agreement .ensures, g .before .next-difference .ensures)
+push-requires c κs = search needs
+
+add-n : tie.Need-add-n Inv-loop μ-loop
+add-n c =
+    let p = c .before .before .before .before in
+    let h = p .before .before .before .before .before .before in
+    omega (arith, p .push .ensures .1, h .loop .inv .0, p .before .before .before .before .before .loop-test .taken, start h .pre .0, start h .good)
 
 loop-less : tie.Need-loop-less Inv-loop μ-loop
 loop-less c =
@@ -69,24 +71,22 @@ loop-again c =
         l .inv .0,
         kept-few first end
             (omega (arith, g .next-agreement .ensures)),
-        p .push .ensures .counted,
+        p .push .ensures .0 .counted,
         d .next-difference .ensures,
         g .next-agreement .ensures,
       ),
-      filling-on (runsFrom t (a .from) (a .to - a .from) false) (a .count) (a .firsts .now) (a .counts .now)
-          (runsFrom t (l .at) (a .to - l .at) false) (kept first end) (runsFrom t end (a .to - end) false) (l .n) (p .push .result)
-          (l .firsts) (l .counts) (p .push .last .1 .1 .1 .0) (p .push .last .1 .1 .1 .1 .0)
+      filling-on (kept (block first (end - first))) (runsFrom t end (a .to - end) false)
           (turn (agree (a .overlay .now) (a .released .now)) (l .at) (a .to) first end (omega (arith, d .before .loop-test .taken))
           (d .next-difference .ensures) (g .next-agreement .ensures))
           (l .inv .1)
-          (p .push .ensures),
+          (p .push .ensures .0),
     )
 
 same-length : tie.Need-same-length Inv-loop μ-loop
-same-length c = c .before .loop .inv .1 .long
+same-length c = put-long (c .before .loop .inv .1 .put) .0
 
 same-length-2 : tie.Need-same-length-2 Inv-loop μ-loop
-same-length-2 c = c .before .loop .inv .1 .long₂
+same-length-2 c = put-long (c .before .loop .inv .1 .put) .1
 
 returns : tie.Need-returns Inv-loop μ-loop
 returns c =
@@ -94,8 +94,7 @@ returns c =
     let a = start h .args in
     let l = h .loop in
     let t = differ (a .overlay .now) (a .released .now) in
-    filling-ends (runsFrom t (a .from) (a .to - a .from) false) (a .count) (a .firsts .now) (a .counts .now)
-    (runsFrom t (l .at) (a .to - l .at) false) (l .n) (l .firsts) (l .counts) (runs-end t (l .at) (a .to) (c .loop-test .left)) (l .inv .1)
+    filling-ends (runs-end t (l .at) (a .to) (c .loop-test .left)) (l .inv .1)
 
 pub list-stretch-spec : {M : Type 1} → statement M
 list-stretch-spec =
@@ -106,7 +105,9 @@ list-stretch-spec =
     loop-holds
     next-difference-requires
     next-agreement-requires
+    sub-push
     push-requires
+    add-n
     loop-less
     loop-again
     same-length

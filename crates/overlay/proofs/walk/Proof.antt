@@ -5,6 +5,7 @@ use Prim.Native.Nat.{ℕ, _+_, _-_, _*_, _/_, _≤_, _<_, min}
 use native.Mathlib.Nat.{min-le-left, min-le-right}
 use native.Mathlib.Omega.{arith}
 use lib.ListN.{length, getD}
+use Rattle.blocks.specs.Laws.Put.{put-long}
 use Rattle.overlay.specs.Laws.Order.{Row, row}
 use Rattle.overlay.specs.Runs.{shorter}
 use Rattle.overlay.specs.Trial.{Trial, trial}
@@ -149,10 +150,10 @@ loop-again c =
     )
 
 same-length : tie.Need-same-length Inv-loop μ-loop
-same-length c = c .before .loop .inv .1 .filling .long
+same-length c = put-long (c .before .loop .inv .1 .filling .put) .0
 
 same-length-2 : tie.Need-same-length-2 Inv-loop μ-loop
-same-length-2 c = c .before .loop .inv .1 .filling .long₂
+same-length-2 c = put-long (c .before .loop .inv .1 .filling .put) .1
 
 returns : tie.Need-returns Inv-loop μ-loop
 returns c =

@@ -1,9 +1,12 @@
 -- `write_runs` meets its contract: the first walk counts the runs, and the second is made only where there is room for all.
 use borrow.Author.Needs.{needs}
 use mathlib.Core.List.{List}
-use Rattle.overlay.specs.Runs.{Run, runsOf}
+use Rattle.refusal.specs.declared.Refusal.the-variants.{TooShort}
+use Rattle.blocks.specs.declared.Block.{Block}
+use Rattle.blocks.specs.Laws.Room.{short-first, short-second, enough}
+use Rattle.overlay.specs.declared.Listed.the-variants.{Runs, Refused}
+use Rattle.overlay.specs.Runs.{runsOf}
 use Rattle.overlay.specs.Trial.{trial}
-use Rattle.overlay.proofs.Room.{short-first, short-second, enough}
 use Rattle.overlay.proofs.write_runs.Statement.{statement}
 use Rattle.overlay.proofs.write_runs.Tie as tie
 
@@ -11,7 +14,7 @@ use Rattle.overlay.proofs.write_runs.Tie as tie
 abbrev start : tie.After-walk → tie.Start
 start w = w .before .before .before .before .before .before .before .before .before
 
-abbrev runs : tie.Start → List Run
+abbrev runs : tie.Start → List Block
 runs s = runsOf (trial (s .args .overlay .now) (s .args .released .now) (s .args .offsets .now) (s .args .sizes .now))
 
 slice-relend-prefix-walk : tie.Need-slice-relend-prefix-walk
@@ -39,8 +42,8 @@ returns : tie.Need-returns
 returns c =
     let w = c .before .before .before .before .before in
     let s = start w in
-    short-first (runs s) (s .args .firsts .now) (s .args .counts .now) (w .walk .result)
-    (w .walk .last .1 .1 .1 .1 .0) (w .walk .last .1 .1 .1 .1 .1 .0) (w .walk .ensures) (c .if1 .taken)
+    short-first Runs (Refused (TooShort 2)) (runs s) (s .args .firsts .now) (s .args .counts .now) (w .walk .ensures)
+    (c .if1 .taken)
 
 same-length-3 : tie.Need-same-length-3
 same-length-3 c = search needs
@@ -52,8 +55,8 @@ returns-2 : tie.Need-returns-2
 returns-2 c =
     let w = c .before .before .before .before .before .before in
     let s = start w in
-    short-second (runs s) (s .args .firsts .now) (s .args .counts .now) (w .walk .result)
-    (w .walk .last .1 .1 .1 .1 .0) (w .walk .last .1 .1 .1 .1 .1 .0) (w .walk .ensures) (c .before .if1 .left) (c .if2 .taken)
+    short-second Runs (Refused (TooShort 2)) (runs s) (s .args .firsts .now) (s .args .counts .now) (w .walk .ensures)
+    (c .before .if1 .left) (c .if2 .taken)
 
 walk-requires-2 : tie.Need-walk-requires-2
 walk-requires-2 c κs = search needs
@@ -70,9 +73,8 @@ returns-3 c =
     let e = v .before .before .before in
     let w = e .before .before .before .before .before .before in
     let s = start w in
-    enough (runs s) (s .args .firsts .now) (s .args .counts .now) (w .walk .result)
-    (w .walk .last .1 .1 .1 .1 .0) (w .walk .last .1 .1 .1 .1 .1 .0) (w .walk .ensures) (e .before .if1 .left) (e .if2 .left)
-    (v .walk2 .result) (v .walk2 .last .1 .1 .1 .1 .0) (v .walk2 .last .1 .1 .1 .1 .1 .0) (v .walk2 .ensures)
+    enough Runs (Refused (TooShort 2)) (runs s) (s .args .firsts .now) (s .args .counts .now) (w .walk .ensures)
+    (e .before .if1 .left) (e .if2 .left) (v .walk2 .ensures)
 
 pub write-runs-spec : {M : Type 1} → statement M
 write-runs-spec =

@@ -8,11 +8,13 @@ use native.Mathlib.Decide.{decLt}
 use native.Mathlib.Omega.{arith}
 use lib.ListN.{length, getD}
 use Rattle.refusal.specs.Pick.{pick}
+use Rattle.blocks.specs.declared.Block.{Block}
+use Rattle.blocks.specs.Walk.{block}
 use Rattle.overlay.specs.Laws.CoverFacts.{either, clash}
-use Rattle.overlay.specs.Runs.{Run, run, lengthFrom, runsFrom, listed}
+use Rattle.overlay.specs.Runs.{lengthFrom, runsFrom, listed}
 use Rattle.overlay.specs.RunFacts.{Holds}
 
-holds-next : (r : Run) (l : List Run) (b : ℕ) → Holds l b → Holds (r ∷ l) b
+holds-next : (r : Block) (l : List Block) (b : ℕ) → Holds l b → Holds (r ∷ l) b
 holds-next r l b h = record { place = suc (h .place); listed = omega (arith, h .listed); from = h .from; below = h .below }
 
 -- ---- how far a test holds
@@ -52,20 +54,20 @@ module _ (test : ℕ → Bool) where
 
   -- ---- the runs
 
-  abbrev pub none : Run
-  none = run 0 0
+  abbrev pub none : Block
+  none = block 0 0
 
   -- what each run is, among those of the n bytes from `at` on
-  pub record Good (at n : ℕ) (inside : Bool) (r : Run) : Type 0 where
-    pub from : at ≤ r .first
-    pub some : 0 < r .count
-    pub within : r .first + r .count ≤ at + n
-    pub holds : (b : ℕ) → r .first ≤ b → b < r .first + r .count → test b ≡ true
-    pub after : r .first + r .count < at + n → test (r .first + r .count) ≡ false
-    pub before : (b : ℕ) → at ≤ b → suc b ≡ r .first → test b ≡ false
-    pub fresh : at ≡ r .first → inside ≡ false
+  pub record Good (at n : ℕ) (inside : Bool) (r : Block) : Type 0 where
+    pub from : at ≤ r .origin
+    pub some : 0 < r .size
+    pub within : r .origin + r .size ≤ at + n
+    pub holds : (b : ℕ) → r .origin ≤ b → b < r .origin + r .size → test b ≡ true
+    pub after : r .origin + r .size < at + n → test (r .origin + r .size) ≡ false
+    pub before : (b : ℕ) → at ≤ b → suc b ≡ r .origin → test b ≡ false
+    pub fresh : at ≡ r .origin → inside ≡ false
 
-  good-later : (at n : ℕ) (inside : Bool) (r : Run) → Good (suc at) n (test at) r → Good at (suc n) inside r
+  good-later : (at n : ℕ) (inside : Bool) (r : Block) → Good (suc at) n (test at) r → Good at (suc n) inside r
   good-later at n inside r g =
       record {
         from = omega (arith, g .from);
@@ -81,7 +83,7 @@ module _ (test : ℕ → Bool) where
         fresh = λ e. absurd (omega (arith, g .from));
       }
 
-  good-here : (at n : ℕ) → test at ≡ true → Good at (suc n) false (run at (lengthFrom test at (suc n)))
+  good-here : (at n : ℕ) → test at ≡ true → Good at (suc n) false (block at (lengthFrom test at (suc n)))
   unfolding lengthFrom
   good-here at n e =
       record {
@@ -95,7 +97,7 @@ module _ (test : ℕ → Bool) where
       }
 
   -- the list by its first byte
-  runs-here : (at n : ℕ) → test at ≡ true → runsFrom test at (suc n) false ≡ run at (lengthFrom test at (suc n)) ∷ runsFrom test (suc at) n (test at)
+  runs-here : (at n : ℕ) → test at ≡ true → runsFrom test at (suc n) false ≡ block at (lengthFrom test at (suc n)) ∷ runsFrom test (suc at) n (test at)
   unfolding runsFrom
   runs-here at n e = rw e
 
@@ -109,8 +111,8 @@ module _ (test : ℕ → Bool) where
 
   first-or : (at n : ℕ) → test at ≡ true → (i : ℕ)
       → ((j : ℕ) → j < length (runsFrom test (suc at) n (test at)) → Good at (suc n) false (getD (runsFrom test (suc at) n (test at)) j none))
-      → i < length (run at (lengthFrom test at (suc n)) ∷ runsFrom test (suc at) n (test at))
-      → Good at (suc n) false (getD (run at (lengthFrom test at (suc n)) ∷ runsFrom test (suc at) n (test at)) i none)
+      → i < length (block at (lengthFrom test at (suc n)) ∷ runsFrom test (suc at) n (test at))
+      → Good at (suc n) false (getD (block at (lengthFrom test at (suc n)) ∷ runsFrom test (suc at) n (test at)) i none)
   first-or at n e zero rest h = good-here at n e
   first-or at n e (suc i) rest h = rest i (omega arith)
 
@@ -118,24 +120,24 @@ module _ (test : ℕ → Bool) where
   unfolding runsFrom
   each-good at zero inside i h = absurd (omega arith)
   each-good at (suc n) true i h =
-      let l : i < length (runsFrom test (suc at) n (test at)) = subst (λ (m : List Run). i < length m) (runs-on at n) h in
-      subst (λ (m : List Run). Good at (suc n) true (getD m i none)) (sym (runs-on at n))
+      let l : i < length (runsFrom test (suc at) n (test at)) = subst (λ (m : List Block). i < length m) (runs-on at n) h in
+      subst (λ (m : List Block). Good at (suc n) true (getD m i none)) (sym (runs-on at n))
       (good-later at n true (getD (runsFrom test (suc at) n (test at)) i none) (each-good (suc at) n (test at) i l))
   each-good at (suc n) false i h =
       let rest = runsFrom test (suc at) n (test at) in
       either (test at)
       (λ e.
-      let l : i < length (run at (lengthFrom test at (suc n)) ∷ rest) = subst (λ (m : List Run). i < length m) (runs-here at n e) h in
-      subst (λ (m : List Run). Good at (suc n) false (getD m i none)) (sym (runs-here at n e))
+      let l : i < length (block at (lengthFrom test at (suc n)) ∷ rest) = subst (λ (m : List Block). i < length m) (runs-here at n e) h in
+      subst (λ (m : List Block). Good at (suc n) false (getD m i none)) (sym (runs-here at n e))
       (first-or at n e i (λ j k. good-later at n false (getD rest j none) (each-good (suc at) n (test at) j k)) l))
       (λ e.
-      let l : i < length rest = subst (λ (m : List Run). i < length m) (runs-past at n false e) h in
-      subst (λ (m : List Run). Good at (suc n) false (getD m i none)) (sym (runs-past at n false e))
+      let l : i < length rest = subst (λ (m : List Block). i < length m) (runs-past at n false e) h in
+      subst (λ (m : List Block). Good at (suc n) false (getD m i none)) (sym (runs-past at n false e))
       (good-later at n false (getD rest i none) (each-good (suc at) n (test at) i l)))
 
-  first-below : (r : Run) (l : List Run) → ((m : ℕ) → m < length l → r .first < getD l m none .first)
-      → ((i j : ℕ) → i < j → j < length l → getD l i none .first < getD l j none .first)
-      → (i j : ℕ) → i < j → j < length (r ∷ l) → getD (r ∷ l) i none .first < getD (r ∷ l) j none .first
+  first-below : (r : Block) (l : List Block) → ((m : ℕ) → m < length l → r .origin < getD l m none .origin)
+      → ((i j : ℕ) → i < j → j < length l → getD l i none .origin < getD l j none .origin)
+      → (i j : ℕ) → i < j → j < length (r ∷ l) → getD (r ∷ l) i none .origin < getD (r ∷ l) j none .origin
   first-below r l below rest zero zero h k = absurd (omega arith)
   first-below r l below rest zero (suc j) h k = below j (omega arith)
   first-below r l below rest (suc i) zero h k = absurd (omega arith)
@@ -143,23 +145,23 @@ module _ (test : ℕ → Bool) where
 
   -- runs begin one behind the other
   pub rise : (at n : ℕ) (inside : Bool) (i j : ℕ) → i < j → j < length (runsFrom test at n inside)
-      → getD (runsFrom test at n inside) i none .first < getD (runsFrom test at n inside) j none .first
+      → getD (runsFrom test at n inside) i none .origin < getD (runsFrom test at n inside) j none .origin
   unfolding runsFrom
   rise at zero inside i j l h = absurd (omega arith)
   rise at (suc n) true i j l h =
-      let k : j < length (runsFrom test (suc at) n (test at)) = subst (λ (m : List Run). j < length m) (runs-on at n) h in
-      subst (λ (m : List Run). getD m i none .first < getD m j none .first) (sym (runs-on at n)) (rise (suc at) n (test at) i j l k)
+      let k : j < length (runsFrom test (suc at) n (test at)) = subst (λ (m : List Block). j < length m) (runs-on at n) h in
+      subst (λ (m : List Block). getD m i none .origin < getD m j none .origin) (sym (runs-on at n)) (rise (suc at) n (test at) i j l k)
   rise at (suc n) false i j l h =
       let rest = runsFrom test (suc at) n (test at) in
       either (test at)
       (λ e.
-      let k : j < length (run at (lengthFrom test at (suc n)) ∷ rest) = subst (λ (m : List Run). j < length m) (runs-here at n e) h in
-      subst (λ (m : List Run). getD m i none .first < getD m j none .first) (sym (runs-here at n e))
-      (first-below (run at (lengthFrom test at (suc n))) rest (λ m v. omega (arith, each-good (suc at) n (test at) m v .from))
+      let k : j < length (block at (lengthFrom test at (suc n)) ∷ rest) = subst (λ (m : List Block). j < length m) (runs-here at n e) h in
+      subst (λ (m : List Block). getD m i none .origin < getD m j none .origin) (sym (runs-here at n e))
+      (first-below (block at (lengthFrom test at (suc n))) rest (λ m v. omega (arith, each-good (suc at) n (test at) m v .from))
       (rise (suc at) n (test at)) i j l k))
       (λ e.
-      let k : j < length rest = subst (λ (m : List Run). j < length m) (runs-past at n false e) h in
-      subst (λ (m : List Run). getD m i none .first < getD m j none .first) (sym (runs-past at n false e)) (rise (suc at) n (test at) i j l k))
+      let k : j < length rest = subst (λ (m : List Block). j < length m) (runs-past at n false e) h in
+      subst (λ (m : List Block). getD m i none .origin < getD m j none .origin) (sym (runs-past at n false e)) (rise (suc at) n (test at) i j l k))
 
   -- a byte at which the test holds is in a run, or in the one that came before
   pub reached : (at n : ℕ) (inside : Bool) (b : ℕ) → at ≤ b → b < at + n → test b ≡ true
@@ -175,20 +177,20 @@ module _ (test : ℕ → Bool) where
         | yes y ↦
             either inside
             (λ i. inl (i, rw t y))
-            (λ i. inr (subst (λ (m : List Run). Holds m b) (sym (ap (runsFrom test at (suc n)) i ∙ runs-here at n t))
+            (λ i. inr (subst (λ (m : List Block). Holds m b) (sym (ap (runsFrom test at (suc n)) i ∙ runs-here at n t))
             (record { place = 0; listed = omega arith; from = l; below = rw t y })))
         | no y ↦
             ⊎-elim
             (λ p. absurd (omega arith))
             (λ p. inr (either inside
-            (λ i. subst (λ (m : List Run). Holds m b) (sym (ap (runsFrom test at (suc n)) i ∙ runs-on at n)) p)
-            (λ i. subst (λ (m : List Run). Holds m b) (sym (ap (runsFrom test at (suc n)) i ∙ runs-here at n t))
-            (holds-next (run at (lengthFrom test at (suc n))) rest b p))))
+            (λ i. subst (λ (m : List Block). Holds m b) (sym (ap (runsFrom test at (suc n)) i ∙ runs-on at n)) p)
+            (λ i. subst (λ (m : List Block). Holds m b) (sym (ap (runsFrom test at (suc n)) i ∙ runs-here at n t))
+            (holds-next (block at (lengthFrom test at (suc n))) rest b p))))
             (reached (suc at) n (test at) b (omega arith) (omega arith) e)
       ])
       (λ t.
       let past : at < b = elim (decLt at b) [ yes y ↦ y | no y ↦ let s : b ≡ at = omega arith in absurd (clash (rw s at e) t) ] in
       ⊎-elim
       (λ p. absurd (clash (p .0) t))
-      (λ p. inr (subst (λ (m : List Run). Holds m b) (sym (runs-past at n inside t)) p))
+      (λ p. inr (subst (λ (m : List Block). Holds m b) (sym (runs-past at n inside t)) p))
       (reached (suc at) n (test at) b past (omega arith) e))

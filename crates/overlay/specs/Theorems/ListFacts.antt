@@ -6,22 +6,22 @@ use mathlib.Core.List.{List}
 use mathlib.Core.Logic.{_↔_}
 use Prim.Native.Nat.{ℕ, _≤_, _<_}
 use native.Mathlib.Omega.{arith}
-use borrow.Author.Tests.{le-leb, leb-true}
-use lib.Dec.{leb}
 use lib.ListN.{length, getD}
 use Rattle.refusal.specs.Pick.{pick}
 use Rattle.refusal.specs.declared.Refusal.{Refusal}
 use Rattle.refusal.specs.declared.Refusal.the-variants.{Malformed, TooShort}
+use Rattle.blocks.specs.Outcome.{origins, sizes, over, roomFor}
+use Rattle.blocks.specs.Walk.{block}
+use Rattle.blocks.specs.Laws.Exactly.{column-front, column-rest}
+use Rattle.blocks.specs.Theorems.Exactly.{room-exactly}
 use Rattle.overlay.specs.declared.Listed.{Listed}
 use Rattle.overlay.specs.declared.Listed.the-variants.{Runs, Refused}
 use Rattle.overlay.specs.Laws.CoverFacts.{either}
-use Rattle.overlay.specs.List.{over, roomFor, Lists}
+use Rattle.overlay.specs.List.{Lists}
 use Rattle.overlay.specs.Order.{inOrder, Acceptable}
 use Rattle.overlay.specs.Theorems.Order.{in-order-exactly}
-use Rattle.overlay.specs.Put.{firsts, counts}
-use Rattle.overlay.specs.Runs.{run, runsOf}
+use Rattle.overlay.specs.Runs.{runsOf}
 use Rattle.overlay.specs.Trial.{Trial}
-use Rattle.overlay.specs.Laws.ListFacts.{over-front, over-rest}
 
 module _ (t : Trial) (fs cs : List ℕ) (r : Listed) (fs′ cs′ : List ℕ) (met : Lists t fs cs r fs′ cs′) where
   -- There is room for the runs in both of the lent slices.
@@ -30,15 +30,10 @@ module _ (t : Trial) (fs cs : List ℕ) (r : Listed) (fs′ cs′ : List ℕ) (m
     pub second : length (runsOf t) ≤ length cs
 
   room-true : Room → roomFor (runsOf t) fs cs ≡ true
-  room-true m = rw (le-leb (length (runsOf t)) (length fs) (m .first)) (le-leb (length (runsOf t)) (length cs) (m .second))
+  room-true m = room-exactly (runsOf t) fs cs .1 (m .first, m .second)
 
   true-room : roomFor (runsOf t) fs cs ≡ true → Room
-  true-room =
-      go (leb (length (runsOf t)) (length fs)) refl
-    where
-      go : (b : Bool) → leb (length (runsOf t)) (length fs) ≡ b → pick b (leb (length (runsOf t)) (length cs)) false ≡ true → Room
-      go true e q = record { first = leb-true (length (runsOf t)) (length fs) e; second = leb-true (length (runsOf t)) (length cs) q }
-      go false e q = let z : _≡_ {A = ℕ} 0 1 = cc in absurd (omega arith)
+  true-room e = let p = room-exactly (runsOf t) fs cs .0 e in record { first = p .0; second = p .1 }
 
   -- "4 for overlay blocks empty, not ascending or sharing a bit", first.
   pub list-refused-4-exactly : (r ≡ Refused (Malformed 0)) ↔ (Acceptable (t .offsets) (t .sizes) → ⊥)
@@ -60,7 +55,7 @@ module _ (t : Trial) (fs cs : List ℕ) (r : Listed) (fs′ cs′ : List ℕ) (m
       go (inOrder 0 (t .offsets) (t .sizes)) (roomFor (runsOf t) fs cs) (sym e ∙ met .answer) (met .first) (met .second)
     where
       go : (o b : Bool) → Refused x ≡ pick o (pick b (Runs (length (runsOf t))) (Refused (TooShort 2))) (Refused (Malformed 0))
-          → fs′ ≡ pick o (pick b (over (firsts (runsOf t)) fs) fs) fs → cs′ ≡ pick o (pick b (over (counts (runsOf t)) cs) cs) cs
+          → fs′ ≡ pick o (pick b (over (origins (runsOf t)) fs) fs) fs → cs′ ≡ pick o (pick b (over (sizes (runsOf t)) cs) cs) cs
           → (fs′ ≡ fs) × (cs′ ≡ cs)
       go true true q f c = let z : _≡_ {A = ℕ} 0 1 = cc in absurd (omega arith)
       go true false q f c = (f, c)
@@ -89,21 +84,21 @@ module _ (t : Trial) (fs cs : List ℕ) (r : Listed) (fs′ cs′ : List ℕ) (m
       pub listed-all : r ≡ Runs (length (runsOf t))
       listed-all = answered ∙ rw (room-true room)
 
-      firsts-are : fs′ ≡ over (firsts (runsOf t)) fs
+      firsts-are : fs′ ≡ over (origins (runsOf t)) fs
       firsts-are = met .first ∙ rw (order, room-true room)
 
-      counts-are : cs′ ≡ over (counts (runsOf t)) cs
+      counts-are : cs′ ≡ over (sizes (runsOf t)) cs
       counts-are = met .second ∙ rw (order, room-true room)
 
       pub listed-at : (i : ℕ) → i < length (runsOf t)
-          → (getD fs′ i 0 ≡ getD (runsOf t) i (run 0 0) .first) × (getD cs′ i 0 ≡ getD (runsOf t) i (run 0 0) .count)
+          → (getD fs′ i 0 ≡ getD (runsOf t) i (block 0 0) .origin) × (getD cs′ i 0 ≡ getD (runsOf t) i (block 0 0) .size)
       listed-at i h = (
-        ap (λ (l : List ℕ). getD l i 0) firsts-are ∙ over-front (λ x. x .first) (runsOf t) fs i h,
-        ap (λ (l : List ℕ). getD l i 0) counts-are ∙ over-front (λ x. x .count) (runsOf t) cs i h,
+        ap (λ (l : List ℕ). getD l i 0) firsts-are ∙ column-front (λ x. x .origin) (runsOf t) fs i h,
+        ap (λ (l : List ℕ). getD l i 0) counts-are ∙ column-front (λ x. x .size) (runsOf t) cs i h,
       )
 
       pub listed-rest-stays : (i : ℕ) → length (runsOf t) ≤ i → (getD fs′ i 0 ≡ getD fs i 0) × (getD cs′ i 0 ≡ getD cs i 0)
       listed-rest-stays i h = (
-        ap (λ (l : List ℕ). getD l i 0) firsts-are ∙ over-rest (λ x. x .first) (runsOf t) fs i h,
-        ap (λ (l : List ℕ). getD l i 0) counts-are ∙ over-rest (λ x. x .count) (runsOf t) cs i h,
+        ap (λ (l : List ℕ). getD l i 0) firsts-are ∙ column-rest (λ x. x .origin) (runsOf t) fs i h,
+        ap (λ (l : List ℕ). getD l i 0) counts-are ∙ column-rest (λ x. x .size) (runsOf t) cs i h,
       )

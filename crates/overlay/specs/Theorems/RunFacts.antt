@@ -8,10 +8,12 @@ use native.Mathlib.Decide.{decLt}
 use native.Mathlib.Omega.{arith}
 use borrow.Author.Tests.{not-true, eqb-false, ne-eqb}
 use lib.ListN.{length, getD}
+use Rattle.blocks.specs.declared.Block.{Block}
+use Rattle.blocks.specs.Walk.{block}
 use Rattle.overlay.specs.Cover.{coveredBit, coveredByte}
 use Rattle.overlay.specs.Laws.CoverFacts.{clash}
 use Rattle.overlay.specs.Theorems.CoverFacts.{byte-holds, byte-from}
-use Rattle.overlay.specs.Runs.{Run, run, agree, differ, listed, shorter, runsOf}
+use Rattle.overlay.specs.Runs.{agree, differ, listed, shorter, runsOf}
 use Rattle.overlay.specs.Trial.{Trial}
 use Rattle.overlay.specs.Laws.RunFacts.{Good, each-good, reached, rise}
 use Rattle.overlay.specs.RunFacts.{Holds, IsListed}
@@ -44,7 +46,7 @@ module _ (t : Trial) where
   means-listed b i =
       rw (byte-from (coveredBit (t .offsets) (t .sizes)) b (i .covered), ne-eqb (getD (t .overlay) b 0) (getD (t .released) b 0) (i .different))
 
-  good : (i : ℕ) → i < length (runsOf t) → Good (listed t) 0 (shorter t) false (getD (runsOf t) i (run 0 0))
+  good : (i : ℕ) → i < length (runsOf t) → Good (listed t) 0 (shorter t) false (getD (runsOf t) i (block 0 0))
   unfolding runsOf
   good = each-good (listed t) 0 (shorter t) false
 
@@ -64,37 +66,37 @@ module _ (t : Trial) where
           (reached (listed t) 0 (shorter t) false b (omega arith) (omega (arith, below-shorter b (i .overlaid) (i .issued))) (means-listed b i))
 
   -- "maximal": no run is empty, and neither the byte before a run nor the one behind it is listed.
-  pub record Maximal (r : Run) : Type 0 where
-    pub some : 0 < r .count
-    pub before : (b : ℕ) → suc b ≡ r .first → IsListed t b → ⊥
-    pub behind : IsListed t (r .first + r .count) → ⊥
+  pub record Maximal (r : Block) : Type 0 where
+    pub some : 0 < r .size
+    pub before : (b : ℕ) → suc b ≡ r .origin → IsListed t b → ⊥
+    pub behind : IsListed t (r .origin + r .size) → ⊥
 
-  pub runs-maximal : (i : ℕ) → i < length (runsOf t) → Maximal (getD (runsOf t) i (run 0 0))
+  pub runs-maximal : (i : ℕ) → i < length (runsOf t) → Maximal (getD (runsOf t) i (block 0 0))
   runs-maximal i h =
       let g = good i h in
-      let r = getD (runsOf t) i (run 0 0) in
+      let r = getD (runsOf t) i (block 0 0) in
       record {
         some = g .some;
         before = λ b e l. clash (means-listed b l) (g .before b (omega arith) e);
-        behind = λ l. clash (means-listed (r .first + r .count) l) (g .after (omega (arith, below-shorter (r .first + r .count) (l .overlaid) (l .issued))));
+        behind = λ l. clash (means-listed (r .origin + r .size) l) (g .after (omega (arith, below-shorter (r .origin + r .size) (l .overlaid) (l .issued))));
       }
 
-  rising : (i j : ℕ) → i < j → j < length (runsOf t) → getD (runsOf t) i (run 0 0) .first < getD (runsOf t) j (run 0 0) .first
+  rising : (i j : ℕ) → i < j → j < length (runsOf t) → getD (runsOf t) i (block 0 0) .origin < getD (runsOf t) j (block 0 0) .origin
   unfolding runsOf
   rising = rise (listed t) 0 (shorter t) false
 
   -- "ascending": each run ends before the next begins, with a byte between them that is not listed.
   pub runs-ascending : (i j : ℕ) → i < j → j < length (runsOf t)
-      → getD (runsOf t) i (run 0 0) .first + getD (runsOf t) i (run 0 0) .count < getD (runsOf t) j (run 0 0) .first
+      → getD (runsOf t) i (block 0 0) .origin + getD (runsOf t) i (block 0 0) .size < getD (runsOf t) j (block 0 0) .origin
   runs-ascending i j l h =
-      let a = getD (runsOf t) i (run 0 0) in
-      let b = getD (runsOf t) j (run 0 0) in
+      let a = getD (runsOf t) i (block 0 0) in
+      let b = getD (runsOf t) j (block 0 0) in
       let g = good i (omega arith) in
       let k = good j h in
-      let up : a .first < b .first = rising i j l h in
-      elim (decLt (a .first + a .count) (b .first)) [
+      let up : a .origin < b .origin = rising i j l h in
+      elim (decLt (a .origin + a .size) (b .origin)) [
         | yes y ↦ y
         | no y ↦
-            let m = b .first - 1 in
+            let m = b .origin - 1 in
             absurd (clash (g .holds m (omega arith) (omega arith)) (k .before m (omega arith) (omega arith)))
       ]

@@ -1,15 +1,12 @@
 -- Laws that Theorems/ByteFacts rests on.
-use mathlib.Core.Path.{_≡_, refl, sym, ap, _∙_}
+use mathlib.Core.Path.{_≡_, refl}
 use mathlib.Core.Bool.{true, false, _||_}
 use mathlib.Core.List.{List, [], _∷_}
-use Prim.Native.Nat.{ℕ, _+_, _-_, _≤_, _<_}
+use Prim.Native.Nat.{ℕ, _≤_, _<_}
 use native.Mathlib.Omega.{arith}
 use borrow.Author.Tests.{leb-true}
 use lib.Dec.{leb}
-use lib.ListN.{length, getD, drop, List·getD-append}
-use lib.Seq.{getD-append-add, getD-drop}
 use Rattle.refusal.specs.Laws.Bools.{either, both}
-use Rattle.blocks.specs.Outcome.{over}
 use Rattle.record_lines.specs.Pieces.{Piece, endOf}
 use Rattle.record_fault.specs.Reading.{isNew}
 use Rattle.record_read.specs.Given.{holds, given}
@@ -29,17 +26,3 @@ new-outside (p ∷ l) first end a e h k =
     (λ q. let z = leb-true (endOf p) first q in omega arith)
     (λ q. let z = leb-true end (p .address) (rw q at (t .0)) in omega arith)))
     (λ free. rw free (new-outside l first end a (t .1) h k))
-
--- ---- what stands at the front, and what behind it
-
-module _ (new old : List ℕ) where
-  pub over-front : (i : ℕ) → i < length new → getD (over new old) i 0 ≡ getD new i 0
-  over-front i h = List·getD-append new (drop (length new) old) 0 i h
-
-  pub over-rest : (i : ℕ) → length new ≤ i → getD (over new old) i 0 ≡ getD old i 0
-  over-rest i h =
-      let e : i ≡ length new + (i - length new) = omega arith in
-      ap (λ (k : ℕ). getD (over new old) k 0) e
-      ∙ getD-append-add new (drop (length new) old) (i - length new) 0
-      ∙ getD-drop (length new) old (i - length new) 0
-      ∙ sym (ap (λ (k : ℕ). getD old k 0) e)

@@ -24,7 +24,7 @@ use Rattle.record_read.specs.Laws.Facts.{given-gives, gives-given, byte-
 use Rattle.record_read.specs.Theorems.Facts.{found-good, found-after}
 use Rattle.record_read.specs.Runs.{blocksGiven}
 use Rattle.record_read.specs.Outcome.{Lent, taken, Reads}
-use Rattle.record_read.specs.Laws.ByteFacts.{new-outside, over-front, over-rest}
+use Rattle.record_read.specs.Laws.ByteFacts.{new-outside}
 
 -- Of pieces of which none gives a byte twice, each gives its own.
 module _ (load : ℕ) where
@@ -114,10 +114,8 @@ module _ (format load : ℕ) (text : List ℕ) (old : Lent) (r : Blocks) (new : 
   read-blocks i h =
       let count = found-good load old (readText format load text) r new c n found .2 .2 in
       let made = blocksGiven load filed in (
-        ap (λ (x : Lent). getD (x .offsets) i 0) after ∙ over-front (origins made) (old .offsets) i (rw length-map (omega (arith, count)))
-            ∙ List·getD-map (λ b. b .origin) made i (block 0 0),
-        ap (λ (x : Lent). getD (x .sizes) i 0) after ∙ over-front (sizes made) (old .sizes) i (rw length-map (omega (arith, count)))
-            ∙ List·getD-map (λ b. b .size) made i (block 0 0),
+        ap (λ (x : Lent). getD (x .offsets) i 0) after ∙ column-front (λ b. b .origin) made (old .offsets) i (omega (arith, count)),
+        ap (λ (x : Lent). getD (x .sizes) i 0) after ∙ column-front (λ b. b .size) made (old .sizes) i (omega (arith, count)),
       )
 
   -- "and so do blocks past those written".
@@ -125,6 +123,6 @@ module _ (format load : ℕ) (text : List ℕ) (old : Lent) (r : Blocks) (new : 
   past-blocks-kept i h =
       let count = found-good load old (readText format load text) r new c n found .2 .2 in
       let made = blocksGiven load filed in (
-        ap (λ (x : Lent). getD (x .offsets) i 0) after ∙ over-rest (origins made) (old .offsets) i (rw length-map (omega (arith, count))),
-        ap (λ (x : Lent). getD (x .sizes) i 0) after ∙ over-rest (sizes made) (old .sizes) i (rw length-map (omega (arith, count))),
+        ap (λ (x : Lent). getD (x .offsets) i 0) after ∙ column-rest (λ b. b .origin) made (old .offsets) i (omega (arith, count)),
+        ap (λ (x : Lent). getD (x .sizes) i 0) after ∙ column-rest (λ b. b .size) made (old .sizes) i (omega (arith, count)),
       )
