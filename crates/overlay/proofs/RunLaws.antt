@@ -42,9 +42,9 @@ module _ (test : ℕ → Bool) where
       → i ≡ at + lengthFrom test at (to - at)
   look-stop at to i e inv = sym (inv ∙ ap (λ (m : ℕ). i + m) (length-stop i (to - i) e) ∙ add-zero i)
 
-  pub look-end : (at to i : ℕ) → to ≤ i → at + lengthFrom test at (to - at) ≡ i + lengthFrom test i (to - i)
-      → i ≡ at + lengthFrom test at (to - at)
-  look-end at to i h inv = omega (arith, inv, length-le test i (to - i))
+  pub look-end : (at to i : ℕ) → at ≤ to → to ≤ i → at + lengthFrom test at (to - at) ≡ i + lengthFrom test i (to - i)
+      → to ≡ at + lengthFrom test at (to - at)
+  look-end at to i k h inv = omega (arith, inv, length-le test at (to - at))
 
   -- ---- runs
 

@@ -74,8 +74,7 @@ fn in_order(offsets: &[u64], sizes: &[u64]) -> bool
     }
     let mut offset = 0;
     let mut size = 0;
-    let mut i = 0;
-    while i < offsets.len() {
+    for i in 0..offsets.len() {
         if sizes[i] == 0 {
             return false;
         }
@@ -84,7 +83,6 @@ fn in_order(offsets: &[u64], sizes: &[u64]) -> bool
         }
         offset = offsets[i];
         size = sizes[i];
-        i += 1;
     }
     true
 }
@@ -218,10 +216,8 @@ fn same_stretch(overlay: &[u8], released: &[u8], at: usize) -> bool
     ensures { λ r. ⌜ (r ≡ true → AgreeOn (now (overlay .entry)) (now (released .entry)) at 64) ⌝ }
 {
     let mut ok = true;
-    let mut j = 0;
-    while j < 64 {
+    for j in 0..64 {
         ok = refusal::both(ok, overlay[at + j] == released[at + j]);
-        j += 1;
     }
     ok
 }
@@ -247,32 +243,28 @@ fn skip_same(overlay: &[u8], released: &[u8], at: usize, to: usize) -> usize
 
 // The first byte from `at` on at which the images differ, or `to` where none before it does.
 fn next_difference(overlay: &[u8], released: &[u8], at: usize, to: usize) -> usize
-    requires { ⌜ (to ≤ length (now overlay)) × (to ≤ length (now released)) ⌝ }
+    requires { ⌜ (at ≤ to) × (to ≤ length (now overlay)) × (to ≤ length (now released)) ⌝ }
     ensures { λ r. ⌜ r ≡ at + lengthFrom (agree (now (overlay .entry)) (now (released .entry))) at (to - at) ⌝ }
 {
-    let mut i = skip_same(overlay, released, at, to);
-    while i < to {
+    for i in skip_same(overlay, released, at, to)..to {
         if overlay[i] != released[i] {
             return i;
         }
-        i += 1;
     }
-    i
+    to
 }
 
 // The first byte from `at` on at which the images agree, or `to` where none before it does.
 fn next_agreement(overlay: &[u8], released: &[u8], at: usize, to: usize) -> usize
-    requires { ⌜ (to ≤ length (now overlay)) × (to ≤ length (now released)) ⌝ }
+    requires { ⌜ (at ≤ to) × (to ≤ length (now overlay)) × (to ≤ length (now released)) ⌝ }
     ensures { λ r. ⌜ r ≡ at + lengthFrom (differ (now (overlay .entry)) (now (released .entry))) at (to - at) ⌝ }
 {
-    let mut i = at;
-    while i < to {
+    for i in at..to {
         if overlay[i] == released[i] {
             return i;
         }
-        i += 1;
     }
-    i
+    to
 }
 
 // Writes the runs of bytes that differ from byte `from` on and before `to`, as far as the lent slices go, and counts all of them.

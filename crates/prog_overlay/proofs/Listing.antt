@@ -13,11 +13,13 @@ use Rattle.refusal.specs.Laws.Pick.{pick-true, pick-false}
 use Rattle.refusal.specs.Pick.{pick}
 use Rattle.refusal.specs.declared.Refusal.{Refusal}
 use Rattle.refusal.specs.declared.Refusal.the-variants.{Malformed, TooShort}
+use Rattle.blocks.specs.declared.Block.{Block}
+use Rattle.blocks.specs.Outcome.{origins, sizes, over, roomFor}
+use Rattle.blocks.specs.Walk.{block}
 use Rattle.overlay.specs.Laws.RunFacts.{each-good}
-use Rattle.overlay.specs.List.{over, roomFor, Lists}
+use Rattle.overlay.specs.List.{Lists}
 use Rattle.overlay.specs.Order.{inOrder}
-use Rattle.overlay.specs.Put.{firsts, counts}
-use Rattle.overlay.specs.Runs.{Run, run, lengthFrom, begun, runsFrom, listed, shorter, runsOf}
+use Rattle.overlay.specs.Runs.{lengthFrom, begun, runsFrom, listed, shorter, runsOf}
 use Rattle.overlay.specs.Trial.{Trial}
 use Rattle.overlay.specs.declared.Listed.{Listed}
 use Rattle.overlay.specs.declared.Listed.the-variants.{Runs, Refused}
@@ -36,14 +38,14 @@ total [] = 0
 total (x ∷ l) = x + total l
 
 module _ (test : ℕ → Bool) where
-  counts-few : (at n : ℕ) (inside : Bool) → total (counts (runsFrom test at n inside)) + pick inside (lengthFrom test at n) 0 ≤ n
+  counts-few : (at n : ℕ) (inside : Bool) → total (sizes (runsFrom test at n inside)) + pick inside (lengthFrom test at n) 0 ≤ n
   unfolding runsFrom lengthFrom
   counts-few at zero true = omega arith
   counts-few at zero false = omega arith
   counts-few at (suc n) inside = go (test at) inside (counts-few (suc at) n (test at))
     where
-      go : (here inside : Bool) → total (counts (runsFrom test (suc at) n here)) + pick here (lengthFrom test (suc at) n) 0 ≤ n
-          → total (counts (begun here inside (run at (pick here (suc (lengthFrom test (suc at) n)) 0)) ++ runsFrom test (suc at) n here))
+      go : (here inside : Bool) → total (sizes (runsFrom test (suc at) n here)) + pick here (lengthFrom test (suc at) n) 0 ≤ n
+          → total (sizes (begun here inside (block at (pick here (suc (lengthFrom test (suc at) n)) 0)) ++ runsFrom test (suc at) n here))
           + pick inside (pick here (suc (lengthFrom test (suc at) n)) 0) 0 ≤ suc n
       go true true h = omega (arith, h)
       go true false h = omega (arith, h)
@@ -77,20 +79,20 @@ module _ (t : Trial) (small : length (t .released) ≤ bytesRoom) (little : leng
   unfolding shorter
   below-too = min-le-right (length (t .overlay)) (length (t .released))
 
-  inside-both : (i : ℕ) → i < length (runsOf t) → getD (runsOf t) i (run 0 0) .first + getD (runsOf t) i (run 0 0) .count ≤ shorter t
+  inside-both : (i : ℕ) → i < length (runsOf t) → getD (runsOf t) i (block 0 0) .origin + getD (runsOf t) i (block 0 0) .size ≤ shorter t
   unfolding runsOf
   inside-both i h = omega (arith, each-good (listed t) 0 (shorter t) false i h .within)
 
-  all-counts : total (counts (runsOf t)) ≤ shorter t
+  all-counts : total (sizes (runsOf t)) ≤ shorter t
   unfolding runsOf
   all-counts = omega (arith, counts-few (listed t) 0 (shorter t) false)
 
-  each-run : EachInBoth (t .released) (t .overlay) (firsts (runsOf t)) (counts (runsOf t))
+  each-run : EachInBoth (t .released) (t .overlay) (origins (runsOf t)) (sizes (runsOf t))
   each-run i h =
-      let few : i < length (runsOf t) = omega (arith, length-map (runsOf t) (λ r. r .first)) in
-      let first = List·getD-map (λ (r : Run). r .first) (runsOf t) i (run 0 0) in
-      let count = List·getD-map (λ (r : Run). r .count) (runsOf t) i (run 0 0) in
-      let both : getD (firsts (runsOf t)) i 0 + getD (counts (runsOf t)) i 0 ≤ shorter t = omega (arith, first, count, inside-both i few) in
+      let few : i < length (runsOf t) = omega (arith, length-map (runsOf t) (λ r. r .origin)) in
+      let first = List·getD-map (λ (r : Block). r .origin) (runsOf t) i (block 0 0) in
+      let count = List·getD-map (λ (r : Block). r .size) (runsOf t) i (block 0 0) in
+      let both : getD (origins (runsOf t)) i 0 + getD (sizes (runsOf t)) i 0 ≤ shorter t = omega (arith, first, count, inside-both i few) in
       record {
         issued = omega (arith, both, below-too);
         overlaid = omega (arith, both, below);
@@ -98,12 +100,12 @@ module _ (t : Trial) (small : length (t .released) ≤ bytesRoom) (little : leng
       }
 
   all-lines : (load : ℕ) → load ≤ 4294967295 → length (runsOf t) ≤ runsRoom
-      → length (runLines load (t .released) (t .overlay) (firsts (runsOf t)) (counts (runsOf t))) ≤ 4063232
+      → length (runLines load (t .released) (t .overlay) (origins (runsOf t)) (sizes (runsOf t))) ≤ 4063232
   all-lines load low few =
       omega (
         arith,
-        lines-few load (t .released) (t .overlay) low (firsts (runsOf t)) (counts (runsOf t)) each-run,
-        length-map (runsOf t) (λ (r : Run). r .first),
+        lines-few load (t .released) (t .overlay) low (origins (runsOf t)) (sizes (runsOf t)) each-run,
+        length-map (runsOf t) (λ (r : Block). r .origin),
         few,
         all-counts,
         below,
@@ -157,15 +159,15 @@ module _ (t : Trial) (small : length (t .released) ≤ bytesRoom) (little : leng
       pub few : count ≤ runsRoom
       few = omega (arith, counted, leb-true n runsRoom (all-three .1))
 
-      first : take count fs′ ≡ firsts (runsOf t)
+      first : take count fs′ ≡ origins (runsOf t)
       first =
           ap (take count) (met .first ∙ pick-true _ _ (all-three .0) ∙ pick-true _ _ (roomy ∙ all-three .1))
-          ∙ take-at (firsts (runsOf t)) (drop (length (firsts (runsOf t))) fs) count (length-map (runsOf t) (λ (x : Run). x .first) ∙ sym counted)
+          ∙ take-at (origins (runsOf t)) (drop (length (origins (runsOf t))) fs) count (length-map (runsOf t) (λ (x : Block). x .origin) ∙ sym counted)
 
-      second : take count cs′ ≡ counts (runsOf t)
+      second : take count cs′ ≡ sizes (runsOf t)
       second =
           ap (take count) (met .second ∙ pick-true _ _ (all-three .0) ∙ pick-true _ _ (roomy ∙ all-three .1))
-          ∙ take-at (counts (runsOf t)) (drop (length (counts (runsOf t))) cs) count (length-map (runsOf t) (λ (x : Run). x .count) ∙ sym counted)
+          ∙ take-at (sizes (runsOf t)) (drop (length (sizes (runsOf t))) cs) count (length-map (runsOf t) (λ (x : Block). x .size) ∙ sym counted)
 
       pub first-long : length (take count fs′) ≡ count
       first-long = ap length first ∙ length-map (runsOf t) _ ∙ sym counted
@@ -175,10 +177,10 @@ module _ (t : Trial) (small : length (t .released) ≤ bytesRoom) (little : leng
 
       pub each-listed : EachInBoth (t .released) (t .overlay) (take count fs′) (take count cs′)
       each-listed = subst (λ (x : List ℕ). EachInBoth (t .released) (t .overlay) x (take count cs′)) (sym first)
-          (subst (λ (x : List ℕ). EachInBoth (t .released) (t .overlay) (firsts (runsOf t)) x) (sym second) each-run)
+          (subst (λ (x : List ℕ). EachInBoth (t .released) (t .overlay) (origins (runsOf t)) x) (sym second) each-run)
 
       same-lines : (load : ℕ) → runLines load (t .released) (t .overlay) (take count fs′) (take count cs′)
-          ≡ runLines load (t .released) (t .overlay) (firsts (runsOf t)) (counts (runsOf t))
+          ≡ runLines load (t .released) (t .overlay) (origins (runsOf t)) (sizes (runsOf t))
       same-lines load = ap₂ (runLines load (t .released) (t .overlay)) first second
 
       pub lines-fit : (load : ℕ) → load ≤ 4294967295 → length (runLines load (t .released) (t .overlay) (take count fs′) (take count cs′)) ≤ 4063232

@@ -8,8 +8,8 @@ use Rattle.refusal.specs.Pick.{pick}
 use Rattle.refusal.specs.declared.Refusal.{Refusal}
 use Rattle.refusal.specs.declared.Refusal.the-variants.{Malformed, TooShort, BadPart}
 use Rattle.bitvec.specs.HexDigits.{hexOf}
+use Rattle.blocks.specs.Outcome.{origins, sizes}
 use Rattle.overlay.specs.Order.{inOrder}
-use Rattle.overlay.specs.Put.{firsts, counts}
 use Rattle.overlay.specs.Range.{sourceOf, bytesOf}
 use Rattle.overlay.specs.Runs.{runsOf}
 use Rattle.overlay.specs.Trial.{Trial, trial}
@@ -52,7 +52,7 @@ unfoldable pub listText : ℕ → ℕ → Trial → List ℕ
 listText load alone t =
     pick (inOrder 0 (t .offsets) (t .sizes))
     (pick (leb (length (runsOf t)) runsRoom)
-    (runLines load (t .released) (t .overlay) (firsts (runsOf t)) (counts (runsOf t)) ++ aloneText load (length (t .overlay)) alone
+    (runLines load (t .released) (t .overlay) (origins (runsOf t)) (sizes (runsOf t)) ++ aloneText load (length (t .overlay)) alone
     ++ line (ascii "runs") (length (runsOf t) ∷ []))
     (refusalText (TooShort 2)))
     (refusalText (Malformed 0))

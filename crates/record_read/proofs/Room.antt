@@ -3,17 +3,16 @@ use mathlib.Core.Path.{_≡_, refl, sym, ap, ap₂, subst, _∙_}
 use mathlib.Core.Bool.{Bool, true, false}
 use mathlib.Core.List.{List}
 use Prim.Native.Nat.{ℕ, _-_, _≤_, _<_}
-use native.Mathlib.Nat.{zero-add}
 use borrow.Author.Tests.{le-leb, lt-leb}
 use lib.Dec.{leb}
 use lib.ListN.{length, length-map}
-use lib.Seq.{sets, sets-eq}
 use Rattle.refusal.specs.declared.Refusal.the-variants.{Malformed, TooShort}
 use Rattle.blocks.specs.declared.Block.{Block}
 use Rattle.blocks.specs.declared.Blocks.{Blocks}
 use Rattle.blocks.specs.declared.Blocks.the-variants.{Found, Refused}
 use Rattle.blocks.specs.Outcome.{origins, sizes, over}
 use Rattle.blocks.specs.Put.{Put}
+use Rattle.blocks.specs.Laws.Room.{sets-over}
 use Rattle.record_lines.specs.Pieces.{Piece}
 use Rattle.record_fault.specs.Reading.{Read, sound, faulty, readText}
 use Rattle.record_fault.specs.Trail.{trail}
@@ -27,10 +26,6 @@ use Rattle.record_read.specs.Runs.{reach, blocksGiven}
 use Rattle.record_read.specs.Outcome.{Lent, lent, Reads}
 use Rattle.record_read.specs.Steps.{Ready}
 use Rattle.record_read.proofs.Parts.{within-fine, within-low, parts-are-blocks}
-
--- What is stored from the start on.
-sets-over : (l v : List ℕ) → length v ≤ length l → sets l 0 v ≡ over v l
-sets-over l v h = sets-eq v l 0 (rw zero-add h) ∙ rw zero-add
 
 pub reads-bad : (load : ℕ) (read : Read) (bytes os ss scratch : List ℕ) {scratch₂ : List ℕ} → scratch₂ ≡ scratch → (line : ℕ) → read ≡ faulty line
     → Reads load read (lent bytes os ss scratch) (Refused (Malformed 0)) (lent bytes os ss scratch₂)

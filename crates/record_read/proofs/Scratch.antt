@@ -32,7 +32,7 @@ use Rattle.record_read.specs.Steps.{run, closedBy, joinedBy, Small, List
 use Rattle.record_read.specs.declared.Run.{Run}
 use Rattle.record_read.specs.declared.Walk.{Walk}
 use Rattle.record_read.proofs.Loops.{or-in}
-use Rattle.record_read.proofs.Walks.{listed-few, listed-long, listed-on, listed-idle, listed-past}
+use Rattle.record_read.proofs.Walks.{listed-room, listed-long, listed-on, listed-idle, listed-past}
 
 -- ---- the first bit of a kind
 
@@ -208,13 +208,13 @@ module _ {scratch : List ℕ} {from : ℕ} {w : Walk} {os ss : List ℕ} (u : Un
   reached : Listed (u .test) (u .first) (u .second) r (from + j) count os′ ss′
   reached = p .listed (u .test) (u .first) (u .second) (u .marked) (u .listed)
 
-  pub passing-room : (count ≤ r .first) × Small r
-  passing-room = (listed-few (u .test) (u .first) (u .second) reached, reached .small)
+  pub passing-room : (r .first ≤ r .end) × (count ≤ r .first) × Small r
+  passing-room = listed-room reached
 
   pub passing-long : (length os′ ≡ length os) × (length ss′ ≡ length ss)
   passing-long =
-      let l = listed-long (u .test) (u .first) (u .second) reached in
-      let k = listed-long (u .test) (u .first) (u .second) (u .listed) in
+      let l = listed-long reached in
+      let k = listed-long (u .listed) in
       (l .0 ∙ sym (k .0), l .1 ∙ sym (k .1))
 
 -- ---- the windows of a file

@@ -5,18 +5,15 @@ use mathlib.Core.List.{List, [], _∷_, _++_, map, map-append, append-nil}
 use Prim.Native.Nat.{ℕ, suc, _+_, _-_, _*_, _≤_, _<_}
 use native.Mathlib.Decide.{decLt, ℕ-discrete}
 use native.Mathlib.Omega.{arith}
-use native.Mathlib.Nat.{add-zero}
 use borrow.Author.Tests.{lt-ltb, le-ltb, eq-eqb, ne-eqb}
 use lib.Dec.{ltb, eqb}
-use lib.ListN.{length, set, length-append, length-map}
-use lib.Seq.{sets, length-sets}
+use lib.ListN.{length, length-append, length-map}
 use Rattle.refusal.specs.Laws.Bools.{either}
 use Rattle.refusal.specs.Pick.{pick}
 use Rattle.blocks.specs.declared.Block.{Block}
-use Rattle.blocks.specs.Walk.{block}
-use Rattle.blocks.specs.Outcome.{origins, sizes}
+use Rattle.blocks.specs.Walk.{block, kept}
+use Rattle.blocks.specs.Laws.Put.{kept-some as block-kept, kept-none as block-none, put-nothing, put-then, put-long}
 use Rattle.blocks.specs.Put.{Put}
-use Rattle.record_lines.specs.Laws.Puts.{sets-behind}
 use Rattle.record_read.specs.Runs.{runs, inBits}
 use Rattle.record_read.specs.RunLaws.{Clear, Holds, AreRuns}
 use Rattle.record_read.specs.Theorems.RunLaws.{runs-are, one-list, runs-more}
@@ -27,10 +24,18 @@ use Rattle.record_read.specs.declared.Run.{Run}
 -- ---- runs
 
 pub kept-some : (r : Run) → r .first < r .end → keptRun r ≡ block (r .first) (r .end - r .first) ∷ []
-kept-some r h = rw (lt-ltb (r .first) (r .end) h)
+kept-some r h = block-kept (block (r .first) (r .end - r .first)) (λ z. omega arith)
 
 pub kept-none : (r : Run) → r .end ≤ r .first → keptRun r ≡ []
-kept-none r h = rw (le-ltb (r .first) (r .end) h)
+kept-none r h = block-none (block (r .first) (r .end - r .first)) (omega arith)
+
+-- An empty block is empty in bits.
+kept-bits : (r : Run) → kept (block (8 * r .first) (8 * (r .end - r .first))) ≡ map inBits (keptRun r)
+kept-bits r =
+    elim (decLt (r .first) (r .end)) [
+      | yes p ↦ block-kept (block (8 * r .first) (8 * (r .end - r .first))) (λ z. omega arith) ∙ sym (ap (map inBits) (kept-some r p))
+      | no p ↦ block-none (block (8 * r .first) (8 * (r .end - r .first))) (omega arith) ∙ sym (ap (map inBits) (kept-none r (omega arith)))
+    ]
 
 module _ (r next : Run) where
   pub closed-idle : next .end ≤ next .first → (closedBy r next ≡ []) × (joinedBy r next ≡ r)
@@ -183,40 +188,19 @@ walked-agree test other {done} {r} {from} same w =
 
 -- ---- what is written
 
-pub put-nothing : (at : ℕ) (os ss : List ℕ) → Put [] at os ss at os ss
-put-nothing at os ss = record { counted = sym (add-zero at); first = refl; second = refl }
+-- What writing the run asks, and the lengths of what is lent.
+module _ {test : ℕ → Bool} {os₀ ss₀ : List ℕ} {r : Run} {from count : ℕ} {os ss : List ℕ} (w : Listed test os₀ ss₀ r from count os ss) where
+  pub listed-room : (r .first ≤ r .end) × (count ≤ r .first) × Small r
+  listed-room = (w .walked .order, omega (arith, w .put .counted, length-map (w .done) inBits, w .walked .few), w .small)
 
--- Blocks, and blocks behind them.
-stored : (xs ys : List Block) (f : Block → ℕ) (l l′ l″ : List ℕ) (c : ℕ) → c ≡ 0 + length xs → l′ ≡ sets l 0 (map f xs) → l″ ≡ sets l′ c (map f ys)
-    → l″ ≡ sets l 0 (map f (xs ++ ys))
-stored xs ys f l l′ l″ c n p q =
-    let m : c ≡ 0 + length (map f xs) = n ∙ ap (λ (k : ℕ). 0 + k) (sym (length-map xs f)) in
-    q ∙ ap (λ (t : List ℕ). sets t c (map f ys)) p ∙ ap (λ (k : ℕ). sets (sets l 0 (map f xs)) k (map f ys)) m
-    ∙ sets-behind l 0 (map f xs) (map f ys) ∙ ap (sets l 0) (sym (map-append f xs ys))
-
-pub put-then : (xs ys : List Block) {os₀ ss₀ os ss os′ ss′ : List ℕ} {c c′ : ℕ} → Put xs 0 os₀ ss₀ c os ss → Put ys c os ss c′ os′ ss′
-    → Put (xs ++ ys) 0 os₀ ss₀ c′ os′ ss′
-put-then xs ys {os₀} {ss₀} {os} {ss} {os′} {ss′} {c} p q =
-    record {
-      counted = omega (arith, p .counted, q .counted, length-append xs ys);
-      first = stored xs ys (λ b. b .origin) os₀ os os′ c (p .counted) (p .first) (q .first);
-      second = stored xs ys (λ b. b .size) ss₀ ss ss′ c (p .counted) (p .second) (q .second);
-    }
-
-pub put-long : {xs : List Block} {os ss os′ ss′ : List ℕ} {c c′ : ℕ} → Put xs c os ss c′ os′ ss′ → (length os′ ≡ length os) × (length ss′ ≡ length ss)
-put-long {xs} {os} {ss} {os′} {ss′} {c} p = (ap length (p .first) ∙ length-sets os c (origins xs), ap length (p .second) ∙ length-sets ss c (sizes xs))
+  pub listed-long : (length os ≡ length os₀) × (length ss ≡ length ss₀)
+  listed-long = put-long (w .put)
 
 module _ (test : ℕ → Bool) (os₀ ss₀ : List ℕ) where
   pub listed-starts : Listed test os₀ ss₀ (run 0 0) 0 0 os₀ ss₀
   listed-starts = record { done = []; walked = walked-starts test; put = put-nothing 0 os₀ ss₀; small = omega arith }
 
   module _ {r : Run} {from count : ℕ} {os ss : List ℕ} (w : Listed test os₀ ss₀ r from count os ss) where
-    pub listed-few : count ≤ r .first
-    listed-few = omega (arith, w .put .counted, length-map (w .done) inBits, w .walked .few)
-
-    pub listed-long : (length os ≡ length os₀) × (length ss ≡ length ss₀)
-    listed-long = put-long (w .put)
-
     more : (next : Run) {count′ : ℕ} {os′ ss′ : List ℕ} → Put (map inBits (closedBy r next)) count os ss count′ os′ ss′
         → Put (map inBits (w .done ++ closedBy r next)) 0 os₀ ss₀ count′ os′ ss′
     more next {count′} {os′} {ss′} p =
@@ -260,16 +244,11 @@ pub listed-agree : (test other : ℕ → Bool) {os₀ ss₀ : List ℕ} {r : Run
     → Listed test os₀ ss₀ r from count os ss → Listed other os₀ ss₀ r from count os ss
 listed-agree test other same w = record { done = w .done; walked = walked-agree test other same (w .walked); put = w .put; small = w .small }
 
--- ---- a run that is written, and one that is not
+-- ---- a run that is written, in bits, one that is closed, and one that is not
 
-module _ (r : Run) where
-  pub push-none : r .end ≤ r .first → (count : ℕ) (os ss : List ℕ) → Put (map inBits (keptRun r)) count os ss count os ss
-  push-none h count os ss = subst (λ (l : List Block). Put (map inBits l) count os ss count os ss) (sym (kept-none r h)) (put-nothing count os ss)
-
-  pub push-some : r .first < r .end → (count : ℕ) (os ss : List ℕ) {os′ ss′ : List ℕ} → os′ ≡ set os count (8 * r .first)
-      → ss′ ≡ set ss count (8 * (r .end - r .first)) → Put (map inBits (keptRun r)) count os ss (count + 1) os′ ss′
-  push-some h count os ss {os′} {ss′} p q =
-      subst (λ (l : List Block). Put (map inBits l) count os ss (count + 1) os′ ss′) (sym (kept-some r h)) (record { counted = refl; first = p; second = q })
+pub push-bits : (r : Run) {count count′ : ℕ} {os ss os′ ss′ : List ℕ}
+    → Put (kept (block (8 * r .first) (8 * (r .end - r .first)))) count os ss count′ os′ ss′ → Put (map inBits (keptRun r)) count os ss count′ os′ ss′
+push-bits r {count} {count′} {os} {ss} {os′} {ss′} p = subst (λ (l : List Block). Put l count os ss count′ os′ ss′) (kept-bits r) p
 
 module _ (r next : Run) where
   pub close-none : closedBy r next ≡ [] → (count : ℕ) (os ss : List ℕ) → Put (map inBits (closedBy r next)) count os ss count os ss

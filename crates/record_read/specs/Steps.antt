@@ -1,7 +1,7 @@
 -- What the private steps of reading owe each other.
 use mathlib.Core.Path.{_≡_}
 use mathlib.Core.Bool.{Bool, true, false, _&&_, _||_}
-use mathlib.Core.List.{List, [], _∷_, map}
+use mathlib.Core.List.{List, [], map}
 use Prim.Native.Nat.{ℕ, _+_, _-_, _*_, _≤_, _<_}
 use lib.Dec.{leb, ltb, eqb}
 use lib.ListN.{length}
@@ -10,7 +10,7 @@ use Rattle.bitvec.specs.Bits.{bitAt}
 use Rattle.bitvec.specs.Clear.{cleared}
 use Rattle.blocks.specs.declared.Block.{Block}
 use Rattle.blocks.specs.Put.{Put}
-use Rattle.blocks.specs.Walk.{block}
+use Rattle.blocks.specs.Walk.{block, kept}
 use Rattle.record_fault.specs.Steps.{highest}
 use Rattle.record_fault.specs.Trail.{trail}
 use Rattle.record_fault.specs.Once.{Once}
@@ -31,7 +31,7 @@ extentOf address count load = run (address - load) (address + count - load)
 
 -- A run is kept unless it is empty.
 abbrev pub keptRun : Run → List Block
-keptRun r = pick (ltb (r .first) (r .end)) (block (r .first) (r .end - r .first) ∷ []) []
+keptRun r = kept (block (r .first) (r .end - r .first))
 
 -- A run that comes next closes the one before it unless it touches that; and the run that goes on behind it.
 abbrev pub closedBy : Run → Run → List Block

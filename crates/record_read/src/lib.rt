@@ -7,7 +7,7 @@ ghost use mathlib.Core.Bool.{true};
 ghost use mathlib.Core.List.{[], _∷_, map};
 ghost use Prim.Native.Nat.{_+_, _-_, _*_, _/_, _≤_, _<_};
 ghost use lib.Dec.{ltb, eqb};
-ghost use lib.ListN.{length, set};
+ghost use lib.ListN.{length};
 ghost use Rattle.refusal.specs.Pick.{pick};
 ghost use Rattle.bitvec.specs.Numeral.{bitOf};
 ghost use Rattle.blocks.specs.Put.{Put};
@@ -32,7 +32,7 @@ pub struct Run {
 // How far the blocks are written: the run that goes on, and how many of them stand before it.
 pub struct Walk {
     pub run: Run,
-    pub count: u64,
+    pub count: usize,
 }
 
 // The bytes' and the blocks' numbers among the lent outputs.
@@ -69,31 +69,17 @@ fn extent(address: u32, count: u8, load: u32) -> Run
     }
 }
 
-// Stores a number at a place, if there is one.
-fn put(column: &mut [u64], at: u64, value: u64)
-    ensures { λ _. ⌜ now (column .exit) ≡ set (now (column .entry)) at value ⌝ }
-{
-    if at < column.len() as u64 {
-        column[at as usize] = value;
-    }
-}
-
 // Writes a run behind the blocks that are written, unless it is empty, and counts it.
-fn push(run: Run, count: u64, offsets: &mut [u64], sizes: &mut [u64]) -> u64
-    requires { ⌜ (count ≤ run .first) × Small run ⌝ }
+fn push(run: Run, count: usize, offsets: &mut [u64], sizes: &mut [u64]) -> usize
+    requires { ⌜ (run .first ≤ run .end) × (count ≤ run .first) × Small run ⌝ }
     ensures { λ r. ⌜ Put (map inBits (keptRun run)) count (now (offsets .entry)) (now (sizes .entry)) r (now (offsets .exit)) (now (sizes .exit)) ⌝ }
 {
-    if run.end <= run.first {
-        return count;
-    }
-    put(offsets, count, 8 * run.first);
-    put(sizes, count, 8 * (run.end - run.first));
-    count + 1
+    count + blocks::push(8 * run.first, 8 * (run.end - run.first), count, offsets, sizes)
 }
 
 // Writes a run if the next one does not touch it.
-fn close(run: Run, next: Run, count: u64, offsets: &mut [u64], sizes: &mut [u64]) -> u64
-    requires { ⌜ (count ≤ run .first) × Small run ⌝ }
+fn close(run: Run, next: Run, count: usize, offsets: &mut [u64], sizes: &mut [u64]) -> usize
+    requires { ⌜ (run .first ≤ run .end) × (count ≤ run .first) × Small run ⌝ }
     ensures { λ r. ⌜ Put (map inBits (closedBy run next)) count (now (offsets .entry)) (now (sizes .entry)) r (now (offsets .exit)) (now (sizes .exit)) ⌝ }
 {
     if next.end <= next.first {
@@ -159,14 +145,12 @@ fn lowest(format: u8, text: &[u8], t: &[u8; 256], n: usize, load: u32, from: u64
     let mut at = 0usize;
     let mut state = 0u16;
     let mut best = Run { first: 0, end: 0 };
-    let mut k = 0usize;
-    while k < n {
+    for _ in 0..n {
         let s = record_fault::known_line(format, text, t, at, state);
         let line = s.line;
         best = better(best, extent(line.address, line.count, load), from);
         at = s.next;
         state = line.state;
-        k += 1;
     }
     best
 }
@@ -191,7 +175,7 @@ fn walk_any(
     end: u64,
     offsets: &mut [u64],
     sizes: &mut [u64],
-) -> u64
+) -> usize
     requires { ⌜ Spells (now t) × AllGood format (now text) n ⌝ }
     requires { ⌜ end ≡ reach load (trail format (now text) n .given) ⌝ }
     ensures { λ r. ⌜ Put (blocksGiven load (trail format (now (text .entry)) n .given)) 0
@@ -199,7 +183,7 @@ fn walk_any(
 {
     let mut from = 0u64;
     let mut run = Run { first: 0, end: 0 };
-    let mut count = 0u64;
+    let mut count = 0usize;
     while from < end {
         let next = lowest(format, text, t, n, load, from);
         count = close(run, next, count, offsets, sizes);
@@ -290,7 +274,7 @@ fn walk_scratch(
     offsets: &mut [u64],
     sizes: &mut [u64],
     scratch: &mut [u8],
-) -> u64
+) -> usize
     requires { ⌜ Spells (now t) × AllGood format (now text) n ⌝ }
     requires { ⌜ Ready format (now text) n load end ⌝ }
     requires { ⌜ Usable (now scratch) ⌝ }
@@ -343,7 +327,7 @@ fn find_blocks(
     offsets: &mut [u64],
     sizes: &mut [u64],
     scratch: &mut [u8],
-) -> u64
+) -> usize
     requires { ⌜ Spells (now t) × AllGood format (now text) n ⌝ }
     requires { ⌜ Ready format (now text) n load end ⌝ }
     requires { ⌜ (marked ≡ true → Usable (now scratch)) ⌝ }
@@ -387,15 +371,13 @@ fn fill_line(
     let start = first as usize;
     let base = address as u64;
     let n = count as usize;
-    let mut j = 0usize;
-    while j < n {
+    for j in 0..n {
         put_byte(
             bytes,
             base + j as u64,
             load,
             record_lines::pair_inside(line, t, start + 2 * j),
         );
-        j += 1;
     }
 }
 
@@ -406,8 +388,7 @@ fn fill(format: u8, text: &[u8], t: &[u8; 256], n: usize, load: u32, bytes: &mut
 {
     let mut at = 0usize;
     let mut state = 0u16;
-    let mut k = 0usize;
-    while k < n {
+    for _ in 0..n {
         let s = record_fault::known_line(format, text, t, at, state);
         let line = s.line;
         let stop = s.stop;
@@ -422,7 +403,6 @@ fn fill(format: u8, text: &[u8], t: &[u8; 256], n: usize, load: u32, bytes: &mut
         );
         at = s.next;
         state = line.state;
-        k += 1;
     }
 }
 
@@ -436,7 +416,7 @@ fn store_up(
     bytes: &mut [u8],
     offsets: &mut [u64],
     sizes: &mut [u64],
-) -> u64
+) -> usize
     requires { ⌜ Spells (now t) × AllGood format (now text) n ⌝ }
     requires { ⌜ rises format (now text) n ≡ true ⌝ }
     ensures { λ r. ⌜ (now (bytes .exit) ≡ filled load (trail format (now (text .entry)) n .given) (now (bytes .entry)))
@@ -446,9 +426,8 @@ fn store_up(
     let mut at = 0usize;
     let mut state = 0u16;
     let mut run = Run { first: 0, end: 0 };
-    let mut count = 0u64;
-    let mut k = 0usize;
-    while k < n {
+    let mut count = 0usize;
+    for _ in 0..n {
         let s = record_fault::known_line(format, text, t, at, state);
         let line = s.line;
         let stop = s.stop;
@@ -466,7 +445,6 @@ fn store_up(
         run = join(run, next);
         at = s.next;
         state = line.state;
-        k += 1;
     }
     push(run, count, offsets, sizes)
 }
@@ -485,7 +463,7 @@ fn store(
     offsets: &mut [u64],
     sizes: &mut [u64],
     scratch: &mut [u8],
-) -> u64
+) -> usize
     requires { ⌜ Spells (now t) × AllGood format (now text) n ⌝ }
     requires { ⌜ Ready format (now text) n load end ⌝ }
     requires { ⌜ (ascend ≡ rises format (now text) n) × (marked ≡ true → Usable (now scratch)) ⌝ }
@@ -524,14 +502,14 @@ fn count_blocks(
     parts: u64,
     marked: bool,
     scratch: &mut [u8],
-) -> u64
+) -> usize
     requires { ⌜ Spells (now t) × AllGood format (now text) n ⌝ }
     requires { ⌜ Ready format (now text) n load end ⌝ }
     requires { ⌜ (ascend ≡ true → parts ≡ length (blocksGiven load (trail format (now text) n .given))) × (marked ≡ true → Usable (now scratch)) ⌝ }
     ensures { λ r. ⌜ (r ≡ length (blocksGiven load (trail format (now (text .entry)) n .given))) × (now (scratch .exit) ≡ now (scratch .entry)) ⌝ }
 {
     if ascend {
-        return parts;
+        return parts as usize;
     }
     let mut offsets = [0u64; 1];
     let mut sizes = [0u64; 1];
@@ -587,10 +565,10 @@ fn take(
         marked,
         scratch,
     );
-    if (offsets.len() as u64) < count {
+    if offsets.len() < count {
         return Blocks::Refused(Refusal::TooShort(BLOCKS));
     }
-    if (sizes.len() as u64) < count {
+    if sizes.len() < count {
         return Blocks::Refused(Refusal::TooShort(BLOCKS));
     }
     store(
@@ -607,7 +585,7 @@ fn take(
         sizes,
         scratch,
     );
-    Blocks::Found(count)
+    Blocks::Found(count as u64)
 }
 
 // Reads a file of records, format 0 Intel HEX, every other number S-records, from a load address on: its bytes and its blocks, in bits, counted from that

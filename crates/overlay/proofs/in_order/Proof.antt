@@ -11,13 +11,13 @@ use Rattle.overlay.proofs.in_order.Statement.{statement}
 use Rattle.overlay.proofs.in_order.Tie as tie
 
 abbrev Inv-loop : tie.InvT-loop
-Inv-loop offsets sizes offset₀ size₀ i₀ offset size i =
+Inv-loop offsets sizes offset₀ size₀ i₀ i-end offset size i =
     (i ≤ length offsets)
     × (length offsets ≡ length sizes)
     × (inOrder (offset + size) (drop i offsets) (drop i sizes) ≡ inOrder 0 offsets sizes)
 
 abbrev μ-loop : tie.MeasureT-loop
-μ-loop offsets sizes offset₀ size₀ i₀ offset size i = length offsets - i
+μ-loop offsets sizes offset₀ size₀ i₀ i-end offset size i = length offsets - i
 
 -- the function's start, seen from the loop
 abbrev start : tie.At-loop Inv-loop μ-loop → tie.Start Inv-loop μ-loop

@@ -6,6 +6,7 @@ use native.Mathlib.Omega.{arith}
 use Rattle.blocks.specs.Walk.{block, kept}
 use Rattle.blocks.specs.Laws.Put.{put-long, Filling, filling-starts, filling-on, filling-ends}
 use Rattle.overlay.specs.Runs.{agree, differ, runsFrom}
+use Rattle.overlay.specs.Laws.RunFacts.{length-le}
 use Rattle.overlay.proofs.RunLaws.{kept-few, turn, turn-moves, runs-end}
 use Rattle.overlay.proofs.list_stretch.Statement.{statement}
 use Rattle.overlay.proofs.list_stretch.Tie as tie
@@ -30,7 +31,12 @@ next-difference-requires : tie.Need-next-difference-requires Inv-loop μ-loop
 next-difference-requires c κs = search needs
 
 next-agreement-requires : tie.Need-next-agreement-requires Inv-loop μ-loop
-next-agreement-requires c κs = search needs
+next-agreement-requires c κs =
+    let h = c .before .before in
+    let s = start h in
+    let a = s .args in
+    let short = length-le (agree (a .overlay .now) (a .released .now)) (h .loop .at) (a .to - h .loop .at) in
+    (omega (arith, c .next-difference .ensures, c .before .loop-test .taken), s .pre .0, s .pre .1)
 
 sub-push : tie.Need-sub-push Inv-loop μ-loop
 sub-push c = omega (arith, c .next-agreement .ensures)

@@ -49,7 +49,7 @@ returns-2 : tie.Need-returns-2 Inv-loop μ-loop
 returns-2 c =
     let h = c .before in
     let a = h .before .args in
-    look-end (differ (a .overlay .now) (a .released .now)) (a .at) (a .to) (h .loop .i) (c .loop-test .left) (h .loop .inv)
+    look-end (differ (a .overlay .now) (a .released .now)) (a .at) (a .to) (h .loop .i) (h .before .pre .0) (c .loop-test .left) (h .loop .inv)
 
 pub next-agreement-spec : {M : Type 1} → statement M
 next-agreement-spec =

@@ -52,7 +52,7 @@ returns-2 : tie.Need-returns-2 Inv-loop μ-loop
 returns-2 c =
     let h = c .before in
     let a = h .before .before .before .before .args in
-    look-end (agree (a .overlay .now) (a .released .now)) (a .at) (a .to) (h .loop .i) (c .loop-test .left) (h .loop .inv)
+    look-end (agree (a .overlay .now) (a .released .now)) (a .at) (a .to) (h .loop .i) (h .before .before .before .before .pre .0) (c .loop-test .left) (h .loop .inv)
 
 pub next-difference-spec : {M : Type 1} → statement M
 next-difference-spec =

@@ -10,10 +10,10 @@ use Rattle.record_read.proofs.fill.Statement.{statement}
 use Rattle.record_read.proofs.fill.Tie as tie
 
 abbrev Inv-loop : tie.InvT-loop
-Inv-loop format text t n load bytes₀ at₀ state₀ k₀ bytes at state k = Filling format text n load bytes₀ at state bytes k
+Inv-loop format text t n load bytes₀ at₀ state₀ counter₀ bytes at state counter = Filling format text n load bytes₀ at state bytes counter
 
 abbrev μ-loop : tie.MeasureT-loop
-μ-loop format text t n load bytes₀ at₀ state₀ k₀ bytes at state k = n - k
+μ-loop format text t n load bytes₀ at₀ state₀ counter₀ bytes at state counter = n - counter
 
 loop-holds : tie.Need-loop-holds Inv-loop μ-loop
 loop-holds c = let a = c .before .before .args in filling-starts (a .format) (a .text .now) (a .n) (a .load) (a .bytes .now)
@@ -24,7 +24,7 @@ known-line-requires c κs =
     let s = l .before .before .before in
     let a = s .args in
     let w = l .loop .inv in
-    (s .pre .0, (w .inside, good-at (a .format) (a .text .now) (a .n) (l .loop .k) (w .place) (w .force) (s .pre .1) (c .loop-test .taken)))
+    (s .pre .0, (w .inside, good-at (a .format) (a .text .now) (a .n) (l .loop .counter) (w .place) (w .force) (s .pre .1) (c .loop-test .taken)))
 
 sub-fill-line : tie.Need-sub-fill-line Inv-loop μ-loop
 sub-fill-line c = c .before .known-line .ensures .start
@@ -43,8 +43,8 @@ fill-line-requires c κs =
     let r = k .known-line .result .line in
     (s .pre .0, subst (λ (l : List ℕ). r .first + 2 * r .count ≤ length l) (sym (e .part)) (e .says .room))
 
-add-k : tie.Need-add-k Inv-loop μ-loop
-add-k c = search needs
+add-counter : tie.Need-add-counter Inv-loop μ-loop
+add-counter c = search needs
 
 loop-less : tie.Need-loop-less Inv-loop μ-loop
 loop-less c = search needs
@@ -83,7 +83,7 @@ fill-spec =
     part-fill-line-start
     part-fill-line-end
     fill-line-requires
-    add-k
+    add-counter
     loop-less
     loop-again
     same-length

@@ -1,7 +1,7 @@
 -- `record_read::find_blocks`: with scratch or without.
 use mathlib.Core.Path.{refl, ap}
 use lib.ListN.{length}
-use Rattle.record_read.proofs.Walks.{put-long}
+use Rattle.blocks.specs.Laws.Put.{put-long}
 use borrow.Author.Needs.{needs}
 use Rattle.record_read.proofs.find_blocks.Statement.{statement}
 use Rattle.record_read.proofs.find_blocks.Tie as tie

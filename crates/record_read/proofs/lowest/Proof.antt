@@ -7,10 +7,10 @@ use Rattle.record_read.proofs.lowest.Statement.{statement}
 use Rattle.record_read.proofs.lowest.Tie as tie
 
 abbrev Inv-loop : tie.InvT-loop
-Inv-loop format text t n load from at₀ state₀ best₀ k₀ at state best k = Looking format text n load from at state best k
+Inv-loop format text t n load from at₀ state₀ best₀ counter₀ at state best counter = Looking format text n load from at state best counter
 
 abbrev μ-loop : tie.MeasureT-loop
-μ-loop format text t n load from at₀ state₀ best₀ k₀ at state best k = n - k
+μ-loop format text t n load from at₀ state₀ best₀ counter₀ at state best counter = n - counter
 
 loop-holds : tie.Need-loop-holds Inv-loop μ-loop
 loop-holds c = let a = c .before .args in looking-starts (a .format) (a .text .now) (a .n) (a .load) (a .from)
@@ -21,7 +21,7 @@ known-line-requires c κs =
     let s = l .before .before in
     let a = s .args in
     let w = l .loop .inv in
-    (s .pre .0, (w .inside, good-at (a .format) (a .text .now) (a .n) (l .loop .k) (w .place) (w .force) (s .pre .1) (c .loop-test .taken)))
+    (s .pre .0, (w .inside, good-at (a .format) (a .text .now) (a .n) (l .loop .counter) (w .place) (w .force) (s .pre .1) (c .loop-test .taken)))
 
 extent-requires : tie.Need-extent-requires Inv-loop μ-loop
 extent-requires c κs = search needs
@@ -29,8 +29,8 @@ extent-requires c κs = search needs
 better-requires : tie.Need-better-requires Inv-loop μ-loop
 better-requires c κs = search needs
 
-add-k : tie.Need-add-k Inv-loop μ-loop
-add-k c = search needs
+add-counter : tie.Need-add-counter Inv-loop μ-loop
+add-counter c = search needs
 
 loop-less : tie.Need-loop-less Inv-loop μ-loop
 loop-less c = search needs
@@ -61,7 +61,7 @@ lowest-spec =
     known-line-requires
     extent-requires
     better-requires
-    add-k
+    add-counter
     loop-less
     loop-again
     returns)

@@ -3,22 +3,21 @@ use mathlib.Core.Path.{sym, subst, _∙_}
 use mathlib.Core.List.{List}
 use lib.ListN.{length}
 use Prim.Native.Nat.{ℕ, _+_, _-_, _*_, _≤_}
-use Rattle.record_read.specs.Runs.{isGiven}
-use Rattle.record_fault.specs.Trail.{trail}
 use Rattle.record_fault.specs.Laws.Steps.{good-at}
 use Rattle.record_read.proofs.Fills.{Filling, filling-starts, filling-on, filling-long, filling-ends}
 use Rattle.record_read.proofs.Loops.{Rising, rising-starts, rising-on, rising-ends}
-use Rattle.record_read.proofs.Walks.{listed-few, listed-long, put-long}
+use Rattle.blocks.specs.Laws.Put.{put-long}
+use Rattle.record_read.proofs.Walks.{listed-room, listed-long}
 use borrow.Author.Needs.{needs}
 use Rattle.record_read.proofs.store_up.Statement.{statement}
 use Rattle.record_read.proofs.store_up.Tie as tie
 
 abbrev Inv-loop : tie.InvT-loop
-Inv-loop format text t n load bytes₀ offsets₀ sizes₀ at₀ state₀ run₀ count₀ k₀ bytes offsets sizes at state run count k =
-    Filling format text n load bytes₀ at state bytes k × Rising format text n load offsets₀ sizes₀ at state run count offsets sizes k
+Inv-loop format text t n load bytes₀ offsets₀ sizes₀ at₀ state₀ run₀ count₀ counter₀ bytes offsets sizes at state run count counter =
+    Filling format text n load bytes₀ at state bytes counter × Rising format text n load offsets₀ sizes₀ at state run count offsets sizes counter
 
 abbrev μ-loop : tie.MeasureT-loop
-μ-loop format text t n load bytes₀ offsets₀ sizes₀ at₀ state₀ run₀ count₀ k₀ bytes offsets sizes at state run count k = n - k
+μ-loop format text t n load bytes₀ offsets₀ sizes₀ at₀ state₀ run₀ count₀ counter₀ bytes offsets sizes at state run count counter = n - counter
 
 abbrev start : tie.At-loop Inv-loop μ-loop → tie.Start Inv-loop μ-loop
 start l = l .before .before .before .before .before
@@ -36,7 +35,7 @@ known-line-requires c κs =
     let a = start l .args in
     let w = l .loop .inv .0 in (
       start l .pre .0 .0,
-      (w .inside, good-at (a .format) (a .text .now) (a .n) (l .loop .k) (w .place) (w .force) (start l .pre .0 .1) (c .loop-test .taken)),
+      (w .inside, good-at (a .format) (a .text .now) (a .n) (l .loop .counter) (w .place) (w .force) (start l .pre .0 .1) (c .loop-test .taken)),
     )
 
 sub-fill-line : tie.Need-sub-fill-line Inv-loop μ-loop
@@ -60,17 +59,13 @@ extent-requires c κs = search needs
 
 close-requires : tie.Need-close-requires Inv-loop μ-loop
 close-requires c κs =
-    let l = c .before .before .before .before .before .before .before .before .before .before .before in
-    let a = start l .args in (
-      listed-few (isGiven (a .load) (trail (a .format) (a .text .now) (l .loop .k) .given)) (a .offsets .now) (a .sizes .now) (l .loop .inv .1 .listed),
-      l .loop .inv .1 .listed .small,
-    )
+    listed-room (c .before .before .before .before .before .before .before .before .before .before .before .loop .inv .1 .listed)
 
 join-requires : tie.Need-join-requires Inv-loop μ-loop
 join-requires c κs = search needs
 
-add-k : tie.Need-add-k Inv-loop μ-loop
-add-k c =
+add-counter : tie.Need-add-counter Inv-loop μ-loop
+add-counter c =
     let t = c .before .before .before .before .before .before .before .before .before .before .before .before .before .before .before in
     let less = t .before .loop-test .taken in
     let wide = start (t .before .before) .fits .n in
@@ -95,12 +90,7 @@ loop-again c =
     )
 
 push-requires : tie.Need-push-requires Inv-loop μ-loop
-push-requires c κs =
-    let l = c .before .before .before in
-    let a = start l .args in (
-      listed-few (isGiven (a .load) (trail (a .format) (a .text .now) (l .loop .k) .given)) (a .offsets .now) (a .sizes .now) (l .loop .inv .1 .listed),
-      l .loop .inv .1 .listed .small,
-    )
+push-requires c κs = listed-room (c .before .before .before .loop .inv .1 .listed)
 
 same-length : tie.Need-same-length Inv-loop μ-loop
 same-length c =
@@ -110,17 +100,13 @@ same-length c =
 
 same-length-2 : tie.Need-same-length-2 Inv-loop μ-loop
 same-length-2 c =
-    let l = c .before .before .before .before .before .before .before .before in
-    let a = start l .args in
-    put-long (c .before .before .before .before .push .ensures) .0
-    ∙ listed-long (isGiven (a .load) (trail (a .format) (a .text .now) (l .loop .k) .given)) (a .offsets .now) (a .sizes .now) (l .loop .inv .1 .listed) .0
+    let p = c .before .before .before .before in
+    put-long (p .push .ensures) .0 ∙ listed-long (p .before .before .before .before .loop .inv .1 .listed) .0
 
 same-length-3 : tie.Need-same-length-3 Inv-loop μ-loop
 same-length-3 c =
-    let l = c .before .before .before .before .before .before .before .before in
-    let a = start l .args in
-    put-long (c .before .before .before .before .push .ensures) .1
-    ∙ listed-long (isGiven (a .load) (trail (a .format) (a .text .now) (l .loop .k) .given)) (a .offsets .now) (a .sizes .now) (l .loop .inv .1 .listed) .1
+    let p = c .before .before .before .before in
+    put-long (p .push .ensures) .1 ∙ listed-long (p .before .before .before .before .loop .inv .1 .listed) .1
 
 returns : tie.Need-returns Inv-loop μ-loop
 returns c =
@@ -147,7 +133,7 @@ store-up-spec =
     extent-requires
     close-requires
     join-requires
-    add-k
+    add-counter
     loop-less
     loop-again
     push-requires

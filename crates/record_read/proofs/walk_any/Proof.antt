@@ -6,7 +6,8 @@ use Rattle.record_read.specs.Runs.{isGiven}
 use Rattle.record_read.specs.Steps.{Listed}
 use Rattle.record_fault.specs.Trail.{trail}
 use Rattle.record_read.proofs.Loops.{finding-on, finding-ends, finding-less}
-use Rattle.record_read.proofs.Walks.{listed-starts, listed-few, listed-long, put-long}
+use Rattle.blocks.specs.Laws.Put.{put-long}
+use Rattle.record_read.proofs.Walks.{listed-starts, listed-room, listed-long}
 use borrow.Author.Needs.{needs}
 use Rattle.record_read.proofs.walk_any.Statement.{statement}
 use Rattle.record_read.proofs.walk_any.Tie as tie
@@ -30,10 +31,7 @@ lowest-requires : tie.Need-lowest-requires Inv-loop μ-loop
 lowest-requires c κs = search needs
 
 close-requires : tie.Need-close-requires Inv-loop μ-loop
-close-requires c κs =
-    let l = c .before .before .before .before in
-    let a = start l .args in
-    (listed-few (isGiven (a .load) (trail (a .format) (a .text .now) (a .n) .given)) (a .offsets .now) (a .sizes .now) (l .loop .inv), l .loop .inv .small)
+close-requires c κs = listed-room (c .before .before .before .before .loop .inv)
 
 join-requires : tie.Need-join-requires Inv-loop μ-loop
 join-requires c κs = search needs
@@ -62,26 +60,17 @@ loop-again c =
     (w .lowest .ensures) (d .close .ensures) (j .join .ensures) (c .behind .ensures)
 
 push-requires : tie.Need-push-requires Inv-loop μ-loop
-push-requires c κs =
-    let l = c .before .before .before in
-    let a = start l .args in
-    (listed-few (isGiven (a .load) (trail (a .format) (a .text .now) (a .n) .given)) (a .offsets .now) (a .sizes .now) (l .loop .inv), l .loop .inv .small)
+push-requires c κs = listed-room (c .before .before .before .loop .inv)
 
 same-length : tie.Need-same-length Inv-loop μ-loop
 same-length c =
     let p = c .before .before .before .before in
-    let l = p .before .before .before .before in
-    let a = start l .args in
-    put-long (p .push .ensures) .0
-    ∙ listed-long (isGiven (a .load) (trail (a .format) (a .text .now) (a .n) .given)) (a .offsets .now) (a .sizes .now) (l .loop .inv) .0
+    put-long (p .push .ensures) .0 ∙ listed-long (p .before .before .before .before .loop .inv) .0
 
 same-length-2 : tie.Need-same-length-2 Inv-loop μ-loop
 same-length-2 c =
     let p = c .before .before .before .before in
-    let l = p .before .before .before .before in
-    let a = start l .args in
-    put-long (p .push .ensures) .1
-    ∙ listed-long (isGiven (a .load) (trail (a .format) (a .text .now) (a .n) .given)) (a .offsets .now) (a .sizes .now) (l .loop .inv) .1
+    put-long (p .push .ensures) .1 ∙ listed-long (p .before .before .before .before .loop .inv) .1
 
 returns : tie.Need-returns Inv-loop μ-loop
 returns c =

@@ -12,7 +12,8 @@ use Rattle.record_read.specs.Runs.{isGiven}
 use Rattle.record_read.specs.Steps.{Listed}
 use Rattle.record_read.proofs.Loops.{finding-ends}
 use Rattle.record_read.proofs.Scratch.{low-inside, window-marked, window-next, window-past, window-cleared}
-use Rattle.record_read.proofs.Walks.{listed-starts, listed-few, listed-long, put-long}
+use Rattle.blocks.specs.Laws.Put.{put-long}
+use Rattle.record_read.proofs.Walks.{listed-starts, listed-room, listed-long}
 use borrow.Author.Needs.{needs}
 use Rattle.record_read.proofs.walk_scratch.Statement.{statement}
 use Rattle.record_read.proofs.walk_scratch.Tie as tie
@@ -91,22 +92,17 @@ loop-again c =
     )
 
 push-requires : tie.Need-push-requires Inv-loop μ-loop
-push-requires c κs =
-    let l = c .before .before .before in
-    let s = start l in
-    (listed-few (test s) (s .args .offsets .now) (s .args .sizes .now) (l .loop .inv .0), l .loop .inv .0 .small)
+push-requires c κs = listed-room (c .before .before .before .loop .inv .0)
 
 same-length : tie.Need-same-length Inv-loop μ-loop
 same-length c =
-    let l = c .before .before .before .before .before .before .before .before in
-    let s = start l in
-    put-long (c .before .before .before .before .push .ensures) .0 ∙ listed-long (test s) (s .args .offsets .now) (s .args .sizes .now) (l .loop .inv .0) .0
+    let p = c .before .before .before .before in
+    put-long (p .push .ensures) .0 ∙ listed-long (p .before .before .before .before .loop .inv .0) .0
 
 same-length-2 : tie.Need-same-length-2 Inv-loop μ-loop
 same-length-2 c =
-    let l = c .before .before .before .before .before .before .before .before in
-    let s = start l in
-    put-long (c .before .before .before .before .push .ensures) .1 ∙ listed-long (test s) (s .args .offsets .now) (s .args .sizes .now) (l .loop .inv .0) .1
+    let p = c .before .before .before .before in
+    put-long (p .push .ensures) .1 ∙ listed-long (p .before .before .before .before .loop .inv .0) .1
 
 same-length-3 : tie.Need-same-length-3 Inv-loop μ-loop
 same-length-3 c = ap length (c .before .before .before .before .before .before .before .before .loop .inv .1)

@@ -7,12 +7,13 @@ use Prim.Native.Nat.{ℕ, _+_, _-_, _≤_, _<_}
 use native.Mathlib.Omega.{arith}
 use borrow.Author.Tests.{leb-true, leb-false}
 use lib.Dec.{leb}
-use lib.ListN.{length, getD, length-map, List·getD-map}
+use lib.ListN.{length, getD}
 use Rattle.refusal.specs.Laws.Bools.{either, clash, both}
 use Rattle.refusal.specs.Told.{gives}
 use Rattle.blocks.specs.declared.Blocks.{Blocks}
-use Rattle.blocks.specs.Outcome.{origins, sizes, toldBy}
+use Rattle.blocks.specs.Outcome.{toldBy}
 use Rattle.blocks.specs.Walk.{block}
+use Rattle.blocks.specs.Laws.Exactly.{column-front, column-rest}
 use Rattle.record_lines.specs.Pieces.{Piece, endOf, GivesAt}
 use Rattle.record_fault.specs.Reading.{sound, isNew, readText}
 use Rattle.record_fault.specs.Sound.{Fine, none, more}

@@ -10,10 +10,11 @@ use lib.Dec.{leb}
 use lib.ListN.{length, getD, length-map}
 use Rattle.refusal.specs.Pick.{pick}
 use Rattle.refusal.specs.declared.Refusal.the-variants.{Malformed, TooShort}
-use Rattle.overlay.specs.List.{over}
+use Rattle.blocks.specs.declared.Block.{Block}
+use Rattle.blocks.specs.Outcome.{origins, sizes, over}
+use Rattle.blocks.specs.Walk.{block}
 use Rattle.overlay.specs.Order.{inOrder}
-use Rattle.overlay.specs.Put.{firsts, counts}
-use Rattle.overlay.specs.Runs.{Run, run, runsOf}
+use Rattle.overlay.specs.Runs.{runsOf}
 use Rattle.overlay.specs.RunFacts.{IsListed}
 use Rattle.overlay.specs.Theorems.RunFacts.{runs-hold-exactly, runs-maximal, runs-ascending}
 use Rattle.overlay.specs.Trial.{Trial, trial}
@@ -99,23 +100,23 @@ module _ (overlay released os ss : List ℕ) where
       different = l .different;
     }
 
-    abbrev none : Run
-    none = run 0 0
+    abbrev none : Block
+    none = block 0 0
 
     -- some runs from a byte on, by their places
-    record Facts (at : ℕ) (l : List Run) : Type 0 where
-      pub from : (i : ℕ) → i < length l → at ≤ getD l i none .first
-      pub some : (i : ℕ) → i < length l → 0 < getD l i none .count
-      pub inside : (i b : ℕ) → i < length l → getD l i none .first ≤ b → b < getD l i none .first + getD l i none .count → Is b
-      pub behind : (i : ℕ) → i < length l → Is (getD l i none .first + getD l i none .count) → ⊥
-      pub apart : (i j : ℕ) → i < j → j < length l → getD l i none .first + getD l i none .count < getD l j none .first
+    record Facts (at : ℕ) (l : List Block) : Type 0 where
+      pub from : (i : ℕ) → i < length l → at ≤ getD l i none .origin
+      pub some : (i : ℕ) → i < length l → 0 < getD l i none .size
+      pub inside : (i b : ℕ) → i < length l → getD l i none .origin ≤ b → b < getD l i none .origin + getD l i none .size → Is b
+      pub behind : (i : ℕ) → i < length l → Is (getD l i none .origin + getD l i none .size) → ⊥
+      pub apart : (i j : ℕ) → i < j → j < length l → getD l i none .origin + getD l i none .size < getD l j none .origin
       pub each : (b : ℕ) → at ≤ b → Is b
-          → (i : ℕ) × (i < length l) × (getD l i none .first ≤ b) × (b < getD l i none .first + getD l i none .count)
+          → (i : ℕ) × (i < length l) × (getD l i none .origin ≤ b) × (b < getD l i none .origin + getD l i none .size)
 
-    runs-of : (at : ℕ) (l : List Run) → Facts at l → IsRuns at (firsts l) (counts l)
+    runs-of : (at : ℕ) (l : List Block) → Facts at l → IsRuns at (origins l) (sizes l)
     runs-of at [] f = says.none (λ b h l. let e = f .each b h l in omega (arith, e .1))
     runs-of at (r ∷ l) f = says.run (f .from 0 (omega arith)) (f .some 0 (omega arith)) before (λ b. f .inside 0 b (omega arith)) (f .behind 0 (omega arith))
-        (runs-of (r .first + r .count) l (record {
+        (runs-of (r .origin + r .size) l (record {
           from = λ i h. let a = f .apart 0 (suc i) (omega arith) (omega arith) in omega arith;
           some = λ i h. f .some (suc i) (omega arith);
           inside = λ i b h. f .inside (suc i) b (omega arith);
@@ -124,20 +125,20 @@ module _ (overlay released os ss : List ℕ) where
           each = λ b h is. later b h (f .each b (let a = f .from 0 (omega arith) in omega arith) is);
         }))
       where
-        before : (b : ℕ) → at ≤ b → b < r .first → Is b → ⊥
+        before : (b : ℕ) → at ≤ b → b < r .origin → Is b → ⊥
         before b h u is = go (f .each b h is)
           where
-            go : (i : ℕ) × (i < length (r ∷ l)) × (getD (r ∷ l) i none .first ≤ b) × (b < getD (r ∷ l) i none .first + getD (r ∷ l) i none .count) → ⊥
+            go : (i : ℕ) × (i < length (r ∷ l)) × (getD (r ∷ l) i none .origin ≤ b) × (b < getD (r ∷ l) i none .origin + getD (r ∷ l) i none .size) → ⊥
             go (zero, h, p, q) = omega arith
             go (suc i, h, p, q) = let a = f .apart 0 (suc i) (omega arith) h in omega arith
 
-        later : (b : ℕ) → r .first + r .count ≤ b
-            → (i : ℕ) × (i < length (r ∷ l)) × (getD (r ∷ l) i none .first ≤ b) × (b < getD (r ∷ l) i none .first + getD (r ∷ l) i none .count)
-            → (i : ℕ) × (i < length l) × (getD l i none .first ≤ b) × (b < getD l i none .first + getD l i none .count)
+        later : (b : ℕ) → r .origin + r .size ≤ b
+            → (i : ℕ) × (i < length (r ∷ l)) × (getD (r ∷ l) i none .origin ≤ b) × (b < getD (r ∷ l) i none .origin + getD (r ∷ l) i none .size)
+            → (i : ℕ) × (i < length l) × (getD l i none .origin ≤ b) × (b < getD l i none .origin + getD l i none .size)
         later b h (zero, k, p, q) = absurd (omega arith)
         later b h (suc i, k, p, q) = (i, omega arith, p, q)
 
-    runs-meets : IsRuns 0 (firsts (runsOf t)) (counts (runsOf t))
+    runs-meets : IsRuns 0 (origins (runsOf t)) (sizes (runsOf t))
     runs-meets = runs-of 0 (runsOf t) (record {
       from = λ i h. omega arith;
       some = λ i h. runs-maximal t i h .some;
@@ -151,13 +152,13 @@ module _ (overlay released os ss : List ℕ) where
     abbrev n : ℕ
     n = length (runsOf t)
 
-    many : (length (firsts (runsOf t)) ≡ n) × (length (counts (runsOf t)) ≡ n)
-    many = (length-map (runsOf t) (λ r. r .first), length-map (runsOf t) (λ r. r .count))
+    many : (length (origins (runsOf t)) ≡ n) × (length (sizes (runsOf t)) ≡ n)
+    many = (length-map (runsOf t) (λ r. r .origin), length-map (runsOf t) (λ r. r .size))
 
     answered : (o a b : Bool) → inOrder 0 os ss ≡ o → leb n (length fs₀) ≡ a → leb n (length cs₀) ≡ b → RunsSay overlay released os ss fs₀ cs₀ (record {
       answer = listedCount (pick o (pick (pick a b false) (Counted n) (Refused (TooShort 2))) (Refused (Malformed 0)));
-      firsts = pick o (pick (pick a b false) (over (firsts (runsOf t)) fs₀) fs₀) fs₀;
-      counts = pick o (pick (pick a b false) (over (counts (runsOf t)) cs₀) cs₀) cs₀;
+      firsts = pick o (pick (pick a b false) (over (origins (runsOf t)) fs₀) fs₀) fs₀;
+      counts = pick o (pick (pick a b false) (over (sizes (runsOf t)) cs₀) cs₀) cs₀;
     })
     answered false a b e f g = refused tt (bad-blocks overlay released os ss e)
     answered true false b e f g = passed (λ _. no-bad-blocks overlay released os ss e) (says.lists (runs-meets e)
@@ -169,12 +170,12 @@ module _ (overlay released os ss : List ℕ) where
         let q = leb-true n (length cs₀) g in
         passed (λ _. no-bad-blocks overlay released os ss e) (says.lists (runs-meets e)
         (passed (λ _ s. ⊎-elim (λ h. omega (arith, many .0)) (λ h. omega (arith, many .1)) s)
-        (subst (λ (k : ℕ). Accepts overlay released os ss fs₀ cs₀ (firsts (runsOf t)) (counts (runsOf t)) (record {
+        (subst (λ (k : ℕ). Accepts overlay released os ss fs₀ cs₀ (origins (runsOf t)) (sizes (runsOf t)) (record {
           answer = record { refusal = 0; place = 0; count = k };
-          firsts = over (firsts (runsOf t)) fs₀;
-          counts = over (counts (runsOf t)) cs₀;
+          firsts = over (origins (runsOf t)) fs₀;
+          counts = over (sizes (runsOf t)) cs₀;
         })) (many .0)
-        (says.accepts (over-begins (firsts (runsOf t)) fs₀ (omega (arith, many .0))) (over-begins (counts (runsOf t)) cs₀ (omega (arith, many .1)))))))
+        (says.accepts (over-begins (origins (runsOf t)) fs₀ (omega (arith, many .0))) (over-begins (sizes (runsOf t)) cs₀ (omega (arith, many .1)))))))
 
     pub runs-meet : (r : DkCount) (fs₁ cs₁ : List ℕ) → RunsTold t fs₀ cs₀ r fs₁ cs₁
         → RunsSay overlay released os ss fs₀ cs₀ (record { answer = r; firsts = fs₁; counts = cs₁ })
