@@ -72,8 +72,7 @@ fn make_table(
         fill: false,
         fill_bit: 0,
     }; 16];
-    let mut i = 0;
-    while i < count {
+    for i in 0..count {
         let bank = make_bank(
             units[i],
             starts[i],
@@ -84,7 +83,6 @@ fn make_table(
             bits[i],
         );
         defs[i] = bank;
-        i += 1;
     }
     defs
 }

@@ -90,11 +90,9 @@ fn read_table(file: &[u8], kind: Kind, count: usize) -> [Bankdef; 16]
     }; 16];
     let first = kind.heads as usize * 4;
     let step = 3 + kind.bank;
-    let mut i = 0;
-    while i < count {
+    for i in 0..count {
         let bank = read_bank(file, kind, first + i * step);
         defs[i] = bank;
-        i += 1;
     }
     defs
 }
@@ -145,12 +143,10 @@ fn read_columns(
     ensures { λ _. ⌜ now (words .exit) ≡ paste (now (words .entry)) from (column (word32 (now (file .entry))) step «word_at» count) count ⌝ }
     ensures { λ _. ⌜ now (bytes .exit) ≡ paste (now (bytes .entry)) from (column (byte (now (file .entry))) step «byte_at» count) count ⌝ }
 {
-    let mut i = 0;
-    while i < count {
+    for i in 0..count {
         let p = i * step;
         words[from + i] = read32(file, word_at + p);
         bytes[from + i] = file[byte_at + p];
-        i += 1;
     }
 }
 
@@ -169,11 +165,9 @@ fn read_rows(
     ensures { λ _. ⌜ now (numbers .exit) ≡ cells (word32 (now (file .entry))) nodes (at + 3) rows ++ drop (rows * nodes) (now (numbers .entry)) ⌝ }
     ensures { λ _. ⌜ now (states .exit) ≡ cells (byte (now (file .entry))) nodes (at + 7) rows ++ drop (rows * nodes) (now (states .entry)) ⌝ }
 {
-    let mut r = 0;
-    while r < rows {
+    for r in 0..rows {
         let p = at + r * (3 + 5 * nodes);
         read_columns(file, p + 3, p + 7, 5, nodes, r * nodes, numbers, states);
-        r += 1;
     }
 }
 
