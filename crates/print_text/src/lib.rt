@@ -57,12 +57,10 @@ pub fn write_word(out: &mut [u8], at: usize, word: &[u8]) -> usize
     requires { ⌜ at + length (now word) ≤ length (now out) ⌝ }
     ensures { λ r. ⌜ Writes (now (word .entry)) (now (out .entry)) at r (now (out .exit)) ⌝ }
 {
-    let mut i = 0;
-    while i < word.len() {
+    for i in 0..word.len() {
         out[at + i] = word[i];
-        i += 1;
     }
-    at + i
+    at + word.len()
 }
 
 // Writes a number that is known to fit, from its last digit to its first.
@@ -90,14 +88,12 @@ fn line_end(size: usize, at: usize, word: usize, numbers: &[u64]) -> Written
         return Written::TooShort;
     };
     let mut end = start;
-    let mut i = 0;
-    while i < numbers.len() {
+    for i in 0..numbers.len() {
         let len = decimal_length(numbers[i]);
         let Written::To(next) = end_of(size, end, len + 1) else {
             return Written::TooShort;
         };
         end = next;
-        i += 1;
     }
     end_of(size, end, 1)
 }
@@ -108,11 +104,9 @@ pub fn write_numbers(out: &mut [u8], at: usize, numbers: &[u64]) -> usize
     ensures { λ r. ⌜ Writes (spaced (now (numbers .entry))) (now (out .entry)) at r (now (out .exit)) ⌝ }
 {
     let mut end = at;
-    let mut i = 0;
-    while i < numbers.len() {
+    for i in 0..numbers.len() {
         out[end] = b' ';
         end = write_number(out, end + 1, numbers[i]);
-        i += 1;
     }
     end
 }
@@ -151,13 +145,11 @@ fn blocks_end(size: usize, at: usize, offsets: &[u64], sizes: &[u64], count: usi
     ensures { λ r. ⌜ r ≡ endOf size at (length (blocksText count (now (offsets .entry)) (now (sizes .entry)))) ⌝ }
 {
     let mut end = at;
-    let mut i = 0;
-    while i < count {
+    for i in 0..count {
         let Written::To(next) = block_end(size, end, offsets[i], sizes[i]) else {
             return Written::TooShort;
         };
         end = next;
-        i += 1;
     }
     end_of(size, end, 0)
 }
@@ -169,10 +161,8 @@ fn write_blocks(out: &mut [u8], at: usize, offsets: &[u64], sizes: &[u64], count
     ensures { λ r. ⌜ Writes (blocksText count (now (offsets .entry)) (now (sizes .entry))) (now (out .entry)) at r (now (out .exit)) ⌝ }
 {
     let mut end = at;
-    let mut i = 0;
-    while i < count {
+    for i in 0..count {
         end = write_block(out, end, offsets[i], sizes[i]);
-        i += 1;
     }
     end
 }

@@ -11,11 +11,11 @@ use Rattle.print_text.proofs.line_end.Statement.{statement}
 use Rattle.print_text.proofs.line_end.Tie as tie
 
 abbrev Inv-loop : tie.InvT-loop
-Inv-loop size at word numbers start end₀ i₀ end i =
+Inv-loop size at word numbers start end₀ i₀ i-end end i =
     (i ≤ length numbers) × (at + (word + length (spaced numbers) + 1) ≡ end + length (spaced (drop i numbers)) + 1) × (end ≤ size)
 
 abbrev μ-loop : tie.MeasureT-loop
-μ-loop size at word numbers start end₀ i₀ end i = length numbers - i
+μ-loop size at word numbers start end₀ i₀ i-end end i = length numbers - i
 
 returns : tie.Need-returns Inv-loop μ-loop
 returns c =

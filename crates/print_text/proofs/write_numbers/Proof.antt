@@ -13,13 +13,13 @@ use Rattle.print_text.proofs.write_numbers.Statement.{statement}
 use Rattle.print_text.proofs.write_numbers.Tie as tie
 
 abbrev Inv-loop : tie.InvT-loop
-Inv-loop out₀ at numbers end₀ i₀ out end i =
+Inv-loop out₀ at numbers end₀ i₀ i-end out end i =
     (i ≤ length numbers)
     × (end + length (spaced (drop i numbers)) ≡ at + length (spaced numbers))
     × Writes (spaced (take i numbers)) out₀ at end out
 
 abbrev μ-loop : tie.MeasureT-loop
-μ-loop out₀ at numbers end₀ i₀ out end i = length numbers - i
+μ-loop out₀ at numbers end₀ i₀ i-end out end i = length numbers - i
 
 loop-holds : tie.Need-loop-holds Inv-loop μ-loop
 unfolding spaced

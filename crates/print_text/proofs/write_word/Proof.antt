@@ -9,10 +9,10 @@ use Rattle.print_text.proofs.write_word.Statement.{statement}
 use Rattle.print_text.proofs.write_word.Tie as tie
 
 abbrev Inv-loop : tie.InvT-loop
-Inv-loop out₀ at word i₀ out i = (i ≤ length word) × (length out ≡ length out₀) × (out ≡ sets out₀ at (take i word))
+Inv-loop out₀ at word i₀ i-end out i = (i ≤ length word) × (length out ≡ length out₀) × (out ≡ sets out₀ at (take i word))
 
 abbrev μ-loop : tie.MeasureT-loop
-μ-loop out₀ at word i₀ out i = length word - i
+μ-loop out₀ at word i₀ i-end out i = length word - i
 
 loop-again : tie.Need-loop-again Inv-loop μ-loop
 loop-again c =
