@@ -19,12 +19,10 @@ fn write_zeros(out: &mut [u8], at: usize, count: usize) -> usize
     requires { ⌜ at + count ≤ length (now out) ⌝ }
     ensures { λ r. ⌜ Writes (zeros count) (now (out .entry)) at r (now (out .exit)) ⌝ }
 {
-    let mut i = 0;
-    while i < count {
+    for i in 0..count {
         out[at + i] = 0;
-        i += 1;
     }
-    at + i
+    at + count
 }
 
 // A field's tag and length.
@@ -79,11 +77,9 @@ fn write_fields(
     ensures { λ r. ⌜ r ≡ at + count * (3 + (before + keep + behind)) ⌝ }
 {
     let mut end = at;
-    let mut i = 0;
-    while i < count {
+    for i in 0..count {
         let p = from + i * step;
         end = write_field(out, end, tag, before, &file[p..p + keep], behind);
-        i += 1;
     }
     end
 }
@@ -123,10 +119,8 @@ fn write_nodes(file: &[u8], from: usize, count: usize, bank: u8, out: &mut [u8],
     ensures { λ r. ⌜ r ≡ at + count * 8 ⌝ }
 {
     let mut end = at;
-    let mut i = 0;
-    while i < count {
+    for i in 0..count {
         end = write_node(file, from + i * 8, bank, out, end);
-        i += 1;
     }
     end
 }
