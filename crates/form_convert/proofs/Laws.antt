@@ -84,9 +84,9 @@ module _ {A : Type 0} (test : A → Bool) (read : ℕ → A) (step from count : 
       let q′ : k ≡ i + 0 = rw (next i h, e) at q in
       omega arith
 
-  pub search-ends : (i : ℕ) {k : ℕ} → count ≤ i → k ≡ i + left i → i ≡ k
+  pub search-ends : (i : ℕ) {k : ℕ} → i ≤ count → count ≤ i → k ≡ i + left i → count ≡ k
   unfolding firstWhere column
-  search-ends i {k} h q =
+  search-ends i {k} g h q =
       let e : count - i ≡ 0 = omega arith in
       let q′ : k ≡ i + 0 = rw e at q in
       omega arith

@@ -50,14 +50,12 @@ fn first_stray(file: &[u8], from: usize, count: u64, bank: u8) -> u64
     requires { ⌜ from + count * 8 ≤ length (now file) + 3 ⌝ }
     ensures { λ r. ⌜ r ≡ firstWhere (strays bank) (column (part (now (file .entry)) 5) 8 from count) ⌝ }
 {
-    let mut i = 0;
-    while i < count {
+    for i in 0..count {
         if is_stray(file, from + i as usize * 8, bank) {
             return i;
         }
-        i += 1;
     }
-    i
+    count
 }
 
 // Whether a result is taken, from its counts, its length and the room for it.
@@ -168,12 +166,10 @@ pub fn to_form2(file: &[u8], out: &mut [u8]) -> Conversion
 fn is_zero(word: &[u8]) -> bool
     ensures { λ r. ⌜ r ≡ allZero (now (word .entry)) ⌝ }
 {
-    let mut i = 0;
-    while i < word.len() {
+    for i in 0..word.len() {
         if word[i] != 0 {
             return false;
         }
-        i += 1;
     }
     true
 }
@@ -183,12 +179,10 @@ fn is_same(one: &[u8], other: &[u8]) -> bool
     requires { ⌜ length (now one) ≡ length (now other) ⌝ }
     ensures { λ r. ⌜ r ≡ same (now (one .entry)) (now (other .entry)) ⌝ }
 {
-    let mut i = 0;
-    while i < one.len() {
+    for i in 0..one.len() {
         if one[i] != other[i] {
             return false;
         }
-        i += 1;
     }
     true
 }
@@ -212,13 +206,11 @@ fn rows_start_zero(file: &[u8], from: usize, step: usize, count: usize) -> bool
     requires { ⌜ from + count * step + 5 ≤ length (now file) + step ⌝ }
     ensures { λ r. ⌜ r ≡ allOf allZero (column (part (now (file .entry)) 5) step from count) ⌝ }
 {
-    let mut i = 0;
-    while i < count {
+    for i in 0..count {
         let p = from + i * step;
         if !is_zero(&file[p..p + 5]) {
             return false;
         }
-        i += 1;
     }
     true
 }
@@ -228,12 +220,10 @@ fn bits_clear(file: &[u8], count: usize) -> bool
     requires { ⌜ 4 + count * 27 ≤ length (now file) ⌝ }
     ensures { λ r. ⌜ r ≡ allOf bitClear (column (part (now (file .entry)) 24) 27 7 count) ⌝ }
 {
-    let mut i = 0;
-    while i < count {
+    for i in 0..count {
         if file[30 + i * 27] != 0 {
             return false;
         }
-        i += 1;
     }
     true
 }

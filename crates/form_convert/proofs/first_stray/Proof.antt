@@ -40,7 +40,8 @@ loop-again c =
 returns-2 : tie.Need-returns-2 Inv-loop μ-loop
 returns-2 c =
     let a = c .before .before .before .args in
-    search-ends (strays (a .bank)) (part (a .file .now) 5) 8 (a .from) (a .count) (c .before .loop .i) (omega arith) (c .before .loop .inv .1)
+    search-ends (strays (a .bank)) (part (a .file .now) 5) 8 (a .from) (a .count) (c .before .loop .i) (c .before .loop .inv .0) (c .loop-test .left)
+    (c .before .loop .inv .1)
 
 pub first-stray-spec : {M : Type 1} → statement M
 first-stray-spec =

@@ -9,10 +9,10 @@ use Rattle.form_convert.proofs.is_same.Statement.{statement}
 use Rattle.form_convert.proofs.is_same.Tie as tie
 
 abbrev Inv-loop : tie.InvT-loop
-Inv-loop one other i₀ i = (i ≤ length one) × (same one other ≡ same (drop i one) (drop i other))
+Inv-loop one other i₀ i-end i = (i ≤ length one) × (same one other ≡ same (drop i one) (drop i other))
 
 abbrev μ-loop : tie.MeasureT-loop
-μ-loop one other i₀ i = length one - i
+μ-loop one other i₀ i-end i = length one - i
 
 returns : tie.Need-returns Inv-loop μ-loop
 returns c =

@@ -9,10 +9,10 @@ use Rattle.form_convert.proofs.is_zero.Statement.{statement}
 use Rattle.form_convert.proofs.is_zero.Tie as tie
 
 abbrev Inv-loop : tie.InvT-loop
-Inv-loop word i₀ i = (i ≤ length word) × (allZero word ≡ allZero (drop i word))
+Inv-loop word i₀ i-end i = (i ≤ length word) × (allZero word ≡ allZero (drop i word))
 
 abbrev μ-loop : tie.MeasureT-loop
-μ-loop word i₀ i = length word - i
+μ-loop word i₀ i-end i = length word - i
 
 returns : tie.Need-returns Inv-loop μ-loop
 returns c = zero-fails (c .before .before .before .before .args .word .now) (c .before .before .before .loop .i) (omega arith) (c .if1 .taken) (c .before
