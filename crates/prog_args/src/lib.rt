@@ -67,8 +67,7 @@ fn spelled(text: &[u8], from: usize, hex: bool) -> Opt
     }
     let base = base_of(hex);
     let mut value: u64 = 0;
-    let mut i = from;
-    while i < text.len() {
+    for i in from..text.len() {
         let digit = digit_value(text[i]);
         if base <= digit {
             return Opt::None;
@@ -77,7 +76,6 @@ fn spelled(text: &[u8], from: usize, hex: bool) -> Opt
         if value > 4_294_967_295 {
             return Opt::None;
         }
-        i += 1;
     }
     Opt::Some(value as u32)
 }

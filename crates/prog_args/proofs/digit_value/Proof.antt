@@ -8,9 +8,6 @@ use Rattle.prog_args.proofs.digit_value.Tie as tie
 returns : tie.Need-returns
 returns c = (below-digits (c .before .args .c) (c .if1 .taken), omega arith)
 
-cast-result : tie.Need-cast-result
-cast-result c = search needs
-
 returns-2 : tie.Need-returns-2
 returns-2 c =
     (decimal-digit (c .before .before .args .c) (omega (arith, c .before .if1 .left)) (c .if2 .taken), omega (arith, c .if2 .taken))
@@ -19,12 +16,6 @@ returns-3 : tie.Need-returns-3
 returns-3 c =
     let start = c .before .before .before in
     (between-digits (start .args .c) (omega (arith, c .before .if2 .left)) (c .if3 .taken), omega arith)
-
-sub-result : tie.Need-sub-result
-sub-result c = search needs
-
-cast-result-2 : tie.Need-cast-result-2
-cast-result-2 c = search needs
 
 returns-4 : tie.Need-returns-4
 returns-4 c =
@@ -35,12 +26,6 @@ returns-5 : tie.Need-returns-5
 returns-5 c =
     let start = c .before .before .before .before .before in
     (behind-upper (start .args .c) (omega (arith, c .before .if4 .left)) (c .if5 .taken), omega arith)
-
-sub-result-2 : tie.Need-sub-result-2
-sub-result-2 c = search needs
-
-cast-result-3 : tie.Need-cast-result-3
-cast-result-3 c = search needs
 
 returns-6 : tie.Need-returns-6
 returns-6 c =
@@ -56,15 +41,5 @@ pub digit-value-spec : {M : Type 1} → statement M
 digit-value-spec =
     tie.close
     (tie.spec
-    returns
-    cast-result
-    returns-2
-    returns-3
-    sub-result
-    cast-result-2
-    returns-4
-    returns-5
-    sub-result-2
-    cast-result-3
-    returns-6
-    returns-7)
+    returns (λ c. search needs) returns-2 returns-3 (λ c. search needs) (λ c. search needs) returns-4 returns-5 (λ c. search needs) (λ c. search needs)
+    returns-6 returns-7)

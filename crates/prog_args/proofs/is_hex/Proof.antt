@@ -5,27 +5,15 @@ use borrow.Author.Needs.{needs}
 use Rattle.prog_args.proofs.is_hex.Statement.{statement}
 use Rattle.prog_args.proofs.is_hex.Tie as tie
 
-returns : tie.Need-returns
-returns c = short-not-hex (c .before .args .text .now) (c .if1 .taken)
-
-shared-slice-read-if2 : tie.Need-shared-slice-read-if2
-shared-slice-read-if2 c = search needs
-
 returns-2 : tie.Need-returns-2
 returns-2 c =
     let start = c .before .before .before in
     no-zero (start .args .text .now) (c .if2 .taken)
 
-shared-slice-read-if3 : tie.Need-shared-slice-read-if3
-shared-slice-read-if3 c = search needs
-
 returns-3 : tie.Need-returns-3
 returns-3 c =
     let start = c .before .before .before .before .before in
     small-x (start .args .text .now) (c .before .before .if2 .left) (c .if3 .taken)
-
-shared-slice-read-result : tie.Need-shared-slice-read-result
-shared-slice-read-result c = search needs
 
 returns-4 : tie.Need-returns-4
 returns-4 c =
@@ -37,10 +25,5 @@ pub is-hex-spec : {M : Type 1} → statement M
 is-hex-spec =
     tie.close
     (tie.spec
-    returns
-    shared-slice-read-if2
-    returns-2
-    shared-slice-read-if3
-    returns-3
-    shared-slice-read-result
+    (λ c. short-not-hex (c .before .args .text .now) (c .if1 .taken)) (λ c. search needs) returns-2 (λ c. search needs) returns-3 (λ c. search needs)
     returns-4)

@@ -7,22 +7,10 @@ use borrow.Author.Needs.{needs}
 use Rattle.prog_args.proofs.longer.Statement.{statement}
 use Rattle.prog_args.proofs.longer.Tie as tie
 
-mul-result : tie.Need-mul-result
-mul-result c = search needs
-
-add-result : tie.Need-add-result
-add-result c = search needs
-
 returns : tie.Need-returns
 returns c =
     let a = c .before .args in
     ap (λ (b : ℕ). b * a .value + a .digit) (sym (pick-true 16 10 (c .if1 .taken)))
-
-mul-result-2 : tie.Need-mul-result-2
-mul-result-2 c = search needs
-
-add-result-2 : tie.Need-add-result-2
-add-result-2 c = search needs
 
 returns-2 : tie.Need-returns-2
 returns-2 c =
@@ -33,9 +21,4 @@ pub longer-spec : {M : Type 1} → statement M
 longer-spec =
     tie.close
     (tie.spec
-    mul-result
-    add-result
-    returns
-    mul-result-2
-    add-result-2
-    returns-2)
+    (λ c. search needs) (λ c. search needs) returns (λ c. search needs) (λ c. search needs) returns-2)

@@ -5,18 +5,9 @@ use borrow.Author.Needs.{needs}
 use Rattle.prog_args.proofs.number.Statement.{statement}
 use Rattle.prog_args.proofs.number.Tie as tie
 
-is-hex-requires : tie.Need-is-hex-requires
-is-hex-requires c κs = search needs
-
-spelled-requires : tie.Need-spelled-requires
-spelled-requires c κs = search needs
-
 returns : tie.Need-returns
 returns c =
     c .spelled .ensures ∙ sym (pick-true _ _ (sym (c .before .before .is-hex .ensures) ∙ c .before .if1 .taken))
-
-spelled-requires-2 : tie.Need-spelled-requires-2
-spelled-requires-2 c κs = search needs
 
 returns-2 : tie.Need-returns-2
 returns-2 c =
@@ -26,8 +17,4 @@ pub number-spec : {M : Type 1} → statement M
 number-spec =
     tie.close
     (tie.spec
-    is-hex-requires
-    spelled-requires
-    returns
-    spelled-requires-2
-    returns-2)
+    (λ c κs. search needs) (λ c κs. search needs) returns (λ c κs. search needs) returns-2)

@@ -49,25 +49,10 @@ short s = omega (arith, refusal-fits (s .args .why) (words (s .κs) (s .args .wh
 fits : (s : tie.Start) → length (refusalText (s .args .why)) ≤ length (s .args .out .now)
 fits s = omega (arith, short s, s .pre)
 
-put-refusal-requires : tie.Need-put-refusal-requires
-put-refusal-requires c κs = search needs
-
-enum-known-end : tie.Need-enum-known-end
-enum-known-end c = search needs
-
-enum-told : tie.Need-enum-told
-enum-told c = search needs
-
-same-length : tie.Need-same-length
-same-length c = search needs
-
 returns : tie.Need-returns
 returns c =
     let d = c .before .before .before .before in
     absurd (never-short (sym (put-ends (d .put-refusal .ensures) (fits (begin d))) ∙ c .enum-told .given .1))
-
-same-length-2 : tie.Need-same-length-2
-same-length-2 c = search needs
 
 returns-2 : tie.Need-returns-2
 returns-2 c =
@@ -79,10 +64,4 @@ pub put-refusal-spec : {M : Type 1} → statement M
 put-refusal-spec =
     tie.close
     (tie.spec
-    put-refusal-requires
-    enum-known-end
-    enum-told
-    same-length
-    returns
-    same-length-2
-    returns-2)
+    (λ c κs. search needs) (λ c. search needs) (λ c. search needs) (λ c. search needs) returns (λ c. search needs) returns-2)

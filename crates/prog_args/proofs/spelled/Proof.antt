@@ -12,31 +12,22 @@ use Rattle.prog_args.proofs.spelled.Statement.{statement}
 use Rattle.prog_args.proofs.spelled.Tie as tie
 
 abbrev Inv-loop : tie.InvT-loop
-Inv-loop text from hex base value₀ i₀ value i =
+Inv-loop text from hex base value₀ i₀ i-end value i =
     (spelledIn (baseOf hex) (drop from text) ≡ numberFrom (baseOf hex) value (drop i text)) × (value ≤ maxPosition)
 
 abbrev μ-loop : tie.MeasureT-loop
-μ-loop text from hex base value₀ i₀ value i = length text - i
+μ-loop text from hex base value₀ i₀ i-end value i = length text - i
 
 returns : tie.Need-returns Inv-loop μ-loop
 returns c =
     let a = c .before .before .args in
     no-text (baseOf (a .hex)) (a .text .now) (a .from) (c .if1 .taken)
 
-base-of-requires : tie.Need-base-of-requires Inv-loop μ-loop
-base-of-requires c κs = search needs
-
 loop-holds : tie.Need-loop-holds Inv-loop μ-loop
 loop-holds c =
     let start = c .before .before .before in
     let a = start .args in
     (some-text (baseOf (a .hex)) (a .text .now) (a .from) (omega (arith, c .before .if1 .left)), omega arith)
-
-shared-slice-read-digit-value : tie.Need-shared-slice-read-digit-value Inv-loop μ-loop
-shared-slice-read-digit-value c = search needs
-
-digit-value-requires : tie.Need-digit-value-requires Inv-loop μ-loop
-digit-value-requires c κs = search needs
 
 returns-2 : tie.Need-returns-2 Inv-loop μ-loop
 returns-2 c =
@@ -70,12 +61,6 @@ returns-3 c =
     ∙ ap (λ (k : ℕ). numberFrom (baseOf (a .hex)) k (drop (l .i + 1) (a .text .now))) (sym e)
     ∙ past-stays-past (a .hex) (c .before .longer .result) (drop (l .i + 1) (a .text .now)) (c .if3 .taken))
 
-add-i : tie.Need-add-i Inv-loop μ-loop
-add-i c = search needs
-
-loop-less : tie.Need-loop-less Inv-loop μ-loop
-loop-less c = search needs
-
 loop-again : tie.Need-loop-again Inv-loop μ-loop
 loop-again c =
     let at-digit-value = c .before .before .before in
@@ -93,9 +78,6 @@ loop-again c =
       omega (arith, c .if3 .left),
     )
 
-cast-t14 : tie.Need-cast-t14 Inv-loop μ-loop
-cast-t14 c = omega (arith, c .before .loop .inv .1)
-
 returns-4 : tie.Need-returns-4 Inv-loop μ-loop
 returns-4 c =
     let start = c .before .before .before .before .before in
@@ -107,18 +89,5 @@ pub spelled-spec : {M : Type 1} → statement M
 spelled-spec =
     tie.close
     (tie.spec
-    Inv-loop
-    μ-loop
-    returns
-    base-of-requires
-    loop-holds
-    shared-slice-read-digit-value
-    digit-value-requires
-    returns-2
-    longer-requires
-    returns-3
-    add-i
-    loop-less
-    loop-again
-    cast-t14
-    returns-4)
+    Inv-loop μ-loop returns (λ c κs. search needs) loop-holds (λ c. search needs) (λ c κs. search needs) returns-2 longer-requires returns-3
+    (λ c. search needs) (λ c. search needs) loop-again (λ c. omega (arith, c .before .loop .inv .1)) returns-4)
