@@ -2,15 +2,13 @@
 use mathlib.Core.Path.{_≡_, refl, sym, ap, _∙_}
 use mathlib.Core.Bool.{Bool, true, false, _&&_}
 use mathlib.Core.List.{List}
-use Prim.Native.Nat.{ℕ, _+_, _*_, _%_, _≤_}
+use Prim.Native.Nat.{ℕ, _+_, _*_, _%_}
 use native.Mathlib.Omega.{arith}
 use borrow.Author.Tests.{eq-eqb, ne-eqb}
 use lib.Dec.{eqb}
 use lib.ListN.{length, drop, getD}
-use Rattle.bitvec.specs.Laws.Lists.{length-listOf}
-use Rattle.record_lines.specs.declared.Line.{Line}
 use Rattle.record_lines.specs.Digits.{allDigits, bytesAt}
-use Rattle.record_lines.specs.Items.{Item, gives, passes, ends, bad, plainLine, Says}
+use Rattle.record_lines.specs.Items.{gives, passes, ends, bad}
 use Rattle.refusal.specs.Pick.{pick}
 use Rattle.record_lines.specs.Spelling.{checkedSum}
 use Rattle.record_lines.specs.Sums.{sumOf}
@@ -108,24 +106,3 @@ module _ (line : List ℕ) where
             ne-eqb (typeOf line) 1 (λ e. y (et ∙ e)),
             ne-eqb (typeOf line) 4 (λ e. x (et ∙ e)),
           )
-
--- The line that is handed on.
-module _ (line : List ℕ) (state : ℕ) {r : Line} {item : Item} where
-  pub says-bad : r ≡ plainLine 0 state → item ≡ bad → Says line state 9 r item
-  says-bad e i = rw (e, i) (record { answer = refl; says = refl; room = omega arith })
-
-  pub says-end : r ≡ plainLine 3 state → item ≡ ends → Says line state 9 r item
-  says-end e i = rw (e, i) (record { answer = refl; says = refl; room = omega arith })
-
-  pub says-pass : (s t : ℕ) → s ≡ t → r ≡ plainLine 2 s → item ≡ passes t → Says line state 9 r item
-  says-pass s t h e i = rw (e, i, h) (record { answer = refl; says = refl; room = omega arith })
-
-pub says-data : (line : List ℕ) (state address count : ℕ) {item : Item} → item ≡ gives address (bytesAt line 9 count) state → 9 + 2 * count ≤ length line
-    → Says line state 9 (record { kind = 1; address = address; first = 9; count = count; state = state }) item
-says-data line state address count i h =
-    rw i
-    (record {
-      answer = ap (λ (n : ℕ). record { kind = 1; address = address; first = 9; count = n; state = state }) (sym (length-listOf count _));
-      says = refl;
-      room = h;
-    })

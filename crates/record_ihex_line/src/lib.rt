@@ -1,9 +1,10 @@
 // Intel HEX, one line at a time: what a line says. Document 02, Ticket 1.
 use record_lines::Line;
+use record_lines::plain;
 ghost use mathlib.Core.Path.{_≡_};
 ghost use mathlib.Core.Bool.{Bool, true};
 ghost use Prim.Native.Nat.{_<_};
-ghost use Rattle.record_lines.specs.Items.{plainLine, Says};
+ghost use Rattle.record_lines.specs.Items.{Says};
 ghost use Rattle.record_lines.specs.Spelling.{Spells};
 ghost use Rattle.record_ihex_line.specs.Format.{wordAt, goodLine, hexItem};
 
@@ -18,19 +19,6 @@ fn wide(x: u8) -> u16
     ensures { λ r. ⌜ (r ≡ x) × (r < 256) ⌝ }
 {
     x as u16
-}
-
-// A line with no bytes, of a kind.
-fn plain(kind: u8, state: u16) -> Line
-    ensures { λ r. ⌜ r ≡ plainLine kind state ⌝ }
-{
-    Line {
-        kind,
-        address: 0,
-        first: 0,
-        count: 0,
-        state,
-    }
 }
 
 // Two bytes of a line, the higher first.

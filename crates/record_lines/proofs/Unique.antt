@@ -10,6 +10,8 @@ use Rattle.refusal.specs.Laws.Pick.{determined}
 use Rattle.record_lines.specs.declared.Cut.{Cut}
 use Rattle.record_lines.proofs.least.Kinds as least-kinds
 use Rattle.record_lines.proofs.least.Reads as least-reads
+use Rattle.record_lines.proofs.plain.Kinds as plain-kinds
+use Rattle.record_lines.proofs.plain.Reads as plain-reads
 use Rattle.record_lines.proofs.char_at.Kinds as char-at-kinds
 use Rattle.record_lines.proofs.char_at.Reads as char-at-reads
 use Rattle.record_lines.proofs.digit_table.Kinds as digit-table-kinds
@@ -30,6 +32,9 @@ use Rattle.record_lines.proofs.end_at.Kinds as end-at-kinds
 use Rattle.record_lines.proofs.end_at.Reads as end-at-reads
 use Rattle.record_lines.proofs.line_from.Kinds as line-from-kinds
 use Rattle.record_lines.proofs.line_from.Reads as line-from-reads
+
+pub plain-unique : OneOutcome 0 plain-kinds.ps plain-kinds.r plain-reads.Learnt
+plain-unique κs a x y e f p q = determined p q
 
 pub char-at-unique : OneOutcome 1 char-at-kinds.ps char-at-kinds.r char-at-reads.Learnt
 char-at-unique κs a x y e f p q = determined p q

@@ -5,6 +5,7 @@ ghost use lib.ListN.{length, drop, getD};
 ghost use Rattle.record_lines.specs.Digits.{valueOf, allDigits, pairAt, bytesAt};
 ghost use Rattle.record_lines.specs.Sums.{sumOf};
 ghost use mathlib.Core.Bool.{_&&_};
+ghost use Rattle.record_lines.specs.Items.{plainLine};
 ghost use Rattle.record_lines.specs.Lines.{isCr, lfNext};
 ghost use Rattle.record_lines.specs.Cuts.{CutIs, endWidth};
 ghost use Rattle.record_lines.specs.Spelling.{Spells, checkedSum};
@@ -32,6 +33,19 @@ pub struct Line {
 pub struct Cut {
     pub stop: usize,
     pub next: usize,
+}
+
+// A line with no bytes, of a kind.
+pub fn plain(kind: u8, state: u16) -> Line
+    ensures { λ r. ⌜ r ≡ plainLine kind state ⌝ }
+{
+    Line {
+        kind,
+        address: 0,
+        first: 0,
+        count: 0,
+        state,
+    }
 }
 
 // What a character stands for, in either case; 16 is no digit.
@@ -75,10 +89,8 @@ pub fn digit_table() -> [u8; 256]
     ensures { λ r. ⌜ Spells r ⌝ }
 {
     let mut t = [16u8; 256];
-    let mut i = 0usize;
-    while i < 256 {
+    for i in 0..256usize {
         t[i] = value(i as u8);
-        i += 1;
     }
     t
 }
@@ -117,12 +129,10 @@ pub fn byte_at(line: &[u8], i: u32) -> u8
 pub fn all_digits(line: &[u8], from: usize) -> bool
     ensures { λ r. ⌜ r ≡ allDigits (drop from (now (line .entry))) ⌝ }
 {
-    let mut i = from;
-    while i < line.len() {
+    for i in from..line.len() {
         if value(line[i]) == 16 {
             return false;
         }
-        i += 1;
     }
     true
 }
@@ -134,10 +144,8 @@ pub fn sum_pairs(line: &[u8], from: u16, n: u16) -> u8
     let start = from as u32;
     let count = n as u32;
     let mut sum = 0u8;
-    let mut j = 0u32;
-    while j < count {
+    for j in 0..count {
         sum = std::num::wrapping_add_u8(sum, byte_at(line, start + 2 * j));
-        j += 1;
     }
     sum
 }

@@ -9,27 +9,15 @@ use lib.Dec.{ltb, leb, eqb}
 use lib.ListN.{length, getD, drop}
 use borrow.Author.Tests.{lt-ltb, le-ltb, le-leb, lt-leb, eq-eqb, ne-eqb}
 use Rattle.bitvec.specs.Lists.{listOf}
-use Rattle.bitvec.specs.Laws.Lists.{length-listOf}
 use Rattle.record_lines.specs.Digits.{allDigits, pairAt, bytesAt}
 use Rattle.refusal.specs.Pick.{pick}
-use Rattle.record_lines.specs.Items.{Item, gives, passes, ends, bad, itemOf, plainLine, Says}
+use Rattle.record_lines.specs.Items.{gives, passes, ends, bad, Says}
+use Rattle.record_lines.specs.Laws.Items.{as-gives}
 use Rattle.record_lines.specs.Spelling.{checkedSum}
 use Rattle.record_lines.specs.Sums.{sumOf}
 use Rattle.record_lines.specs.declared.Line.{Line}
 use Rattle.record_srec_line.specs.Srec.{isS, isSound, agrees, numberFrom, countOf, addressOf, dataOf, fits, dataLine, endLine}
 use Rattle.record_srec_line.specs.Srec.{headerLine, typed}
-
--- ---- what a line's fields say
-
-module _ {l : List ℕ} {r : Line} {first state : ℕ} {i : Item} where
-  pub as-bad : i ≡ bad → r ≡ plainLine 0 state → Says l state first r i
-  as-bad e p = rw e (record { answer = p; says = ap (itemOf l) p; room = rw p (omega arith) })
-
-  pub as-passes : {after : ℕ} → i ≡ passes after → r ≡ plainLine 2 after → Says l state first r i
-  as-passes e p = rw e (record { answer = p; says = ap (itemOf l) p; room = rw p (omega arith) })
-
-  pub as-ends : i ≡ ends → r ≡ plainLine 3 state → Says l state first r i
-  as-ends e p = rw e (record { answer = p; says = ap (itemOf l) p; room = rw p (omega arith) })
 
 -- A line without bytes has no place for them.
 module _ (w state : ℕ) (l : List ℕ) {r : Line} (f g : ℕ) where
@@ -119,14 +107,7 @@ pub data-as : (w state : ℕ) (l : List ℕ) (a n : ℕ) → a ≡ addressOf w l
     → w < n → length l ≡ 4 + 2 * countOf l
     → Says l state (4 + 2 * w) (record { kind = 1; address = a; first = 4 + 2 * w; count = n - w - 1; state = w }) (dataLine w state l)
 data-as w state l a n p q e h k =
-    rw (e, p, q)
-    (record {
-      answer =
-          ap (λ (m : ℕ). record { kind = 1; address = addressOf w l; first = 4 + 2 * w; count = m; state = w })
-          (sym (length-listOf (countOf l - w - 1) (λ j. pairAt l (4 + 2 * w + 2 * j))));
-      says = refl;
-      room = omega (arith, q);
-    })
+    rw (p, q) (as-gives l state (4 + 2 * w) (addressOf w l) (countOf l - w - 1) w e (omega (arith, q)))
 
 pub header-short : (state : ℕ) (l : List ℕ) → countOf l < 3 → headerLine state l ≡ bad
 unfolding headerLine

@@ -1,12 +1,13 @@
 // One S-record, a line of text: what it says. No file is walked here.
 use record_lines::Line;
+use record_lines::plain;
 ghost use mathlib.Core.Path.{_≡_};
 ghost use mathlib.Core.Bool.{true};
 ghost use mathlib.Core.Logic.{_⊎_};
 ghost use Prim.Native.Nat.{_+_, _*_, _^_, _≤_, _<_};
 ghost use lib.ListN.{length};
 ghost use Rattle.record_lines.specs.Digits.{pairAt};
-ghost use Rattle.record_lines.specs.Items.{plainLine, Says};
+ghost use Rattle.record_lines.specs.Items.{Says};
 ghost use Rattle.record_lines.specs.Spelling.{Spells};
 ghost use Rattle.record_srec_line.specs.Srec.{isS, isSound, agrees, countOf, addressOf, dataLine, endLine, headerLine, typed};
 ghost use Rattle.record_srec_line.specs.Srec.{srecItem, firstFor, firstOf};
@@ -78,19 +79,6 @@ fn limit(width: u16) -> u64
         return 65_536;
     }
     4_294_967_296
-}
-
-// A line that says nothing but what kind it is.
-fn plain(kind: u8, state: u16) -> Line
-    ensures { λ r. ⌜ r ≡ plainLine kind state ⌝ }
-{
-    Line {
-        kind,
-        address: 0,
-        first: 0,
-        count: 0,
-        state,
-    }
 }
 
 // S1 and S3.

@@ -1,8 +1,10 @@
 -- `record_ihex_line::known_line`: a law for each return.
+use mathlib.Core.Path.{sym, ap, _∙_}
 use native.Mathlib.Omega.{arith}
 use Rattle.record_ihex_line.proofs.LineLaws.{data-line, field-bad, end-line, end-bad, upper-line, upper-bad, other-bad}
 use Rattle.record_ihex_line.specs.Laws.Lines.{good-long}
-use Rattle.record_ihex_line.proofs.LineLaws.{says-bad, says-end, says-pass, says-data}
+use Rattle.record_lines.specs.Items.{passes}
+use Rattle.record_lines.specs.Laws.Items.{as-bad, as-passes, as-ends, as-gives}
 use borrow.Author.Needs.{needs}
 use Rattle.record_ihex_line.proofs.known_line.Statement.{statement}
 use Rattle.record_ihex_line.proofs.known_line.Tie as tie
@@ -35,7 +37,7 @@ returns c =
     let s = start p in
     let line = s .args .line .now in
     let long = good-long line (s .pre .1) in
-    says-data line (s .args .state) _ (p .before .before .pair .result)
+    as-gives line (s .args .state) 9 _ (p .before .before .pair .result) (s .args .state)
     (data-line line (s .args .state) (s .pre .1) (p .pair2 .result) (p .before .word .result) (p .before .before .pair .result) (p .pair2 .ensures)
     (p .before .word .ensures) (p .before .before .pair .ensures) (c .if1 .taken))
     (omega (arith, p .before .before .pair .ensures))
@@ -49,9 +51,9 @@ returns-2 c =
     let p = i .before in
     let s = start p in
     let line = s .args .line .now in
-    says-bad line (s .args .state) (c .plain .ensures)
-    (field-bad line (s .args .state) (s .pre .1) (p .pair2 .result) (p .before .word .result) (p .before .before .pair .result) (p .pair2 .ensures)
+    as-bad (field-bad line (s .args .state) (s .pre .1) (p .pair2 .result) (p .before .word .result) (p .before .before .pair .result) (p .pair2 .ensures)
     (p .before .word .ensures) (p .before .before .pair .ensures) (i .if1 .left) (c .before .if2 .taken))
+    (c .plain .ensures)
 
 plain-requires-2 : tie.Need-plain-requires-2
 plain-requires-2 c κs = search needs
@@ -62,9 +64,9 @@ returns-3 c =
     let p = j .before .before in
     let s = start p in
     let line = s .args .line .now in
-    says-end line (s .args .state) (c .plain2 .ensures)
-    (end-line line (s .args .state) (s .pre .1) (p .pair2 .result) (p .before .word .result) (p .before .before .pair .result) (p .pair2 .ensures)
+    as-ends (end-line line (s .args .state) (s .pre .1) (p .pair2 .result) (p .before .word .result) (p .before .before .pair .result) (p .pair2 .ensures)
     (p .before .word .ensures) (p .before .before .pair .ensures) (c .before .before .if3 .taken) (j .if2 .left) (c .before .if4 .taken))
+    (c .plain2 .ensures)
 
 plain-requires-3 : tie.Need-plain-requires-3
 plain-requires-3 c κs = search needs
@@ -75,9 +77,9 @@ returns-4 c =
     let p = j .before .before in
     let s = start p in
     let line = s .args .line .now in
-    says-bad line (s .args .state) (c .plain3 .ensures)
-    (end-bad line (s .args .state) (s .pre .1) (p .pair2 .result) (p .before .word .result) (p .before .before .pair .result) (p .pair2 .ensures)
+    as-bad (end-bad line (s .args .state) (s .pre .1) (p .pair2 .result) (p .before .word .result) (p .before .before .pair .result) (p .pair2 .ensures)
     (p .before .word .ensures) (p .before .before .pair .ensures) (c .before .before .if3 .taken) (j .if2 .left) (c .before .if4 .left))
+    (c .plain3 .ensures)
 
 word-requires-2 : tie.Need-word-requires-2
 word-requires-2 c κs = search needs
@@ -92,9 +94,10 @@ returns-5 c =
     let p = j .before .before in
     let s = start p in
     let line = s .args .line .now in
-    says-pass line (s .args .state) (w .word2 .result) _ (w .word2 .ensures) (c .plain4 .ensures)
-    (upper-line line (s .args .state) (s .pre .1) (p .pair2 .result) (p .before .word .result) (p .before .before .pair .result) (p .pair2 .ensures)
-    (p .before .word .ensures) (p .before .before .pair .ensures) (w .before .before .if5 .taken) (j .if2 .left) (w .before .if6 .taken))
+    as-passes (upper-line line (s .args .state) (s .pre .1) (p .pair2 .result) (p .before .word .result) (p .before .before .pair .result) (p .pair2 .ensures)
+    (p .before .word .ensures) (p .before .before .pair .ensures) (w .before .before .if5 .taken) (j .if2 .left) (w .before .if6 .taken)
+    ∙ sym (ap passes (w .word2 .ensures)))
+    (c .plain4 .ensures)
 
 plain-requires-5 : tie.Need-plain-requires-5
 plain-requires-5 c κs = search needs
@@ -105,9 +108,9 @@ returns-6 c =
     let p = j .before .before in
     let s = start p in
     let line = s .args .line .now in
-    says-bad line (s .args .state) (c .plain5 .ensures)
-    (upper-bad line (s .args .state) (s .pre .1) (p .pair2 .result) (p .before .word .result) (p .before .before .pair .result) (p .pair2 .ensures)
+    as-bad (upper-bad line (s .args .state) (s .pre .1) (p .pair2 .result) (p .before .word .result) (p .before .before .pair .result) (p .pair2 .ensures)
     (p .before .word .ensures) (p .before .before .pair .ensures) (c .before .before .if5 .taken) (j .if2 .left) (c .before .if6 .left))
+    (c .plain5 .ensures)
 
 plain-requires-6 : tie.Need-plain-requires-6
 plain-requires-6 c κs = search needs
@@ -119,9 +122,9 @@ returns-7 c =
     let p = i .before in
     let s = start p in
     let line = s .args .line .now in
-    says-bad line (s .args .state) (c .plain6 .ensures)
-    (other-bad line (s .args .state) (s .pre .1) (p .pair2 .result) (p .before .word .result) (p .before .before .pair .result) (p .pair2 .ensures)
+    as-bad (other-bad line (s .args .state) (s .pre .1) (p .pair2 .result) (p .before .word .result) (p .before .before .pair .result) (p .pair2 .ensures)
     (p .before .word .ensures) (p .before .before .pair .ensures) (i .if1 .left) (c .before .before .if3 .left) (c .before .if5 .left) (j .if2 .left))
+    (c .plain6 .ensures)
 
 pub known-line-spec : {M : Type 1} → statement M
 known-line-spec =

@@ -2,7 +2,7 @@
 use mathlib.Core.Path.{sym, _∙_}
 use borrow.Author.Tests.{not-true, not-false}
 use Rattle.record_ihex_line.specs.Laws.Lines.{bad-line}
-use Rattle.record_ihex_line.proofs.LineLaws.{says-bad}
+use Rattle.record_lines.specs.Laws.Items.{as-bad}
 use borrow.Author.Needs.{needs}
 use Rattle.record_ihex_line.proofs.line_of.Statement.{statement}
 use Rattle.record_ihex_line.proofs.line_of.Tie as tie
@@ -17,7 +17,7 @@ returns : tie.Need-returns
 returns c =
     let g = c .before .before in
     let a = g .before .before .args in
-    says-bad (a .line .now) (a .state) (c .plain .ensures) (bad-line (a .line .now) (a .state) (sym (g .is-good .ensures) ∙ not-true _ (c .before .if1 .taken)))
+    as-bad (bad-line (a .line .now) (a .state) (sym (g .is-good .ensures) ∙ not-true _ (c .before .if1 .taken))) (c .plain .ensures)
 
 known-line-requires : tie.Need-known-line-requires
 known-line-requires c κs = let g = c .before in (g .before .before .pre, sym (g .is-good .ensures) ∙ not-false _ (c .if1 .left))

@@ -10,10 +10,10 @@ use Rattle.record_lines.proofs.all_digits.Statement.{statement}
 use Rattle.record_lines.proofs.all_digits.Tie as tie
 
 abbrev Inv-loop : tie.InvT-loop
-Inv-loop line from i₀ i = allDigits (drop from line) ≡ allDigits (drop i line)
+Inv-loop line from i₀ i-end i = allDigits (drop from line) ≡ allDigits (drop i line)
 
 abbrev μ-loop : tie.MeasureT-loop
-μ-loop line from i₀ i = length line - i
+μ-loop line from i₀ i-end i = length line - i
 
 loop-holds : tie.Need-loop-holds Inv-loop μ-loop
 loop-holds c = refl

@@ -2,7 +2,8 @@
 use mathlib.Core.Path.{_≡_, refl, sym, ap, _∙_}
 use native.Mathlib.Omega.{arith}
 use borrow.Author.Tests.{not-true, not-false}
-use Rattle.record_srec_line.proofs.Laws.{as-bad, data-other, data-short, data-past, data-gives, data-as}
+use Rattle.record_lines.specs.Laws.Items.{as-bad}
+use Rattle.record_srec_line.proofs.Laws.{data-other, data-short, data-past, data-gives, data-as}
 use borrow.Author.Needs.{needs}
 use Rattle.record_srec_line.proofs.data_line.Statement.{statement}
 use Rattle.record_srec_line.proofs.data_line.Tie as tie

@@ -2,7 +2,8 @@
 use mathlib.Core.Path.{_≡_, refl, sym, ap, _∙_}
 use native.Mathlib.Omega.{arith}
 use borrow.Author.Tests.{not-true, not-false}
-use Rattle.record_srec_line.proofs.Laws.{as-bad, as-ends, end-other, end-count, end-ends}
+use Rattle.record_lines.specs.Laws.Items.{as-bad, as-ends}
+use Rattle.record_srec_line.proofs.Laws.{end-other, end-count, end-ends}
 use borrow.Author.Needs.{needs}
 use Rattle.record_srec_line.proofs.end_line.Statement.{statement}
 use Rattle.record_srec_line.proofs.end_line.Tie as tie

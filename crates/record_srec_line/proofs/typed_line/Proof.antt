@@ -1,7 +1,8 @@
 -- `record_srec_line::typed_line`: the types by their digits.
 use mathlib.Core.Path.{_≡_, refl, sym, ap, _∙_}
 use mathlib.Core.Logic.{inl, inr}
-use Rattle.record_srec_line.proofs.Laws.{as-bad, end-anywhere, header-anywhere, typed-header, typed-s1, typed-s3, typed-s7, typed-s9}
+use Rattle.record_lines.specs.Laws.Items.{as-bad}
+use Rattle.record_srec_line.proofs.Laws.{end-anywhere, header-anywhere, typed-header, typed-s1, typed-s3, typed-s7, typed-s9}
 use Rattle.record_srec_line.specs.Laws.Lines.{typed-bad}
 use borrow.Author.Needs.{needs}
 use Rattle.record_srec_line.proofs.typed_line.Statement.{statement}
