@@ -1,6 +1,6 @@
 -- Laws of lines, trails and reading, on plain values.
 use mathlib.Core.Path.{_≡_, refl, sym, ap, ap₂, subst, _∙_}
-use mathlib.Core.Bool.{Bool, true, false, _&&_, _||_}
+use mathlib.Core.Bool.{Bool, true, false, _&&_, _||_, and-false, and-assoc}
 use mathlib.Core.List.{List, [], _∷_, _++_, append-nil}
 use Prim.Native.Nat.{ℕ, zero, suc, _+_, _-_, _*_, _<_, _≤_, max, min}
 use native.Mathlib.Nat.{add-zero}
@@ -9,14 +9,12 @@ use native.Mathlib.Omega.{arith}
 use native.Mathlib.Decide.{decLt, ℕ-discrete}
 use lib.Dec.{ltb, leb, eqb}
 use lib.ListN.{length, take, drop, length-take, length-drop, drop-of-length-le}
-use lib.Seq.{drop-drop}
 use borrow.Author.Tests.{lt-ltb, le-ltb, le-leb, lt-leb, leb-true, leb-false, eq-eqb, ne-eqb}
 use mathlib.Core.Logic.{_⊎_, inl, inr}
 use Rattle.refusal.specs.Laws.Bools.{both, neither, clash}
 use Rattle.refusal.specs.Pick.{pick}
 use Rattle.record_lines.specs.Items.{Item, gives, passes, ends, bad, Format, asLine, itemOf, Says}
 use Rattle.record_lines.specs.Lines.{isLf, isCr, lfNext, linesOf, firstLine, taken}
-use Rattle.record_lines.specs.Theorems.Lines.{lines-first}
 use Rattle.record_lines.specs.Laws.Lines.{first-is-front}
 use Rattle.record_lines.specs.Pieces.{Piece, piece, endOf}
 use Rattle.record_lines.specs.declared.Line.{Line}
@@ -44,10 +42,6 @@ pick-le false x y n p q = q
 pick-more : (e : Bool) (x y n : ℕ) → n < x → n < y → n < pick e x y
 pick-more true x y n p q = p
 pick-more false x y n p q = q
-
-pub and-false : (b : Bool) → b && false ≡ false
-and-false true = refl
-and-false false = refl
 
 pub taken-le : (t : List ℕ) → taken t ≤ length t
 unfolding taken
@@ -99,22 +93,6 @@ module _ (text : List ℕ) (at : ℕ) where
             ap₂ (λ (m n : ℕ). take (m - n) (drop n text)) same-end same-start ∙ line-part stop e
       ]
 
-lines-some : (t : List ℕ) → 0 < length t → linesOf t ≡ firstLine t ∷ linesOf (drop (taken t) t)
-lines-some [] h = absurd (omega arith)
-lines-some (c ∷ t) h = lines-first c t
-
-pub lines-at : (text : List ℕ) (at : ℕ) → at < length text → linesOf (drop at text) ≡ lineAt text at ∷ linesOf (drop (nextOf text at) text)
-lines-at text at h =
-    lines-some (drop at text) (omega (arith, length-drop at text)) ∙ ap (λ (l : List ℕ). lineAt text at ∷ linesOf l) (drop-drop (taken (drop at text)) at text)
-
-lines-none : (t : List ℕ) → length t ≡ 0 → linesOf t ≡ []
-unfolding linesOf
-lines-none [] h = refl
-lines-none (c ∷ t) h = absurd (omega arith)
-
-pub lines-past : (text : List ℕ) (at : ℕ) → length text ≤ at → linesOf (drop at text) ≡ []
-lines-past text at h = lines-none (drop at text) (omega (arith, length-drop at text))
-
 -- ---- the formats
 
 module _ (format : ℕ) {l : List ℕ} {s : ℕ} {r : Line} where
@@ -125,26 +103,6 @@ module _ (format : ℕ) {l : List ℕ} {s : ℕ} {r : Line} where
   in-srec e p = rw (ne-eqb format 0 e) p
 
 -- ---- a line that was read
-
-pub and-true : (b : Bool) → b && true ≡ b
-and-true true = refl
-and-true false = refl
-
-leaves-new′ : (s f first end : ℕ) (i : Item) → leavesOf (asLine s f i) first end ≡ isNew (newPieces i) first end
-unfolding isNew
-leaves-new′ s f first end (gives a [] t) = refl
-leaves-new′ s f first end (gives a (b ∷ l) t) =
-    rw (ne-eqb (suc (length l)) 0 (λ e. omega arith)) (sym (and-true (leb (a + suc (length l)) first || leb end a)))
-leaves-new′ s f first end (passes t) = refl
-leaves-new′ s f first end ends = refl
-leaves-new′ s f first end bad = refl
-
-pub leaves-new : {l : List ℕ} {s f : ℕ} {r : Line} {i : Item} (first end : ℕ) → Says l s f r i → leavesOf r first end ≡ isNew (newPieces i) first end
-leaves-new {l} {s} {f} {r} {i} first end p = ap (λ (x : Line). leavesOf x first end) (p .answer) ∙ leaves-new′ s f first end i
-
-and-assoc : (a b c : Bool) → (a && b) && c ≡ a && (b && c)
-and-assoc true b c = refl
-and-assoc false b c = refl
 
 pub new-append : (a b : List Piece) (first end : ℕ) → isNew (a ++ b) first end ≡ (isNew a first end && isNew b first end)
 unfolding isNew

@@ -21,18 +21,18 @@ use Rattle.record_fault.specs.Outcome.{faultOf}
 use Rattle.record_fault.specs.declared.Fault.the-variants.{Good, At}
 use Rattle.record_fault.specs.Reading.{formatBy, Read, sound, faulty, later, newPieces, stateAfter, isNew, isNone, goOn, readFrom, readText}
 use Rattle.record_fault.specs.Trail.{Trail, trail, lineAt, itemAt, nextOf}
-use Rattle.record_fault.specs.Laws.TrailLaws.{said, moved, next-at, next-state, next-given}
+use Rattle.record_fault.specs.Laws.TrailLaws.{lines-at, lines-past, said, moved, next-at, next-state, next-given}
 use Rattle.record_fault.specs.Steps.{firstBy, IsGood, AllGood, Stepped, highest, rises, Scanned, ScanIs}
-use Rattle.record_fault.specs.Steps.{lowerBy, RoomAbove, FreeIs, freeBy, AdmitIs, lastEnd, partsOf, beginsBy, nowhere, looksBy, walkOf, WalkIs}
+use Rattle.record_fault.specs.Steps.{lowerBy, RoomAbove, FreeIs, allFree, freeBy, AdmitIs, lastEnd, partsOf, beginsBy, nowhere, looksBy, walkOf, WalkIs}
 use Rattle.record_fault.specs.Once.{isFree, newAt, newLine, Once}
-use Rattle.record_fault.specs.Laws.Steps.{leavesOf, admits}
+use Rattle.record_fault.specs.Laws.Steps.{leavesOf, leaves-new, admits}
 use Rattle.record_fault.specs.declared.Step.{Step}
 use Rattle.record_fault.specs.declared.Free.{Free}
 use Rattle.record_fault.specs.declared.Admit.the-variants.{High}
 use Rattle.record_fault.specs.declared.Scan.{Scan}
 use Rattle.record_fault.specs.declared.Walk.{Walk}
 use Rattle.record_fault.specs.declared.Scan.the-variants.{Whole, Broken}
-use Rattle.record_fault.proofs.Laws.{allowed-good, new-none, room-more, free-more, lines-at, lines-past, leaves-new, high-new, on′, off′, end′}
+use Rattle.record_fault.proofs.Laws.{allowed-good, new-none, room-more, free-more, high-new, on′, off′, end′}
 use Rattle.record_fault.proofs.Laws.{laters, laters-faulty, laters-sound, edge-new, parts-new, may, may-not, then-new, not-end, ends-near}
 
 -- ---- whether bytes are new
@@ -120,7 +120,7 @@ unfolding readFrom
 read-step f load text at state given h = ap (λ (ls : List (List ℕ)). readFrom f load ls state given) (lines-at text at h)
 
 module _ (format load : ℕ) (text : List ℕ) (strict : Bool) where
-  pub walking-starts : Walking format load text strict 0 0 0 true 0 true (record { low = nowhere; edge = nowhere; top = nowhere }) 0
+  pub walking-starts : Walking format load text strict 0 0 0 true 0 true allFree 0
   unfolding trail laters highest rises lastEnd partsOf
   walking-starts =
       record {

@@ -25,6 +25,8 @@ use Rattle.record_fault.specs.declared.Scan.{Scan}
 use Rattle.record_fault.specs.declared.Scan.the-variants.{Whole, Broken}
 use Rattle.record_fault.proofs.all_zero.Kinds as all-zero-kinds
 use Rattle.record_fault.proofs.all_zero.Reads as all-zero-reads
+use Rattle.record_fault.proofs.leaves.Kinds as leaves-kinds
+use Rattle.record_fault.proofs.leaves.Reads as leaves-reads
 use Rattle.record_fault.proofs.line_at_fault.Kinds as line-at-fault-kinds
 use Rattle.record_fault.proofs.line_at_fault.Reads as line-at-fault-reads
 use Rattle.record_fault.proofs.scan_lines.Kinds as scan-lines-kinds
@@ -45,6 +47,9 @@ line-at-fault-unique κs a x y e f p q = paired (determined (p .0) (q .0)) (dete
 
 pub all-zero-unique : OneOutcome 1 all-zero-kinds.ps all-zero-kinds.r all-zero-reads.Learnt
 all-zero-unique κs a x y e f p q = determined p q
+
+pub leaves-unique : OneOutcome 0 leaves-kinds.ps leaves-kinds.r leaves-reads.Learnt
+leaves-unique κs a x y e f p q = determined p q
 
 one-step : {format : ℕ} {text : List ℕ} {at state : ℕ} (r s : Step) → Stepped format text at state r → Stepped format text at state s → r ≡ s
 one-step r s p q =

@@ -1,10 +1,11 @@
 -- Lines in a window of addresses, and windows one after the other: what is known before each turn, and a law for each way on.
 use mathlib.Core.Path.{_≡_, refl, sym, ap, subst, _∙_}
-use mathlib.Core.Bool.{Bool, true, false, _&&_, _||_}
+use mathlib.Core.Bool.{Bool, true, false, _&&_, _||_, and-true, and-false}
 use mathlib.Core.List.{List, [], _∷_, _++_}
 use mathlib.Core.Logic.{inl, inr, ⊎-elim}
 use Prim.Native.Nat.{ℕ, zero, suc, _+_, _-_, _*_, _<_, _≤_, max, min}
 use native.Mathlib.Numerals.{add-one}
+use native.Mathlib.Nat.{le-antisymm}
 use native.Mathlib.Omega.{arith}
 use native.Mathlib.Decide.{decLt, ℕ-discrete}
 use lib.Dec.{leb}
@@ -32,7 +33,7 @@ use Rattle.record_fault.specs.declared.Step.{Step}
 use Rattle.record_fault.specs.declared.Walk.{Walk}
 use Rattle.record_fault.specs.declared.Window.{Window}
 use Rattle.record_fault.specs.declared.Scan.the-variants.{Broken}
-use Rattle.record_fault.proofs.Laws.{and-true, and-false, or-right, new-append, new-within, new-none}
+use Rattle.record_fault.proofs.Laws.{or-right, new-append, new-within, new-none}
 use Rattle.record_fault.proofs.Loops.{up-to}
 
 -- ---- a line's bytes, address by address
@@ -321,9 +322,10 @@ module _ (format : ℕ) (text : List ℕ) (n low : ℕ) (before : List ℕ) wher
               ]
 
   pub marking-ends : {at state next : ℕ} {scratch : List ℕ} {k : ℕ} → Marking format text n low before at state next scratch k → n ≤ k
-      → Windowed format text n low before scratch (record { line = k; next = next })
-  marking-ends w h =
-      record {
+      → Windowed format text n low before scratch (record { line = n; next = next })
+  marking-ends {at} {state} {next} {scratch} w h =
+      subst (λ (j : ℕ). Windowed format text n low before scratch (record { line = j; next = next })) (le-antisymm (w .few) h)
+      (record {
         few = w .few;
         long = w .long;
         bytes = w .bytes;
@@ -335,7 +337,7 @@ module _ (format : ℕ) (text : List ℕ) (n low : ℕ) (before : List ℕ) wher
         least = w .least;
         onward = w .onward;
         near = w .near;
-      }
+      })
 
 -- how near the next bytes are, with one line more
 module _ (next first end top : ℕ) where

@@ -114,6 +114,9 @@ beginsBy kind address count edge = pick (eqb kind 1) (pick (eqb count 0) 0 (pick
 abbrev pub nowhere : ℕ
 nowhere = 8589934592
 
+abbrev pub allFree : Free
+allFree = record { low = nowhere; edge = nowhere; top = nowhere }
+
 -- Whether a line may stand. Where it is not looked for whether its bytes are new, nothing is known of the room above it.
 abbrev pub AdmitIs : Bool → ℕ → List Piece → ℕ → ℕ → ℕ → ℕ → ℕ → Admit → Type 0
 AdmitIs look load given kind address count high edge No = admitsBy load given kind address count ≡ false

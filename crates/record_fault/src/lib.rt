@@ -11,7 +11,7 @@ ghost use Rattle.record_lines.specs.Spelling.{Spells};
 ghost use Rattle.record_fault.specs.Reading.{formatBy, readText};
 ghost use Rattle.record_fault.specs.Trail.{trail, lineAt};
 ghost use Rattle.record_fault.specs.Steps.{firstBy, IsGood, AllGood, longBy, stopBy, Stepped, leavesBy, highest, ScanIs};
-ghost use Rattle.record_fault.specs.Steps.{lowerBy, RoomAbove, RoomIs, FreeIs, freeBy, AdmitIs, beginsBy, looksBy, walkOf, WalkIs, scanOf};
+ghost use Rattle.record_fault.specs.Steps.{lowerBy, RoomAbove, RoomIs, FreeIs, allFree, freeBy, AdmitIs, beginsBy, looksBy, walkOf, WalkIs, scanOf};
 ghost use Rattle.record_fault.specs.Outcome.{faultOf};
 ghost use Rattle.record_fault.specs.Windows.{allZero, windowEnd, Nearer, Windowed, FirstTwice};
 
@@ -183,7 +183,7 @@ pub fn known_line(format: u8, text: &[u8], t: &[u8; 256], at: usize, state: u16)
 }
 
 // Whether a line gives no byte from `first` on and below `end`.
-fn leaves(kind: u8, address: u32, count: u8, first: u64, end: u64) -> bool
+pub fn leaves(kind: u8, address: u32, count: u8, first: u64, end: u64) -> bool
     ensures { λ r. ⌜ r ≡ leavesBy kind address count first end ⌝ }
 {
     if kind != record_lines::DATA {
@@ -220,14 +220,12 @@ fn room_above(format: u8, text: &[u8], t: &[u8; 256], n: usize, first: u64, end:
     let mut at = 0usize;
     let mut state = 0u16;
     let mut top = NOWHERE;
-    let mut k = 0usize;
-    while k < n {
+    for _ in 0..n {
         let s = known_line(format, text, t, at, state);
         let line = s.line;
         top = lower(top, line.kind, line.address, line.count, first, end);
         at = s.next;
         state = line.state;
-        k += 1;
     }
     top
 }
@@ -280,28 +278,26 @@ fn may_stand(
     t: &[u8; 256],
     n: usize,
     load: u32,
-    kind: u8,
-    address: u32,
-    count: u8,
+    line: Line,
     high: u64,
     free: Free,
     look: bool,
 ) -> Admit
     requires { ⌜ Spells (now t) × AllGood format (now text) n ⌝ }
     requires { ⌜ (high ≡ highest (trail format (now text) n .given)) × FreeIs (trail format (now text) n .given) free ⌝ }
-    ensures { λ r. ⌜ AdmitIs look load (trail format (now (text .entry)) n .given) kind address count high (free .edge) r ⌝ }
+    ensures { λ r. ⌜ AdmitIs look load (trail format (now (text .entry)) n .given) (line .kind) (line .address) (line .count) high (free .edge) r ⌝ }
 {
-    if kind == record_lines::PASS {
+    if line.kind == record_lines::PASS {
         return Admit::High(high, free.top);
     }
-    if kind != record_lines::DATA {
+    if line.kind != record_lines::DATA {
         return Admit::No;
     }
-    if count == 0 {
+    if line.count == 0 {
         return Admit::High(high, free.top);
     }
-    let first = address as u64;
-    let end = first + count as u64;
+    let first = line.address as u64;
+    let end = first + line.count as u64;
     if first < load as u64 {
         return Admit::No;
     }
@@ -316,6 +312,17 @@ fn may_stand(
         return Admit::High(refusal::greater(high, end), 0);
     }
     Admit::High(refusal::greater(high, end), top)
+}
+
+// What is free before the first line: everything.
+fn all_free() -> Free
+    ensures { λ r. ⌜ r ≡ allFree ⌝ }
+{
+    Free {
+        low: NOWHERE,
+        edge: NOWHERE,
+        top: NOWHERE,
+    }
 }
 
 // What is free behind a line that may stand.
@@ -404,11 +411,7 @@ fn walk_lines(format: u8, text: &[u8], t: &[u8; 256], load: u32, strict: bool) -
     let mut ascend = true;
     let mut parts = 0u64;
     let mut sure = true;
-    let mut free = Free {
-        low: NOWHERE,
-        edge: NOWHERE,
-        top: NOWHERE,
-    };
+    let mut free = all_free();
     let mut n = 0usize;
     while at < text.len() {
         let s = take_line(format, text, t, at, state);
@@ -422,9 +425,7 @@ fn walk_lines(format: u8, text: &[u8], t: &[u8; 256], load: u32, strict: bool) -
             t,
             n,
             load,
-            line.kind,
-            line.address,
-            line.count,
+            line,
             high,
             free,
             looks(strict, parts),
@@ -458,12 +459,10 @@ fn scan_of(w: Walk) -> Scan
 pub fn all_zero(scratch: &[u8]) -> bool
     ensures { λ r. ⌜ r ≡ allZero (now (scratch .entry)) ⌝ }
 {
-    let mut i = 0;
-    while i < scratch.len() {
+    for i in 0..scratch.len() {
         if scratch[i] != 0 {
             return false;
         }
-        i += 1;
     }
     true
 }
@@ -519,8 +518,7 @@ pub fn mark_window(
     let mut at = 0usize;
     let mut state = 0u16;
     let mut next = NOWHERE;
-    let mut k = 0usize;
-    while k < n {
+    for k in 0..n {
         let s = known_line(format, text, t, at, state);
         let line = s.line;
         let first = line.address as u64;
@@ -534,9 +532,8 @@ pub fn mark_window(
         next = nearer(next, first, end, top);
         at = s.next;
         state = line.state;
-        k += 1;
     }
-    Window { line: k, next }
+    Window { line: n, next }
 }
 
 // The first of n lines that gives a byte which a line before it gave, or n: window after window, the scratch 0 again behind each.

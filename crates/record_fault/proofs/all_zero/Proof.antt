@@ -9,10 +9,10 @@ use Rattle.record_fault.proofs.all_zero.Statement.{statement}
 use Rattle.record_fault.proofs.all_zero.Tie as tie
 
 abbrev Inv-loop : tie.InvT-loop
-Inv-loop scratch i₀ i = allZero scratch ≡ allZero (drop i scratch)
+Inv-loop scratch i₀ i-end i = allZero scratch ≡ allZero (drop i scratch)
 
 abbrev μ-loop : tie.MeasureT-loop
-μ-loop scratch i₀ i = length scratch - i
+μ-loop scratch i₀ i-end i = length scratch - i
 
 returns : tie.Need-returns Inv-loop μ-loop
 returns c =

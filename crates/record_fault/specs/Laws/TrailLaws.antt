@@ -1,16 +1,20 @@
--- A trail, one line more; the highest end of pieces, and those that touch.
+-- A trail, one line more; a text from a line on; the highest end of pieces, and those that touch.
 use mathlib.Core.Path.{_≡_, refl, sym, ap, subst, _∙_}
 use mathlib.Core.Bool.{true}
 use mathlib.Core.List.{List, [], _∷_, _++_}
-use Prim.Native.Nat.{ℕ, _+_, _≤_, max}
+use Prim.Native.Nat.{ℕ, _+_, _<_, _≤_, max}
 use native.Mathlib.Numerals.{add-one}
 use native.Mathlib.Omega.{arith}
 use borrow.Author.Tests.{le-leb}
+use lib.ListN.{length, drop, length-drop}
+use lib.Seq.{drop-drop}
 use Rattle.record_lines.specs.Items.{Item, gives, passes, ends, bad, asLine, Says}
+use Rattle.record_lines.specs.Lines.{linesOf, firstLine, taken}
+use Rattle.record_lines.specs.Theorems.Lines.{lines-first}
 use Rattle.record_lines.specs.Pieces.{Piece, endOf}
 use Rattle.record_lines.specs.declared.Line.{Line}
 use Rattle.record_fault.specs.Reading.{newPieces, stateAfter, isNew}
-use Rattle.record_fault.specs.Trail.{Trail, trail, itemAt}
+use Rattle.record_fault.specs.Trail.{Trail, trail, lineAt, itemAt, nextOf}
 use Rattle.record_fault.specs.Steps.{Stepped, highest, lastEnd, partsOf}
 use Rattle.record_fault.specs.declared.Step.{Step}
 
@@ -22,6 +26,26 @@ says-state′ s f bad = refl
 
 pub says-state : {l : List ℕ} {s f : ℕ} {r : Line} {i : Item} → Says l s f r i → r .state ≡ stateAfter s i
 says-state {l} {s} {f} {r} {i} p = ap (λ (x : Line). x .state) (p .answer) ∙ says-state′ s f i
+
+-- ---- a text from a line on
+
+lines-some : (t : List ℕ) → 0 < length t → linesOf t ≡ firstLine t ∷ linesOf (drop (taken t) t)
+lines-some [] h = absurd (omega arith)
+lines-some (c ∷ t) h = lines-first c t
+
+pub lines-at : (text : List ℕ) (at : ℕ) → at < length text → linesOf (drop at text) ≡ lineAt text at ∷ linesOf (drop (nextOf text at) text)
+lines-at text at h =
+    lines-some (drop at text) (omega (arith, length-drop at text)) ∙ ap (λ (l : List ℕ). lineAt text at ∷ linesOf l) (drop-drop (taken (drop at text)) at text)
+
+lines-none : (t : List ℕ) → length t ≡ 0 → linesOf t ≡ []
+unfolding linesOf
+lines-none [] h = refl
+lines-none (c ∷ t) h = absurd (omega arith)
+
+pub lines-past : (text : List ℕ) (at : ℕ) → length text ≤ at → linesOf (drop at text) ≡ []
+lines-past text at h = lines-none (drop at text) (omega (arith, length-drop at text))
+
+-- ---- one line more
 
 module _ (format : ℕ) (text : List ℕ) (k : ℕ) (r : Step) where
   abbrev pub here : Trail
