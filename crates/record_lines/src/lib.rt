@@ -175,8 +175,7 @@ pub fn sum_checked(line: &[u8], t: &[u8; 256], from: usize, n: usize) -> u32
     ensures { λ r. ⌜ r ≡ checkedSum (now (line .entry)) from n ⌝ }
 {
     let mut sum = 0u8;
-    let mut j = 0;
-    while j < n {
+    for j in 0..n {
         let i = from + 2 * j;
         let high = value_by(t, line[i]);
         let low = value_by(t, line[i + 1]);
@@ -187,7 +186,6 @@ pub fn sum_checked(line: &[u8], t: &[u8; 256], from: usize, n: usize) -> u32
             return 256;
         }
         sum = std::num::wrapping_add_u8(sum, 16 * high + low);
-        j += 1;
     }
     wide(sum)
 }

@@ -13,24 +13,6 @@ use Rattle.record_ihex_line.proofs.known_line.Tie as tie
 abbrev start : tie.After-pair2 → tie.Start
 start p = p .before .before .before .before
 
-pair-requires : tie.Need-pair-requires
-pair-requires c κs = search needs
-
-word-requires : tie.Need-word-requires
-word-requires c κs = search needs
-
-pair-requires-2 : tie.Need-pair-requires-2
-pair-requires-2 c κs = search needs
-
-mul-t9 : tie.Need-mul-t9
-mul-t9 c = search needs
-
-cast-t10 : tie.Need-cast-t10
-cast-t10 c = search needs
-
-add-t11 : tie.Need-add-t11
-add-t11 c = search needs
-
 returns : tie.Need-returns
 returns c =
     let p = c .before in
@@ -42,9 +24,6 @@ returns c =
     (p .before .word .ensures) (p .before .before .pair .ensures) (c .if1 .taken))
     (omega (arith, p .before .before .pair .ensures))
 
-plain-requires : tie.Need-plain-requires
-plain-requires c κs = search needs
-
 returns-2 : tie.Need-returns-2
 returns-2 c =
     let i = c .before .before in
@@ -54,9 +33,6 @@ returns-2 c =
     as-bad (field-bad line (s .args .state) (s .pre .1) (p .pair2 .result) (p .before .word .result) (p .before .before .pair .result) (p .pair2 .ensures)
     (p .before .word .ensures) (p .before .before .pair .ensures) (i .if1 .left) (c .before .if2 .taken))
     (c .plain .ensures)
-
-plain-requires-2 : tie.Need-plain-requires-2
-plain-requires-2 c κs = search needs
 
 returns-3 : tie.Need-returns-3
 returns-3 c =
@@ -68,9 +44,6 @@ returns-3 c =
     (p .before .word .ensures) (p .before .before .pair .ensures) (c .before .before .if3 .taken) (j .if2 .left) (c .before .if4 .taken))
     (c .plain2 .ensures)
 
-plain-requires-3 : tie.Need-plain-requires-3
-plain-requires-3 c κs = search needs
-
 returns-4 : tie.Need-returns-4
 returns-4 c =
     let j = c .before .before .before in
@@ -80,12 +53,6 @@ returns-4 c =
     as-bad (end-bad line (s .args .state) (s .pre .1) (p .pair2 .result) (p .before .word .result) (p .before .before .pair .result) (p .pair2 .ensures)
     (p .before .word .ensures) (p .before .before .pair .ensures) (c .before .before .if3 .taken) (j .if2 .left) (c .before .if4 .left))
     (c .plain3 .ensures)
-
-word-requires-2 : tie.Need-word-requires-2
-word-requires-2 c κs = search needs
-
-plain-requires-4 : tie.Need-plain-requires-4
-plain-requires-4 c κs = search needs
 
 returns-5 : tie.Need-returns-5
 returns-5 c =
@@ -99,9 +66,6 @@ returns-5 c =
     ∙ sym (ap passes (w .word2 .ensures)))
     (c .plain4 .ensures)
 
-plain-requires-5 : tie.Need-plain-requires-5
-plain-requires-5 c κs = search needs
-
 returns-6 : tie.Need-returns-6
 returns-6 c =
     let j = c .before .before .before .before in
@@ -111,9 +75,6 @@ returns-6 c =
     as-bad (upper-bad line (s .args .state) (s .pre .1) (p .pair2 .result) (p .before .word .result) (p .before .before .pair .result) (p .pair2 .ensures)
     (p .before .word .ensures) (p .before .before .pair .ensures) (c .before .before .if5 .taken) (j .if2 .left) (c .before .if6 .left))
     (c .plain5 .ensures)
-
-plain-requires-6 : tie.Need-plain-requires-6
-plain-requires-6 c κs = search needs
 
 returns-7 : tie.Need-returns-7
 returns-7 c =
@@ -130,23 +91,6 @@ pub known-line-spec : {M : Type 1} → statement M
 known-line-spec =
     tie.close
     (tie.spec
-    pair-requires
-    word-requires
-    pair-requires-2
-    mul-t9
-    cast-t10
-    add-t11
-    returns
-    plain-requires
-    returns-2
-    plain-requires-2
-    returns-3
-    plain-requires-3
-    returns-4
-    word-requires-2
-    plain-requires-4
-    returns-5
-    plain-requires-5
-    returns-6
-    plain-requires-6
-    returns-7)
+    (λ c κs. search needs) (λ c κs. search needs) (λ c κs. search needs) (λ c. search needs) (λ c. search needs) (λ c. search needs) returns
+    (λ c κs. search needs) returns-2 (λ c κs. search needs) returns-3 (λ c κs. search needs) returns-4 (λ c κs. search needs) (λ c κs. search needs)
+    returns-5 (λ c κs. search needs) returns-6 (λ c κs. search needs) returns-7)

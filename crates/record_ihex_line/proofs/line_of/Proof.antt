@@ -7,12 +7,6 @@ use borrow.Author.Needs.{needs}
 use Rattle.record_ihex_line.proofs.line_of.Statement.{statement}
 use Rattle.record_ihex_line.proofs.line_of.Tie as tie
 
-is-good-requires : tie.Need-is-good-requires
-is-good-requires c κs = search needs
-
-plain-requires : tie.Need-plain-requires
-plain-requires c κs = search needs
-
 returns : tie.Need-returns
 returns c =
     let g = c .before .before in
@@ -26,4 +20,4 @@ returns-2 : tie.Need-returns-2
 returns-2 c = c .known-line .ensures
 
 pub line-of-spec : {M : Type 1} → statement M
-line-of-spec = tie.close (tie.spec is-good-requires plain-requires returns known-line-requires returns-2)
+line-of-spec = tie.close (tie.spec (λ c κs. search needs) (λ c κs. search needs) returns known-line-requires returns-2)

@@ -15,25 +15,10 @@ Inv-loop line from i₀ i-end i = allDigits (drop from line) ≡ allDigits (drop
 abbrev μ-loop : tie.MeasureT-loop
 μ-loop line from i₀ i-end i = length line - i
 
-loop-holds : tie.Need-loop-holds Inv-loop μ-loop
-loop-holds c = refl
-
-shared-slice-read-value : tie.Need-shared-slice-read-value Inv-loop μ-loop
-shared-slice-read-value c = search needs
-
-value-requires : tie.Need-value-requires Inv-loop μ-loop
-value-requires c κs = search needs
-
 returns : tie.Need-returns Inv-loop μ-loop
 returns c =
     sym (c .before .before .before .before .loop .inv ∙ digits-stop (c .before .before .before .before .before .before .args .line .now)
     (c .before .before .before .before .loop .i) (c .before .before .before .loop-test .taken) (sym (c .before .value .ensures .0) ∙ c .if1 .taken))
-
-add-i : tie.Need-add-i Inv-loop μ-loop
-add-i c = search needs
-
-loop-less : tie.Need-loop-less Inv-loop μ-loop
-loop-less c = search needs
 
 loop-again : tie.Need-loop-again Inv-loop μ-loop
 loop-again c =
@@ -47,13 +32,4 @@ pub all-digits-spec : {M : Type 1} → statement M
 all-digits-spec =
     tie.close
     (tie.spec
-    Inv-loop
-    μ-loop
-    loop-holds
-    shared-slice-read-value
-    value-requires
-    returns
-    add-i
-    loop-less
-    loop-again
-    returns-2)
+    Inv-loop μ-loop (λ c. refl) (λ c. search needs) (λ c κs. search needs) returns (λ c. search needs) (λ c. search needs) loop-again returns-2)

@@ -10,17 +10,11 @@ use Rattle.record_lines.proofs.end_at.Tie as tie
 returns : tie.Need-returns
 returns c = let a = c .before .before .args in sym (end-past (a .text .now) (a .at) (c .if1 .taken))
 
-shared-slice-read-if2 : tie.Need-shared-slice-read-if2
-shared-slice-read-if2 c = search needs
-
 returns-2 : tie.Need-returns-2
 returns-2 c =
     let i = c .before .before in
     let a = i .before .before .args in
     sym (end-lf (a .text .now) (a .at) (i .if1 .left) (eq-eqb (getD (a .text .now) (a .at) 0) 10 (c .if2 .taken)))
-
-is-cr-lf-requires : tie.Need-is-cr-lf-requires
-is-cr-lf-requires c κs = search needs
 
 returns-3 : tie.Need-returns-3
 returns-3 c =
@@ -39,4 +33,4 @@ returns-4 c =
     (sym (c .before .is-cr-lf .ensures) ∙ c .if3 .left))
 
 pub end-at-spec : {M : Type 1} → statement M
-end-at-spec = tie.close (tie.spec returns shared-slice-read-if2 returns-2 is-cr-lf-requires returns-3 returns-4)
+end-at-spec = tie.close (tie.spec returns (λ c. search needs) returns-2 (λ c κs. search needs) returns-3 returns-4)

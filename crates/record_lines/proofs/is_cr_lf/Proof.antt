@@ -8,22 +8,13 @@ use borrow.Author.Needs.{needs}
 use Rattle.record_lines.proofs.is_cr_lf.Statement.{statement}
 use Rattle.record_lines.proofs.is_cr_lf.Tie as tie
 
-shared-slice-read-if1 : tie.Need-shared-slice-read-if1
-shared-slice-read-if1 c = search needs
-
 returns : tie.Need-returns
 returns c = let a = c .before .before .args in rw (ne-eqb (getD (a .text .now) (a .i) 0) 13 (c .if1 .taken))
-
-add-next : tie.Need-add-next
-add-next c = search needs
 
 returns-2 : tie.Need-returns-2
 returns-2 c =
     let a = c .before .before .before .args in rw
     (eq-eqb (getD (a .text .now) (a .i) 0) 13 (c .before .if1 .left), drop-of-length-le (a .text .now) {i = a .i + 1} (omega arith))
-
-shared-slice-read-result : tie.Need-shared-slice-read-result
-shared-slice-read-result c = search needs
 
 returns-3 : tie.Need-returns-3
 returns-3 c =
@@ -31,6 +22,4 @@ returns-3 c =
     (eq-eqb (getD (a .text .now) (a .i) 0) 13 (c .before .before .if1 .left), drop-cons (a .text .now) (a .i + 1) 0 (omega arith))
 
 pub is-cr-lf-spec : {M : Type 1} → statement M
-is-cr-lf-spec =
-    tie.close
-    (tie.spec shared-slice-read-if1 returns add-next returns-2 shared-slice-read-result returns-3)
+is-cr-lf-spec = tie.close (tie.spec (λ c. search needs) returns (λ c. search needs) returns-2 (λ c. search needs) returns-3)

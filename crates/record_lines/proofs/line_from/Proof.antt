@@ -20,24 +20,12 @@ abbrev μ-loop : tie.MeasureT-loop
 loop-holds : tie.Need-loop-holds Inv-loop μ-loop
 loop-holds c = (refl, refl)
 
-shared-slice-read-if1 : tie.Need-shared-slice-read-if1 Inv-loop μ-loop
-shared-slice-read-if1 c = search needs
-
-add-t8 : tie.Need-add-t8 Inv-loop μ-loop
-add-t8 c = search needs
-
 returns : tie.Need-returns Inv-loop μ-loop
 returns c =
     let t = c .before .before .before .before .before .args .text .now in
     let i = c .before .before .before .loop .i in
     let w = cut-lf t i (c .before .before .loop-test .taken) (eq-eqb (getD t i 0) 10 (c .if1 .taken)) in
     record { stop = omega (arith, c .before .before .before .loop .inv .0); next = omega (arith, c .before .before .before .loop .inv .1) }
-
-is-cr-lf-requires : tie.Need-is-cr-lf-requires Inv-loop μ-loop
-is-cr-lf-requires c κs = search needs
-
-add-t10 : tie.Need-add-t10 Inv-loop μ-loop
-add-t10 c = search needs
 
 returns-2 : tie.Need-returns-2 Inv-loop μ-loop
 returns-2 c =
@@ -50,12 +38,6 @@ returns-2 c =
       next = omega
           (arith, c .before .before .before .before .before .loop .inv .1);
     }
-
-add-i : tie.Need-add-i Inv-loop μ-loop
-add-i c = search needs
-
-loop-less : tie.Need-loop-less Inv-loop μ-loop
-loop-less c = search needs
 
 loop-again : tie.Need-loop-again Inv-loop μ-loop
 loop-again c =
@@ -74,16 +56,5 @@ pub line-from-spec : {M : Type 1} → statement M
 line-from-spec =
     tie.close
     (tie.spec
-    Inv-loop
-    μ-loop
-    loop-holds
-    shared-slice-read-if1
-    add-t8
-    returns
-    is-cr-lf-requires
-    add-t10
-    returns-2
-    add-i
-    loop-less
-    loop-again
-    returns-3)
+    Inv-loop μ-loop loop-holds (λ c. search needs) (λ c. search needs) returns (λ c κs. search needs) (λ c. search needs) returns-2 (λ c. search needs)
+    (λ c. search needs) loop-again returns-3)

@@ -6,27 +6,6 @@ use borrow.Author.Needs.{needs}
 use Rattle.record_lines.proofs.pair.Statement.{statement}
 use Rattle.record_lines.proofs.pair.Tie as tie
 
-char-at-requires : tie.Need-char-at-requires
-char-at-requires c κs = search needs
-
-value-by-requires : tie.Need-value-by-requires
-value-by-requires c κs = search needs
-
-add-char-at : tie.Need-add-char-at
-add-char-at c = search needs
-
-char-at-requires-2 : tie.Need-char-at-requires-2
-char-at-requires-2 c κs = search needs
-
-value-by-requires-2 : tie.Need-value-by-requires-2
-value-by-requires-2 c κs = search needs
-
-mul-result : tie.Need-mul-result
-mul-result c = search needs
-
-add-result : tie.Need-add-result
-add-result c = search needs
-
 returns : tie.Need-returns
 returns c =
     ap₂ (λ (u v : ℕ). 16 * (u % 16) + v % 16) (c .before .before .value-by .ensures ∙ ap valueOf (c .before .before .before .char-at .ensures))
@@ -36,11 +15,5 @@ pub pair-spec : {M : Type 1} → statement M
 pair-spec =
     tie.close
     (tie.spec
-    char-at-requires
-    value-by-requires
-    add-char-at
-    char-at-requires-2
-    value-by-requires-2
-    mul-result
-    add-result
+    (λ c κs. search needs) (λ c κs. search needs) (λ c. search needs) (λ c κs. search needs) (λ c κs. search needs) (λ c. search needs) (λ c. search needs)
     returns)

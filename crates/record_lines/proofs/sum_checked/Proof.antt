@@ -25,27 +25,6 @@ loop-holds c =
     let e : a .from ≡ a .from + 0 = omega arith in
     (omega arith, (refl, ap (λ (k : ℕ). allDigits (drop k (a .line .now))) e))
 
-mul-i : tie.Need-mul-i Inv-loop μ-loop
-mul-i c = search needs
-
-add-i : tie.Need-add-i Inv-loop μ-loop
-add-i c = search needs
-
-shared-slice-read-value-by : tie.Need-shared-slice-read-value-by Inv-loop μ-loop
-shared-slice-read-value-by c = search needs
-
-value-by-requires : tie.Need-value-by-requires Inv-loop μ-loop
-value-by-requires c κs = search needs
-
-add-value-by : tie.Need-add-value-by Inv-loop μ-loop
-add-value-by c = search needs
-
-shared-slice-read-value-by-2 : tie.Need-shared-slice-read-value-by-2 Inv-loop μ-loop
-shared-slice-read-value-by-2 c = search needs
-
-value-by-requires-2 : tie.Need-value-by-requires-2 Inv-loop μ-loop
-value-by-requires-2 c κs = search needs
-
 returns : tie.Need-returns Inv-loop μ-loop
 returns c =
     let w = c .before .before .before in
@@ -64,21 +43,6 @@ returns-2 c =
     (digits-one (a .line .now) (a .from) (a .from + 2 * h .loop .j) (search needs)
     (omega (arith, c .before .if1 .left, w .value-by .ensures)) (h .loop .inv .1 .1))
     (search needs) (omega (arith, c .if2 .taken, v .value-by2 .ensures))
-
-wrapping-add-u8-requires : tie.Need-wrapping-add-u8-requires Inv-loop μ-loop
-wrapping-add-u8-requires c κs = search needs
-
-mul-wrapping-add-u8 : tie.Need-mul-wrapping-add-u8 Inv-loop μ-loop
-mul-wrapping-add-u8 c = search needs
-
-add-wrapping-add-u8 : tie.Need-add-wrapping-add-u8 Inv-loop μ-loop
-add-wrapping-add-u8 c = search needs
-
-add-j : tie.Need-add-j Inv-loop μ-loop
-add-j c = search needs
-
-loop-less : tie.Need-loop-less Inv-loop μ-loop
-loop-less c = search needs
 
 loop-again : tie.Need-loop-again Inv-loop μ-loop
 loop-again c =
@@ -103,9 +67,6 @@ loop-again c =
       ),
     )
 
-wide-requires : tie.Need-wide-requires Inv-loop μ-loop
-wide-requires c κs = search needs
-
 returns-3 : tie.Need-returns-3 Inv-loop μ-loop
 returns-3 c =
     let h = c .before .before in
@@ -117,23 +78,6 @@ pub sum-checked-spec : {M : Type 1} → statement M
 sum-checked-spec =
     tie.close
     (tie.spec
-    Inv-loop
-    μ-loop
-    loop-holds
-    mul-i
-    add-i
-    shared-slice-read-value-by
-    value-by-requires
-    add-value-by
-    shared-slice-read-value-by-2
-    value-by-requires-2
-    returns
-    returns-2
-    mul-wrapping-add-u8
-    add-wrapping-add-u8
-    wrapping-add-u8-requires
-    add-j
-    loop-less
-    loop-again
-    wide-requires
-    returns-3)
+    Inv-loop μ-loop loop-holds (λ c. search needs) (λ c. search needs) (λ c. search needs) (λ c κs. search needs) (λ c. search needs) (λ c. search needs)
+    (λ c κs. search needs) returns returns-2 (λ c. search needs) (λ c. search needs) (λ c κs. search needs) (λ c. search needs) (λ c. search needs)
+    loop-again (λ c κs. search needs) returns-3)

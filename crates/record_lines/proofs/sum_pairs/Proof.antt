@@ -20,24 +20,6 @@ loop-holds : tie.Need-loop-holds Inv-loop μ-loop
 unfolding sumOf listOf
 loop-holds c = (omega arith, refl)
 
-mul-byte-at : tie.Need-mul-byte-at Inv-loop μ-loop
-mul-byte-at c = search needs
-
-add-byte-at : tie.Need-add-byte-at Inv-loop μ-loop
-add-byte-at c = search needs
-
-byte-at-requires : tie.Need-byte-at-requires Inv-loop μ-loop
-byte-at-requires c κs = search needs
-
-wrapping-add-u8-requires : tie.Need-wrapping-add-u8-requires Inv-loop μ-loop
-wrapping-add-u8-requires c κs = search needs
-
-add-j : tie.Need-add-j Inv-loop μ-loop
-add-j c = search needs
-
-loop-less : tie.Need-loop-less Inv-loop μ-loop
-loop-less c = search needs
-
 loop-again : tie.Need-loop-again Inv-loop μ-loop
 loop-again c =
     let a = c .before .before .before .before .before .args in (
@@ -61,14 +43,5 @@ pub sum-pairs-spec : {M : Type 1} → statement M
 sum-pairs-spec =
     tie.close
     (tie.spec
-    Inv-loop
-    μ-loop
-    loop-holds
-    mul-byte-at
-    add-byte-at
-    byte-at-requires
-    wrapping-add-u8-requires
-    add-j
-    loop-less
-    loop-again
-    returns)
+    Inv-loop μ-loop loop-holds (λ c. search needs) (λ c. search needs) (λ c κs. search needs) (λ c κs. search needs) (λ c. search needs) (λ c. search needs)
+    loop-again returns)

@@ -15,17 +15,11 @@ returns-2 c = (sym (value-figure (c .before .before .args .c) (omega arith) (ome
 returns-3 : tie.Need-returns-3
 returns-3 c = (sym (value-between (c .before .before .before .args .c) (omega arith) (omega arith)), omega arith)
 
-sub-result : tie.Need-sub-result
-sub-result c = search needs
-
 returns-4 : tie.Need-returns-4
 returns-4 c = (sym (value-upper (c .before .before .before .before .args .c) (omega arith) (omega arith)), omega arith)
 
 returns-5 : tie.Need-returns-5
 returns-5 c = (sym (value-middle (c .before .before .before .before .before .args .c) (omega arith) (omega arith)), omega arith)
-
-sub-result-2 : tie.Need-sub-result-2
-sub-result-2 c = search needs
 
 returns-6 : tie.Need-returns-6
 returns-6 c = (sym (value-lower (c .before .before .before .before .before .before .args .c) (omega arith) (omega arith)), omega arith)
@@ -34,15 +28,4 @@ returns-7 : tie.Need-returns-7
 returns-7 c = (sym (value-above (c .before .before .before .before .before .before .args .c) (omega arith)), omega arith)
 
 pub value-spec : {M : Type 1} → statement M
-value-spec =
-    tie.close
-    (tie.spec
-    returns
-    returns-2
-    returns-3
-    sub-result
-    returns-4
-    returns-5
-    sub-result-2
-    returns-6
-    returns-7)
+value-spec = tie.close (tie.spec returns returns-2 returns-3 (λ c. search needs) returns-4 returns-5 (λ c. search needs) returns-6 returns-7)

@@ -3,11 +3,8 @@ use borrow.Author.Needs.{needs}
 use Rattle.record_lines.proofs.value_by.Statement.{statement}
 use Rattle.record_lines.proofs.value_by.Tie as tie
 
-element-copy-out-result : tie.Need-element-copy-out-result
-element-copy-out-result c = search needs
-
 returns : tie.Need-returns
 returns c = c .before .pre (c .before .args .c) (search needs)
 
 pub value-by-spec : {M : Type 1} → statement M
-value-by-spec = tie.close (tie.spec element-copy-out-result returns)
+value-by-spec = tie.close (tie.spec (λ c. search needs) returns)

@@ -8,53 +8,14 @@ use borrow.Author.Needs.{needs}
 use Rattle.record_srec_line.proofs.data_line.Statement.{statement}
 use Rattle.record_srec_line.proofs.data_line.Tie as tie
 
-does-agree-requires : tie.Need-does-agree-requires
-does-agree-requires c κs = search needs
-
-plain-requires : tie.Need-plain-requires
-plain-requires c κs = search needs
-
 returns : tie.Need-returns
 returns c = as-bad (data-other _ _ _ (sym (c .before .before .does-agree .ensures) ∙ not-true _ (c .before .if1 .taken))) (c .plain .ensures)
-
-pair-requires : tie.Need-pair-requires
-pair-requires c κs = search needs
-
-cast-count : tie.Need-cast-count
-cast-count c = search needs
-
-plain-requires-2 : tie.Need-plain-requires-2
-plain-requires-2 c κs = search needs
 
 returns-2 : tie.Need-returns-2
 returns-2 c =
     let a = c .before .before .before in
     as-bad (data-short _ _ _ (sym (a .before .does-agree .ensures) ∙ not-false _ (a .if1 .left)) (omega (arith, c .before .before .pair .ensures)))
     (c .plain2 .ensures)
-
-sub-left : tie.Need-sub-left
-sub-left c = search needs
-
-sub-left-2 : tie.Need-sub-left-2
-sub-left-2 c = search needs
-
-address-of-requires : tie.Need-address-of-requires
-address-of-requires c κs = search needs
-
-cast-if3 : tie.Need-cast-if3
-cast-if3 c = search needs
-
-cast-if3-2 : tie.Need-cast-if3-2
-cast-if3-2 c = search needs
-
-add-if3 : tie.Need-add-if3
-add-if3 c = search needs
-
-limit-requires : tie.Need-limit-requires
-limit-requires c κs = search needs
-
-plain-requires-3 : tie.Need-plain-requires-3
-plain-requires-3 c κs = search needs
 
 returns-3 : tie.Need-returns-3
 returns-3 c =
@@ -65,15 +26,6 @@ returns-3 c =
     (data-past _ _ _ (sym (a .before .does-agree .ensures) ∙ not-false _ (a .if1 .left)) (omega (arith, p .pair .ensures))
     (omega (arith, p .pair .ensures, d .address-of .ensures, c .before .before .limit .ensures)))
     (c .plain3 .ensures)
-
-mul-t11 : tie.Need-mul-t11
-mul-t11 c = search needs
-
-add-t16 : tie.Need-add-t16
-add-t16 c = search needs
-
-cast-t10 : tie.Need-cast-t10
-cast-t10 c = search needs
 
 returns-4 : tie.Need-returns-4
 returns-4 c =
@@ -92,23 +44,6 @@ pub data-line-spec : {M : Type 1} → statement M
 data-line-spec =
     tie.close
     (tie.spec
-    does-agree-requires
-    plain-requires
-    returns
-    pair-requires
-    cast-count
-    plain-requires-2
-    returns-2
-    sub-left
-    sub-left-2
-    address-of-requires
-    cast-if3
-    cast-if3-2
-    add-if3
-    limit-requires
-    plain-requires-3
-    returns-3
-    mul-t11
-    add-t16
-    cast-t10
-    returns-4)
+    (λ c κs. search needs) (λ c κs. search needs) returns (λ c κs. search needs) (λ c. search needs) (λ c κs. search needs) returns-2 (λ c. search needs)
+    (λ c. search needs) (λ c κs. search needs) (λ c. search needs) (λ c. search needs) (λ c. search needs) (λ c κs. search needs) (λ c κs. search needs)
+    returns-3 (λ c. search needs) (λ c. search needs) (λ c. search needs) returns-4)

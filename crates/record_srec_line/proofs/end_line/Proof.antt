@@ -8,35 +8,14 @@ use borrow.Author.Needs.{needs}
 use Rattle.record_srec_line.proofs.end_line.Statement.{statement}
 use Rattle.record_srec_line.proofs.end_line.Tie as tie
 
-does-agree-requires : tie.Need-does-agree-requires
-does-agree-requires c κs = search needs
-
-plain-requires : tie.Need-plain-requires
-plain-requires c κs = search needs
-
 returns : tie.Need-returns
 returns c = as-bad (end-other _ _ _ (sym (c .before .before .does-agree .ensures) ∙ not-true _ (c .before .if1 .taken))) (c .plain .ensures)
-
-pair-requires : tie.Need-pair-requires
-pair-requires c κs = search needs
-
-cast-if2 : tie.Need-cast-if2
-cast-if2 c = search needs
-
-add-if2 : tie.Need-add-if2
-add-if2 c = search needs
-
-plain-requires-2 : tie.Need-plain-requires-2
-plain-requires-2 c κs = search needs
 
 returns-2 : tie.Need-returns-2
 returns-2 c =
     let a = c .before .before .before in
     as-bad (end-count _ _ _ (sym (a .before .does-agree .ensures) ∙ not-false _ (a .if1 .left))
     (λ e. c .before .if2 .taken (c .before .before .pair .ensures ∙ e))) (c .plain2 .ensures)
-
-plain-requires-3 : tie.Need-plain-requires-3
-plain-requires-3 c κs = search needs
 
 returns-3 : tie.Need-returns-3
 returns-3 c =
@@ -48,13 +27,5 @@ pub end-line-spec : {M : Type 1} → statement M
 end-line-spec =
     tie.close
     (tie.spec
-    does-agree-requires
-    plain-requires
-    returns
-    pair-requires
-    cast-if2
-    add-if2
-    plain-requires-2
-    returns-2
-    plain-requires-3
-    returns-3)
+    (λ c κs. search needs) (λ c κs. search needs) returns (λ c κs. search needs) (λ c. search needs) (λ c. search needs) (λ c κs. search needs) returns-2
+    (λ c κs. search needs) returns-3)

@@ -13,26 +13,8 @@ use Rattle.record_srec_line.proofs.is_sound.Tie as tie
 returns : tie.Need-returns
 returns c = sym (sound-short _ (c .if1 .taken))
 
-shared-slice-read-is-s : tie.Need-shared-slice-read-is-s
-shared-slice-read-is-s c = search needs
-
-is-s-requires : tie.Need-is-s-requires
-is-s-requires c κs = search needs
-
 returns-2 : tie.Need-returns-2
 returns-2 c = sym (sound-letter _ (omega arith) (sym (c .before .is-s .ensures) ∙ not-true _ (c .if2 .taken)))
-
-pair-requires : tie.Need-pair-requires
-pair-requires c κs = search needs
-
-cast-count : tie.Need-cast-count
-cast-count c = search needs
-
-mul-if3 : tie.Need-mul-if3
-mul-if3 c = search needs
-
-add-if3 : tie.Need-add-if3
-add-if3 c = search needs
 
 returns-3 : tie.Need-returns-3
 returns-3 c =
@@ -40,9 +22,6 @@ returns-3 c =
     let j = p .before in
     sym (sound-count _ (omega arith) (sym (j .before .is-s .ensures) ∙ not-false _ (j .if2 .left))
     (λ e. c .if3 .taken (e ∙ ap (λ (n : ℕ). 4 + 2 * n) (sym (p .pair .ensures)))))
-
-add-sum-checked : tie.Need-add-sum-checked
-add-sum-checked c = search needs
 
 sum-checked-requires : tie.Need-sum-checked-requires
 sum-checked-requires c κs = (search needs, (omega (arith, c .if3 .left), search needs))
@@ -61,15 +40,5 @@ pub is-sound-spec : {M : Type 1} → statement M
 is-sound-spec =
     tie.close
     (tie.spec
-    returns
-    shared-slice-read-is-s
-    is-s-requires
-    returns-2
-    pair-requires
-    cast-count
-    mul-if3
-    add-if3
-    returns-3
-    add-sum-checked
-    sum-checked-requires
-    returns-4)
+    returns (λ c. search needs) (λ c κs. search needs) returns-2 (λ c κs. search needs) (λ c. search needs) (λ c. search needs) (λ c. search needs)
+    returns-3 (λ c. search needs) sum-checked-requires returns-4)

@@ -4,9 +4,6 @@ use borrow.Author.Needs.{needs}
 use Rattle.record_srec_line.proofs.known_line.Statement.{statement}
 use Rattle.record_srec_line.proofs.known_line.Tie as tie
 
-char-at-requires : tie.Need-char-at-requires
-char-at-requires c κs = search needs
-
 typed-line-requires : tie.Need-typed-line-requires
 typed-line-requires c κs = let s = c .before .before in (s .pre .0, sound-long _ (s .pre .1))
 
@@ -16,4 +13,4 @@ returns c =
     rw (item-sound _ _ (d .before .before .pre .1), ← d .char-at .ensures) (c .typed-line .ensures)
 
 pub known-line-spec : {M : Type 1} → statement M
-known-line-spec = tie.close (tie.spec char-at-requires typed-line-requires returns)
+known-line-spec = tie.close (tie.spec (λ c κs. search needs) typed-line-requires returns)

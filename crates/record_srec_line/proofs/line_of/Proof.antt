@@ -7,12 +7,6 @@ use borrow.Author.Needs.{needs}
 use Rattle.record_srec_line.proofs.line_of.Statement.{statement}
 use Rattle.record_srec_line.proofs.line_of.Tie as tie
 
-is-sound-requires : tie.Need-is-sound-requires
-is-sound-requires c κs = search needs
-
-plain-requires : tie.Need-plain-requires
-plain-requires c κs = search needs
-
 returns : tie.Need-returns
 returns c = as-bad (item-bad _ _ (sym (c .before .before .is-sound .ensures) ∙ not-true _ (c .before .if1 .taken))) (c .plain .ensures)
 
@@ -23,4 +17,4 @@ returns-2 : tie.Need-returns-2
 returns-2 c = c .known-line .ensures
 
 pub line-of-spec : {M : Type 1} → statement M
-line-of-spec = tie.close (tie.spec is-sound-requires plain-requires returns known-line-requires returns-2)
+line-of-spec = tie.close (tie.spec (λ c κs. search needs) (λ c κs. search needs) returns known-line-requires returns-2)

@@ -8,23 +8,11 @@ use borrow.Author.Needs.{needs}
 use Rattle.record_srec_line.proofs.typed_line.Statement.{statement}
 use Rattle.record_srec_line.proofs.typed_line.Tie as tie
 
-header-line-requires : tie.Need-header-line-requires
-header-line-requires c κs = search needs
-
 data-line-requires : tie.Need-data-line-requires
 data-line-requires c κs = let p = c .before .before .pre in (p .0, (inl refl, p .1))
 
 data-line-requires-2 : tie.Need-data-line-requires-2
 data-line-requires-2 c κs = let p = c .before .before .pre in (p .0, (inr refl, p .1))
-
-end-line-requires : tie.Need-end-line-requires
-end-line-requires c κs = search needs
-
-end-line-requires-2 : tie.Need-end-line-requires-2
-end-line-requires-2 c κs = search needs
-
-plain-requires : tie.Need-plain-requires
-plain-requires c κs = search needs
 
 returns : tie.Need-returns
 returns c = rw (typed-header _ _ _ (c .before .match .keys1)) (header-anywhere 0 _ _ 0 _ (c .header-line .ensures))
@@ -50,15 +38,5 @@ pub typed-line-spec : {M : Type 1} → statement M
 typed-line-spec =
     tie.close
     (tie.spec
-    header-line-requires
-    data-line-requires
-    data-line-requires-2
-    end-line-requires
-    end-line-requires-2
-    plain-requires
-    returns
-    returns-2
-    returns-3
-    returns-4
-    returns-5
-    returns-6)
+    (λ c κs. search needs) data-line-requires data-line-requires-2 (λ c κs. search needs) (λ c κs. search needs) (λ c κs. search needs) returns returns-2
+    returns-3 returns-4 returns-5 returns-6)

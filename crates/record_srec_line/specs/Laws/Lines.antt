@@ -1,24 +1,16 @@
 -- What a sound line is, and which lines are bad.
-use mathlib.Core.Path.{_≡_, refl}
-use mathlib.Core.Bool.{Bool, true, false, _&&_}
+use mathlib.Core.Path.{_≡_}
+use mathlib.Core.Bool.{true, false, _&&_}
 use mathlib.Core.List.{List}
 use Prim.Native.Nat.{ℕ, _+_, _*_, _%_}
 use borrow.Author.Tests.{ne-eqb, eqb-true}
 use lib.Dec.{leb, eqb}
 use lib.ListN.{length, getD, drop}
+use Rattle.refusal.specs.Laws.Bools.{both}
 use Rattle.record_lines.specs.Digits.{allDigits, bytesAt}
 use Rattle.record_lines.specs.Items.{bad}
 use Rattle.record_lines.specs.Sums.{sumOf}
 use Rattle.record_srec_line.specs.Srec.{isS, isSound, countOf, typed, srecItem}
-
-and-both : (a b : Bool) → a && b ≡ true → (a ≡ true) × (b ≡ true)
-and-both true true e = (refl, refl)
-and-both true false e = (refl, e)
-and-both false b e = (e, go b e)
-  where
-    go : (x : Bool) → false ≡ true → x ≡ true
-    go true p = refl
-    go false p = p
 
 -- A sound line is as long as its count says.
 pub sound-long : (l : List ℕ) → isSound l ≡ true → length l ≡ 4 + 2 * countOf l
@@ -26,8 +18,8 @@ unfolding isSound
 sound-long l h =
     let three = leb 4 (length l) && isS (getD l 0 0) && allDigits (drop 2 l) in
     let four = three && eqb (length l) (4 + 2 * countOf l) in
-    let both = and-both four (eqb (sumOf (bytesAt l 2 (countOf l + 1)) % 256) 255) h in
-    eqb-true (length l) (4 + 2 * countOf l) (and-both three (eqb (length l) (4 + 2 * countOf l)) (both .0) .1)
+    let two = both four (eqb (sumOf (bytesAt l 2 (countOf l + 1)) % 256) 255) h in
+    eqb-true (length l) (4 + 2 * countOf l) (both three (eqb (length l) (4 + 2 * countOf l)) (two .0) .1)
 
 pub typed-bad : (t state : ℕ) (l : List ℕ) → (t ≡ 48 → ⊥) → (t ≡ 49 → ⊥) → (t ≡ 51 → ⊥) → (t ≡ 55 → ⊥) → (t ≡ 57 → ⊥) → typed t state l ≡ bad
 unfolding typed
