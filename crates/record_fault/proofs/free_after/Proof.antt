@@ -15,12 +15,6 @@ returns-2 c =
     let a = c .before .before .args in
     rw (eq-eqb (a .kind) 1 (c .before .if1 .left), eq-eqb (a .count) 0 (c .if2 .taken))
 
-lesser-requires : tie.Need-lesser-requires
-lesser-requires c κs = search needs
-
-add-t10 : tie.Need-add-t10
-add-t10 c = search needs
-
 returns-3 : tie.Need-returns-3
 returns-3 c =
     let i = c .before in
@@ -29,4 +23,4 @@ returns-3 c =
     (ap (λ (n : ℕ). record { low = n; edge = a .address + a .count; top = a .top }) (c .lesser .ensures))
 
 pub free-after-spec : {M : Type 1} → statement M
-free-after-spec = tie.close (tie.spec returns returns-2 lesser-requires add-t10 returns-3)
+free-after-spec = tie.close (tie.spec returns returns-2 (λ c κs. search needs) (λ c. search needs) returns-3)

@@ -17,21 +17,6 @@ stopped c = ended c .before
 abbrev start : tie.After-known-in → tie.Start
 start c = stopped c .before .before
 
-stop-by-requires : tie.Need-stop-by-requires
-stop-by-requires c κs = search needs
-
-end-at-requires : tie.Need-end-at-requires
-end-at-requires c κs = search needs
-
-sub-known-in : tie.Need-sub-known-in
-sub-known-in c = search needs
-
-part-known-in-start : tie.Need-part-known-in-start
-part-known-in-start c = search needs
-
-part-known-in-end : tie.Need-part-known-in-end
-part-known-in-end c = search needs
-
 known-in-requires : tie.Need-known-in-requires
 known-in-requires c κs =
     let b = c .before .before in
@@ -41,9 +26,6 @@ known-in-requires c κs =
       subst (IsGood (a .format) (a .state))
           (known-part (a .format) (a .state) (a .text .now) (a .at) (b .stop-by .result) (s .pre .1 .0) (s .pre .1 .1) (b .stop-by .ensures .0)) (s .pre .1 .1),
     )
-
-cast-t10 : tie.Need-cast-t10
-cast-t10 c = search needs
 
 -- what is known, as a step
 found : (c : tie.After-known-in) → Stepped (start c .args .format) (start c .args .text .now) (start c .args .at) (start c .args .state)
@@ -69,12 +51,5 @@ pub known-line-spec : {M : Type 1} → statement M
 known-line-spec =
     tie.close
     (tie.spec
-    stop-by-requires
-    end-at-requires
-    sub-known-in
-    part-known-in-start
-    part-known-in-end
-    known-in-requires
-    cast-t10
-    add-t13
+    (λ c κs. search needs) (λ c κs. search needs) (λ c. search needs) (λ c. search needs) (λ c. search needs) known-in-requires (λ c. search needs) add-t13
     returns)

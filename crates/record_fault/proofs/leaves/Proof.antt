@@ -11,9 +11,6 @@ returns c = rw (ne-eqb (c .before .args .kind) 1 (c .if1 .taken))
 returns-2 : tie.Need-returns-2
 returns-2 c = rw (eq-eqb (c .before .before .args .kind) 1 (c .before .if1 .left), eq-eqb (c .before .before .args .count) 0 (c .if2 .taken))
 
-add-if3 : tie.Need-add-if3
-add-if3 c = search needs
-
 returns-3 : tie.Need-returns-3
 returns-3 c =
     let a = c .before .before .before .args in
@@ -30,5 +27,4 @@ returns-4 c =
     rw (eq-eqb (a .kind) 1 (c .before .before .if1 .left), ne-eqb (a .count) 0 (c .before .if2 .left), lt-leb (a .address + a .count) (a .first) (c .if3 .left))
 
 pub leaves-spec : {M : Type 1} → statement M
-leaves-spec =
-    tie.close (tie.spec returns returns-2 add-if3 returns-3 returns-4)
+leaves-spec = tie.close (tie.spec returns returns-2 (λ c. search needs) returns-3 returns-4)

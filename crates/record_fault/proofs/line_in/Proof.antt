@@ -5,17 +5,11 @@ use Rattle.record_fault.proofs.line_in.Statement.{statement}
 use Rattle.record_fault.proofs.line_in.Tie as tie
 use Rattle.record_srec_line.proofs.line_of.Reads as line-of-reads′
 
-line-of-requires : tie.Need-line-of-requires
-line-of-requires c κs = search needs
-
 returns : tie.Need-returns
 returns c = in-hex _ (c .before .if1 .taken) (c .line-of .ensures)
-
-line-of-requires-2 : tie.Need-line-of-requires-2
-line-of-requires-2 c κs = search needs
 
 returns-2 : tie.Need-returns-2
 returns-2 c = in-srec _ (c .before .if1 .left) (c .line-of2 .ensures)
 
 pub line-in-spec : {M : Type 1} → statement M
-line-in-spec = tie.close (tie.spec line-of-requires returns line-of-requires-2 returns-2)
+line-in-spec = tie.close (tie.spec (λ c κs. search needs) returns (λ c κs. search needs) returns-2)

@@ -5,14 +5,8 @@ use borrow.Author.Needs.{needs}
 use Rattle.record_fault.proofs.lower.Statement.{statement}
 use Rattle.record_fault.proofs.lower.Tie as tie
 
-leaves-requires : tie.Need-leaves-requires
-leaves-requires c κs = search needs
-
 returns : tie.Need-returns
 returns c = rw (sym (c .before .leaves .ensures) ∙ not-true _ (c .if1 .taken))
-
-leaves-requires-2 : tie.Need-leaves-requires-2
-leaves-requires-2 c κs = search needs
 
 returns-2 : tie.Need-returns-2
 returns-2 c =
@@ -25,4 +19,4 @@ returns-3 c =
     rw (sym (i .before .leaves .ensures) ∙ not-false _ (i .if1 .left), sym (c .before .leaves2 .ensures) ∙ c .if2 .left)
 
 pub lower-spec : {M : Type 1} → statement M
-lower-spec = tie.close (tie.spec leaves-requires returns leaves-requires-2 returns-2 returns-3)
+lower-spec = tie.close (tie.spec (λ c κs. search needs) returns (λ c κs. search needs) returns-2 returns-3)

@@ -23,15 +23,6 @@ known-line-requires c κs =
     let w = l .loop .inv in
     (s .pre .0, (w .inside, good-at (a .format) (a .text .now) (a .n) (l .loop .counter) (w .place) (w .force) (s .pre .1) (c .loop-test .taken)))
 
-lower-requires : tie.Need-lower-requires Inv-loop μ-loop
-lower-requires c κs = search needs
-
-add-counter : tie.Need-add-counter Inv-loop μ-loop
-add-counter c = search needs
-
-loop-less : tie.Need-loop-less Inv-loop μ-loop
-loop-less c = search needs
-
 loop-again : tie.Need-loop-again Inv-loop μ-loop
 loop-again c =
     let t = c .before .before in
@@ -49,4 +40,7 @@ returns c =
     looking-ends (a .format) (a .text .now) (a .n) (a .first) (a .end) (l .loop .inv) (c .loop-test .left)
 
 pub room-above-spec : {M : Type 1} → statement M
-room-above-spec = tie.close (tie.spec Inv-loop μ-loop loop-holds known-line-requires lower-requires add-counter loop-less loop-again returns)
+room-above-spec =
+    tie.close
+    (tie.spec
+    Inv-loop μ-loop loop-holds known-line-requires (λ c κs. search needs) (λ c. search needs) (λ c. search needs) loop-again returns)

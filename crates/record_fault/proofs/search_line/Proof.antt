@@ -11,27 +11,6 @@ use borrow.Author.Needs.{needs}
 use Rattle.record_fault.proofs.search_line.Statement.{statement}
 use Rattle.record_fault.proofs.search_line.Tie as tie
 
-line-from-requires : tie.Need-line-from-requires
-line-from-requires c κs = search needs
-
-least-requires : tie.Need-least-requires
-least-requires c κs = search needs
-
-least-requires-2 : tie.Need-least-requires-2
-least-requires-2 c κs = search needs
-
-sub-line-in : tie.Need-sub-line-in
-sub-line-in c = search needs
-
-part-line-in-start : tie.Need-part-line-in-start
-part-line-in-start c = search needs
-
-part-line-in-end : tie.Need-part-line-in-end
-part-line-in-end c = search needs
-
-line-in-requires : tie.Need-line-in-requires
-line-in-requires c κs = search needs
-
 returns : tie.Need-returns
 returns c =
     let two = c .before .before in
@@ -58,11 +37,5 @@ pub search-line-spec : {M : Type 1} → statement M
 search-line-spec =
     tie.close
     (tie.spec
-    line-from-requires
-    least-requires
-    least-requires-2
-    sub-line-in
-    part-line-in-start
-    part-line-in-end
-    line-in-requires
+    (λ c κs. search needs) (λ c κs. search needs) (λ c κs. search needs) (λ c. search needs) (λ c. search needs) (λ c. search needs) (λ c κs. search needs)
     returns)

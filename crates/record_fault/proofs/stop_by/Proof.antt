@@ -8,9 +8,6 @@ use borrow.Author.Needs.{needs}
 use Rattle.record_fault.proofs.stop_by.Statement.{statement}
 use Rattle.record_fault.proofs.stop_by.Tie as tie
 
-sub-left : tie.Need-sub-left
-sub-left c = search needs
-
 returns : tie.Need-returns
 returns c =
     let s = c .before .before in
@@ -19,12 +16,6 @@ returns c =
 
 long-by-requires : tie.Need-long-by-requires
 long-by-requires c κs = let s = c .before .before in (s .pre .0, omega (arith, c .if1 .left, s .pre .1))
-
-least-requires : tie.Need-least-requires
-least-requires c κs = search needs
-
-add-result : tie.Need-add-result
-add-result c = search needs
 
 returns-2 : tie.Need-returns-2
 returns-2 c =
@@ -39,4 +30,4 @@ returns-2 c =
     )
 
 pub stop-by-spec : {M : Type 1} → statement M
-stop-by-spec = tie.close (tie.spec sub-left returns long-by-requires least-requires add-result returns-2)
+stop-by-spec = tie.close (tie.spec (λ c. search needs) returns long-by-requires (λ c κs. search needs) (λ c. search needs) returns-2)

@@ -20,38 +20,11 @@ stopped c = ended c .before
 abbrev start : tie.Else2 → tie.Start
 start c = stopped c .before .before
 
-stop-by-requires : tie.Need-stop-by-requires
-stop-by-requires c κs = search needs
-
-end-at-requires : tie.Need-end-at-requires
-end-at-requires c κs = search needs
-
-search-line-requires : tie.Need-search-line-requires
-search-line-requires c κs = search needs
-
 returns : tie.Need-returns
 returns c = c .search-line .ensures
 
-sub-line-in : tie.Need-sub-line-in
-sub-line-in c = search needs
-
-part-line-in-start : tie.Need-part-line-in-start
-part-line-in-start c = search needs
-
-part-line-in-end : tie.Need-part-line-in-end
-part-line-in-end c = search needs
-
-line-in-requires : tie.Need-line-in-requires
-line-in-requires c κs = search needs
-
-search-line-requires-2 : tie.Need-search-line-requires-2
-search-line-requires-2 c κs = search needs
-
 returns-2 : tie.Need-returns-2
 returns-2 c = c .search-line2 .ensures
-
-cast-t11 : tie.Need-cast-t11
-cast-t11 c = search needs
 
 -- what is found, as a step
 found : (c : tie.Else2) → Stepped (start c .args .format) (start c .args .text .now) (start c .args .at) (start c .args .state)
@@ -82,16 +55,5 @@ pub take-line-spec : {M : Type 1} → statement M
 take-line-spec =
     tie.close
     (tie.spec
-    stop-by-requires
-    end-at-requires
-    search-line-requires
-    returns
-    sub-line-in
-    part-line-in-start
-    part-line-in-end
-    line-in-requires
-    search-line-requires-2
-    returns-2
-    cast-t11
-    add-t14
-    returns-3)
+    (λ c κs. search needs) (λ c κs. search needs) (λ c κs. search needs) returns (λ c. search needs) (λ c. search needs) (λ c. search needs)
+    (λ c κs. search needs) (λ c κs. search needs) returns-2 (λ c. search needs) add-t14 returns-3)
