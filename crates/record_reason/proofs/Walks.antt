@@ -8,19 +8,17 @@ use native.Mathlib.Numerals.{add-one}
 use native.Mathlib.Omega.{arith}
 use lib.Dec.{leb, eqb}
 use lib.ListN.{length, drop, length-drop}
-use lib.Seq.{drop-drop}
 use borrow.Author.Tests.{ne-eqb}
 use Rattle.refusal.specs.Pick.{pick}
 use Rattle.record_lines.specs.Items.{Item, gives, passes, ends, bad, asLine, Says}
 use Rattle.record_lines.specs.Lines.{linesOf, firstLine, taken}
 use Rattle.record_lines.specs.Pieces.{Piece}
-use Rattle.record_lines.specs.Theorems.Lines.{lines-first}
 use Rattle.record_lines.specs.declared.Line.{Line}
 use Rattle.record_fault.specs.Reading.{formatBy, Read, sound, faulty, newPieces, stateAfter, isNew}
 use Rattle.record_fault.specs.Trail.{trail, lineAt, itemAt, nextOf}
 use Rattle.record_fault.specs.Steps.{Stepped}
-use Rattle.record_fault.specs.Laws.Steps.{leavesOf}
-use Rattle.record_fault.specs.Laws.TrailLaws.{moved, next-at, next-state, says-state}
+use Rattle.record_fault.specs.Laws.Steps.{leavesOf, leaves-new}
+use Rattle.record_fault.specs.Laws.TrailLaws.{lines-at, lines-past, moved, next-at, next-state, says-state}
 use Rattle.record_fault.specs.declared.Step.{Step}
 use Rattle.record_fault.specs.declared.Fault.the-variants.{Good, At}
 use Rattle.record_fault.specs.Outcome.{faultOf}
@@ -41,19 +39,6 @@ address-item s f (passes t) = refl
 address-item s f ends = refl
 address-item s f bad = refl
 
-and-true : (b : Bool) → b && true ≡ b
-and-true true = refl
-and-true false = refl
-
-leaves-item : (s f first end : ℕ) (i : Item) → leavesOf (asLine s f i) first end ≡ isNew (newPieces i) first end
-unfolding isNew
-leaves-item s f first end (gives a [] t) = refl
-leaves-item s f first end (gives a (b ∷ l) t) =
-    rw (ne-eqb (suc (length l)) 0 (λ e. omega arith)) (sym (and-true (leb (a + suc (length l)) first || leb end a)))
-leaves-item s f first end (passes t) = refl
-leaves-item s f first end ends = refl
-leaves-item s f first end bad = refl
-
 -- the lower of an address and a line's
 abbrev pub lowerBy : Line → ℕ → ℕ
 lowerBy r low = pick (eqb (r .kind) 1) (pick (eqb (r .count) 0) low (min (r .address) low)) low
@@ -71,9 +56,6 @@ module _ {l : List ℕ} {s f : ℕ} {r : Line} {i : Item} (p : Says l s f r i) w
 
   pub says-address : r .address ≡ addressIn i
   says-address = ap (λ (x : Line). x .address) (p .answer) ∙ address-item s f i
-
-  pub says-leaves : (first end : ℕ) → leavesOf r first end ≡ isNew (newPieces i) first end
-  says-leaves first end = ap (λ (x : Line). leavesOf x first end) (p .answer) ∙ leaves-item s f first end i
 
   pub says-lower : (low : ℕ) → lowerBy r low ≡ lower (newPieces i) low
   says-lower low = ap (λ (x : Line). lowerBy x low) (p .answer) ∙ lower-item s f low i
@@ -135,7 +117,7 @@ module _ (format : ℕ) (text : List ℕ) (n first end : ℕ) where
     unfolding giver
     seeking-on h {r} {left} {next} s e b =
         let t = moved format text k r at state (w .place) (w .force) s in
-        let own = e ∙ says-leaves (t .says) first end in
+        let own = e ∙ leaves-new first end (t .says) in
         let was = w .kept in
         record {
           few = omega arith;
@@ -158,22 +140,6 @@ module _ (format : ℕ) (text : List ℕ) (n first end : ℕ) where
     seeking-ends h = w .kept ∙ ap (giver format text first end) (le-antisymm (w .few) h)
 
 -- ---- the lowest address
-
-lines-some : (t : List ℕ) → 0 < length t → linesOf t ≡ firstLine t ∷ linesOf (drop (taken t) t)
-lines-some [] h = absurd (omega arith)
-lines-some (c ∷ t) h = lines-first c t
-
-pub lines-at : (text : List ℕ) (at : ℕ) → at < length text → linesOf (drop at text) ≡ lineAt text at ∷ linesOf (drop (nextOf text at) text)
-lines-at text at h =
-    lines-some (drop at text) (omega (arith, length-drop at text)) ∙ ap (λ (l : List ℕ). lineAt text at ∷ linesOf l) (drop-drop (taken (drop at text)) at text)
-
-lines-none : (t : List ℕ) → length t ≡ 0 → linesOf t ≡ []
-unfolding linesOf
-lines-none [] h = refl
-lines-none (c ∷ t) h = absurd (omega arith)
-
-pub lines-past : (text : List ℕ) (at : ℕ) → length text ≤ at → linesOf (drop at text) ≡ []
-lines-past text at h = lines-none (drop at text) (omega (arith, length-drop at text))
 
 pub record Sinking (format : ℕ) (text : List ℕ) (at state low : ℕ) : Type 0 where
   pub left : lowest format text ≡ min low (lowestFrom (formatBy format) (linesOf (drop at text)) state)

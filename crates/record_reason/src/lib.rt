@@ -8,7 +8,6 @@ ghost use lib.Dec.{eqb};
 ghost use Rattle.refusal.specs.Pick.{pick};
 ghost use Rattle.record_lines.specs.Spelling.{Spells};
 ghost use Rattle.record_fault.specs.Reading.{readText};
-ghost use Rattle.record_fault.specs.Steps.{leavesBy};
 ghost use Rattle.record_reason.specs.Spelling.{causeOf};
 ghost use Rattle.record_reason.specs.Reasons.{itemOf, addressIn, giver, lowest, spanCause, lineCause, causeAt, whyOf, Placed};
 
@@ -86,33 +85,14 @@ fn place_of(format: u8, text: &[u8], t: &[u8; 256], n: u64) -> Place
     let mut at = 0usize;
     let mut state = 0u16;
     let mut ended = false;
-    let mut k = 0u64;
-    while k < n {
+    for _ in 0..n {
         let s = record_fault::search_line(format, text, t, at, state);
         let line = s.line;
         ended = is_end(line.kind);
         at = s.next;
         state = line.state;
-        k += 1;
     }
     Place { at, state, ended }
-}
-
-// Whether a line gives no byte from `first` on and below `end`.
-fn leaves(kind: u8, address: u32, count: u8, first: u64, end: u64) -> bool
-    ensures { λ r. ⌜ r ≡ leavesBy kind address count first end ⌝ }
-{
-    if kind != record_lines::DATA {
-        return true;
-    }
-    if count == 0 {
-        return true;
-    }
-    let start = address as u64;
-    if start + (count as u64) <= first {
-        return true;
-    }
-    end <= start
 }
 
 // The first giver with line k, where `found` is that of the lines before it, k for none.
@@ -137,18 +117,16 @@ fn first_giver(format: u8, text: &[u8], t: &[u8; 256], n: u64, first: u64, end: 
     let mut at = 0usize;
     let mut state = 0u16;
     let mut found = 0u64;
-    let mut k = 0u64;
-    while k < n {
+    for k in 0..n {
         let s = record_fault::search_line(format, text, t, at, state);
         let line = s.line;
         found = next_giver(
             found,
             k,
-            leaves(line.kind, line.address, line.count, first, end),
+            record_fault::leaves(line.kind, line.address, line.count, first, end),
         );
         at = s.next;
         state = line.state;
-        k += 1;
     }
     found
 }

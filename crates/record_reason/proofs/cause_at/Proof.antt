@@ -14,14 +14,8 @@ use Rattle.record_reason.proofs.cause_at.Tie as tie
 place-of-requires : tie.Need-place-of-requires
 place-of-requires c κs = c .before .pre
 
-made-requires : tie.Need-made-requires
-made-requires c κs = search needs
-
 returns : tie.Need-returns
 returns c = rw (c .made .ensures, sym (c .before .before .place-of .ensures .ended) ∙ c .before .if1 .taken)
-
-made-requires-2 : tie.Need-made-requires-2
-made-requires-2 c κs = search needs
 
 returns-2 : tie.Need-returns-2
 returns-2 c =
@@ -39,12 +33,6 @@ returns-2 c =
 
 search-line-requires : tie.Need-search-line-requires
 search-line-requires c κs = c .before .before .before .before .pre
-
-sub-line-cause : tie.Need-sub-line-cause
-sub-line-cause c = search needs
-
-part-line-cause-start : tie.Need-part-line-cause-start
-part-line-cause-start c = search needs
 
 part-line-cause-end : tie.Need-part-line-cause-end
 part-line-cause-end c = c .search-line .ensures .within (c .before .before .before .place-of .ensures .inside)
@@ -69,5 +57,6 @@ returns-3 c =
 pub cause-at-spec : {M : Type 1} → statement M
 cause-at-spec =
     tie.close
-    (tie.spec place-of-requires made-requires returns made-requires-2 returns-2 search-line-requires sub-line-cause part-line-cause-start
+    (tie.spec
+    place-of-requires (λ c κs. search needs) returns (λ c κs. search needs) returns-2 search-line-requires (λ c. search needs) (λ c. search needs)
     part-line-cause-end line-cause-requires returns-3)

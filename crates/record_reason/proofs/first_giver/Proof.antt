@@ -18,18 +18,6 @@ loop-holds c = seeking-starts (c .before .args .format) (c .before .args .text .
 search-line-requires : tie.Need-search-line-requires Inv-loop μ-loop
 search-line-requires c κs = c .before .before .before .pre
 
-leaves-requires : tie.Need-leaves-requires Inv-loop μ-loop
-leaves-requires c κs = search needs
-
-next-giver-requires : tie.Need-next-giver-requires Inv-loop μ-loop
-next-giver-requires c κs = search needs
-
-add-k : tie.Need-add-k Inv-loop μ-loop
-add-k c = search needs
-
-loop-less : tie.Need-loop-less Inv-loop μ-loop
-loop-less c = search needs
-
 loop-again : tie.Need-loop-again Inv-loop μ-loop
 loop-again c = seeking-on _ _ _ _ _ (c .before .before .before .before .before .loop .inv) (c .before .before .before .before .loop-test .taken)
     (c .before .before .before .search-line .ensures) (c .before .leaves .ensures) (c .next-giver .ensures)
@@ -40,4 +28,5 @@ returns c = seeking-ends _ _ _ _ _ (c .before .loop .inv) (c .loop-test .left)
 pub first-giver-spec : {M : Type 1} → statement M
 first-giver-spec =
     tie.close
-    (tie.spec Inv-loop μ-loop loop-holds search-line-requires leaves-requires next-giver-requires add-k loop-less loop-again returns)
+    (tie.spec
+    Inv-loop μ-loop loop-holds search-line-requires (λ c κs. search needs) (λ c κs. search needs) (λ c. search needs) (λ c. search needs) loop-again returns)

@@ -5,20 +5,8 @@ use borrow.Author.Needs.{needs}
 use Rattle.record_reason.proofs.line_cause.Statement.{statement}
 use Rattle.record_reason.proofs.line_cause.Tie as tie
 
-own-cause-requires : tie.Need-own-cause-requires
-own-cause-requires c κs = search needs
-
 returns : tie.Need-returns
 returns c = or-first _ (c .before .before .own-cause .ensures) (c .if1 .taken)
-
-start-of-requires : tie.Need-start-of-requires
-start-of-requires c κs = search needs
-
-many-of-requires : tie.Need-many-of-requires
-many-of-requires c κs = search needs
-
-top-of-requires : tie.Need-top-of-requires
-top-of-requires c κs = search needs
 
 span-cause-requires : tie.Need-span-cause-requires
 span-cause-requires c κs = (
@@ -34,4 +22,5 @@ returns-2 c =
 pub line-cause-spec : {M : Type 1} → statement M
 line-cause-spec =
     tie.close
-    (tie.spec own-cause-requires returns start-of-requires many-of-requires top-of-requires span-cause-requires returns-2)
+    (tie.spec
+    (λ c κs. search needs) returns (λ c κs. search needs) (λ c κs. search needs) (λ c κs. search needs) span-cause-requires returns-2)

@@ -19,9 +19,6 @@ loop-holds c = sinking-starts (c .before .args .format) (c .before .args .text .
 search-line-requires : tie.Need-search-line-requires Inv-loop μ-loop
 search-line-requires c κs = c .before .before .before .pre
 
-lower-of-requires : tie.Need-lower-of-requires Inv-loop μ-loop
-lower-of-requires c κs = search needs
-
 loop-less : tie.Need-loop-less Inv-loop μ-loop
 loop-less c = omega (
   arith,
@@ -37,6 +34,4 @@ returns : tie.Need-returns Inv-loop μ-loop
 returns c = sinking-ends _ _ (c .before .loop .inv) (c .loop-test .left)
 
 pub lowest-of-spec : {M : Type 1} → statement M
-lowest-of-spec =
-    tie.close
-    (tie.spec Inv-loop μ-loop loop-holds search-line-requires lower-of-requires loop-less loop-again returns)
+lowest-of-spec = tie.close (tie.spec Inv-loop μ-loop loop-holds search-line-requires (λ c κs. search needs) loop-less loop-again returns)

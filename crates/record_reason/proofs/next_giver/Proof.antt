@@ -7,9 +7,6 @@ use Rattle.record_reason.proofs.next_giver.Tie as tie
 returns : tie.Need-returns
 returns c = rw (ne-eqb (c .before .args .found) (c .before .args .k) (c .if1 .taken))
 
-add-result : tie.Need-add-result
-add-result c = search needs
-
 returns-2 : tie.Need-returns-2
 returns-2 c =
     let args′ = c .before .before .args in
@@ -21,10 +18,4 @@ returns-3 c =
     rw (eq-eqb (args′ .found) (args′ .k) (c .before .if1 .left), c .if2 .left)
 
 pub next-giver-spec : {M : Type 1} → statement M
-next-giver-spec =
-    tie.close
-    (tie.spec
-    returns
-    add-result
-    returns-2
-    returns-3)
+next-giver-spec = tie.close (tie.spec returns (λ c. search needs) returns-2 returns-3)

@@ -17,15 +17,6 @@ loop-holds c = walking-starts (c .before .args .format) (c .before .args .text .
 search-line-requires : tie.Need-search-line-requires Inv-loop μ-loop
 search-line-requires c κs = c .before .before .before .pre
 
-is-end-requires : tie.Need-is-end-requires Inv-loop μ-loop
-is-end-requires c κs = search needs
-
-add-k : tie.Need-add-k Inv-loop μ-loop
-add-k c = search needs
-
-loop-less : tie.Need-loop-less Inv-loop μ-loop
-loop-less c = search needs
-
 loop-again : tie.Need-loop-again Inv-loop μ-loop
 loop-again c = walking-on _ _ _ (c .before .before .before .before .loop .inv) (c .before .before .before .loop-test .taken)
     (c .before .before .search-line .ensures) (c .is-end .ensures)
@@ -36,4 +27,5 @@ returns c = walking-ends _ _ _ (c .before .loop .inv) (c .loop-test .left)
 pub place-of-spec : {M : Type 1} → statement M
 place-of-spec =
     tie.close
-    (tie.spec Inv-loop μ-loop loop-holds search-line-requires is-end-requires add-k loop-less loop-again returns)
+    (tie.spec
+    Inv-loop μ-loop loop-holds search-line-requires (λ c κs. search needs) (λ c. search needs) (λ c. search needs) loop-again returns)

@@ -5,18 +5,6 @@ use borrow.Author.Needs.{needs}
 use Rattle.record_reason.proofs.span_cause.Statement.{statement}
 use Rattle.record_reason.proofs.span_cause.Tie as tie
 
-add-end : tie.Need-add-end
-add-end c = search needs
-
-sub-made : tie.Need-sub-made
-sub-made c = search needs
-
-sub-made-2 : tie.Need-sub-made-2
-sub-made-2 c = search needs
-
-made-requires : tie.Need-made-requires
-made-requires c κs = search needs
-
 returns : tie.Need-returns
 returns c =
     let args′ = c .before .before .before .args in
@@ -24,9 +12,6 @@ returns c =
 
 lowest-of-requires : tie.Need-lowest-of-requires
 lowest-of-requires c κs = c .before .before .before .pre .0
-
-made-requires-2 : tie.Need-made-requires-2
-made-requires-2 c κs = search needs
 
 returns-2 : tie.Need-returns-2
 returns-2 c =
@@ -45,15 +30,6 @@ first-giver-requires c κs = c .before .before .before .pre .0
 
 address-at-requires : tie.Need-address-at-requires
 address-at-requires c κs = c .before .before .before .before .pre .0
-
-cast-greater : tie.Need-cast-greater
-cast-greater c = search needs
-
-greater-requires : tie.Need-greater-requires
-greater-requires c κs = search needs
-
-made-requires-3 : tie.Need-made-requires-3
-made-requires-3 c κs = search needs
 
 returns-3 : tie.Need-returns-3
 returns-3 c =
@@ -75,17 +51,5 @@ pub span-cause-spec : {M : Type 1} → statement M
 span-cause-spec =
     tie.close
     (tie.spec
-    add-end
-    sub-made
-    sub-made-2
-    made-requires
-    returns
-    lowest-of-requires
-    made-requires-2
-    returns-2
-    first-giver-requires
-    address-at-requires
-    cast-greater
-    greater-requires
-    made-requires-3
-    returns-3)
+    (λ c. search needs) (λ c. search needs) (λ c. search needs) (λ c κs. search needs) returns lowest-of-requires (λ c κs. search needs) returns-2
+    first-giver-requires address-at-requires (λ c. search needs) (λ c κs. search needs) (λ c κs. search needs) returns-3)

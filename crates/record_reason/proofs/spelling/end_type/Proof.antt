@@ -5,25 +5,10 @@ use borrow.Author.Needs.{needs}
 use Rattle.record_reason.proofs.spelling.end_type.Statement.{statement}
 use Rattle.record_reason.proofs.spelling.end_type.Tie as tie
 
-does-agree-requires : tie.Need-does-agree-requires
-does-agree-requires c κs = search needs
-
-made-requires : tie.Need-made-requires
-made-requires c κs = search needs
-
 returns : tie.Need-returns
 returns c =
     let does-agree′ = c .before .before .does-agree in
     rw (c .made .ensures, sym (does-agree′ .ensures) ∙ not-true _ (c .before .if1 .taken))
-
-byte-requires : tie.Need-byte-requires
-byte-requires c κs = search needs
-
-add-made : tie.Need-add-made
-add-made c = search needs
-
-made-requires-2 : tie.Need-made-requires-2
-made-requires-2 c κs = search needs
 
 returns-2 : tie.Need-returns-2
 returns-2 c =
@@ -35,10 +20,4 @@ pub end-type-spec : {M : Type 1} → statement M
 end-type-spec =
     tie.close
     (tie.spec
-    does-agree-requires
-    made-requires
-    returns
-    byte-requires
-    add-made
-    made-requires-2
-    returns-2)
+    (λ c κs. search needs) (λ c κs. search needs) returns (λ c κs. search needs) (λ c. search needs) (λ c κs. search needs) returns-2)

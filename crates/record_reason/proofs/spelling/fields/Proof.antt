@@ -6,23 +6,11 @@ use borrow.Author.Needs.{needs}
 use Rattle.record_reason.proofs.spelling.fields.Statement.{statement}
 use Rattle.record_reason.proofs.spelling.fields.Tie as tie
 
-byte-requires : tie.Need-byte-requires
-byte-requires c κs = search needs
-
-made-requires : tie.Need-made-requires
-made-requires c κs = search needs
-
 returns : tie.Need-returns
 returns c =
     let args′ = c .before .before .before .before .args in
     let byte′ = c .before .before .byte in
     rw (c .made .ensures, byte′ .ensures .0, ne-eqb (pairAt (args′ .line .now) 1) (args′ .count) (λ z. c .before .if1 .taken (byte′ .ensures .0 ∙ z)))
-
-word-requires : tie.Need-word-requires
-word-requires c κs = search needs
-
-made-requires-2 : tie.Need-made-requires-2
-made-requires-2 c κs = search needs
 
 returns-2 : tie.Need-returns-2
 returns-2 c =
@@ -32,12 +20,4 @@ returns-2 c =
     rw (c .made2 .ensures, c .before .word .ensures .0, eq-eqb (pairAt (args′ .line .now) 1) (args′ .count) (sym (byte′ .ensures .0) ∙ if1′ .left))
 
 pub fields-spec : {M : Type 1} → statement M
-fields-spec =
-    tie.close
-    (tie.spec
-    byte-requires
-    made-requires
-    returns
-    word-requires
-    made-requires-2
-    returns-2)
+fields-spec = tie.close (tie.spec (λ c κs. search needs) (λ c κs. search needs) returns (λ c κs. search needs) (λ c κs. search needs) returns-2)

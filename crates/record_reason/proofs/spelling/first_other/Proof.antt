@@ -16,15 +16,6 @@ Inv-loop line from i₀ i = from + leading (drop from line) ≡ i + leading (dro
 abbrev μ-loop : tie.MeasureT-loop
 μ-loop line from i₀ i = length line - i
 
-loop-holds : tie.Need-loop-holds Inv-loop μ-loop
-loop-holds c = refl
-
-shared-slice-read-is-digit : tie.Need-shared-slice-read-is-digit Inv-loop μ-loop
-shared-slice-read-is-digit c = search needs
-
-is-digit-requires : tie.Need-is-digit-requires Inv-loop μ-loop
-is-digit-requires c κs = search needs
-
 returns : tie.Need-returns Inv-loop μ-loop
 returns c =
     let args′ = c .before .before .before .before .before .before .args in
@@ -32,12 +23,6 @@ returns c =
     let loop-test′ = c .before .before .before .loop-test in
     let stops = leading-stops (args′ .line .now) (loop′ .i) (loop-test′ .taken) (sym (c .before .is-digit .ensures) ∙ not-true _ (c .if1 .taken)) in
     omega (arith, loop′ .inv, stops)
-
-add-i : tie.Need-add-i Inv-loop μ-loop
-add-i c = search needs
-
-loop-less : tie.Need-loop-less Inv-loop μ-loop
-loop-less c = search needs
 
 loop-again : tie.Need-loop-again Inv-loop μ-loop
 loop-again c =
@@ -56,13 +41,4 @@ pub first-other-spec : {M : Type 1} → statement M
 first-other-spec =
     tie.close
     (tie.spec
-    Inv-loop
-    μ-loop
-    loop-holds
-    shared-slice-read-is-digit
-    is-digit-requires
-    returns
-    add-i
-    loop-less
-    loop-again
-    returns-2)
+    Inv-loop μ-loop (λ c. refl) (λ c. search needs) (λ c κs. search needs) returns (λ c. search needs) (λ c. search needs) loop-again returns-2)

@@ -6,20 +6,11 @@ use borrow.Author.Needs.{needs}
 use Rattle.record_reason.proofs.spelling.hex_type.Statement.{statement}
 use Rattle.record_reason.proofs.spelling.hex_type.Tie as tie
 
-byte-requires : tie.Need-byte-requires
-byte-requires c κs = search needs
-
-made-requires : tie.Need-made-requires
-made-requires c κs = search needs
-
 returns : tie.Need-returns
 returns c =
     let args′ = c .before .before .before .before .args in
     let byte′ = c .before .before .byte in
     rw (c .made .ensures, eq-eqb (pairAt (args′ .line .now) 7) 0 (sym (byte′ .ensures .0) ∙ c .before .if1 .taken))
-
-fields-requires : tie.Need-fields-requires
-fields-requires c κs = search needs
 
 returns-2 : tie.Need-returns-2
 returns-2 c =
@@ -32,9 +23,6 @@ returns-2 c =
       eq-eqb (pairAt l 7) 1 (sym (byte′ .ensures .0) ∙ c .before .if2 .taken),
       ne-eqb (pairAt l 7) 0 (λ z. if1′ .left (byte′ .ensures .0 ∙ z)),
     )
-
-fields-requires-2 : tie.Need-fields-requires-2
-fields-requires-2 c κs = search needs
 
 returns-3 : tie.Need-returns-3
 returns-3 c =
@@ -49,9 +37,6 @@ returns-3 c =
       ne-eqb (pairAt l 7) 1 (λ z. if2′ .left (byte′ .ensures .0 ∙ z)),
       ne-eqb (pairAt l 7) 0 (λ z. if1′ .left (byte′ .ensures .0 ∙ z)),
     )
-
-made-requires-2 : tie.Need-made-requires-2
-made-requires-2 c κs = search needs
 
 returns-4 : tie.Need-returns-4
 returns-4 c =
@@ -72,12 +57,4 @@ pub hex-type-spec : {M : Type 1} → statement M
 hex-type-spec =
     tie.close
     (tie.spec
-    byte-requires
-    made-requires
-    returns
-    fields-requires
-    returns-2
-    fields-requires-2
-    returns-3
-    made-requires-2
-    returns-4)
+    (λ c κs. search needs) (λ c κs. search needs) returns (λ c κs. search needs) returns-2 (λ c κs. search needs) returns-3 (λ c κs. search needs) returns-4)

@@ -7,22 +7,10 @@ use borrow.Author.Needs.{needs}
 use Rattle.record_reason.proofs.spelling.many_of.Statement.{statement}
 use Rattle.record_reason.proofs.spelling.many_of.Tie as tie
 
-byte-requires : tie.Need-byte-requires
-byte-requires c κs = search needs
-
 returns : tie.Need-returns
 returns c =
     let args′ = c .before .before .before .args in
     (rw (eq-eqb (args′ .format) 0 (c .before .if1 .taken), c .byte .ensures .0), omega (arith, c .byte .ensures .1))
-
-char-at-requires : tie.Need-char-at-requires
-char-at-requires c κs = search needs
-
-byte-requires-2 : tie.Need-byte-requires-2
-byte-requires-2 c κs = search needs
-
-left-requires : tie.Need-left-requires
-left-requires c κs = search needs
 
 returns-2 : tie.Need-returns-2
 returns-2 c =
@@ -38,12 +26,6 @@ returns-2 c =
       ),
       omega (arith, c .left .ensures .1, c .before .byte2 .ensures .1),
     )
-
-byte-requires-3 : tie.Need-byte-requires-3
-byte-requires-3 c κs = search needs
-
-left-requires-2 : tie.Need-left-requires-2
-left-requires-2 c κs = search needs
 
 returns-3 : tie.Need-returns-3
 returns-3 c =
@@ -64,12 +46,5 @@ pub many-of-spec : {M : Type 1} → statement M
 many-of-spec =
     tie.close
     (tie.spec
-    byte-requires
-    returns
-    char-at-requires
-    byte-requires-2
-    left-requires
-    returns-2
-    byte-requires-3
-    left-requires-2
-    returns-3)
+    (λ c κs. search needs) returns (λ c κs. search needs) (λ c κs. search needs) (λ c κs. search needs) returns-2 (λ c κs. search needs)
+    (λ c κs. search needs) returns-3)

@@ -6,17 +6,11 @@ use borrow.Author.Needs.{needs}
 use Rattle.record_reason.proofs.spelling.own_cause.Statement.{statement}
 use Rattle.record_reason.proofs.spelling.own_cause.Tie as tie
 
-spelling-in-requires : tie.Need-spelling-in-requires
-spelling-in-requires c κs = search needs
-
 returns : tie.Need-returns
 unfolding ownCause
 returns c =
     let spelling-in′ = c .before .before .spelling-in in
     or-first _ (spelling-in′ .ensures) (c .if1 .taken)
-
-hex-type-requires : tie.Need-hex-type-requires
-hex-type-requires c κs = search needs
 
 returns-2 : tie.Need-returns-2
 unfolding ownCause
@@ -25,9 +19,6 @@ returns-2 c =
     let spelling-in′ = c .before .before .before .before .spelling-in in
     let if1′ = c .before .before .if1 in
     or-second _ (spelling-in′ .ensures) (if1′ .left) (rw (eq-eqb (args′ .format) 0 (c .before .if2 .taken)) (c .hex-type .ensures))
-
-srec-type-requires : tie.Need-srec-type-requires
-srec-type-requires c κs = search needs
 
 returns-3 : tie.Need-returns-3
 unfolding ownCause
@@ -38,12 +29,4 @@ returns-3 c =
     or-second _ (spelling-in′ .ensures) (if1′ .left) (rw (ne-eqb (args′ .format) 0 (c .before .if2 .left)) (c .srec-type .ensures))
 
 pub own-cause-spec : {M : Type 1} → statement M
-own-cause-spec =
-    tie.close
-    (tie.spec
-    spelling-in-requires
-    returns
-    hex-type-requires
-    returns-2
-    srec-type-requires
-    returns-3)
+own-cause-spec = tie.close (tie.spec (λ c κs. search needs) returns (λ c κs. search needs) returns-2 (λ c κs. search needs) returns-3)

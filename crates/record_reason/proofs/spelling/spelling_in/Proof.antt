@@ -3,24 +3,6 @@ use borrow.Author.Needs.{needs}
 use Rattle.record_reason.proofs.spelling.spelling_in.Statement.{statement}
 use Rattle.record_reason.proofs.spelling.spelling_in.Tie as tie
 
-starts-requires : tie.Need-starts-requires
-starts-requires c κs = search needs
-
-choose-requires : tie.Need-choose-requires
-choose-requires c κs = search needs
-
-choose-requires-2 : tie.Need-choose-requires-2
-choose-requires-2 c κs = search needs
-
-choose-requires-3 : tie.Need-choose-requires-3
-choose-requires-3 c κs = search needs
-
-choose-requires-4 : tie.Need-choose-requires-4
-choose-requires-4 c κs = search needs
-
-spelling-requires : tie.Need-spelling-requires
-spelling-requires c κs = search needs
-
 returns : tie.Need-returns
 returns c =
     let starts′ = c .before .before .before .before .before .starts in
@@ -33,10 +15,4 @@ pub spelling-in-spec : {M : Type 1} → statement M
 spelling-in-spec =
     tie.close
     (tie.spec
-    starts-requires
-    choose-requires
-    choose-requires-2
-    choose-requires-3
-    choose-requires-4
-    spelling-requires
-    returns)
+    (λ c κs. search needs) (λ c κs. search needs) (λ c κs. search needs) (λ c κs. search needs) (λ c κs. search needs) (λ c κs. search needs) returns)

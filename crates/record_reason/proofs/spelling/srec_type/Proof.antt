@@ -7,27 +7,6 @@ use borrow.Author.Needs.{needs}
 use Rattle.record_reason.proofs.spelling.srec_type.Statement.{statement}
 use Rattle.record_reason.proofs.spelling.srec_type.Tie as tie
 
-char-at-requires : tie.Need-char-at-requires
-char-at-requires c κs = search needs
-
-data-type-requires : tie.Need-data-type-requires
-data-type-requires c κs = search needs
-
-data-type-requires-2 : tie.Need-data-type-requires-2
-data-type-requires-2 c κs = search needs
-
-end-type-requires : tie.Need-end-type-requires
-end-type-requires c κs = search needs
-
-end-type-requires-2 : tie.Need-end-type-requires-2
-end-type-requires-2 c κs = search needs
-
-cast-made : tie.Need-cast-made
-cast-made c = search needs
-
-made-requires : tie.Need-made-requires
-made-requires c κs = search needs
-
 returns : tie.Need-returns
 returns c =
     let args′ = c .before .before .before .before .args in
@@ -73,15 +52,5 @@ pub srec-type-spec : {M : Type 1} → statement M
 srec-type-spec =
     tie.close
     (tie.spec
-    char-at-requires
-    data-type-requires
-    data-type-requires-2
-    end-type-requires
-    end-type-requires-2
-    cast-made
-    made-requires
-    returns
-    returns-2
-    returns-3
-    returns-4
-    returns-5)
+    (λ c κs. search needs) (λ c κs. search needs) (λ c κs. search needs) (λ c κs. search needs) (λ c κs. search needs) (λ c. search needs)
+    (λ c κs. search needs) returns returns-2 returns-3 returns-4 returns-5)

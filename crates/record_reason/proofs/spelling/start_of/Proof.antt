@@ -7,25 +7,10 @@ use borrow.Author.Needs.{needs}
 use Rattle.record_reason.proofs.spelling.start_of.Statement.{statement}
 use Rattle.record_reason.proofs.spelling.start_of.Tie as tie
 
-mul-result : tie.Need-mul-result
-mul-result c = search needs
-
-word-requires : tie.Need-word-requires
-word-requires c κs = search needs
-
-add-result : tie.Need-add-result
-add-result c = search needs
-
 returns : tie.Need-returns
 returns c =
     let args′ = c .before .before .before .args in
     (rw (eq-eqb (args′ .format) 0 (c .before .if1 .taken), c .word .ensures .0), omega (arith, c .word .ensures .1))
-
-word-requires-2 : tie.Need-word-requires-2
-word-requires-2 c κs = search needs
-
-char-at-requires : tie.Need-char-at-requires
-char-at-requires c κs = search needs
 
 returns-2 : tie.Need-returns-2
 returns-2 c =
@@ -39,15 +24,6 @@ returns-2 c =
       ),
       omega (arith, word2′ .ensures .1),
     )
-
-mul-result-2 : tie.Need-mul-result-2
-mul-result-2 c = search needs
-
-word-requires-3 : tie.Need-word-requires-3
-word-requires-3 c κs = search needs
-
-add-result-2 : tie.Need-add-result-2
-add-result-2 c = search needs
 
 returns-3 : tie.Need-returns-3
 returns-3 c =
@@ -68,14 +44,5 @@ pub start-of-spec : {M : Type 1} → statement M
 start-of-spec =
     tie.close
     (tie.spec
-    mul-result
-    word-requires
-    add-result
-    returns
-    word-requires-2
-    char-at-requires
-    returns-2
-    mul-result-2
-    word-requires-3
-    add-result-2
-    returns-3)
+    (λ c. search needs) (λ c κs. search needs) (λ c. search needs) returns (λ c κs. search needs) (λ c κs. search needs) returns-2 (λ c. search needs)
+    (λ c κs. search needs) (λ c. search needs) returns-3)

@@ -6,9 +6,6 @@ use borrow.Author.Needs.{needs}
 use Rattle.record_reason.proofs.spelling.starts.Statement.{statement}
 use Rattle.record_reason.proofs.spelling.starts.Tie as tie
 
-char-at-requires : tie.Need-char-at-requires
-char-at-requires c κs = search needs
-
 returns : tie.Need-returns
 returns c =
     let args′ = c .before .before .before .args in
@@ -31,10 +28,4 @@ returns-3 c =
     )
 
 pub starts-spec : {M : Type 1} → statement M
-starts-spec =
-    tie.close
-    (tie.spec
-    char-at-requires
-    returns
-    returns-2
-    returns-3)
+starts-spec = tie.close (tie.spec (λ c κs. search needs) returns returns-2 returns-3)

@@ -12,9 +12,6 @@ returns c =
     let args′ = c .before .before .args in
     (rw (eq-eqb (args′ .format) 0 (c .if1 .taken)), omega arith)
 
-char-at-requires : tie.Need-char-at-requires
-char-at-requires c κs = search needs
-
 returns-2 : tie.Need-returns-2
 returns-2 c =
     let args′ = c .before .before .before .before .args in
@@ -33,10 +30,4 @@ returns-3 c =
     )
 
 pub top-of-spec : {M : Type 1} → statement M
-top-of-spec =
-    tie.close
-    (tie.spec
-    returns
-    char-at-requires
-    returns-2
-    returns-3)
+top-of-spec = tie.close (tie.spec returns (λ c κs. search needs) returns-2 returns-3)
