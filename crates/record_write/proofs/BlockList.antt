@@ -1,6 +1,6 @@
 -- The lent lists of blocks, gone through from the front: a law for each way that a test goes.
 use mathlib.Core.Path.{_≡_, refl}
-use mathlib.Core.Bool.{Bool, true, false, _&&_}
+use mathlib.Core.Bool.{Bool, true, false, _&&_, and-false}
 use mathlib.Core.List.{List, [], _∷_}
 use Prim.Native.Nat.{ℕ, _+_, _/_, _≤_, _<_, min}
 use native.Mathlib.Decide.{decLe}
@@ -34,14 +34,6 @@ none-behind : (x : List ℕ) → blocksIn x [] ≡ []
 unfolding blocksIn
 none-behind [] = refl
 none-behind (o ∷ x) = refl
-
-pub and-false : (b : Bool) → (b && false) ≡ false
-and-false true = refl
-and-false false = refl
-
-pub and-true : (b : Bool) → (b && true) ≡ b
-and-true true = refl
-and-true false = refl
 
 -- the order and the addresses, which have 16 bits or 32
 abbrev pub within : Bool → ℕ → List Block → Bool

@@ -1,6 +1,6 @@
 -- The promises of `write_ihex` and `write_srec` from that of the writing of records: the answer in the paper's figures.
 use mathlib.Core.Path.{_≡_, refl, sym, ap, subst, _∙_}
-use mathlib.Core.Bool.{Bool, true, false, _&&_, _||_}
+use mathlib.Core.Bool.{Bool, true, false, _&&_, _||_, and-false}
 use mathlib.Core.List.{List, _++_}
 use Prim.Native.Nat.{ℕ}
 use native.Mathlib.Omega.{arith}
@@ -20,7 +20,6 @@ use Rattle.record_write.specs.Outcome.{input, partsOk, sound, toldWritte
 use Rattle.record_write.specs.Hex.{hexOf, WritesHex}
 use Rattle.record_write.specs.Hex as hex
 use Rattle.record_write.specs.Srec.{formatFor, srecOf, placesOk, fitsIn, WritesSrec}
-use Rattle.record_write.proofs.BlockList.{and-false}
 
 pub hex-figures : {image offsets sizes : List ℕ} {load : ℕ} {old : List ℕ} {r : Written} {new : List ℕ} → Writes (input 0 image offsets sizes load) old r new
     → WritesHex image offsets sizes load old r new

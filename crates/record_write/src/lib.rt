@@ -96,11 +96,9 @@ fn text_room(format: u8, image: &[u8], offsets: &[u64], sizes: &[u64], load: u32
 {
     let base = load as u64;
     let mut place = Place { at: 0, state: 0 };
-    let mut i = 0;
-    while i < offsets.len() {
+    for i in 0..offsets.len() {
         let count = (sizes[i] / 8) as usize;
         place = block_room(format, count, base + offsets[i] / 8, place);
-        i += 1;
     }
     let at = place.at;
     at + end_room(format)
@@ -152,12 +150,10 @@ fn all_parts(image: &[u8], offsets: &[u64], sizes: &[u64]) -> bool
     ensures { λ r. ⌜ r ≡ allParts (length (now (image .entry))) (blocksIn (now (offsets .entry)) (now (sizes .entry))) ⌝ }
 {
     let count = record_lines::least(offsets.len(), sizes.len());
-    let mut i = 0;
-    while i < count {
+    for i in 0..count {
         if !is_part(image, offsets[i], sizes[i]) {
             return false;
         }
-        i += 1;
     }
     true
 }
@@ -207,15 +203,13 @@ fn all_placed(format: u8, offsets: &[u64], sizes: &[u64], load: u32) -> bool
     ensures { λ r. ⌜ r ≡ placedIn format load (blocksIn (now (offsets .entry)) (now (sizes .entry))) ⌝ }
 {
     let limit = limit_of(format);
-    let mut i = 0;
-    while i < offsets.len() {
+    for i in 0..offsets.len() {
         if !ends_free(offsets, sizes, i) {
             return false;
         }
         if !has_address(load, offsets[i], sizes[i], limit) {
             return false;
         }
-        i += 1;
     }
     true
 }
@@ -261,12 +255,10 @@ fn write_blocks(
 {
     let base = load as u64;
     let mut place = Place { at: 0, state: 0 };
-    let mut i = 0;
-    while i < offsets.len() {
+    for i in 0..offsets.len() {
         let start = (offsets[i] / 8) as usize;
         let end = start + (sizes[i] / 8) as usize;
         place = write_block(format, image, start, end, base + start as u64, text, place);
-        i += 1;
     }
     let at = place.at;
     let m = line::put_end(format, &mut text[at..]);

@@ -44,10 +44,8 @@ fn put_bytes(out: &mut [u8], at: usize, bytes: &[u8])
     ensures { λ _. ⌜ now (out .exit) ≡ sets (now (out .entry)) at (bytesText (now (bytes .entry))) ⌝ }
     ensures { λ _. ⌜ length (now (out .exit)) ≡ length (now (out .entry)) ⌝ }
 {
-    let mut i = 0;
-    while i < bytes.len() {
+    for i in 0..bytes.len() {
         put_byte(out, at + 2 * i, bytes[i]);
-        i += 1;
     }
 }
 
@@ -56,10 +54,8 @@ fn sum(bytes: &[u8]) -> u8
     ensures { λ r. ⌜ r ≡ sumOf (now (bytes .entry)) % 256 ⌝ }
 {
     let mut sum = 0u8;
-    let mut i = 0;
-    while i < bytes.len() {
+    for i in 0..bytes.len() {
         sum = std::num::wrapping_add_u8(sum, bytes[i]);
-        i += 1;
     }
     sum
 }

@@ -13,10 +13,11 @@ use Rattle.record_write.proofs.all_placed.Statement.{statement}
 use Rattle.record_write.proofs.all_placed.Tie as tie
 
 abbrev Inv-loop : tie.InvT-loop
-Inv-loop format offsets sizes load limit i₀ i = placedIn format load (blocksIn offsets sizes) ≡ placedIn format load (blocksIn (drop i offsets) (drop i sizes))
+Inv-loop format offsets sizes load limit i₀ i-end i =
+    placedIn format load (blocksIn offsets sizes) ≡ placedIn format load (blocksIn (drop i offsets) (drop i sizes))
 
 abbrev μ-loop : tie.MeasureT-loop
-μ-loop format offsets sizes load limit i₀ i = length offsets - i
+μ-loop format offsets sizes load limit i₀ i-end i = length offsets - i
 
 -- the start, seen from the loop, and the loop, seen from behind the test of the address
 abbrev start : tie.At-loop Inv-loop μ-loop → tie.Start Inv-loop μ-loop

@@ -1,13 +1,12 @@
 -- `record_write::is_sound` tests as the definition does.
 use mathlib.Core.Path.{_≡_, sym, _∙_}
-use mathlib.Core.Bool.{true, false}
+use mathlib.Core.Bool.{true, false, and-false, and-true}
 use borrow.Author.Needs.{needs}
 use borrow.Author.Tests.{eq-eqb, ne-eqb, not-true, not-false}
 use lib.ListN.{length}
 use Rattle.record_write.specs.Checks.{fitsWidth}
 use Rattle.record_write.specs.Cut.{blocksIn}
 use Rattle.record_write.specs.Text.{known}
-use Rattle.record_write.proofs.BlockList.{and-false, and-true}
 use Rattle.record_write.proofs.is_sound.Statement.{statement}
 use Rattle.record_write.proofs.is_sound.Tie as tie
 

@@ -9,10 +9,10 @@ use Rattle.record_write.proofs.text_room.Statement.{statement}
 use Rattle.record_write.proofs.text_room.Tie as tie
 
 abbrev Inv-loop : tie.InvT-loop
-Inv-loop format image offsets sizes load base place₀ i₀ place i = AllAdding format image offsets sizes load place i
+Inv-loop format image offsets sizes load base place₀ i₀ i-end place i = AllAdding format image offsets sizes load place i
 
 abbrev μ-loop : tie.MeasureT-loop
-μ-loop format image offsets sizes load base place₀ i₀ place i = length offsets - i
+μ-loop format image offsets sizes load base place₀ i₀ i-end place i = length offsets - i
 
 -- the start, seen from the loop
 abbrev start : tie.At-loop Inv-loop μ-loop → tie.Start Inv-loop μ-loop

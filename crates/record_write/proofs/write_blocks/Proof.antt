@@ -11,10 +11,10 @@ use Rattle.record_write.proofs.write_blocks.Statement.{statement}
 use Rattle.record_write.proofs.write_blocks.Tie as tie
 
 abbrev Inv-loop : tie.InvT-loop
-Inv-loop format image offsets sizes load text₀ base place₀ i₀ text place i = AllGoing format image offsets sizes load text₀ place i text
+Inv-loop format image offsets sizes load text₀ base place₀ i₀ i-end text place i = AllGoing format image offsets sizes load text₀ place i text
 
 abbrev μ-loop : tie.MeasureT-loop
-μ-loop format image offsets sizes load text₀ base place₀ i₀ text place i = length offsets - i
+μ-loop format image offsets sizes load text₀ base place₀ i₀ i-end text place i = length offsets - i
 
 -- the start, seen from the loop
 abbrev start : tie.At-loop Inv-loop μ-loop → tie.Start Inv-loop μ-loop

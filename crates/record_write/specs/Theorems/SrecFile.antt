@@ -1,12 +1,10 @@
 -- The file that `write_srec` leaves, at either width: what it says when it is read, and what it looks like.
 use mathlib.Core.Path.{_≡_, sym, ap, subst, _∙_}
-use mathlib.Core.Bool.{true}
 use mathlib.Core.List.{List}
 use Prim.Native.Nat.{ℕ, _^_}
 use lib.ListN.{length, getD}
 use Rattle.bitvec.specs.Bits.{Bytes}
 use Rattle.sort.specs.Agree.{All}
-use Rattle.blocks.specs.declared.Block.{Block}
 use Rattle.record_lines.specs.Lines.{linesOf}
 use Rattle.record_lines.specs.Pieces.{Piece}
 use Rattle.record_lines.specs.Telling.{Tells, Rises}
@@ -14,7 +12,6 @@ use Rattle.record_lines.specs.Uppers.{ended, AllWritten}
 use Rattle.record_lines.specs.Laws.Uppers.{ended-written}
 use Rattle.record_srec_line.specs.Srec.{srecItem}
 use Rattle.record_srec_line.specs.ReadBack.{Width}
-use Rattle.record_write.specs.Checks.{allParts, allPlaced}
 use Rattle.record_write.specs.Cut.{blocksIn, piecesOf}
 use Rattle.record_write.specs.Exactly.{AllParts, WellPlaced, FitsWidth}
 use Rattle.record_write.specs.Theorems.Exactly.{parts-exactly, placed-all}
@@ -28,31 +25,23 @@ use Rattle.record_write.specs.Srec.{srecOf}
 
 module _ (image offsets sizes : List ℕ) (load width : ℕ) (good : Bytes image) (parts : AllParts (length image) offsets sizes)
     (fits : FitsWidth width load offsets sizes) (places : WellPlaced load offsets sizes) where
-  abbrev blocks : List Block
-  blocks = blocksIn offsets sizes
-
   abbrev pieces : List Piece
-  pieces = piecesOf load image blocks
-
-  all-parts : allParts (length image) blocks ≡ true
-  all-parts = parts-exactly (length image) offsets sizes .1 parts
-
-  all-placed : allPlaced load blocks ≡ true
-  all-placed = placed-all load offsets sizes places
+  pieces = piecesOf load image (blocksIn offsets sizes)
 
   own : Width width
   own = width-is width load offsets sizes fits
 
   -- The pieces ascend from the load address on and end at the end of the addresses that the width has.
   pub file-fits : Rises (256 ^ width) load (piecesOf load image (blocksIn offsets sizes))
-  file-fits = pieces-fit width load image offsets sizes good all-parts all-placed fits
+  file-fits =
+      pieces-fit width load image offsets sizes good (parts-exactly (length image) offsets sizes .1 parts) (placed-all load offsets sizes places) fits
 
   cut-lines : linesOf (srecOf image offsets sizes load width) ≡ srecLines width pieces
-  cut-lines = srec-lines-cut own load image blocks file-fits
+  cut-lines = srec-lines-cut own load image (blocksIn offsets sizes) file-fits
 
   -- Its lines, read by the format's own rule, give the pieces of the blocks in their order, and then the file ends.
   pub file-tells : Tells srecItem 0 (linesOf (srecOf image offsets sizes load width)) (piecesOf load image (blocksIn offsets sizes))
-  file-tells = srec-tells own load image blocks file-fits
+  file-tells = srec-tells own load image (blocksIn offsets sizes) file-fits
 
   -- A data record of the width for each piece, and one end record of the same width, that last, "end address 0".
   pub file-shape : SrecFile width (piecesOf load image (blocksIn offsets sizes)) (linesOf (srecOf image offsets sizes load width))

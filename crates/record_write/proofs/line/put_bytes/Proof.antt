@@ -12,10 +12,10 @@ use Rattle.record_write.proofs.line.put_bytes.Statement.{statement}
 use Rattle.record_write.proofs.line.put_bytes.Tie as tie
 
 abbrev Inv-loop : tie.InvT-loop
-Inv-loop out₀ at bytes i₀ out i = (i ≤ length bytes) × (out ≡ sets out₀ at (bytesText (take i bytes))) × (length out ≡ length out₀)
+Inv-loop out₀ at bytes i₀ i-end out i = (i ≤ length bytes) × (out ≡ sets out₀ at (bytesText (take i bytes))) × (length out ≡ length out₀)
 
 abbrev μ-loop : tie.MeasureT-loop
-μ-loop out₀ at bytes i₀ out i = length bytes - i
+μ-loop out₀ at bytes i₀ i-end out i = length bytes - i
 
 loop-holds : tie.Need-loop-holds Inv-loop μ-loop
 unfolding bytesText

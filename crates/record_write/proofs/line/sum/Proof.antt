@@ -12,10 +12,10 @@ use Rattle.record_write.proofs.line.sum.Statement.{statement}
 use Rattle.record_write.proofs.line.sum.Tie as tie
 
 abbrev Inv-loop : tie.InvT-loop
-Inv-loop bytes sum₀ i₀ sum i = (i ≤ length bytes) × (sum ≡ sumOf (take i bytes) % 256)
+Inv-loop bytes sum₀ i₀ i-end sum i = (i ≤ length bytes) × (sum ≡ sumOf (take i bytes) % 256)
 
 abbrev μ-loop : tie.MeasureT-loop
-μ-loop bytes sum₀ i₀ sum i = length bytes - i
+μ-loop bytes sum₀ i₀ i-end sum i = length bytes - i
 
 loop-holds : tie.Need-loop-holds Inv-loop μ-loop
 unfolding sumOf
