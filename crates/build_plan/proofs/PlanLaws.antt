@@ -103,12 +103,11 @@ module _ (p : Program) (row : Row) where
         few = omega arith;
       })
 
-  module _ (closed : Bool) (fill i : ℕ) {walk : Walk} {s : Store} {sums : Sums}
-      (g : Going p row closed fill i walk s sums) (v : Visit) (visited : v ≡ visitAt p row i) {r : Verdict}
-      (answer : r ≡ verdictOn closed (stateIn s) v) where
+module _ {p : Program} {row : Row} {closed : Bool} {fill i : ℕ} {walk : Walk} {s : Store} {sums : Sums} (g : Going p row closed fill i walk s sums) where
+  module _ {v : Visit} (visited : v ≡ visitAt p row i) {r : Verdict} (answer : r ≡ verdictOn closed (stateIn s) v) where
     placed-then : placedTo p row closed (suc i) ≡ placedIf r (stateAfter (stateIn s) (offerOf v))
     placed-then =
-        placed-next closed i
+        placed-next p row closed i
         ∙ ap (placedNext closed (visitAt p row i)) (g .placed)
         ∙ ap (λ (w : Visit). placedNext closed w (holds (stateIn s))) (sym visited)
         ∙ ap (λ (x : Verdict). placedIf x (stateAfter (stateIn s) (offerOf v))) (sym answer)
@@ -117,7 +116,7 @@ module _ (p : Program) (row : Row) where
     pub settles : (why : Refusal) → i < length (p .kinds) → r ≡ Refused why → planRefused why ≡ planOf p row closed fill
     settles why b e =
         sym (ap (planBy (lengthTo p row fill (length (p .kinds))) (length (spansTo p row (length (p .kinds)))) (paddingsOf p row))
-        (stops-on closed (suc i) (length (p .kinds)) why b
+        (stops-on p row closed (suc i) (length (p .kinds)) why b
         (placed-then ∙ ap (λ (x : Verdict). placedIf x (stateAfter (stateIn s) (offerOf v))) e)))
 
     -- an accepted node hands on
@@ -141,7 +140,7 @@ module _ (p : Program) (row : Row) where
           counts = rw add-one
               (adds ∙ ap (λ (k : ℕ). pick (isSpan (v .node)) (k + 1) k) (g .counts)
               ∙ ap (λ (w : Visit). pick (isSpan (w .node)) (length (spansTo p row i) + 1) (length (spansTo p row i))) visited
-              ∙ sym (count-next i));
+              ∙ sym (count-next p row i));
           few = omega (arith, g .few, adds-few (isSpan (v .node)) (sums .spans), adds);
         }
       where
@@ -150,10 +149,9 @@ module _ (p : Program) (row : Row) where
         adds-few false k = omega arith
 
   -- all nodes are placed
-  pub ends : (closed : Bool) (fill i : ℕ) {walk : Walk} {s : Store} {sums : Sums} → Going p row closed fill i walk s sums
-      → length (p .kinds) ≤ i → length (p .kinds) ≤ maxNodes
+  pub ends : length (p .kinds) ≤ i → length (p .kinds) ≤ maxNodes
       → planAccepted (sums .length) (sums .spans) (walk .lost) ≡ planOf p row closed fill
-  ends closed fill i {walk = walk} {s = s} {sums = sums} g b few =
+  ends b few =
       let n = length (p .kinds) in
       let all : i ≡ n = omega (arith, g .within) in
       let last = subst (λ (k : ℕ). placedTo p row closed k ≡ holds (stateIn s)) all (g .placed) in
@@ -167,6 +165,5 @@ module _ (p : Program) (row : Row) where
       ∙ sym (ap (planBy (lengthTo p row fill n) (length (spansTo p row n)) (paddingsOf p row)) last)
 
   -- and the walk is the row's
-  pub ended : (closed : Bool) (fill i : ℕ) {walk : Walk} {s : Store} {sums : Sums} → Going p row closed fill i walk s sums → length (p .kinds) ≤ i
-      → walk ≡ walkTo p row (length (p .kinds))
-  ended closed fill i g b = let all : i ≡ length (p .kinds) = omega (arith, g .within) in sym (g .walks .is) ∙ ap (walkTo p row) all
+  pub ended : length (p .kinds) ≤ i → walk ≡ walkTo p row (length (p .kinds))
+  ended b = let all : i ≡ length (p .kinds) = omega (arith, g .within) in sym (g .walks .is) ∙ ap (walkTo p row) all

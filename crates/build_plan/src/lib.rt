@@ -340,8 +340,7 @@ fn plan_walk(
     let mut stored = none_stored();
     let mut walk = begun;
     let mut sums = no_sums(fill);
-    let mut i = 0;
-    while i < kinds.len() {
+    for i in 0..kinds.len() {
         let node = node_at(kinds, operands, first, numbers, states, i);
         let bank = bank_after(walk.bank, node);
         let def = banks.defs[bank as usize];
@@ -367,7 +366,6 @@ fn plan_walk(
         let after = step.after;
         walk.at[bank as usize] = after;
         walk.bank = bank;
-        i += 1;
         if step.skipped.bits == 0 {
             continue;
         }

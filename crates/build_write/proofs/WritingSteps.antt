@@ -69,9 +69,10 @@ abbrev pub size-at : Span → ℕ
 size-at span = span .size
 
 -- The walk of the row, the image with the items before node i over `blank`, and their spans at the front of the three lists, which held `old₁`, `old₂`
--- and `old₃`.
+-- and `old₃` and have room for all.
 pub record Writing (p : Program) (row : Row) (values blank : List ℕ) (old₁ : List ℤ) (old₂ old₃ : List ℕ) (i : ℕ) (walk : Walk) (count : ℕ)
     (image : List ℕ) (list₁ : List ℤ) (list₂ list₃ : List ℕ) : Type 0 where
+  pub room : HasRoom (visits p row) (length values) (length blank) (length old₁) (length old₂) (length old₃)
   pub within : i ≤ length (p .kinds)
   pub walks : Walks p row i walk
   pub drawn : image ≡ imageTo p row values blank i
@@ -140,74 +141,75 @@ module _ (p : Program) (row : Row) where
 
   -- ---- the walk
 
-  module _ (values blank : List ℕ) (old₁ : List ℤ) (old₂ old₃ : List ℕ) where
-    -- the walk begins
-    pub begins : Switches (p .banks .len) (p .kinds) (p .operands) → {walk : Walk} → walk ≡ startOf
-        → Writing p row values blank old₁ old₂ old₃ 0 walk 0 blank old₁ old₂ old₃
-    begins switches a =
+  -- the walk begins
+  pub begins : (values blank : List ℕ) (old₁ : List ℤ) (old₂ old₃ : List ℕ) → Switches (p .banks .len) (p .kinds) (p .operands)
+      → HasRoom (visits p row) (length values) (length blank) (length old₁) (length old₂) (length old₃) → {walk : Walk} → walk ≡ startOf
+      → Writing p row values blank old₁ old₂ old₃ 0 walk 0 blank old₁ old₂ old₃
+  begins values blank old₁ old₂ old₃ switches room a =
+      record {
+        room = room;
+        within = omega arith;
+        walks = walks-start p switches row a;
+        drawn = image-start values blank;
+        counts = ap length (sym (spans-none p row));
+        first = list-start address-at old₁;
+        second = list-start word-at old₂;
+        third = list-start size-at old₃;
+      }
+
+module _ {p : Program} {row : Row} {values blank : List ℕ} {old₁ : List ℤ} {old₂ old₃ : List ℕ} {i : ℕ} {walk : Walk} {count : ℕ} {image : List ℕ}
+    {list₁ : List ℤ} {list₂ list₃ : List ℕ} (g : Writing p row values blank old₁ old₂ old₃ i walk count image list₁ list₂ list₃) where
+  pub same-image : length image ≡ length blank
+  same-image = ap length (g .drawn) ∙ image-keeps p row values blank i
+
+  pub same-first : length list₁ ≡ length old₁
+  same-first = list-length p row address-at old₁ i (length (p .kinds)) (g .within) (g .room .first) (g .first)
+
+  pub same-second : length list₂ ≡ length old₂
+  same-second = list-length p row word-at old₂ i (length (p .kinds)) (g .within) (g .room .second) (g .second)
+
+  pub same-third : length list₃ ≡ length old₃
+  same-third = list-length p row size-at old₃ i (length (p .kinds)) (g .within) (g .room .third) (g .third)
+
+  module _ {v : Visit} (visited : v ≡ visitAt p row i) (h : i < length (p .kinds)) where
+    -- there is room for the node's item
+    pub item-fits : Fit (length values) (length image) (itemOf v)
+    item-fits =
+        rw (same-image, visited) (λ x m. g .room .items x (each-member itemOf (visit-member p row (length (p .kinds)) i h) m))
+
+    -- and for its span
+    pub spans-fit : isSpan (v .node) ≡ true → (count < length list₁) × (count < length list₂) × (count < length list₃)
+    spans-fit s = (
+      span-fits p row i visited address-at old₁ (length (p .kinds)) h (g .room .first) (g .counts) (g .first) s,
+      span-fits p row i visited word-at old₂ (length (p .kinds)) h (g .room .second) (g .counts) (g .second) s,
+      span-fits p row i visited size-at old₃ (length (p .kinds)) h (g .room .third) (g .counts) (g .third) s,
+    )
+
+    -- a node is written
+    pub goes-on : {walk′ : Walk} {count′ : ℕ} {image′ : List ℕ} {list₁′ : List ℤ} {list₂′ list₃′ : List ℕ}
+        → Walks p row (i + 1) walk′
+        → image′ ≡ imageOf values image (itemOf v)
+        → count′ ≡ pick (isSpan (v .node)) (count + 1) count
+        → list₁′ ≡ pick (isSpan (v .node)) (set list₁ count (address-at (spanAt v))) list₁
+        → list₂′ ≡ pick (isSpan (v .node)) (set list₂ count (word-at (spanAt v))) list₂
+        → list₃′ ≡ pick (isSpan (v .node)) (set list₃ count (size-at (spanAt v))) list₃
+        → Writing p row values blank old₁ old₂ old₃ (i + 1) walk′ count′ image′ list₁′ list₂′ list₃′
+    goes-on walks drawn counts first second third =
         record {
+          room = g .room;
           within = omega arith;
-          walks = walks-start p switches row a;
-          drawn = image-start values blank;
-          counts = ap length (sym (spans-none p row));
-          first = list-start address-at old₁;
-          second = list-start word-at old₂;
-          third = list-start size-at old₃;
+          walks = walks;
+          drawn = drawn ∙ ap (λ (m : List ℕ). imageOf values m (itemOf v)) (g .drawn)
+              ∙ ap (λ (w : Visit). imageOf values (imageTo p row values blank i) (itemOf w)) visited
+              ∙ rw add-one (sym (image-step p row values blank i));
+          counts = count-next p row i visited (g .counts) counts;
+          first = list-next p row i visited address-at old₁ (length (p .kinds)) h (g .room .first) (g .counts) (g .first) first;
+          second = list-next p row i visited word-at old₂ (length (p .kinds)) h (g .room .second) (g .counts) (g .second) second;
+          third = list-next p row i visited size-at old₃ (length (p .kinds)) h (g .room .third) (g .counts) (g .third) third;
         }
 
-    module _ (i : ℕ) {walk : Walk} {count : ℕ} {image : List ℕ} {list₁ : List ℤ} {list₂ list₃ : List ℕ}
-        (g : Writing p row values blank old₁ old₂ old₃ i walk count image list₁ list₂ list₃)
-        (room : HasRoom (visits p row) (length values) (length blank) (length old₁) (length old₂) (length old₃)) where
-      pub same-image : length image ≡ length blank
-      same-image = ap length (g .drawn) ∙ image-keeps values blank i
-
-      pub same-first : length list₁ ≡ length old₁
-      same-first = list-length address-at old₁ i (length (p .kinds)) (g .within) (room .first) (g .first)
-
-      pub same-second : length list₂ ≡ length old₂
-      same-second = list-length word-at old₂ i (length (p .kinds)) (g .within) (room .second) (g .second)
-
-      pub same-third : length list₃ ≡ length old₃
-      same-third = list-length size-at old₃ i (length (p .kinds)) (g .within) (room .third) (g .third)
-
-      module _ {v : Visit} (visited : v ≡ visitAt p row i) (h : i < length (p .kinds)) where
-        -- there is room for the node's item
-        pub item-fits : Fit (length values) (length image) (itemOf v)
-        item-fits =
-            rw (same-image, visited) (λ x m. room .items x (each-member itemOf (visit-member p row (length (p .kinds)) i h) m))
-
-        -- and for its span
-        pub spans-fit : isSpan (v .node) ≡ true → (count < length list₁) × (count < length list₂) × (count < length list₃)
-        spans-fit s = (
-          span-fits i visited address-at old₁ (length (p .kinds)) h (room .first) (g .counts) (g .first) s,
-          span-fits i visited word-at old₂ (length (p .kinds)) h (room .second) (g .counts) (g .second) s,
-          span-fits i visited size-at old₃ (length (p .kinds)) h (room .third) (g .counts) (g .third) s,
-        )
-
-        -- a node is written
-        pub goes-on : {walk′ : Walk} {count′ : ℕ} {image′ : List ℕ} {list₁′ : List ℤ} {list₂′ list₃′ : List ℕ}
-            → Walks p row (i + 1) walk′
-            → image′ ≡ imageOf values image (itemOf v)
-            → count′ ≡ pick (isSpan (v .node)) (count + 1) count
-            → list₁′ ≡ pick (isSpan (v .node)) (set list₁ count (address-at (spanAt v))) list₁
-            → list₂′ ≡ pick (isSpan (v .node)) (set list₂ count (word-at (spanAt v))) list₂
-            → list₃′ ≡ pick (isSpan (v .node)) (set list₃ count (size-at (spanAt v))) list₃
-            → Writing p row values blank old₁ old₂ old₃ (i + 1) walk′ count′ image′ list₁′ list₂′ list₃′
-        goes-on walks drawn counts first second third =
-            record {
-              within = omega arith;
-              walks = walks;
-              drawn = drawn ∙ ap (λ (m : List ℕ). imageOf values m (itemOf v)) (g .drawn)
-                  ∙ ap (λ (w : Visit). imageOf values (imageTo p row values blank i) (itemOf w)) visited
-                  ∙ rw add-one (sym (image-step p row values blank i));
-              counts = count-next i visited (g .counts) counts;
-              first = list-next i visited address-at old₁ (length (p .kinds)) h (room .first) (g .counts) (g .first) first;
-              second = list-next i visited word-at old₂ (length (p .kinds)) h (room .second) (g .counts) (g .second) second;
-              third = list-next i visited size-at old₃ (length (p .kinds)) h (room .third) (g .counts) (g .third) third;
-            }
-
-      -- all nodes are
-      pub ends : length (p .kinds) ≤ i → Writing p row values blank old₁ old₂ old₃ (length (p .kinds)) walk count image list₁ list₂ list₃
-      ends b =
-          let all : i ≡ length (p .kinds) = omega (arith, g .within) in
-          subst (λ (k : ℕ). Writing p row values blank old₁ old₂ old₃ k walk count image list₁ list₂ list₃) all g
+  -- all nodes are
+  pub ends : length (p .kinds) ≤ i → Writing p row values blank old₁ old₂ old₃ (length (p .kinds)) walk count image list₁ list₂ list₃
+  ends b =
+      let all : i ≡ length (p .kinds) = omega (arith, g .within) in
+      subst (λ (k : ℕ). Writing p row values blank old₁ old₂ old₃ k walk count image list₁ list₂ list₃) all g

@@ -53,11 +53,9 @@ pub fn lay_blank(banks: Bankdefs, bits: u64, image: &mut [u8])
     ensures { λ _. ⌜ now (image .exit) ≡ blankOf (banksOf banks) bits (length (now (image .entry))) ⌝ }
 {
     bitvec::clear(image);
-    let mut i: u64 = 1;
-    while i < banks.len {
+    for i in 1..banks.len {
         let def = resolver::bank_record(banks, i);
         let ones = ones_of(def, bits);
         bitvec::set_ones(image, ones.from, ones.end);
-        i += 1;
     }
 }

@@ -141,8 +141,7 @@ fn write_walk(
 {
     let mut walk = begun;
     let mut count = 0;
-    let mut i = 0;
-    while i < kinds.len() {
+    for i in 0..kinds.len() {
         let node = node_at(kinds, operands, first, numbers, states, i);
         let bank = bank_after(walk.bank, node);
         let def = banks.defs[bank as usize];
@@ -163,7 +162,6 @@ fn write_walk(
         let after = step.after;
         walk.at[bank as usize] = after;
         walk.bank = bank;
-        i += 1;
         if step.skipped.bits == 0 {
             continue;
         }

@@ -12,22 +12,10 @@ use Rattle.build_plan.proofs.length_after.Reads as reads
 use Rattle.build_plan.proofs.length_after.Lts as lts
 use Rattle.build_sights.proofs.is_written.Reads as is-written-reads
 
-is-written-requires : tie.Need-is-written-requires
-is-written-requires c κs = search needs
-
 returns : tie.Need-returns
 returns c =
     let s = c .before .before in
     (length-other (s .args .node) (s .args .out) (s .args .length) (sym (c .before .is-written .ensures) ∙ not-true _ (c .if1 .taken)), s .pre .1)
-
-enum-told : tie.Need-enum-told
-enum-told c = search needs
-
-enum-known-out : tie.Need-enum-known-out
-enum-known-out c = search needs
-
-cast-end : tie.Need-cast-end
-cast-end c = search needs
 
 -- a node's number, by its type
 small : (c : tie.After-struct-known) → c .before .before .before .before .before .before .args .node .number ≤ maxPosition
@@ -72,12 +60,4 @@ pub length-after-spec : {M : Type 1} → statement M
 length-after-spec =
     tie.close
     (tie.spec
-    is-written-requires
-    returns
-    enum-told
-    enum-known-out
-    cast-end
-    add-end
-    returns-2
-    returns-3
-    returns-4)
+    (λ c κs. search needs) returns (λ c. search needs) (λ c. search needs) (λ c. search needs) add-end returns-2 returns-3 returns-4)

@@ -17,15 +17,6 @@ use Rattle.build_plan.proofs.offer_node.Reads as offer-node-reads
 abbrev lentTo : tie.Start → Store
 lentTo s = store (s .args .positions .now) (s .args .sizes .now) (s .args .count) (s .args .marks .now) (s .args .mark-count)
 
-enum-known-seen : tie.Need-enum-known-seen
-enum-known-seen c = search needs
-
-enum-known-seen-2 : tie.Need-enum-known-seen-2
-enum-known-seen-2 c = search needs
-
-is-placed-requires : tie.Need-is-placed-requires
-is-placed-requires c κs = search needs
-
 returns : tie.Need-returns
 returns c =
     let s = c .before .before .before .before .before in
@@ -35,15 +26,6 @@ returns c =
       verdict-unplaced (a .closed) (a .bank) (a .def) (stateIn (lentTo s)) (a .node) (a .out) (a .seen) (known .0 .0) (known .1) none,
       goes-none (lentTo s) (offerAt (a .node) (a .out)) (s .pre .0) (offers-unplaced (a .node) (a .out) none),
     )
-
-check-place-requires : tie.Need-check-place-requires
-check-place-requires c κs = search needs
-
-enum-known-checked : tie.Need-enum-known-checked
-enum-known-checked c = search needs
-
-enum-told : tie.Need-enum-told
-enum-told c = search needs
 
 offer-node-requires : tie.Need-offer-node-requires
 offer-node-requires c κs =
@@ -89,14 +71,5 @@ pub place-spec : {M : Type 1} → statement M
 place-spec =
     tie.close
     (tie.spec
-    enum-known-seen
-    enum-known-seen-2
-    is-placed-requires
-    returns
-    check-place-requires
-    enum-known-checked
-    enum-told
-    offer-node-requires
-    returns-2
-    returns-3
-    returns-4)
+    (λ c. search needs) (λ c. search needs) (λ c κs. search needs) returns (λ c κs. search needs) (λ c. search needs) (λ c. search needs)
+    offer-node-requires returns-2 returns-3 returns-4)

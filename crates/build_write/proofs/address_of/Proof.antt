@@ -7,15 +7,6 @@ use borrow.Author.Needs.{needs}
 use Rattle.build_write.proofs.address_of.Statement.{statement}
 use Rattle.build_write.proofs.address_of.Tie as tie
 
-get-address-requires : tie.Need-get-address-requires
-get-address-requires c κs = search needs
-
-enum-known-address : tie.Need-enum-known-address
-enum-known-address c = search needs
-
-enum-told : tie.Need-enum-told
-enum-told c = search needs
-
 returns : tie.Need-returns
 returns c =
     toZ-ofZ w64 (c .before .address .given .0 .0) (record { sfits = c .known-told .given .0 .1 })
@@ -28,8 +19,4 @@ pub address-of-spec : {M : Type 1} → statement M
 address-of-spec =
     tie.close
     (tie.spec
-    get-address-requires
-    enum-known-address
-    enum-told
-    returns
-    returns-2)
+    (λ c κs. search needs) (λ c. search needs) (λ c. search needs) returns returns-2)

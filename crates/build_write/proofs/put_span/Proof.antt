@@ -22,14 +22,8 @@ room : (c : tie.Else1) → let args = c .before .before .before .before .args in
     (args .count < length (args .addresses .now)) × (args .count < length (args .offsets .now)) × (args .count < length (args .sizes .now))
 room c = c .before .before .before .before .pre (spans c)
 
-is-span-requires : tie.Need-is-span-requires
-is-span-requires c κs = search needs
-
 returns : tie.Need-returns
 returns c = let e = sym (c .before .is-span .ensures) ∙ not-true _ (c .if1 .taken) in (rw e, (rw e, (rw e, rw e)))
-
-address-of-requires : tie.Need-address-of-requires
-address-of-requires c κs = search needs
 
 mul-t12 : tie.Need-mul-t12
 mul-t12 c = let b = room (c .before) in omega (arith, c .before .before .before .before .before .good)
@@ -37,17 +31,11 @@ mul-t12 c = let b = room (c .before) in omega (arith, c .before .before .before 
 slice-set-from-addresses : tie.Need-slice-set-from-addresses
 slice-set-from-addresses c = room (c .before) .0
 
-word-of-requires : tie.Need-word-of-requires
-word-of-requires c κs = search needs
-
 mul-offsets : tie.Need-mul-offsets
 mul-offsets c = let b = room (c .before .before) in omega (arith, c .before .before .before .before .before .before .good)
 
 slice-write-offsets : tie.Need-slice-write-offsets
 slice-write-offsets c = room (c .before .before) .1
-
-size-of-requires : tie.Need-size-of-requires
-size-of-requires c κs = search needs
 
 mul-sizes : tie.Need-mul-sizes
 mul-sizes c = let b = room (c .before .before .before) in omega (arith, c .before .before .before .before .before .before .before .good)
@@ -57,15 +45,6 @@ slice-write-sizes c = room (c .before .before .before) .2
 
 add-result : tie.Need-add-result
 add-result c = let b = room (c .before .before .before) in omega (arith, c .before .before .before .before .before .before .before .good)
-
-same-length : tie.Need-same-length
-same-length c = search needs
-
-same-length-2 : tie.Need-same-length-2
-same-length-2 c = search needs
-
-same-length-3 : tie.Need-same-length-3
-same-length-3 c = search needs
 
 returns-2 : tie.Need-returns-2
 returns-2 c =
@@ -77,19 +56,5 @@ pub put-span-spec : {M : Type 1} → statement M
 put-span-spec =
     tie.close
     (tie.spec
-    is-span-requires
-    returns
-    address-of-requires
-    mul-t12
-    slice-set-from-addresses
-    word-of-requires
-    mul-offsets
-    slice-write-offsets
-    size-of-requires
-    mul-sizes
-    slice-write-sizes
-    add-result
-    same-length
-    same-length-2
-    same-length-3
-    returns-2)
+    (λ c κs. search needs) returns (λ c κs. search needs) mul-t12 slice-set-from-addresses (λ c κs. search needs) mul-offsets slice-write-offsets
+    (λ c κs. search needs) mul-sizes slice-write-sizes add-result (λ c. search needs) (λ c. search needs) (λ c. search needs) returns-2)

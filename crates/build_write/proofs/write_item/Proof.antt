@@ -12,36 +12,15 @@ use Rattle.build_write.proofs.write_item.Tie as tie
 writes : (c : tie.Else1) → isWritten (c .before .before .before .before .args .node) ≡ true
 writes c = sym (c .before .is-written .ensures) ∙ not-false _ (c .if1 .left)
 
-is-written-requires : tie.Need-is-written-requires
-is-written-requires c κs = search needs
-
 returns : tie.Need-returns
 returns c =
     let a = c .before .before .before .before .args in
     item-none (a .image .now) (a .values .now) (a .node) (a .out) (sym (c .before .is-written .ensures) ∙ not-true _ (c .if1 .taken))
 
-enum-told : tie.Need-enum-told
-enum-told c = search needs
-
-enum-known-out : tie.Need-enum-known-out
-enum-known-out c = search needs
-
-cast-write-bits : tie.Need-cast-write-bits
-cast-write-bits c = search needs
-
-cast-write-bits-2 : tie.Need-cast-write-bits-2
-cast-write-bits-2 c = search needs
-
-write-bits-requires : tie.Need-write-bits-requires
-write-bits-requires c κs = search needs
-
 returns-2 : tie.Need-returns-2
 returns-2 c =
     let a = c .before .before .before .before .before .before .args in
     item-nowhere (a .image .now) (a .values .now) (a .node) (a .out) (writes (c .before .before)) (c .enum-told .given .1)
-
-same-length : tie.Need-same-length
-same-length c = search needs
 
 returns-3 : tie.Need-returns-3
 returns-3 c =
@@ -54,13 +33,5 @@ pub write-item-spec : {M : Type 1} → statement M
 write-item-spec =
     tie.close
     (tie.spec
-    is-written-requires
-    returns
-    enum-told
-    enum-known-out
-    cast-write-bits
-    cast-write-bits-2
-    write-bits-requires
-    returns-2
-    same-length
-    returns-3)
+    (λ c κs. search needs) returns (λ c. search needs) (λ c. search needs) (λ c. search needs) (λ c. search needs) (λ c κs. search needs) returns-2
+    (λ c. search needs) returns-3)

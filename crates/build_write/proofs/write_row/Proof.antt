@@ -19,29 +19,11 @@ entry c = c .before .before .before .before .before .before .before .before .bef
 same-blank : (c : tie.After-lay-blank) → length (c .lay-blank .last .1 .1 .0) ≡ length (entry c .args .image .now)
 same-blank c = ap length (c .lay-blank .ensures) ∙ blank-length _ _ _
 
-lay-blank-requires : tie.Need-lay-blank-requires
-lay-blank-requires c κs = search needs
-
-start-requires : tie.Need-start-requires
-start-requires c κs = search needs
-
 write-walk-requires : tie.Need-write-walk-requires
 write-walk-requires c κs =
     let l = c .before .before .before .before .before .before .before in
     let s = entry l in
     (s .pre .0, (rw (same-blank l) (s .pre .1), c .before .before .before .before .start .ensures))
-
-same-length : tie.Need-same-length
-same-length c = search needs
-
-same-length-2 : tie.Need-same-length-2
-same-length-2 c = search needs
-
-same-length-3 : tie.Need-same-length-3
-same-length-3 c = search needs
-
-same-length-4 : tie.Need-same-length-4
-same-length-4 c = search needs
 
 returns : tie.Need-returns
 returns c =
@@ -56,11 +38,5 @@ pub write-row-spec : {M : Type 1} → statement M
 write-row-spec =
     tie.close
     (tie.spec
-    lay-blank-requires
-    start-requires
-    write-walk-requires
-    same-length
-    same-length-2
-    same-length-3
-    same-length-4
+    (λ c κs. search needs) (λ c κs. search needs) write-walk-requires (λ c. search needs) (λ c. search needs) (λ c. search needs) (λ c. search needs)
     returns)

@@ -11,24 +11,9 @@ use Rattle.build_sights.proofs.size_of.Reads as size-of-reads
 use Rattle.build_plan.proofs.checks.check_bank_usage.Reads as uses-default-reads
 use Rattle.build_plan.proofs.checks.written_nowhere.Reads as written-nowhere-reads
 
-cast-end : tie.Need-cast-end
-cast-end c = search needs
-
-size-of-requires : tie.Need-size-of-requires
-size-of-requires c κs = search needs
-
-add-end : tie.Need-add-end
-add-end c = search needs
-
-uses-default-requires : tie.Need-check-bank-usage-requires
-uses-default-requires c κs = search needs
-
 returns : tie.Need-returns
 unfolding checked
 returns c = rw (sym (c .before .check-bank-usage .ensures) ∙ c .if1 .taken)
-
-ends-past-requires : tie.Need-ends-past-requires
-ends-past-requires c κs = search needs
 
 returns-2 : tie.Need-returns-2
 unfolding checked
@@ -38,9 +23,6 @@ returns-2 c =
       ← (c .before .before .before .before .size-of .ensures .0),
       sym (c .before .ends-past .ensures) ∙ c .if2 .taken,
     )
-
-written-nowhere-requires : tie.Need-written-nowhere-requires
-written-nowhere-requires c κs = search needs
 
 returns-3 : tie.Need-returns-3
 unfolding checked
@@ -66,13 +48,5 @@ pub check-place-spec : {M : Type 1} → statement M
 check-place-spec =
     tie.close
     (tie.spec
-    cast-end
-    size-of-requires
-    add-end
-    uses-default-requires
-    returns
-    ends-past-requires
-    returns-2
-    written-nowhere-requires
-    returns-3
-    returns-4)
+    (λ c. search needs) (λ c κs. search needs) (λ c. search needs) (λ c κs. search needs) returns (λ c κs. search needs) returns-2
+    (λ c κs. search needs) returns-3 returns-4)

@@ -18,10 +18,10 @@ use Rattle.build_write.proofs.blank.ones_of.Reads as ones-of-reads
 use Rattle.resolver.proofs.bank_record.Reads as bank-record-reads
 
 abbrev Inv-loop : tie.InvT-loop
-Inv-loop banks bits image₀ i₀ image i = (1 ≤ i) × (image ≡ laidTo (banksOf banks) bits (length image₀) i)
+Inv-loop banks bits image₀ i₀ i-end image i = (1 ≤ i) × (image ≡ laidTo (banksOf banks) bits (length image₀) i)
 
 abbrev μ-loop : tie.MeasureT-loop
-μ-loop banks bits image₀ i₀ image i = banks .len - i
+μ-loop banks bits image₀ i₀ i-end image i = banks .len - i
 
 -- clearing keeps the length
 kept : (c : tie.After-clear Inv-loop μ-loop) → length (c .clear .last .0) ≡ length (c .before .before .before .args .image .now)
@@ -30,32 +30,14 @@ kept c = ap length (c .clear .ensures .zeros) ∙ length-replicate _ 0
 cleared : (c : tie.After-clear Inv-loop μ-loop) → c .clear .last .0 ≡ replicate (length (c .clear .last .0)) 0
 cleared c = c .clear .ensures .zeros ∙ ap (λ (n : ℕ). replicate n 0) (sym (kept c))
 
-clear-requires : tie.Need-clear-requires Inv-loop μ-loop
-clear-requires c κs = search needs
-
 loop-holds : tie.Need-loop-holds Inv-loop μ-loop
 loop-holds c =
     let a = c .before .before .before .before .before .args in
     (omega arith, cleared (c .before .before) ∙ laid-first (banksOf (a .banks)) (a .bits) (length (c .before .before .clear .last .0)))
 
-bank-record-requires : tie.Need-bank-record-requires Inv-loop μ-loop
-bank-record-requires c κs = search needs
-
-ones-of-requires : tie.Need-ones-of-requires Inv-loop μ-loop
-ones-of-requires c κs = search needs
-
-set-ones-requires : tie.Need-set-ones-requires Inv-loop μ-loop
-set-ones-requires c κs = search needs
-
-add-i : tie.Need-add-i Inv-loop μ-loop
-add-i c = search needs
-
-loop-less : tie.Need-loop-less Inv-loop μ-loop
-loop-less c = search needs
-
 loop-again : tie.Need-loop-again Inv-loop μ-loop
 loop-again c =
-    let at = c .before .before .before .before .before .before .before .before in
+    let at = c .before .before .before .before .before .before .before in
     let a = at .before .before .before .before .before .before .args in
     let found = c .before .before .before .before .before in
     let ones = c .before .before .before .before .ones-of in
@@ -67,32 +49,22 @@ loop-again c =
 
 same-length : tie.Need-same-length Inv-loop μ-loop
 same-length c =
-    let at = c .before .before in
+    let at = c .before in
     let a = at .before .before .before .before .before .before .args in
     ap length (at .loop .inv .1) ∙ laid-length (banksOf (a .banks)) (a .bits) _ (at .loop .i) ∙ kept (at .before .before .before)
 
 returns : tie.Need-returns Inv-loop μ-loop
 returns c =
-    let at = c .before .before in
+    let at = c .before in
     let a = at .before .before .before .before .before .before .args in
     at .loop .inv .1
     ∙ ap (λ (n : ℕ). laidTo (banksOf (a .banks)) (a .bits) n (at .loop .i)) (kept (at .before .before .before))
     ∙ laid-all (banksOf (a .banks)) (a .bits) (length (a .image .now)) (at .loop .i)
-    (omega (arith, length-take (a .banks .len) (a .banks .defs), c .if1 .left))
+    (omega (arith, length-take (a .banks .len) (a .banks .defs), c .loop-test .left))
 
 pub lay-blank-spec : {M : Type 1} → statement M
 lay-blank-spec =
     tie.close
     (tie.spec
-    Inv-loop
-    μ-loop
-    clear-requires
-    loop-holds
-    bank-record-requires
-    ones-of-requires
-    set-ones-requires
-    add-i
-    loop-less
-    loop-again
-    same-length
-    returns)
+    Inv-loop μ-loop (λ c κs. search needs) loop-holds (λ c κs. search needs) (λ c κs. search needs) (λ c κs. search needs) (λ c. search needs)
+    (λ c. search needs) loop-again same-length returns)
