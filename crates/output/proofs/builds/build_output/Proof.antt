@@ -40,18 +40,6 @@ module _ (c : tie.After-resolve) (k : ℕ) (settles : c .resolve .result .settle
   cells : begin c .args .rows * length (begin c .args .kinds .now) ≤ 65536
   cells = omega (arith, mul-le-mul-right (length (begin c .args .kinds .now)) (rows .few), few)
 
-resolve-requires : tie.Need-resolve-requires
-resolve-requires c κs = search needs
-
-enum-known-settled : tie.Need-enum-known-settled
-enum-known-settled c = search needs
-
-refused-requires : tie.Need-refused-requires
-refused-requires c κs = search needs
-
-enum-known-settled-2 : tie.Need-enum-known-settled-2
-enum-known-settled-2 c = search needs
-
 row-start-requires : tie.Need-row-start-requires
 row-start-requires c κs =
     let f = c .before .before .before in
@@ -63,12 +51,6 @@ add-e c =
     let f = c .before .before .before .before in
     let told = c .before .before .settled2 .given in
     record { fits = omega (arith, cells f (told .0 .0) (told .1), c .row-start .ensures .1) }
-
-sub-build-row : tie.Need-sub-build-row
-sub-build-row c = search needs
-
-part-build-row-start : tie.Need-part-build-row-start
-part-build-row-start c = search needs
 
 part-build-row-end : tie.Need-part-build-row-end
 part-build-row-end c =
@@ -82,23 +64,11 @@ mul-build-row c =
     let told = c .before .before .before .settled2 .given in
     record { fits = omega (arith, cells f (told .0 .0) (told .1), c .before .row-start .ensures .1) }
 
-sub-build-row-2 : tie.Need-sub-build-row-2
-sub-build-row-2 c = search needs
-
-part-build-row-start-2 : tie.Need-part-build-row-start-2
-part-build-row-start-2 c = search needs
-
 part-build-row-end-2 : tie.Need-part-build-row-end-2
 part-build-row-end-2 c =
     let f = c .before .before .before .before .before in
     let told = c .before .before .before .settled2 .given in
     omega (arith, rows f (told .0 .0) (told .1) .numbered, c .before .row-start .ensures .1)
-
-sub-build-row-3 : tie.Need-sub-build-row-3
-sub-build-row-3 c = search needs
-
-part-build-row-start-3 : tie.Need-part-build-row-start-3
-part-build-row-start-3 c = search needs
 
 part-build-row-end-3 : tie.Need-part-build-row-end-3
 part-build-row-end-3 c =
@@ -131,18 +101,6 @@ returns c =
     refused (begin f .args .banks) (given (begin f)) (begin f .args .choices) (f .resolve .result) (f .resolve .ensures .0) (told .0 .0) (told .1)
     (old (begin f)) (c .refused .result) (c .refused .ensures)
 
-same-length : tie.Need-same-length
-same-length c = search needs
-
-same-length-2 : tie.Need-same-length-2
-same-length-2 c = search needs
-
-same-length-3 : tie.Need-same-length-3
-same-length-3 c = search needs
-
-same-length-4 : tie.Need-same-length-4
-same-length-4 c = search needs
-
 returns-2 : tie.Need-returns-2
 returns-2 c =
     let r = c .before .before .before .before .before .before .before in
@@ -157,26 +115,7 @@ pub build-output-spec : {M : Type 1} → statement M
 build-output-spec =
     tie.close
     (tie.spec
-    resolve-requires
-    enum-known-settled
-    refused-requires
-    enum-known-settled-2
-    row-start-requires
-    add-e
-    sub-build-row
-    part-build-row-start
-    part-build-row-end
-    mul-build-row
-    sub-build-row-2
-    part-build-row-start-2
-    part-build-row-end-2
-    sub-build-row-3
-    part-build-row-start-3
-    part-build-row-end-3
-    build-row-requires
-    returns
-    same-length
-    same-length-2
-    same-length-3
-    same-length-4
-    returns-2)
+    (λ c κs. search needs) (λ c. search needs) (λ c κs. search needs) (λ c. search needs) row-start-requires add-e (λ c. search needs)
+    (λ c. search needs) part-build-row-end mul-build-row (λ c. search needs) (λ c. search needs) part-build-row-end-2 (λ c. search needs)
+    (λ c. search needs) part-build-row-end-3 build-row-requires returns (λ c. search needs) (λ c. search needs) (λ c. search needs)
+    (λ c. search needs) returns-2)

@@ -69,22 +69,10 @@ roomy c = c .before .before
 abbrev written : tie.After-write-row → tie.After-enum-told2
 written c = c .before .before .before .before .before
 
-fill-length-requires : tie.Need-fill-length-requires
-fill-length-requires c κs = search needs
-
-closes-default-requires : tie.Need-closes-default-requires
-closes-default-requires c κs = search needs
-
 plan-row-requires : tie.Need-plan-row-requires
 plan-row-requires c κs =
     let s = c .before .before .before .before .before .before .before .before .before .before .before in
     ((c .before .fill-length .ensures .1, s .pre .0), s .pre .1 .0)
-
-enum-known-verdict : tie.Need-enum-known-verdict
-enum-known-verdict c = search needs
-
-refused-requires : tie.Need-refused-requires
-refused-requires c κs = search needs
 
 -- a refused node
 returns : tie.Need-returns
@@ -95,23 +83,8 @@ returns c =
     row-stopped (given s) (row s) (closed s) (fill s) (s .args .k) (s .args .passes) (s .args .values .now) (old s) (f .plan-row .result) (planned f)
     (why .0 .0) (why .1) (c .refused .result) (c .refused .ensures)
 
-enum-told : tie.Need-enum-told
-enum-told c = search needs
-
-lesser-requires : tie.Need-lesser-requires
-lesser-requires c κs = search needs
-
-lesser-requires-2 : tie.Need-lesser-requires-2
-lesser-requires-2 c κs = search needs
-
 room-for-requires : tie.Need-room-for-requires
 room-for-requires c κs = c .before .before .before .before .plan-row .ensures .1
-
-enum-known-room : tie.Need-enum-known-room
-enum-known-room c = search needs
-
-refused-requires-2 : tie.Need-refused-requires-2
-refused-requires-2 c κs = search needs
 
 -- a lent output is too short
 returns-2 : tie.Need-returns-2
@@ -123,9 +96,6 @@ returns-2 c =
     row-short (given s) (row s) (closed s) (fill s) (s .args .k) (s .args .passes) (s .args .values .now) (old s) (f .plan-row .result) (planned f)
     (passes-nodes r) (room-told r) (why .0 .0) (why .1) (c .refused2 .result) (c .refused2 .ensures)
 
-enum-told-2 : tie.Need-enum-told-2
-enum-told-2 c = search needs
-
 write-row-requires : tie.Need-write-row-requires
 write-row-requires c κs =
     let r = c .before .before .before .before .before .before in
@@ -135,18 +105,6 @@ write-row-requires c κs =
       has-room (given s) (row s) (closed s) (fill s) (s .args .k) (s .args .passes) (s .args .values .now) (old s) (f .plan-row .result) (planned f)
           (passes-nodes r) (room-told r) (c .before .before .before .before .enum-told2 .given .1) (s .pre .1 .1),
     )
-
-same-length : tie.Need-same-length
-same-length c = search needs
-
-same-length-2 : tie.Need-same-length-2
-same-length-2 c = search needs
-
-same-length-3 : tie.Need-same-length-3
-same-length-3 c = search needs
-
-same-length-4 : tie.Need-same-length-4
-same-length-4 c = search needs
 
 -- everything is written
 returns-3 : tie.Need-returns-3
@@ -164,23 +122,6 @@ pub build-row-spec : {M : Type 1} → statement M
 build-row-spec =
     tie.close
     (tie.spec
-    fill-length-requires
-    closes-default-requires
-    plan-row-requires
-    enum-known-verdict
-    refused-requires
-    returns
-    enum-told
-    lesser-requires
-    lesser-requires-2
-    room-for-requires
-    enum-known-room
-    refused-requires-2
-    returns-2
-    enum-told-2
-    write-row-requires
-    same-length
-    same-length-2
-    same-length-3
-    same-length-4
-    returns-3)
+    (λ c κs. search needs) (λ c κs. search needs) plan-row-requires (λ c. search needs) (λ c κs. search needs) returns (λ c. search needs)
+    (λ c κs. search needs) (λ c κs. search needs) room-for-requires (λ c. search needs) (λ c κs. search needs) returns-2 (λ c. search needs)
+    write-row-requires (λ c. search needs) (λ c. search needs) (λ c. search needs) (λ c. search needs) returns-3)
