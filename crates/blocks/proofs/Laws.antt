@@ -1,21 +1,19 @@
 -- The tests of the definitions, followed case by case: a law for each way that the code goes.
-use mathlib.Core.Path.{_≡_, refl, sym}
-use mathlib.Core.Bool.{Bool, true, false, false≢true}
+use mathlib.Core.Path.{_≡_, refl}
+use mathlib.Core.Bool.{Bool, true, false}
 use mathlib.Core.List.{List, [], _∷_}
 use Prim.Native.Nat.{ℕ, suc, _+_, _≤_, _<_}
-use native.Mathlib.Nat.{add-zero, le-antisymm}
+use native.Mathlib.Nat.{le-antisymm}
 use native.Mathlib.Numerals.{add-one}
 use native.Mathlib.Omega.{arith}
-use borrow.Author.Tests.{eq-eqb, ne-eqb, le-leb, lt-leb, eqb-true, leb-true}
-use lib.Dec.{leb, eqb}
+use borrow.Author.Tests.{eq-eqb, ne-eqb, le-leb, lt-leb, leb-true}
+use lib.Dec.{leb}
 use lib.ListN.{length, getD, set, drop}
 use lib.Seq.{drop-cons, drop-length}
 use Rattle.refusal.specs.declared.Offset.{Offset}
 use Rattle.refusal.specs.declared.Offset.the-variants.{None, At}
 use Rattle.refusal.specs.Limits.{maxNodes, maxOffer, maxPosition}
-use Rattle.refusal.specs.Pick.{pick}
 use Rattle.blocks.specs.declared.Block.{Block}
-use Rattle.blocks.specs.Theorems.Acceptable.{acceptable-parts as parts}
 use Rattle.blocks.specs.Offsets.{noOffset, offsetOf}
 use Rattle.blocks.specs.Put.{Put}
 use Rattle.blocks.specs.Laws.Put.{put-nothing, kept-none, kept-some}

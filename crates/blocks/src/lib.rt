@@ -128,46 +128,48 @@ pub fn push(
     1
 }
 
-// The bit behind a block's last.
-fn end_of(block: Block) -> u64
-    requires { ⌜ endOf block < 2 ^ 63 ⌝ }
-    ensures { λ r. ⌜ r ≡ endOf block ⌝ }
-{
-    block.origin + block.size
-}
-
-// Writes the running block if a span at an offset closes it.
-fn close(
-    block: Block,
-    offset: u64,
-    count: usize,
-    block_offsets: &mut [u64],
-    block_sizes: &mut [u64],
-) -> usize
-    requires { ⌜ (count ≤ maxNodes) × (endOf block < 2 ^ 63) ⌝ }
-    ensures { λ r. ⌜ Put (closed block (Offset.At offset)) count
-        (now («block_offsets» .entry)) (now («block_sizes» .entry)) r (now («block_offsets» .exit)) (now («block_sizes» .exit)) ⌝ }
-{
-    if offset == end_of(block) {
-        return count;
+impl Block {
+    // The bit behind its last.
+    fn end(self) -> u64
+        requires { ⌜ endOf self < 2 ^ 63 ⌝ }
+        ensures { λ r. ⌜ r ≡ endOf self ⌝ }
+    {
+        self.origin + self.size
     }
-    count + push(block.origin, block.size, count, block_offsets, block_sizes)
-}
 
-// The block that runs on after a span at an offset.
-fn join(block: Block, offset: u64, size: u64) -> Block
-    requires { ⌜ (endOf block < 2 ^ 63) × (block .size + size < 2 ^ 63) ⌝ }
-    ensures { λ r. ⌜ r ≡ joined block (Offset.At offset) size ⌝ }
-{
-    if offset == end_of(block) {
-        Block {
-            origin: block.origin,
-            size: block.size + size,
+    // Writes the block if a span at an offset closes it.
+    fn close(
+        self,
+        offset: u64,
+        count: usize,
+        block_offsets: &mut [u64],
+        block_sizes: &mut [u64],
+    ) -> usize
+        requires { ⌜ (count ≤ maxNodes) × (endOf self < 2 ^ 63) ⌝ }
+        ensures { λ r. ⌜ Put (closed self (Offset.At offset)) count
+            (now («block_offsets» .entry)) (now («block_sizes» .entry)) r (now («block_offsets» .exit)) (now («block_sizes» .exit)) ⌝ }
+    {
+        if offset == self.end() {
+            return count;
         }
-    } else {
-        Block {
-            origin: offset,
-            size,
+        count + push(self.origin, self.size, count, block_offsets, block_sizes)
+    }
+
+    // The block that runs on after a span at an offset.
+    fn join(self, offset: u64, size: u64) -> Block
+        requires { ⌜ (endOf self < 2 ^ 63) × (self .size + size < 2 ^ 63) ⌝ }
+        ensures { λ r. ⌜ r ≡ joined self (Offset.At offset) size ⌝ }
+    {
+        if offset == self.end() {
+            Block {
+                origin: self.origin,
+                size: self.size + size,
+            }
+        } else {
+            Block {
+                origin: offset,
+                size,
+            }
         }
     }
 }
@@ -193,10 +195,17 @@ fn walk(
         let Offset::At(offset) = offset_of(offsets[place]) else {
             continue;
         };
-        count = close(current, offset, count, block_offsets, block_sizes);
-        current = join(current, offset, sizes[place]);
+        count = current.close(offset, count, block_offsets, block_sizes);
+        current = current.join(offset, sizes[place]);
     }
-    count + push(current.origin, current.size, count, block_offsets, block_sizes)
+    count
+        + push(
+            current.origin,
+            current.size,
+            count,
+            block_offsets,
+            block_sizes,
+        )
 }
 
 // Writes the blocks, if there is room for all of them: a walk that is lent no room counts them first.

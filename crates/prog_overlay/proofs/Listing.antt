@@ -14,7 +14,7 @@ use Rattle.refusal.specs.Pick.{pick}
 use Rattle.refusal.specs.declared.Refusal.{Refusal}
 use Rattle.refusal.specs.declared.Refusal.the-variants.{Malformed, TooShort}
 use Rattle.blocks.specs.declared.Block.{Block}
-use Rattle.blocks.specs.Outcome.{origins, sizes, over, roomFor}
+use Rattle.blocks.specs.Outcome.{origins, sizes, roomFor}
 use Rattle.blocks.specs.Walk.{block}
 use Rattle.overlay.specs.Laws.RunFacts.{each-good}
 use Rattle.overlay.specs.List.{Lists}

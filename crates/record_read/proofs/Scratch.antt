@@ -8,7 +8,7 @@ use native.Mathlib.Nat.{zero-div, add-zero, le-antisymm}
 use native.Mathlib.Decide.{decLt, ℕ-discrete}
 use native.Mathlib.Omega.{arith}
 use borrow.Author.Tests.{le-leb, lt-leb, lt-ltb, eq-eqb, ne-eqb}
-use lib.Dec.{leb, ltb, eqb}
+use lib.Dec.{leb, eqb}
 use lib.ListN.{length, getD, replicate}
 use Rattle.refusal.specs.Laws.Bools.{either, clash}
 use Rattle.refusal.specs.Pick.{pick}
@@ -20,14 +20,13 @@ use Rattle.bitvec.specs.Laws.Numeral.{bitOf-numeral}
 use Rattle.blocks.specs.Put.{Put}
 use Rattle.record_lines.specs.Pieces.{Piece, endOf}
 use Rattle.record_fault.specs.Reading.{isNew}
-use Rattle.record_fault.specs.Steps.{highest}
 use Rattle.record_fault.specs.Trail.{trail}
 use Rattle.record_fault.specs.Once.{isFree, Once}
 use Rattle.record_fault.specs.Windows.{Windowed}
 use Rattle.record_fault.specs.declared.Window.{Window}
 use Rattle.record_read.specs.Given.{given, holds}
 use Rattle.record_read.specs.Laws.ByteFacts.{new-outside}
-use Rattle.record_read.specs.Runs.{isGiven, reach, inBits}
+use Rattle.record_read.specs.Runs.{isGiven, inBits}
 use Rattle.record_read.specs.Steps.{run, closedBy, joinedBy, Small, Listed, Ready, FirstBit, MarkedBy, Underway, Passes}
 use Rattle.record_read.specs.declared.Run.{Run}
 use Rattle.record_read.specs.declared.Walk.{Walk}

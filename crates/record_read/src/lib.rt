@@ -16,9 +16,9 @@ ghost use Rattle.record_lines.specs.Pieces.{piece};
 ghost use Rattle.record_lines.specs.Spelling.{Spells};
 ghost use Rattle.record_fault.specs.Reading.{readText, sound};
 ghost use Rattle.record_fault.specs.Trail.{trail};
-ghost use Rattle.record_fault.specs.Steps.{AllGood, highest, rises};
+ghost use Rattle.record_fault.specs.Steps.{AllGood, rises};
 ghost use Rattle.record_read.specs.Given.{filled};
-ghost use Rattle.record_read.specs.Runs.{isGiven, reach, inBits, runsGiven, blocksGiven};
+ghost use Rattle.record_read.specs.Runs.{isGiven, reach, inBits, blocksGiven};
 ghost use Rattle.record_read.specs.Outcome.{lent, Reads};
 ghost use Rattle.record_read.specs.Steps.{extentOf, keptRun, closedBy, joinedBy, Small, Lowest, Betters};
 ghost use Rattle.record_read.specs.Steps.{Ready, Usable, FirstBit, Underway, Passes};
@@ -69,72 +69,91 @@ fn extent(address: u32, count: u8, load: u32) -> Run
     }
 }
 
-// Writes a run behind the blocks that are written, unless it is empty, and counts it.
-fn push(run: Run, count: usize, offsets: &mut [u64], sizes: &mut [u64]) -> usize
-    requires { ⌜ (run .first ≤ run .end) × (count ≤ run .first) × Small run ⌝ }
-    ensures { λ r. ⌜ Put (map inBits (keptRun run)) count (now (offsets .entry)) (now (sizes .entry)) r (now (offsets .exit)) (now (sizes .exit)) ⌝ }
-{
-    count + blocks::push(8 * run.first, 8 * (run.end - run.first), count, offsets, sizes)
-}
+impl Run {
+    // Writes the run behind the blocks that are written, unless it is empty, and counts it.
+    fn push(self, count: usize, offsets: &mut [u64], sizes: &mut [u64]) -> usize
+        requires { ⌜ (self .first ≤ self .end) × (count ≤ self .first) × Small self ⌝ }
+        ensures { λ r. ⌜ Put (map inBits (keptRun self)) count (now (offsets .entry)) (now (sizes .entry)) r (now (offsets .exit)) (now (sizes .exit)) ⌝ }
+    {
+        count
+            + blocks::push(
+                8 * self.first,
+                8 * (self.end - self.first),
+                count,
+                offsets,
+                sizes,
+            )
+    }
 
-// Writes a run if the next one does not touch it.
-fn close(run: Run, next: Run, count: usize, offsets: &mut [u64], sizes: &mut [u64]) -> usize
-    requires { ⌜ (run .first ≤ run .end) × (count ≤ run .first) × Small run ⌝ }
-    ensures { λ r. ⌜ Put (map inBits (closedBy run next)) count (now (offsets .entry)) (now (sizes .entry)) r (now (offsets .exit)) (now (sizes .exit)) ⌝ }
-{
-    if next.end <= next.first {
-        return count;
+    // Writes the run if the next one does not touch it.
+    fn close(self, next: Run, count: usize, offsets: &mut [u64], sizes: &mut [u64]) -> usize
+        requires { ⌜ (self .first ≤ self .end) × (count ≤ self .first) × Small self ⌝ }
+        ensures { λ r. ⌜ Put (map inBits (closedBy self next)) count (now (offsets .entry)) (now (sizes .entry)) r (now (offsets .exit)) (now (sizes .exit)) ⌝ }
+    {
+        if next.end <= next.first {
+            return count;
+        }
+        if self.end == next.first {
+            return count;
+        }
+        self.push(count, offsets, sizes)
     }
-    if run.end == next.first {
-        return count;
-    }
-    push(run, count, offsets, sizes)
-}
 
-// The run that goes on behind the next one.
-fn join(run: Run, next: Run) -> Run
-    ensures { λ r. ⌜ r ≡ joinedBy run next ⌝ }
-{
-    if next.end <= next.first {
-        return run;
+    // The run that goes on behind the next one.
+    fn join(self, next: Run) -> Run
+        ensures { λ r. ⌜ r ≡ joinedBy self next ⌝ }
+    {
+        if next.end <= next.first {
+            return self;
+        }
+        if next.first == self.end {
+            return Run {
+                first: self.first,
+                end: next.end,
+            };
+        }
+        next
     }
-    if next.first == run.end {
-        return Run {
-            first: run.first,
-            end: next.end,
-        };
-    }
-    next
-}
 
-// The lower of two stretches from a byte on, or both where the second touches the first.
-fn better(best: Run, next: Run, from: u64) -> Run
-    ensures { λ r. ⌜ Betters from best next r ⌝ }
-{
-    let first = refusal::greater(next.first, from);
-    let end = next.end;
-    if end <= first {
-        return best;
+    // The lower of two stretches from a byte on, or both where the second touches the first.
+    fn better(self, next: Run, from: u64) -> Run
+        ensures { λ r. ⌜ Betters from self next r ⌝ }
+    {
+        let first = refusal::greater(next.first, from);
+        let end = next.end;
+        if end <= first {
+            return self;
+        }
+        if self.end <= self.first {
+            return Run { first, end };
+        }
+        if end == self.first {
+            return Run {
+                first,
+                end: self.end,
+            };
+        }
+        if first < self.first {
+            return Run { first, end };
+        }
+        if first == self.end {
+            return Run {
+                first: self.first,
+                end,
+            };
+        }
+        self
     }
-    if best.end <= best.first {
-        return Run { first, end };
+
+    // Where to look on behind a stretch: at its end, or at the end of all where there was none.
+    fn behind(self, end: u64) -> u64
+        ensures { λ r. ⌜ r ≡ pick (ltb (self .first) (self .end)) (self .end) end ⌝ }
+    {
+        if self.first < self.end {
+            return self.end;
+        }
+        end
     }
-    if end == best.first {
-        return Run {
-            first,
-            end: best.end,
-        };
-    }
-    if first < best.first {
-        return Run { first, end };
-    }
-    if first == best.end {
-        return Run {
-            first: best.first,
-            end,
-        };
-    }
-    best
 }
 
 // The lowest stretch of bytes from a byte on, whatever the order of the records; none where nothing is given there.
@@ -148,21 +167,11 @@ fn lowest(format: u8, text: &[u8], t: &[u8; 256], n: usize, load: u32, from: u64
     for _ in 0..n {
         let s = record_fault::known_line(format, text, t, at, state);
         let line = s.line;
-        best = better(best, extent(line.address, line.count, load), from);
+        best = best.better(extent(line.address, line.count, load), from);
         at = s.next;
         state = line.state;
     }
     best
-}
-
-// Where to look on behind a stretch: at its end, or at the end of all where there was none.
-fn behind(next: Run, end: u64) -> u64
-    ensures { λ r. ⌜ r ≡ pick (ltb (next .first) (next .end)) (next .end) end ⌝ }
-{
-    if next.first < next.end {
-        return next.end;
-    }
-    end
 }
 
 // The blocks of a file whose records stand in any order: the lowest stretch is looked for again and again.
@@ -186,11 +195,11 @@ fn walk_any(
     let mut count = 0usize;
     while from < end {
         let next = lowest(format, text, t, n, load, from);
-        count = close(run, next, count, offsets, sizes);
-        run = join(run, next);
-        from = behind(next, end);
+        count = run.close(next, count, offsets, sizes);
+        run = run.join(next);
+        from = next.behind(end);
     }
-    push(run, count, offsets, sizes)
+    run.push(count, offsets, sizes)
 }
 
 // Bit b of a byte, from the top.
@@ -255,8 +264,8 @@ fn walk_window(
             first: from + first,
             end: from + end,
         };
-        count = close(run, next, count, offsets, sizes);
-        run = join(run, next);
+        count = run.close(next, count, offsets, sizes);
+        run = run.join(next);
         j = end;
     }
     Walk { run, count }
@@ -293,7 +302,7 @@ fn walk_scratch(
         bitvec::clear(scratch);
         from = above(window.next, load);
     }
-    push(walk.run, walk.count, offsets, sizes)
+    walk.run.push(walk.count, offsets, sizes)
 }
 
 // Whether the blocks are found by scratch: where there are more than a few, and scratch is lent and is zeros.
@@ -441,12 +450,12 @@ fn store_up(
             bytes,
         );
         let next = extent(line.address, line.count, load);
-        count = close(run, next, count, offsets, sizes);
-        run = join(run, next);
+        count = run.close(next, count, offsets, sizes);
+        run = run.join(next);
         at = s.next;
         state = line.state;
     }
-    push(run, count, offsets, sizes)
+    run.push(count, offsets, sizes)
 }
 
 // The bytes and the blocks of a sound file. Counts the blocks.

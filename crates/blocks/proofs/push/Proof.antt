@@ -28,9 +28,10 @@ returns-2 c =
     let p2 = c .before .before in
     let p1 = p2 .before .before .before .before in
     let e = p1 .before .before in
-    let a = e .before .before .before .args in
-    (push-some (block (a .origin) (a .size)) (e .if1 .left) (a .count) (a .block-offsets .now) (a .block-sizes .now) (p1 .put .ensures) (p2 .put2 .ensures),
-    omega arith)
+    let a = e .before .before .before .args in (
+      push-some (block (a .origin) (a .size)) (e .if1 .left) (a .count) (a .block-offsets .now) (a .block-sizes .now) (p1 .put .ensures) (p2 .put2 .ensures),
+      omega arith,
+    )
 
 pub push-spec : {M : Type 1} → statement M
 push-spec =

@@ -68,7 +68,8 @@ returns-3 c =
     let w = e .before .before .before .before .before .before in
     let a = start w .args in
     let b = numberedBlocks (a .offsets .now) (a .sizes .now) (a .numbers .now) in
-    enough Found (Refused (TooShort 2)) b (a .block-offsets .now) (a .block-sizes .now) (w .walk .ensures) (e .before .if1 .left) (e .if2 .left) (v .walk2 .ensures)
+    enough Found (Refused (TooShort 2)) b (a .block-offsets .now) (a .block-sizes .now) (w .walk .ensures) (e .before .if1 .left)
+    (e .if2 .left) (v .walk2 .ensures)
 
 pub write-blocks-spec : {M : Type 1} → statement M
 write-blocks-spec =

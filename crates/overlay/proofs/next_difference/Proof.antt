@@ -1,8 +1,7 @@
 -- `next_difference` meets its contract: what is passed and what is left make up the whole length.
 use borrow.Author.Needs.{needs}
-use mathlib.Core.Path.{_≡_, refl}
+use mathlib.Core.Path.{_≡_}
 use Prim.Native.Nat.{_+_, _-_}
-use native.Mathlib.Omega.{arith}
 use borrow.Author.Tests.{eq-eqb, ne-eqb}
 use lib.ListN.{getD}
 use Rattle.overlay.specs.Runs.{agree, lengthFrom}
@@ -51,8 +50,9 @@ loop-again c =
 returns-2 : tie.Need-returns-2 Inv-loop μ-loop
 returns-2 c =
     let h = c .before in
-    let a = h .before .before .before .before .args in
-    look-end (agree (a .overlay .now) (a .released .now)) (a .at) (a .to) (h .loop .i) (h .before .before .before .before .pre .0) (c .loop-test .left) (h .loop .inv)
+    let s = h .before .before .before .before in
+    let a = s .args in
+    look-end (agree (a .overlay .now) (a .released .now)) (a .at) (a .to) (h .loop .i) (s .pre .0) (c .loop-test .left) (h .loop .inv)
 
 pub next-difference-spec : {M : Type 1} → statement M
 next-difference-spec =

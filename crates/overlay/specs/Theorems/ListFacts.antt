@@ -1,6 +1,6 @@
 -- What a call of `differences` leaves, by its contract: each refusal exactly when, in order, and then nothing lent is changed; else the
 -- runs stand at the front, and what stands past them stays.
-use mathlib.Core.Path.{_≡_, refl, sym, ap, _∙_}
+use mathlib.Core.Path.{_≡_, sym, ap, _∙_}
 use mathlib.Core.Bool.{Bool, true, false}
 use mathlib.Core.List.{List}
 use mathlib.Core.Logic.{_↔_}

@@ -2,7 +2,6 @@
 use mathlib.Core.Path.{refl, ap}
 use lib.ListN.{length}
 use Rattle.blocks.specs.Laws.Put.{put-long}
-use borrow.Author.Needs.{needs}
 use Rattle.record_read.proofs.find_blocks.Statement.{statement}
 use Rattle.record_read.proofs.find_blocks.Tie as tie
 

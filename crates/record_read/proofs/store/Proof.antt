@@ -4,7 +4,6 @@ use lib.ListN.{length}
 use Rattle.record_fault.specs.Trail.{trail}
 use Rattle.record_read.specs.Theorems.GivenLaws.{filled-long}
 use Rattle.blocks.specs.Laws.Put.{put-long}
-use borrow.Author.Needs.{needs}
 use Rattle.record_read.proofs.store.Statement.{statement}
 use Rattle.record_read.proofs.store.Tie as tie
 

@@ -2,11 +2,11 @@
 use borrow.Author.Needs.{needs}
 use mathlib.Core.Path.{sym, _∙_}
 use Rattle.blocks.proofs.Laws.{joined-on, joined-anew}
-use Rattle.blocks.proofs.join.Statement.{statement}
-use Rattle.blocks.proofs.join.Tie as tie
+use Rattle.blocks.proofs.Block.join.Statement.{statement}
+use Rattle.blocks.proofs.Block.join.Tie as tie
 
-end-of-requires : tie.Need-end-of-requires
-end-of-requires c κs = search needs
+end-requires : tie.Need-end-requires
+end-requires c κs = search needs
 
 add-t7 : tie.Need-add-t7
 add-t7 c = search needs
@@ -15,12 +15,12 @@ returns : tie.Need-returns
 returns c =
     let t = c .before in
     let a = t .before .before .args in
-    joined-on (a .block) (a .offset) (a .size) (t .if1 .taken ∙ t .before .end-of .ensures)
+    joined-on (a .self) (a .offset) (a .size) (t .if1 .taken ∙ t .before .end .ensures)
 
 returns-2 : tie.Need-returns-2
 returns-2 c =
     let a = c .before .before .args in
-    joined-anew (a .block) (a .offset) (a .size) (λ q. c .if1 .left (q ∙ sym (c .before .end-of .ensures)))
+    joined-anew (a .self) (a .offset) (a .size) (λ q. c .if1 .left (q ∙ sym (c .before .end .ensures)))
 
 pub join-spec : {M : Type 1} → statement M
-join-spec = tie.close (tie.spec end-of-requires add-t7 returns returns-2)
+join-spec = tie.close (tie.spec end-requires add-t7 returns returns-2)

@@ -1,13 +1,13 @@
 -- `record_read::push`: a run in bits is empty where the run is.
 use Rattle.record_read.proofs.Walks.{push-bits}
 use borrow.Author.Needs.{needs}
-use Rattle.record_read.proofs.push.Statement.{statement}
-use Rattle.record_read.proofs.push.Tie as tie
+use Rattle.record_read.proofs.Run.push.Statement.{statement}
+use Rattle.record_read.proofs.Run.push.Tie as tie
 
 returns : tie.Need-returns
 returns c =
     let p = c .before .before .before .before in
-    push-bits (p .before .before .before .before .before .before .before .args .run) (p .push .ensures .0)
+    push-bits (p .before .before .before .before .before .before .before .args .self) (p .push .ensures .0)
 
 pub push-spec : {M : Type 1} → statement M
 push-spec =

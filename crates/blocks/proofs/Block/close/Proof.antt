@@ -2,17 +2,17 @@
 use borrow.Author.Needs.{needs}
 use mathlib.Core.Path.{sym, _∙_}
 use Rattle.blocks.proofs.Laws.{closed-none, closed-kept}
-use Rattle.blocks.proofs.close.Statement.{statement}
-use Rattle.blocks.proofs.close.Tie as tie
+use Rattle.blocks.proofs.Block.close.Statement.{statement}
+use Rattle.blocks.proofs.Block.close.Tie as tie
 
-end-of-requires : tie.Need-end-of-requires
-end-of-requires c κs = search needs
+end-requires : tie.Need-end-requires
+end-requires c κs = search needs
 
 returns : tie.Need-returns
 returns c =
     let d = c .before in
     let a = d .before .before .before .args in
-    closed-none (a .block) (a .offset) (c .if1 .taken ∙ d .end-of .ensures) (a .count) (a .block-offsets .now) (a .block-sizes .now)
+    closed-none (a .self) (a .offset) (c .if1 .taken ∙ d .end .ensures) (a .count) (a .block-offsets .now) (a .block-sizes .now)
 
 push-requires : tie.Need-push-requires
 push-requires c κs = search needs
@@ -32,8 +32,8 @@ returns-2 c =
     let e = p .before .before .before in
     let d = e .before in
     let a = d .before .before .before .args in
-    rw (closed-kept (a .block) (a .offset) (λ q. e .if1 .left (q ∙ sym (d .end-of .ensures)))) (p .push .ensures .0)
+    rw (closed-kept (a .self) (a .offset) (λ q. e .if1 .left (q ∙ sym (d .end .ensures)))) (p .push .ensures .0)
 
 pub close-spec : {M : Type 1} → statement M
 close-spec =
-    tie.close (tie.spec end-of-requires returns push-requires add-result same-length same-length-2 returns-2)
+    tie.close (tie.spec end-requires returns push-requires add-result same-length same-length-2 returns-2)
