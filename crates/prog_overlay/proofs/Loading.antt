@@ -7,7 +7,7 @@ use native.Mathlib.Omega.{arith}
 use borrow.Author.Tests.{le-leb, lt-leb}
 use lib.Dec.{leb}
 use lib.ListN.{length, take, drop, length-map, length-append, length-drop, drop-of-length-le}
-use lib.Seq.{take-at, sets-eq}
+use lib.Seq.{take-at, sets-eq, length-take-le}
 use Rattle.refusal.specs.Laws.Pick.{pick-true, pick-false}
 use Rattle.refusal.specs.Pick.{pick}
 use Rattle.refusal.specs.Told.{gives}
@@ -144,6 +144,20 @@ module _ (load : ℕ) (l : Lent) (hb : length (l .bytes) ≡ bytesRoom) (ho : le
 
     pub loaded : Loads (fileOf load (l .bytes) source) r (new .bytes) (new .offsets) (new .sizes)
     loaded = loaded-by r refl
+
+-- ---- its blocks, at the front of what was lent
+
+pub record Fronts (n : ℕ) (os ss : List ℕ) : Type 0 where
+  pub offsets : n ≤ length os
+  pub sizes : n ≤ length ss
+  pub long : n ≡ length (take n os)
+  pub lengths : n ≡ length (take n ss)
+
+pub fronts : {file : File} {n : ℕ} {bytes os ss : List ℕ} → Loads file (Found n) bytes os ss → Fronts n os ss
+fronts {n = n} {os = os} {ss = ss} l =
+    let o : n ≤ length os = omega (arith, l .1, l .3) in
+    let s : n ≤ length ss = omega (arith, l .1, l .4) in
+    record { offsets = o; sizes = s; long = sym (length-take-le n os o); lengths = sym (length-take-le n ss s) }
 
 -- ---- the line at fault
 

@@ -21,7 +21,6 @@ ghost use lib.ListN.{length};
 ghost use Rattle.io.specs.Counts.{Counts};
 ghost use Rattle.overlay.specs.Trial.{trial};
 ghost use Rattle.print_text.specs.Ascii.{ascii};
-ghost use Rattle.print_text.specs.Lines.{line};
 ghost use Rattle.print_text.specs.Puts.{Writes};
 ghost use Rattle.prog_args.specs.Text.{Stands, Shows};
 ghost use Rattle.refusal.specs.Pick.{pick};
@@ -51,16 +50,6 @@ const TEXT: usize = 4_194_304;
 pub enum Asked {
     Runs,
     Range(u32, u32),
-}
-
-// A line that is known to fit.
-fn put_line(word: &[u8], numbers: &[u64], at: usize, out: &mut [u8]) -> usize
-    requires { ⌜ at + length (line (now word) (now numbers)) ≤ length (now out) ⌝ }
-    ensures { λ r. ⌜ Writes (line (now (word .entry)) (now (numbers .entry))) (now (out .entry)) at r (now (out .exit)) ⌝ }
-{
-    let middle = print_text::write_word(out, at, word);
-    let end = print_text::write_numbers(out, middle, numbers);
-    print_text::write_word(out, end, b"\n")
 }
 
 // A space and bytes in hex.
@@ -121,10 +110,8 @@ fn put_runs(
         ⌝ }
 {
     let mut end = 0;
-    let mut i = 0;
-    while i < firsts.len() {
+    for i in 0..firsts.len() {
         end = put_run(load, released, overlay, firsts[i], counts[i], end, out);
-        i += 1;
     }
     end
 }
@@ -158,13 +145,11 @@ fn first_free(offsets: &[u64], sizes: &[u64], at: u64) -> u64
     ensures { λ r. ⌜ r ≤ max at far ⌝ }
 {
     let mut free = at;
-    let mut i = 0;
-    while i < offsets.len() {
+    for i in 0..offsets.len() {
         if i >= sizes.len() {
             return free;
         }
         free = beyond(offsets[i], sizes[i], free);
-        i += 1;
     }
     free
 }
@@ -182,8 +167,7 @@ fn first_alone(
         ⌝ }
     ensures { λ r. ⌜ r ≤ max end far ⌝ }
 {
-    let mut i = 0;
-    while i < offsets.len() {
+    for i in 0..offsets.len() {
         if i >= sizes.len() {
             return end;
         }
@@ -192,7 +176,6 @@ fn first_alone(
         if free < end_of(offset, sizes[i]) {
             return free;
         }
-        i += 1;
     }
     end
 }
@@ -206,7 +189,7 @@ fn put_alone(load: u32, first: u64, end: u64, at: usize, out: &mut [u8]) -> usiz
 {
     if first < end {
         let numbers = [load as u64 + first];
-        return put_line(b"alone", &numbers, at, out);
+        return print_text::write_line(out, at, b"alone", &numbers);
     }
     at
 }
@@ -240,7 +223,7 @@ fn put_list(
             let at = put_runs(load, released, overlay, &firsts[..n], &counts[..n], out);
             let next = put_alone(load, alone, overlay.len() as u64, at, out);
             let numbers = [count];
-            put_line(b"runs", &numbers, next, out)
+            print_text::write_line(out, next, b"runs", &numbers)
         }
     }
 }
@@ -253,7 +236,7 @@ fn put_named(why: Refusal, word: &[u8], address: u64, out: &mut [u8]) -> usize
 {
     let at = print_text::write_refusal(out, 0, why);
     let numbers = [address];
-    put_line(word, &numbers, at, out)
+    print_text::write_line(out, at, word, &numbers)
 }
 
 // Which file a range comes from, and its bytes.
@@ -530,7 +513,7 @@ fn put_fault(load: u32, source: &[u8], at: usize, out: &mut [u8]) -> usize
         Fault::Good => at,
         Fault::At(line) => {
             let numbers = [line];
-            put_line(b"line", &numbers, at, out)
+            print_text::write_line(out, at, b"line", &numbers)
         }
     }
 }

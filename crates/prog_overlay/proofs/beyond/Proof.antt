@@ -6,9 +6,6 @@ use borrow.Author.Needs.{needs}
 use Rattle.prog_overlay.proofs.beyond.Statement.{statement}
 use Rattle.prog_overlay.proofs.beyond.Tie as tie
 
-end-of-requires : tie.Need-end-of-requires
-end-of-requires c κs = search needs
-
 returns : tie.Need-returns
 returns c =
     let a = c .before .before .args in
@@ -34,7 +31,4 @@ pub beyond-spec : {M : Type 1} → statement M
 beyond-spec =
     tie.close
     (tie.spec
-    end-of-requires
-    returns
-    returns-2
-    returns-3)
+    (λ c κs. search needs) returns returns-2 returns-3)

@@ -12,24 +12,6 @@ returns c =
     let none = extent-none (s .args .offsets .now) (s .args .sizes .now) (c .if1 .taken) (s .pre) in
     (omega (arith, none), counts-front (s .args .bytes .now) 0 (omega arith))
 
-sub-last : tie.Need-sub-last
-sub-last c = search needs
-
-mul-end-of : tie.Need-mul-end-of
-mul-end-of c = search needs
-
-shared-slice-read-end-of : tie.Need-shared-slice-read-end-of
-shared-slice-read-end-of c = search needs
-
-mul-end-of-2 : tie.Need-mul-end-of-2
-mul-end-of-2 c = search needs
-
-shared-slice-read-end-of-2 : tie.Need-shared-slice-read-end-of-2
-shared-slice-read-end-of-2 c = search needs
-
-end-of-requires : tie.Need-end-of-requires
-end-of-requires c κs = search needs
-
 returns-2 : tie.Need-returns-2
 returns-2 c =
     let s = c .before .before .before .before .before .before .before .before in
@@ -46,12 +28,4 @@ pub extent-spec : {M : Type 1} → statement M
 extent-spec =
     tie.close
     (tie.spec
-    returns
-    sub-last
-    mul-end-of
-    shared-slice-read-end-of
-    mul-end-of-2
-    shared-slice-read-end-of-2
-    end-of-requires
-    returns-2
-    returns-3)
+    returns (λ c. search needs) (λ c. search needs) (λ c. search needs) (λ c. search needs) (λ c. search needs) (λ c κs. search needs) returns-2 returns-3)

@@ -10,14 +10,11 @@ use Rattle.prog_overlay.proofs.first_alone.Statement.{statement}
 use Rattle.prog_overlay.proofs.first_alone.Tie as tie
 
 abbrev Inv-loop : tie.InvT-loop
-Inv-loop released-offsets released-sizes offsets sizes end i₀ i =
+Inv-loop released-offsets released-sizes offsets sizes end i₀ i-end i =
     aloneIn released-offsets released-sizes offsets sizes end ≡ aloneIn released-offsets released-sizes (drop i offsets) (drop i sizes) end
 
 abbrev μ-loop : tie.MeasureT-loop
-μ-loop released-offsets released-sizes offsets sizes end i₀ i = length offsets - i
-
-loop-holds : tie.Need-loop-holds Inv-loop μ-loop
-loop-holds c = refl
+μ-loop released-offsets released-sizes offsets sizes end i₀ i-end i = length offsets - i
 
 returns : tie.Need-returns Inv-loop μ-loop
 returns c =
@@ -28,24 +25,6 @@ returns c =
           (omega (arith, c .if1 .taken))),
       omega arith,
     )
-
-mul-offset : tie.Need-mul-offset Inv-loop μ-loop
-mul-offset c = search needs
-
-shared-slice-read-offset : tie.Need-shared-slice-read-offset Inv-loop μ-loop
-shared-slice-read-offset c = search needs
-
-first-free-requires : tie.Need-first-free-requires Inv-loop μ-loop
-first-free-requires c κs = search needs
-
-mul-end-of : tie.Need-mul-end-of Inv-loop μ-loop
-mul-end-of c = search needs
-
-shared-slice-read-end-of : tie.Need-shared-slice-read-end-of Inv-loop μ-loop
-shared-slice-read-end-of c = search needs
-
-end-of-requires : tie.Need-end-of-requires Inv-loop μ-loop
-end-of-requires c κs = search needs
 
 returns-2 : tie.Need-returns-2 Inv-loop μ-loop
 returns-2 c =
@@ -63,12 +42,6 @@ returns-2 c =
           (at-loop-test .loop-test .taken) (omega (arith, at-if1 .if1 .left)) (omega (arith, f .0, e .0, c .if2 .taken))),
       omega (arith, e .1, c .if2 .taken),
     )
-
-add-i : tie.Need-add-i Inv-loop μ-loop
-add-i c = search needs
-
-loop-less : tie.Need-loop-less Inv-loop μ-loop
-loop-less c = search needs
 
 loop-again : tie.Need-loop-again Inv-loop μ-loop
 loop-again c =
@@ -98,18 +71,5 @@ pub first-alone-spec : {M : Type 1} → statement M
 first-alone-spec =
     tie.close
     (tie.spec
-    Inv-loop
-    μ-loop
-    loop-holds
-    returns
-    mul-offset
-    shared-slice-read-offset
-    first-free-requires
-    mul-end-of
-    shared-slice-read-end-of
-    end-of-requires
-    returns-2
-    add-i
-    loop-less
-    loop-again
-    returns-3)
+    Inv-loop μ-loop (λ c. refl) returns (λ c. search needs) (λ c. search needs) (λ c κs. search needs) (λ c. search needs) (λ c. search needs)
+    (λ c κs. search needs) returns-2 (λ c. search needs) (λ c. search needs) loop-again returns-3)

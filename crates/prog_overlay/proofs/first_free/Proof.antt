@@ -11,13 +11,10 @@ use Rattle.prog_overlay.proofs.first_free.Statement.{statement}
 use Rattle.prog_overlay.proofs.first_free.Tie as tie
 
 abbrev Inv-loop : tie.InvT-loop
-Inv-loop offsets sizes at free₀ i₀ free i = (freeFrom offsets sizes at ≡ freeFrom (drop i offsets) (drop i sizes) free) × (free ≤ max at far)
+Inv-loop offsets sizes at free₀ i₀ i-end free i = (freeFrom offsets sizes at ≡ freeFrom (drop i offsets) (drop i sizes) free) × (free ≤ max at far)
 
 abbrev μ-loop : tie.MeasureT-loop
-μ-loop offsets sizes at free₀ i₀ free i = length offsets - i
-
-loop-holds : tie.Need-loop-holds Inv-loop μ-loop
-loop-holds c = (refl, omega arith)
+μ-loop offsets sizes at free₀ i₀ i-end free i = length offsets - i
 
 returns : tie.Need-returns Inv-loop μ-loop
 returns c =
@@ -25,27 +22,6 @@ returns c =
     let a = start .args in
     let l = c .before .before .loop in
     (sym (l .inv .0 ∙ free-none (a .offsets .now) (a .sizes .now) (l .i) (l .free) (omega (arith, c .if1 .taken))), l .inv .1)
-
-mul-beyond : tie.Need-mul-beyond Inv-loop μ-loop
-mul-beyond c = search needs
-
-shared-slice-read-beyond : tie.Need-shared-slice-read-beyond Inv-loop μ-loop
-shared-slice-read-beyond c = search needs
-
-mul-beyond-2 : tie.Need-mul-beyond-2 Inv-loop μ-loop
-mul-beyond-2 c = search needs
-
-shared-slice-read-beyond-2 : tie.Need-shared-slice-read-beyond-2 Inv-loop μ-loop
-shared-slice-read-beyond-2 c = search needs
-
-beyond-requires : tie.Need-beyond-requires Inv-loop μ-loop
-beyond-requires c κs = search needs
-
-add-i : tie.Need-add-i Inv-loop μ-loop
-add-i c = search needs
-
-loop-less : tie.Need-loop-less Inv-loop μ-loop
-loop-less c = search needs
 
 loop-again : tie.Need-loop-again Inv-loop μ-loop
 loop-again c =
@@ -72,16 +48,5 @@ pub first-free-spec : {M : Type 1} → statement M
 first-free-spec =
     tie.close
     (tie.spec
-    Inv-loop
-    μ-loop
-    loop-holds
-    returns
-    mul-beyond
-    shared-slice-read-beyond
-    mul-beyond-2
-    shared-slice-read-beyond-2
-    beyond-requires
-    add-i
-    loop-less
-    loop-again
-    returns-2)
+    Inv-loop μ-loop (λ c. (refl, omega arith)) returns (λ c. search needs) (λ c. search needs) (λ c. search needs) (λ c. search needs)
+    (λ c κs. search needs) (λ c. search needs) (λ c. search needs) loop-again returns-2)

@@ -16,28 +16,16 @@ short s =
     let bound = s .pre .0 in
     omega (arith, line-words (ascii "alone") ((s .args .load + s .args .first) ∷ []) (search needs, tt))
 
-add-t10 : tie.Need-add-t10
-add-t10 c = search needs
-
-slice-aggregate-put-line : tie.Need-slice-aggregate-put-line
-slice-aggregate-put-line c = search needs
-
-slice-aggregate-put-line-2 : tie.Need-slice-aggregate-put-line-2
-slice-aggregate-put-line-2 c = search needs
-
-put-line-requires : tie.Need-put-line-requires
-put-line-requires c κs =
+write-line-requires : tie.Need-write-line-requires
+write-line-requires c κs =
     let start = c .before .before .before .before .before in
     omega (arith, short start, start .pre .1)
-
-same-length : tie.Need-same-length
-same-length c = search needs
 
 returns : tie.Need-returns
 returns c =
     let at-if1 = c .before .before .before .before .before .before in
     let s = at-if1 .before .before in
-    let w = c .before .before .put-line .ensures in (
+    let w = c .before .before .write-line .ensures in (
       writes-as (alone-some (s .args .load) (s .args .end) (s .args .first) (at-if1 .if1 .taken)) w,
       omega (arith, w .place, short s),
     )
@@ -51,10 +39,4 @@ pub put-alone-spec : {M : Type 1} → statement M
 put-alone-spec =
     tie.close
     (tie.spec
-    add-t10
-    slice-aggregate-put-line
-    slice-aggregate-put-line-2
-    put-line-requires
-    same-length
-    returns
-    returns-2)
+    (λ c. search needs) (λ c. search needs) (λ c. search needs) write-line-requires (λ c. search needs) returns returns-2)

@@ -12,30 +12,6 @@ use Rattle.prog_overlay.proofs.put_answer.Tie as tie
 abbrev trialOf : tie.Start → Trial
 trialOf s = trial (s .args .overlay .now) (s .args .released .now) (s .args .offsets .now) (s .args .sizes .now)
 
-enum-told : tie.Need-enum-told
-enum-told c = search needs
-
-first-alone-requires : tie.Need-first-alone-requires
-first-alone-requires c κs = search needs
-
-put-list-requires : tie.Need-put-list-requires
-put-list-requires c κs = search needs
-
-enum-known-asked : tie.Need-enum-known-asked
-enum-known-asked c = search needs
-
-put-range-requires : tie.Need-put-range-requires
-put-range-requires c κs = search needs
-
-same-length : tie.Need-same-length
-same-length c = search needs
-
-same-length-2 : tie.Need-same-length-2
-same-length-2 c = search needs
-
-same-length-3 : tie.Need-same-length-3
-same-length-3 c = search needs
-
 returns : tie.Need-returns
 returns c =
     let at-put-list = c .before .before .before .before .before .before in
@@ -47,9 +23,6 @@ returns c =
     ∙ sym (ap (λ (a : Asked). answerText (s .args .load) a (trialOf s) (s .args .released-offsets .now) (s .args .released-sizes .now))
     (at-enum-told .enum-told .given .1)))
     (at-put-list .put-list .ensures)
-
-same-length-4 : tie.Need-same-length-4
-same-length-4 c = search needs
 
 returns-2 : tie.Need-returns-2
 returns-2 c =
@@ -64,14 +37,5 @@ pub put-answer-spec : {M : Type 1} → statement M
 put-answer-spec =
     tie.close
     (tie.spec
-    enum-told
-    first-alone-requires
-    put-list-requires
-    enum-known-asked
-    put-range-requires
-    same-length
-    same-length-2
-    same-length-3
-    returns
-    same-length-4
-    returns-2)
+    (λ c. search needs) (λ c κs. search needs) (λ c κs. search needs) (λ c. search needs) (λ c κs. search needs) (λ c. search needs) (λ c. search needs)
+    (λ c. search needs) returns (λ c. search needs) returns-2)

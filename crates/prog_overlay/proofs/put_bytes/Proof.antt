@@ -5,18 +5,12 @@ use borrow.Author.Needs.{needs}
 use Rattle.prog_overlay.proofs.put_bytes.Statement.{statement}
 use Rattle.prog_overlay.proofs.put_bytes.Tie as tie
 
-write-word-requires : tie.Need-write-word-requires
-write-word-requires c κs = search needs
-
 put-field-requires : tie.Need-put-field-requires
 put-field-requires c κs =
     let at-write-word = c .before .before .before in
     let s = at-write-word .before .before .before .before .before in
     let w = at-write-word .write-word .ensures in
     (s .pre .1 .0, omega (arith, length-field (s .args .bytes .now), w .place, writes-long w, s .pre .0, s .pre .1 .0, s .pre .1 .1))
-
-slice-aggregate-write-word : tie.Need-slice-aggregate-write-word
-slice-aggregate-write-word c = search needs
 
 write-word-requires-2 : tie.Need-write-word-requires-2
 write-word-requires-2 c κs =
@@ -37,9 +31,6 @@ write-word-requires-2 c κs =
       s .pre .1 .1,
     )
 
-same-length : tie.Need-same-length
-same-length c = search needs
-
 returns : tie.Need-returns
 returns c =
     let at-put-field = c .before .before .before .before .before .before .before in
@@ -55,9 +46,4 @@ pub put-bytes-spec : {M : Type 1} → statement M
 put-bytes-spec =
     tie.close
     (tie.spec
-    write-word-requires
-    put-field-requires
-    slice-aggregate-write-word
-    write-word-requires-2
-    same-length
-    returns)
+    (λ c κs. search needs) put-field-requires (λ c. search needs) write-word-requires-2 (λ c. search needs) returns)

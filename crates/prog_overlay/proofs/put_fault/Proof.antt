@@ -22,26 +22,8 @@ returns c =
     let a = start .args in
     (writes-as (fault-long (a .load) (a .source .now) (omega (arith, c .if1 .taken))) (writes-none (a .at)), omega arith)
 
-slice-aggregate-line-at-fault : tie.Need-slice-aggregate-line-at-fault
-slice-aggregate-line-at-fault c = search needs
-
-line-at-fault-requires : tie.Need-line-at-fault-requires
-line-at-fault-requires c κs = search needs
-
-enum-told : tie.Need-enum-told
-enum-told c = search needs
-
-enum-known-fault : tie.Need-enum-known-fault
-enum-known-fault c = search needs
-
-slice-aggregate-put-line : tie.Need-slice-aggregate-put-line
-slice-aggregate-put-line c = search needs
-
-slice-aggregate-put-line-2 : tie.Need-slice-aggregate-put-line-2
-slice-aggregate-put-line-2 c = search needs
-
-put-line-requires : tie.Need-put-line-requires
-put-line-requires c κs =
+write-line-requires : tie.Need-write-line-requires
+write-line-requires c κs =
     let at-known-told = c .before .before .before in
     let start = at-known-told .before .before .before .before .before .before .before .before .before in
     omega (arith, short at-known-told, start .pre)
@@ -58,9 +40,6 @@ returns-2 c =
       omega arith,
     )
 
-same-length : tie.Need-same-length
-same-length c = search needs
-
 returns-3 : tie.Need-returns-3
 returns-3 c =
     let at-known-told = c .before .before .before .before .before .before in
@@ -70,7 +49,7 @@ returns-3 c =
     let start = at-if1 .before .before .before in
     let a = start .args in
     let n = at-fault .fault .given .0 .0 in
-    let w = c .before .before .put-line .ensures in (
+    let w = c .before .before .write-line .ensures in (
       writes-as
           (fault-at (a .load) (a .source .now) (omega (arith, at-if1 .if1 .left)) n
           (sym (at-fault .fault .given .1) ∙ at-line-at-fault .line-at-fault .ensures .0))
@@ -82,14 +61,5 @@ pub put-fault-spec : {M : Type 1} → statement M
 put-fault-spec =
     tie.close
     (tie.spec
-    returns
-    slice-aggregate-line-at-fault
-    line-at-fault-requires
-    enum-told
-    enum-known-fault
-    slice-aggregate-put-line
-    slice-aggregate-put-line-2
-    put-line-requires
-    returns-2
-    same-length
-    returns-3)
+    returns (λ c. search needs) (λ c κs. search needs) (λ c. search needs) (λ c. search needs) (λ c. search needs) (λ c. search needs) write-line-requires
+    returns-2 (λ c. search needs) returns-3)

@@ -15,37 +15,10 @@ begin d = d .before .before .before .before .before
 roomy : (d : tie.After-write-word) → d .write-word .result + 2 * length (begin d .args .bytes .now) ≤ length (d .write-word .last .0)
 roomy d = omega (arith, length-field (begin d .args .bytes .now), begin d .pre .1, d .write-word .ensures .place, writes-long (d .write-word .ensures))
 
-slice-aggregate-write-word : tie.Need-slice-aggregate-write-word
-slice-aggregate-write-word c = search needs
-
 write-word-requires : tie.Need-write-word-requires
 write-word-requires c κs =
     let start = c .before .before .before .before in
     omega (arith, length-field (start .args .bytes .now), start .pre .1)
-
-mul-bits : tie.Need-mul-bits
-mul-bits c = search needs
-
-sub-write-hex : tie.Need-sub-write-hex
-sub-write-hex c = omega (arith, roomy (c .before .before))
-
-part-write-hex-start : tie.Need-part-write-hex-start
-part-write-hex-start c = omega (arith, roomy (c .before .before))
-
-part-write-hex-end : tie.Need-part-write-hex-end
-part-write-hex-end c = search needs
-
-write-hex-requires : tie.Need-write-hex-requires
-write-hex-requires c κs = search needs
-
-enum-known-n : tie.Need-enum-known-n
-enum-known-n c = search needs
-
-enum-told : tie.Need-enum-told
-enum-told c = search needs
-
-same-length : tie.Need-same-length
-same-length c = search needs
 
 returns : tie.Need-returns
 returns c =
@@ -65,9 +38,6 @@ add-result c =
       roomy d,
     )
 
-same-length-2 : tie.Need-same-length-2
-same-length-2 c = search needs
-
 returns-2 : tie.Need-returns-2
 unfolding field
 returns-2 c =
@@ -81,17 +51,6 @@ pub put-field-spec : {M : Type 1} → statement M
 put-field-spec =
     tie.close
     (tie.spec
-    slice-aggregate-write-word
-    write-word-requires
-    mul-bits
-    sub-write-hex
-    part-write-hex-start
-    part-write-hex-end
-    write-hex-requires
-    enum-known-n
-    enum-told
-    same-length
-    returns
-    add-result
-    same-length-2
-    returns-2)
+    (λ c. search needs) write-word-requires (λ c. search needs) (λ c. omega (arith, roomy (c .before .before)))
+    (λ c. omega (arith, roomy (c .before .before))) (λ c. search needs) (λ c κs. search needs) (λ c. search needs) (λ c. search needs) (λ c. search needs)
+    returns add-result (λ c. search needs) returns-2)

@@ -10,30 +10,6 @@ use borrow.Author.Needs.{needs}
 use Rattle.prog_overlay.proofs.put_images.Statement.{statement}
 use Rattle.prog_overlay.proofs.put_images.Tie as tie
 
-extent-requires : tie.Need-extent-requires
-extent-requires c κs = search needs
-
-extent-requires-2 : tie.Need-extent-requires-2
-extent-requires-2 c κs = search needs
-
-slice-aggregate-put-answer : tie.Need-slice-aggregate-put-answer
-slice-aggregate-put-answer c = search needs
-
-slice-aggregate-put-answer-2 : tie.Need-slice-aggregate-put-answer-2
-slice-aggregate-put-answer-2 c = search needs
-
-put-answer-requires : tie.Need-put-answer-requires
-put-answer-requires c κs = search needs
-
-same-length : tie.Need-same-length
-same-length c = search needs
-
-same-length-2 : tie.Need-same-length-2
-same-length-2 c = search needs
-
-same-length-3 : tie.Need-same-length-3
-same-length-3 c = search needs
-
 returns : tie.Need-returns
 returns c =
     let at-put-answer = c .before .before .before .before .before .before in
@@ -53,12 +29,5 @@ pub put-images-spec : {M : Type 1} → statement M
 put-images-spec =
     tie.close
     (tie.spec
-    extent-requires
-    extent-requires-2
-    slice-aggregate-put-answer
-    slice-aggregate-put-answer-2
-    put-answer-requires
-    same-length
-    same-length-2
-    same-length-3
-    returns)
+    (λ c κs. search needs) (λ c κs. search needs) (λ c. search needs) (λ c. search needs) (λ c κs. search needs) (λ c. search needs) (λ c. search needs)
+    (λ c. search needs) returns)

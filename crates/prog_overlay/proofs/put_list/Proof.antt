@@ -62,18 +62,6 @@ module _ (d : tie.After-differences) where
     last-line : length (line (ascii "runs") (count ∷ [])) ≤ 26
     last-line = omega (arith, line-words (ascii "runs") (count ∷ []) (omega (arith, small), tt))
 
-differences-requires : tie.Need-differences-requires
-differences-requires c κs = search needs
-
-enum-known-listed : tie.Need-enum-known-listed
-enum-known-listed c = search needs
-
-put-refusal-requires : tie.Need-put-refusal-requires
-put-refusal-requires c κs = search needs
-
-enum-known-listed-2 : tie.Need-enum-known-listed-2
-enum-known-listed-2 c = search needs
-
 slice-reshare-prefix-put-runs : tie.Need-slice-reshare-prefix-put-runs
 slice-reshare-prefix-put-runs c =
     let at-firsts = c .before .before .before .before .before .before in
@@ -113,14 +101,8 @@ put-alone-requires c κs =
     let w = at-put-runs .put-runs .ensures in
     (s d .pre .1 .0, omega (arith, fit d _ e, w .place, writes-long w, s d .pre .1 .1 .1))
 
-slice-aggregate-put-line : tie.Need-slice-aggregate-put-line
-slice-aggregate-put-line c = search needs
-
-slice-aggregate-put-line-2 : tie.Need-slice-aggregate-put-line-2
-slice-aggregate-put-line-2 c = search needs
-
-put-line-requires : tie.Need-put-line-requires
-put-line-requires c κs =
+write-line-requires : tie.Need-write-line-requires
+write-line-requires c κs =
     let at-put-alone = c .before .before .before .before .before in
     let at-put-runs = at-put-alone .before .before .before .before in
     let at-listed2 = at-put-runs .before .before .before .before .before in
@@ -129,15 +111,6 @@ put-line-requires c κs =
     let w = at-put-runs .put-runs .ensures in
     let v = at-put-alone .put-alone .ensures in
     omega (arith, fit d _ e, last-line d _ e, w .place, writes-long w, v .1, writes-long (v .0), s d .pre .1 .1 .1)
-
-same-length : tie.Need-same-length
-same-length c = search needs
-
-same-length-2 : tie.Need-same-length-2
-same-length-2 c = search needs
-
-same-length-3 : tie.Need-same-length-3
-same-length-3 c = search needs
 
 returns : tie.Need-returns
 returns c =
@@ -148,15 +121,6 @@ returns c =
     (d .differences .ensures) (s d .pre .1 .1 .0 .0) (s d .pre .1 .1 .0 .1) (s d .args .load) (s d .args .alone) _ (at-listed .listed .given .1))
     (c .before .before .put-refusal .ensures .0)
 
-same-length-4 : tie.Need-same-length-4
-same-length-4 c = search needs
-
-same-length-5 : tie.Need-same-length-5
-same-length-5 c = search needs
-
-same-length-6 : tie.Need-same-length-6
-same-length-6 c = search needs
-
 returns-2 : tie.Need-returns-2
 returns-2 c =
     let at-put-alone = c .before .before .before .before .before .before .before .before in
@@ -166,7 +130,7 @@ returns-2 c =
     let e = at-listed2 .listed2 .given .1 in
     let w = at-put-runs .put-runs .ensures in
     let v = at-put-alone .put-alone .ensures in
-    let u = c .before .before .put-line .ensures in
+    let u = c .before .before .write-line .ensures in
     stands-as
     (list-is (t d) (s d .pre .0 .0) (s d .pre .0 .1) (s d .args .firsts .now) (s d .args .counts .now) (d .differences .result) (fs d) (cs d)
     (d .differences .ensures) (s d .pre .1 .1 .0 .0) (s d .pre .1 .1 .0 .1) _ e (s d .args .load) (s d .args .alone))
@@ -176,24 +140,7 @@ pub put-list-spec : {M : Type 1} → statement M
 put-list-spec =
     tie.close
     (tie.spec
-    differences-requires
-    enum-known-listed
-    put-refusal-requires
-    enum-known-listed-2
-    slice-reshare-prefix-put-runs
-    slice-aggregate-put-runs
-    slice-reshare-prefix-put-runs-2
-    slice-aggregate-put-runs-2
-    put-runs-requires
-    put-alone-requires
-    slice-aggregate-put-line
-    slice-aggregate-put-line-2
-    put-line-requires
-    same-length
-    same-length-2
-    same-length-3
-    returns
-    same-length-4
-    same-length-5
-    same-length-6
+    (λ c κs. search needs) (λ c. search needs) (λ c κs. search needs) (λ c. search needs) slice-reshare-prefix-put-runs slice-aggregate-put-runs
+    slice-reshare-prefix-put-runs-2 slice-aggregate-put-runs-2 put-runs-requires put-alone-requires (λ c. search needs) (λ c. search needs)
+    write-line-requires (λ c. search needs) (λ c. search needs) (λ c. search needs) returns (λ c. search needs) (λ c. search needs) (λ c. search needs)
     returns-2)

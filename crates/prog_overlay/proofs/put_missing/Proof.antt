@@ -8,36 +8,12 @@ use borrow.Author.Needs.{needs}
 use Rattle.prog_overlay.proofs.put_missing.Statement.{statement}
 use Rattle.prog_overlay.proofs.put_missing.Tie as tie
 
-slice-aggregate-put-named : tie.Need-slice-aggregate-put-named
-slice-aggregate-put-named c = search needs
-
-add-put-named : tie.Need-add-put-named
-add-put-named c = search needs
-
-put-named-requires : tie.Need-put-named-requires
-put-named-requires c κs = search needs
-
-same-length : tie.Need-same-length
-same-length c = search needs
-
 returns : tie.Need-returns
 returns c =
     let at-if1 = c .before .before .before .before .before in
     let start = at-if1 .before .before in
     let a = start .args in
     stands-as (sym (pick-true _ _ (le-leb (a .end) (a .size) (at-if1 .if1 .taken)))) (c .before .before .put-named .ensures)
-
-slice-aggregate-put-named-2 : tie.Need-slice-aggregate-put-named-2
-slice-aggregate-put-named-2 c = search needs
-
-add-put-named-2 : tie.Need-add-put-named-2
-add-put-named-2 c = search needs
-
-put-named-requires-2 : tie.Need-put-named-requires-2
-put-named-requires-2 c κs = search needs
-
-same-length-2 : tie.Need-same-length-2
-same-length-2 c = search needs
 
 returns-2 : tie.Need-returns-2
 returns-2 c =
@@ -50,13 +26,5 @@ pub put-missing-spec : {M : Type 1} → statement M
 put-missing-spec =
     tie.close
     (tie.spec
-    slice-aggregate-put-named
-    add-put-named
-    put-named-requires
-    same-length
-    returns
-    slice-aggregate-put-named-2
-    add-put-named-2
-    put-named-requires-2
-    same-length-2
-    returns-2)
+    (λ c. search needs) (λ c. search needs) (λ c κs. search needs) (λ c. search needs) returns (λ c. search needs) (λ c. search needs)
+    (λ c κs. search needs) (λ c. search needs) returns-2)

@@ -9,12 +9,6 @@ use Rattle.prog_overlay.proofs.put_range.Tie as tie
 abbrev trialOf : tie.Start → Trial
 trialOf s = trial (s .args .overlay .now) (s .args .released .now) (s .args .offsets .now) (s .args .sizes .now)
 
-put-refusal-requires : tie.Need-put-refusal-requires
-put-refusal-requires c κs = search needs
-
-same-length : tie.Need-same-length
-same-length c = search needs
-
 returns : tie.Need-returns
 returns c =
     let at-if1 = c .before .before .before .before in
@@ -23,15 +17,6 @@ returns c =
     (range-empty (s .args .load) (s .args .address) (s .args .count) (trialOf s) (s .args .released-offsets .now) (s .args .released-sizes .now)
     (at-if1 .if1 .taken))
     (c .before .before .put-refusal .ensures .0)
-
-slice-aggregate-put-named : tie.Need-slice-aggregate-put-named
-slice-aggregate-put-named c = search needs
-
-put-named-requires : tie.Need-put-named-requires
-put-named-requires c κs = search needs
-
-same-length-2 : tie.Need-same-length-2
-same-length-2 c = search needs
 
 returns-2 : tie.Need-returns-2
 returns-2 c =
@@ -42,21 +27,6 @@ returns-2 c =
     (range-below (s .args .load) (s .args .address) (s .args .count) (trialOf s) (s .args .released-offsets .now) (s .args .released-sizes .now)
     (at-if1 .if1 .left) (at-if2 .if2 .taken))
     (c .before .before .put-named .ensures)
-
-cast-first : tie.Need-cast-first
-cast-first c = search needs
-
-first-free-requires : tie.Need-first-free-requires
-first-free-requires c κs = search needs
-
-first-free-requires-2 : tie.Need-first-free-requires-2
-first-free-requires-2 c κs = search needs
-
-put-source-requires : tie.Need-put-source-requires
-put-source-requires c κs = search needs
-
-same-length-3 : tie.Need-same-length-3
-same-length-3 c = search needs
 
 returns-3 : tie.Need-returns-3
 returns-3 c =
@@ -74,16 +44,5 @@ pub put-range-spec : {M : Type 1} → statement M
 put-range-spec =
     tie.close
     (tie.spec
-    put-refusal-requires
-    same-length
-    returns
-    slice-aggregate-put-named
-    put-named-requires
-    same-length-2
-    returns-2
-    cast-first
-    first-free-requires
-    first-free-requires-2
-    put-source-requires
-    same-length-3
-    returns-3)
+    (λ c κs. search needs) (λ c. search needs) returns (λ c. search needs) (λ c κs. search needs) (λ c. search needs) returns-2 (λ c. search needs)
+    (λ c κs. search needs) (λ c κs. search needs) (λ c κs. search needs) (λ c. search needs) returns-3)

@@ -3,15 +3,13 @@ use mathlib.Core.List.{List}
 use mathlib.Core.Path.{_≡_, sym, ap, subst, _∙_}
 use Prim.Native.Nat.{ℕ}
 use native.Mathlib.Omega.{arith}
-use lib.ListN.{take}
-use lib.Seq.{length-take-le}
 use Rattle.blocks.specs.declared.Blocks.{Blocks}
 use Rattle.blocks.specs.declared.Blocks.the-variants.{Found, Refused}
 use Rattle.refusal.specs.declared.Refusal.{Refusal}
 use Rattle.prog_overlay.specs.Images.{given, unread, fileOf}
 use Rattle.prog_overlay.specs.Steps.{Loads}
 use Rattle.prog_overlay.proofs.Laws.{stands-as}
-use Rattle.prog_overlay.proofs.Loading.{copied, released-unread, released-read}
+use Rattle.prog_overlay.proofs.Loading.{copied, fronts, released-unread, released-read}
 use borrow.Author.Needs.{needs}
 use Rattle.prog_overlay.proofs.put_released.Statement.{statement}
 use Rattle.prog_overlay.proofs.put_released.Tie as tie
@@ -39,79 +37,24 @@ module _ (d : tie.After-load-file) where
       (subst (λ (l : List ℕ). Loads (fileOf (s .args .load) l (s .args .source .now)) (d .load-file .result) bytes os ss)
       (copied (w .write-word .ensures) (s .pre .0 .1 ∙ sym (s .pre .0 .0))) (d .load-file .ensures))
 
-write-word-requires : tie.Need-write-word-requires
-write-word-requires c κs = search needs
+-- where it was read
+module _ (g : tie.After-found2) where
+  abbrev at : tie.After-load-file
+  at = g .before .before .before .before .before .before .before .before
 
-load-file-requires : tie.Need-load-file-requires
-load-file-requires c κs = search needs
-
-enum-known-found : tie.Need-enum-known-found
-enum-known-found c = search needs
-
-slice-aggregate-put-unread : tie.Need-slice-aggregate-put-unread
-slice-aggregate-put-unread c = search needs
+  read : Loads (fileOf (s at .args .load) (s at .args .overlay .now) (s at .args .source .now)) (Found (g .found2 .given .0 .0)) (bytes at) (os at) (ss at)
+  read = told at (Found _) (g .found2 .given .1)
 
 put-unread-requires : tie.Need-put-unread-requires
 put-unread-requires c κs =
-    let at-load-file = c .before .before .before .before .before .before .before .before .before .before .before in
-    let s = s at-load-file in
-    (omega arith, s .pre .1 .1 .1 .1)
-
-enum-known-found-2 : tie.Need-enum-known-found-2
-enum-known-found-2 c = search needs
-
-slice-reshare-prefix-put-images : tie.Need-slice-reshare-prefix-put-images
-slice-reshare-prefix-put-images c =
-    let at-load-file = c .before .before .before .before .before .before .before .before .before .before in
-    let l = told at-load-file (Found _) (c .before .before .found2 .given .1) in
-    omega (arith, l .1, l .3)
-
-slice-aggregate-put-images : tie.Need-slice-aggregate-put-images
-slice-aggregate-put-images c =
-    let at-found2 = c .before .before .before in
-    let d = at-found2 .before .before .before .before .before .before .before .before in
-    let l = told d (Found _) (at-found2 .found2 .given .1) in
-    sym (length-take-le _ (os d) (omega (arith, l .1, l .3)))
-
-slice-reshare-prefix-put-images-2 : tie.Need-slice-reshare-prefix-put-images-2
-slice-reshare-prefix-put-images-2 c =
-    let at-found2 = c .before .before .before in
-    let at-load-file = at-found2 .before .before .before .before .before .before .before .before in
-    let l = told at-load-file (Found _) (at-found2 .found2 .given .1) in
-    omega (arith, l .1, l .4)
-
-slice-aggregate-put-images-2 : tie.Need-slice-aggregate-put-images-2
-slice-aggregate-put-images-2 c =
-    let at-found2 = c .before .before .before .before in
-    let d = at-found2 .before .before .before .before .before .before .before .before in
-    let l = told d (Found _) (at-found2 .found2 .given .1) in
-    sym (length-take-le _ (ss d) (omega (arith, l .1, l .4)))
+    (omega arith, s (c .before .before .before .before .before .before .before .before .before .before .before) .pre .1 .1 .1 .1)
 
 put-images-requires : tie.Need-put-images-requires
 put-images-requires c κs =
-    let at-found2 = c .before .before .before .before .before .before .before in
-    let d = at-found2 .before .before .before .before .before .before .before .before in
-    let l = told d (Found _) (at-found2 .found2 .given .1) in
-    let p = s d .pre in
-    let n = at-found2 .found2 .given .0 .0 in (
-      (l .2, p .0 .1),
-      (
-        (length-take-le n (os d) (omega (arith, l .1, l .3)) ∙ sym (length-take-le n (ss d) (omega (arith, l .1, l .4))), p .1 .1 .0),
-        (p .1 .1 .1 .0, p .1 .1 .1 .1),
-      ),
-    )
-
-same-length : tie.Need-same-length
-same-length c = search needs
-
-same-length-2 : tie.Need-same-length-2
-same-length-2 c = search needs
-
-same-length-3 : tie.Need-same-length-3
-same-length-3 c = search needs
-
-same-length-4 : tie.Need-same-length-4
-same-length-4 c = search needs
+    let g = c .before .before .before .before .before .before .before in
+    let f = fronts (read g) in
+    let p = s (at g) .pre in
+    ((read g .2, p .0 .1), ((sym (f .long) ∙ f .lengths, p .1 .1 .0), (p .1 .1 .1 .0, p .1 .1 .1 .1)))
 
 returns : tie.Need-returns
 returns c =
@@ -123,59 +66,20 @@ returns c =
     (told d (Refused _) (at-found .found .given .1)))
     (c .before .before .put-unread .ensures)
 
-same-length-5 : tie.Need-same-length-5
-same-length-5 c = search needs
-
-same-length-6 : tie.Need-same-length-6
-same-length-6 c = search needs
-
-same-length-7 : tie.Need-same-length-7
-same-length-7 c = search needs
-
-same-length-8 : tie.Need-same-length-8
-same-length-8 c = search needs
-
-same-length-9 : tie.Need-same-length-9
-same-length-9 c = search needs
-
-same-length-10 : tie.Need-same-length-10
-same-length-10 c = search needs
-
 returns-2 : tie.Need-returns-2
 returns-2 c =
     let at-put-images = c .before .before .before .before .before .before in
-    let at-found2 = at-put-images .before .before .before .before .before .before .before .before in
-    let d = at-found2 .before .before .before .before .before .before .before .before in
-    let a = s d .args in
-    stands-as
-    (released-read (a .load) (a .asked) (a .overlay .now) (a .offsets .now) (a .sizes .now) (a .source .now)
-    (told d (Found _) (at-found2 .found2 .given .1) .0))
+    let g = at-put-images .before .before .before .before .before .before .before .before in
+    let a = s (at g) .args in
+    stands-as (released-read (a .load) (a .asked) (a .overlay .now) (a .offsets .now) (a .sizes .now) (a .source .now) (read g .0))
     (at-put-images .put-images .ensures)
 
 pub put-released-spec : {M : Type 1} → statement M
 put-released-spec =
     tie.close
     (tie.spec
-    write-word-requires
-    load-file-requires
-    enum-known-found
-    slice-aggregate-put-unread
-    put-unread-requires
-    enum-known-found-2
-    slice-reshare-prefix-put-images
-    slice-aggregate-put-images
-    slice-reshare-prefix-put-images-2
-    slice-aggregate-put-images-2
-    put-images-requires
-    same-length
-    same-length-2
-    same-length-3
-    same-length-4
-    returns
-    same-length-5
-    same-length-6
-    same-length-7
-    same-length-8
-    same-length-9
-    same-length-10
-    returns-2)
+    (λ c κs. search needs) (λ c κs. search needs) (λ c. search needs) (λ c. search needs) put-unread-requires (λ c. search needs)
+    (λ c. fronts (read (c .before .before)) .offsets) (λ c. fronts (read (c .before .before .before)) .long)
+    (λ c. fronts (read (c .before .before .before)) .sizes) (λ c. fronts (read (c .before .before .before .before)) .lengths) put-images-requires
+    (λ c. search needs) (λ c. search needs) (λ c. search needs) (λ c. search needs) returns (λ c. search needs) (λ c. search needs) (λ c. search needs)
+    (λ c. search needs) (λ c. search needs) (λ c. search needs) returns-2)

@@ -32,16 +32,10 @@ add-t19 c =
     let start = c .before .before .before in
     omega (arith, start .pre .0 .near)
 
-slice-aggregate-write-word : tie.Need-slice-aggregate-write-word
-slice-aggregate-write-word c = search needs
-
 write-word-requires : tie.Need-write-word-requires
 write-word-requires c κs =
     let start = c .before .before .before .before .before in
     omega (arith, roomy start)
-
-slice-aggregate-write-numbers : tie.Need-slice-aggregate-write-numbers
-slice-aggregate-write-numbers c = search needs
 
 write-numbers-requires : tie.Need-write-numbers-requires
 write-numbers-requires c κs =
@@ -49,12 +43,6 @@ write-numbers-requires c κs =
     let start = at-write-word .before .before .before .before .before .before in
     let w = at-write-word .write-word .ensures in
     omega (arith, roomy start, w .place, writes-long w)
-
-sub-put-field : tie.Need-sub-put-field
-sub-put-field c = omega arith
-
-part-put-field-start : tie.Need-part-put-field-start
-part-put-field-start c = omega arith
 
 part-put-field-end : tie.Need-part-put-field-end
 part-put-field-end c =
@@ -81,12 +69,6 @@ put-field-requires c κs =
         writes-long v,
       ),
     )
-
-sub-put-field-2 : tie.Need-sub-put-field-2
-sub-put-field-2 c = omega arith
-
-part-put-field-start-2 : tie.Need-part-put-field-start-2
-part-put-field-start-2 c = omega arith
 
 part-put-field-end-2 : tie.Need-part-put-field-end-2
 part-put-field-end-2 c =
@@ -122,9 +104,6 @@ put-field-requires-2 c κs =
       ),
     )
 
-slice-aggregate-write-word-2 : tie.Need-slice-aggregate-write-word-2
-slice-aggregate-write-word-2 c = search needs
-
 write-word-requires-2 : tie.Need-write-word-requires-2
 write-word-requires-2 c κs =
     let at-put-field2 = c .before .before .before .before in
@@ -155,9 +134,6 @@ write-word-requires-2 c κs =
       writes-long g,
     )
 
-same-length : tie.Need-same-length
-same-length c = search needs
-
 returns : tie.Need-returns
 returns c =
     let at-put-field2 = c .before .before .before .before .before .before .before in
@@ -176,21 +152,6 @@ pub put-run-spec : {M : Type 1} → statement M
 put-run-spec =
     tie.close
     (tie.spec
-    add-end
-    add-t19
-    slice-aggregate-write-word
-    write-word-requires
-    slice-aggregate-write-numbers
-    write-numbers-requires
-    sub-put-field
-    part-put-field-start
-    part-put-field-end
-    put-field-requires
-    sub-put-field-2
-    part-put-field-start-2
-    part-put-field-end-2
-    put-field-requires-2
-    slice-aggregate-write-word-2
-    write-word-requires-2
-    same-length
-    returns)
+    add-end add-t19 (λ c. search needs) write-word-requires (λ c. search needs) write-numbers-requires (λ c. omega arith) (λ c. omega arith)
+    part-put-field-end put-field-requires (λ c. omega arith) (λ c. omega arith) part-put-field-end-2 put-field-requires-2 (λ c. search needs)
+    write-word-requires-2 (λ c. search needs) returns)

@@ -11,11 +11,11 @@ use Rattle.prog_overlay.proofs.put_runs.Statement.{statement}
 use Rattle.prog_overlay.proofs.put_runs.Tie as tie
 
 abbrev Inv-loop : tie.InvT-loop
-Inv-loop load released overlay firsts counts out₀ end₀ i₀ out end i =
+Inv-loop load released overlay firsts counts out₀ end₀ i₀ i-end out end i =
     Going (runLines load released overlay firsts counts) out₀ (runLines load released overlay (drop i firsts) (drop i counts)) out end
 
 abbrev μ-loop : tie.MeasureT-loop
-μ-loop load released overlay firsts counts out₀ end₀ i₀ out end i = length firsts - i
+μ-loop load released overlay firsts counts out₀ end₀ i₀ i-end out end i = length firsts - i
 
 -- one turn: the line, and what is behind it
 module _ (l : tie.In-loop Inv-loop μ-loop) where
@@ -44,21 +44,6 @@ module _ (l : tie.In-loop Inv-loop μ-loop) where
       (lines-on (s .args .load) (s .args .released .now) (s .args .overlay .now) (s .args .firsts .now) (s .args .counts .now) i (l .loop-test .taken) here)
       (l .before .loop .inv)
 
-loop-holds : tie.Need-loop-holds Inv-loop μ-loop
-loop-holds c = going-start _ _
-
-mul-put-run : tie.Need-mul-put-run Inv-loop μ-loop
-mul-put-run c = search needs
-
-shared-slice-read-put-run : tie.Need-shared-slice-read-put-run Inv-loop μ-loop
-shared-slice-read-put-run c = search needs
-
-mul-put-run-2 : tie.Need-mul-put-run-2 Inv-loop μ-loop
-mul-put-run-2 c = search needs
-
-shared-slice-read-put-run-2 : tie.Need-shared-slice-read-put-run-2 Inv-loop μ-loop
-shared-slice-read-put-run-2 c = omega (arith, here (c .before .before))
-
 put-run-requires : tie.Need-put-run-requires Inv-loop μ-loop
 put-run-requires c κs =
     let l = c .before .before .before in
@@ -67,19 +52,10 @@ put-run-requires c κs =
       omega (arith, g .ends, g .long, length-append (this l) (more l), s l .pre .1 .1),
     )
 
-add-i : tie.Need-add-i Inv-loop μ-loop
-add-i c = search needs
-
-loop-less : tie.Need-loop-less Inv-loop μ-loop
-loop-less c = search needs
-
 loop-again : tie.Need-loop-again Inv-loop μ-loop
 loop-again c =
     let at-loop-test = c .before .before .before .before .before .before in
     going-on (turn at-loop-test) (c .before .before .put-run .ensures)
-
-same-length : tie.Need-same-length Inv-loop μ-loop
-same-length c = search needs
 
 returns : tie.Need-returns Inv-loop μ-loop
 returns c =
@@ -97,16 +73,5 @@ pub put-runs-spec : {M : Type 1} → statement M
 put-runs-spec =
     tie.close
     (tie.spec
-    Inv-loop
-    μ-loop
-    loop-holds
-    mul-put-run
-    shared-slice-read-put-run
-    mul-put-run-2
-    shared-slice-read-put-run-2
-    put-run-requires
-    add-i
-    loop-less
-    loop-again
-    same-length
-    returns)
+    Inv-loop μ-loop (λ c. going-start _ _) (λ c. search needs) (λ c. search needs) (λ c. search needs) (λ c. omega (arith, here (c .before .before)))
+    put-run-requires (λ c. search needs) (λ c. search needs) loop-again (λ c. search needs) returns)

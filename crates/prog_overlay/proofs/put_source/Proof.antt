@@ -26,43 +26,16 @@ few d =
     few-bytes (s .args .load) (s .args .first) (s .args .count) (s .args .free) (s .args .lack) (trialOf s) bytesRoom (s .pre .1 .0 .1) (s .pre .1 .0 .0)
     (sourceOf (trialOf s) (s .args .first) (s .args .count))
 
-which-requires : tie.Need-which-requires
-which-requires c κs = search needs
-
-pick-requires : tie.Need-pick-requires
-pick-requires c κs = search needs
-
-add-end : tie.Need-add-end
-add-end c = search needs
-
-enum-known-source : tie.Need-enum-known-source
-enum-known-source c = search needs
-
-put-missing-requires : tie.Need-put-missing-requires
-put-missing-requires c κs = search needs
-
-enum-told : tie.Need-enum-told
-enum-told c = search needs
-
-slice-aggregate-put-bytes : tie.Need-slice-aggregate-put-bytes
-slice-aggregate-put-bytes c = search needs
-
 put-bytes-requires : tie.Need-put-bytes-requires
 put-bytes-requires c κs =
     let d = c .before .before .before .before in
     (omega arith, (omega (arith, few d, ap length (d .pick .ensures .bytes)), begin d .pre .1 .1))
-
-enum-told-2 : tie.Need-enum-told-2
-enum-told-2 c = search needs
 
 put-given-requires : tie.Need-put-given-requires
 put-given-requires c κs =
     let d = c .before .before .before in
     let s = begin d in
     (s .pre .0 .1, (omega (arith, few d, ap length (d .pick .ensures .bytes)), s .pre .1 .1))
-
-same-length : tie.Need-same-length
-same-length c = search needs
 
 returns : tie.Need-returns
 returns c =
@@ -73,9 +46,6 @@ returns c =
     (told-as (s .args .load) (s .args .first) (s .args .count) (s .args .free) (s .args .lack) (trialOf s)
     (sym (at-source .source .given .1) ∙ at-which .which .ensures .answer))
     (c .before .before .put-missing .ensures)
-
-same-length-2 : tie.Need-same-length-2
-same-length-2 c = search needs
 
 returns-2 : tie.Need-returns-2
 returns-2 c =
@@ -88,9 +58,6 @@ returns-2 c =
     (ap (bytesText (ascii "overlay")) (at-pick .pick .ensures .bytes ∙ ap (bytesOf (trialOf s) (s .args .first) (s .args .count)) (sym e))
     ∙ told-as (s .args .load) (s .args .first) (s .args .count) (s .args .free) (s .args .lack) (trialOf s) e)
     (c .before .before .put-bytes .ensures)
-
-same-length-3 : tie.Need-same-length-3
-same-length-3 c = search needs
 
 returns-3 : tie.Need-returns-3
 returns-3 c =
@@ -109,19 +76,5 @@ pub put-source-spec : {M : Type 1} → statement M
 put-source-spec =
     tie.close
     (tie.spec
-    which-requires
-    pick-requires
-    add-end
-    enum-known-source
-    put-missing-requires
-    enum-told
-    slice-aggregate-put-bytes
-    put-bytes-requires
-    enum-told-2
-    put-given-requires
-    same-length
-    returns
-    same-length-2
-    returns-2
-    same-length-3
-    returns-3)
+    (λ c κs. search needs) (λ c κs. search needs) (λ c. search needs) (λ c. search needs) (λ c κs. search needs) (λ c. search needs) (λ c. search needs)
+    put-bytes-requires (λ c. search needs) put-given-requires (λ c. search needs) returns (λ c. search needs) returns-2 (λ c. search needs) returns-3)

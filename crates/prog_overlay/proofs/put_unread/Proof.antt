@@ -5,18 +5,6 @@ use borrow.Author.Needs.{needs}
 use Rattle.prog_overlay.proofs.put_unread.Statement.{statement}
 use Rattle.prog_overlay.proofs.put_unread.Tie as tie
 
-write-refusal-requires : tie.Need-write-refusal-requires
-write-refusal-requires c κs = search needs
-
-write-word-requires : tie.Need-write-word-requires
-write-word-requires c κs = search needs
-
-put-fault-requires : tie.Need-put-fault-requires
-put-fault-requires c κs = search needs
-
-same-length : tie.Need-same-length
-same-length c = search needs
-
 returns : tie.Need-returns
 returns c =
     let at-write-word = c .before .before .before .before .before .before in
@@ -31,8 +19,4 @@ pub put-unread-spec : {M : Type 1} → statement M
 put-unread-spec =
     tie.close
     (tie.spec
-    write-refusal-requires
-    write-word-requires
-    put-fault-requires
-    same-length
-    returns)
+    (λ c κs. search needs) (λ c κs. search needs) (λ c κs. search needs) (λ c. search needs) returns)
