@@ -49,11 +49,9 @@ fn write_cells(out: &mut [u8], at: usize, marks: &[u8], numbers: &[u64]) -> usiz
     ensures { λ r. ⌜ r ≤ at + 22 * length (now (numbers .entry)) ⌝ }
 {
     let mut end = at;
-    let mut i = 0;
-    while i < numbers.len() {
+    for i in 0..numbers.len() {
         out[end] = b' ';
         end = write_cell(out, end + 1, marks[i], numbers[i]);
-        i += 1;
     }
     end
 }

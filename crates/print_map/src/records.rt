@@ -123,11 +123,9 @@ pub fn write_banks(out: &mut [u8], at: usize, banks: Bankdefs, padding: [Lost; 1
 {
     let count = refusal::lesser(banks.len, 16);
     let mut end = at;
-    let mut i: u64 = 0;
-    while i < count {
+    for i in 0..count {
         let def = resolver::bank_record(banks, i);
         end = write_bank(out, end, i, def, padding[i as usize]);
-        i += 1;
     }
     end
 }
@@ -187,8 +185,7 @@ pub fn write_nodes(
     ensures { λ r. ⌜ r ≤ at + 160 * nodes ⌝ }
 {
     let mut end = at;
-    let mut i = 0;
-    while i < nodes {
+    for i in 0..nodes {
         end = write_node(
             out,
             end,
@@ -200,7 +197,6 @@ pub fn write_nodes(
             outputs[i],
             sizes[i],
         );
-        i += 1;
     }
     end
 }

@@ -12,11 +12,11 @@ use Rattle.print_map.proofs.cells.write_cells.Statement.{statement}
 use Rattle.print_map.proofs.cells.write_cells.Tie as tie
 
 abbrev Inv-loop : tie.InvT-loop
-Inv-loop out₀ at marks numbers end₀ i₀ out end i =
+Inv-loop out₀ at marks numbers end₀ i₀ i-end out end i =
     (i ≤ length numbers) × (end ≤ at + 22 * i) × Writes (cellsTo marks numbers i) out₀ at end out
 
 abbrev μ-loop : tie.MeasureT-loop
-μ-loop out₀ at marks numbers end₀ i₀ out end i = length numbers - i
+μ-loop out₀ at marks numbers end₀ i₀ i-end out end i = length numbers - i
 
 loop-holds : tie.Need-loop-holds Inv-loop μ-loop
 loop-holds c =
