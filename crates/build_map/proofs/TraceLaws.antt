@@ -102,8 +102,7 @@ module _ {p : Program} {row : Row} {closed : Bool} {i : ℕ} {walk : Walk} {posi
         })
 
   -- the end: no node was refused
-  pub ends : length (p .kinds) ≤ i → traced closed (visits p row) ≡ wholeReach i
+  pub ends : length (p .kinds) ≤ i → traced closed (visits p row) ≡ wholeReach (length (p .kinds))
   ends b =
       let all : i ≡ length (p .kinds) = omega (arith, g .within) in
       traced-whole p row closed stored (subst (λ (k : ℕ). placedAll closed (visitsTo p row k) ≡ holds stored) all (g .placed))
-      ∙ ap wholeReach (sym all)

@@ -82,8 +82,7 @@ pub fn write_entries(
         ⌝ }
 {
     let mut walk = iter::start();
-    let mut i = 0;
-    while i < nodes {
+    for i in 0..nodes {
         let v = visit_node(banks, kinds, operands, first, numbers, states, walk, i);
         let node = v.node;
         let seen = v.seen;
@@ -93,7 +92,6 @@ pub fn write_entries(
         outputs[i] = blocks::word_of(out);
         sizes[i] = size_of(node);
         walk = v.walk;
-        i += 1;
     }
     walk.lost
 }

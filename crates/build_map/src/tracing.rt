@@ -58,8 +58,7 @@ pub fn trace_row(
     let mut marks = [0u64; 512];
     let mut mark_count: usize = 0;
     let mut walk = iter::start();
-    let mut i = 0;
-    while i < kinds.len() {
+    for i in 0..kinds.len() {
         let v = visit_node(banks, kinds, operands, first, numbers, states, walk, i);
         let node = v.node;
         let def = v.def;
@@ -85,7 +84,6 @@ pub fn trace_row(
         count = offered.count;
         mark_count = offered.marks;
         walk = v.walk;
-        i += 1;
     }
-    whole(i as u64)
+    whole(kinds.len() as u64)
 }

@@ -35,12 +35,6 @@ module _ (c : tie.Else1) where
   cells : begin f .args .rows * length (begin f .args .kinds .now) ≤ 65536
   cells = omega (arith, mul-le-mul-right (length (begin f .args .kinds .now)) (rows .few), few)
 
-resolve-requires : tie.Need-resolve-requires
-resolve-requires c κs = search needs
-
-unmapped-requires : tie.Need-unmapped-requires
-unmapped-requires c κs = search needs
-
 returns : tie.Need-returns
 returns c =
     let start = c .before .before .before .before .before .before .before .before in
@@ -54,35 +48,14 @@ row-start-requires c κs = (rows c .some, rows c .few, few c)
 add-e : tie.Need-add-e
 add-e c = record { fits = omega (arith, cells (c .before), c .row-start .ensures .1) }
 
-closes-default-requires : tie.Need-closes-default-requires
-closes-default-requires c κs = search needs
-
-sub-map-row : tie.Need-sub-map-row
-sub-map-row c = search needs
-
-part-map-row-start : tie.Need-part-map-row-start
-part-map-row-start c = search needs
-
 part-map-row-end : tie.Need-part-map-row-end
 part-map-row-end c = let r = rows (c .before .before) in omega (arith, r .numbered, c .before .row-start .ensures .1)
 
 mul-map-row : tie.Need-mul-map-row
 mul-map-row c = record { fits = omega (arith, cells (c .before .before .before), c .before .before .row-start .ensures .1) }
 
-sub-map-row-2 : tie.Need-sub-map-row-2
-sub-map-row-2 c = search needs
-
-part-map-row-start-2 : tie.Need-part-map-row-start-2
-part-map-row-start-2 c = search needs
-
 part-map-row-end-2 : tie.Need-part-map-row-end-2
 part-map-row-end-2 c = let r = rows (c .before .before .before) in omega (arith, r .numbered, c .before .before .row-start .ensures .1)
-
-sub-map-row-3 : tie.Need-sub-map-row-3
-sub-map-row-3 c = search needs
-
-part-map-row-start-3 : tie.Need-part-map-row-start-3
-part-map-row-start-3 c = search needs
 
 part-map-row-end-3 : tie.Need-part-map-row-end-3
 part-map-row-end-3 c =
@@ -134,21 +107,6 @@ pub map-nodes-spec : {M : Type 1} → statement M
 map-nodes-spec =
     tie.close
     (tie.spec
-    resolve-requires
-    unmapped-requires
-    returns
-    row-start-requires
-    add-e
-    closes-default-requires
-    sub-map-row
-    part-map-row-start
-    part-map-row-end
-    mul-map-row
-    sub-map-row-2
-    part-map-row-start-2
-    part-map-row-end-2
-    sub-map-row-3
-    part-map-row-start-3
-    part-map-row-end-3
-    map-row-requires
-    returns-2)
+    (λ c κs. search needs) (λ c κs. search needs) returns row-start-requires add-e (λ c κs. search needs) (λ c. search needs) (λ c. search needs)
+    part-map-row-end mul-map-row (λ c. search needs) (λ c. search needs) part-map-row-end-2 (λ c. search needs) (λ c. search needs)
+    part-map-row-end-3 map-row-requires returns-2)

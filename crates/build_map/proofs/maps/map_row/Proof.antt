@@ -16,9 +16,6 @@ low c =
     let start = c .before .before .before .before .before .before .before .before .before .before in
     subst (λ (r : Reach). r .nodes ≤ maxNodes) (sym (c .reach-row .ensures)) (start .pre .1 .1 .1)
 
-reach-row-requires : tie.Need-reach-row-requires
-reach-row-requires c κs = search needs
-
 write-entries-requires : tie.Need-write-entries-requires
 write-entries-requires c κs =
     let at-reach-row = c .before .before .before .before in
@@ -26,18 +23,6 @@ write-entries-requires c κs =
     let few = low at-reach-row in
     let long = start .pre .1 .1 .0 in
     (few, (omega (arith, few, long .0), omega (arith, few, long .1), omega (arith, few, long .2), omega (arith, few, long .3)))
-
-same-length : tie.Need-same-length
-same-length c = search needs
-
-same-length-2 : tie.Need-same-length-2
-same-length-2 c = search needs
-
-same-length-3 : tie.Need-same-length-3
-same-length-3 c = search needs
-
-same-length-4 : tie.Need-same-length-4
-same-length-4 c = search needs
 
 returns : tie.Need-returns
 returns c =
@@ -54,10 +39,4 @@ pub map-row-spec : {M : Type 1} → statement M
 map-row-spec =
     tie.close
     (tie.spec
-    reach-row-requires
-    write-entries-requires
-    same-length
-    same-length-2
-    same-length-3
-    same-length-4
-    returns)
+    (λ c κs. search needs) write-entries-requires (λ c. search needs) (λ c. search needs) (λ c. search needs) (λ c. search needs) returns)

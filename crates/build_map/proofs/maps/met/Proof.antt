@@ -11,18 +11,6 @@ use Rattle.build_map.proofs.maps.met.Tie as tie
 at : (c : tie.After-first-in) → c .first-in .result ≡ nodeOf (c .before .before .before .args .why)
 at c = c .first-in .ensures ∙ ap firstIn (c .before .place-of .ensures)
 
-number-requires : tie.Need-number-requires
-number-requires c κs = search needs
-
-place-of-requires : tie.Need-place-of-requires
-place-of-requires c κs = search needs
-
-first-in-requires : tie.Need-first-in-requires
-first-in-requires c κs = search needs
-
-reach-requires : tie.Need-reach-requires
-reach-requires c κs = search needs
-
 returns : tie.Need-returns
 returns c =
     let at-number = c .before .before .before .before in
@@ -36,9 +24,6 @@ add-reach c =
     let start = at-number .before in
     record { fits = omega (arith, at (c .before .before), start .pre (sym (at-number .number .ensures) ∙ c .if2 .taken)) }
 
-reach-requires-2 : tie.Need-reach-requires-2
-reach-requires-2 c κs = search needs
-
 returns-2 : tie.Need-returns-2
 returns-2 c =
     let at-first-in = c .before .before .before in
@@ -46,9 +31,6 @@ returns-2 c =
     let start = at-number .before in
     let a = start .args in
     c .reach2 .ensures ∙ met-7 (a .n) (a .why) (at-number .number .ensures) (at at-first-in) (c .before .before .if1 .left) (c .before .if2 .taken)
-
-reach-requires-3 : tie.Need-reach-requires-3
-reach-requires-3 c κs = search needs
 
 returns-3 : tie.Need-returns-3
 returns-3 c =
@@ -59,9 +41,6 @@ returns-3 c =
     let a = start .args in
     c .reach3 .ensures ∙ met-8 (a .n) (a .why) (at-number .number .ensures) (at at-first-in) (at-else1 .if1 .left) (c .before .before .if2 .left)
     (c .before .if3 .taken)
-
-reach-requires-4 : tie.Need-reach-requires-4
-reach-requires-4 c κs = search needs
 
 returns-4 : tie.Need-returns-4
 returns-4 c =
@@ -77,15 +56,5 @@ pub met-spec : {M : Type 1} → statement M
 met-spec =
     tie.close
     (tie.spec
-    number-requires
-    place-of-requires
-    first-in-requires
-    reach-requires
-    returns
-    add-reach
-    reach-requires-2
-    returns-2
-    reach-requires-3
-    returns-3
-    reach-requires-4
-    returns-4)
+    (λ c κs. search needs) (λ c κs. search needs) (λ c κs. search needs) (λ c κs. search needs) returns add-reach (λ c κs. search needs) returns-2
+    (λ c κs. search needs) returns-3 (λ c κs. search needs) returns-4)

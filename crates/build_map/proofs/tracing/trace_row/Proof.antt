@@ -11,15 +11,12 @@ use Rattle.build_map.proofs.tracing.trace_row.Statement.{statement}
 use Rattle.build_map.proofs.tracing.trace_row.Tie as tie
 
 abbrev Inv-loop : tie.InvT-loop
-Inv-loop banks kinds operands first numbers states closed positions₀ sizes₀ count₀ marks₀ mark-count₀ walk₀ i₀ positions sizes count marks mark-count walk i =
+Inv-loop banks kinds operands first numbers states closed positions₀ sizes₀ count₀ marks₀ mark-count₀ walk₀ i₀ i-end positions sizes count marks mark-count walk i =
     Going (programWith banks kinds operands first) (rowWith numbers states) closed i walk positions sizes count marks mark-count
 
 abbrev μ-loop : tie.MeasureT-loop
-μ-loop banks kinds operands first numbers states closed positions₀ sizes₀ count₀ marks₀ mark-count₀ walk₀ i₀ positions sizes count marks mark-count walk i =
+μ-loop banks kinds operands first numbers states closed positions₀ sizes₀ count₀ marks₀ mark-count₀ walk₀ i₀ i-end positions sizes count marks mark-count walk i =
     length kinds - i
-
-start-requires : tie.Need-start-requires Inv-loop μ-loop
-start-requires c κs = search needs
 
 loop-holds : tie.Need-loop-holds Inv-loop μ-loop
 loop-holds c =
@@ -27,17 +24,11 @@ loop-holds c =
     begins (programWith (a .banks) (a .kinds .now) (a .operands .now) (a .first .now)) (rowWith (a .numbers .now) (a .states .now)) (a .closed)
     (c .start .result) (c .start .ensures)
 
-visit-node-requires : tie.Need-visit-node-requires Inv-loop μ-loop
-visit-node-requires c κs = search needs
-
 place-requires : tie.Need-place-requires Inv-loop μ-loop
 place-requires c κs =
     let at-visit-node = c .before .before .before .before .before in
     let at-loop = at-visit-node .before .before in
     (at-loop .loop .inv .sound, at-visit-node .visit-node .ensures .1)
-
-enum-told : tie.Need-enum-told Inv-loop μ-loop
-enum-told c = search needs
 
 stopped-requires : tie.Need-stopped-requires Inv-loop μ-loop
 stopped-requires c κs =
@@ -54,9 +45,6 @@ returns c =
     c .stopped .ensures
     ∙ sym (settles (at-loop .loop .inv) (at-visit-node .visit-node .ensures .0) (at-place .place .ensures .0) (at-in-loop .loop-test .taken)
     (c .before .enum-told .given .1))
-
-enum-told-2 : tie.Need-enum-told-2 Inv-loop μ-loop
-enum-told-2 c = search needs
 
 add-i : tie.Need-add-i Inv-loop μ-loop
 add-i c =
@@ -78,9 +66,6 @@ loop-again c =
     goes-on (at-loop .loop .inv) (at-visit-node .visit-node .ensures .0) (at-place .place .ensures .0) (at-in-loop .loop-test .taken)
     (c .before .enum-told2 .given .1) (at-place .place .ensures .1)
 
-whole-requires : tie.Need-whole-requires Inv-loop μ-loop
-whole-requires c κs = search needs
-
 returns-2 : tie.Need-returns-2 Inv-loop μ-loop
 returns-2 c = c .whole .ensures ∙ sym (ends (c .before .before .loop .inv) (c .before .loop-test .left))
 
@@ -88,18 +73,5 @@ pub trace-row-spec : {M : Type 1} → statement M
 trace-row-spec =
     tie.close
     (tie.spec
-    Inv-loop
-    μ-loop
-    start-requires
-    loop-holds
-    visit-node-requires
-    place-requires
-    enum-told
-    stopped-requires
-    returns
-    enum-told-2
-    add-i
-    loop-less
-    loop-again
-    whole-requires
-    returns-2)
+    Inv-loop μ-loop (λ c κs. search needs) loop-holds (λ c κs. search needs) place-requires (λ c. search needs) stopped-requires returns
+    (λ c. search needs) add-i loop-less loop-again (λ c κs. search needs) returns-2)

@@ -6,18 +6,6 @@ use Rattle.build_map.proofs.visits.out_of.Reads as reads
 use Rattle.build_map.proofs.visits.out_of.Lts as lts
 use Rattle.iter.proofs.get_output_position.Reads as get-output-position-reads
 
-enum-known-seen : tie.Need-enum-known-seen
-enum-known-seen c = search needs
-
-get-output-position-requires : tie.Need-get-output-position-requires
-get-output-position-requires c κs = search needs
-
-enum-told : tie.Need-enum-told
-enum-told c = search needs
-
-get-output-position-requires-2 : tie.Need-get-output-position-requires-2
-get-output-position-requires-2 c κs = search needs
-
 returns : tie.Need-returns
 returns c = (rw (c .before .before .seen .given .1) (c .get-output-position .ensures .0), c .get-output-position .ensures .1)
 
@@ -28,9 +16,4 @@ pub out-of-spec : {M : Type 1} → statement M
 out-of-spec =
     tie.close
     (tie.spec
-    enum-known-seen
-    get-output-position-requires
-    enum-told
-    get-output-position-requires-2
-    returns
-    returns-2)
+    (λ c. search needs) (λ c κs. search needs) (λ c. search needs) (λ c κs. search needs) returns returns-2)

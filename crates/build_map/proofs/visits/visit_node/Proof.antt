@@ -10,21 +10,6 @@ use Rattle.build_map.proofs.visits.out_of.Reads as out-of-reads
 use Rattle.lists.proofs.node_at.Reads as node-at-reads
 use Rattle.resolver.proofs.bank_record.Reads as bank-record-reads
 
-node-at-requires : tie.Need-node-at-requires
-node-at-requires c κs = search needs
-
-bank-after-requires : tie.Need-bank-after-requires
-bank-after-requires c κs = search needs
-
-bank-record-requires : tie.Need-bank-record-requires
-bank-record-requires c κs = search needs
-
-step-requires : tie.Need-step-requires
-step-requires c κs = search needs
-
-out-of-requires : tie.Need-out-of-requires
-out-of-requires c κs = search needs
-
 returns : tie.Need-returns
 returns c = (
   rw (
@@ -41,9 +26,4 @@ pub visit-node-spec : {M : Type 1} → statement M
 visit-node-spec =
     tie.close
     (tie.spec
-    node-at-requires
-    bank-after-requires
-    bank-record-requires
-    step-requires
-    out-of-requires
-    returns)
+    (λ c κs. search needs) (λ c κs. search needs) (λ c κs. search needs) (λ c κs. search needs) (λ c κs. search needs) returns)
