@@ -45,11 +45,9 @@ fn pages_of(banks: Bankdefs, page: u32) -> [u64; 16]
 {
     let mut pages = [NO_PAGES; 16];
     let n = banks.len as usize;
-    let mut i = 0;
-    while i < n {
+    for i in 0..n {
         let b = banks.defs[i];
         pages[i] = pages_in(b, page);
-        i += 1;
     }
     pages
 }

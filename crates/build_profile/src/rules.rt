@@ -122,13 +122,11 @@ fn check_banks(banks: Bankdefs, rule: u64, page: u32) -> Verdict
     ensures { λ r. ⌜ r ≡ ruled rule (λ k. bankKeeps rule page (bankRecord banks k)) (banks .len) ⌝ }
 {
     let n = banks.len as usize;
-    let mut i = 0;
-    while i < n {
+    for i in 0..n {
         let b = banks.defs[i];
         if !bank_keeps(rule, b, page) {
             return off_profile(rule, i as u64);
         }
-        i += 1;
     }
     Verdict::Accepted
 }
@@ -148,13 +146,11 @@ fn rows_keep(rule: u8, numbers: &[u32], n: usize, rows: u64, i: usize, unit: u32
     requires { ⌜ (i < n) × (length (now numbers) ≡ rows * n) ⌝ }
     ensures { λ t. ⌜ t ≡ all (λ r. keptBy rule (getD (now (numbers .entry)) (r * n + i) 0) unit) rows ⌝ }
 {
-    let mut r: u64 = 0;
-    while r < rows {
+    for r in 0..rows {
         let at = (r as usize) * n + i;
         if !is_kept(rule, numbers[at], unit) {
             return false;
         }
-        r += 1;
     }
     true
 }
@@ -188,12 +184,10 @@ fn check_aligns(kinds: &[u8], numbers: &[u32], rows: u64) -> Verdict
     requires { ⌜ length (now numbers) ≡ rows * length (now kinds) ⌝ }
     ensures { λ t. ⌜ t ≡ ruled 2 (alignsKept (nodesOf (now (kinds .entry)) [] (now (numbers .entry)) rows)) (length (now (kinds .entry))) ⌝ }
 {
-    let mut i = 0;
-    while i < kinds.len() {
+    for i in 0..kinds.len() {
         if !node_aligned(kinds, numbers, rows, i) {
             return off_profile(2, i as u64);
         }
-        i += 1;
     }
     Verdict::Accepted
 }
@@ -219,14 +213,12 @@ fn check_addrs(
         (length (now (kinds .entry))) ⌝ }
 {
     let mut bank: u32 = 0;
-    let mut i = 0;
-    while i < kinds.len() {
+    for i in 0..kinds.len() {
         bank = bank_next(kinds[i], operands[i], bank);
         let b = banks.defs[bank as usize];
         if !addr_kept(kinds, numbers, rows, i, b.unit as u32) {
             return off_profile(6, i as u64);
         }
-        i += 1;
     }
     Verdict::Accepted
 }

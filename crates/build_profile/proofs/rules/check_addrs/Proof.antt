@@ -19,11 +19,11 @@ use Rattle.build_profile.proofs.rules.check_addrs.Statement.{statement}
 use Rattle.build_profile.proofs.rules.check_addrs.Tie as tie
 
 abbrev Inv-loop : tie.InvT-loop
-Inv-loop kinds operands numbers rows banks bank₀ i₀ bank i =
+Inv-loop kinds operands numbers rows banks bank₀ i₀ i-end bank i =
     (i ≤ length kinds) × (bank ≡ bankBefore kinds operands i) × KeptTo (addrsKept banks (nodesOf kinds operands numbers rows)) i
 
 abbrev μ-loop : tie.MeasureT-loop
-μ-loop kinds operands numbers rows banks bank₀ i₀ bank i = length kinds - i
+μ-loop kinds operands numbers rows banks bank₀ i₀ i-end bank i = length kinds - i
 
 abbrev keeps : tie.Start Inv-loop μ-loop → ℕ → Bool
 keeps s = addrsKept (s .args .t1) (nodesOf (s .args .kinds .now) (s .args .operands .now) (s .args .numbers .now) (s .args .rows))

@@ -14,10 +14,10 @@ use Rattle.build_profile.proofs.rules.check_aligns.Statement.{statement
 use Rattle.build_profile.proofs.rules.check_aligns.Tie as tie
 
 abbrev Inv-loop : tie.InvT-loop
-Inv-loop kinds numbers rows i₀ i = (i ≤ length kinds) × KeptTo (alignsKept (nodesOf kinds [] numbers rows)) i
+Inv-loop kinds numbers rows i₀ i-end i = (i ≤ length kinds) × KeptTo (alignsKept (nodesOf kinds [] numbers rows)) i
 
 abbrev μ-loop : tie.MeasureT-loop
-μ-loop kinds numbers rows i₀ i = length kinds - i
+μ-loop kinds numbers rows i₀ i-end i = length kinds - i
 
 abbrev keeps : tie.Start Inv-loop μ-loop → ℕ → Bool
 keeps s = alignsKept (nodesOf (s .args .kinds .now) [] (s .args .numbers .now) (s .args .rows))
