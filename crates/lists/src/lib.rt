@@ -147,13 +147,11 @@ fn any_row_fault(
         (lists (now (kinds .entry)) (now (operands .entry)) (now (numbers .entry)) (now (states .entry)) rows (now (values .entry)))
         i rows ⌝ }
 {
-    let mut r: u64 = 0;
-    while r < rows {
+    for r in 0..rows {
         let node = row_node(kinds, operands, numbers, states, rows, r, i);
         if row_fault(item, values.len(), node) {
             return true;
         }
-        r += 1;
     }
     false
 }
@@ -224,12 +222,10 @@ fn check_nodes(
         (lists (now (kinds .entry)) (now (operands .entry)) (now (numbers .entry)) (now (states .entry)) rows (now (values .entry)))
         (length (now (kinds .entry))) ⌝ }
 {
-    let mut i = 0;
-    while i < kinds.len() {
+    for i in 0..kinds.len() {
         if node_fault(banks, kinds, operands, numbers, states, rows, values, i) {
             return malformed(i as u64);
         }
-        i += 1;
     }
     Verdict::Accepted
 }

@@ -11,11 +11,11 @@ use Rattle.lists.proofs.check_nodes.Statement.{statement}
 use Rattle.lists.proofs.check_nodes.Tie as tie
 
 abbrev Inv-loop : tie.InvT-loop
-Inv-loop banks kinds operands numbers states rows values i₀ i =
+Inv-loop banks kinds operands numbers states rows values i₀ i-end i =
     (i ≤ length kinds) × (Accepted ≡ nodesTo banks (lists kinds operands numbers states rows values) i)
 
 abbrev μ-loop : tie.MeasureT-loop
-μ-loop banks kinds operands numbers states rows values i₀ i = length kinds - i
+μ-loop banks kinds operands numbers states rows values i₀ i-end i = length kinds - i
 
 abbrev given : tie.Start Inv-loop μ-loop → Lists
 given s = lists (s .args .kinds .now) (s .args .operands .now) (s .args .numbers .now) (s .args .states .now) (s .args .rows) (s .args .values .now)
