@@ -11,7 +11,6 @@ use Rattle.lists.specs.Lists.{Lists, lists, listsOf}
 use Rattle.resolver.specs.Passes.{resolutionOf}
 use Rattle.resolver.specs.Figures.{Figures}
 use Rattle.resolver.specs.Theorems.RefusedExactly.{layout-figures}
-pub use Rattle.lists.specs.Theorems.Sound.{accepted-rows}
 use Rattle.resolver.specs.declared.Choices.{Choices}
 use Rattle.resolver.specs.declared.Settled.the-variants.{Refused as Turned}
 use Rattle.resolver.specs.declared.Resolution.{Resolution}

@@ -1,12 +1,15 @@
 -- Which passes run, pass K, and the number of passes run (document 01, "Passes").
-use Prim.Native.Nat.{ℕ, zero, suc, _+_, _-_, min}
+use Prim.Native.Nat.{ℕ, zero, suc, _+_, _*_, _-_, _≤_, min}
+use mathlib.Core.Path.{_≡_}
 use mathlib.Core.Bool.{Bool, true, false, not}
+use mathlib.Core.List.{List}
 use lib.Dec.{eqb, ltb}
+use lib.ListN.{length}
 use Rattle.refusal.specs.Pick.{pick}
 use Rattle.refusal.specs.declared.Refusal.the-variants.{Unresolved}
 use Rattle.bankdef.specs.declared.Bankdefs.{Bankdefs}
-use Rattle.lists.specs.Lists.{Lists, Row, rowAt}
-use Rattle.resolver.specs.Once.{Program, passOf}
+use Rattle.lists.specs.Lists.{Lists, Row, rowOf, rowAt}
+use Rattle.resolver.specs.Once.{Program, programWith, passOf}
 use Rattle.resolver.specs.declared.Pass.{Pass}
 use Rattle.resolver.specs.declared.Pass.the-variants.{State, Refused as Failed}
 use Rattle.resolver.specs.declared.Settled.{Settled}
@@ -16,6 +19,22 @@ use Rattle.resolver.specs.declared.Resolution.{Resolution}
 abbrev pub program : Bankdefs → Lists → Program
 program banks l =
     record { banks = banks; kinds = l .kinds; operands = l .operands; first = rowAt l 0 .numbers }
+
+-- the lists hold row r, from 0, and an operand for each node
+pub record HasRow (kinds operands numbers states : List ℕ) (r : ℕ) : Type 0 where
+  pub named : length operands ≡ length kinds
+  pub numbered : r * length kinds + length kinds ≤ length numbers
+  pub stated : r * length kinds + length kinds ≤ length states
+
+-- the row that a pass over row r is held against: its own, or the one ahead of it
+abbrev pub rowAgainst : ℕ → Bool → ℕ
+rowAgainst r alone = pick alone r (r - 1)
+
+-- a pass over row x, where the pass before it read row y
+abbrev pub passOver : Bankdefs → List ℕ → List ℕ → List ℕ → List ℕ → ℕ → ℕ → Bool → Bool → Pass
+passOver banks kinds operands numbers states x y isFirst isLast =
+    let n = length kinds in
+    passOf (programWith banks kinds operands (rowOf n numbers states 0 .numbers)) (rowOf n numbers states x) (rowOf n numbers states y) isFirst isLast
 
 -- "Pass n reads row n, or the last row if there are fewer." Rows are counted from 0 and passes from 1.
 abbrev pub rowOfPass : Lists → ℕ → Row

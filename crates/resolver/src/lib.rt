@@ -2,7 +2,7 @@
 mod once;
 mod passes;
 
-use iter::Walk;
+use iter::Pos;
 pub use once::bank_record;
 pub use passes::resolve;
 use refusal::Refusal;
@@ -20,10 +20,17 @@ pub enum Pass {
     Refused(Refusal),
 }
 
-// A pass, and the walk of its row, handed back by value: "bank positions, an array of 16 in the walk's state".
+// The state of a pass's walk, handed in and back by value: "bank positions, an array of 16 in the walk's state", and those of the walk of the pass before.
+// What a bank loses to alignment no pass asks for.
+pub struct TwoWalks {
+    pub at: [Pos; 16],
+    pub old: [Pos; 16],
+}
+
+// A pass, and what its walk comes to.
 pub struct Passed {
     pub pass: Pass,
-    pub walk: Walk,
+    pub walks: TwoWalks,
 }
 
 // What the passes come to: pass K, or a refusal; and how many passes were run, a refusing pass included.

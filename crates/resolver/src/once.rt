@@ -1,16 +1,14 @@
 // A pass over a row.
 use crate::Pass;
 use crate::Passed;
+use crate::TwoWalks;
 use bankdef::Bankdef;
 use bankdef::Bankdefs;
 use iter::Paced;
 use iter::Pos;
-use iter::Walk;
 use iter::bank_after;
-use iter::lost_after;
 use iter::on_boundary;
 use iter::pace;
-use iter::start;
 use iter::why_refused;
 use lists::Node;
 use lists::node_at;
@@ -24,15 +22,16 @@ use refusal::STABLE;
 use refusal::SWITCH;
 use refusal::UNRESOLVED;
 ghost use mathlib.Core.Path.{_≡_};
-ghost use mathlib.Core.Bool.{true, false};
+ghost use mathlib.Core.Bool.{true};
 ghost use Prim.Native.Nat.{ℕ, max};
 ghost use lib.ListN.{length};
 ghost use Rattle.iter.specs.Pace.{seenBy};
-ghost use Rattle.iter.specs.Step.{startOf};
 ghost use Rattle.bankdef.specs.Check.{noBank};
 ghost use Prim.Native.Nat.{_/_};
 ghost use Rattle.lists.specs.Lists.{rowWith};
 ghost use Rattle.resolver.specs.Once.{programWith, bankRecord, labelState, stateOf, offBoundary, passOf, walkTo};
+ghost use Rattle.resolver.specs.Passes.{HasRow, rowAgainst, passOver};
+ghost use Rattle.resolver.specs.Stands.{bothStart};
 ghost use Rattle.resolver.specs.declared.Pass.the-variants.{State};
 ghost use Rattle.resolver.specs.Switches.{Switches};
 
@@ -83,10 +82,8 @@ fn whole_units(def: Bankdef, position: u32) -> u32
 fn label_state(def: Bankdef, now: Pos, before: Paced, is_first: bool) -> u8
     ensures { λ r. ⌜ r ≡ labelState def now (seenBy before 0) «is_first» ⌝ }
 {
-    if now.known {
-        if on_boundary(def, now.position) {
-            return RESOLVED;
-        }
+    if now.known && on_boundary(def, now.position) {
+        return RESOLVED;
     }
     if is_first {
         return UNRESOLVED;
@@ -118,10 +115,8 @@ fn node_state(def: Bankdef, node: Node, now: Pos, before: Paced, is_first: bool)
 fn off_boundary(def: Bankdef, node: Node, now: Pos, is_last: bool) -> bool
     ensures { λ r. ⌜ r ≡ offBoundary def node now «is_last» ⌝ }
 {
-    if is_last {
-        if node.kind == LABEL {
-            return !on_boundary(def, now.position);
-        }
+    if is_last && node.kind == LABEL {
+        return !on_boundary(def, now.position);
     }
     false
 }
@@ -133,203 +128,140 @@ fn larger(merged: u8, state: u8) -> u8
     if merged < state { state } else { merged }
 }
 
-// A pass that is refused, and the walk that it has come to.
-fn refused_pass(why: Refusal, walk: Walk) -> Passed
+// Both walks at their start: "Each bank's position starts at 0, known".
+fn both_start() -> TwoWalks
+    ensures { λ r. ⌜ r ≡ bothStart ⌝ }
+{
+    let origin = Pos {
+        position: 0,
+        known: true,
+    };
+    TwoWalks {
+        at: [origin; 16],
+        old: [origin; 16],
+    }
+}
+
+// A pass that is refused, and the walks that it has come to.
+fn refused_pass(why: Refusal, walks: TwoWalks) -> Passed
     ensures { λ r. ⌜ r .pass ≡ Pass.Refused why ⌝ }
 {
     Passed {
         pass: Pass::Refused(why),
-        walk,
+        walks,
     }
 }
 
-// The walk of a pass over its row, which the pass before reads too, where each label has the address of the pass before; or of pass 1, which has none before
-// it. "bank positions, an array of 16 in the walk's state": the walk comes by value, each step is stored into it, and it goes back as the row leaves it.
-fn walk_alone(
+// The walk of a pass over its row and, beside it, that of the pass before over the row that it read; both stand in one bank, since no row tells it. Held
+// against its own row (`alone`) each label has the address of the pass before, and the other walk is not made. "bank positions, an array of 16 in the walk's
+// state": the state comes by value, each step is stored into it, and it goes back as the rows leave it.
+fn walk_rows(
     banks: Bankdefs,
     kinds: &[u8],
     operands: &[u32],
     first: &[u32],
     numbers: &[u32],
     states: &[u8],
-    begun: Walk,
-    is_first: bool,
-    is_last: bool,
-) -> Passed
-    requires { ⌜ Switches (banks .len) (now kinds) (now operands) ⌝ }
-    requires { ⌜ begun ≡ startOf ⌝ }
-    ensures pass { λ r. ⌜ r .pass ≡ passOf (programWith banks (now (kinds .entry)) (now (operands .entry)) (now (first .entry)))
-        (rowWith (now (numbers .entry)) (now (states .entry)))
-        (rowWith (now (numbers .entry)) (now (states .entry)))
-        «is_first» «is_last» ⌝ }
-    ensures walk { λ r. ⌜ ((merged : ℕ) → r .pass ≡ State merged
-        → r .walk ≡ walkTo (programWith banks (now (kinds .entry)) (now (operands .entry)) (now (first .entry)))
-        (rowWith (now (numbers .entry)) (now (states .entry))) (length (now (kinds .entry)))) ⌝ }
-{
-    let mut walk = begun;
-    let mut merged: u8 = 0;
-    let mut i = 0;
-    while i < kinds.len() {
-        let node = node_at(kinds, operands, first, numbers, states, i);
-        let bank = bank_after(walk.bank, node);
-        let def = banks.defs[bank as usize];
-        let step = pace(def, walk.at[bank as usize], node);
-        if step.fault != MADE {
-            return refused_pass(why_refused(step.fault, node.index), walk);
-        }
-        let now = step.seen;
-        if off_boundary(def, node, now, is_last) {
-            return refused_pass(Refusal::LabelOffBoundary(node.index), walk);
-        }
-        merged = larger(merged, node_state(def, node, now, step, is_first));
-        let after = step.after;
-        walk.at[bank as usize] = after;
-        walk.bank = bank;
-        i += 1;
-        if step.skipped.bits == 0 {
-            continue;
-        }
-        let lost = lost_after(walk.lost[bank as usize], step.skipped);
-        walk.lost[bank as usize] = lost;
-    }
-    Passed {
-        pass: Pass::State(merged),
-        walk,
-    }
-}
-
-// A pass over a row that the pass before reads too, or pass 1: its walk begins at the start.
-pub fn pass_alone(
-    banks: Bankdefs,
-    kinds: &[u8],
-    operands: &[u32],
-    first: &[u32],
-    numbers: &[u32],
-    states: &[u8],
-    is_first: bool,
-    is_last: bool,
-) -> Pass
-    requires { ⌜ Switches (banks .len) (now kinds) (now operands) ⌝ }
-    ensures { λ r. ⌜ r ≡ passOf (programWith banks (now (kinds .entry)) (now (operands .entry)) (now (first .entry)))
-        (rowWith (now (numbers .entry)) (now (states .entry)))
-        (rowWith (now (numbers .entry)) (now (states .entry)))
-        «is_first» «is_last» ⌝ }
-{
-    let passed = walk_alone(
-        banks,
-        kinds,
-        operands,
-        first,
-        numbers,
-        states,
-        start(),
-        is_first,
-        is_last,
-    );
-    let pass = passed.pass;
-    pass
-}
-
-// Whether neither of two steps skips any bits.
-fn skip_nothing(step: Paced, other: Paced) -> bool
-    ensures { λ r. ⌜ (r ≡ true → (step .skipped .bits ≡ 0) × (other .skipped .bits ≡ 0)) ⌝ }
-{
-    step.skipped.bits == 0 && other.skipped.bits == 0
-}
-
-// The walk of a pass beside the walk of the pass before, which reads another row: two walks side by side, in one bank after another.
-fn walk_beside(
-    banks: Bankdefs,
-    kinds: &[u8],
-    operands: &[u32],
-    first: &[u32],
-    numbers: &[u32],
-    states: &[u8],
-    begun: Walk,
     before_numbers: &[u32],
     before_states: &[u8],
-    begun_before: Walk,
+    begun: TwoWalks,
+    alone: bool,
+    is_first: bool,
     is_last: bool,
 ) -> Passed
     requires { ⌜ Switches (banks .len) (now kinds) (now operands) ⌝ }
-    requires { ⌜ (begun ≡ startOf) × («begun_before» ≡ startOf) ⌝ }
+    requires { ⌜ begun ≡ bothStart ⌝ }
+    requires { ⌜ (alone ≡ true → rowWith (now «before_numbers») (now «before_states») ≡ rowWith (now numbers) (now states)) ⌝ }
     ensures pass { λ r. ⌜ r .pass ≡ passOf (programWith banks (now (kinds .entry)) (now (operands .entry)) (now (first .entry)))
         (rowWith (now (numbers .entry)) (now (states .entry)))
         (rowWith (now («before_numbers» .entry)) (now («before_states» .entry)))
-        false «is_last» ⌝ }
+        «is_first» «is_last» ⌝ }
     ensures walk { λ r. ⌜ ((merged : ℕ) → r .pass ≡ State merged
-        → r .walk ≡ walkTo (programWith banks (now (kinds .entry)) (now (operands .entry)) (now (first .entry)))
-        (rowWith (now (numbers .entry)) (now (states .entry))) (length (now (kinds .entry)))) ⌝ }
+        → walkTo (programWith banks (now (kinds .entry)) (now (operands .entry)) (now (first .entry)))
+        (rowWith (now (numbers .entry)) (now (states .entry))) (length (now (kinds .entry))) .at ≡ r .walks .at) ⌝ }
 {
-    let mut walk = begun;
-    let mut old = begun_before;
-    let mut merged: u8 = 0;
-    let mut i = 0;
-    while i < kinds.len() {
+    let mut walks = begun;
+    let mut bank: u64 = 0;
+    let mut merged: u8 = RESOLVED;
+    for i in 0..kinds.len() {
         let node = node_at(kinds, operands, first, numbers, states, i);
-        let bank = bank_after(walk.bank, node);
+        bank = bank_after(bank, node);
         let def = banks.defs[bank as usize];
-        let step = pace(def, walk.at[bank as usize], node);
+        let step = pace(def, walks.at[bank as usize], node);
         if step.fault != MADE {
-            return refused_pass(why_refused(step.fault, node.index), walk);
+            return refused_pass(why_refused(step.fault, node.index), walks);
         }
         let now = step.seen;
         if off_boundary(def, node, now, is_last) {
-            return refused_pass(Refusal::LabelOffBoundary(node.index), walk);
+            return refused_pass(Refusal::LabelOffBoundary(node.index), walks);
+        }
+        let after = step.after;
+        walks.at[bank as usize] = after;
+        if alone {
+            merged = larger(merged, node_state(def, node, now, step, is_first));
+            continue;
         }
         let node_before = node_at(kinds, operands, first, before_numbers, before_states, i);
-        let before = pace(def, old.at[bank as usize], node_before);
-        merged = larger(merged, node_state(def, node, now, before, false));
-        let after = step.after;
-        walk.at[bank as usize] = after;
-        walk.bank = bank;
+        let before = pace(def, walks.old[bank as usize], node_before);
+        merged = larger(merged, node_state(def, node, now, before, is_first));
         let after_before = before.after;
-        old.at[bank as usize] = after_before;
-        old.bank = bank;
-        i += 1;
-        if skip_nothing(step, before) {
-            continue;
-        }
-        let lost = lost_after(walk.lost[bank as usize], step.skipped);
-        walk.lost[bank as usize] = lost;
-        let lost_before = lost_after(old.lost[bank as usize], before.skipped);
-        old.lost[bank as usize] = lost_before;
+        walks.old[bank as usize] = after_before;
     }
     Passed {
         pass: Pass::State(merged),
-        walk,
+        walks,
     }
 }
 
-// A pass beside the walk of the pass before, which reads another row. Both walks begin at the start.
-pub fn pass_beside(
+// The row that a pass is held against: its own, or the one ahead of it.
+fn row_against(row: u64, alone: bool) -> u64
+    ensures { λ r. ⌜ r ≡ rowAgainst row alone ⌝ }
+{
+    if alone {
+        return row;
+    }
+    if row == 0 {
+        return 0;
+    }
+    row - 1
+}
+
+// A pass over row `row`, held against the row that the pass before read: its own (`alone`), as pass 1 is, which has none before it; or the one ahead of it.
+// What the loop reads is cut to the number of nodes, so that it need not be asked at each of them whether it ends there.
+pub fn resolve_once(
     banks: Bankdefs,
     kinds: &[u8],
     operands: &[u32],
-    first: &[u32],
     numbers: &[u32],
     states: &[u8],
-    before_numbers: &[u32],
-    before_states: &[u8],
+    row: u64,
+    alone: bool,
+    is_first: bool,
     is_last: bool,
 ) -> Pass
     requires { ⌜ Switches (banks .len) (now kinds) (now operands) ⌝ }
-    ensures { λ r. ⌜ r ≡ passOf (programWith banks (now (kinds .entry)) (now (operands .entry)) (now (first .entry)))
-        (rowWith (now (numbers .entry)) (now (states .entry)))
-        (rowWith (now («before_numbers» .entry)) (now («before_states» .entry)))
-        false «is_last» ⌝ }
+    requires { ⌜ HasRow (now kinds) (now operands) (now numbers) (now states) row ⌝ }
+    ensures { λ r. ⌜ r ≡ passOver banks (now (kinds .entry)) (now (operands .entry)) (now (numbers .entry)) (now (states .entry))
+        row (rowAgainst row alone) «is_first» «is_last» ⌝ }
 {
-    let passed = walk_beside(
+    let count = kinds.len();
+    let against = row_against(row, alone);
+    let a = (row as usize) * count;
+    let e = a + count;
+    let b = (against as usize) * count;
+    let f = b + count;
+    let passed = walk_rows(
         banks,
         kinds,
-        operands,
-        first,
-        numbers,
-        states,
-        start(),
-        before_numbers,
-        before_states,
-        start(),
+        &operands[0..count],
+        &numbers[0..count],
+        &numbers[a..e],
+        &states[a..e],
+        &numbers[b..f],
+        &states[b..f],
+        both_start(),
+        alone,
+        is_first,
         is_last,
     );
     let pass = passed.pass;

@@ -3,27 +3,26 @@ use crate::Choices;
 use crate::Pass;
 use crate::Resolution;
 use crate::Settled;
-use crate::once::pass_alone;
-use crate::once::pass_beside;
+use crate::once::resolve_once;
 use bankdef::Bankdefs;
 use bankdef::check;
 use lists::check_lists;
 use refusal::RESOLVED;
 use refusal::Refusal;
 use refusal::STABLE;
+use refusal::UNRESOLVED;
 use refusal::Verdict;
 ghost use mathlib.Core.Path.{_≡_};
 ghost use mathlib.Core.Bool.{true, false};
 ghost use mathlib.Core.List.{[]};
 ghost use Prim.Native.Nat.{_+_, _-_, _<_, _≤_, min};
-ghost use lib.ListN.{length};
 ghost use Rattle.resolver.specs.Layout.{layoutOf};
-ghost use Rattle.lists.specs.Lists.{lists, Rows};
+ghost use Rattle.lists.specs.Lists.{lists};
 ghost use Rattle.resolver.specs.Figures.{Figures};
 ghost use Rattle.resolver.specs.OneWalk.{inDoubt};
 ghost use Rattle.resolver.specs.Passes.{passAt, lastOf, resolutionOf};
 ghost use Rattle.resolver.specs.declared.Pass.the-variants.{State};
-ghost use Rattle.resolver.specs.Switches.{Switches};
+ghost use Rattle.resolver.specs.Switches.{Ready};
 
 // "Pass n reads row n, or the last row if there are fewer." Rows are counted from 0 and passes from 1.
 fn row_of_pass(rows: u64, n: u64) -> u64
@@ -62,27 +61,22 @@ fn pass_at(
     n: u64,
     is_last: bool,
 ) -> Pass
-    requires { ⌜ Rows (length (now kinds)) rows (now numbers) (now states) ⌝ }
-    requires { ⌜ Switches (banks .len) (now kinds) (now operands) ⌝ }
+    requires { ⌜ Ready (banks .len) (lists (now kinds) (now operands) (now numbers) (now states) rows []) ⌝ }
     requires { ⌜ 1 ≤ n ⌝ }
     ensures { λ r. ⌜ r ≡ passAt banks (lists (now (kinds .entry)) (now (operands .entry)) (now (numbers .entry)) (now (states .entry)) rows []) n «is_last» ⌝ }
 {
-    let count = kinds.len();
     let row = row_of_pass(rows, n);
     let row_before = row_of_pass(rows, n - 1);
-    let a = (row as usize) * count;
-    let e = a + count;
-    let first = &numbers[0..count];
-    let its_numbers = &numbers[a..e];
-    let its_states = &states[a..e];
-    let alone = pass_alone(
+    let is_first = n == 1;
+    let alone = resolve_once(
         banks,
         kinds,
         operands,
-        first,
-        its_numbers,
-        its_states,
-        n == 1,
+        numbers,
+        states,
+        row,
+        true,
+        is_first,
         is_last,
     );
     if row == row_before {
@@ -91,17 +85,15 @@ fn pass_at(
     if !in_doubt(alone) {
         return alone;
     }
-    let b = (row_before as usize) * count;
-    let f = b + count;
-    pass_beside(
+    resolve_once(
         banks,
         kinds,
         operands,
-        first,
-        its_numbers,
-        its_states,
-        &numbers[b..f],
-        &states[b..f],
+        numbers,
+        states,
+        row,
+        false,
+        is_first,
         is_last,
     )
 }
@@ -116,7 +108,7 @@ fn settle(k: u64, last: Pass, passes: u64) -> Resolution
             passes,
         },
         Pass::State(state) => {
-            if state == 2 {
+            if state == UNRESOLVED {
                 Resolution {
                     settled: Settled::Refused(Refusal::Unresolved),
                     passes,
@@ -142,8 +134,7 @@ fn last_pass(
     k: u64,
     n: u64,
 ) -> Resolution
-    requires { ⌜ Rows (length (now kinds)) rows (now numbers) (now states) ⌝ }
-    requires { ⌜ Switches (banks .len) (now kinds) (now operands) ⌝ }
+    requires { ⌜ Ready (banks .len) (lists (now kinds) (now operands) (now numbers) (now states) rows []) ⌝ }
     requires { ⌜ 1 ≤ n ⌝ }
     ensures { λ r. ⌜ r ≡ record {
       settled = lastOf k (passAt banks
@@ -168,8 +159,7 @@ fn pass_after(
     k: u64,
     state: u8,
 ) -> Resolution
-    requires { ⌜ Rows (length (now kinds)) rows (now numbers) (now states) ⌝ }
-    requires { ⌜ Switches (banks .len) (now kinds) (now operands) ⌝ }
+    requires { ⌜ Ready (banks .len) (lists (now kinds) (now operands) (now numbers) (now states) rows []) ⌝ }
     requires { ⌜ (1 ≤ k) × (k < 256) ⌝ }
     requires { ⌜ passAt banks (lists (now kinds) (now operands) (now numbers) (now states) rows []) k false ≡ State state ⌝ }
     ensures { λ r. ⌜ r ≡ record {
@@ -180,13 +170,11 @@ fn pass_after(
     } ⌝ }
 {
     let next = k + 1;
-    if state == RESOLVED {
-        if rows <= k {
-            return Resolution {
-                settled: Settled::At(k),
-                passes: next,
-            };
-        }
+    if state == RESOLVED && rows <= k {
+        return Resolution {
+            settled: Settled::At(k),
+            passes: next,
+        };
     }
     last_pass(banks, kinds, operands, numbers, states, rows, k, next)
 }
@@ -202,8 +190,7 @@ fn resolve_iteratively(
     rows: u64,
     limit: u8,
 ) -> Resolution
-    requires { ⌜ Rows (length (now kinds)) rows (now numbers) (now states) ⌝ }
-    requires { ⌜ Switches (banks .len) (now kinds) (now operands) ⌝ }
+    requires { ⌜ Ready (banks .len) (lists (now kinds) (now operands) (now numbers) (now states) rows []) ⌝ }
     ensures { λ r. ⌜ r ≡ resolutionOf banks (lists (now (kinds .entry)) (now (operands .entry)) (now (numbers .entry)) (now (states .entry)) rows []) limit ⌝ }
 {
     let m = limit as u64;
@@ -213,8 +200,7 @@ fn resolve_iteratively(
     // Passes past the rows need not be walked. "Pass n reads row n, or the last row if there are fewer": pass rows + 1 and each one behind it read the
     // last row, and so does the pass before each, so that they all come to the same. Where pass rows + 1 is unresolved, so is every pass up to the limit.
     let enough = rows + 2;
-    let mut n: u64 = 1;
-    while n < m {
+    for n in 1..m {
         if n == enough {
             return last_pass(banks, kinds, operands, numbers, states, rows, m, m);
         }
@@ -226,12 +212,11 @@ fn resolve_iteratively(
                 };
             }
             Pass::State(state) => {
-                if state != 2 {
+                if state != UNRESOLVED {
                     return pass_after(banks, kinds, operands, numbers, states, rows, n, state);
                 }
             }
         }
-        n += 1;
     }
     last_pass(banks, kinds, operands, numbers, states, rows, m, m)
 }

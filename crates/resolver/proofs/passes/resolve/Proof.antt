@@ -1,6 +1,8 @@
 -- The banks' verdict, the lists' verdict, and the passes, which the accepted lists make sound.
+use mathlib.Core.Path.{sym, _∙_}
 use Rattle.lists.specs.Lists.{Lists, lists}
-use Rattle.resolver.proofs.Accepted.{accepted-rows, banks-refused, lists-refused, both-accepted, layout-told}
+use Rattle.lists.specs.Theorems.Sound.{accepted-lists}
+use Rattle.resolver.proofs.Accepted.{banks-refused, lists-refused, both-accepted, layout-told}
 use borrow.Author.Needs.{needs}
 use Rattle.resolver.specs.Theorems.Switches.{accepted-switches}
 use Rattle.resolver.proofs.passes.resolve.Statement.{statement}
@@ -39,10 +41,13 @@ resolve-iteratively-requires c κs =
     let a = s .args in
     let l = c .before .before .check-lists .ensures .0 in
     let t = c .before .before .before .before .before .check .ensures .0 in
-    let passed = c .before .before .before .enum-told .given .1 in (
-      accepted-rows (a .banks .len) (given s) (a .choices .fill) l (c .enum-told2 .given .1),
-      accepted-switches (a .banks) (given s) (a .choices .fill) t passed l (c .enum-told2 .given .1),
-    )
+    let passed = c .before .before .before .enum-told .given .1 in
+    let sound = accepted-lists (a .banks .len) (given s) (a .choices .fill) (sym l ∙ c .enum-told2 .given .1) in
+    record {
+      paired = sound .operands;
+      rowed = sound .rows;
+      banked = accepted-switches (a .banks) (given s) (a .choices .fill) t passed l (c .enum-told2 .given .1);
+    }
 
 returns : tie.Need-returns
 returns c = let s = c .before .before .before .before .before .before .before .before .before .before in

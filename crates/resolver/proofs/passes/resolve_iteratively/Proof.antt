@@ -28,38 +28,32 @@ abbrev passes : tie.Start Inv-loop μ-loop → ℕ → Bool → Pass
 passes s = passAt (s .args .banks) (given s)
 
 last-pass-requires : tie.Need-last-pass-requires Inv-loop μ-loop
-last-pass-requires c κs = let h = c .before .before .before .before .before .pre in (h .0, (h .1, search needs))
+last-pass-requires c κs = (c .before .before .before .before .before .pre, search needs)
 
 returns : tie.Need-returns Inv-loop μ-loop
 returns c = let s = c .before .before .before .before .before .before in no-limit (passes s) (s .args .limit) (c .before .if1 .taken) (c .last-pass .ensures)
 
 add-enough : tie.Need-add-enough Inv-loop μ-loop
-add-enough c = omega (arith, c .before .before .before .before .before .pre .0 .few)
+add-enough c = omega (arith, c .before .before .before .before .before .pre .rowed .few)
 
 loop-holds : tie.Need-loop-holds Inv-loop μ-loop
 loop-holds c = let s = c .before .before .before .before .before in (search needs, omega (arith, c .if1 .left), omega arith, none-yet (passes s))
 
 -- past the rows one unresolved pass stands for all
 last-pass-requires-2 : tie.Need-last-pass-requires-2 Inv-loop μ-loop
-last-pass-requires-2 c κs = let h = c .before .before .before .before .before .before .before .before .pre in (
-  h .0,
-  (
-    h .1,
-    omega
-        (arith, c .before .before .before .if1 .left),
-  ),
-)
+last-pass-requires-2 c κs =
+    (c .before .before .before .before .before .before .before .before .pre, omega (arith, c .before .before .before .if1 .left))
 
 returns-2 : tie.Need-returns-2 Inv-loop μ-loop
 returns-2 c =
     let s = c .before .before .before .before .before .before .before .before .before in
     let l = c .before .before .before .loop in
     limit-pass (passes s) (s .args .limit) (s .args .rows) (l .n) (c .before .before .before .before .if1 .left)
-    (λ p. λ h. repeats (s .args .banks) (given s) p false (s .pre .0 .some) h)
+    (λ p. λ h. repeats (s .args .banks) (given s) p false (s .pre .rowed .some) h)
     (omega (arith, c .before .before .loop-test .taken, c .before .if2 .taken)) (l .inv .3) (c .last-pass2 .ensures)
 
 pass-at-requires : tie.Need-pass-at-requires Inv-loop μ-loop
-pass-at-requires c κs = let h = c .before .before .before .before .before .before .before .before .pre in (h .0, (h .1, c .before .before .loop .inv .0))
+pass-at-requires c κs = (c .before .before .before .before .before .before .before .before .pre, c .before .before .loop .inv .0)
 
 enum-known-why : tie.Need-enum-known-why Inv-loop μ-loop
 enum-known-why c = search needs
@@ -79,7 +73,7 @@ pass-after-requires c κs =
     let s = c .before .before .before .before .before .before .before .before .before .before .before .before .before in
     let l = c .before .before .before .before .before .before .before .loop in
     let few : l .n < 256 = omega (arith, c .before .before .before .before .before .before .loop-test .taken, s .fits .limit) in
-    (s .pre .0, (s .pre .1, ((l .inv .0, few), sym (c .before .before .before .before .pass-at .ensures) ∙ c .before .before .state .given .1)))
+    (s .pre, ((l .inv .0, few), sym (c .before .before .before .before .pass-at .ensures) ∙ c .before .before .state .given .1))
 
 returns-4 : tie.Need-returns-4 Inv-loop μ-loop
 returns-4 c =
@@ -113,21 +107,15 @@ loop-again c =
     )
 
 last-pass-requires-3 : tie.Need-last-pass-requires-3 Inv-loop μ-loop
-last-pass-requires-3 c κs = let h = c .before .before .before .before .before .before .before .pre in (
-  h .0,
-  (
-    h .1,
-    omega
-        (arith, c .before .before .if1 .left),
-  ),
-)
+last-pass-requires-3 c κs =
+    (c .before .before .before .before .before .before .before .pre, omega (arith, c .before .before .if1 .left))
 
 returns-5 : tie.Need-returns-5 Inv-loop μ-loop
 returns-5 c =
     let s = c .before .before .before .before .before .before .before .before in
     let l = c .before .before .loop in
     limit-pass (passes s) (s .args .limit) (s .args .rows) (l .n) (c .before .before .before .if1 .left)
-    (λ p. λ h. repeats (s .args .banks) (given s) p false (s .pre .0 .some) h)
+    (λ p. λ h. repeats (s .args .banks) (given s) p false (s .pre .rowed .some) h)
     (omega (arith, c .before .loop-test .left, l .inv .1, l .inv .2)) (l .inv .3) (c .last-pass3 .ensures)
 
 pub resolve-iteratively-spec : {M : Type 1} → statement M
