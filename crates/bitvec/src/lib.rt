@@ -51,10 +51,8 @@ fn ends_within(len: u64, at: u64, size: u64) -> bool
 pub fn clear(image: &mut [u8])
     ensures { λ _. ⌜ Clears (now (image .entry)) (now (image .exit)) ⌝ }
 {
-    let mut i = 0;
-    while i < image.len() {
+    for i in 0..image.len() {
         image[i] = 0;
-        i += 1;
     }
 }
 
@@ -102,10 +100,8 @@ fn copy_bytes(image: &mut [u8], j: usize, values: &[u8], k: usize, count: usize)
     requires { ⌜ (j + count ≤ length (now image)) × (k + count ≤ length (now values)) ⌝ }
     ensures { λ _. ⌜ now (image .exit) ≡ written (now (image .entry)) (8 * j) (now (values .entry)) (8 * k) (8 * count) ⌝ }
 {
-    let mut i = 0;
-    while i < count {
+    for i in 0..count {
         image[j + i] = values[k + i];
-        i += 1;
     }
 }
 
@@ -115,10 +111,8 @@ fn shift_bytes(image: &mut [u8], j: usize, values: &[u8], k: usize, s: u64, coun
     requires { ⌜ (0 < s) × (s < 8) × (j + count ≤ length (now image)) × (8 * k + s + 8 * count ≤ 8 * length (now values)) ⌝ }
     ensures { λ _. ⌜ now (image .exit) ≡ written (now (image .entry)) (8 * j) (now (values .entry)) (8 * k + s) (8 * count) ⌝ }
 {
-    let mut i = 0;
-    while i < count {
+    for i in 0..count {
         image[j + i] = (values[k + i] << s) + (values[k + i + 1] >> (8 - s));
-        i += 1;
     }
 }
 
@@ -171,19 +165,19 @@ fn write_item(image: &mut [u8], j: usize, at: u64, values: &[u8], k: usize, s: u
 pub fn write_bits(image: &mut [u8], position: u64, values: &[u8], start: u64, size: u64) -> Verdict
     ensures { λ r. ⌜ Writes (now (image .entry)) position (now (values .entry)) start size r (now (image .exit)) ⌝ }
 {
-    if ends_within(image.len() as u64, position, size) {
-        if ends_within(values.len() as u64, start, size) {
-            write_item(
-                image,
-                (position / 8) as usize,
-                position % 8,
-                values,
-                (start / 8) as usize,
-                start % 8,
-                size,
-            );
-            return Verdict::Accepted;
-        }
+    if ends_within(image.len() as u64, position, size)
+        && ends_within(values.len() as u64, start, size)
+    {
+        write_item(
+            image,
+            (position / 8) as usize,
+            position % 8,
+            values,
+            (start / 8) as usize,
+            start % 8,
+            size,
+        );
+        return Verdict::Accepted;
     }
     Verdict::Refused(Refusal::Malformed(0))
 }
@@ -207,10 +201,8 @@ fn fill_bytes(image: &mut [u8], j: usize, k: usize)
     requires { ⌜ (j ≤ k) × (k ≤ length (now image)) ⌝ }
     ensures { λ _. ⌜ now (image .exit) ≡ withOnes (now (image .entry)) (8 * j) (8 * k) ⌝ }
 {
-    let mut i = j;
-    while i < k {
+    for i in j..k {
         image[i] = 255;
-        i += 1;
     }
 }
 
@@ -263,12 +255,10 @@ pub fn any_one(image: &[u8], from: u64, end: u64) -> bool
     ensures { λ r. ⌜ AnyOne (now (image .entry)) from end r ⌝ }
 {
     let stop = last_bit(image.len() as u64, end);
-    let mut i = from;
-    while i < stop {
+    for i in from..stop {
         if bits_from(image, (i / 8) as usize, i % 8, 1) == 1 {
             return true;
         }
-        i += 1;
     }
     false
 }
@@ -328,12 +318,10 @@ fn write_pairs(bytes: &[u8], bits: u64, hex: &mut [u8])
     ensures { λ _. ⌜ now (hex .exit) ≡ listOf (2 * (bits / 8)) (digitAt (now (bytes .entry)) bits) ++ drop (2 * (bits / 8)) (now (hex .entry)) ⌝ }
 {
     let count = (bits / 8) as usize;
-    let mut i = 0;
-    while i < count {
+    for i in 0..count {
         let byte = bytes[i];
         hex[2 * i] = digit(byte / 16);
         hex[2 * i + 1] = digit(byte % 16);
-        i += 1;
     }
 }
 

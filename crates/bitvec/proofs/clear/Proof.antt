@@ -15,10 +15,10 @@ filled : (d e : List ℕ) (i : ℕ) → e ≡ replicate i 0 ++ drop i d → i �
 filled d e i h l = h ∙ rw (l, drop-length) (append-nil (replicate (length d) 0))
 
 abbrev Inv-loop : tie.InvT-loop
-Inv-loop image₀ i₀ image i = (i ≤ length image₀) × (length image ≡ length image₀) × (image ≡ replicate i 0 ++ drop i image₀)
+Inv-loop image₀ i₀ i-end image i = (i ≤ length image₀) × (length image ≡ length image₀) × (image ≡ replicate i 0 ++ drop i image₀)
 
 abbrev μ-loop : tie.MeasureT-loop
-μ-loop image₀ i₀ image i = length image₀ - i
+μ-loop image₀ i₀ i-end image i = length image₀ - i
 
 loop-again : tie.Need-loop-again Inv-loop μ-loop
 loop-again c =

@@ -1,5 +1,6 @@
 -- `bitvec::write_bits` tests both ends, and writes the item at the byte and the bit that its position and start give.
 use Prim.Native.Nat.{_+_, _*_, _/_, _%_}
+use mathlib.Core.Logic.{⊎-elim}
 use mathlib.Core.Path.{_≡_, sym, _∙_}
 use native.Mathlib.Omega.{arith}
 use lib.ListN.{length}
@@ -29,18 +30,13 @@ returns c =
 
 returns-2 : tie.Need-returns-2
 returns-2 c =
-    let a = c .before .before .before .before .before .before .args in
-    refused (a .image .now) (a .position) (a .values .now) (a .start) (a .size)
-    (rw (sym (c .before .before .before .ends-within .ensures) ∙ c .before .before .if1 .taken, sym (c .before .ends-within2 .ensures) ∙ c .if2 .left))
-
-returns-3 : tie.Need-returns-3
-returns-3 c =
     let a = c .before .before .before .before .args in
+    let first = sym (c .before .ends-within .ensures) in
     refused (a .image .now) (a .position) (a .values .now) (a .start) (a .size)
-    (rw (sym (c .before .ends-within .ensures) ∙ c .if1 .left))
+    (⊎-elim (λ w. rw (first ∙ w .0 .taken, sym (w .1 .ensures) ∙ w .2 .left)) (λ w. rw (first ∙ w .left)) (c .if1 .came))
 
 pub write-bits-spec : {M : Type 1} → statement M
 write-bits-spec =
     tie.close
     (tie.spec
-    (λ c κs. search needs) (λ c κs. search needs) write-item-requires (λ c. search needs) returns returns-2 returns-3)
+    (λ c κs. search needs) (λ c κs. search needs) write-item-requires (λ c. search needs) returns returns-2)
