@@ -6,15 +6,12 @@ use Rattle.record_reason.proofs.spelling.end_type.Statement.{statement}
 use Rattle.record_reason.proofs.spelling.end_type.Tie as tie
 
 returns : tie.Need-returns
-returns c =
-    let does-agree′ = c .before .before .does-agree in
-    rw (c .made .ensures, sym (does-agree′ .ensures) ∙ not-true _ (c .before .if1 .taken))
+returns c = rw (c .made .ensures, sym (c .before .before .does-agree .ensures) ∙ not-true _ (c .before .if1 .taken))
 
 returns-2 : tie.Need-returns-2
 returns-2 c =
-    let does-agree′ = c .before .before .before .does-agree in
-    let if1′ = c .before .before .if1 in
-    rw (c .made2 .ensures, c .before .byte .ensures .0, sym (does-agree′ .ensures) ∙ not-false _ (if1′ .left))
+    let i = c .before .before in
+    rw (c .made2 .ensures, c .before .byte .ensures .0, sym (i .before .does-agree .ensures) ∙ not-false _ (i .if1 .left))
 
 pub end-type-spec : {M : Type 1} → statement M
 end-type-spec =
