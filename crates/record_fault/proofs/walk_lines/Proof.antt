@@ -124,6 +124,6 @@ pub walk-lines-spec : {M : Type 1} → statement M
 walk-lines-spec =
     tie.close
     (tie.spec
-    Inv-loop μ-loop (λ c κs. search needs) loop-holds take-line-requires add-walked (λ c κs. search needs) returns (λ c κs. search needs) may-stand-requires (λ c. search needs)
-    (λ c. search needs) (λ c κs. search needs) returns-2 (λ c κs. search needs) (λ c κs. search needs) (λ c κs. search needs) (λ c κs. search needs) add-parts
-    (λ c κs. search needs) add-n loop-less loop-again (λ c κs. search needs) returns-3)
+    Inv-loop μ-loop (λ c κs. search needs) loop-holds take-line-requires add-walked (λ c κs. search needs) returns (λ c κs. search needs) may-stand-requires
+    (λ c. search needs) (λ c. search needs) (λ c κs. search needs) returns-2 (λ c κs. search needs) (λ c κs. search needs) (λ c κs. search needs)
+    (λ c κs. search needs) add-parts (λ c κs. search needs) add-n loop-less loop-again (λ c κs. search needs) returns-3)
