@@ -26,86 +26,23 @@ loop-holds c =
           (writes-none (a .out .now) (a .at)),
     )
 
-shared-slice-read-write-node : tie.Need-shared-slice-read-write-node Inv-loop μ-loop
-shared-slice-read-write-node c =
-    let start = c .before .before .before .before .before .before .before .before .before .before in
-    omega (arith, c .before .before .loop-test .taken, start .pre .0 .1)
-
-mul-write-node : tie.Need-mul-write-node Inv-loop μ-loop
-mul-write-node c =
-    let start = c .before .before .before .before .before .before .before .before .before .before in
-    record { fits = omega (arith, c .before .before .loop-test .taken, start .pre .0 .0) }
-
-shared-slice-read-write-node-2 : tie.Need-shared-slice-read-write-node-2 Inv-loop μ-loop
-shared-slice-read-write-node-2 c =
-    let at-in-loop = c .before .before .before in
-    let start = at-in-loop .before .before .before .before .before .before .before .before in
-    omega (arith, at-in-loop .loop-test .taken, start .pre .1 .0 .0)
-
-mul-write-node-2 : tie.Need-mul-write-node-2 Inv-loop μ-loop
-mul-write-node-2 c =
-    let at-in-loop = c .before .before .before in
-    let start = at-in-loop .before .before .before .before .before .before .before .before in
-    record { fits = omega (arith, at-in-loop .loop-test .taken, start .pre .0 .0) }
-
-shared-slice-read-write-node-3 : tie.Need-shared-slice-read-write-node-3 Inv-loop μ-loop
-shared-slice-read-write-node-3 c =
-    let at-in-loop = c .before .before .before .before in
-    let start = at-in-loop .before .before .before .before .before .before .before .before in
-    omega (arith, at-in-loop .loop-test .taken, start .pre .1 .0 .1)
-
-mul-write-node-3 : tie.Need-mul-write-node-3 Inv-loop μ-loop
-mul-write-node-3 c =
-    let at-in-loop = c .before .before .before .before in
-    let start = at-in-loop .before .before .before .before .before .before .before .before in
-    record { fits = omega (arith, at-in-loop .loop-test .taken, start .pre .0 .0) }
-
-shared-slice-read-write-node-4 : tie.Need-shared-slice-read-write-node-4 Inv-loop μ-loop
-shared-slice-read-write-node-4 c =
-    let at-in-loop = c .before .before .before .before .before in
-    let start = at-in-loop .before .before .before .before .before .before .before .before in
-    omega (arith, at-in-loop .loop-test .taken, start .pre .1 .0 .2)
-
-mul-write-node-4 : tie.Need-mul-write-node-4 Inv-loop μ-loop
-mul-write-node-4 c =
-    let at-in-loop = c .before .before .before .before .before in
-    let start = at-in-loop .before .before .before .before .before .before .before .before in
-    record { fits = omega (arith, at-in-loop .loop-test .taken, start .pre .0 .0) }
-
-shared-slice-read-write-node-5 : tie.Need-shared-slice-read-write-node-5 Inv-loop μ-loop
-shared-slice-read-write-node-5 c =
-    let at-in-loop = c .before .before .before .before .before .before in
-    let start = at-in-loop .before .before .before .before .before .before .before .before in
-    omega (arith, at-in-loop .loop-test .taken, start .pre .1 .0 .3)
+-- the start, seen from a turn
+abbrev start : tie.In-loop Inv-loop μ-loop → tie.Start Inv-loop μ-loop
+start i = i .before .before .before .before .before .before .before .before
 
 write-node-requires : tie.Need-write-node-requires Inv-loop μ-loop
 write-node-requires c κs =
-    let at-in-loop = c .before .before .before .before .before .before in
-    let at-loop = at-in-loop .before in
-    let start = at-loop .before .before .before .before .before .before .before in
-    let l = at-loop .loop in
-    omega (arith, l .inv .1, at-in-loop .loop-test .taken, start .pre .1 .1, writes-long (l .inv .2))
-
-add-i : tie.Need-add-i Inv-loop μ-loop
-add-i c =
-    let at-in-loop = c .before .before .before .before .before .before .before .before .before in
-    let start = at-in-loop .before .before .before .before .before .before .before .before in
-    record { fits = omega (arith, at-in-loop .loop-test .taken, start .pre .0 .0) }
-
-loop-less : tie.Need-loop-less Inv-loop μ-loop
-loop-less c =
-    let at-in-loop = c .before .before .before .before .before .before .before .before .before in
-    omega (arith, at-in-loop .loop-test .taken)
+    let i = c .before .before .before .before .before .before in
+    let l = i .before .loop in
+    omega (arith, l .inv .1, i .loop-test .taken, start i .pre .1 .1, writes-long (l .inv .2))
 
 loop-again : tie.Need-loop-again Inv-loop μ-loop
 loop-again c =
-    let at-in-loop = c .before .before .before .before .before .before .before .before .before in
-    let at-loop = at-in-loop .before in
-    let start = at-loop .before .before .before .before .before .before .before in
-    let a = start .args in
-    let l = at-loop .loop in
+    let i = c .before .before .before .before .before .before .before .before .before in
+    let a = start i .args in
+    let l = i .before .loop in
     let w = c .before .before .write-node .ensures in (
-      omega (arith, at-in-loop .loop-test .taken),
+      omega (arith, i .loop-test .taken),
       omega (arith, l .inv .1, w .1),
       written-as (sym (nodes-next (a .banks) (a .kinds .now) (a .banks-of .now) (a .positions .now) (a .outputs .now) (a .sizes .now) (l .i)))
           (writes-then (l .inv .2) (w .0)),
@@ -125,6 +62,19 @@ pub write-nodes-spec : {M : Type 1} → statement M
 write-nodes-spec =
     tie.close
     (tie.spec
-    Inv-loop μ-loop loop-holds shared-slice-read-write-node mul-write-node shared-slice-read-write-node-2 mul-write-node-2
-    shared-slice-read-write-node-3 mul-write-node-3 shared-slice-read-write-node-4 mul-write-node-4 shared-slice-read-write-node-5 write-node-requires
-    add-i loop-less loop-again (λ c. writes-long (c .before .loop .inv .2)) returns)
+    Inv-loop μ-loop loop-holds
+    (λ c. let i = c .before .before in omega (arith, i .loop-test .taken, start i .pre .0 .1))
+    (λ c. let i = c .before .before in record { fits = omega (arith, i .loop-test .taken, start i .pre .0 .0) })
+    (λ c. let i = c .before .before .before in omega (arith, i .loop-test .taken, start i .pre .1 .0 .0))
+    (λ c. let i = c .before .before .before in record { fits = omega (arith, i .loop-test .taken, start i .pre .0 .0) })
+    (λ c. let i = c .before .before .before .before in omega (arith, i .loop-test .taken, start i .pre .1 .0 .1))
+    (λ c. let i = c .before .before .before .before in record { fits = omega (arith, i .loop-test .taken, start i .pre .0 .0) })
+    (λ c. let i = c .before .before .before .before .before in omega (arith, i .loop-test .taken, start i .pre .1 .0 .2))
+    (λ c. let i = c .before .before .before .before .before in record { fits = omega (arith, i .loop-test .taken, start i .pre .0 .0) })
+    (λ c. let i = c .before .before .before .before .before .before in omega (arith, i .loop-test .taken, start i .pre .1 .0 .3))
+    write-node-requires
+    (λ c.
+    let i = c .before .before .before .before .before .before .before .before .before in
+    record { fits = omega (arith, i .loop-test .taken, start i .pre .0 .0) })
+    (λ c. omega (arith, c .before .before .before .before .before .before .before .before .before .loop-test .taken)) loop-again
+    (λ c. writes-long (c .before .loop .inv .2)) returns)
