@@ -18,11 +18,14 @@ use Rattle.build_plan.proofs.plan_walk.Statement.{statement}
 use Rattle.build_plan.proofs.plan_walk.Tie as tie
 
 abbrev Inv-loop : tie.InvT-loop
-Inv-loop kinds operands first numbers states closed fill banks positions₀ sizes₀ marks₀ stored₀ walk₀ sums₀ i₀ i-end positions sizes marks stored walk sums i =
-    Going (programWith banks kinds operands first) (rowWith numbers states) closed fill i walk (store positions sizes (stored .count) marks (stored .marks)) sums
+Inv-loop kinds operands first numbers states closed fill banks positions₀ sizes₀ marks₀ stored₀ walk₀ sums₀ i₀ i-end
+    positions sizes marks stored walk sums i =
+    Going (programWith banks kinds operands first) (rowWith numbers states) closed fill i walk
+    (store positions sizes (stored .count) marks (stored .marks)) sums
 
 abbrev μ-loop : tie.MeasureT-loop
-μ-loop kinds operands first numbers states closed fill banks positions₀ sizes₀ marks₀ stored₀ walk₀ sums₀ i₀ i-end positions sizes marks stored walk sums i =
+μ-loop kinds operands first numbers states closed fill banks positions₀ sizes₀ marks₀ stored₀ walk₀ sums₀ i₀ i-end
+    positions sizes marks stored walk sums i =
     length kinds - i
 
 -- ---- the places, each from the next
@@ -47,6 +50,9 @@ head c = c .before .before .before
 
 abbrev paced : Offering → tie.After-pace Inv-loop μ-loop
 paced c = c .before .before .before .before .before
+
+abbrev placing : Offering → tie.After-get-output-position Inv-loop μ-loop
+placing c = c .before .before .before .before
 
 abbrev banked : Offering → Banked
 banked c = paced c .before .before .before
@@ -86,11 +92,14 @@ never-accepted e = let z : _≡_ {A = ℕ} 0 1 = cc in omega arith
 loop-holds : tie.Need-loop-holds Inv-loop μ-loop
 loop-holds c =
     let s = c .before .before .before .before .before .before .before in
-    begins (programWith (s .args .t1) (s .args .kinds .now) (s .args .operands .now) (s .args .first .now)) (rowWith (s .args .numbers .now) (s .args .states .now))
-    (s .pre .1 .0) (s .args .closed) (s .args .fill) (s .pre .0 .0) (s .pre .1 .1) (c .before .none-stored .ensures) (c .no-sums .ensures)
+    let a = s .args in
+    begins (programWith (a .t1) (a .kinds .now) (a .operands .now) (a .first .now)) (rowWith (a .numbers .now) (a .states .now))
+    (s .pre .1 .0) (a .closed) (a .fill) (s .pre .0 .0) (s .pre .1 .1) (c .before .none-stored .ensures) (c .no-sums .ensures)
 
 place-paced-requires : tie.Need-place-paced-requires Inv-loop μ-loop
-place-paced-requires c κs = let o = c .before .before .before in (head (o .before .before .before .before) .loop .inv .sound, o .get-output-position .ensures .1)
+place-paced-requires c κs =
+    let o = c .before .before .before in
+    (head (o .before .before .before .before) .loop .inv .sound, o .get-output-position .ensures .1)
 
 -- a node that the walk stops at, or that is refused its place
 returns : tie.Need-returns Inv-loop μ-loop
@@ -99,8 +108,8 @@ returns c =
     let b = banked o in
     let why = c .before .before .verdict .given in (
       c .stopped .ensures
-          ∙ settles (head b .loop .inv) (paced-is-visit (comes b) _ _ (paced o .pace .ensures) (o .before .before .before .before .get-output-position .ensures .0)) (o .place-paced .ensures .0)
-          (why .0 .0) (b .before .before .loop-test .taken) (why .1),
+          ∙ settles (head b .loop .inv) (paced-is-visit (comes b) _ _ (paced o .pace .ensures) (placing o .get-output-position .ensures .0))
+          (o .place-paced .ensures .0) (why .0 .0) (b .before .before .loop-test .taken) (why .1),
       (rw (c .stopped .ensures) (omega arith), λ e. absurd (never-accepted (sym (ap (λ (x : Plan). x .verdict) (c .stopped .ensures)) ∙ e))),
     )
 
@@ -108,7 +117,7 @@ sums-after-requires : tie.Need-sums-after-requires Inv-loop μ-loop
 sums-after-requires c κs =
     let o = c .before .before in
     let h = head (banked o) in
-    (o .before .before .before .before .get-output-position .ensures .1, (h .loop .inv .low, omega (arith, h .loop .inv .few, h .loop .inv .within, few h)))
+    (placing o .get-output-position .ensures .1, (h .loop .inv .low, omega (arith, h .loop .inv .few, h .loop .inv .within, few h)))
 
 -- a node that skips nothing
 loop-again : tie.Need-loop-again Inv-loop μ-loop
@@ -116,8 +125,9 @@ loop-again c =
     let o = offered (c .before) in
     let b = banked o in
     let sums = c .before .before .before .sums-after .ensures in
-    goes-on (head b .loop .inv) (paced-is-visit (comes b) _ _ (paced o .pace .ensures) (o .before .before .before .before .get-output-position .ensures .0)) (o .place-paced .ensures .0)
-    (b .before .before .loop-test .taken) (c .before .before .before .before .enum-told .given .1) (paced-still (comes b) _ _ (paced o .pace .ensures) (c .if1 .taken))
+    goes-on (head b .loop .inv) (paced-is-visit (comes b) _ _ (paced o .pace .ensures) (placing o .get-output-position .ensures .0))
+    (o .place-paced .ensures .0) (b .before .before .loop-test .taken) (c .before .before .before .before .enum-told .given .1)
+    (paced-still (comes b) _ _ (paced o .pace .ensures) (c .if1 .taken))
     (o .place-paced .ensures .1) (sums .0) (sums .1 .0) (sums .1 .1)
 
 loop-again-2 : tie.Need-loop-again-2 Inv-loop μ-loop
@@ -125,8 +135,9 @@ loop-again-2 c =
     let o = offered (kept c) in
     let b = banked o in
     let sums = kept c .before .before .sums-after .ensures in
-    goes-on (head b .loop .inv) (paced-is-visit (comes b) _ _ (paced o .pace .ensures) (o .before .before .before .before .get-output-position .ensures .0)) (o .place-paced .ensures .0)
-    (b .before .before .loop-test .taken) (kept c .before .before .before .enum-told .given .1) (paced-next (comes b) _ _ (paced o .pace .ensures) (c .lost-after .ensures))
+    goes-on (head b .loop .inv) (paced-is-visit (comes b) _ _ (paced o .pace .ensures) (placing o .get-output-position .ensures .0))
+    (o .place-paced .ensures .0) (b .before .before .loop-test .taken) (kept c .before .before .before .enum-told .given .1)
+    (paced-next (comes b) _ _ (paced o .pace .ensures) (c .lost-after .ensures))
     (o .place-paced .ensures .1) (sums .0) (sums .1 .0) (sums .1 .1)
 
 returns-2 : tie.Need-returns-2 Inv-loop μ-loop
@@ -144,7 +155,8 @@ plan-walk-spec =
     (λ c. omega (arith, in-banks (comes c))) (λ c. omega (arith, in-banks (comes c)))
     (λ c. omega (arith, in-banks (comes (c .before)))) (λ c. omega (arith, in-banks (comes (c .before))))
     (λ c κs. search needs) (λ c κs. search needs) place-paced-requires (λ c. search needs) (λ c κs. search needs) returns (λ c. search needs)
-    sums-after-requires (λ c. omega (arith, in-banks (comes (banked (c .before .before .before .before))))) (λ c. omega (arith, in-banks (comes (banked (c .before .before .before .before)))))
+    sums-after-requires (λ c. omega (arith, in-banks (comes (banked (c .before .before .before .before)))))
+    (λ c. omega (arith, in-banks (comes (banked (c .before .before .before .before)))))
     (λ c. let b = banked (offered (c .before)) in omega (arith, b .before .before .loop-test .taken, few (head b)))
     (λ c. omega (arith, banked (offered (c .before)) .before .before .loop-test .taken)) loop-again
     (λ c. omega (arith, in-banks (comes (banked (offered (c .before)))))) (λ c. omega (arith, in-banks (comes (banked (offered (c .before))))))

@@ -15,7 +15,8 @@ use Rattle.build_write.proofs.write_walk.Tie as tie
 abbrev Inv-loop : tie.InvT-loop
 Inv-loop kinds operands first numbers states values image₀ addresses₀ offsets₀ sizes₀ banks walk₀ count₀ i₀ i-end
     image addresses offsets sizes walk count i =
-    Writing (programWith banks kinds operands first) (rowWith numbers states) values image₀ addresses₀ offsets₀ sizes₀ i walk count image addresses offsets sizes
+    Writing (programWith banks kinds operands first) (rowWith numbers states) values image₀ addresses₀ offsets₀ sizes₀ i walk count
+    image addresses offsets sizes
 
 abbrev μ-loop : tie.MeasureT-loop
 μ-loop kinds operands first numbers states values image₀ addresses₀ offsets₀ sizes₀ banks walk₀ count₀ i₀ i-end
@@ -88,13 +89,15 @@ write-item-requires : tie.Need-write-item-requires Inv-loop μ-loop
 write-item-requires c κs =
     let g = c .before .before .before in
     let b = banked g in
-    item-fits (head b .loop .inv) (paced-is-visit (comes b) _ _ (g .pace .ensures) (c .before .get-output-position .ensures .0)) (b .before .before .loop-test .taken)
+    item-fits (head b .loop .inv) (paced-is-visit (comes b) _ _ (g .pace .ensures) (c .before .get-output-position .ensures .0))
+    (b .before .before .loop-test .taken)
 
 put-span-requires : tie.Need-put-span-requires Inv-loop μ-loop
 put-span-requires c κs =
     let g = c .before .before .before .before .before .before .before .before .before in
     let b = banked g in
-    spans-fit (head b .loop .inv) (paced-is-visit (comes b) _ _ (g .pace .ensures) (c .before .before .before .before .before .before .before .get-output-position .ensures .0)) (b .before .before .loop-test .taken)
+    let o = c .before .before .before .before .before .before .before in
+    spans-fit (head b .loop .inv) (paced-is-visit (comes b) _ _ (g .pace .ensures) (o .get-output-position .ensures .0)) (b .before .before .loop-test .taken)
 
 -- a node that skips nothing
 loop-again : tie.Need-loop-again Inv-loop μ-loop
@@ -102,8 +105,9 @@ loop-again c =
     let n = spanned (c .before) in
     let g = paced n in
     let b = banked g in
+    let o = n .before .before .before .before .before .before .before .before in
     let put = n .put-span .ensures in
-    goes-on (head b .loop .inv) (paced-is-visit (comes b) _ _ (g .pace .ensures) (n .before .before .before .before .before .before .before .before .get-output-position .ensures .0)) (b .before .before .loop-test .taken)
+    goes-on (head b .loop .inv) (paced-is-visit (comes b) _ _ (g .pace .ensures) (o .get-output-position .ensures .0)) (b .before .before .loop-test .taken)
     (paced-still (comes b) _ _ (g .pace .ensures) (c .if1 .taken)) (n .before .before .before .before .before .before .write-item .ensures) (put .0)
     (rw (paced-position _ _ _ (g .pace .ensures)) (put .1 .0)) (put .1 .1 .0) (put .1 .1 .1)
 
@@ -112,8 +116,9 @@ loop-again-2 c =
     let n = spanned (kept c) in
     let g = paced n in
     let b = banked g in
+    let o = n .before .before .before .before .before .before .before .before in
     let put = n .put-span .ensures in
-    goes-on (head b .loop .inv) (paced-is-visit (comes b) _ _ (g .pace .ensures) (n .before .before .before .before .before .before .before .before .get-output-position .ensures .0)) (b .before .before .loop-test .taken)
+    goes-on (head b .loop .inv) (paced-is-visit (comes b) _ _ (g .pace .ensures) (o .get-output-position .ensures .0)) (b .before .before .loop-test .taken)
     (paced-next (comes b) _ _ (g .pace .ensures) (c .lost-after .ensures)) (n .before .before .before .before .before .before .write-item .ensures) (put .0)
     (rw (paced-position _ _ _ (g .pace .ensures)) (put .1 .0)) (put .1 .1 .0) (put .1 .1 .1)
 
@@ -130,7 +135,8 @@ write-walk-spec =
     (λ c. omega (arith, in-banks (comes c))) (λ c. omega (arith, in-banks (comes c)))
     (λ c. omega (arith, in-banks (comes (c .before)))) (λ c. omega (arith, in-banks (comes (c .before))))
     (λ c κs. search needs) (λ c κs. search needs) write-item-requires put-span-requires
-    (λ c. omega (arith, in-banks (comes (banked (paced (c .before .before .before .before .before .before)))))) (λ c. omega (arith, in-banks (comes (banked (paced (c .before .before .before .before .before .before))))))
+    (λ c. omega (arith, in-banks (comes (banked (paced (c .before .before .before .before .before .before))))))
+    (λ c. omega (arith, in-banks (comes (banked (paced (c .before .before .before .before .before .before))))))
     (λ c. let b = banked (paced (spanned (c .before))) in omega (arith, b .before .before .loop-test .taken, entry (head b) .good))
     (λ c. omega (arith, banked (paced (spanned (c .before))) .before .before .loop-test .taken)) loop-again
     (λ c. omega (arith, in-banks (comes (banked (paced (spanned (c .before)))))))

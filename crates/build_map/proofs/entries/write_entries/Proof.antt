@@ -49,12 +49,18 @@ write-entries-spec =
     tie.close
     (tie.spec
     Inv-loop μ-loop (λ c κs. search needs) loop-holds (λ c κs. search needs)
-    (λ c. omega (arith, low (c .before .before))) (λ c. let h = c .before .before .before in first-fits (h .loop .inv) (start h .pre .1) (c .before .before .loop-test .taken))
+    (λ c. omega (arith, low (c .before .before)))
+    (λ c. let t = c .before .before in first-fits (t .before .loop .inv) (start (t .before) .pre .1) (t .loop-test .taken))
     (λ c κs. search needs)
-    (λ c. omega (arith, low (c .before .before .before))) (λ c. let h = c .before .before .before .before in second-fits (h .loop .inv) (start h .pre .1) (c .before .before .before .loop-test .taken))
+    (λ c. omega (arith, low (c .before .before .before)))
+    (λ c. let t = c .before .before .before in second-fits (t .before .loop .inv) (start (t .before) .pre .1) (t .loop-test .taken))
     (λ c κs. search needs)
-    (λ c. omega (arith, low (c .before .before .before .before))) (λ c. let h = c .before .before .before .before .before in third-fits (h .loop .inv) (start h .pre .1) (c .before .before .before .before .loop-test .taken))
+    (λ c. omega (arith, low (c .before .before .before .before)))
+    (λ c. let t = c .before .before .before .before in third-fits (t .before .loop .inv) (start (t .before) .pre .1) (t .loop-test .taken))
     (λ c κs. search needs)
-    (λ c. omega (arith, low (c .before .before .before .before .before))) (λ c. let h = c .before .before .before .before .before .before in fourth-fits (h .loop .inv) (start h .pre .1) (c .before .before .before .before .before .loop-test .taken))
-    (λ c. omega (arith, low (c .before .before .before .before .before .before))) (λ c. omega (arith, c .before .before .before .before .before .before .loop-test .taken)) loop-again
-    (λ c. c .before .before .loop .inv .banked .long) (λ c. c .before .before .loop .inv .placed .long) (λ c. c .before .before .loop .inv .given .long) (λ c. c .before .before .loop .inv .sized .long) returns)
+    (λ c. omega (arith, low (c .before .before .before .before .before)))
+    (λ c. let t = c .before .before .before .before .before in fourth-fits (t .before .loop .inv) (start (t .before) .pre .1) (t .loop-test .taken))
+    (λ c. omega (arith, low (c .before .before .before .before .before .before)))
+    (λ c. omega (arith, c .before .before .before .before .before .before .loop-test .taken)) loop-again
+    (λ c. c .before .before .loop .inv .banked .long) (λ c. c .before .before .loop .inv .placed .long) (λ c. c .before .before .loop .inv .given .long)
+    (λ c. c .before .before .loop .inv .sized .long) returns)

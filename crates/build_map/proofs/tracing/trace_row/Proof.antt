@@ -11,11 +11,13 @@ use Rattle.build_map.proofs.tracing.trace_row.Statement.{statement}
 use Rattle.build_map.proofs.tracing.trace_row.Tie as tie
 
 abbrev Inv-loop : tie.InvT-loop
-Inv-loop banks kinds operands first numbers states closed positions₀ sizes₀ count₀ marks₀ mark-count₀ walk₀ i₀ i-end positions sizes count marks mark-count walk i =
+Inv-loop banks kinds operands first numbers states closed positions₀ sizes₀ count₀ marks₀ mark-count₀ walk₀ i₀ i-end
+    positions sizes count marks mark-count walk i =
     Going (programWith banks kinds operands first) (rowWith numbers states) closed i walk positions sizes count marks mark-count
 
 abbrev μ-loop : tie.MeasureT-loop
-μ-loop banks kinds operands first numbers states closed positions₀ sizes₀ count₀ marks₀ mark-count₀ walk₀ i₀ i-end positions sizes count marks mark-count walk i =
+μ-loop banks kinds operands first numbers states closed positions₀ sizes₀ count₀ marks₀ mark-count₀ walk₀ i₀ i-end
+    positions sizes count marks mark-count walk i =
     length kinds - i
 
 loop-holds : tie.Need-loop-holds Inv-loop μ-loop
