@@ -54,7 +54,7 @@ pub has-row : (banks : ℕ) (l : Lists) (r : ℕ) → Ready banks l → r < l .r
 has-row banks l r ready h =
     let ends = row-ends r (l .rows) (length (l .kinds)) h in
     record {
-      named = ready .paired;
+      paired = ready .paired;
       numbered = omega (arith, ends, ready .rowed .numbered);
       stated = omega (arith, ends, ready .rowed .stated);
     }
@@ -79,7 +79,8 @@ one-row k rows h = let a : min k rows ≡ rows = omega arith in let b : min (k -
 
 -- so of two rows the other is the one ahead
 row-ahead : (k rows : ℕ) {x y : ℕ} → x ≡ min k rows - 1 → y ≡ min (k - 1) rows - 1 → (x ≡ y → ⊥) → x - 1 ≡ min (k - 1) rows - 1
-row-ahead k rows p q apart = ⊎-elim (λ (h : k ≤ rows). rw p (one-ahead k rows h)) (λ (h : rows < k). absurd (apart (p ∙ one-row k rows h ∙ sym q))) (or-past k rows)
+row-ahead k rows p q apart =
+    ⊎-elim (λ (h : k ≤ rows). rw p (one-ahead k rows h)) (λ (h : rows < k). absurd (apart (p ∙ one-row k rows h ∙ sym q))) (or-past k rows)
 
 -- a pass over those rows is the pass that reads them: pass k reads row x, and the pass before it row y
 module _ (banks : Bankdefs) (kinds operands numbers states : List ℕ) (rows k : ℕ) (isLast : Bool) {x y : ℕ} {v : Pass} (p : x ≡ min k rows - 1)

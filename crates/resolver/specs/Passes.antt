@@ -22,7 +22,7 @@ program banks l =
 
 -- the lists hold row r, from 0, and an operand for each node
 pub record HasRow (kinds operands numbers states : List ℕ) (r : ℕ) : Type 0 where
-  pub named : length operands ≡ length kinds
+  pub paired : length operands ≡ length kinds
   pub numbered : r * length kinds + length kinds ≤ length numbers
   pub stated : r * length kinds + length kinds ≤ length states
 

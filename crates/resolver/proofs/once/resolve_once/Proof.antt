@@ -1,8 +1,7 @@
 -- The lists are cut to the rows, which end within them; the walk over the parts is the pass over the rows.
-use Prim.Native.Nat.{_+_, _*_, _≤_}
+use Prim.Native.Nat.{ℕ}
 use mathlib.Core.Path.{sym, ap, subst, _∙_}
 use mathlib.Core.List.{List}
-use Prim.Native.Nat.{ℕ}
 use native.Mathlib.Omega.{arith}
 use lib.ListN.{length}
 use borrow.Author.Needs.{needs}
@@ -28,7 +27,7 @@ other c =
     let a = begun c .args in
     let n = length (a .kinds .now) in
     record {
-      named = its c .named;
+      paired = its c .paired;
       numbered = against-ends (a .alone) (a .row) n _ (c .row-against .ensures) (its c .numbered);
       stated = against-ends (a .alone) (a .row) n _ (c .row-against .ensures) (its c .stated);
     }
@@ -39,7 +38,7 @@ walk-rows-requires c κs =
     let s = begun r in
     let a = s .args in
     let n = length (a .kinds .now) in (
-      subst (λ (l : List ℕ). Switches (a .banks .len) (a .kinds .now) l) (sym (whole-part n (a .operands .now) (its r .named))) (s .pre .0),
+      subst (λ (l : List ℕ). Switches (a .banks .len) (a .kinds .now) l) (sym (whole-part n (a .operands .now) (its r .paired))) (s .pre .0),
       (
         c .both-start .ensures,
         λ e. ap (partRow n (a .numbers .now) (a .states .now)) (r .row-against .ensures ∙ ap (rowAgainst (a .row)) e),
@@ -50,7 +49,7 @@ returns : tie.Need-returns
 returns c =
     let r = c .before .before .before .before .before .before .before .before in
     let a = begun r .args in
-    cut-pass (a .banks) (a .kinds .now) (a .operands .now) (a .numbers .now) (a .states .now) (a .row) (a .is-first) (a .is-last) (its r .named)
+    cut-pass (a .banks) (a .kinds .now) (a .operands .now) (a .numbers .now) (a .states .now) (a .row) (a .is-first) (a .is-last) (its r .paired)
     (r .row-against .ensures) (c .walk-rows .ensures .0)
 
 pub resolve-once-spec : {M : Type 1} → statement M
@@ -64,7 +63,7 @@ resolve-once-spec =
     (λ c. omega (arith, other c .numbered))
     (λ c. search needs)
     (λ c. search needs)
-    (λ c. omega (arith, its c .named))
+    (λ c. omega (arith, its c .paired))
     (λ c. search needs)
     (λ c. search needs)
     (λ c. omega (arith, its (c .before) .numbered))
