@@ -1,6 +1,8 @@
 // The six rules, over the banks and over the nodes in every row.
 use bankdef::Bankdef;
 use bankdef::Bankdefs;
+use refusal::ADDR;
+use refusal::ALIGN;
 use refusal::Opt;
 use refusal::Refusal;
 use refusal::SWITCH;
@@ -161,7 +163,7 @@ fn node_aligned(kinds: &[u8], numbers: &[u32], rows: u64, i: usize) -> bool
     ensures { λ t. ⌜ t ≡ all (λ r. nodeAligned (getD (now (kinds .entry)) i 0)
         (getD (now (numbers .entry)) (r * length (now (kinds .entry)) + i) 0)) rows ⌝ }
 {
-    if kinds[i] != 8 {
+    if kinds[i] != ALIGN {
         return true;
     }
     rows_keep(2, numbers, kinds.len(), rows, i, 0)
@@ -173,7 +175,7 @@ fn addr_kept(kinds: &[u8], numbers: &[u32], rows: u64, i: usize, unit: u32) -> b
     ensures { λ t. ⌜ t ≡ all (λ r. addrKept unit (getD (now (kinds .entry)) i 0)
         (getD (now (numbers .entry)) (r * length (now (kinds .entry)) + i) 0)) rows ⌝ }
 {
-    if kinds[i] != 9 {
+    if kinds[i] != ADDR {
         return true;
     }
     rows_keep(6, numbers, kinds.len(), rows, i, unit)

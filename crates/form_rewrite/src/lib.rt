@@ -1,5 +1,9 @@
 // A layout file written in the other form: field by field, from lent bytes into a lent buffer that it fits into.
 use form_fields::Shape;
+use form_fields::TAG_BANK;
+use form_fields::TAG_BANK_2;
+use form_fields::TAG_FORM;
+use form_fields::TAG_NODE;
 use print_text::write_word;
 ghost use mathlib.Core.Bool.{true};
 ghost use mathlib.Core.Path.{_≡_};
@@ -89,7 +93,7 @@ fn write_switch(out: &mut [u8], at: usize, bank: u8) -> usize
     requires { ⌜ at + 8 ≤ length (now out) ⌝ }
     ensures { λ r. ⌜ Writes (field 2 (switchTo bank)) (now (out .entry)) at r (now (out .exit)) ⌝ }
 {
-    let end = write_header(out, at, 2, 5);
+    let end = write_header(out, at, TAG_NODE, 5);
     out[end] = 1;
     out[end + 1] = 0;
     out[end + 2] = 0;
@@ -107,7 +111,7 @@ fn write_node(file: &[u8], from: usize, bank: u8, out: &mut [u8], at: usize) -> 
     if file[from] == 1 {
         return write_switch(out, at, bank);
     }
-    write_field(out, at, 2, 0, &file[from..from + 5], 0)
+    write_field(out, at, TAG_NODE, 0, &file[from..from + 5], 0)
 }
 
 // All nodes, from the payload of the first on.
@@ -130,7 +134,7 @@ fn write_head(out: &mut [u8]) -> usize
     requires { ⌜ 4 ≤ length (now out) ⌝ }
     ensures { λ r. ⌜ Writes (field 16 (2 ∷ [])) (now (out .entry)) 0 r (now (out .exit)) ⌝ }
 {
-    let end = write_header(out, 0, 16, 1);
+    let end = write_header(out, 0, TAG_FORM, 1);
     out[end] = 2;
     end + 1
 }
@@ -143,7 +147,7 @@ fn write_lengthened(file: &[u8], shape: Shape, out: &mut [u8]) -> usize
 {
     let banks = shape.banks as usize;
     let head = write_head(out);
-    let end = write_fields(file, 3, 26, 23, banks, 17, 0, 1, out, head);
+    let end = write_fields(file, 3, 26, 23, banks, TAG_BANK_2, 0, 1, out, head);
     write_word(out, end, &file[banks * 26..])
 }
 
@@ -157,8 +161,8 @@ fn write_widened(file: &[u8], shape: Shape, out: &mut [u8]) -> usize
     let nodes = shape.nodes as usize;
     let rows = shape.rows as usize;
     let head = write_head(out);
-    let zero = write_field(out, head, 17, 0, &file[3..13], 14);
-    let one = write_field(out, zero, 17, 0, &file[3..26], 1);
+    let zero = write_field(out, head, TAG_BANK_2, 0, &file[3..13], 14);
+    let one = write_field(out, zero, TAG_BANK_2, 0, &file[3..26], 1);
     let switch = write_switch(out, one, 1);
     let end = write_nodes(file, 29, nodes, 1, out, switch);
     let last = write_fields(
@@ -195,7 +199,7 @@ fn write_shortened(file: &[u8], shape: Shape, out: &mut [u8]) -> usize
     ensures { λ r. ⌜ Writes (written form1 (shortened (contentsIn form2 (now (file .entry))))) (now (out .entry)) 0 r (now (out .exit)) ⌝ }
 {
     let banks = shape.banks as usize;
-    let end = write_fields(file, 7, 27, 23, banks, 1, 0, 0, out, 0);
+    let end = write_fields(file, 7, 27, 23, banks, TAG_BANK, 0, 0, out, 0);
     write_word(out, end, &file[4 + banks * 27..])
 }
 
@@ -208,7 +212,7 @@ fn write_narrowed(file: &[u8], shape: Shape, out: &mut [u8]) -> usize
 {
     let nodes = shape.nodes as usize;
     let rows = shape.rows as usize;
-    let bank = write_field(out, 0, 1, 0, &file[34..57], 0);
+    let bank = write_field(out, 0, TAG_BANK, 0, &file[34..57], 0);
     let end = write_nodes(file, 69, nodes - 1, 0, out, bank);
     let last = write_fields(
         file,
