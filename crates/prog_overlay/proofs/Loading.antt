@@ -1,19 +1,16 @@
 -- A file that is read: what stands in what was lent, or why nothing does.
 use mathlib.Core.Path.{_≡_, refl, sym, ap, ap₂, subst, _∙_}
-use mathlib.Core.Bool.{Bool, true, false}
 use mathlib.Core.List.{List, [], _∷_, _++_, append-nil}
 use Prim.Native.Nat.{ℕ, _+_, _≤_, _<_}
 use native.Mathlib.Omega.{arith}
 use borrow.Author.Tests.{le-leb, lt-leb}
-use lib.Dec.{leb}
 use lib.ListN.{length, take, drop, length-map, length-append, length-drop, drop-of-length-le}
 use lib.Seq.{take-at, sets-eq, length-take-le}
 use Rattle.refusal.specs.Laws.Pick.{pick-true, pick-false}
 use Rattle.refusal.specs.Pick.{pick}
-use Rattle.refusal.specs.Told.{gives}
 use Rattle.refusal.specs.declared.Refusal.{Refusal}
-use Rattle.refusal.specs.declared.Refusal.the-variants.{Malformed, TooShort}
-use Rattle.blocks.specs.Outcome.{origins, sizes, over, roomFor, toldBy}
+use Rattle.refusal.specs.declared.Refusal.the-variants.{Malformed}
+use Rattle.blocks.specs.Outcome.{origins, sizes, over}
 use Rattle.blocks.specs.declared.Block.{Block}
 use Rattle.blocks.specs.declared.Blocks.{Blocks}
 use Rattle.blocks.specs.declared.Blocks.the-variants.{Found, Refused}
@@ -24,11 +21,10 @@ use Rattle.prog_args.specs.Text.{Shows}
 use Rattle.record_fault.specs.Outcome.{faultOf}
 use Rattle.record_fault.specs.Reading.{Read, sound, faulty, readText}
 use Rattle.record_fault.specs.declared.Fault.the-variants.{Good, At}
-use Rattle.record_lines.specs.Pieces.{Piece}
 use Rattle.record_read.specs.Given.{filled}
 use Rattle.record_read.specs.Outcome.{Lent, lent, answerOf, taken, Reads}
 use Rattle.record_read.specs.Runs.{reach, blocksGiven}
-use Rattle.record_read.specs.Theorems.Facts.{found-good, found-after}
+use Rattle.record_read.specs.Laws.Found.{same-refusal, no-room, Held, held}
 use Rattle.record_read.specs.Theorems.GivenLaws.{filled-long}
 use Rattle.prog_overlay.specs.declared.Asked.{Asked}
 use Rattle.prog_overlay.specs.Images.{longest, bytesRoom, blocksRoom, File, given, unread, readFile, fileOf, faultText, faultIn, unreadText}
@@ -50,79 +46,29 @@ not-long load old source h = pick-true _ _ (le-leb (length source) longest h)
 ap₃ : {a b : List ℕ} {c d : List ℕ} {e f : List ℕ} (g : List ℕ → List ℕ → List ℕ → File) → a ≡ b → c ≡ d → e ≡ f → g a c e ≡ g b d f
 ap₃ {a} {b} {c} {d} {e} {f} g p q r = ap₂ (λ (x y : List ℕ). g x y e) p q ∙ ap (g b d) r
 
-not-both : (n : ℕ) (why : Refusal) → Found n ≡ Refused why → ⊥
-not-both n why e = let z : _≡_ {A = ℕ} 0 1 = cc in omega arith
-
-same-refusal : {a b : Refusal} → Refused a ≡ Refused b → a ≡ b
-same-refusal e = cc
-
-by-room : (p q : Bool) (n : ℕ) (file : File) (why : Refusal)
-    → pick p (pick q (Found n) (Refused (TooShort 2))) (Refused (TooShort 0)) ≡ Refused why
-    → pick p (pick q file (unread (TooShort 2))) (unread (TooShort 0)) ≡ unread why
-by-room true true n file why e = absurd (not-both n why e)
-by-room true false n file why e = ap unread (same-refusal e)
-by-room false q n file why e = ap unread (same-refusal e)
-
-twice : (t : Bool) → pick t t false ≡ t
-twice true = refl
-twice false = refl
-
 module _ (load : ℕ) (l : Lent) (hb : length (l .bytes) ≡ bytesRoom) (ho : length (l .offsets) ≡ blocksRoom) (hs : length (l .sizes) ≡ blocksRoom) where
   not-read : (read : Read) (why : Refusal) → answerOf load l read ≡ Refused why → readFile load (l .bytes) read ≡ unread why
   not-read (faulty n) why e = ap unread (same-refusal e)
   not-read (sound pieces) why e =
-      let blocks = blocksGiven load pieces in
-      let file = given (filled load pieces (l .bytes)) (origins blocks) (sizes blocks) in
-      let one : leb (reach load pieces) (length (l .bytes)) ≡ leb (reach load pieces) bytesRoom = ap (leb (reach load pieces)) hb in
-      let two : roomFor blocks (l .offsets) (l .sizes) ≡ leb (length blocks) blocksRoom =
-      ap₂ (λ (a b : ℕ). pick (leb (length blocks) a) (leb (length blocks) b) false) ho hs ∙ twice (leb (length blocks) blocksRoom) in
-      sym (ap₂ (λ (p q : Bool). pick p (pick q file (unread (TooShort 2))) (unread (TooShort 0))) one two)
-      ∙ by-room (leb (reach load pieces) (length (l .bytes))) (roomFor blocks (l .offsets) (l .sizes)) (length blocks) file why e
+      no-room unread load l bytesRoom blocksRoom hb ho hs pieces
+      (given (filled load pieces (l .bytes)) (origins (blocksGiven load pieces)) (sizes (blocksGiven load pieces))) why e
 
   -- ---- read
 
   module _ (source : List ℕ) (short : length source ≤ longest) (r : Blocks) (new : Lent) (c : Reads load (readText 0 load source) l r new) where
     module _ (count : ℕ) (found : r ≡ Found count) where
-      told : toldBy r ≡ gives count
-      told = ap toldBy found
-
-      abbrev pieces : List Piece
-      pieces = found-good load l (readText 0 load source) r new c count told .0
-
-      good-file : readText 0 load source ≡ sound pieces
-      good-file = found-good load l (readText 0 load source) r new c count told .1
+      h : Held load l (readText 0 load source) count new
+      h = held load l (readText 0 load source) r new c count found
 
       abbrev blocks : List Block
-      blocks = blocksGiven load pieces
-
-      room : reach load pieces ≤ length (l .bytes)
-      room = found-good load l (readText 0 load source) r new c count told .2 .0
-
-      places : (length blocks ≤ length (l .offsets)) × (length blocks ≤ length (l .sizes))
-      places = found-good load l (readText 0 load source) r new c count told .2 .1
-
-      counted : count ≡ length blocks
-      counted = found-good load l (readText 0 load source) r new c count told .2 .2
-
-      after : new ≡ taken load pieces l
-      after = found-after load l (readText 0 load source) r new c pieces good-file room places
-
-      first : take count (new .offsets) ≡ origins blocks
-      first =
-          ap (λ (x : Lent). take count (x .offsets)) after
-          ∙ take-at (origins blocks) (drop (length (origins blocks)) (l .offsets)) count (length-map blocks (λ b. b .origin) ∙ sym counted)
-
-      second : take count (new .sizes) ≡ sizes blocks
-      second =
-          ap (λ (x : Lent). take count (x .sizes)) after
-          ∙ take-at (sizes blocks) (drop (length (sizes blocks)) (l .sizes)) count (length-map blocks (λ b. b .size) ∙ sym counted)
+      blocks = blocksGiven load (h .pieces)
 
       pub read-file : fileOf load (l .bytes) source ≡ given (new .bytes) (take count (new .offsets)) (take count (new .sizes))
       read-file =
-          not-long load (l .bytes) source short ∙ ap (readFile load (l .bytes)) good-file
-          ∙ pick-true _ _ (le-leb (reach load pieces) bytesRoom (omega (arith, room, hb)))
-          ∙ pick-true _ _ (le-leb (length blocks) blocksRoom (omega (arith, places .0, ho)))
-          ∙ sym (ap₃ given (ap (λ (x : Lent). x .bytes) after) first second)
+          not-long load (l .bytes) source short ∙ ap (readFile load (l .bytes)) (h .good)
+          ∙ pick-true _ _ (le-leb (reach load (h .pieces)) bytesRoom (omega (arith, h .room, hb)))
+          ∙ pick-true _ _ (le-leb (length blocks) blocksRoom (omega (arith, h .places .0, ho)))
+          ∙ sym (ap₃ given (ap (λ (x : Lent). x .bytes) (h .after)) (h .first) (h .second))
 
       over-long : (a b : List ℕ) → length a ≤ length b → length (over a b) ≡ length b
       over-long a b h = omega (arith, length-append a (drop (length a) b), length-drop (length a) b)
@@ -130,11 +76,12 @@ module _ (load : ℕ) (l : Lent) (hb : length (l .bytes) ≡ bytesRoom) (ho : le
       pub all-loaded : Loads (fileOf load (l .bytes) source) (Found count) (new .bytes) (new .offsets) (new .sizes)
       all-loaded = (
         read-file,
-        omega (arith, counted, places .0, ho),
-        ap (λ (x : Lent). length (x .bytes)) after ∙ filled-long load pieces (l .bytes) ∙ hb,
-        ap (λ (x : Lent). length (x .offsets)) after ∙ over-long (origins blocks) (l .offsets) (omega (arith, length-map blocks (λ b. b .origin), places .0))
-            ∙ ho,
-        ap (λ (x : Lent). length (x .sizes)) after ∙ over-long (sizes blocks) (l .sizes) (omega (arith, length-map blocks (λ b. b .size), places .1)) ∙ hs,
+        omega (arith, h .counted, h .places .0, ho),
+        ap (λ (x : Lent). length (x .bytes)) (h .after) ∙ filled-long load (h .pieces) (l .bytes) ∙ hb,
+        ap (λ (x : Lent). length (x .offsets)) (h .after)
+            ∙ over-long (origins blocks) (l .offsets) (omega (arith, length-map blocks (λ b. b .origin), h .places .0)) ∙ ho,
+        ap (λ (x : Lent). length (x .sizes)) (h .after)
+            ∙ over-long (sizes blocks) (l .sizes) (omega (arith, length-map blocks (λ b. b .size), h .places .1)) ∙ hs,
       )
 
     loaded-by : (x : Blocks) → r ≡ x → Loads (fileOf load (l .bytes) source) x (new .bytes) (new .offsets) (new .sizes)
