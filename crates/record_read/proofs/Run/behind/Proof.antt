@@ -1,4 +1,4 @@
--- `record_read::behind`: the definition's test.
+-- `record_read::Run::behind`: the definition's test.
 use borrow.Author.Tests.{lt-ltb, le-ltb}
 use Rattle.record_read.proofs.Run.behind.Statement.{statement}
 use Rattle.record_read.proofs.Run.behind.Tie as tie

@@ -1,4 +1,4 @@
--- `record_read::better`: a law for each return.
+-- `record_read::Run::better`: a law for each return.
 use native.Mathlib.Omega.{arith}
 use Rattle.record_read.proofs.Lower.{better-none, better-lower, better-under, better-joined, better-kept}
 use borrow.Author.Needs.{needs}

@@ -1,4 +1,4 @@
--- `record_read::close`: a run that touches the next one, or before none, closes nothing.
+-- `record_read::Run::close`: a run that touches the next one, or before none, closes nothing.
 use mathlib.Core.Path.{sym}
 use Rattle.record_read.proofs.Walks.{close-none, close-kept, closed-idle, closed-touching, closed-apart}
 use borrow.Author.Needs.{needs}

@@ -1,4 +1,4 @@
--- `record_read::join`: the definition's tests.
+-- `record_read::Run::join`: the definition's tests.
 use mathlib.Core.Path.{sym}
 use Rattle.record_read.proofs.Walks.{closed-idle, closed-touching, closed-apart}
 use Rattle.record_read.proofs.Run.join.Statement.{statement}

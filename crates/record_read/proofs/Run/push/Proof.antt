@@ -1,4 +1,4 @@
--- `record_read::push`: a run in bits is empty where the run is.
+-- `record_read::Run::push`: a run in bits is empty where the run is.
 use Rattle.record_read.proofs.Walks.{push-bits}
 use borrow.Author.Needs.{needs}
 use Rattle.record_read.proofs.Run.push.Statement.{statement}
