@@ -1,4 +1,3 @@
-pub mod Bools
 pub mod FillBits
 pub mod FillFacts
 pub mod FullFill

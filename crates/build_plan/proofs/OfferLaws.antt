@@ -1,13 +1,11 @@
 -- What a node offers and writes, for each of its ways: nothing, or one interval and one item; and what that leaves in the store.
-use mathlib.Core.Path.{_≡_, refl, sym, ap, subst, _∙_}
+use mathlib.Core.Path.{_≡_, refl, sym, ap, _∙_}
 use mathlib.Core.Bool.{Bool, true, false, _||_}
 use mathlib.Core.List.{List, [], _∷_}
-use Prim.Native.Nat.{ℕ, _+_, _≤_, _<_, max}
-use native.Mathlib.Nat.{add-zero}
-use native.Mathlib.Omega.{arith}
-use borrow.Author.Tests.{eq-eqb, le-ltb, lt-ltb}
-use lib.Dec.{eqb, ltb}
+use Prim.Native.Nat.{ℕ, _+_, max}
+use lib.Dec.{eqb}
 use lib.ListN.{length}
+use Rattle.refusal.specs.Laws.Bools.{unlike, or-else}
 use Rattle.refusal.specs.Pick.{pick}
 use Rattle.refusal.specs.Laws.Pick.{pick-true, pick-false}
 use Rattle.refusal.specs.declared.Offset.{Offset}
@@ -57,11 +55,7 @@ module _ (n : Node) where
 
   -- a placed node that is no label does
   pub offers-one : (o : ℕ) → isPlaced n ≡ true → eqb (n .kind) 2 ≡ false → offerAt n (Out o) ≡ interval o (n .number) ∷ []
-  offers-one o placed other = pick-true (bitsAt (Out o) n) [] (others (eqb (n .kind) 2) (isOffered n) other placed)
-    where
-      others : (a b : Bool) → a ≡ false → (a || b) ≡ true → b ≡ true
-      others true b f e = absurd (mathlib.Core.Bool.true≢false f)
-      others false b f e = e
+  offers-one o placed other = pick-true (bitsAt (Out o) n) [] (or-else (eqb (n .kind) 2) (isOffered n) other placed)
 
 -- ---- what that leaves in the store
 
@@ -74,7 +68,7 @@ module _ (a : Store) where
   goes-refused offer why s = record { state = λ e. absurd (never e); sound = s; left = refl }
     where
       never : Refused why ≡ Accepted → ⊥
-      never e = let z : _≡_ {A = ℕ} 0 1 = cc in omega arith
+      never e = unlike cc
 
   pub goes-offered : (e : Entry) (node : ℕ) (offer : List Entry) → offer ≡ e ∷ [] → Sound a → Within e → (r : Verdict) (b : Store)
       → Offers a e node r b → Goes a offer r b

@@ -4,7 +4,7 @@ use mathlib.Core.Path.{_≡_, refl, sym, _∙_}
 use mathlib.Core.List.{List}
 use native.Mathlib.Omega.{arith}
 use lib.ListN.{getD, length}
-use Rattle.refusal.specs.Laws.Bools.{clash}
+use Rattle.refusal.specs.Laws.Bools.{clash, unlike}
 use Rattle.refusal.specs.Limits.{maxBanks}
 use Rattle.refusal.specs.declared.Refusal.{Refusal}
 use Rattle.refusal.specs.declared.Verdict.{Verdict}
@@ -81,7 +81,7 @@ module _ (banks : Bankdefs) (l : Lists) (fill page : ℕ) where
 
   one-kept : {v : Verdict} → Judged banks l page v → v ≡ Accepted → ExactlyOne page
   one-kept (keeps h) e = h .page-size
-  one-kept (breaks b) e = absurd (let z : _≡_ {A = ℕ} 0 1 = cc in omega arith)
+  one-kept (breaks b) e = unlike cc
 
   -- what a yes shows: at most 16 banks, and a page of some bits
   pub yes-shows : {v : Verdict} → v ≡ verdictOf banks l fill page → v ≡ Accepted → (banks .len ≤ maxBanks) × (0 < page)

@@ -1,16 +1,15 @@
 -- The blank image laid bank by bank: what a bank's range of ones is, what one more bank makes of the image, and that it ends as the blank.
-use mathlib.Core.Path.{_≡_, refl, sym, ap, subst, _∙_, fun-ext}
+use mathlib.Core.Path.{_≡_, refl, sym, ap, _∙_, fun-ext}
 use mathlib.Core.Bool.{Bool, true, false, _&&_, _||_}
-use mathlib.Core.List.{List, [], _∷_}
-use mathlib.Core.Logic.{_⊎_, inl, inr, ⊎-elim, _↔_}
+use mathlib.Core.List.{List}
 use Prim.Native.Nat.{ℕ, zero, suc, _+_, _*_, _≤_, _<_, min}
 use native.Mathlib.Decide.{decLt}
 use native.Mathlib.Numerals.{add-one}
 use native.Mathlib.Omega.{arith}
-use borrow.Author.Tests.{ltb-true, ltb-false, lt-ltb, eqb-true}
+use borrow.Author.Tests.{ltb-true, lt-ltb, eqb-true}
 use lib.Dec.{ltb, eqb}
 use lib.ListN.{length, getD, replicate, length-replicate, List·getD-eq-default}
-use Rattle.refusal.specs.Laws.Bools.{either, clash, both}
+use Rattle.refusal.specs.Laws.Bools.{either, clash, both, unlike, or-right}
 use Rattle.refusal.specs.Pick.{pick}
 use Rattle.refusal.specs.declared.Opt.{Opt}
 use Rattle.refusal.specs.declared.Opt.the-variants.{None, Some}
@@ -49,7 +48,7 @@ module _ (b : Bankdef) (bits : ℕ) where
   other-bit e = no-ones (λ k o. e (one-fills k o .1))
 
   none-some : {n : ℕ} → None ≡ Some n → ⊥
-  none-some e = let z : _≡_ {A = ℕ} 0 1 = cc in omega arith
+  none-some e = unlike cc
 
   pub sizeless : b .size ≡ None → OnesOf b bits 0 0
   sizeless e = no-ones (λ k o. none-some (sym e ∙ one-fills k o .0 .size))
@@ -88,10 +87,6 @@ laidBit l bits i k = pick (ltb k bits) (pick (onesBelow l i k) 1 0) 0
 -- the image once the banks before i are laid
 abbrev pub laidTo : List Bankdef → ℕ → ℕ → ℕ → List ℕ
 laidTo l bits bytes i = ofBits bytes (laidBit l bits i)
-
-or-true : (a b : Bool) → b ≡ true → (a || b) ≡ true
-or-true true b e = refl
-or-true false b e = e
 
 or-false : (a b : Bool) → b ≡ false → (a || b) ≡ a
 or-false true b e = refl
@@ -132,7 +127,7 @@ module _ (l : List Bankdef) (bits bytes : ℕ) where
     unfolding onesBelow
     inside-one k h m =
         let (low, one) = range .inside k h m in
-        rw (lt-ltb k bits low, or-true (onesBelow l i k) (ltb 0 i && onesAt (getD l i noBank) k) (rw (lt-ltb 0 i some, one)))
+        rw (lt-ltb k bits low, or-right (onesBelow l i k) (ltb 0 i && onesAt (getD l i noBank) k) (rw (lt-ltb 0 i some, one)))
 
     outside-same : (k : ℕ) → (from ≤ k → k < end → ⊥) → laidBit l bits (suc i) k ≡ laidBit l bits i k
     unfolding onesBelow
@@ -179,7 +174,7 @@ module _ (l : List Bankdef) (bits bytes : ℕ) where
         | yes less ↦ rw (below-found i j k h less e)
         | no same ↦
             (let is : j ≡ i = omega arith in
-            or-true (onesBelow l i k) _ (rw (lt-ltb 0 i (omega arith), ap (λ (n : ℕ). onesAt (getD l n noBank) k) (sym is) ∙ e)))
+            or-right (onesBelow l i k) _ (rw (lt-ltb 0 i (omega arith), ap (λ (n : ℕ). onesAt (getD l n noBank) k) (sym is) ∙ e)))
       ]
 
   -- past the table there is no bank

@@ -7,6 +7,7 @@ use native.Mathlib.Omega.{arith}
 use lib.Dec.{ltb}
 use lib.ListN.{length, drop, length-map}
 use borrow.Author.Tests.{ltb-false}
+use Rattle.refusal.specs.Laws.Bools.{unlike}
 use Rattle.refusal.specs.Limits.{maxNodes, maxRows}
 use Rattle.refusal.specs.Pick.{pick}
 use Rattle.refusal.specs.declared.Refusal.{Refusal}
@@ -71,7 +72,7 @@ module _ (file : List ℕ) (s : Shape) (r : Read form1 file s) where
 -- ---- the answer
 
 never : {A : Type 0} {why : Refusal} {m : ℕ} → Refused why ≡ Converted m → A
-never f = let z : _≡_ {A = ℕ} 0 1 = cc in absurd (omega arith)
+never f = unlike cc
 
 taken : (a b d l s t : Bool) (r₁ r₂ r₃ r₄ r₅ r₆ : Refusal) (size n : ℕ)
     → pick a (Refused r₁) (pick b (Refused r₂) (pick d (Refused r₃) (pick l (Refused r₄) (pick s (Refused r₅) (pick t (Refused r₆) (Converted size))))))

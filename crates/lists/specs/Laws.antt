@@ -1,4 +1,3 @@
 pub mod Counts
-pub mod FaultExactly
 pub mod RowParts
 pub mod Sound

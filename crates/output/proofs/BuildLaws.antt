@@ -2,14 +2,15 @@
 use mathlib.Core.Path.{_≡_, refl, sym, ap, subst, _∙_}
 use mathlib.Core.Logic.{⊎-elim}
 use mathlib.Core.Bool.{Bool, true, false}
-use mathlib.Core.List.{List, List·Memᴰ}
-use Prim.Native.Nat.{ℕ, _+_, _-_, _*_, _/_, _≤_, _<_, min}
+use mathlib.Core.List.{List}
+use Prim.Native.Nat.{ℕ, _+_, _-_, _*_, _/_, _≤_}
 use native.Mathlib.Nat.{le-trans, mul-le-mul-right, add-mul, one-mul}
 use native.Mathlib.Omega.{arith}
 use borrow.Author.Tests.{ltb-false, le-ltb, lt-ltb}
 use lib.Dec.{ltb}
 use lib.IntN.{ℤ}
 use lib.ListN.{length}
+use Rattle.refusal.specs.Laws.Bools.{unlike}
 use Rattle.refusal.specs.Pick.{pick}
 use Rattle.refusal.specs.Laws.Pick.{pick-false}
 use Rattle.refusal.specs.declared.Refusal.{Refusal}
@@ -56,12 +57,12 @@ row-ends last rows n some low =
 -- ---- the answer
 
 stopped-by : (q : Placed) (why : Refusal) → verdictPlaced q ≡ TurnedAway why → q ≡ stops why
-stopped-by (holds l) why e = absurd (let z : _≡_ {A = ℕ} 0 1 = cc in omega arith)
+stopped-by (holds l) why e = unlike cc
 stopped-by (stops other) why e = cc
 
 built-by : (room : Room) (k bits spans : ℕ) (q : Placed) → verdictPlaced q ≡ Accepted → placedBuild room k bits spans q ≡ roomFor room k bits spans
 built-by room k bits spans (holds l) e = refl
-built-by room k bits spans (stops why) e = absurd (let z : _≡_ {A = ℕ} 0 1 = cc in omega arith)
+built-by room k bits spans (stops why) e = unlike cc
 
 -- ---- room, by the verdict on it
 
@@ -74,14 +75,14 @@ module _ (t u : Bool) where
           → pick a (Refused (TooShort 0)) (pick b (Refused (TooShort 1)) done) ≡ Refused why
       tests true b done why e = cc
       tests false true done why e = cc
-      tests false false done why e = absurd (let z : _≡_ {A = ℕ} 0 1 = cc in omega arith)
+      tests false false done why e = unlike cc
 
   roomy-by : pick t (TurnedAway (TooShort 0)) (pick u (TurnedAway (TooShort 1)) Accepted) ≡ Accepted → (t ≡ false) × (u ≡ false)
   roomy-by = tests t u
     where
       tests : (a b : Bool) → pick a (TurnedAway (TooShort 0)) (pick b (TurnedAway (TooShort 1)) Accepted) ≡ Accepted → (a ≡ false) × (b ≡ false)
-      tests true b e = absurd (let z : _≡_ {A = ℕ} 0 1 = cc in omega arith)
-      tests false true e = absurd (let z : _≡_ {A = ℕ} 0 1 = cc in omega arith)
+      tests true b e = unlike cc
+      tests false true e = unlike cc
       tests false false e = (refl, refl)
 
 module _ (p : Program) (row : Row) (closed : Bool) (fill k passes : ℕ) (values : List ℕ) (old : Lent) (plan : Plan)

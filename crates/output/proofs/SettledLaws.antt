@@ -7,8 +7,8 @@ use Prim.Native.Nat.{ℕ, _+_, _-_, _*_, _≤_, _<_, min}
 use native.Mathlib.Omega.{arith}
 use borrow.Author.Tests.{ltb-false}
 use lib.Dec.{ltb, leb, eqb}
-use lib.IntN.{ℤ}
 use lib.ListN.{length, take, drop}
+use Rattle.refusal.specs.Laws.Bools.{unlike}
 use Rattle.refusal.specs.Limits.{maxNodes, maxRows}
 use Rattle.refusal.specs.Pick.{pick}
 use Rattle.refusal.specs.declared.Refusal.{Refusal}
@@ -55,11 +55,11 @@ use Rattle.output.specs.declared.Output.{Output}
 
 unless-at : (v : Verdict) (q : Resolution) (k : ℕ) → unless v q .settled ≡ At k → (v ≡ Accepted) × (q .settled ≡ At k)
 unless-at Accepted q k e = (refl, e)
-unless-at (TurnedAway why) q k e = absurd (let z : _≡_ {A = ℕ} 0 1 = cc in omega arith)
+unless-at (TurnedAway why) q k e = unlike cc
 
 through : (b : Bool) (v : Verdict) (why : Refusal) → pick b v (TurnedAway why) ≡ Accepted → v ≡ Accepted
 through true v why e = e
-through false v why e = absurd (let z : _≡_ {A = ℕ} 0 1 = cc in omega arith)
+through false v why e = unlike cc
 
 or-right : (a b : Bool) → (a || b) ≡ false → b ≡ false
 or-right true b e = absurd (mathlib.Core.Bool.true≢false e)
@@ -147,7 +147,7 @@ module _ (banks : Bankdefs) (l : Lists) (m : Choices) (r : Resolution) (resolves
         ⊎-elim (λ many. absurd (never (too-many-nodes (banks .len) l (m .fill) many ∙ checks))) (λ few. few) (lt-or-le maxNodes (length (l .kinds)))
       where
         never : TurnedAway (Malformed 0) ≡ Accepted → ⊥
-        never e = let z : _≡_ {A = ℕ} 0 1 = cc in omega arith
+        never e = unlike cc
 
     -- every written item's bits are within the value bytes, in the row of any pass
     node-within : (n : ℕ) → n < l .rows → (i : ℕ) → i < length (l .kinds) → isWritten (node (program banks l) (rowAt l n) i) ≡ true

@@ -2,8 +2,8 @@
 use mathlib.Core.Path.{_≡_, refl, sym, ap, _∙_}
 use mathlib.Core.Bool.{Bool, true, false}
 use Prim.Native.Nat.{ℕ}
-use native.Mathlib.Omega.{arith}
 use lib.ListN.{length}
+use Rattle.refusal.specs.Laws.Bools.{unlike}
 use Rattle.refusal.specs.Pick.{pick}
 use Rattle.refusal.specs.Told.{gives, refuses}
 use Rattle.refusal.specs.declared.Place.the-variants.{One}
@@ -59,7 +59,7 @@ module _ (t : Trial) (first count : ℕ) where
       (λ e. absurd (none (Malformed 0) (sym q ∙ rw e)))
 
   pub overlay-inside : sourceOf t first count ≡ Overlay → Inside (length (t .overlay)) (length (t .released)) first count
-  overlay-inside q = taken-inside Overlay q (λ r e. let z : _≡_ {A = ℕ} 0 1 = cc in omega arith)
+  overlay-inside q = taken-inside Overlay q (λ r e. unlike cc)
 
   pub released-inside : sourceOf t first count ≡ Released → Inside (length (t .overlay)) (length (t .released)) first count
-  released-inside q = taken-inside Released q (λ r e. let z : _≡_ {A = ℕ} 0 1 = cc in omega arith)
+  released-inside q = taken-inside Released q (λ r e. unlike cc)

@@ -9,6 +9,7 @@ use lib.Dec.{leb}
 use lib.ListN.{length, take, drop}
 use lib.Seq.{take-at}
 use borrow.Author.Tests.{le-leb}
+use Rattle.refusal.specs.Laws.Bools.{unlike}
 use Rattle.refusal.specs.Limits.{maxNodes}
 use Rattle.refusal.specs.Laws.Pick.{pick-true}
 use Rattle.refusal.specs.declared.Refusal.{Refusal}
@@ -45,7 +46,7 @@ found-count : (m n : ℕ) → Found m ≡ Found n → m ≡ n
 found-count m n e = cc
 
 not-both : (n : ℕ) (why : Refusal) → Found n ≡ Refused why → ⊥
-not-both n why e = let z : _≡_ {A = ℕ} 0 1 = cc in omega arith
+not-both n why e = unlike cc
 
 module _ (words lengths os ss : List ℕ) (ho : maxNodes ≤ length os) (hs : maxNodes ≤ length ss) (y : acceptable words lengths ≡ true) where
   abbrev bs : List Block

@@ -1,15 +1,16 @@
 -- Laws of text that is written piece by piece, of the hex of bytes in a part of a buffer, and of a byte that no block holds.
 use mathlib.Core.Path.{_≡_, refl, sym, ap, ap₂, subst, _∙_}
-use mathlib.Core.Bool.{true, false, _&&_}
+use mathlib.Core.Bool.{true}
 use mathlib.Core.List.{List, [], _∷_, _++_, append-nil, append-assoc}
 use Prim.Native.Nat.{ℕ, _+_, _-_, _*_, _/_, _≤_, _<_, min}
 use native.Mathlib.Numerals.{add-one}
 use native.Mathlib.Decide.{decLe}
 use native.Mathlib.Omega.{arith}
-use borrow.Author.Tests.{le-leb, lt-leb, lt-ltb, le-ltb, eq-eqb, ne-eqb}
-use lib.Dec.{leb, ltb}
+use borrow.Author.Tests.{le-leb, lt-ltb, le-ltb, eq-eqb, ne-eqb}
+use lib.Dec.{leb}
 use lib.ListN.{length, take, drop, getD, length-append, length-take, length-drop, drop-of-length-le}
 use lib.Seq.{sets, sets-eq, length-sets, take-all, drop-drop, drop-cons, length-take-le}
+use Rattle.refusal.specs.Laws.Bools.{unlike}
 use Rattle.io.specs.Counts.{Counts}
 use Rattle.refusal.specs.Laws.Pick.{pick-true, pick-false}
 use Rattle.refusal.specs.Pick.{pick}
@@ -94,7 +95,7 @@ length-field bytes =
     omega (arith, length-append (ascii " ") (hexOf bytes (8 * n)), length-hexOf bytes (8 * n))
 
 never : {m : ℕ} {why : Refusal} → Digits m ≡ Refused why → ⊥
-never e = let z : _≡_ {A = ℕ} 0 1 = cc in omega arith
+never e = unlike cc
 
 same-count : {m n : ℕ} → Digits m ≡ Digits n → m ≡ n
 same-count e = cc

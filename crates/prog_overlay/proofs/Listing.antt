@@ -5,10 +5,11 @@ use mathlib.Core.List.{List, [], _∷_, _++_}
 use Prim.Native.Nat.{ℕ, zero, suc, _+_, _*_, _≤_, _<_}
 use native.Mathlib.Nat.{min-le-left, min-le-right}
 use native.Mathlib.Omega.{arith}
-use borrow.Author.Tests.{le-leb, leb-true}
+use borrow.Author.Tests.{leb-true}
 use lib.Dec.{leb}
-use lib.ListN.{length, take, drop, getD, length-append, length-take, length-map, length-drop, List·getD-map}
+use lib.ListN.{length, take, drop, getD, length-append, length-map, List·getD-map}
 use lib.Seq.{take-at}
+use Rattle.refusal.specs.Laws.Bools.{unlike}
 use Rattle.refusal.specs.Laws.Pick.{pick-true, pick-false}
 use Rattle.refusal.specs.Pick.{pick}
 use Rattle.refusal.specs.declared.Refusal.{Refusal}
@@ -132,7 +133,7 @@ module _ (t : Trial) (small : length (t .released) ≤ bytesRoom) (little : leng
     same-refusal e = cc
 
     not-refused : {m : ℕ} {why : Refusal} → Runs m ≡ Refused why → ⊥
-    not-refused e = let z : _≡_ {A = ℕ} 0 1 = cc in omega arith
+    not-refused e = unlike cc
 
     by-tests : (o b : Bool) (why : Refusal) (text : List ℕ) → Refused why ≡ pick o (pick b (Runs n) (Refused (TooShort 2))) (Refused (Malformed 0))
         → refusalText why ≡ pick o (pick b text (refusalText (TooShort 2))) (refusalText (Malformed 0))

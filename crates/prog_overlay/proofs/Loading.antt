@@ -5,7 +5,8 @@ use Prim.Native.Nat.{ℕ, _+_, _≤_, _<_}
 use native.Mathlib.Omega.{arith}
 use borrow.Author.Tests.{le-leb, lt-leb}
 use lib.ListN.{length, take, drop, length-map, length-append, length-drop, drop-of-length-le}
-use lib.Seq.{take-at, sets-eq, length-take-le}
+use lib.Seq.{sets-eq, length-take-le}
+use Rattle.refusal.specs.Laws.Bools.{unlike}
 use Rattle.refusal.specs.Laws.Pick.{pick-true, pick-false}
 use Rattle.refusal.specs.Pick.{pick}
 use Rattle.refusal.specs.declared.Refusal.{Refusal}
@@ -109,7 +110,7 @@ fronts {n = n} {os = os} {ss = ss} l =
 -- ---- the line at fault
 
 not-good : {n : ℕ} → Good ≡ At n → ⊥
-not-good e = let z : _≡_ {A = ℕ} 0 1 = cc in omega arith
+not-good e = unlike cc
 
 same-line : {m n : ℕ} → At m ≡ At n → m ≡ n
 same-line e = cc

@@ -5,8 +5,9 @@ use mathlib.Core.List.{List, [], _∷_}
 use Prim.Native.Nat.{ℕ, _≤_}
 use native.Mathlib.Omega.{arith}
 use borrow.Author.Tests.{le-leb}
-use lib.ListN.{length, take, drop, length-map, length-append, length-drop}
+use lib.ListN.{length, take, drop, length-map}
 use lib.Seq.{take-at}
+use Rattle.refusal.specs.Laws.Bools.{unlike}
 use Rattle.refusal.specs.Laws.Pick.{pick-true}
 use Rattle.refusal.specs.Limits.{maxNodes}
 use Rattle.refusal.specs.declared.Refusal.{Refusal}
@@ -30,7 +31,7 @@ same-count : (m n : ℕ) → Found m ≡ Found n → m ≡ n
 same-count m n e = cc
 
 not-both : (n : ℕ) (why : Refusal) → Found n ≡ Refused why → ⊥
-not-both n why e = let z : _≡_ {A = ℕ} 0 1 = cc in omega arith
+not-both n why e = unlike cc
 
 module _ (words lengths os ss : List ℕ) (ho : length os ≡ maxNodes) (hs : length ss ≡ maxNodes) (y : acceptable words lengths ≡ true) (r : Blocks)
     (os₁ ss₁ : List ℕ) (c : Contract words lengths os ss r os₁ ss₁) where

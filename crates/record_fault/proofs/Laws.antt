@@ -1,17 +1,16 @@
 -- Laws of lines, trails and reading, on plain values.
-use mathlib.Core.Path.{_≡_, refl, sym, ap, ap₂, subst, _∙_}
+use mathlib.Core.Path.{_≡_, refl, sym, ap, ap₂, _∙_}
 use mathlib.Core.Bool.{Bool, true, false, _&&_, _||_, and-false, and-assoc}
 use mathlib.Core.List.{List, [], _∷_, _++_, append-nil}
-use Prim.Native.Nat.{ℕ, zero, suc, _+_, _-_, _*_, _<_, _≤_, max, min}
+use Prim.Native.Nat.{ℕ, zero, suc, _+_, _-_, _<_, _≤_, max, min}
 use native.Mathlib.Nat.{add-zero}
-use native.Mathlib.Numerals.{add-one}
 use native.Mathlib.Omega.{arith}
 use native.Mathlib.Decide.{decLt, ℕ-discrete}
-use lib.Dec.{ltb, leb, eqb}
+use lib.Dec.{leb, eqb}
 use lib.ListN.{length, take, drop, length-take, length-drop, drop-of-length-le}
-use borrow.Author.Tests.{lt-ltb, le-ltb, le-leb, lt-leb, leb-true, leb-false, eq-eqb, ne-eqb}
+use borrow.Author.Tests.{le-leb, lt-leb, leb-true, leb-false, eq-eqb, ne-eqb}
 use mathlib.Core.Logic.{_⊎_, inl, inr}
-use Rattle.refusal.specs.Laws.Bools.{both, neither, clash}
+use Rattle.refusal.specs.Laws.Bools.{both, neither, clash, unlike}
 use Rattle.refusal.specs.Pick.{pick}
 use Rattle.record_lines.specs.Items.{Item, gives, passes, ends, bad, Format, asLine, itemOf, Says}
 use Rattle.record_lines.specs.Lines.{isLf, isCr, lfNext, linesOf, firstLine, taken}
@@ -389,15 +388,15 @@ module _ (load s f : ℕ) (given : List Piece) (last : Bool) (rest : ℕ → Lis
       let fit : fine load given (piece a (b ∷ l) ∷ []) ≡ true = rw (ne-eqb (suc (length l)) 0 (λ z. omega arith)) at e in
       rw fit
   on′ (passes t) e = ap (λ (g : List Piece). later (rest t g)) (sym (append-nil given))
-  on′ ends e = let z : _≡_ {A = ℕ} 0 1 = cc in absurd (omega arith)
-  on′ bad e = let z : _≡_ {A = ℕ} 0 1 = cc in absurd (omega arith)
+  on′ ends e = unlike cc
+  on′ bad e = unlike cc
 
   pub off′ : (i : Item) → admits load given (asLine s f i) ≡ false → ((asLine s f i) .kind ≡ 3 → ⊥) → goOn load given last rest i ≡ faulty 0
-  off′ (gives a [] t) e k = let z : _≡_ {A = ℕ} 0 1 = cc in absurd (omega arith)
+  off′ (gives a [] t) e k = unlike cc
   off′ (gives a (b ∷ l) t) e k =
       let fit : fine load given (piece a (b ∷ l) ∷ []) ≡ false = rw (ne-eqb (suc (length l)) 0 (λ z. omega arith)) at e in
       rw fit
-  off′ (passes t) e k = let z : _≡_ {A = ℕ} 0 1 = cc in absurd (omega arith)
+  off′ (passes t) e k = unlike cc
   off′ ends e k = absurd (k refl)
   off′ bad e k = refl
 
@@ -409,10 +408,10 @@ module _ (load s f : ℕ) (given : List Piece) (last : Bool) (rest : ℕ → Lis
 
 -- a line that may stand is not bad
 pub allowed-good : (load : ℕ) (given : List Piece) (s f : ℕ) (i : Item) → admits load given (asLine s f i) ≡ true → i ≡ bad → ⊥
-allowed-good load given s f (gives a l t) e z = let y : _≡_ {A = ℕ} 0 1 = cc in omega arith
-allowed-good load given s f (passes t) e z = let y : _≡_ {A = ℕ} 0 1 = cc in omega arith
-allowed-good load given s f ends e z = let y : _≡_ {A = ℕ} 0 1 = cc in omega arith
-allowed-good load given s f bad e z = let y : _≡_ {A = ℕ} 0 1 = cc in omega arith
+allowed-good load given s f (gives a l t) e z = unlike cc
+allowed-good load given s f (passes t) e z = unlike cc
+allowed-good load given s f ends e z = unlike cc
+allowed-good load given s f bad e z = unlike cc
 
 -- ---- a line whose bytes may be new
 
@@ -458,7 +457,7 @@ module _ (load s f : ℕ) (given : List Piece) where
   pub not-end : (i : Item) → admits load given (asLine s f i) ≡ true → (asLine s f i) .kind ≡ 3 → ⊥
   not-end (gives a l t) e k = omega arith
   not-end (passes t) e k = omega arith
-  not-end ends e k = let z : _≡_ {A = ℕ} 0 1 = cc in omega arith
+  not-end ends e k = unlike cc
   not-end bad e k = omega arith
 
   pub ends-near : (i : Item) → admits load given (asLine s f i) ≡ true → (x : ℕ) → 8589934592 ≤ x → isFree (newPieces i) x ≡ true

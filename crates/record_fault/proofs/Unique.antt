@@ -2,10 +2,10 @@
 use mathlib.Core.Path.{_≡_, refl, sym, ap, ap₂, subst, _∙_}
 use mathlib.Core.Bool.{Bool, true, false}
 use mathlib.Core.List.{List}
-use Prim.Native.Nat.{ℕ, suc, _+_, _<_}
+use Prim.Native.Nat.{ℕ, _+_, _<_}
 use native.Mathlib.Decide.{decLt}
 use native.Mathlib.Omega.{arith}
-use Rattle.refusal.specs.Laws.Bools.{clash}
+use Rattle.refusal.specs.Laws.Bools.{clash, unlike}
 use Rattle.refusal.specs.Pick.{pick}
 use Rattle.bitvec.specs.Theorems.Bits.{same-bits}
 use Rattle.refusal.specs.Laws.Pick.{determined, paired}
@@ -70,7 +70,7 @@ take-line-unique κs a x y e f p q = one-step x y p q
 
 module _ (format load : ℕ) (text : List ℕ) where
   sound-or-faulty : {l : List Piece} {n : ℕ} → readText format load text ≡ sound l → readText format load text ≡ faulty n → ⊥
-  sound-or-faulty p q = let e = sym p ∙ q in let z : _≡_ {A = ℕ} 0 1 = cc in omega arith
+  sound-or-faulty p q = let e = sym p ∙ q in unlike cc
 
   one-whole : (n m h k : ℕ) (a b : Bool) (x y : ℕ) → Scanned format load text n h a x → Scanned format load text m k b y → Whole n h a x ≡ Whole m k b y
   one-whole n m h k a b x y p q =

@@ -12,7 +12,7 @@ use lib.Dec.{leb}
 use lib.ListN.{length, replicate, getD, drop, drop-of-length-le}
 use lib.Seq.{drop-cons}
 use borrow.Author.Tests.{le-leb, lt-leb, eq-eqb, ne-eqb}
-use Rattle.refusal.specs.Laws.Bools.{both, clash, either}
+use Rattle.refusal.specs.Laws.Bools.{both, clash, either, or-left}
 use Rattle.refusal.specs.Pick.{pick}
 use Rattle.bitvec.specs.Bits.{bitAt, Bytes}
 use Rattle.bitvec.specs.Laws.Bits.{bitAt-past}
@@ -297,9 +297,6 @@ module _ (format : ℕ) (text : List ℕ) (n low : ℕ) (before : List ℕ) wher
             near = omega (arith, w .near, c .lower);
           }
         where
-          or-left : (b d : Bool) → b ≡ true → (b || d) ≡ true
-          or-left b d e = rw e
-
           marked : Marked (trail format text (k + 1) .given) low after
           marked j l =
               let len : length after ≡ length scratch = ap length (o .bytes) ∙ length-ones scratch from stop in

@@ -1,22 +1,16 @@
 -- A step of looking for the lowest stretch: a law for each way that it goes.
-use mathlib.Core.Path.{_≡_, refl}
-use mathlib.Core.Bool.{Bool, true, false, _||_}
+use mathlib.Core.Path.{_≡_}
+use mathlib.Core.Bool.{Bool, false, _||_}
 use Prim.Native.Nat.{ℕ, _≤_, _<_, max}
 use native.Mathlib.Decide.{decLt}
 use native.Mathlib.Omega.{arith}
+use Rattle.refusal.specs.Laws.Bools.{or-left, or-right}
 use Rattle.record_read.specs.Steps.{run, inRun, Betters}
 use Rattle.record_read.specs.declared.Run.{Run}
 use Rattle.record_read.proofs.Loops.{in-run, before-run, behind-run}
 
 or-none : {a b : Bool} → a ≡ false → b ≡ false → (a || b) ≡ false
 or-none p q = rw (p, q)
-
-or-left : (a b : Bool) → a ≡ true → (a || b) ≡ true
-or-left a b p = rw p
-
-or-right : (a b : Bool) → b ≡ true → (a || b) ≡ true
-or-right true b q = refl
-or-right false b q = q
 
 module _ (from : ℕ) (best next : Run) (first : ℕ) (is : first ≡ max (next .first) from) where
   -- a byte before the part that counts

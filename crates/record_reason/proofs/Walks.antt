@@ -1,14 +1,15 @@
 -- The loops over a file's lines: what is known before each turn, and a law for each way on.
 use mathlib.Core.Path.{_≡_, refl, sym, ap, ap₂, _∙_}
-use mathlib.Core.Bool.{Bool, true, false, _&&_, _||_}
+use mathlib.Core.Bool.{Bool, false}
 use mathlib.Core.List.{List, [], _∷_}
 use Prim.Native.Nat.{ℕ, suc, _+_, _<_, _≤_, min}
 use native.Mathlib.Nat.{le-antisymm}
 use native.Mathlib.Numerals.{add-one}
 use native.Mathlib.Omega.{arith}
-use lib.Dec.{leb, eqb}
-use lib.ListN.{length, drop, length-drop}
+use lib.Dec.{eqb}
+use lib.ListN.{length, drop}
 use borrow.Author.Tests.{ne-eqb}
+use Rattle.refusal.specs.Laws.Bools.{unlike}
 use Rattle.refusal.specs.Pick.{pick}
 use Rattle.record_lines.specs.Items.{Item, gives, passes, ends, bad, asLine, Says}
 use Rattle.record_lines.specs.Lines.{linesOf, firstLine, taken}
@@ -198,8 +199,8 @@ module _ (format : ℕ) (text : List ℕ) where
 module _ (format load : ℕ) (text : List ℕ) where
   pub why-good : (r : Read) → faultOf r ≡ Good → toldOf 0 nothing ≡ whyOf format load text r
   why-good (sound l) e = refl
-  why-good (faulty n) e = let z : _≡_ {A = ℕ} 0 1 = cc in absurd (omega arith)
+  why-good (faulty n) e = unlike cc
 
   pub why-at : (r : Read) (n : ℕ) → faultOf r ≡ At n → toldOf n (causeAt format load text n) ≡ whyOf format load text r
-  why-at (sound l) n e = let z : _≡_ {A = ℕ} 0 1 = cc in absurd (omega arith)
+  why-at (sound l) n e = unlike cc
   why-at (faulty m) n e = let same : m ≡ n = cc in ap (λ (k : ℕ). toldOf k (causeAt format load text k)) (sym same)

@@ -10,6 +10,7 @@ use borrow.Author.Tests.{le-leb, leb-true}
 use lib.Dec.{leb}
 use lib.ListN.{length, drop, getD, drop-of-length-le}
 use lib.Seq.{drop-cons}
+use Rattle.refusal.specs.Laws.Bools.{unlike}
 use Rattle.refusal.specs.Pick.{pick}
 use Rattle.refusal.specs.declared.Refusal.{Refusal}
 use Rattle.refusal.specs.declared.Refusal.the-variants.{BadPart}
@@ -24,10 +25,10 @@ use Rattle.record_write.specs.Cut.{blocksIn}
 -- a test whose outcome a verdict tells
 pub part-accepted : (b : Bool) {v : Verdict} → v ≡ Accepted → v ≡ pick b Accepted (Refused BadPart) → true ≡ b
 part-accepted true e f = refl
-part-accepted false e f = let z : _≡_ {A = ℕ} 0 1 = cc in absurd (omega arith)
+part-accepted false e f = unlike cc
 
 pub part-refused : (b : Bool) {v : Verdict} {r : Refusal} → v ≡ Refused r → v ≡ pick b Accepted (Refused BadPart) → false ≡ b
-part-refused true e f = let z : _≡_ {A = ℕ} 0 1 = cc in absurd (omega arith)
+part-refused true e f = unlike cc
 part-refused false e f = refl
 
 none-behind : (x : List ℕ) → blocksIn x [] ≡ []

@@ -5,11 +5,10 @@ use mathlib.Core.Logic.{⊎-elim}
 use mathlib.Core.Bool.{Bool, true, false, _&&_}
 use native.Mathlib.Nat.{le-of-suc-le-suc, not-suc-le-zero, eq-or-lt-of-le}
 use native.Mathlib.Numerals.{add-one}
-use native.Mathlib.Omega.{arith}
 use lib.Dec.{eqb}
 use lib.ListN.{length}
 use borrow.Author.Tests.{eq-eqb, ne-eqb, le-leb, lt-leb}
-use Rattle.refusal.specs.Laws.Bools.{either}
+use Rattle.refusal.specs.Laws.Bools.{either, unlike}
 use Rattle.refusal.specs.declared.Refusal.{Refusal}
 use Rattle.refusal.specs.declared.Refusal.the-variants.{LabelOffBoundary}
 use Rattle.bankdef.specs.declared.Bankdef.{Bankdef}
@@ -93,7 +92,7 @@ met-paced def node b j isFirst isLast merged {now = now} s e n f g =
 
 -- a pass that is refused has no state
 pub never-state : {why : Refusal} {merged : ℕ} → Refused why ≡ State merged → ⊥
-never-state e = let z : _≡_ {A = ℕ} 0 1 = cc in omega arith
+never-state e = unlike cc
 
 -- the pass from node to node
 module _ (p : Program) (row before : Row) (isFirst isLast : Bool) where

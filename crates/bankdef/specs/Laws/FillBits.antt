@@ -11,8 +11,7 @@ use Rattle.refusal.specs.Pick.{pick}
 use Rattle.refusal.specs.declared.Opt.{Opt}
 use Rattle.refusal.specs.declared.Opt.the-variants.{None, Some}
 use Rattle.bankdef.specs.declared.Bankdef.{Bankdef}
-use Rattle.refusal.specs.Laws.Bools.{either, clash, both}
-use Rattle.bankdef.specs.Laws.Bools.{or-left, or-right}
+use Rattle.refusal.specs.Laws.Bools.{either, clash, both, or-left, or-right}
 use Rattle.bankdef.specs.Check.{noBank}
 use Rattle.bankdef.specs.SharedBit.{InPlace, InBank}
 use Rattle.bankdef.specs.FillBits.{FillsBit, fillBitAt, fillsBy, onesAt, onesIn}

@@ -8,7 +8,7 @@ use native.Mathlib.Nat.{le-refl}
 use native.Mathlib.Omega.{arith}
 use lib.Dec.{ltb}
 use borrow.Author.Tests.{ltb-true, ltb-false}
-use Rattle.refusal.specs.Laws.Bools.{either, clash}
+use Rattle.refusal.specs.Laws.Bools.{either, clash, unlike}
 use Rattle.refusal.specs.declared.Opt.{Opt}
 use Rattle.refusal.specs.declared.Opt.the-variants.{None, Some}
 use Rattle.bankdef.specs.declared.Bankdef.{Bankdef}
@@ -16,7 +16,7 @@ use Rattle.bankdef.specs.Fill.{filledBy}
 use Rattle.bankdef.specs.FillFacts.{EndOf, Filled, Fills, enough, raises, without}
 
 some-size : {o : Opt} {m : ℕ} → o ≡ None → o ≡ Some m → ⊥
-some-size e f = let z : _≡_ {A = ℕ} 0 1 = cc in omega arith
+some-size e f = unlike cc
 
 pub filled-cases : (b : Bankdef) (n : ℕ) (fill : Bool) (size offset : Opt) → b .fill ≡ fill → b .size ≡ size → b .offset ≡ offset
     → Filled b n (filledBy fill size offset n)

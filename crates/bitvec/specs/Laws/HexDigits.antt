@@ -8,6 +8,7 @@ use native.Mathlib.Omega.{arith}
 use lib.Dec.{leb}
 use lib.ListN.{length, drop}
 use borrow.Author.Tests.{lt-ltb, le-ltb}
+use Rattle.refusal.specs.Laws.Bools.{unlike}
 use Rattle.refusal.specs.Pick.{pick}
 use Rattle.refusal.specs.Told.{gives, refuses}
 use Rattle.refusal.specs.declared.Place.{Place}
@@ -42,7 +43,7 @@ module _ (bytes : List ℕ) (bits : ℕ) (hex : List ℕ) (count : Hex) (after :
     where
       go : (s t : Bool) → toldHex (pick s (pick t (Digits (digitCount bits)) (Refused (TooShort 3))) (Refused (Malformed 0))) ≡ refuses n p
           → pick (s && t) (hexOf bytes bits ++ drop (digitCount bits) hex) hex ≡ hex
-      go true true is = let z : _≡_ {A = ℕ} 0 1 = cc in absurd (omega arith)
+      go true true is = unlike cc
       go true false is = refl
       go false t is = refl
 
@@ -55,5 +56,5 @@ module _ (bytes : List ℕ) (bits : ℕ) (hex : List ℕ) (count : Hex) (after :
       go : (s t : Bool) → toldHex (pick s (pick t (Digits (digitCount bits)) (Refused (TooShort 3))) (Refused (Malformed 0))) ≡ gives n
           → (n ≡ digitCount bits) × (pick (s && t) (hexOf bytes bits ++ drop (digitCount bits) hex) hex ≡ hexOf bytes bits ++ drop (digitCount bits) hex)
       go true true is = (cc, refl)
-      go true false is = let z : _≡_ {A = ℕ} 0 1 = cc in absurd (omega arith)
-      go false t is = let z : _≡_ {A = ℕ} 0 1 = cc in absurd (omega arith)
+      go true false is = unlike cc
+      go false t is = unlike cc

@@ -3,9 +3,9 @@ use mathlib.Core.Path.{_≡_, refl, sym, subst}
 use mathlib.Core.Bool.{Bool, true, false, _&&_}
 use mathlib.Core.List.{List}
 use Prim.Native.Nat.{ℕ, _+_, _*_}
-use native.Mathlib.Omega.{arith}
 use lib.ListN.{length}
 use borrow.Author.Tests.{leb-true, leb-false}
+use Rattle.refusal.specs.Laws.Bools.{unlike}
 use Rattle.refusal.specs.Pick.{pick}
 use Rattle.refusal.specs.Told.{toldVerdict}
 use Rattle.refusal.specs.declared.Refusal.{Refusal}
@@ -31,8 +31,8 @@ module _ (image : List ℕ) (position : ℕ) (values : List ℕ) (start size : �
 -- A test whose outcome a verdict tells.
 pub accepted-test : (b : Bool) (r : Refusal) → Accepted ≡ pick b Accepted (Refused r) → b ≡ true
 accepted-test true r e = refl
-accepted-test false r e = let z : _≡_ {A = ℕ} 0 1 = cc in absurd (omega arith)
+accepted-test false r e = unlike cc
 
 pub refused-test : (b : Bool) (q r : Refusal) → Refused q ≡ pick b Accepted (Refused r) → b ≡ false
-refused-test true q r e = let z : _≡_ {A = ℕ} 0 1 = cc in absurd (omega arith)
+refused-test true q r e = unlike cc
 refused-test false q r e = refl

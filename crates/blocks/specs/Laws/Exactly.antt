@@ -6,6 +6,7 @@ use Prim.Native.Nat.{ℕ, _+_, _-_, _≤_, _<_}
 use native.Mathlib.Omega.{arith}
 use lib.ListN.{length, getD, drop, List·getD-append, List·getD-map, length-append, length-drop, length-map}
 use lib.Seq.{getD-append-add, getD-drop}
+use Rattle.refusal.specs.Laws.Bools.{unlike}
 use Rattle.refusal.specs.declared.Place.{Place}
 use Rattle.refusal.specs.declared.Place.the-variants.{One}
 use Rattle.refusal.specs.Pick.{pick}
@@ -20,22 +21,22 @@ answers a b n = pick a (pick b (gives n) (refuses 14 (One 2))) (refuses 4 (One 0
 
 pub given : (a b : Bool) (m n : ℕ) → answers a b n ≡ gives m → (a ≡ true) × (b ≡ true) × (m ≡ n)
 given true true m n e = (refl, refl, (cc))
-given true false m n e = let z : _≡_ {A = ℕ} 0 1 = cc in absurd (omega arith)
-given false b m n e = let z : _≡_ {A = ℕ} 0 1 = cc in absurd (omega arith)
+given true false m n e = unlike cc
+given false b m n e = unlike cc
 
 pub is-4 : (a b : Bool) (n : ℕ) → answers a b n ≡ refuses 4 (One 0) → a ≡ false
-is-4 true true n e = let z : _≡_ {A = ℕ} 0 1 = cc in absurd (omega arith)
+is-4 true true n e = unlike cc
 is-4 true false n e = let z : _≡_ {A = ℕ} 14 4 = cc in absurd (omega arith)
 is-4 false b n e = refl
 
 pub is-14 : (a b : Bool) (n : ℕ) → answers a b n ≡ refuses 14 (One 2) → (a ≡ true) × (b ≡ false)
-is-14 true true n e = let z : _≡_ {A = ℕ} 0 1 = cc in absurd (omega arith)
+is-14 true true n e = unlike cc
 is-14 true false n e = (refl, refl)
 is-14 false b n e = let z : _≡_ {A = ℕ} 4 14 = cc in absurd (omega arith)
 
 -- A refused call takes neither way that writes.
 pub unwritten : (a b : Bool) (n k : ℕ) (p : Place) (x y : List ℕ) → answers a b n ≡ refuses k p → pick a (pick b x y) y ≡ y
-unwritten true true n k p x y e = let z : _≡_ {A = ℕ} 0 1 = cc in absurd (omega arith)
+unwritten true true n k p x y e = unlike cc
 unwritten true false n k p x y e = refl
 unwritten false b n k p x y e = refl
 

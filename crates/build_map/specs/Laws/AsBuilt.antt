@@ -6,6 +6,7 @@ use native.Mathlib.Omega.{arith}
 use borrow.Author.Tests.{le-leb, lt-leb}
 use lib.Dec.{ltb}
 use lib.ListN.{length}
+use Rattle.refusal.specs.Laws.Bools.{unlike}
 use Rattle.refusal.specs.Pick.{pick}
 use Rattle.refusal.specs.declared.Refusal.{Refusal}
 use Rattle.refusal.specs.declared.Refusal.the-variants.{TooShort}
@@ -52,10 +53,10 @@ pub turned-same : {a b : Refusal} → TurnedAway a ≡ TurnedAway b → a ≡ b
 turned-same e = cc
 
 pub never-refused : {why : Refusal} → Accepted ≡ Refused why → ⊥
-never-refused e = let z : _≡_ {A = ℕ} 0 1 = cc in omega arith
+never-refused e = unlike cc
 
 pub never-done : {why : Refusal} {k bits spans : ℕ} → Done k bits spans ≡ TurnedAway why → ⊥
-never-done e = let z : _≡_ {A = ℕ} 0 1 = cc in omega arith
+never-done e = unlike cc
 
 -- ---- a built layout: the build's spans
 
@@ -75,7 +76,7 @@ unfolding placedFrom
 first-stopped p row closed why zero e = absurd (stops-none (sym (ap (placedAll closed) (visits-none p row)) ∙ e))
   where
     stops-none : {s : State} → holds s ≡ stops why → ⊥
-    stops-none q = let z : _≡_ {A = ℕ} 0 1 = cc in omega arith
+    stops-none q = unlike cc
 first-stopped p row closed why (suc n) e = by (placedAll closed (visitsTo p row n)) refl (λ f. first-stopped p row closed why n f)
   where
     next : placedNext closed (visitAt p row n) (placedAll closed (visitsTo p row n)) ≡ stops why
@@ -94,4 +95,4 @@ pub fault-same : {a b : ℕ} → AtNode a ≡ AtNode b → a ≡ b
 fault-same e = cc
 
 pub never-fault : {n : ℕ} → None ≡ AtNode n → ⊥
-never-fault e = let z : _≡_ {A = ℕ} 0 1 = cc in omega arith
+never-fault e = unlike cc

@@ -1,11 +1,12 @@
 -- Laws that Theorems/Pages rests on.
 use Prim.Native.Nat.{ℕ, _+_, _<_, _≤_}
-use mathlib.Core.Path.{_≡_, refl, sym, ap, _∙_}
-use mathlib.Core.Bool.{Bool, true, false, _&&_, _||_}
+use mathlib.Core.Path.{_≡_, sym, ap, _∙_}
+use mathlib.Core.Bool.{Bool, true, false, _&&_}
 use native.Mathlib.Omega.{arith}
 use lib.Dec.{eqb}
 use lib.ListN.{length, length-take, List·getD-eq-default}
 use borrow.Author.Tests.{ne-eqb}
+use Rattle.refusal.specs.Laws.Bools.{unlike, or-right}
 use Rattle.refusal.specs.Pick.{pick}
 use Rattle.refusal.specs.Laws.Pick.{pick-true, pick-false}
 use Rattle.refusal.specs.declared.Opt.the-variants.{None, Some}
@@ -28,10 +29,6 @@ use Rattle.build_profile.specs.Laws.RuleLaws.{both-kept}
 
 -- ---- an accepted visit passed 10
 
-or-second : (a b : Bool) → b ≡ true → (a || b) ≡ true
-or-second true b e = refl
-or-second false b e = e
-
 written-size : (v : Visit) → isWritten (v .node) ≡ true → sizeOf (v .node) ≡ v .node .number
 written-size v w =
     let kind = written-exactly (v .node) .0 w in
@@ -42,7 +39,7 @@ pub fits : (closed : Bool) (s : State) (v : Visit) → verdictOn closed s v ≡ 
 fits closed s v acc w =
     let n = v .node in
     let seen = seen-placing closed s v (v .seen) acc in
-    let placed : isPlaced n ≡ true = or-second (eqb (n .kind) 2) (isOffered n) (rw w) in
+    let placed : isPlaced n ≡ true = or-right (eqb (n .kind) 2) (isOffered n) (rw w) in
     let all : tried closed (v .bank) (v .def) s n (seen .0) (v .out) ≡ Fine =
     sym (pick-true (tried closed (v .bank) (v .def) s n (seen .0) (v .out)) Fine placed) ∙ seen .2 in
     let opened = sym (checked-opens closed (v .bank) (v .def) n (seen .0) (v .out))
@@ -55,7 +52,7 @@ fits closed s v acc w =
     ap (endsPast (v .def .size)) (ap (λ (x : ℕ). x + n .number) at ∙ ap (λ (x : ℕ). seen .0 .position + x) (sym (written-size v w))) ∙ ten
 
 never : {a : ℕ} → None ≡ Some a → ⊥
-never e = let z : _≡_ {A = ℕ} 0 1 = cc in omega arith
+never e = unlike cc
 
 -- a bank with an offset is one of the table's
 pub has-record : (banks : Bankdefs) (k offset : ℕ) → bankRecord banks k .offset ≡ Some offset → k < length (banksOf banks)

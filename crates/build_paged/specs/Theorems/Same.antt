@@ -2,7 +2,7 @@
 use Prim.Native.Nat.{ℕ}
 use mathlib.Core.Path.{_≡_, refl, sym, ap, _∙_}
 use mathlib.Core.Logic.{_⊎_, inl, inr}
-use native.Mathlib.Omega.{arith}
+use Rattle.refusal.specs.Laws.Bools.{unlike}
 use Rattle.refusal.specs.Told.{Told, refuses, gives}
 use Rattle.refusal.specs.declared.Place.{Place}
 use Rattle.refusal.specs.declared.Place.the-variants.{Two}
@@ -78,10 +78,10 @@ module _ (page : ℕ) (b : Input) (old : Lent) {r : Output} {new : Lent} (p : Bu
   -- ---- an accepted build in the profile
 
   refused-done : {why : Refusal} {k bits spans : ℕ} → NotBuilt why ≡ Done k bits spans → ⊥
-  refused-done e = let z : _≡_ {A = ℕ} 0 1 = cc in omega arith
+  refused-done e = unlike cc
 
   refuses-gives : {n : ℕ} {at : Place} {f : Figures} → refuses n at ≡ gives f → ⊥
-  refuses-gives e = let z : _≡_ {A = ℕ} 0 1 = cc in omega arith
+  refuses-gives e = unlike cc
 
   -- It is an accepted ordinary build, of a layout that keeps the profile.
   pub accepted-keeps : (k bits spans : ℕ) → r .build ≡ Done k bits spans → InProfile (b .banks) (b .lists) page × Builds b old r new

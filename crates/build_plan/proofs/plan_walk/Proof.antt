@@ -1,9 +1,10 @@
 -- `plan_walk` meets its contract. The loop's invariant is `Going`: each node is met by a law of PlanLaws.
 use mathlib.Core.Path.{_≡_, sym, ap, _∙_}
-use Prim.Native.Nat.{ℕ, _-_, _≤_}
+use Prim.Native.Nat.{_-_, _≤_}
 use native.Mathlib.Omega.{arith}
 use lib.ListN.{length, length-map}
 use borrow.Author.Needs.{needs}
+use Rattle.refusal.specs.Laws.Bools.{unlike}
 use Rattle.refusal.specs.Limits.{maxNodes}
 use Rattle.refusal.specs.declared.Refusal.{Refusal}
 use Rattle.refusal.specs.declared.Verdict.the-variants.{Accepted, Refused}
@@ -87,7 +88,7 @@ comes c =
     }
 
 never-accepted : {why : Refusal} → Refused why ≡ Accepted → ⊥
-never-accepted e = let z : _≡_ {A = ℕ} 0 1 = cc in omega arith
+never-accepted e = unlike cc
 
 loop-holds : tie.Need-loop-holds Inv-loop μ-loop
 loop-holds c =

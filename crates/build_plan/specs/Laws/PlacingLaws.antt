@@ -1,6 +1,6 @@
 -- Laws that Theorems/PlacingLaws rests on.
 use mathlib.Core.Path.{_≡_, refl, sym, ap, subst, _∙_}
-use mathlib.Core.Bool.{Bool, true, false, _||_}
+use mathlib.Core.Bool.{Bool, true, false}
 use mathlib.Core.List.{List, [], _∷_, _++_, List·Memᴰ, List·Memᴰ·head, List·Memᴰ·tail, List·Memᴰ·not-nil, List·Memᴰ·append-cases}
 use mathlib.Core.List.{List·Memᴰ·cases-cons, List·Memᴰ·eq-of-singleton, Memᴰ·append-left, Memᴰ·append-right}
 use mathlib.Core.Logic.{_⊎_, inl, inr, ⊎-elim}
@@ -8,6 +8,7 @@ use Prim.Native.Nat.{ℕ, _<_}
 use native.Mathlib.Omega.{arith}
 use lib.Dec.{eqb}
 use lib.ListN.{take, drop, take-append-drop}
+use Rattle.refusal.specs.Laws.Bools.{unlike, or-right}
 use Rattle.refusal.specs.Pick.{pick}
 use Rattle.refusal.specs.Laws.Pick.{pick-true}
 use Rattle.refusal.specs.declared.Refusal.{Refusal}
@@ -40,19 +41,15 @@ use Rattle.build_plan.specs.PlacingLaws.{OfferedBit}
 -- ---- verdicts and tests
 
 pub refused-accepted : {r : Refusal} → Refused r ≡ Accepted → ⊥
-refused-accepted e = let z : _≡_ {A = ℕ} 0 1 = cc in omega arith
+refused-accepted e = unlike cc
 
 pub stops-holds : {r : Refusal} {s : State} → stops r ≡ holds s → ⊥
-stops-holds e = let z : _≡_ {A = ℕ} 0 1 = cc in omega arith
+stops-holds e = unlike cc
 
 -- a case that would refuse was not taken
 pub passed : (b : Bool) (r : Refusal) (v : Verdict) → pick b (Refused r) v ≡ Accepted → (b ≡ false) × (v ≡ Accepted)
 passed true r v e = absurd (refused-accepted e)
 passed false r v e = (refl, e)
-
-pub or-second : (a b : Bool) → b ≡ true → (a || b) ≡ true
-or-second true b e = refl
-or-second false b e = e
 
 pub first-accepted : (v w : Verdict) → firstOf v w ≡ Accepted → (v ≡ Accepted) × (w ≡ Accepted)
 first-accepted Accepted w e = (refl, e)
@@ -128,7 +125,7 @@ offer-accepted closed s v acc e m =
     let o = picked-some (isOffered n) _ m .0 in
     let seen = seen-placing closed s v (v .seen) acc in
     let all : tried closed (v .bank) (v .def) s n (seen .0) (v .out) ≡ Accepted =
-    rw (pick-true (tried closed (v .bank) (v .def) s n (seen .0) (v .out)) Accepted (or-second (eqb (n .kind) 2) (isOffered n) o)) at (seen .2) in
+    rw (pick-true (tried closed (v .bank) (v .def) s n (seen .0) (v .out)) Accepted (or-right (eqb (n .kind) 2) (isOffered n) o)) at (seen .2) in
     only (offerOf v) (first-accepted (checked closed (v .bank) (v .def) n (seen .0) (v .out)) (answered s (n .index) (offerOf v)) all .1)
     (λ a ma. one-offer v a e ma m) m
   where

@@ -3,8 +3,8 @@ use mathlib.Core.Path.{_≡_, refl, sym, ap, _∙_}
 use mathlib.Core.Bool.{Bool}
 use mathlib.Core.List.{List}
 use Prim.Native.Nat.{ℕ, _<_}
-use native.Mathlib.Omega.{arith}
 use lib.ListN.{length, getD, length-map, List·getD-map}
+use Rattle.refusal.specs.Laws.Bools.{unlike}
 use Rattle.refusal.specs.Limits.{maxBanks}
 use Rattle.refusal.specs.declared.Verdict.{Verdict}
 use Rattle.refusal.specs.declared.Verdict.the-variants.{Accepted, Refused}
@@ -56,7 +56,7 @@ module _ (bits spans : ℕ) (sums : List Lost) where
   plan-accepted : (q : Placed) → planBy bits spans sums q .verdict ≡ Accepted
       → planBy bits spans sums q ≡ planAccepted bits spans sums
   plan-accepted (holds stored) e = refl
-  plan-accepted (stops why) e = absurd (let z : _≡_ {A = ℕ} 0 1 = cc in omega arith)
+  plan-accepted (stops why) e = unlike cc
 
 pub plan-parts : (p : Program) (row : Row) (closed : Bool) (fill : ℕ) (plan : Plan) → plan ≡ planOf p row closed fill → Planned p row closed fill plan
 plan-parts p row closed fill plan is =

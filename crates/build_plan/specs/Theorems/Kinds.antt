@@ -8,11 +8,11 @@ use native.Mathlib.Decide.{decLe}
 use native.Mathlib.Omega.{arith}
 use borrow.Author.Tests.{leb-true, le-leb, eqb-true, eq-eqb}
 use lib.Dec.{eqb, leb}
+use Rattle.refusal.specs.Laws.Bools.{or-left, or-right, or-told, both}
 use Rattle.lists.specs.declared.Node.{Node}
 use Rattle.build_sights.specs.Items.{isWritten}
 use Rattle.build_sights.specs.Spans.{isSpan}
 use Rattle.build_plan.specs.Placing.{isReserve, isOffered, isPlaced}
-use Rattle.build_plan.specs.Laws.Kinds.{both, first, one, second}
 
 module _ (n : Node) where
   -- "written items (4, 5, 6)"
@@ -32,11 +32,11 @@ module _ (n : Node) where
         ⊎-elim
         (λ (w : isWritten n ≡ true). let h = written-exactly .0 w in (h .0, omega (arith, h .1)))
         (λ (r : isReserve n ≡ true). let h = eqb-true (n .kind) 7 r in (omega arith, omega arith))
-        (one (isWritten n) (isReserve n) e),
+        (or-told (isWritten n) (isReserve n) e),
     λ h.
         elim (decLe (n .kind) 6) [
-          | yes low ↦ first (isWritten n) (isReserve n) (written-exactly .1 (h .0, low))
-          | no high ↦ second (isWritten n) (isReserve n) (eq-eqb (n .kind) 7 (omega (arith, h .1)))
+          | yes low ↦ or-left (isWritten n) (isReserve n) (written-exactly .1 (h .0, low))
+          | no high ↦ or-right (isWritten n) (isReserve n) (eq-eqb (n .kind) 7 (omega (arith, h .1)))
         ],
   )
 
@@ -47,11 +47,11 @@ module _ (n : Node) where
         ⊎-elim
         (λ (l : eqb (n .kind) 2 ≡ true). inl (eqb-true (n .kind) 2 l))
         (λ (o : isOffered n ≡ true). inr (offered-exactly .0 o))
-        (one (eqb (n .kind) 2) (isOffered n) e),
+        (or-told (eqb (n .kind) 2) (isOffered n) e),
     λ h.
         ⊎-elim
-        (λ (l : n .kind ≡ 2). first (eqb (n .kind) 2) (isOffered n) (eq-eqb (n .kind) 2 l))
-        (λ (o : (4 ≤ n .kind) × (n .kind ≤ 7)). second (eqb (n .kind) 2) (isOffered n) (offered-exactly .1 o))
+        (λ (l : n .kind ≡ 2). or-left (eqb (n .kind) 2) (isOffered n) (eq-eqb (n .kind) 2 l))
+        (λ (o : (4 ≤ n .kind) × (n .kind ≤ 7)). or-right (eqb (n .kind) 2) (isOffered n) (offered-exactly .1 o))
         h,
   )
 
@@ -62,10 +62,10 @@ module _ (n : Node) where
         ⊎-elim
         (λ (l : eqb (n .kind) 2 ≡ true). inl (eqb-true (n .kind) 2 l))
         (λ (w : isWritten n ≡ true). inr (written-exactly .0 w))
-        (one (eqb (n .kind) 2) (isWritten n) e),
+        (or-told (eqb (n .kind) 2) (isWritten n) e),
     λ h.
         ⊎-elim
-        (λ (l : n .kind ≡ 2). first (eqb (n .kind) 2) (isWritten n) (eq-eqb (n .kind) 2 l))
-        (λ (w : (4 ≤ n .kind) × (n .kind ≤ 6)). second (eqb (n .kind) 2) (isWritten n) (written-exactly .1 w))
+        (λ (l : n .kind ≡ 2). or-left (eqb (n .kind) 2) (isWritten n) (eq-eqb (n .kind) 2 l))
+        (λ (w : (4 ≤ n .kind) × (n .kind ≤ 6)). or-right (eqb (n .kind) 2) (isWritten n) (written-exactly .1 w))
         h,
   )

@@ -3,6 +3,7 @@ use mathlib.Core.Path.{_≡_, refl, sym, _∙_}
 use mathlib.Core.Bool.{Bool, true, false, _&&_}
 use Prim.Native.Nat.{ℕ, _+_}
 use lib.Dec.{eqb}
+use Rattle.refusal.specs.Laws.Bools.{or-right}
 use Rattle.refusal.specs.Pick.{pick}
 use Rattle.refusal.specs.Laws.Pick.{pick-true}
 use Rattle.refusal.specs.declared.Refusal.the-variants.{DefaultBank, PastBank, NoOutput}
@@ -17,7 +18,7 @@ use Rattle.build_sights.specs.Items.{isWritten}
 use Rattle.build_sights.specs.Spans.{sizeOf}
 use Rattle.build_plan.specs.Placing.{usesDefault, endsPast, lacksOutput, isPlaced, isOffered, offerOf, checked, answered, tried}
 use Rattle.build_plan.specs.Placing.{verdictOn}
-use Rattle.build_plan.specs.Laws.PlacingLaws.{first-accepted, or-second, passed, seen-placing}
+use Rattle.build_plan.specs.Laws.PlacingLaws.{first-accepted, passed, seen-placing}
 
 -- 9, 10 and 11 in this order
 pub checked-opens : (closed : Bool) (bank : ℕ) (def : Bankdef) (n : Node) (at : Pos) (out : Offset)
@@ -33,7 +34,7 @@ pub written-stands : (closed : Bool) (s : State) (v : Visit) → verdictOn close
 written-stands closed s v acc w =
     let n = v .node in
     let seen = seen-placing closed s v (v .seen) acc in
-    let placed : isPlaced n ≡ true = or-second (eqb (n .kind) 2) (isOffered n) (rw w) in
+    let placed : isPlaced n ≡ true = or-right (eqb (n .kind) 2) (isOffered n) (rw w) in
     let all : tried closed (v .bank) (v .def) s n (seen .0) (v .out) ≡ Accepted =
     rw (pick-true (tried closed (v .bank) (v .def) s n (seen .0) (v .out)) Accepted placed) at (seen .2) in
     through (seen .0) (first-accepted (checked closed (v .bank) (v .def) n (seen .0) (v .out)) (answered s (n .index) (offerOf v)) all .0)

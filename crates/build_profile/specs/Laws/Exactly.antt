@@ -5,6 +5,7 @@ use mathlib.Core.Bool.{Bool, true, false}
 use mathlib.Core.List.{List}
 use lib.ListN.{length}
 use native.Mathlib.Omega.{arith}
+use Rattle.refusal.specs.Laws.Bools.{unlike}
 use Rattle.refusal.specs.Pick.{pick}
 use Rattle.refusal.specs.Refusals.{numberOf}
 use Rattle.refusal.specs.Told.{Told, gives, refuses}
@@ -22,7 +23,7 @@ pub number-same : {m n : ℕ} {p q : Place} → _≡_ {A = Told (List ℕ)} (ref
 number-same e = cc
 
 pub never : {pages : List ℕ} {n : ℕ} {p : Place} → gives pages ≡ refuses n p → ⊥
-never e = let z : _≡_ {A = ℕ} 0 1 = cc in omega arith
+never e = unlike cc
 
 -- ---- the refusals that come before are other numbers
 

@@ -1,13 +1,12 @@
 -- Laws that Theorems/Keeping rests on.
 use Prim.Native.Nat.{ℕ, _%_, _<_}
 use mathlib.Core.Path.{_≡_, refl}
-use mathlib.Core.Bool.{Bool, true, false, not, _||_}
+use mathlib.Core.Bool.{Bool, true, not, _||_}
 use mathlib.Core.Logic.{_⊎_, inl, inr, _↔_}
 use lib.Dec.{eqb}
 use lib.ListN.{getD}
-use native.Mathlib.Omega.{arith}
 use borrow.Author.Tests.{eqb-true, eq-eqb}
-use Rattle.refusal.specs.Laws.Bools.{either}
+use Rattle.refusal.specs.Laws.Bools.{either, unlike, or-told}
 use Rattle.refusal.specs.declared.Opt.{Opt}
 use Rattle.refusal.specs.declared.Opt.the-variants.{None, Some}
 use Rattle.lists.specs.Lists.{Lists}
@@ -17,7 +16,7 @@ use Rattle.build_profile.specs.Rules.{onPage, wholePages, unitKept, numb
 -- ---- the tests
 
 pub never : {a : ℕ} → None ≡ Some a → ⊥
-never e = let z : _≡_ {A = ℕ} 0 1 = cc in omega arith
+never e = unlike cc
 
 pub of-some : {a b : ℕ} → Some a ≡ Some b → a ≡ b
 of-some e = cc
@@ -29,15 +28,11 @@ page-test page (Some b) = (λ e x q. rw (← (of-some q)) (eqb-true (b % page) 0
 pub size-test : (page : ℕ) (o s : Opt) → (wholePages page o s ≡ true) ↔ ((offset : ℕ) → o ≡ Some offset → (size : ℕ) × (s ≡ Some size) × (size % page ≡ 0))
 size-test page None s = (λ e x q. absurd (never q), λ h. refl)
 size-test page (Some b) None =
-    (λ e. absurd (let z : _≡_ {A = ℕ} 0 1 = cc in omega arith), λ h. absurd (never (h b refl .1)))
+    (λ e. unlike cc, λ h. absurd (never (h b refl .1)))
 size-test page (Some b) (Some y) = (
   λ e x q. (y, refl, eqb-true (y % page) 0 e),
   λ h. let w = h b refl in eq-eqb (y % page) 0 (rw (of-some (w .1)) (w .2)),
 )
-
-or-told : (a b : Bool) → (a || b) ≡ true → (a ≡ true) ⊎ (b ≡ true)
-or-told true b e = inl refl
-or-told false b e = inr e
 
 pub unit-test : (u : ℕ) → (unitKept u ≡ true) ↔ ((u ≡ 8) ⊎ (u ≡ 16))
 unit-test u = (λ e. there (or-told (eqb u 8) (eqb u 16) e), back)

@@ -3,6 +3,7 @@ use Prim.Native.Nat.{ℕ}
 use mathlib.Core.Path.{_≡_, subst}
 use lib.ListN.{length}
 use native.Mathlib.Omega.{arith}
+use Rattle.refusal.specs.Laws.Bools.{unlike}
 use Rattle.refusal.specs.declared.Refusal.the-variants.{OffProfile}
 use Rattle.refusal.specs.declared.Verdict.{Verdict}
 use Rattle.refusal.specs.declared.Verdict.the-variants.{Accepted, Refused}
@@ -53,7 +54,7 @@ module _ (banks : Bankdefs) (l : Lists) (page : ℕ) where
     where
       from : {v : Verdict} → Judged banks l page v → v ≡ Accepted → InProfile banks l page
       from (keeps h) f = h
-      from (breaks b) f = absurd (let z : _≡_ {A = ℕ} 0 1 = cc in omega arith)
+      from (breaks b) f = unlike cc
 
   -- ---- the other way round
 

@@ -7,6 +7,7 @@ use native.Mathlib.Omega.{arith}
 use lib.ListN.{length}
 use lib.Dec.{ltb}
 use borrow.Author.Tests.{lt-ltb, le-ltb, lt-leb, ltb-true, ltb-false}
+use Rattle.refusal.specs.Laws.Bools.{unlike}
 use Rattle.refusal.specs.declared.Refusal.{Refusal}
 use Rattle.refusal.specs.declared.Refusal.the-variants.{Malformed}
 use Rattle.form_fields.specs.declared.Kind.{Kind}
@@ -153,7 +154,7 @@ sound-file k file s e =
     (λ h. never (form-head k file short h)))
   where
     never : {X : Type 0} {r : Refusal} → formIn k file ≡ Broken r → X
-    never b = let z : _≡_ {A = ℕ} 0 1 = cc in absurd (omega arith)
+    never b = unlike cc
 
     same : {t : Shape} → formIn k file ≡ Sound t → s ≡ t
     same {t} b = cc

@@ -8,7 +8,7 @@ use native.Mathlib.Omega.{arith}
 use lib.Dec.{eqb, ltb}
 use lib.IntN.{ℤ, pos, negsuc, negℤ, subℕ, _*ℤ_}
 use borrow.Author.Tests.{ltb-true, ltb-false, lt-ltb, le-ltb, eqb-true, eqb-false, ne-eqb}
-use Rattle.refusal.specs.Laws.Bools.{either}
+use Rattle.refusal.specs.Laws.Bools.{either, unlike}
 use Rattle.refusal.specs.Pick.{pick}
 use Rattle.refusal.specs.declared.Refusal.{Refusal}
 use Rattle.bankdef.specs.declared.Bankdef.{Bankdef}
@@ -25,7 +25,7 @@ pos-same m n e = cc
 -- a number from 0 on is no negative one
 not-below : (n m : ℕ) → 0 < m → pos n ≡ negℤ (pos m) → ⊥
 not-below n zero h e = omega arith
-not-below n (suc m) h e = let z : _≡_ {A = ℕ} 0 1 = cc in omega arith
+not-below n (suc m) h e = unlike cc
 
 -- s less s + m is -m
 pub less : (s m n : ℕ) → n ≡ m + s → subℕ s n ≡ negℤ (pos m)
@@ -118,7 +118,7 @@ nonzero a h = ne-eqb a 0 (λ e. omega arith)
 -- ---- the definition followed test by test
 
 pub never : (why : Refusal) (s : Skipped) → Refused why ≡ Skips s → ⊥
-never why s e = let z : _≡_ {A = ℕ} 0 1 = cc in omega arith
+never why s e = unlike cc
 
 pub skips-same : {s t : Skipped} → Skips s ≡ Skips t → s ≡ t
 skips-same e = cc

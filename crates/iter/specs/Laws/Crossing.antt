@@ -6,6 +6,7 @@ use mathlib.Core.List.{List, [], _∷_}
 use native.Mathlib.Nat.{le-of-suc-le-suc}
 use native.Mathlib.Omega.{arith}
 use lib.ListN.{getD, length}
+use Rattle.refusal.specs.Laws.Bools.{unlike}
 use Rattle.refusal.specs.Pick.{pick}
 use Rattle.refusal.specs.Laws.Pick.{pick-true}
 use Rattle.refusal.specs.declared.Refusal.{Refusal}
@@ -45,7 +46,7 @@ module _ (def : Bankdef) (at : Pos) (node : Node) where
     cross-moves p q s a = rw (sound, s, a)
 
 never : {p : Pos} {why : Refusal} → To p ≡ Refused why → ⊥
-never e = let z : _≡_ {A = ℕ} 0 1 = cc in omega arith
+never e = unlike cc
 
 -- A crossing that is refused leaves the position as it was.
 pub halts : (def : Bankdef) (at : Pos) (node : Node) (why : Refusal) {c : Crossing} → c ≡ crossingOf def at node → c .seen ≡ Refused why → c .after ≡ at

@@ -8,7 +8,7 @@ use native.Mathlib.Omega.{arith}
 use lib.Dec.{eqb, leb}
 use lib.ListN.{getD, set, replicate}
 use borrow.Author.Tests.{leb-true, leb-false, eqb-true}
-use Rattle.refusal.specs.Laws.Bools.{either}
+use Rattle.refusal.specs.Laws.Bools.{either, unlike}
 use Rattle.refusal.specs.Limits.{maxPosition}
 use Rattle.refusal.specs.Pick.{pick}
 use Rattle.refusal.specs.declared.Opt.{Opt}
@@ -72,13 +72,13 @@ module _ {A : Type 0} (g : A → ℕ) (d : A) where
 -- ---- what a node skips
 
 pub never-to : {p : Pos} {why : Refusal} → Refused why ≡ To p → ⊥
-never-to e = let z : _≡_ {A = ℕ} 0 1 = cc in omega arith
+never-to e = unlike cc
 
 pub same-to : {p q : Pos} → To p ≡ To q → p ≡ q
 same-to e = cc
 
 pub never-some : {a : ℕ} → None ≡ Some a → ⊥
-never-some e = let z : _≡_ {A = ℕ} 0 1 = cc in omega arith
+never-some e = unlike cc
 
 -- ---- what is skipped is below 2^32
 

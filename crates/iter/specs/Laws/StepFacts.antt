@@ -2,8 +2,8 @@
 use Prim.Native.Nat.{ℕ, _+_, _≤_}
 use mathlib.Core.Path.{_≡_, refl, ap, _∙_}
 use mathlib.Core.Bool.{Bool, true, false}
-use native.Mathlib.Omega.{arith}
 use borrow.Author.Tests.{le-leb}
+use Rattle.refusal.specs.Laws.Bools.{unlike}
 use Rattle.refusal.specs.Limits.{maxPosition}
 use Rattle.refusal.specs.Pick.{pick}
 use Rattle.refusal.specs.Laws.Pick.{pick-true, pick-false}
@@ -21,7 +21,7 @@ use Rattle.lists.specs.declared.Node.{Node}
 use Rattle.iter.specs.declared.Moved.the-variants.{To, Refused}
 
 pub never : (p : Pos) (why : Refusal) → To p ≡ Refused why → ⊥
-never p why e = let z : _≡_ {A = ℕ} 0 1 = cc in omega arith
+never p why e = unlike cc
 
 -- A node that is no symbol of depth 0 sees the position as it is; so does each node in a bank without label alignment.
 pub sees-plain : (def : Bankdef) (at : Pos) (node : Node) → outermostSymbol node ≡ false → seenOf def at node ≡ To at

@@ -1,7 +1,6 @@
 -- Laws that Theorems/Lent rests on.
-use Prim.Native.Nat.{ℕ}
 use mathlib.Core.Path.{_≡_, refl, ap, _∙_}
-use native.Mathlib.Omega.{arith}
+use Rattle.refusal.specs.Laws.Bools.{unlike}
 use Rattle.refusal.specs.declared.Refusal.{Refusal}
 use Rattle.refusal.specs.declared.Verdict.{Verdict}
 use Rattle.refusal.specs.declared.Verdict.the-variants.{Refused as No}
@@ -16,5 +15,5 @@ pub same-answer : {a b : Answer} → a .verdict ≡ b .verdict → a .skipped �
 same-answer {a} {b} e f = ap (λ (v : Verdict). answerOf v (a .skipped)) e ∙ ap (λ (s : Skipped). answerOf (b .verdict) s) f
 
 pub kept-of : (was : Pos) (m : Moved) (why : Refusal) → No why ≡ lentVerdict m → lentPos was m ≡ was
-kept-of was (To q) why e = let z : _≡_ {A = ℕ} 0 1 = cc in absurd (omega arith)
+kept-of was (To q) why e = unlike cc
 kept-of was (Refused w) why e = refl

@@ -1,10 +1,10 @@
 -- `write` meets its contract: there is room for every report, so that the text is never too short, and what is handed on is the report.
 use mathlib.Core.Path.{_≡_, sym, ap, _∙_}
-use mathlib.Core.List.{_++_}
 use Prim.Native.Nat.{ℕ, _≤_, _<_}
 use native.Mathlib.Omega.{arith}
 use lib.ListN.{length, getD, take, drop}
 use lib.Seq.{take-at}
+use Rattle.refusal.specs.Laws.Bools.{unlike}
 use Rattle.print_text.specs.declared.Written.the-variants.{To, TooShort}
 use Rattle.print_report.specs.Report.{reportText}
 use Rattle.print_report.specs.Theorems.Room.{every-report-fits, report-answers-length, report-stands-first}
@@ -27,7 +27,7 @@ whole d =
     report-answers-length (a .file .now) (a .fill) (a .page) (bytes d) (begin d .pre) (d .report .ensures)
 
 never-short : {m : ℕ} → To m ≡ TooShort → ⊥
-never-short e = let z : _≡_ {A = ℕ} 0 1 = cc in omega arith
+never-short e = unlike cc
 
 to-same : {m n : ℕ} → To m ≡ To n → m ≡ n
 to-same e = cc

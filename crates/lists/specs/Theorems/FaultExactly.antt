@@ -8,10 +8,9 @@ use native.Mathlib.Omega.{arith}
 use lib.Dec.{eqb, leb, ltb}
 use lib.ListN.{getD, length}
 use borrow.Author.Tests.{eqb-true, leb-true, ltb-true, eq-eqb, le-leb, lt-ltb}
-use Rattle.refusal.specs.Laws.Bools.{both, clash}
+use Rattle.refusal.specs.Laws.Bools.{both, clash, or-left, or-right, or-told}
 use Rattle.lists.specs.Lists.{Lists, isItem, pastEnd, rowFault, headFault, anyRowFault, nodeFault}
 use Rattle.lists.specs.FaultExactly.{FaultAt, otherBank, otherKind, otherState, pastValues, shownIn}
-use Rattle.lists.specs.Laws.FaultExactly.{or-left, or-right, or-told}
 
 module _ (banks : ℕ) (l : Lists) (i : ℕ) where
   some-row : (n : ℕ) → anyRowFault l i n ≡ true → (r : ℕ) × (r < n) × (rowFault (length (l .values)) (shownIn l r i) ≡ true)

@@ -3,10 +3,10 @@ use mathlib.Core.Path.{_≡_, refl, sym, ap, subst, _∙_}
 use mathlib.Core.Bool.{Bool, true, false}
 use mathlib.Core.List.{List}
 use Prim.Native.Nat.{ℕ, _*_, _≤_}
-use native.Mathlib.Omega.{arith}
 use borrow.Author.Tests.{ltb-false}
 use lib.Dec.{ltb}
 use lib.ListN.{length}
+use Rattle.refusal.specs.Laws.Bools.{unlike}
 use Rattle.refusal.specs.Pick.{pick}
 use Rattle.refusal.specs.declared.Refusal.{Refusal}
 use Rattle.refusal.specs.declared.Refusal.the-variants.{TooShort}
@@ -31,7 +31,7 @@ use Rattle.output.specs.Calls.{Accepted, Call, Fine, programIn, rowIn}
 -- ---- what the contract says of it
 
 pub refused-done : {why : Refusal} {k bits spans : ℕ} → Refused why ≡ Done k bits spans → ⊥
-refused-done e = let z : _≡_ {A = ℕ} 0 1 = cc in omega arith
+refused-done e = unlike cc
 
 room-done : (room : Room) (k bits spans k′ bits′ spans′ : ℕ) → roomFor room k bits spans ≡ Done k′ bits′ spans′
     → (bits′ ≡ bits) × (spans′ ≡ spans) × (bits ≤ 8 * room .image) × (spans ≤ room .spans)

@@ -1,11 +1,12 @@
 -- Laws that Theorems/ItemBits rests on.
 use mathlib.Core.Path.{_≡_, refl, sym, subst}
-use mathlib.Core.Bool.{Bool, true, false, _&&_, _||_}
+use mathlib.Core.Bool.{Bool, true, false, _&&_}
 use mathlib.Core.List.{List, [], List·Memᴰ, List·Memᴰ·head, List·Memᴰ·not-nil, List·Memᴰ·eq-of-singleton}
 use Prim.Native.Nat.{ℕ, _≤_}
 use native.Mathlib.Omega.{arith}
 use borrow.Author.Tests.{leb-true, eqb-true}
 use lib.Dec.{leb}
+use Rattle.refusal.specs.Laws.Bools.{or-left, or-right}
 use Rattle.refusal.specs.Pick.{pick}
 use Rattle.refusal.specs.Laws.Pick.{pick-true}
 use Rattle.refusal.specs.declared.Opt.{Opt}
@@ -25,13 +26,6 @@ use Rattle.build_plan.specs.PlacingLaws.{OfferedBit}
 
 -- ---- bits of items and of reserves are offered
 
-or-first : (a b : Bool) → a ≡ true → (a || b) ≡ true
-or-first a b e = rw e
-
-pub or-last : (a b : Bool) → b ≡ true → (a || b) ≡ true
-or-last true b e = refl
-or-last false b e = e
-
 pub offered : (v : Visit) {e : Entry} → isOffered (v .node) ≡ true → List·Memᴰ e (bitsAt (v .out) (v .node)) → List·Memᴰ e (offerOf v)
 offered v {e} o m = subst (λ (l : List Entry). List·Memᴰ e l) (sym (pick-true (bitsAt (v .out) (v .node)) [] o)) m
 
@@ -44,7 +38,7 @@ pub item-offered : (bit : ℕ) (v : Visit) (x : Item) → List·Memᴰ x (itemOf
 item-offered bit v x m i =
     let w = picked-some (isWritten (v .node)) (standing (v .out) (v .node)) m in
     let (e, me, c) = standing-bits (v .out) (v .node) bit x (w .1) i in
-    (e, offered v (or-first (isWritten (v .node)) (isReserve (v .node)) (w .0)) me, c)
+    (e, offered v (or-left (isWritten (v .node)) (isReserve (v .node)) (w .0)) me, c)
 
 pub one-item : (v : Visit) → NoSharedBit InItem (itemOf v)
 one-item v = go (v .out) (isWritten (v .node))

@@ -9,6 +9,7 @@ use native.Mathlib.Omega.{arith}
 use borrow.Author.Tests.{ltb-true, lt-ltb, eqb-true, eq-eqb}
 use lib.Dec.{eqb}
 use lib.ListN.{length}
+use Rattle.refusal.specs.Laws.Bools.{unlike, both}
 use Rattle.refusal.specs.Pick.{pick}
 use Rattle.refusal.specs.Refusals.{numberOf, placeOf}
 use Rattle.refusal.specs.Told.{Told, gives, refuses, toldRefusal, Nothing, nothing}
@@ -45,10 +46,6 @@ use Rattle.output.specs.RefusedAtNode.{Cause, Closed, Reaches, RefusedTh
 -- ---- the tests mean that
 
 module _ (b : Input) (v : Visit) where
-  pub both : (a b : Bool) → (a && b) ≡ true → (a ≡ true) × (b ≡ true)
-  both true b e = (refl, e)
-  both false b e = absurd (mathlib.Core.Bool.true≢false (sym e))
-
   closed-exactly : (closedOf b ≡ true) ↔ Closed b
   closed-exactly = (
     λ e. opens (b .choices .closed) refl e,
@@ -81,7 +78,7 @@ module _ (b : Input) (v : Visit) where
 
   pub lacks : (o : Opt) (position : ℕ) → (lacksOutput (outAt o position) ≡ true) ↔ (o ≡ None)
   lacks None position = (λ e. refl, λ e. refl)
-  lacks (Some f) position = (λ e. absurd (mathlib.Core.Bool.true≢false (sym e)), λ e. absurd (let z : _≡_ {A = ℕ} 0 1 = cc in omega arith))
+  lacks (Some f) position = (λ e. absurd (mathlib.Core.Bool.true≢false (sym e)), λ e. unlike cc)
 
 pub decided : {A : Type 0} (b : Bool) → (b ≡ true → A) → (b ≡ false → A) → A
 decided true f g = f refl
@@ -97,7 +94,7 @@ turned-same : {a b : Refusal} → TurnedAway a ≡ TurnedAway b → b ≡ a
 turned-same e = cc
 
 never : {why : Refusal} → Accepted ≡ TurnedAway why → ⊥
-never e = let z : _≡_ {A = ℕ} 0 1 = cc in omega arith
+never e = unlike cc
 
 module _ (closed : Bool) (s : State) (v : Visit) (at : Pos) where
   abbrev index : ℕ
@@ -186,7 +183,7 @@ module _ (c : Call) (n : ℕ) (r : Reaches c n) where
       record { why = why; stopped = stop; told = ap toldBuild (stops-all why stop) }
 
   stops-if : (w : Verdict) (s : State) (why : Refusal) → placedIf w s ≡ stops why → w ≡ TurnedAway why
-  stops-if Accepted s why e = absurd (let z : _≡_ {A = ℕ} 0 1 = cc in omega arith)
+  stops-if Accepted s why e = unlike cc
   stops-if (TurnedAway other) s why e = cc
 
   pub cause-there : (number : ℕ) (place : Place) → RefusedThere c n number place
@@ -229,4 +226,4 @@ pub same-told : {a d : ℕ} {p q : Place} → _≡_ {A = Told Nothing} (refuses 
 same-told e = (cc, cc)
 
 pub gave-refused : {a : ℕ} {p : Place} → _≡_ {A = Told Nothing} (gives nothing) (refuses a p) → ⊥
-gave-refused e = let z : _≡_ {A = ℕ} 0 1 = cc in omega arith
+gave-refused e = unlike cc

@@ -1,14 +1,15 @@
 -- Laws that Theorems/SpanFacts rests on.
 use mathlib.Core.Path.{_≡_, refl, sym, ap, subst, _∙_}
-use mathlib.Core.Bool.{Bool, true, false, _||_}
+use mathlib.Core.Bool.{Bool, true, false}
 use mathlib.Core.List.{List, [], _∷_, _++_, map, append-assoc, List·Memᴰ, List·Memᴰ·head, List·Memᴰ·tail, List·Memᴰ·not-nil, List·Memᴰ·cases-cons}
 use mathlib.Core.List.{List·Memᴰ·eq-of-singleton}
-use mathlib.Core.Logic.{_⊎_, inl, inr, ⊎-elim}
+use mathlib.Core.Logic.{_⊎_, ⊎-elim}
 use Prim.Native.Nat.{ℕ, zero, suc, _+_, _<_}
 use native.Mathlib.Omega.{arith}
 use borrow.Author.Tests.{ne-eqb}
 use lib.Dec.{eqb}
 use lib.ListN.{length, getD, length-append}
+use Rattle.refusal.specs.Laws.Bools.{or-told}
 use Rattle.refusal.specs.Pick.{pick}
 use Rattle.refusal.specs.Laws.Pick.{pick-true, pick-false}
 use Rattle.refusal.specs.declared.Offset.{Offset}
@@ -84,11 +85,7 @@ abbrev pub InShown : ℕ → Span → Type 0
 InShown bit x = InPlaced bit (x .offset) (x .size)
 
 label-or-written : (n : Node) → isSpan n ≡ true → (eqb (n .kind) 2 ≡ true) ⊎ (isWritten n ≡ true)
-label-or-written n e = go (eqb (n .kind) 2) (isWritten n) e
-  where
-    go : (a b : Bool) → (a || b) ≡ true → (a ≡ true) ⊎ (b ≡ true)
-    go true b h = inl refl
-    go false b h = inr h
+label-or-written n e = or-told (eqb (n .kind) 2) (isWritten n) e
 
 -- an empty span has no bit
 empty-none : (bit : ℕ) (o : Offset) (size : ℕ) → size ≡ 0 → InPlaced bit o size → ⊥
@@ -122,11 +119,11 @@ span-offered bit v x m i =
 -- spans as they are lent, in words
 word-back : (bit : ℕ) (o : Offset) (size : ℕ) → InPlaced bit (offsetOf (wordOf o)) size → InPlaced bit o size
 word-back bit Nowhere size i = i
-word-back bit (Out o) size i = go (eqb o noOffset) i
+word-back bit (Out o) size i = or-told (eqb o noOffset) i
   where
-    go : (t : Bool) → InPlaced bit (pick t Nowhere (Out o)) size → InPlaced bit (Out o) size
-    go true h = absurd h
-    go false h = h
+    or-told : (t : Bool) → InPlaced bit (pick t Nowhere (Out o)) size → InPlaced bit (Out o) size
+    or-told true h = absurd h
+    or-told false h = h
 
 lent-some : (bit : ℕ) (l : List Span) → Some (InSpan bit) (spansLent (words l) (sizes l)) → Some (InShown bit) l
 unfolding spansLent

@@ -6,6 +6,7 @@ use mathlib.Core.Logic.{_⊎_, inl, inr, ⊎-elim}
 use Prim.Native.Nat.{ℕ, _+_, _*_, _≤_, _<_}
 use native.Mathlib.Nat.{le-trans}
 use lib.ListN.{length}
+use Rattle.refusal.specs.Laws.Bools.{or-right}
 use Rattle.refusal.specs.Laws.Pick.{pick-true}
 use Rattle.refusal.specs.declared.Opt.{Opt}
 use Rattle.refusal.specs.declared.Opt.the-variants.{None, Some}
@@ -33,12 +34,12 @@ use Rattle.output.specs.Output.{Lent}
 use Rattle.output.specs.Calls.{Accepted, nodesIn, visitIn, visitsIn, itemsIn, reservesIn, valuesIn, programIn, rowIn, closedIn}
 use Rattle.output.specs.Theorems.Calls.{fine, blankIn, left-is}
 use Rattle.output.specs.ItemBits.{fillIn, itemFor}
-use Rattle.output.specs.Laws.ItemBits.{item-offered, offered, one-item, or-last, stands-at, written-or-reserve}
+use Rattle.output.specs.Laws.ItemBits.{item-offered, offered, one-item, stands-at, written-or-reserve}
 
 reserve-offered : (bit : ℕ) (v : Visit) (e : Entry) → List·Memᴰ e (reserveOf v) → Covers e bit → OfferedBit bit v
 reserve-offered bit v e m c =
     let w = picked-some (isReserve (v .node)) (bitsAt (v .out) (v .node)) m in
-    (e, offered v (or-last (isWritten (v .node)) (isReserve (v .node)) (w .0)) (w .1), c)
+    (e, offered v (or-right (isWritten (v .node)) (isReserve (v .node)) (w .0)) (w .1), c)
 
 module _ (b : Accepted) where
   -- Every written node has an item: it stands in a bank with an offset, at "offset plus position".

@@ -8,6 +8,7 @@ use native.Mathlib.Omega.{arith}
 use borrow.Author.Tests.{eq-eqb}
 use lib.Dec.{ltb}
 use lib.ListN.{length}
+use Rattle.refusal.specs.Laws.Bools.{unlike}
 use Rattle.refusal.specs.Pick.{pick}
 use Rattle.refusal.specs.Laws.Pick.{pick-true}
 use Rattle.refusal.specs.declared.Refusal.{Refusal}
@@ -75,14 +76,14 @@ module _ (c : Call) (n : ℕ) where
 
 module _ (c : Call) where
   stopped : (v : Verdict) (s : State) (why : Refusal) → placedIf v s ≡ stops why → v ≡ TurnedAway why
-  stopped Accepted s why e = absurd (let z : _≡_ {A = ℕ} 0 1 = cc in omega arith)
+  stopped Accepted s why e = unlike cc
   stopped (TurnedAway other) s why e = cc
 
   none-stops : (why : Refusal) → placedAll (closedIn c) (visitsBefore c 0) ≡ stops why → ⊥
   unfolding placedFrom
   none-stops why e =
       let q : holds emptyState ≡ stops why = sym (ap (placedAll (closedIn c)) (visits-none (programIn c) (rowIn c))) ∙ e in
-      let z : _≡_ {A = ℕ} 0 1 = cc in omega arith
+      unlike cc
 
   first-stop : (m : ℕ) → m ≤ nodesIn c → (why : Refusal) → placedAll (closedIn c) (visitsBefore c m) ≡ stops why → FirstRefused c why
   first-stop zero h why e = absurd (none-stops why e)
@@ -102,7 +103,7 @@ module _ (c : Call) where
   refused-same e = cc
 
   done-refused : {k bits spans : ℕ} {why : Refusal} → Done k bits spans ≡ Refused why → ⊥
-  done-refused e = let z : _≡_ {A = ℕ} 0 1 = cc in omega arith
+  done-refused e = unlike cc
 
   abbrev bits : ℕ
   bits = lengthOf (fillOf (c .given)) (itemsOf (visitsIn c))

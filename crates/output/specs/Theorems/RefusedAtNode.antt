@@ -6,6 +6,7 @@ use mathlib.Core.Logic.{_⊎_, inl, inr, ⊎-elim, _↔_}
 use Prim.Native.Nat.{ℕ, _+_, _≤_, _<_}
 use native.Mathlib.Omega.{arith}
 use lib.ListN.{length}
+use Rattle.refusal.specs.Laws.Bools.{both}
 use Rattle.refusal.specs.Limits.{maxStored}
 use Rattle.refusal.specs.Refusals.{numberOf, placeOf}
 use Rattle.refusal.specs.Told.{refuses, toldVerdict}
@@ -36,7 +37,7 @@ use Rattle.build_plan.specs.Laws.PlacingLaws.{picked-some, offer-is, placed-acc
 use Rattle.output.specs.OffersWithin.{OffsetsFit}
 use Rattle.output.specs.Theorems.OffersWithin.{offers-within}
 use Rattle.output.specs.Calls.{Call, closedIn, programIn, rowIn, visitIn, visitsBefore}
-use Rattle.output.specs.Laws.RefusedAtNode.{both, cause-there, decided, gave-refused, holds-not, lacks, not-holds, nowhere, past}
+use Rattle.output.specs.Laws.RefusedAtNode.{cause-there, decided, gave-refused, holds-not, lacks, not-holds, nowhere, past}
 use Rattle.output.specs.Laws.RefusedAtNode.{perm-length, same-told, store-number, there, uses-default}
 use Rattle.output.specs.RefusedAtNode.{Cause, Eleven, Nine, PlacedKind, Reaches, RefusedThere, Ten, eleven, nine, offersBefore, store, ten}
 
@@ -73,7 +74,7 @@ module _ (c : Call) (n : ℕ) (r : Reaches c n) where
   eleven-exactly : ((isWritten (met .node) && lacksOutput (met .out)) ≡ true) ↔ Eleven met
   eleven-exactly = (
     λ e.
-        let (w, l) = both (c .given) met (isWritten (met .node)) (lacksOutput (met .out)) e in
+        let (w, l) = both (isWritten (met .node)) (lacksOutput (met .out)) e in
         let k = written-exactly (met .node) .0 w in
         record { written = k; nowhere = lacks (c .given) met (met .def .offset) (positionOf met) .0 l },
     λ h. rw (written-exactly (met .node) .1 (h .written), lacks (c .given) met (met .def .offset) (positionOf met) .1 (h .nowhere)),

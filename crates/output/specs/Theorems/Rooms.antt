@@ -7,6 +7,7 @@ use native.Mathlib.Omega.{arith}
 use borrow.Author.Tests.{ltb-true, ltb-false, lt-ltb, le-ltb}
 use lib.Dec.{ltb}
 use lib.ListN.{length}
+use Rattle.refusal.specs.Laws.Bools.{unlike}
 use Rattle.refusal.specs.Pick.{pick}
 use Rattle.refusal.specs.Laws.Pick.{pick-true, pick-false}
 use Rattle.refusal.specs.Told.{Told, gives, refuses}
@@ -38,10 +39,10 @@ module _ (c : Call) (all : AllPlaced c) where
   different e = cc
 
   zero-one : One 0 ≡ One 1 → ⊥
-  zero-one e = let z : _≡_ {A = ℕ} 0 1 = cc in omega arith
+  zero-one e = unlike cc
 
   gave : {x : Figures} {a : ℕ} {p : Place} → _≡_ {A = Told Figures} (gives x) (refuses a p) → ⊥
-  gave e = let z : _≡_ {A = ℕ} 0 1 = cc in omega arith
+  gave e = unlike cc
 
   abbrev short : Bool
   short = ltb (8 * length (c .old .image)) (lengthIn c)

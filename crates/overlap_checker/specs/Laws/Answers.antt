@@ -4,6 +4,7 @@ use mathlib.Core.Bool.{true, false}
 use Prim.Native.Nat.{ℕ, _≤_, _<_}
 use native.Mathlib.Omega.{arith}
 use borrow.Author.Tests.{lt-ltb, le-ltb, le-leb, lt-leb}
+use Rattle.refusal.specs.Laws.Bools.{unlike}
 use Rattle.refusal.specs.Limits.{maxStored}
 use Rattle.refusal.specs.declared.Refusal.{Refusal}
 use Rattle.refusal.specs.declared.Verdict.the-variants.{Accepted, Refused}
@@ -30,4 +31,4 @@ module _ (intervals marks size : ℕ) where
 
 -- accepted is not refused
 pub not-both : {r : Refusal} → Accepted ≡ Refused r → ⊥
-not-both e = let z : _≡_ {A = ℕ} 0 1 = cc in omega arith
+not-both e = unlike cc

@@ -1,16 +1,13 @@
 -- Laws that Theorems/Bits rests on.
 use mathlib.Core.Path.{_≡_, refl, sym}
 use mathlib.Core.Logic.{⊎-elim}
-use mathlib.Core.Bool.{Bool, true, false, _&&_, or-true, true≢false}
+use mathlib.Core.Bool.{true, false, or-true, true≢false}
 use mathlib.Core.List.{List, [], _∷_, List·Memᴰ, List·Memᴰ·head, List·Memᴰ·tail, List·Memᴰ·cases-cons, List·Memᴰ·not-nil}
+use Rattle.refusal.specs.Laws.Bools.{both}
 use Rattle.overlap_checker.specs.declared.Entry.{Entry}
 use Rattle.overlap_checker.specs.Interval.{clashes}
 use Rattle.overlap_checker.specs.Offers.{clashesAny}
 use Rattle.overlap_checker.specs.Laws.Ascending.{told}
-
-pub and-both : (a b : Bool) → (a && b) ≡ true → (a ≡ true) × (b ≡ true)
-and-both true b e = (refl, e)
-and-both false b e = absurd (true≢false (sym e))
 
 -- An offer clashes with some entry exactly when an entry of the list clashes with it.
 pub any-found : (e : Entry) (l : List Entry) → clashesAny e l ≡ true → (f : Entry) × List·Memᴰ f l × (clashes e f ≡ true)

@@ -7,6 +7,7 @@ use mathlib.Core.List.{List, [], _∷_}
 use Prim.Native.Nat.{ℕ, zero, suc, _<_}
 use native.Mathlib.Omega.{arith}
 use lib.ListN.{length}
+use Rattle.refusal.specs.Laws.Bools.{neither}
 use Rattle.refusal.specs.Limits.{maxStored}
 use Rattle.refusal.specs.declared.Verdict.the-variants.{Accepted}
 use Rattle.overlap_checker.specs.declared.Entry.{Entry}
@@ -14,7 +15,7 @@ use Rattle.overlap_checker.specs.Interval.{Within, strictlyInside, clash
 use Rattle.overlap_checker.specs.Offers.{placeFor, clashesAny}
 use Rattle.overlap_checker.specs.Marks.{countBelow, crossesAny}
 use Rattle.overlap_checker.specs.State.{State, holding, answer, putAt, inserted, marked, after}
-use Rattle.overlap_checker.specs.Laws.Ascending.{told, lt-or-le, or-neither, or-none}
+use Rattle.overlap_checker.specs.Laws.Ascending.{told, lt-or-le, or-none}
 use Rattle.overlap_checker.specs.Ascending.{Ascending}
 use Rattle.overlap_checker.specs.Theorems.Bits.{inside-exactly, clash-exactly, clash-empty-exactly}
 use Rattle.overlap_checker.specs.Laws.MarkLaws.{crosses-none, resting-rising}
@@ -124,7 +125,7 @@ module _ (s : State) (a b : Entry) (fits : Fits s) (wa : Within a) (wb : Within 
       let u = withBits s b in
       let sa = left-bits s a n given in
       let then : answer t b 0 ≡ Accepted = sym (ap (λ (x : State). answer x b 0) sa) ∙ next in
-      let (against, free) = or-neither _ _ (sym (clash-put b a (placeFor (a .position) l) l) ∙ accepted-free t b 0 then) in
+      let (against, free) = neither _ _ (sym (clash-put b a (placeFor (a .position) l) l) ∙ accepted-free t b 0 then) in
       let room : length (inserted l a) < maxStored = accepted-room t b 0 then m in
       let first = takes-bits s b m free (accepted-uncrossed t b 0 then) (omega (arith, room, length-inserted l a)) in
       let sb = left-bits s b m first in
@@ -141,7 +142,7 @@ module _ (s : State) (a b : Entry) (fits : Fits s) (wa : Within a) (wb : Within 
       let u = withMark s b in
       let sa = left-bits s a n given in
       let then : answer t b 0 ≡ Accepted = sym (ap (λ (x : State). answer x b 0) sa) ∙ next in
-      let (against, free) = or-neither _ _ (sym (clash-put b a (placeFor (a .position) l) l) ∙ accepted-free t b 0 then) in
+      let (against, free) = neither _ _ (sym (clash-put b a (placeFor (a .position) l) l) ∙ accepted-free t b 0 then) in
       let first = takes-mark s b z free (accepted-mark-room t b 0 then z) in
       let clear = cross-put a (b .position) (countBelow (b .position) ms) ms ∙ or-none (clash-mark b a z against) (accepted-uncrossed s a 0 given) in
       let second = takes-bits u a n (accepted-free s a 0 given) clear (accepted-room s a 0 given n) in
@@ -153,7 +154,7 @@ module _ (s : State) (a b : Entry) (fits : Fits s) (wa : Within a) (wb : Within 
       let u = withBits s b in
       let sa = left-mark s a z given in
       let then : answer t b 0 ≡ Accepted = sym (ap (λ (x : State). answer x b 0) sa) ∙ next in
-      let (against, out) = or-neither _ _ (sym (cross-put b (a .position) (countBelow (a .position) ms) ms) ∙ accepted-uncrossed t b 0 then) in
+      let (against, out) = neither _ _ (sym (cross-put b (a .position) (countBelow (a .position) ms) ms) ∙ accepted-uncrossed t b 0 then) in
       let first = takes-bits s b m (accepted-free t b 0 then) out (accepted-room t b 0 then m) in
       let clear = clash-put a b (placeFor (b .position) l) l ∙ or-none (mark-clash a b z against) (accepted-free s a 0 given) in
       let second = takes-mark u a z clear (accepted-mark-room s a 0 given z) in

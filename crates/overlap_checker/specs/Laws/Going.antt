@@ -6,6 +6,7 @@ use mathlib.Core.List.{List, [], _∷_, List·Memᴰ·head, List·Memᴰ·tail}
 use Prim.Native.Nat.{ℕ, _+_, _≤_}
 use native.Mathlib.Omega.{arith}
 use lib.ListN.{length, take, length-append, length-take, length-drop}
+use Rattle.refusal.specs.Laws.Bools.{neither}
 use Rattle.refusal.specs.Limits.{maxStored}
 use Rattle.overlap_checker.specs.declared.Entry.{Entry}
 use Rattle.overlap_checker.specs.Interval.{interval, end, Within}
@@ -18,7 +19,7 @@ use Rattle.overlap_checker.specs.Theorems.MarkLaws.{length-marked}
 use Rattle.overlap_checker.specs.State.{State, emptyState, inserted, after}
 use Rattle.overlap_checker.specs.Lent.{Spans, Lent, spansOf, zipped, heldIn, held, heldMarks, stateIn, Intact, Sound, laidInto, starts, lengths}
 use Rattle.overlap_checker.specs.Folds.{stateAfter, AllWithin}
-use Rattle.overlap_checker.specs.Laws.Ascending.{lt-or-le, or-neither}
+use Rattle.overlap_checker.specs.Laws.Ascending.{lt-or-le}
 use Rattle.overlap_checker.specs.Ascending.{Sits, Ascending}
 use Rattle.overlap_checker.specs.Theorems.Ascending.{ascending, faultless}
 use Rattle.overlap_checker.specs.Laws.Neighbours.{place-le, none-below, one-below, ends-low, ends-high}
@@ -34,7 +35,7 @@ pub ascending-inserted : (floor : ℕ) (l : List Entry) (e : Entry) → Ascendin
 unfolding placeFor clashesAny
 ascending-inserted floor [] e a none s = (s, tt)
 ascending-inserted floor (f ∷ l) e a none s =
-    let (here, rest) = or-neither _ _ none in
+    let (here, rest) = neither _ _ none in
     ⊎-elim
     (λ low. rw (one-below (e .position) f l a low)
     (a .0, ascending-inserted (end f) l e (a .1) rest (record { above = ends-low e f here low; nonempty = s .nonempty; within = s .within })))

@@ -10,13 +10,14 @@ use native.Mathlib.Omega.{arith}
 use borrow.Author.Tests.{ltb-false, le-ltb}
 use lib.ListN.{length, drop, getD, drop-of-length-le}
 use lib.Seq.{drop-cons}
+use Rattle.refusal.specs.Laws.Bools.{neither}
 use Rattle.refusal.specs.Limits.{maxOffer}
 use Rattle.overlap_checker.specs.declared.Entry.{Entry}
 use Rattle.overlap_checker.specs.Interval.{interval, end, StrictlyInside, strictlyInside, clashes}
 use Rattle.overlap_checker.specs.Offers.{placeFor, clashesAny}
 use Rattle.overlap_checker.specs.Marks.{countBelow, crossesAny, lowestInside, markAtFault, firstMarkFault, ProperMarks}
 use Rattle.overlap_checker.specs.State.{putAt, inserted, marked}
-use Rattle.overlap_checker.specs.Laws.Ascending.{told, lt-or-le, or-neither, or-none}
+use Rattle.overlap_checker.specs.Laws.Ascending.{told, lt-or-le, or-none}
 use Rattle.overlap_checker.specs.Theorems.Bits.{inside-exactly, clash-empty-exactly}
 use Rattle.overlap_checker.specs.Laws.Bits.{any-found, any-of}
 use Rattle.overlap_checker.specs.Rising.{Rising}
@@ -127,8 +128,8 @@ Resting l floor (m ∷ ms) = Lies l floor m × Resting l m ms
 pub lies : (l : List Entry) (floor m : ℕ) → markAtFault l floor m ≡ false → Lies l floor m
 unfolding markAtFault
 lies l floor m h =
-    let (limit, rest) = or-neither _ _ h in
-    let (low, out) = or-neither _ _ rest in
+    let (limit, rest) = neither _ _ h in
+    let (low, out) = neither _ _ rest in
     record { above = ltb-false _ _ low; within = ltb-false _ _ limit; outside = out }
 
 pub no-mark-fault : (l : List Entry) (floor m : ℕ) → Lies l floor m → markAtFault l floor m ≡ false
@@ -188,7 +189,7 @@ unfolding clashesAny
 any-put x e zero l none apart = or-none apart none
 any-put x e (suc k) [] none apart = or-none apart refl
 any-put x e (suc k) (f ∷ l) none apart =
-    let (here, rest) = or-neither (clashes x f) (clashesAny x l) none in
+    let (here, rest) = neither (clashes x f) (clashesAny x l) none in
     or-none here (any-put x e k l rest apart)
 
 -- an interval put in, that no mark is strictly inside of
@@ -197,7 +198,7 @@ pub resting-inserted : (l : List Entry) (e : Entry) (floor : ℕ) (ms : List ℕ
 unfolding crossesAny
 resting-inserted l e floor [] a none = tt
 resting-inserted l e floor (m ∷ ms) a none =
-    let (here, rest) = or-neither _ _ none in
+    let (here, rest) = neither _ _ none in
     let apart : clashes (interval m 0) e ≡ false =
     ⊎-elim (λ hit. absurd (true≢false (sym (inside-exactly m e .1 (clash-empty-exactly (interval m 0) e refl .0 hit)) ∙ here))) (λ out. out)
     (told (clashes (interval m 0) e)) in (

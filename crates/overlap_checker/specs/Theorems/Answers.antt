@@ -6,6 +6,7 @@ use Prim.Native.Nat.{ℕ, _<_}
 use native.Mathlib.Omega.{arith}
 use borrow.Author.Tests.{lt-ltb, le-ltb}
 use lib.ListN.{length}
+use Rattle.refusal.specs.Laws.Bools.{neither}
 use Rattle.refusal.specs.Limits.{maxStored}
 use Rattle.refusal.specs.Laws.Pick.{pick-true, pick-false}
 use Rattle.refusal.specs.Told.{toldVerdict}
@@ -17,7 +18,7 @@ use Rattle.overlap_checker.specs.Interval.{interval}
 use Rattle.overlap_checker.specs.Offers.{clashesAny, named, lacksRoom}
 use Rattle.overlap_checker.specs.Marks.{crossesAny, lowestInside}
 use Rattle.overlap_checker.specs.State.{State, holding, meets, tries, namedIn, answer, figures, isAccepted, inserted, marked, keeping, after}
-use Rattle.overlap_checker.specs.Laws.Ascending.{told, lt-or-le, or-neither, or-none}
+use Rattle.overlap_checker.specs.Laws.Ascending.{told, lt-or-le, or-none}
 use Rattle.overlap_checker.specs.Laws.Answers.{no-mark-room, no-room, not-both}
 
 -- ---- one of three
@@ -38,7 +39,7 @@ module _ (s : State) (e : Entry) where
   -- meeting nothing: no interval clashes, and no mark is strictly inside
   pub clear-apart : Clear → (clashesAny e (s .intervals) ≡ false) × (crossesAny e (s .marks) ≡ false)
   unfolding meets
-  clear-apart clear = or-neither _ _ clear
+  clear-apart clear = neither _ _ clear
 
   pub apart-clear : clashesAny e (s .intervals) ≡ false → crossesAny e (s .marks) ≡ false → Clear
   unfolding meets

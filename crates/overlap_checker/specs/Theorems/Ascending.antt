@@ -8,16 +8,17 @@ use native.Mathlib.Nat.{eq-zero-or-pos, suc-inj}
 use native.Mathlib.Omega.{arith}
 use borrow.Author.Tests.{ltb-false, le-ltb, eqb-false, ne-eqb}
 use lib.ListN.{length}
+use Rattle.refusal.specs.Laws.Bools.{neither}
 use Rattle.overlap_checker.specs.declared.Entry.{Entry}
 use Rattle.overlap_checker.specs.Interval.{end, Within, pastLimits}
 use Rattle.overlap_checker.specs.Stored.{atFault, firstFault}
 use Rattle.overlap_checker.specs.Ascending.{Ascending, Sits}
-use Rattle.overlap_checker.specs.Laws.Ascending.{or-neither, or-none, told}
+use Rattle.overlap_checker.specs.Laws.Ascending.{or-none, told}
 
 -- the limits as a test and as a fact
 pub within-limits : (e : Entry) → pastLimits e ≡ false → Within e
 unfolding pastLimits
-within-limits e h = let (far, long) = or-neither _ _ h in (ltb-false _ _ far, ltb-false _ _ long)
+within-limits e h = let (far, long) = neither _ _ h in (ltb-false _ _ far, ltb-false _ _ long)
 
 pub not-past : (e : Entry) → Within e → pastLimits e ≡ false
 unfolding pastLimits
@@ -26,8 +27,8 @@ not-past e h = or-none (le-ltb _ _ (h .0)) (le-ltb _ _ (h .1))
 pub sits : (floor : ℕ) (e : Entry) → atFault floor e ≡ false → Sits floor e
 unfolding atFault
 sits floor e h =
-    let (limits, rest) = or-neither _ _ h in
-    let (none, low) = or-neither _ _ rest in
+    let (limits, rest) = neither _ _ h in
+    let (none, low) = neither _ _ rest in
     record {
       above = ltb-false _ _ low;
       nonempty = ⊎-elim (λ z. absurd (eqb-false _ _ none z)) (λ p. p) (eq-zero-or-pos (e .size));

@@ -5,9 +5,9 @@ use mathlib.Core.Bool.{true}
 use Prim.Native.Nat.{ℕ, _<_, min, max}
 use native.Mathlib.Omega.{arith}
 use borrow.Author.Tests.{ltb-true, lt-ltb, eq-eqb, ne-eqb}
+use Rattle.refusal.specs.Laws.Bools.{both}
 use Rattle.overlap_checker.specs.declared.Entry.{Entry}
 use Rattle.overlap_checker.specs.Interval.{end, ShareBit, sharesBit, StrictlyInside, strictlyInside, clashes}
-use Rattle.overlap_checker.specs.Laws.Bits.{and-both}
 
 -- The test is true exactly when some bit belongs to both.
 pub shares-exactly : (e f : Entry) → (sharesBit e f ≡ true) ↔ ShareBit e f
@@ -22,7 +22,7 @@ shares-exactly e f = (
 pub inside-exactly : (p : ℕ) (f : Entry) → (strictlyInside p f ≡ true) ↔ StrictlyInside p f
 unfolding strictlyInside
 inside-exactly p f = (
-  (λ h. let (low, high) = and-both _ _ h in (ltb-true (f .position) p low, ltb-true p (end f) high)),
+  (λ h. let (low, high) = both _ _ h in (ltb-true (f .position) p low, ltb-true p (end f) high)),
   (λ h. rw (lt-ltb (f .position) p (h .0), lt-ltb p (end f) (h .1))),
 )
 

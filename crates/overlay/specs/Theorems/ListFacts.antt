@@ -5,8 +5,8 @@ use mathlib.Core.Bool.{Bool, true, false}
 use mathlib.Core.List.{List}
 use mathlib.Core.Logic.{_↔_}
 use Prim.Native.Nat.{ℕ, _≤_, _<_}
-use native.Mathlib.Omega.{arith}
 use lib.ListN.{length, getD}
+use Rattle.refusal.specs.Laws.Bools.{unlike}
 use Rattle.refusal.specs.Pick.{pick}
 use Rattle.refusal.specs.declared.Refusal.{Refusal}
 use Rattle.refusal.specs.declared.Refusal.the-variants.{Malformed, TooShort}
@@ -46,8 +46,8 @@ module _ (t : Trial) (fs cs : List ℕ) (r : Listed) (fs′ cs′ : List ℕ) (m
   )
     where
       not-four : (b : Bool) → Refused (Malformed 0) ≡ pick b (Runs (length (runsOf t))) (Refused (TooShort 2)) → ⊥
-      not-four true e = let z : _≡_ {A = ℕ} 0 1 = cc in omega arith
-      not-four false e = let z : _≡_ {A = ℕ} 0 1 = cc in omega arith
+      not-four true e = unlike cc
+      not-four false e = unlike cc
 
   -- Refused, nothing lent is changed.
   pub list-refused-changes-nothing : (x : Refusal) → r ≡ Refused x → (fs′ ≡ fs) × (cs′ ≡ cs)
@@ -57,7 +57,7 @@ module _ (t : Trial) (fs cs : List ℕ) (r : Listed) (fs′ cs′ : List ℕ) (m
       go : (o b : Bool) → Refused x ≡ pick o (pick b (Runs (length (runsOf t))) (Refused (TooShort 2))) (Refused (Malformed 0))
           → fs′ ≡ pick o (pick b (over (origins (runsOf t)) fs) fs) fs → cs′ ≡ pick o (pick b (over (sizes (runsOf t)) cs) cs) cs
           → (fs′ ≡ fs) × (cs′ ≡ cs)
-      go true true q f c = let z : _≡_ {A = ℕ} 0 1 = cc in absurd (omega arith)
+      go true true q f c = unlike cc
       go true false q f c = (f, c)
       go false b q f c = (f, c)
 
@@ -77,7 +77,7 @@ module _ (t : Trial) (fs cs : List ℕ) (r : Listed) (fs′ cs′ : List ℕ) (m
     )
       where
         not-short : Refused (TooShort 2) ≡ Runs (length (runsOf t)) → ⊥
-        not-short e = let z : _≡_ {A = ℕ} 0 1 = cc in omega arith
+        not-short e = unlike cc
 
     -- With room, all runs are listed, the i-th at the i-th place of both, and what stands past them stays.
     module _ (room : Room) where

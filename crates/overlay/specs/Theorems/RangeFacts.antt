@@ -9,6 +9,7 @@ use native.Mathlib.Omega.{arith}
 use borrow.Author.Tests.{lt-ltb, le-leb}
 use lib.ListN.{length, getD, take, drop, length-take, length-drop}
 use lib.Seq.{getD-take, getD-drop}
+use Rattle.refusal.specs.Laws.Bools.{unlike}
 use Rattle.refusal.specs.Pick.{pick}
 use Rattle.refusal.specs.declared.Refusal.{Refusal}
 use Rattle.refusal.specs.declared.Refusal.the-variants.{Malformed, BadPart, PartlyCovered}
@@ -62,10 +63,10 @@ module _ (t : Trial) (first count : ℕ) where
           go (inside (length (t .overlay)) (length (t .released)) first count) (allCovered bit first count) (noneCovered bit first count)
         where
           go : (i a n : Bool) → pick i (pick a Overlay (pick n Released (Refused PartlyCovered))) (Refused BadPart) ≡ Refused (Malformed 0) → ⊥
-          go true true n e = let z : _≡_ {A = ℕ} 0 1 = cc in omega arith
-          go true false true e = let z : _≡_ {A = ℕ} 0 1 = cc in omega arith
-          go true false false e = let z : _≡_ {A = ℕ} 0 1 = cc in omega arith
-          go false a n e = let z : _≡_ {A = ℕ} 0 1 = cc in omega arith
+          go true true n e = unlike cc
+          go true false true e = unlike cc
+          go true false false e = unlike cc
+          go false a n e = unlike cc
 
   -- After 4:
   module _ (ok : Acceptable (t .offsets) (t .sizes)) where
@@ -82,9 +83,9 @@ module _ (t : Trial) (first count : ℕ) where
     )
       where
         not-sixteen : (a n : Bool) → pick a Overlay (pick n Released (Refused PartlyCovered)) ≡ Refused BadPart → ⊥
-        not-sixteen true n e = let z : _≡_ {A = ℕ} 0 1 = cc in omega arith
-        not-sixteen false true e = let z : _≡_ {A = ℕ} 0 1 = cc in omega arith
-        not-sixteen false false e = let z : _≡_ {A = ℕ} 0 1 = cc in omega arith
+        not-sixteen true n e = unlike cc
+        not-sixteen false true e = unlike cc
+        not-sixteen false false e = unlike cc
 
     -- After 4 and 16:
     module _ (range : Within) where
@@ -107,8 +108,8 @@ module _ (t : Trial) (first count : ℕ) where
         where
           whole : (a n : Bool) → pick a Overlay (pick n Released (Refused PartlyCovered)) ≡ Overlay → a ≡ true
           whole true n e = refl
-          whole false true e = let z : _≡_ {A = ℕ} 0 1 = cc in absurd (omega arith)
-          whole false false e = let z : _≡_ {A = ℕ} 0 1 = cc in absurd (omega arith)
+          whole false true e = unlike cc
+          whole false false e = unlike cc
 
       -- "if no bit of it is, that part of the released image": exactly then.
       pub released-exactly : (sourceOf t first count ≡ Released) ↔ NoneCovered t first count
@@ -118,9 +119,9 @@ module _ (t : Trial) (first count : ℕ) where
       )
         where
           free : (a n : Bool) → pick a Overlay (pick n Released (Refused PartlyCovered)) ≡ Released → n ≡ true
-          free true n e = let z : _≡_ {A = ℕ} 0 1 = cc in absurd (omega arith)
+          free true n e = unlike cc
           free false true e = refl
-          free false false e = let z : _≡_ {A = ℕ} 0 1 = cc in absurd (omega arith)
+          free false false e = unlike cc
 
       -- "17 (new) for a range partly covered": exactly otherwise.
       pub refused-17-exactly : (sourceOf t first count ≡ Refused PartlyCovered) ↔ ((AllCovered t first count → ⊥) × (NoneCovered t first count → ⊥))
@@ -134,8 +135,8 @@ module _ (t : Trial) (first count : ℕ) where
       )
         where
           neither : (a n : Bool) → pick a Overlay (pick n Released (Refused PartlyCovered)) ≡ Refused PartlyCovered → (a ≡ false) × (n ≡ false)
-          neither true n e = let z : _≡_ {A = ℕ} 0 1 = cc in absurd (omega arith)
-          neither false true e = let z : _≡_ {A = ℕ} 0 1 = cc in absurd (omega arith)
+          neither true n e = unlike cc
+          neither false true e = unlike cc
           neither false false e = (refl, refl)
 
       -- "that part": the bytes handed back are those of that image at that place, each of them, and no more.

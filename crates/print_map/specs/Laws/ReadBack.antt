@@ -7,6 +7,7 @@ use native.Mathlib.Omega.{arith}
 use borrow.Author.Tests.{eqb-true}
 use lib.Dec.{eqb}
 use lib.ListN.{length}
+use Rattle.refusal.specs.Laws.Bools.{unlike}
 use Rattle.refusal.specs.Pick.{pick}
 use Rattle.bankdef.specs.declared.Bankdefs.{Bankdefs}
 use Rattle.blocks.specs.Offsets.{noOffset}
@@ -52,7 +53,7 @@ same-tail : {x y : ℕ} {xs ys : List ℕ} → x ∷ xs ≡ y ∷ ys → xs ≡ 
 same-tail e = cc
 
 no-minus : (l m : List ℕ) → Above 48 l → l ≡ 45 ∷ m → ⊥
-no-minus [] m h e = let z : _≡_ {A = ℕ} 0 1 = cc in omega arith
+no-minus [] m h e = unlike cc
 no-minus (x ∷ l) m h e = omega (arith, h .0, same-head e)
 
 no-digits : (n : ℕ) → decimal n ≡ [] → ⊥
@@ -151,8 +152,8 @@ cellsOf banks c =
 -- a place in the output by its cell: `-` stands for the word for none, and for no other
 word-told : (v w : ℕ) (s t : Bool) → eqb v noOffset ≡ s → eqb w noOffset ≡ t → pick s none (number v) ≡ pick t none (number w) → v ≡ w
 word-told v w true true a b e = eqb-true v noOffset a ∙ sym (eqb-true w noOffset b)
-word-told v w true false a b e = let z : _≡_ {A = ℕ} 0 1 = cc in absurd (omega arith)
-word-told v w false true a b e = let z : _≡_ {A = ℕ} 0 1 = cc in absurd (omega arith)
+word-told v w true false a b e = unlike cc
+word-told v w false true a b e = unlike cc
 word-told v w false false a b e = cc
 
 -- the cells of a node tell its columns, whatever table its address is told by

@@ -8,7 +8,7 @@ use borrow.Author.Tests.{le-ltb, leb-true}
 use lib.Dec.{leb}
 use lib.IntN.{ℤ, pos, negsuc}
 use lib.ListN.{getD}
-use Rattle.refusal.specs.Laws.Bools.{both}
+use Rattle.refusal.specs.Laws.Bools.{both, unlike}
 use Rattle.refusal.specs.Refusals.{numberOf, placeOf}
 use Rattle.refusal.specs.Theorems.Told.{refusal-by-figures}
 use Rattle.refusal.specs.declared.Opt.{Opt}
@@ -129,16 +129,16 @@ signed-told (pos a) (pos b) e = let f : number a ≡ number b = sym (plain a) �
     plain n = rw (le-ltb n 0 (omega arith))
 signed-told (pos a) (negsuc b) e =
     let f : number a ≡ minus (suc b) = sym (let p : signed (pos a) ≡ number a = rw (le-ltb a 0 (omega arith)) in p) ∙ e in
-    let z : _≡_ {A = ℕ} 0 1 = cc in absurd (omega arith)
+    unlike cc
 signed-told (negsuc a) (pos b) e =
     let f : minus (suc a) ≡ number b = e ∙ (let p : signed (pos b) ≡ number b = rw (le-ltb b 0 (omega arith)) in p) in
-    let z : _≡_ {A = ℕ} 0 1 = cc in absurd (omega arith)
+    unlike cc
 signed-told (negsuc a) (negsuc b) e = let f : suc a ≡ suc b = cc in ap negsuc (omega arith)
 
 optional-told : (o p : Opt) → optional o ≡ optional p → o ≡ p
 optional-told None None e = refl
-optional-told None (Some n) e = let z : _≡_ {A = ℕ} 0 1 = cc in absurd (omega arith)
-optional-told (Some m) None e = let z : _≡_ {A = ℕ} 0 1 = cc in absurd (omega arith)
+optional-told None (Some n) e = unlike cc
+optional-told (Some m) None e = unlike cc
 optional-told (Some m) (Some n) e = let f : m ≡ n = cc in ap Some f
 
 bit-told : (a b : Bool) → bitOf a ≡ bitOf b → a ≡ b
@@ -201,8 +201,8 @@ verdict-line (Refused why) = sym (append-nil (refusedText why))
 
 place-told : (p q : Place) → placeCells p ≡ placeCells q → p ≡ q
 place-told (One a) (One b) e = let f : a ≡ b = cc in ap One f
-place-told (One a) (Two b c) e = let z : _≡_ {A = ℕ} 0 1 = cc in absurd (omega arith)
-place-told (Two a c) (One b) e = let z : _≡_ {A = ℕ} 0 1 = cc in absurd (omega arith)
+place-told (One a) (Two b c) e = unlike cc
+place-told (Two a c) (One b) e = unlike cc
 place-told (Two a c) (Two b d) e = let f : a ≡ b = cc in let g : c ≡ d = cc in rw (f, g)
 
 pub refusal-told : (why other : Refusal) → refusedText why ≡ refusedText other → why ≡ other

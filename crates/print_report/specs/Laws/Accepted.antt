@@ -7,6 +7,7 @@ use lib.Dec.{ltb}
 use lib.ListN.{length, getD, take, drop}
 use lib.Seq.{getD-drop}
 use borrow.Author.Tests.{ltb-false}
+use Rattle.refusal.specs.Laws.Bools.{unlike}
 use Rattle.refusal.specs.Limits.{maxPosition}
 use Rattle.refusal.specs.Laws.Pick.{pick-true, pick-false}
 use Rattle.refusal.specs.declared.Refusal.{Refusal}
@@ -57,7 +58,7 @@ module _ (read : ℕ → ℕ) (small : (at : ℕ) → read at ≤ maxPosition) w
 -- ---- the room
 
 not-done : (why : Refusal) (k bits n : ℕ) → Refused why ≡ Done k bits n → ⊥
-not-done why k bits n e = let z : _≡_ {A = ℕ} 0 1 = cc in omega arith
+not-done why k bits n e = unlike cc
 
 done-bits : (k bits n k₁ bits₁ n₁ : ℕ) → Done k₁ bits₁ n₁ ≡ Done k bits n → bits₁ ≡ bits
 done-bits k bits n k₁ bits₁ n₁ e = cc

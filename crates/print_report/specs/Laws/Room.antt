@@ -6,6 +6,7 @@ use Prim.Native.Nat.{ℕ, _+_, _*_, _≤_, _<_}
 use native.Mathlib.Omega.{arith}
 use lib.Dec.{ltb}
 use lib.ListN.{length}
+use Rattle.refusal.specs.Laws.Bools.{unlike}
 use Rattle.refusal.specs.Limits.{maxPosition}
 use Rattle.refusal.specs.Pick.{pick}
 use Rattle.refusal.specs.Refusals.{placeOf}
@@ -84,7 +85,7 @@ toldSum (gives s) = 0
 toldSum (refuses n p) = placeSum p
 
 not-given : {n : ℕ} {p : Place} {s : Shape} → refuses n p ≡ gives s → ⊥
-not-given e = let z : _≡_ {A = ℕ} 0 1 = cc in omega arith
+not-given e = unlike cc
 
 shape-same : {s r : Shape} → _≡_ {A = Told Shape} (gives s) (gives r) → r ≡ s
 shape-same e = cc

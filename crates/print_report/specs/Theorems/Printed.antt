@@ -1,9 +1,9 @@
 -- What is printed of a file: K, the blocks and the image's digits of an accepted one; a refused one's number and place; of a broken one `refused 4 i`.
-use mathlib.Core.Path.{_≡_, refl, ap, ap₂, subst, _∙_}
+use mathlib.Core.Path.{_≡_, ap, ap₂, _∙_}
 use mathlib.Core.List.{List, [], _∷_, _++_}
 use Prim.Native.Nat.{ℕ, _+_}
-use native.Mathlib.Omega.{arith}
 use lib.ListN.{length}
+use Rattle.refusal.specs.Laws.Bools.{unlike}
 use Rattle.refusal.specs.Refusals.{numberOf, placeOf}
 use Rattle.refusal.specs.Told.{Told, gives, refuses}
 use Rattle.refusal.specs.declared.Opt.{Opt}
@@ -35,7 +35,7 @@ four-told (no-head h a) n p e = (0, cc, cc)
 four-told {k} {file} (no-values h a b) n p e = (fieldsBeforeIn k file, cc, cc)
 four-told {k} {file} (no-limit h a b c) n p e = (fieldsBeforeIn k file + 1, cc, cc)
 four-told {k} {file} (extra h a b c d) n p e = (fieldsBeforeIn k file + 2, cc, cc)
-four-told (sound h a b c d) n p e = let z : _≡_ {A = ℕ} 0 1 = cc in absurd (omega arith)
+four-told (sound h a b c d) n p e = unlike cc
 
 module _ (file : List ℕ) (fill : ℕ) (page : Opt) where
   -- "A refusal prints `refused`, number and place, one space between": exactly that, for every file that is refused.

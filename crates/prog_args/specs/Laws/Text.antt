@@ -6,6 +6,7 @@ use native.Mathlib.Omega.{arith}
 use borrow.Author.Tests.{le-leb}
 use lib.ListN.{length, take, drop, length-append, length-drop}
 use lib.Seq.{take-at, drop-append-add, drop-drop}
+use Rattle.refusal.specs.Laws.Bools.{unlike}
 use Rattle.refusal.specs.Laws.Pick.{pick-true}
 use Rattle.print_text.specs.Laws.Ends.{end-fits}
 use Rattle.print_text.specs.Puts.{Puts}
@@ -14,7 +15,7 @@ use Rattle.print_text.specs.declared.Written.the-variants.{To, TooShort}
 use Rattle.prog_args.specs.Text.{Stands, Shows}
 
 pub never-short : {m : ℕ} → To m ≡ TooShort → ⊥
-never-short e = let z : _≡_ {A = ℕ} 0 1 = cc in omega arith
+never-short e = unlike cc
 
 pub to-same : {m n : ℕ} → To m ≡ To n → m ≡ n
 to-same e = cc

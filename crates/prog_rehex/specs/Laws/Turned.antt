@@ -1,11 +1,12 @@
 -- What was read is written whole: no block of it is refused, and every file of it fits the text.
 use mathlib.Core.Path.{_≡_, refl, sym, ap, ap₂, subst, _∙_}
 use mathlib.Core.Bool.{Bool, true, false, _&&_}
-use mathlib.Core.List.{List, [], _∷_, _++_, append-nil}
+use mathlib.Core.List.{List, [], _++_, append-nil}
 use Prim.Native.Nat.{ℕ, _≤_, _<_}
 use native.Mathlib.Omega.{arith}
 use borrow.Author.Tests.{le-leb, lt-leb}
 use lib.ListN.{length, take, length-map}
+use Rattle.refusal.specs.Laws.Bools.{unlike}
 use Rattle.refusal.specs.Laws.Pick.{pick-true, pick-false}
 use Rattle.refusal.specs.Pick.{pick}
 use Rattle.refusal.specs.declared.Refusal.{Refusal}
@@ -122,7 +123,7 @@ module _ (kind format load : ℕ) (source : List ℕ) (l : Lent) (hb : length (l
 -- ---- the line at fault
 
 not-good : {n : ℕ} → Good ≡ At n → ⊥
-not-good e = let z : _≡_ {A = ℕ} 0 1 = cc in omega arith
+not-good e = unlike cc
 
 same-line : {m n : ℕ} → At m ≡ At n → m ≡ n
 same-line e = cc

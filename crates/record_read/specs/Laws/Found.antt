@@ -3,10 +3,10 @@ use mathlib.Core.Path.{_≡_, refl, sym, ap, ap₂, _∙_}
 use mathlib.Core.Bool.{Bool, true, false}
 use mathlib.Core.List.{List}
 use Prim.Native.Nat.{ℕ, _≤_}
-use native.Mathlib.Omega.{arith}
 use lib.Dec.{leb}
 use lib.ListN.{length, take, drop, length-map}
 use lib.Seq.{take-at}
+use Rattle.refusal.specs.Laws.Bools.{unlike}
 use Rattle.refusal.specs.Pick.{pick}
 use Rattle.refusal.specs.declared.Refusal.{Refusal}
 use Rattle.refusal.specs.declared.Refusal.the-variants.{TooShort}
@@ -22,7 +22,7 @@ use Rattle.record_read.specs.Theorems.Facts.{found-good, found-after}
 -- ---- refused
 
 not-both : (n : ℕ) (why : Refusal) → Found n ≡ Refused why → ⊥
-not-both n why e = let z : _≡_ {A = ℕ} 0 1 = cc in omega arith
+not-both n why e = unlike cc
 
 pub same-refusal : {a b : Refusal} → Refused a ≡ Refused b → a ≡ b
 same-refusal e = cc

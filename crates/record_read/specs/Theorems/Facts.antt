@@ -7,6 +7,7 @@ use Prim.Native.Nat.{ℕ, _≤_, _<_}
 use native.Mathlib.Omega.{arith}
 use borrow.Author.Tests.{le-leb, lt-leb, leb-true, leb-false}
 use lib.ListN.{length}
+use Rattle.refusal.specs.Laws.Bools.{unlike}
 use Rattle.refusal.specs.Pick.{pick}
 use Rattle.refusal.specs.Told.{gives, refuses}
 use Rattle.refusal.specs.declared.Place.{Place}
@@ -72,7 +73,7 @@ module _ (load : ℕ) (old : Lent) where
   told-found (sound l) n e =
       let t = is-found (bytesFit load l old) (blocksFit load l old) (length (blocksGiven load l)) n e in
       (l, refl, (leb-true (reach load l) (length (old .bytes)) (t .0), room-exactly (blocksGiven load l) (old .offsets) (old .sizes) .0 (t .1), t .2))
-  told-found (faulty line) n e = let z : _≡_ {A = ℕ} 0 1 = cc in absurd (omega arith)
+  told-found (faulty line) n e = unlike cc
 
   kept-when : (read : Read) (k : ℕ) (p : Place) → toldOf load old read ≡ refuses k p → lentAfter load old read ≡ old
   kept-when (sound l) k p e =

@@ -5,6 +5,7 @@ use mathlib.Core.Bool.{Bool, true, false, not}
 use native.Mathlib.Omega.{arith}
 use lib.Dec.{eqb}
 use borrow.Author.Tests.{eq-eqb, ne-eqb, eqb-true}
+use Rattle.refusal.specs.Laws.Bools.{unlike}
 use Rattle.refusal.specs.declared.Refusal.{Refusal}
 use Rattle.resolver.specs.Laws.Least.{first-at, first-from}
 use Rattle.resolver.specs.Theorems.Least.{K-counts, K-settles}
@@ -64,7 +65,7 @@ module _ (pass : ℕ → Bool → Pass) where
             K-not-below pass m some k ∙ rw same
           where
             zero-clash : m ≡ 0 → eqb m 0 ≡ false → ⊥
-            zero-clash q f = let h : true ≡ false = rw (eq-eqb m 0 q) at f in let z : _≡_ {A = ℕ} 0 1 = cc in omega arith
+            zero-clash q f = let h : true ≡ false = rw (eq-eqb m 0 q) at f in unlike cc
 
     -- What the last pass comes to is what the layout comes to, with some K, and its number is the number of passes run.
     pub last-decides : (n : ℕ) → (RunsLast pass) m n → (k : ℕ) × (settledBy pass m ≡ record { settled = lastOf k (pass n true); passes = n })

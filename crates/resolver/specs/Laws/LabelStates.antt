@@ -1,12 +1,12 @@
 -- Laws that Theorems/LabelStates rests on.
-use Prim.Native.Nat.{ℕ, suc, _%_}
+use Prim.Native.Nat.{ℕ, _%_}
 use mathlib.Core.Path.{_≡_, refl}
 use mathlib.Core.Bool.{Bool, true, false, not, _&&_}
 use native.Mathlib.Omega.{arith}
 use lib.Dec.{eqb}
 use borrow.Author.Tests.{eq-eqb, eqb-true}
 use Rattle.refusal.specs.Pick.{pick}
-use Rattle.refusal.specs.Laws.Bools.{both}
+use Rattle.refusal.specs.Laws.Bools.{both, unlike}
 use Rattle.bankdef.specs.declared.Bankdef.{Bankdef}
 use Rattle.iter.specs.Address.{onBoundary}
 use Rattle.iter.specs.declared.Moved.{Moved}
@@ -47,4 +47,4 @@ not-held true h = absurd (h refl)
 not-held false h = refl
 
 pub not-first : (n : ℕ) → not (eqb n 1) ≡ true → n ≡ 1 → ⊥
-not-first n e q = let h : not true ≡ true = rw (eq-eqb n 1 q) at e in let z : _≡_ {A = ℕ} 0 1 = cc in omega arith
+not-first n e q = let h : not true ≡ true = rw (eq-eqb n 1 q) at e in unlike cc

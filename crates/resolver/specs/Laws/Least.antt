@@ -7,6 +7,7 @@ use native.Mathlib.Nat.{eq-or-lt-of-le, le-refl}
 use native.Mathlib.Omega.{arith}
 use lib.Dec.{leb}
 use borrow.Author.Tests.{leb-true, leb-false}
+use Rattle.refusal.specs.Laws.Bools.{unlike}
 use Rattle.refusal.specs.Pick.{pick}
 use Rattle.resolver.specs.Passes.{first}
 
@@ -20,7 +21,7 @@ or-past a b = go (leb a b) refl
 
 -- a test is not both
 clash : {t : Bool} → t ≡ true → t ≡ false → ⊥
-clash p q = let z : _≡_ {A = ℕ} 0 1 = cc in omega arith
+clash p q = unlike cc
 
 -- the first of some numbers that passes a test
 module _ (test : ℕ → Bool) where

@@ -1,7 +1,7 @@
 -- Laws that Theorems/NodeOrder rests on.
 use Prim.Native.Nat.{ℕ}
 use mathlib.Core.Path.{_≡_}
-use native.Mathlib.Omega.{arith}
+use Rattle.refusal.specs.Laws.Bools.{unlike}
 use Rattle.refusal.specs.declared.Refusal.{Refusal}
 use Rattle.iter.specs.declared.Moved.{Moved}
 use Rattle.iter.specs.declared.Moved.the-variants.{To, Refused as Stopped}
@@ -13,17 +13,17 @@ use Rattle.resolver.specs.declared.Pass.the-variants.{State, Refused}
 
 -- a position that is seen is no refusal
 pub seen-apart : {x : Moved} {now : Pos} {why : Refusal} → x ≡ To now → x ≡ Stopped why → ⊥
-seen-apart e f = let z : _≡_ {A = ℕ} 0 1 = cc in omega arith
+seen-apart e f = unlike cc
 
 pub stopped-same : {x : Moved} {why other : Refusal} → x ≡ Stopped why → x ≡ Stopped other → why ≡ other
 stopped-same e f = cc
 
 -- how a pass under way ends
 pub ended : {g : Going} {w : Walk} {s : ℕ} {why : Refusal} → g ≡ on w s → closed g ≡ Refused why → ⊥
-ended e f = let h : State _ ≡ Refused _ = rw e at f in let z : _≡_ {A = ℕ} 0 1 = cc in omega arith
+ended e f = let h : State _ ≡ Refused _ = rw e at f in unlike cc
 
 pub not-ended : {g : Going} {s : ℕ} {why : Refusal} → g ≡ off why → closed g ≡ State s → ⊥
-not-ended e f = let h : Refused _ ≡ State _ = rw e at f in let z : _≡_ {A = ℕ} 0 1 = cc in omega arith
+not-ended e f = let h : Refused _ ≡ State _ = rw e at f in unlike cc
 
 pub refused-for : {g : Going} {why other : Refusal} → g ≡ off other → closed g ≡ Refused why → other ≡ why
 refused-for e f = let h : Refused _ ≡ Refused _ = rw e at f in cc

@@ -10,7 +10,7 @@ use lib.Dec.{eqb, leb}
 use lib.ListN.{getD, set, length, length-set, replicate}
 use lib.Seq.{getD-set-same, getD-set-other}
 use borrow.Author.Tests.{eqb-true, eqb-false, leb-true, leb-false, le-leb, lt-leb}
-use Rattle.refusal.specs.Laws.Bools.{either, neither}
+use Rattle.refusal.specs.Laws.Bools.{either, neither, unlike}
 use Rattle.refusal.specs.Limits.{maxBanks, maxPosition}
 use Rattle.refusal.specs.Pick.{pick}
 use Rattle.refusal.specs.Told.{Told, gives, refuses, toldNumber}
@@ -79,7 +79,7 @@ module _ (p : Program) (row : Row) where
 -- ---- one step
 
 never-to : {why : Refusal} {s : Pos} → Stopped why ≡ To s → ⊥
-never-to e = let z : _≡_ {A = ℕ} 0 1 = cc in omega arith
+never-to e = unlike cc
 
 to-same : {a b : Pos} → To a ≡ To b → a ≡ b
 to-same e = cc

@@ -10,7 +10,7 @@ use Rattle.refusal.specs.Theorems.Told.{refusal-by-figures}
 use Rattle.refusal.specs.declared.Place.{Place}
 use Rattle.refusal.specs.declared.Refusal.{Refusal}
 use Rattle.refusal.specs.declared.Refusal.the-variants.{PositionPast}
-use Rattle.refusal.specs.Laws.Bools.{either}
+use Rattle.refusal.specs.Laws.Bools.{either, unlike}
 use Rattle.bankdef.specs.declared.Bankdef.{Bankdef}
 use Rattle.iter.specs.Laws.Advance.{outside, blind, stuck, moves}
 use Rattle.iter.specs.Theorems.AdvanceFacts.{advance-five-only, advance-five-when, sight-five-only, sight-five-when}
@@ -31,7 +31,7 @@ stopped-apart : {a b : Refusal} → Stopped a ≡ Stopped b → numberOf a ≡ n
 stopped-apart e = cc
 
 gives-apart : {p : Pos} {n : ℕ} {q : Place} → _≡_ {A = Told Pos} (gives p) (refuses n q) → ⊥
-gives-apart e = let z : _≡_ {A = ℕ} 0 1 = cc in omega arith
+gives-apart e = unlike cc
 
 number-same : {m n : ℕ} {p q : Place} → _≡_ {A = Told Pos} (refuses m p) (refuses n q) → m ≡ n
 number-same e = cc

@@ -9,6 +9,7 @@ use native.Mathlib.Omega.{arith}
 use lib.Dec.{eqb}
 use lib.ListN.{length}
 use borrow.Author.Tests.{eqb-true, eqb-false, ne-eqb, eq-eqb, lt-ltb}
+use Rattle.refusal.specs.Laws.Bools.{unlike}
 use Rattle.refusal.specs.Pick.{pick}
 use Rattle.refusal.specs.Refusals.{numberOf, placeOf}
 use Rattle.refusal.specs.Told.{Told, gives, refuses}
@@ -195,7 +196,7 @@ module _ (banks : Bankdefs) (l : Lists) (choices : Choices) where
       number-is e = cc
 
       never : (x : Settled) → toldSettled x ≡ refuses 6 place → ⊥
-      never (At k) e = let z : _≡_ {A = ℕ} 0 1 = cc in omega arith
+      never (At k) e = unlike cc
       never (Refused why) e = six-never why (number-is e)
 
   -- ---- 7

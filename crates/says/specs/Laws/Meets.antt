@@ -2,10 +2,9 @@
 use mathlib.Core.Path.{_≡_, refl, sym, ap₂, _∙_}
 use mathlib.Core.Bool.{true}
 use Prim.Native.Nat.{ℕ, _+_}
-use native.Mathlib.Omega.{arith}
 use lib.Dec.{ltb}
 use borrow.Author.Tests.{ltb-true, lt-ltb}
-use Rattle.refusal.specs.Laws.Bools.{both}
+use Rattle.refusal.specs.Laws.Bools.{both, unlike}
 use Rattle.refusal.specs.declared.Opt.{Opt}
 use Rattle.refusal.specs.declared.Opt.the-variants.{None, Some}
 use Rattle.bankdef.specs.Overlap.{rangesOverlap}
@@ -22,7 +21,7 @@ itself x = record { has = λ m e. e; only = λ m e. e }
 
 module _ {x : Opt} {Said : ℕ → Type 0} (t : Shows x Said) where
   absent : x ≡ None → (m : ℕ) → Said m → ⊥
-  absent e m h = let f = sym e ∙ t .only m h in let z : _≡_ {A = ℕ} 0 1 = cc in omega arith
+  absent e m h = let f = sym e ∙ t .only m h in unlike cc
 
   unsaid : ((m : ℕ) → Said m → ⊥) → x ≡ None
   unsaid none = go x refl

@@ -4,6 +4,7 @@ use mathlib.Core.Bool.{false}
 use mathlib.Core.List.{List, [], _∷_}
 use Prim.Native.Nat.{ℕ, zero, suc, _≤_}
 use native.Mathlib.Omega.{arith}
+use Rattle.refusal.specs.Laws.Bools.{unlike}
 use Rattle.refusal.specs.Told.{Told, gives, refuses, Nothing, nothing, toldVerdict}
 use Rattle.refusal.specs.declared.Opt.{Opt}
 use Rattle.refusal.specs.declared.Opt.the-variants.{None, Some}
@@ -30,7 +31,7 @@ abbrev Small : Opt → Type 0
 Small o = (m : ℕ) → o ≡ Some m → m ≤ 4294967295
 
 none-small : Small None
-none-small m e = let z : _≡_ {A = ℕ} 0 1 = cc in absurd (omega arith)
+none-small m e = unlike cc
 
 some-small : (n : ℕ) → n ≤ 4294967295 → Small (Some n)
 some-small n h m e = let s : n ≡ m = cc in omega arith

@@ -3,8 +3,8 @@ use mathlib.Core.Path.{_≡_, refl, ap}
 use mathlib.Core.Bool.{Bool, true, false}
 use mathlib.Core.List.{List}
 use Prim.Native.Nat.{ℕ}
-use native.Mathlib.Omega.{arith}
 use lib.ListN.{length}
+use Rattle.refusal.specs.Laws.Bools.{unlike}
 use Rattle.refusal.specs.Pick.{pick}
 use Rattle.refusal.specs.Told.{Told, gives, refuses}
 use Rattle.refusal.specs.declared.Place.the-variants.{One}
@@ -23,8 +23,8 @@ use Rattle.says_bits.specs.Blocks.{InNumbers, DkBlocksSay}
 
 numbers-one : {t u : Told ℕ} {x y : DkCount} → InNumbers t x → InNumbers u y → t ≡ u → x ≡ y
 numbers-one (b.counted {n}) (b.counted {n = m}) e = let s : n ≡ m = cc in rw s
-numbers-one b.counted b.turned e = let z : _≡_ {A = ℕ} 0 1 = cc in absurd (omega arith)
-numbers-one b.turned b.counted e = let z : _≡_ {A = ℕ} 0 1 = cc in absurd (omega arith)
+numbers-one b.counted b.turned e = unlike cc
+numbers-one b.turned b.counted e = unlike cc
 numbers-one (b.turned {number} {place}) (b.turned {number = m} {place = p}) e =
     let s : number ≡ m = cc in
     let u : place ≡ p = cc in

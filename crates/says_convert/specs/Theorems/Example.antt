@@ -1,11 +1,12 @@
 -- A one-bank file in both forms, byte by byte: what `dk_to_form2` writes for it, and `dk_to_form1` for that. Its bank has a size, no offset, and bytes
 -- that are not zero where no number is read.
-use mathlib.Core.Path.{_≡_, refl, sym, ap, subst, _∙_}
+use mathlib.Core.Path.{_≡_, refl, ap, subst}
 use mathlib.Core.List.{List, [], _∷_, _++_}
 use mathlib.Core.Logic.{⊎-elim}
 use Prim.Native.Nat.{ℕ, zero, suc, _≤_, _<_}
 use native.Mathlib.Omega.{arith}
 use lib.ListN.{length, getD, drop}
+use Rattle.refusal.specs.Laws.Bools.{unlike}
 use Rattle.form_fields.specs.Kind.{form1, form2}
 use Rattle.form_fields.specs.Whole.{Bytes}
 use Rattle.c_answers.specs.declared.DkCount.{DkCount}
@@ -160,7 +161,7 @@ example-to-form2 old room small r new told =
     (ap (λ (o : Outcome). o .answer) same, ap (λ (o : Outcome). o .out) same)
   where
     never : (f : Form) → f ≡ form-1 → Drops held1 f → ⊥
-    never f e (says.drops h x) = let z : _≡_ {A = ℕ} 0 1 = cc in omega arith
+    never f e (says.drops h x) = unlike cc
 
 pub example-to-form1 : (old : List ℕ) → 75 ≤ length old → Bytes inForm2 → (r : DkCount) (new : List ℕ) → To1 inForm2 old r new
     → (r ≡ wrote 75) × (new ≡ inForm1 ++ drop 75 old)

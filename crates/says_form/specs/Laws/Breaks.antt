@@ -1,6 +1,6 @@
 -- Where a file breaks: the fields that the definitions count are those with which a file may begin, and no more.
 use mathlib.Core.Path.{_≡_, refl, sym, ap, ap₂, subst, _∙_}
-use mathlib.Core.Bool.{true, false, not, _&&_}
+use mathlib.Core.Bool.{true, false, _&&_}
 use mathlib.Core.List.{List}
 use Prim.Native.Nat.{ℕ, zero, suc, _+_, _*_, _-_, _≤_, _<_}
 use native.Mathlib.Decide.{decLe}
@@ -8,7 +8,7 @@ use native.Mathlib.Omega.{arith}
 use lib.Dec.{leb, ltb, eqb}
 use lib.ListN.{length, getD}
 use borrow.Author.Tests.{leb-true, le-leb, eqb-true, eq-eqb, ltb-true, ltb-false}
-use Rattle.refusal.specs.Laws.Bools.{both, clash}
+use Rattle.refusal.specs.Laws.Bools.{both, clash, unlike}
 use Rattle.refusal.specs.Pick.{pick}
 use Rattle.refusal.specs.declared.Refusal.{Refusal}
 use Rattle.refusal.specs.declared.Refusal.the-variants.{Malformed}
@@ -261,7 +261,7 @@ module _ (file : List ℕ) where
 
   -- a file of form 2 begins with its head
   some : {f : Form} {c at b n r : ℕ} → Front file f c at b n r → f ≡ form-2 → 0 < c
-  some files.begins-1 e = absurd (let z : _≡_ {A = ℕ} 0 1 = cc in omega arith)
+  some files.begins-1 e = unlike cc
   some (files.begins-2 w x) e = omega arith
   some (files.bank-1 g w l) e = omega arith
   some (files.bank-2 g w l m) e = omega arith
@@ -464,7 +464,7 @@ module _ (f : Form) (file : List ℕ) where
     not-sound h s = never (sound-form s)
       where
         never : {t : Shape} → formIn k file ≡ SoundForm t → ⊥
-        never b = let z : _≡_ {A = ℕ} 0 1 = cc in omega arith
+        never b = unlike cc
 
     broken-at : (i : ℕ) → formIn k file ≡ BrokenForm (Malformed i) → length file ≤ longest f → ((j : ℕ) → j < i → Good f file j) → (Good f file i → ⊥)
         → BrokenAt why
@@ -499,7 +499,7 @@ module _ (f : Form) (file : List ℕ) where
         (λ j less. good-before file j (suc c) (omega arith) (files.limit g w x))
         (λ b. no-extra file f g w (subst (Good f file) (omega arith) b)))
         (λ m. absurd (let b = rest.form-sound k file short h v l (ltb-false (limitStartIn k file + 4) (length file) m) in
-        let z : _≡_ {A = ℕ} 0 1 = cc in omega arith)))
+        unlike cc)))
         (λ l.
         broken-at (c + 1) (rest.form-limit k file short h v l) short′ more
         (λ b. no-limit file f g w (λ x. clash (field-of file (limitStartIn k file) 5 1 x) l) (subst (Good f file) (omega arith) b))))

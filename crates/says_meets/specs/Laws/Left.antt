@@ -1,16 +1,15 @@
 -- What an accepted build leaves is what the sentences say: the image's bits, the spans, and everything past them.
 use mathlib.Core.Path.{_≡_, refl, sym, ap, subst, _∙_}
 use mathlib.Core.Bool.{Bool, true, false}
-use mathlib.Core.List.{List, [], _∷_, _++_, map, List·Memᴰ}
-use mathlib.Core.Logic.{_⊎_, inl, inr, ⊎-elim}
-use Prim.Native.Nat.{ℕ, zero, suc, _+_, _-_, _*_, _/_, _≤_, _<_, min}
+use mathlib.Core.List.{List, [], _∷_, map}
+use Prim.Native.Nat.{ℕ, zero, suc, _+_, _-_, _/_, _≤_, _<_}
 use native.Mathlib.Omega.{arith}
 use borrow.Author.Tests.{eqb-true, eqb-false, ltb-true, ltb-false}
 use lib.Dec.{eqb, ltb}
 use lib.IntN.{ℤ, pos, _+ℤ_}
 use lib.ListN.{length, getD, drop, length-append, length-drop, length-map}
 use lib.Seq.{getD-drop}
-use Rattle.refusal.specs.Laws.Bools.{either}
+use Rattle.refusal.specs.Laws.Bools.{either, unlike}
 use Rattle.refusal.specs.Pick.{pick}
 use Rattle.refusal.specs.Laws.Pick.{pick-true, pick-false}
 use Rattle.refusal.specs.declared.Opt.{Opt}
@@ -98,7 +97,7 @@ pub word-told : (g : Given) {b : ℕ} {def : Bankdef} → Tells g b def → (p :
 word-told g {b} tells p None e = says.nowhere (λ f. apart (sym e ∙ tells .has-offset (getD (g .bankOffsets) b 0) (f, refl)))
   where
     apart : {n : ℕ} → None ≡ Some n → ⊥
-    apart e = let z : _≡_ {A = ℕ} 0 1 = cc in omega arith
+    apart e = unlike cc
 word-told g tells p (Some o) e = says.at (tells .placed o e)
 
 module _ (g : Given) (typed : Typed g) (shown : Shown g (table g)) (ck : Checked (table g) (listed g) (g .fill)) (old : out.Lent) (answer : Output)

@@ -8,7 +8,7 @@ use native.Mathlib.Nat.{div-add-mod', mul-mod-left}
 use native.Mathlib.Omega.{arith}
 use lib.Dec.{eqb, leb}
 use borrow.Author.Tests.{eqb-true, eqb-false, eq-eqb, ne-eqb, leb-true, leb-false, not-false}
-use Rattle.refusal.specs.Laws.Bools.{either, clash}
+use Rattle.refusal.specs.Laws.Bools.{either, clash, unlike, neither}
 use Rattle.refusal.specs.declared.Opt.{Opt}
 use Rattle.refusal.specs.declared.Opt.the-variants.{None, Some}
 use Rattle.refusal.specs.declared.Refusal.the-variants.{OffProfile}
@@ -64,16 +64,12 @@ module _ {Y : Type 0} (told : Verdict → Y) (rule n m : ℕ) (same : n ≡ m) (
 
 -- ---- tests of numbers
 
-either-false : (a b : Bool) → (a || b) ≡ false → (a ≡ false) × (b ≡ false)
-either-false true b e = (e, cc)
-either-false false b e = (refl, e)
-
 pub not-one : (n : ℕ) → oneBit n ≡ false → OneBit n → ⊥
 not-one n e h = clash (one-bit-power n .1 h) e
 
 aligned-false : (a : ℕ) → aligned a ≡ false → (0 < a) × (OneBit a → ⊥)
 aligned-false a e =
-    let f = either-false (eqb a 0) (oneBit a) e in
+    let f = neither (eqb a 0) (oneBit a) e in
     (omega (arith, eqb-false a 0 (f .0)), not-one a (f .1))
 
 aligned-true : (a : ℕ) → aligned a ≡ true → 0 < a → OneBit a
@@ -93,7 +89,7 @@ not-whole m x e w = clash (whole-only m x w) e
 -- ---- banks
 
 pub some-apart : {a : ℕ} → None ≡ Some a → ⊥
-some-apart e = let z : _≡_ {A = ℕ} 0 1 = cc in omega arith
+some-apart e = unlike cc
 
 yes-no : {X : Type 0} → true ≡ false → X
 yes-no e = absurd (clash refl e)
@@ -147,7 +143,7 @@ module _ (g : Given) (b : ℕ) (def : Bankdef) (t : Tells g b def) where
 
   unit-bad : unitKept (def .unit) ≡ false → BadUnit g b
   unit-bad e =
-      let f = either-false (eqb (def .unit) 8) (eqb (def .unit) 16) e in
+      let f = neither (eqb (def .unit) 8) (eqb (def .unit) 16) e in
       (λ q. eqb-false (def .unit) 8 (f .0) (t .of-unit ∙ q), λ q. eqb-false (def .unit) 16 (f .1) (t .of-unit ∙ q))
 
   unit-good : unitKept (def .unit) ≡ true → BadUnit g b → ⊥
@@ -184,7 +180,7 @@ module _ (g : Given) where
     rows-bad e =
         let f = first-of keepsRow (g .rows) e in
         let r = firstBroken keepsRow (g .rows) in
-        let x = either-false (not (eqb (kind g i) want)) (test (numberIn (listed g) r i)) (f .broken) in
+        let x = neither (not (eqb (kind g i) want)) (test (numberIn (listed g) r i)) (f .broken) in
         record { is-kind = eqb-true (kind g i) want (not-false (eqb (kind g i) want) (x .0)); row = r; listed-row = f .listed; fails = x .1 }
 
     rows-good : all keepsRow (g .rows) ≡ true → kind g i ≡ want → (r : ℕ) → r < g .rows → test (numberIn (listed g) r i) ≡ true

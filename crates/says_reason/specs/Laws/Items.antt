@@ -7,7 +7,7 @@ use Prim.Native.Nat.{ℕ, _+_, _*_}
 use native.Mathlib.Omega.{arith}
 use borrow.Author.Tests.{eq-eqb, ne-eqb, eqb-true, eqb-false}
 use lib.Dec.{ltb, eqb}
-use Rattle.refusal.specs.Laws.Bools.{either}
+use Rattle.refusal.specs.Laws.Bools.{either, unlike}
 use Rattle.record_lines.specs.Digits.{pairAt}
 use Rattle.record_lines.specs.Items.{Item, gives, passes, ends, bad}
 use Rattle.record_lines.specs.Pieces.{Piece, piece}
@@ -31,10 +31,10 @@ pub data Kept : Item → Type 0 where
   skipped : {a : ℕ} → Kept (passes a)
 
 pub clashes : {a b : Item} → Kept a → a ≡ b → (b ≡ bad) ⊎ ((x : ℕ) × (y : List ℕ) × (z : ℕ) × (b ≡ gives x y z)) → ⊥
-clashes ended e (inl f) = let z : _≡_ {A = ℕ} 0 1 = cc in omega arith
-clashes ended e (inr (x, y, z, f)) = let z : _≡_ {A = ℕ} 0 1 = cc in omega arith
-clashes skipped e (inl f) = let z : _≡_ {A = ℕ} 0 1 = cc in omega arith
-clashes skipped e (inr (x, y, z, f)) = let z : _≡_ {A = ℕ} 0 1 = cc in omega arith
+clashes ended e (inl f) = unlike cc
+clashes ended e (inr (x, y, z, f)) = unlike cc
+clashes skipped e (inl f) = unlike cc
+clashes skipped e (inr (x, y, z, f)) = unlike cc
 
 -- ---- the width in force
 pub own-width : (st w : ℕ) → agrees st w ≡ true → (st ≡ 0) ⊎ (st ≡ w)
@@ -133,11 +133,11 @@ module _ (format : ℕ) where
     after-by x e (gave g) = s.gave g
     after-by x e (moved f h) = s.upper f h
     after-by x e (skipped n) =
-        stays e (λ a b c z. let w : _≡_ {A = ℕ} 0 1 = cc in absurd (omega arith)) (λ a z f. n f)
+        stays e (λ a b c z. unlike cc) (λ a z f. n f)
     after-by x e (closed c) =
-        stays e (λ a b c z. let w : _≡_ {A = ℕ} 0 1 = cc in absurd (omega arith)) (λ a z f. let w : _≡_ {A = ℕ} 0 1 = cc in absurd (omega arith))
+        stays e (λ a b c z. unlike cc) (λ a z f. unlike cc)
     after-by x e none =
-        stays e (λ a b c z. let w : _≡_ {A = ℕ} 0 1 = cc in absurd (omega arith)) (λ a z f. let w : _≡_ {A = ℕ} 0 1 = cc in absurd (omega arith))
+        stays e (λ a b c z. unlike cc) (λ a z f. unlike cc)
 
     pub after-is : After format st l (stateAfter st (formatBy format st l))
     after-is = after-by (formatBy format st l) refl (said st l)
@@ -150,10 +150,10 @@ module _ (format : ℕ) where
       let data-bytes : p .bytes ≡ b = cc in
       let same : p ≡ piece a b = same-piece p (piece a b) start data-bytes in
       subst (λ (q : Piece). LineGives format st l after q) same (subst (λ (n : ℕ). LineGives format st l n p) state g)
-  piece-by (moved f h) e = let z : _≡_ {A = ℕ} 0 1 = cc in absurd (omega arith)
-  piece-by (skipped n) e = let z : _≡_ {A = ℕ} 0 1 = cc in absurd (omega arith)
-  piece-by (closed c) e = let z : _≡_ {A = ℕ} 0 1 = cc in absurd (omega arith)
-  piece-by none e = let z : _≡_ {A = ℕ} 0 1 = cc in absurd (omega arith)
+  piece-by (moved f h) e = unlike cc
+  piece-by (skipped n) e = unlike cc
+  piece-by (closed c) e = unlike cc
+  piece-by none e = unlike cc
 
   pub item-gives : (st : ℕ) {a after : ℕ} {b : List ℕ} (l : List ℕ) → formatBy format st l ≡ gives a b after → LineGives format st l after (piece a b)
   item-gives st l e = piece-by (said st l) e

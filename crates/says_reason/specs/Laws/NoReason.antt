@@ -8,7 +8,7 @@ use native.Mathlib.Omega.{arith}
 use borrow.Author.Tests.{leb-true}
 use lib.Dec.{leb}
 use lib.ListN.{length, take, drop, length-append}
-use Rattle.refusal.specs.Laws.Bools.{both}
+use Rattle.refusal.specs.Laws.Bools.{both, unlike}
 use Rattle.record_lines.specs.Items.{Item, gives, bad}
 use Rattle.record_lines.specs.Pieces.{Piece, piece, endOf}
 use Rattle.record_fault.specs.Reading.{formatBy, newPieces, stateAfter, fine, isNew}
@@ -318,4 +318,4 @@ module _ (format load : ℕ) (text : List ℕ) (n : ℕ) (l : List ℕ) (rest : 
   given-none a b after e ok = line-none (λ f. differ (sym e ∙ f)) (span-given a b after e ok)
     where
       differ : {x z : ℕ} {y : List ℕ} → gives x y z ≡ bad → ⊥
-      differ f = let k : _≡_ {A = ℕ} 0 1 = cc in omega arith
+      differ f = unlike cc

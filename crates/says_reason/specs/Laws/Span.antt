@@ -8,7 +8,7 @@ use native.Mathlib.Omega.{arith}
 use borrow.Author.Tests.{ltb-true, ltb-false, le-leb}
 use lib.Dec.{ltb}
 use lib.ListN.{length, drop}
-use Rattle.refusal.specs.Laws.Bools.{either, clash}
+use Rattle.refusal.specs.Laws.Bools.{either, clash, unlike}
 use Rattle.refusal.specs.Pick.{pick}
 use Rattle.record_lines.specs.Items.{gives, bad}
 use Rattle.record_lines.specs.Pieces.{Piece, piece, endOf}
@@ -86,7 +86,7 @@ module _ (format load : ℕ) (text : List ℕ) (n : ℕ) (l : List ℕ) (rest : 
   unfit-here h (broken e) = let z : gives (p .address) (p .bytes) after ≡ bad = sym (gives-item format (fits-in h)) ∙ e in differ z
     where
       differ : {a c : ℕ} {b : List ℕ} {X : Type 0} → gives a b c ≡ bad → X
-      differ z = let w : _≡_ {A = ℕ} 0 1 = cc in absurd (omega arith)
+      differ z = unlike cc
   unfit-here h (unfit a b c e f) =
       subst (λ (x : Rattle.record_lines.specs.Items.Item). fine load given (newPieces x) ≡ false) (sym e ∙ gives-item format (fits-in h)) f
 

@@ -5,6 +5,7 @@ use mathlib.Core.List.{List, [], _∷_, _++_, append-nil}
 use Prim.Native.Nat.{ℕ, zero, suc, _+_, _-_, _≤_, _<_}
 use native.Mathlib.Omega.{arith}
 use lib.ListN.{length, drop}
+use Rattle.refusal.specs.Laws.Bools.{unlike}
 use Rattle.refusal.specs.Pick.{pick}
 use Rattle.record_lines.specs.Items.{Item, gives, passes, ends, bad}
 use Rattle.record_lines.specs.Pieces.{Piece}
@@ -67,7 +68,7 @@ module _ (format load : ℕ) (text : List ℕ) where
 
     past-end : (ms : List (List ℕ)) → ls ≡ ms → itemOf format text n ≡ ends → pick (isNone ms) (sound (givenAt n)) (faulty 1) ≡ faulty (suc m)
         → Reaches (suc n) m
-    past-end [] s e h = let z : _≡_ {A = ℕ} 0 1 = cc in absurd (omega arith)
+    past-end [] s e h = unlike cc
     past-end (k ∷ ms) s e h =
         let one : 1 ≡ suc m = cc in
         behind (omega arith) (ap isEnd e) (next ∙ s)
@@ -75,8 +76,8 @@ module _ (format load : ℕ) (text : List ℕ) where
     past-piece : (a : ℕ) (b : List ℕ) (after : ℕ) → itemOf format text n ≡ gives a b after → (t : Bool)
         → pick t (later (reads ls after (givenAt n ++ newPieces (gives a b after)))) (faulty 0) ≡ faulty (suc m) → Reaches (suc n) m
     past-piece a b after e true h = on (next-reads (gives a b after) e (same-later _ h)) (
-      λ f. let z : _≡_ {A = ℕ} 0 1 = cc in omega arith,
-      λ f. let z : _≡_ {A = ℕ} 0 1 = cc in omega arith,
+      λ f. unlike cc,
+      λ f. unlike cc,
     )
     past-piece a b after e false h = let z : _≡_ {A = ℕ} 0 (suc m) = cc in absurd (omega arith)
 
@@ -84,8 +85,8 @@ module _ (format load : ℕ) (text : List ℕ) where
     past (gives a b after) e h = past-piece a b after e (fine load (givenAt n) (newPieces (gives a b after))) h
     past (passes after) e h =
         on (next-reads (passes after) e (ap (λ (g : List Piece). reads ls after g) (append-nil (givenAt n)) ∙ same-later _ h)) (
-          λ f. let z : _≡_ {A = ℕ} 0 1 = cc in omega arith,
-          λ f. let z : _≡_ {A = ℕ} 0 1 = cc in omega arith,
+          λ f. unlike cc,
+          λ f. unlike cc,
         )
     past ends e h = past-end ls refl e h
     past bad e h = let z : _≡_ {A = ℕ} 0 (suc m) = cc in absurd (omega arith)
@@ -123,7 +124,7 @@ module _ (format load : ℕ) (text : List ℕ) where
     fault-piece a b after e false f h = unfit a b after goes here e f
 
     fault-end : (t : Bool) → pick t (sound (givenAt n)) (faulty 1) ≡ faulty 0 → Fault n
-    fault-end true h = let z : _≡_ {A = ℕ} 0 1 = cc in absurd (omega arith)
+    fault-end true h = unlike cc
     fault-end false h = let z : _≡_ {A = ℕ} 1 0 = cc in absurd (omega arith)
 
     fault-by : (x : Item) → formatBy format (stateAt n) l ≡ x → goOn load (givenAt n) (isNone ls) (reads ls) x ≡ faulty 0 → Fault n
@@ -146,7 +147,7 @@ module _ (format load : ℕ) (text : List ℕ) where
 
   some-left : (n : ℕ) (k : List (List ℕ)) → drop n (lines format text) ≡ k → reads k (stateAt n) (givenAt n) ≡ faulty 1 → n < length (lines format text)
   unfolding readFrom
-  some-left n [] here e = let z : _≡_ {A = ℕ} 0 1 = cc in absurd (omega arith)
+  some-left n [] here e = unlike cc
   some-left n (l ∷ ls) here e = drop-long n (lines format text) here
 
   left-by : (n : ℕ) → Reaches n 1 → n < length (lines format text)
@@ -202,35 +203,35 @@ module _ (format load : ℕ) (text : List ℕ) where
   module _ (out : List Piece) (n : ℕ) (l : List ℕ) (ls : List (List ℕ)) (here : drop n (lines format text) ≡ l ∷ ls) where
     same-sound : (x : Read) → later x ≡ sound out → x ≡ sound out
     same-sound (sound p) e = e
-    same-sound (faulty i) e = let z : _≡_ {A = ℕ} 0 1 = cc in absurd (omega arith)
+    same-sound (faulty i) e = unlike cc
 
     sound-piece : (a : ℕ) (b : List ℕ) (after : ℕ) → itemOf format text n ≡ gives a b after → (t : Bool)
         → pick t (later (reads ls after (givenAt n ++ newPieces (gives a b after)))) (faulty 0) ≡ sound out → Sounds out (suc n)
     sound-piece a b after e true h = still (next-reads n 0 l ls here (gives a b after) e (same-sound _ h)) (
-      λ f. let z : _≡_ {A = ℕ} 0 1 = cc in omega arith,
-      λ f. let z : _≡_ {A = ℕ} 0 1 = cc in omega arith,
+      λ f. unlike cc,
+      λ f. unlike cc,
     )
-    sound-piece a b after e false h = let z : _≡_ {A = ℕ} 0 1 = cc in absurd (omega arith)
+    sound-piece a b after e false h = unlike cc
 
     sound-end : (ms : List (List ℕ)) → ls ≡ ms → itemOf format text n ≡ ends → pick (isNone ms) (sound (givenAt n)) (faulty 1) ≡ sound out
         → Sounds out (suc n)
     sound-end [] s e h = over (empty-drop (suc n) (lines format text) (next n 0 l ls here ∙ s)) (λ z. ap isEnd e)
-    sound-end (k ∷ ms) s e h = let z : _≡_ {A = ℕ} 0 1 = cc in absurd (omega arith)
+    sound-end (k ∷ ms) s e h = unlike cc
 
     sound-by : (x : Item) → itemOf format text n ≡ x → goOn load (givenAt n) (isNone ls) (reads ls) x ≡ sound out → Sounds out (suc n)
     sound-by (gives a b after) e h = sound-piece a b after e (fine load (givenAt n) (newPieces (gives a b after))) h
     sound-by (passes after) e h =
         still (next-reads n 0 l ls here (passes after) e (ap (λ (g : List Piece). reads ls after g) (append-nil (givenAt n)) ∙ same-sound _ h)) (
-          λ f. let z : _≡_ {A = ℕ} 0 1 = cc in omega arith,
-          λ f. let z : _≡_ {A = ℕ} 0 1 = cc in omega arith,
+          λ f. unlike cc,
+          λ f. unlike cc,
         )
     sound-by ends e h = sound-end ls refl e h
-    sound-by bad e h = let z : _≡_ {A = ℕ} 0 1 = cc in absurd (omega arith)
+    sound-by bad e h = unlike cc
 
   sound-step : (out : List Piece) (n : ℕ) (k : List (List ℕ)) → drop n (lines format text) ≡ k → reads k (stateAt n) (givenAt n) ≡ sound out
       → Sounds out (suc n)
   unfolding readFrom
-  sound-step out n [] here e = let z : _≡_ {A = ℕ} 0 1 = cc in absurd (omega arith)
+  sound-step out n [] here e = unlike cc
   sound-step out n (l ∷ ls) here e = sound-by out n l ls here (formatBy format (stateAt n) l) (item-is n 0 l ls here) e
 
   sounds : (out : List Piece) → readText format load text ≡ sound out → (n : ℕ) → Sounds out n
@@ -246,5 +247,5 @@ module _ (format load : ℕ) (text : List ℕ) where
   stands-good out e n = go (sounds out e n)
     where
       go : Sounds out n → Stands n
-      go (still f g) = stands-here n (drop n (lines format text)) g refl (λ h. let z : _≡_ {A = ℕ} 0 1 = cc in omega arith)
+      go (still f g) = stands-here n (drop n (lines format text)) g refl (λ h. unlike cc)
       go (over h f) = over h f

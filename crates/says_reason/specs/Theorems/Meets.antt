@@ -9,7 +9,7 @@ use native.Mathlib.Omega.{arith}
 use borrow.Author.Tests.{ltb-true, ltb-false, eqb-true, eqb-false, eq-eqb, ne-eqb, le-leb, lt-leb}
 use lib.Dec.{ltb, eqb}
 use lib.ListN.{length, getD, drop, length-drop}
-use Rattle.refusal.specs.Laws.Bools.{either, clash}
+use Rattle.refusal.specs.Laws.Bools.{either, clash, unlike}
 use Rattle.refusal.specs.Laws.Pick.{paired}
 use Rattle.refusal.specs.Pick.{pick}
 use Rattle.bitvec.specs.Lists.{listOf}
@@ -242,11 +242,11 @@ module _ (format load : ℕ) (text : List ℕ) where
   reason n = causeAt format load text n
 
   end-record : (st : ℕ) (l : List ℕ) {x : Item} → items.Said format st l x → x ≡ ends → EndRecord format l
-  end-record st l (items.gave g) e = let z : _≡_ {A = ℕ} 0 1 = cc in absurd (omega arith)
-  end-record st l (items.moved f h) e = let z : _≡_ {A = ℕ} 0 1 = cc in absurd (omega arith)
-  end-record st l (items.skipped m) e = let z : _≡_ {A = ℕ} 0 1 = cc in absurd (omega arith)
+  end-record st l (items.gave g) e = unlike cc
+  end-record st l (items.moved f h) e = unlike cc
+  end-record st l (items.skipped m) e = unlike cc
   end-record st l (items.closed c) e = c
-  end-record st l items.none e = let z : _≡_ {A = ℕ} 0 1 = cc in absurd (omega arith)
+  end-record st l items.none e = unlike cc
 
   -- behind the end record
   behind : (n : ℕ) → endsBefore format text n ≡ true → n ≤ length all → Ended format load all n

@@ -5,7 +5,7 @@ use mathlib.Core.List.{List, [], _∷_, _++_}
 use Prim.Native.Nat.{ℕ, zero, suc, _<_}
 use native.Mathlib.Omega.{arith}
 use lib.ListN.{take}
-use Rattle.refusal.specs.Laws.Bools.{clash}
+use Rattle.refusal.specs.Laws.Bools.{clash, unlike}
 use Rattle.refusal.specs.Pick.{pick}
 use Rattle.record_lines.specs.Items.{Item, gives, passes, ends, bad, Format}
 use Rattle.record_lines.specs.Pieces.{Piece}
@@ -31,7 +31,7 @@ not-empty : {l : List ℕ} {a : List (List ℕ)} → l ∷ a ≡ [] → ⊥
 not-empty e = let z : _≡_ {A = ℕ} (suc 0) 0 = cc in omega arith
 
 pub later-fault : (x : Read) (i : ℕ) → later x ≡ faulty i → (j : ℕ) × (i ≡ suc j) × (x ≡ faulty j)
-later-fault (sound l) i e = let z : _≡_ {A = ℕ} 0 1 = cc in absurd (omega arith)
+later-fault (sound l) i e = unlike cc
 later-fault (faulty j) i e = (j, cc, refl)
 
 module _ (load : ℕ) (given : List Piece) (rest rest′ : ℕ → List Piece → Read) (none none′ : Bool) (i : ℕ)
@@ -49,7 +49,7 @@ module _ (load : ℕ) (given : List Piece) (rest rest′ : ℕ → List Piece �
   fine-past false x y h e = e
 
   end-past : (a b : Bool) → (a ≡ false → 0 < i → b ≡ false) → pick a (sound given) (faulty 1) ≡ faulty i → pick b (sound given) (faulty 1) ≡ faulty i
-  end-past true b h e = let z : _≡_ {A = ℕ} 0 1 = cc in absurd (omega arith)
+  end-past true b h e = unlike cc
   end-past false b h e =
       let one : 1 ≡ i = cc in
       rw (h refl (omega arith)) e

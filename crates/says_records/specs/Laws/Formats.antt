@@ -8,7 +8,7 @@ use native.Mathlib.Decide.{ℕ-discrete}
 use native.Mathlib.Omega.{arith}
 use borrow.Author.Tests.{eq-eqb, ne-eqb}
 use lib.ListN.{length, getD}
-use Rattle.refusal.specs.Laws.Bools.{clash}
+use Rattle.refusal.specs.Laws.Bools.{clash, unlike}
 use Rattle.record_lines.specs.Items.{Item, gives, passes, ends, Format}
 use Rattle.record_lines.specs.Lines.{linesOf}
 use Rattle.record_lines.specs.Pieces.{Piece, piece}
@@ -81,26 +81,26 @@ hex-told (s.piece {u} {p = p} h e more) = tells {p = p} (hex.item-data u h ∙ a
 hex-told (s.upper {u} h more) = skips (hex.item-upper u h) (hex-told more)
 
 hex-ends : {u : ℕ} {l : List ℕ} {x : Item} → HexSaid u l x → x ≡ ends → Hex r.either l 1 0 []
-hex-ends (hex.gave c) e = let z : _≡_ {A = ℕ} 0 1 = cc in absurd (omega arith)
-hex-ends (hex.moved c) e = let z : _≡_ {A = ℕ} 0 1 = cc in absurd (omega arith)
+hex-ends (hex.gave c) e = unlike cc
+hex-ends (hex.moved c) e = unlike cc
 hex-ends (hex.closed c) e = c
-hex-ends hex.none e = let z : _≡_ {A = ℕ} 0 1 = cc in absurd (omega arith)
+hex-ends hex.none e = unlike cc
 
 hex-passes : {u after : ℕ} {l : List ℕ} {x : Item} → HexSaid u l x → x ≡ passes after
     → (a : ℕ) × (b : ℕ) × Hex r.either l 4 0 (a ∷ b ∷ []) × (after ≡ 256 * a + b)
-hex-passes (hex.gave c) e = let z : _≡_ {A = ℕ} 0 1 = cc in absurd (omega arith)
+hex-passes (hex.gave c) e = unlike cc
 hex-passes (hex.moved {a} {b} c) e = (a, b, c, cc)
-hex-passes (hex.closed c) e = let z : _≡_ {A = ℕ} 0 1 = cc in absurd (omega arith)
-hex-passes hex.none e = let z : _≡_ {A = ℕ} 0 1 = cc in absurd (omega arith)
+hex-passes (hex.closed c) e = unlike cc
+hex-passes hex.none e = unlike cc
 
 hex-gives : {u a after : ℕ} {b l : List ℕ} {x : Item} → HexSaid u l x → x ≡ gives a b after
     → (field : ℕ) × Hex r.either l 0 field b × (a ≡ 65536 * u + field) × (after ≡ u)
 hex-gives {b = b} {l = l} (hex.gave {f} {b = c} h) e =
     let same : c ≡ b = cc in
     (f, subst (λ (x : List ℕ). Hex r.either l 0 f x) same h, cc, cc)
-hex-gives (hex.moved c) e = let z : _≡_ {A = ℕ} 0 1 = cc in absurd (omega arith)
-hex-gives (hex.closed c) e = let z : _≡_ {A = ℕ} 0 1 = cc in absurd (omega arith)
-hex-gives hex.none e = let z : _≡_ {A = ℕ} 0 1 = cc in absurd (omega arith)
+hex-gives (hex.moved c) e = unlike cc
+hex-gives (hex.closed c) e = unlike cc
+hex-gives hex.none e = unlike cc
 
 pub told-hex : {u : ℕ} {ls : List (List ℕ)} {ps : List Piece} → Tells hexItem u ls ps → HexLines u ls ps
 told-hex (closes {state} {line} e) = s.end (hex-ends (hex.said state line) e)
@@ -151,17 +151,17 @@ srec-told v (s.header h x) st own fit = skips (srec.item-header st h) (srec-told
 
 srec-ends : {st : ℕ} {l : List ℕ} {x : Item} → SrecSaid st l x → x ≡ ends
     → (w : ℕ) × (a : ℕ) × back.Width w × (agrees st w ≡ true) × Srec r.either l (endDigit w) w a []
-srec-ends (srec.gave v o c h) e = let z : _≡_ {A = ℕ} 0 1 = cc in absurd (omega arith)
-srec-ends (srec.skipped c) e = let z : _≡_ {A = ℕ} 0 1 = cc in absurd (omega arith)
+srec-ends (srec.gave v o c h) e = unlike cc
+srec-ends (srec.skipped c) e = unlike cc
 srec-ends (srec.closed {w} {a} v o c) e = (w, a, v, o, c)
-srec-ends srec.none e = let z : _≡_ {A = ℕ} 0 1 = cc in absurd (omega arith)
+srec-ends srec.none e = unlike cc
 
 srec-passes : {st after : ℕ} {l : List ℕ} {x : Item} → SrecSaid st l x → x ≡ passes after
     → (a : ℕ) × (b : List ℕ) × Srec r.either l 48 2 a b × (after ≡ st)
-srec-passes (srec.gave v o c h) e = let z : _≡_ {A = ℕ} 0 1 = cc in absurd (omega arith)
+srec-passes (srec.gave v o c h) e = unlike cc
 srec-passes (srec.skipped {a} {b} c) e = (a, b, c, cc)
-srec-passes (srec.closed v o c) e = let z : _≡_ {A = ℕ} 0 1 = cc in absurd (omega arith)
-srec-passes srec.none e = let z : _≡_ {A = ℕ} 0 1 = cc in absurd (omega arith)
+srec-passes (srec.closed v o c) e = unlike cc
+srec-passes srec.none e = unlike cc
 
 srec-gives : {st a after : ℕ} {b l : List ℕ} {x : Item} → SrecSaid st l x → x ≡ gives a b after
     → back.Width after × (agrees st after ≡ true) × Srec r.either l (dataDigit after) after a b × (a + length b ≤ 256 ^ after)
@@ -172,9 +172,9 @@ srec-gives {st} {a} {after} {b} {l} (srec.gave {w} {a = c} {b = d} v o x h) e =
     subst (λ (n : ℕ). back.Width n × (agrees st n ≡ true) × Srec r.either l (dataDigit n) n a b × (a + length b ≤ 256 ^ n)) width
     (subst (λ (n : ℕ). back.Width w × (agrees st w ≡ true) × Srec r.either l (dataDigit w) w n b × (n + length b ≤ 256 ^ w)) start
     (subst (λ (n : List ℕ). back.Width w × (agrees st w ≡ true) × Srec r.either l (dataDigit w) w c n × (c + length n ≤ 256 ^ w)) data-bytes (v, o, x, h)))
-srec-gives (srec.skipped c) e = let z : _≡_ {A = ℕ} 0 1 = cc in absurd (omega arith)
-srec-gives (srec.closed v o c) e = let z : _≡_ {A = ℕ} 0 1 = cc in absurd (omega arith)
-srec-gives srec.none e = let z : _≡_ {A = ℕ} 0 1 = cc in absurd (omega arith)
+srec-gives (srec.skipped c) e = unlike cc
+srec-gives (srec.closed v o c) e = unlike cc
+srec-gives srec.none e = unlike cc
 
 same-width : {v w : ℕ} → back.Width v → back.Width w → agrees v w ≡ true → w ≡ v
 same-width back.two back.two e = refl

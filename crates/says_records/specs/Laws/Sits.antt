@@ -1,6 +1,6 @@
 -- Pieces that give no address twice, by the sentences and by the definition's test piece by piece: the same.
 use mathlib.Core.Path.{_≡_, refl, sym, ap, subst}
-use mathlib.Core.Bool.{Bool, true, false, _&&_, _||_}
+use mathlib.Core.Bool.{true, _&&_, _||_}
 use mathlib.Core.List.{List, [], _∷_, _++_}
 use mathlib.Core.Logic.{_⊎_, ⊎-elim}
 use Prim.Native.Nat.{ℕ, zero, suc, _+_, _-_, _≤_, _<_}
@@ -8,7 +8,7 @@ use native.Mathlib.Omega.{arith}
 use borrow.Author.Tests.{le-leb, leb-true}
 use lib.Dec.{leb}
 use lib.ListN.{length, getD}
-use Rattle.refusal.specs.Laws.Bools.{either, both}
+use Rattle.refusal.specs.Laws.Bools.{either, both, or-right}
 use Rattle.sort.specs.Laws.Sorted.{le-or-lt}
 use Rattle.record_lines.specs.Items.{gives}
 use Rattle.record_lines.specs.Pieces.{Piece, piece, endOf}
@@ -54,10 +54,6 @@ module _ (load : ℕ) where
   pub tail-gives : (p : Piece) (ps : List Piece) (i a b : ℕ) → Gives ps i a b → Gives (p ∷ ps) (suc i) a b
   tail-gives p ps i a b (s.gives {p = q} {k = k} x h e f) = s.gives {p = q} {k = k} (omega (arith, x .0), x .1) h e f
 
-  or-true : (a b : Bool) → b ≡ true → (a || b) ≡ true
-  or-true true b e = refl
-  or-true false b e = e
-
   new-for : (p : Piece) (ps given : List Piece) → 0 < length (p .bytes) → Clear (p ∷ ps) given → isNew given (p .address) (endOf p) ≡ true
   unfolding isNew
   new-for p ps [] n c = refl
@@ -66,7 +62,7 @@ module _ (load : ℕ) where
       ⊎-elim
       (λ le. rw (le-leb (endOf q) (p .address) le) more)
       (λ lt. ⊎-elim
-      (λ le. rw (or-true (leb (endOf q) (p .address)) (leb (endOf p) (q .address)) (le-leb (endOf p) (q .address) le)) more)
+      (λ le. rw (or-right (leb (endOf q) (p .address)) (leb (endOf p) (q .address)) (le-leb (endOf p) (q .address) le)) more)
       (λ gt. ⊎-elim
       (λ le. absurd (c .1 (q .address) (omega arith) (omega (arith, c .0)) (
         0,

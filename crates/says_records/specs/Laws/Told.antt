@@ -3,8 +3,8 @@ use mathlib.Core.Path.{_≡_, refl, sym, ap, _∙_, subst}
 use mathlib.Core.Bool.{Bool, true, false}
 use mathlib.Core.List.{List, [], _∷_, _++_, append-nil, append-assoc}
 use Prim.Native.Nat.{ℕ}
-use native.Mathlib.Omega.{arith}
 use lib.ListN.{take}
+use Rattle.refusal.specs.Laws.Bools.{unlike}
 use Rattle.refusal.specs.Pick.{pick}
 use Rattle.record_lines.specs.Items.{Item, gives, passes, ends, bad, Format}
 use Rattle.record_lines.specs.Pieces.{Piece, piece}
@@ -34,7 +34,7 @@ module _ (f : Format) (load : ℕ) where
 
   earlier : (x : Read) (l : List Piece) → later x ≡ sound l → x ≡ sound l
   earlier (sound m) l e = e
-  earlier (faulty n) l e = let z : _≡_ {A = ℕ} 0 1 = cc in absurd (omega arith)
+  earlier (faulty n) l e = unlike cc
 
   module _ (l : List ℕ) (ls : List (List ℕ)) (st : ℕ) (given out : List Piece)
       (rest : (v : ℕ) (g : List Piece) → readFrom f load ls v g ≡ sound out → Whole v ls g out) where
@@ -42,11 +42,11 @@ module _ (f : Format) (load : ℕ) where
     whole-end [] same c e =
         let is : out ≡ given = cc in
         subst (λ (k : List (List ℕ)). Whole st (l ∷ k) given out) (sym same) ([], closes c, tt, is ∙ sym (append-nil given))
-    whole-end (m ∷ ms) same c e = let z : _≡_ {A = ℕ} 0 1 = cc in absurd (omega arith)
+    whole-end (m ∷ ms) same c e = unlike cc
 
     whole-piece : (a : ℕ) (b : List ℕ) (after : ℕ) → f st l ≡ gives a b after → (t : Bool) → fine load given (newPieces (gives a b after)) ≡ t
         → pick t (later (readFrom f load ls after (given ++ newPieces (gives a b after)))) (faulty 0) ≡ sound out → Whole st (l ∷ ls) given out
-    whole-piece a b after c false g q = let z : _≡_ {A = ℕ} 0 1 = cc in absurd (omega arith)
+    whole-piece a b after c false g q = unlike cc
     whole-piece a b after c true g q =
         let p = piece a b in
         let new : newPieces (gives a b after) ≡ newOf p = new-is a b after in
@@ -59,7 +59,7 @@ module _ (f : Format) (load : ℕ) where
         )
 
     whole-by : (x : Item) → f st l ≡ x → goOn load given (isNone ls) (readFrom f load ls) x ≡ sound out → Whole st (l ∷ ls) given out
-    whole-by bad c h = let z : _≡_ {A = ℕ} 0 1 = cc in absurd (omega arith)
+    whole-by bad c h = unlike cc
     whole-by ends c h = whole-end ls refl c h
     whole-by (passes after) c h =
         let m = rest after given (earlier (readFrom f load ls after given) out h) in
@@ -68,7 +68,7 @@ module _ (f : Format) (load : ℕ) where
 
   pub sound-told : (ls : List (List ℕ)) (st : ℕ) (given out : List Piece) → readFrom f load ls st given ≡ sound out → Whole st ls given out
   unfolding readFrom
-  sound-told [] st given out e = let z : _≡_ {A = ℕ} 0 1 = cc in absurd (omega arith)
+  sound-told [] st given out e = unlike cc
   sound-told (l ∷ ls) st given out e = whole-by l ls st given out (λ v g h. sound-told ls v g out h) (f st l) refl e
 
   -- ---- before a fault some good file goes on, where the format can end a file in each state that comes
@@ -87,7 +87,7 @@ module _ (f : Format) (load : ℕ) where
     module _ (l : List ℕ) (ls : List (List ℕ)) (st i : ℕ) (given : List Piece) (o : Comes st)
         (rest : (v j : ℕ) (g : List Piece) → Comes v → readFrom f load ls v g ≡ faulty j → Reaches v j ls g) where
       ending : (t : Bool) → f st l ≡ ends → pick t (sound given) (faulty 1) ≡ faulty i → Reaches st i (l ∷ ls) given
-      ending true c e = let z : _≡_ {A = ℕ} 0 1 = cc in absurd (omega arith)
+      ending true c e = unlike cc
       ending false c e = let one : i ≡ 1 = cc in rw one (l ∷ [], [], closes c, tt, refl)
 
       giving : (a : ℕ) (b : List ℕ) (after : ℕ) → f st l ≡ gives a b after → (t : Bool) → fine load given (newPieces (gives a b after)) ≡ t

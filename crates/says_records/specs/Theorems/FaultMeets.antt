@@ -5,6 +5,7 @@ use Prim.Native.Nat.{ℕ, suc, _<_}
 use native.Mathlib.Decide.{decLt}
 use native.Mathlib.Omega.{arith}
 use borrow.Author.Tests.{lt-ltb, le-ltb}
+use Rattle.refusal.specs.Laws.Bools.{unlike}
 use Rattle.refusal.specs.Laws.Pick.{paired}
 use Rattle.record_lines.specs.Lines.{linesOf}
 use Rattle.record_lines.specs.Pieces.{Piece}
@@ -42,7 +43,7 @@ module _ (format load : ℕ) (text : List ℕ) where
 
 module _ (format load : ℕ) where
   differ : {l : List Piece} {j : ℕ} → sound l ≡ faulty j → ⊥
-  differ e = let z : _≡_ {A = ℕ} 0 1 = cc in omega arith
+  differ e = unlike cc
 
   -- no good file can go on
   no-good-file : (text : List ℕ) (i : ℕ) → readText format load text ≡ faulty i → GoesOn format load text (suc i) → ⊥

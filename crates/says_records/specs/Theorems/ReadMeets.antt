@@ -8,7 +8,7 @@ use native.Mathlib.Decide.{decLt}
 use native.Mathlib.Omega.{arith}
 use borrow.Author.Tests.{leb-true, leb-false, lt-ltb, le-ltb}
 use lib.ListN.{length, getD, length-map, List·getD-eq-default}
-use Rattle.refusal.specs.Laws.Bools.{either}
+use Rattle.refusal.specs.Laws.Bools.{either, unlike}
 use Rattle.refusal.specs.Pick.{pick}
 use Rattle.refusal.specs.declared.Refusal.the-variants.{TooShort}
 use Rattle.sort.specs.Laws.Sorted.{le-or-lt}
@@ -54,7 +54,7 @@ module _ (format load : ℕ) (text : List ℕ) (old : Lent) where
   }
 
   differ : {l : List Piece} {j : ℕ} → sound l ≡ faulty j → ⊥
-  differ e = let z : _≡_ {A = ℕ} 0 1 = cc in omega arith
+  differ e = unlike cc
 
   above : {ps : List Piece} → Good format load text ps → (a : ℕ) → GivenTo ps a → load ≤ a
   above (s.good x i o) a g = i (g .0) a (g .1) (g .2) .0

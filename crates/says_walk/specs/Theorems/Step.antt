@@ -7,7 +7,7 @@ use native.Mathlib.Omega.{arith}
 use lib.Dec.{eqb, leb}
 use borrow.Author.Tests.{eqb-true, eqb-false, leb-true, leb-false}
 use lib.ListN.{length, getD}
-use Rattle.refusal.specs.Laws.Bools.{either}
+use Rattle.refusal.specs.Laws.Bools.{either, unlike}
 use Rattle.refusal.specs.Told.{Told, gives, refuses}
 use Rattle.refusal.specs.declared.Opt.{Opt}
 use Rattle.refusal.specs.declared.Opt.the-variants.{None, Some}
@@ -87,7 +87,7 @@ untold def p a i why e =
     refused-same e = cc
 
 apart : {p : Pos} {n : ℕ} {place : Place} → _≡_ {A = Told Pos} (refuses n place) (gives p) → ⊥
-apart e = let z : _≡_ {A = ℕ} 0 1 = cc in omega arith
+apart e = unlike cc
 
 gives-same : {p q : Pos} → gives p ≡ gives q → p ≡ q
 gives-same e = cc
@@ -144,7 +144,7 @@ module _ (def : Bankdef) (walk : Walk) (node : Node) (held : Held walk node) whe
     pub able : (a : ℕ) → Aligned def walk node a → tellable def ≡ true
 
   not-none : {o : Opt} {a : ℕ} → o ≡ None → o ≡ Some a → ⊥
-  not-none e f = let z : _≡_ {A = ℕ} 0 1 = cc in omega arith
+  not-none e f = unlike cc
 
   pos-add : (x : Pos) → x ≡ pos (x .position + 0) (x .known)
   pos-add x = let e : x .position + 0 ≡ x .position = omega arith in rw e
@@ -268,7 +268,7 @@ module _ (def : Bankdef) (walk : Walk) (node : Node) (held : Held walk node) whe
   sight-lost s p x (told.other n) e = says.other (λ a y. n (y .0, y .1))
   sight-lost s p x (told.unaligned z) e = says.other (λ a y. not-none z (y .2))
   sight-lost s p x (told.aligned o a f (told.by g)) e = says.symbol (o .0, o .1, f) (skips-of def (at .position) a (node .index) s g .0)
-  sight-lost s p x (told.aligned o a f told.refused) e = let z : _≡_ {A = ℕ} 0 1 = cc in absurd (omega arith)
+  sight-lost s p x (told.aligned o a f told.refused) e = unlike cc
   sight-lost s p x (told.aligned o a f (told.untold why g)) e =
       absurd (has-address def (x .able a (o .0, o .1, f)) (untold def (at .position) a (node .index) why g .1))
 
@@ -276,7 +276,7 @@ module _ (def : Bankdef) (walk : Walk) (node : Node) (held : Held walk node) whe
       → Skips def (p .position) (node .number) s
   own-lost s p q k able (told.other n) e = absurd (n k)
   own-lost s p q k able (told.aligns h (told.by g)) e = skips-of def (p .position) (node .number) (node .index) s g .0
-  own-lost s p q k able (told.aligns h told.refused) e = let z : _≡_ {A = ℕ} 0 1 = cc in absurd (omega arith)
+  own-lost s p q k able (told.aligns h told.refused) e = unlike cc
   own-lost s p q k able (told.aligns h (told.untold why g)) e =
       absurd (has-address def able (untold def (p .position) (node .number) (node .index) why g .1))
 

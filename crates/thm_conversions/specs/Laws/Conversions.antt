@@ -2,9 +2,9 @@
 use mathlib.Core.Bool.{Bool, true, false}
 use mathlib.Core.Path.{_≡_, refl}
 use Prim.Native.Nat.{ℕ}
-use native.Mathlib.Omega.{arith}
 use borrow.Author.Tests.{ltb-false}
 use lib.Dec.{ltb}
+use Rattle.refusal.specs.Laws.Bools.{unlike}
 use Rattle.refusal.specs.Limits.{maxNodes, maxRows}
 use Rattle.refusal.specs.Pick.{pick}
 use Rattle.refusal.specs.declared.Refusal.{Refusal}
@@ -15,7 +15,7 @@ use Rattle.thm_conversions.specs.Conversions.{Allowed}
 
 -- refused is not converted
 pub never : (why : Refusal) (n : ℕ) → Refused why ≡ Converted n → ⊥
-never why n e = let z : _≡_ {A = ℕ} 0 1 = cc in omega arith
+never why n e = unlike cc
 
 past : (t : Bool) (why : Refusal) (y : Conversion) (n : ℕ) → pick t (Refused why) y ≡ Converted n → (t ≡ false) × (y ≡ Converted n)
 past true why y n e = absurd (never why n e)

@@ -8,7 +8,7 @@ use native.Mathlib.Omega.{arith}
 use lib.Dec.{ltb}
 use lib.ListN.{length, getD}
 use borrow.Author.Tests.{lt-ltb, le-ltb, eq-eqb, eqb-true}
-use Rattle.refusal.specs.Laws.Bools.{either, both, clash}
+use Rattle.refusal.specs.Laws.Bools.{either, both, clash, unlike}
 use Rattle.refusal.specs.Limits.{maxNodes, maxRows}
 use Rattle.refusal.specs.Pick.{pick}
 use Rattle.refusal.specs.Laws.Pick.{pick-true, pick-false}
@@ -42,7 +42,7 @@ place : {X : Type 0} {n m : ℕ} {p q : Place} → _≡_ {A = Told X} (refuses n
 place e = cc
 
 pub never : {X : Type 0} {x : X} {n : ℕ} {p : Place} → _≡_ {A = Told X} (gives x) (refuses n p) → ⊥
-never e = let z : _≡_ {A = ℕ} 0 1 = cc in omega arith
+never e = unlike cc
 
 same : {m n : ℕ} → _≡_ {A = Told ℕ} (gives m) (gives n) → m ≡ n
 same e = cc

@@ -6,7 +6,7 @@ use mathlib.Core.List.{List, [], _∷_}
 use native.Mathlib.Omega.{arith}
 use lib.Dec.{ltb}
 use lib.ListN.{getD, length, take, replicate}
-use Rattle.refusal.specs.Laws.Bools.{either, both}
+use Rattle.refusal.specs.Laws.Bools.{either, both, unlike}
 use Rattle.refusal.specs.Limits.{maxBanks}
 use Rattle.refusal.specs.Pick.{pick}
 use Rattle.refusal.specs.Laws.Pick.{pick-true, pick-false}
@@ -298,7 +298,7 @@ module _ (b : Input) (table : Bankdefs) (one : OneBank b) (two : TwoBanks (onlyB
   some-rows room passes (Unsettled why) e f = absurd (never f)
     where
       never : {k bits spans : ℕ} → Refused why ≡ Done k bits spans → ⊥
-      never g = let z : _≡_ {A = ℕ} 0 1 = cc in omega arith
+      never g = unlike cc
 
   left-alike : (values : List ℕ) (old : Lent) (n : ℕ) (x : Build) → ((k bits spans : ℕ) → x ≡ Done k bits spans → 1 ≤ l .rows)
       → leftBy table (visitsOf w n) values old (raisedBuild b x) ≡ leftBy (b .banks) (visitsOf b n) values old x

@@ -3,7 +3,7 @@ use Prim.Native.Nat.{ℕ, suc, _<_}
 use mathlib.Core.Path.{_≡_, refl, sym, ap, subst, _∙_}
 use mathlib.Core.Bool.{Bool, true, false}
 use native.Mathlib.Omega.{arith}
-use Rattle.refusal.specs.Laws.Bools.{either}
+use Rattle.refusal.specs.Laws.Bools.{either, unlike}
 use Rattle.refusal.specs.Laws.Pick.{pick-true}
 use Rattle.refusal.specs.Pick.{pick}
 use Rattle.refusal.specs.Refusals.{numberOf}
@@ -131,14 +131,14 @@ module _ (b : Input) (one : OneBank b) (page : ℕ) (room : Room) where
       either (bankFault (onlyBank b))
       (λ t. absurd (let z : _≡_ {A = Verdict} (Turned _) Accepted =
       sym (check-here b (twoBanks (onlyBank b)) one (two-banks (onlyBank b)) ∙ pick-true _ _ t) ∙ c in
-      let n : _≡_ {A = ℕ} 0 1 = cc in omega arith))
+      unlike cc))
       (λ f. picked (bankFault (onlyBank b)) (countsSound b) _ (OffProfile rule at) f)
 
   go : (c : Verdict) → checkOf (b .banks) ≡ c → (v : Verdict) → listsOf (b .banks .len) (b .lists) (b .choices .fill) ≡ v → {w : Verdict}
       → Judged (b .banks) (b .lists) page w → (why : Refusal) → firstOf c (firstOf v w) ≡ Turned why → Becomes why
   go (Turned x) f v g j why e = subst Becomes (ap whyOf e) (from-build x (table-refuses f))
   go Accepted f (Turned x) g j why e = subst Becomes (ap whyOf e) (from-build x (lists-refuse f g))
-  go Accepted f Accepted g (kept.keeps h) why e = absurd (let z : _≡_ {A = ℕ} 0 1 = cc in omega arith)
+  go Accepted f Accepted g (kept.keeps h) why e = unlike cc
   go Accepted f Accepted g (kept.breaks {rule} {at} h) why e =
       subst Becomes (ap whyOf e)
       (subst (λ (w : Refusal). PagedRises b (OffProfile rule at) w) (sym (stays f rule (placeRaised rule at))) (off-rule h))

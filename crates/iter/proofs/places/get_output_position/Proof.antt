@@ -3,6 +3,7 @@ use mathlib.Core.Path.{_≡_}
 use Prim.Native.Nat.{ℕ, _+_}
 use native.Mathlib.Omega.{arith}
 use borrow.Author.Needs.{needs}
+use Rattle.refusal.specs.Laws.Bools.{unlike}
 use Rattle.refusal.specs.declared.Offset.the-variants.{None, At}
 use Rattle.iter.proofs.places.get_output_position.Statement.{statement}
 use Rattle.iter.proofs.places.get_output_position.Tie as tie
@@ -27,7 +28,7 @@ at-is : {a b : ℕ} → At a ≡ At b → b ≡ a
 at-is e = cc
 
 none-is : {a : ℕ} → None ≡ At a → ⊥
-none-is e = let z : _≡_ {A = ℕ} 0 1 = cc in omega arith
+none-is e = unlike cc
 
 returns : tie.Need-returns
 unfolding sum
