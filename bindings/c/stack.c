@@ -210,7 +210,7 @@ static void on_a_thread(void (*what)(void))
     pthread_attr_destroy(&attributes);
 }
 
-/* 512 written items of one bit, a reserve behind each, labels for the rest: the store is full, and every list is used. */
+/* 512 written items of a byte, labels for the rest: the store is full, and every list is used. The last item is stable, so that the last pass is walked. */
 static void fill_tables(void)
 {
     units[0] = units[1] = 8;
@@ -224,6 +224,7 @@ static void fill_tables(void)
         operands[i] = i <= 512 ? 0 : 1;
         numbers[i] = i <= 512 ? 8 : 0;
     }
+    states[512] = 1;
 }
 
 static void field(uint8_t tag, const uint8_t *bytes, size_t length)
@@ -252,6 +253,7 @@ static void fill_file(void)
         node[4] = (uint8_t)operands[i];
         field(2, node, sizeof node);
         row[5 * i + 3] = (uint8_t)numbers[i];
+        row[5 * i + 4] = states[i];
     }
     field(3, row, sizeof row);
     field(4, values, sizeof values);
