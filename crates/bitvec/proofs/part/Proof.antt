@@ -23,13 +23,5 @@ pub part-spec : {M : Type 1} → statement M
 part-spec =
     tie.close
     (tie.spec
-    (λ c κs. search needs)
-    (λ c. search needs)
-    (λ c. search needs)
-    (λ c. search needs)
-    part-result-end
-    (λ c. search needs)
-    (λ c. search needs)
-    (λ c. search needs)
-    returns
-    (λ c. record { bytes = rw (sym (c .before .before .is-part .ensures) ∙ c .before .if1 .left) }))
+    (λ c κs. search needs) (λ c. search needs) (λ c. search needs) (λ c. search needs) part-result-end (λ c. search needs) (λ c. search needs)
+    (λ c. search needs) returns (λ c. record { bytes = rw (sym (c .before .before .is-part .ensures) ∙ c .before .if1 .left) }))

@@ -22,24 +22,6 @@ head c = c .before .before .before .before
 abbrev start : tie.At-loop Inv-loop μ-loop → tie.Start Inv-loop μ-loop
 start c = c .before .before .before
 
-loop-holds : tie.Need-loop-holds Inv-loop μ-loop
-loop-holds c = search needs
-
-mul-is-within : tie.Need-mul-is-within Inv-loop μ-loop
-mul-is-within c = search needs
-
-shared-slice-read-is-within : tie.Need-shared-slice-read-is-within Inv-loop μ-loop
-shared-slice-read-is-within c = search needs
-
-mul-is-within-2 : tie.Need-mul-is-within-2 Inv-loop μ-loop
-mul-is-within-2 c = search needs
-
-shared-slice-read-is-within-2 : tie.Need-shared-slice-read-is-within-2 Inv-loop μ-loop
-shared-slice-read-is-within-2 c = search needs
-
-is-within-requires : tie.Need-is-within-requires Inv-loop μ-loop
-is-within-requires c κs = search needs
-
 returns : tie.Need-returns Inv-loop μ-loop
 returns c =
     let d = c .before in
@@ -48,12 +30,6 @@ returns c =
     within-stops (s .args .offsets .now) (s .args .sizes .now) (l .i) (d .before .before .before .loop-test .taken) (s .pre)
     (allWithin (spansOf (s .args .offsets .now) (s .args .sizes .now)))
     (sym (d .is-within .ensures) ∙ not-true (d .is-within .result) (c .if1 .taken)) (l .inv .1)
-
-add-i : tie.Need-add-i Inv-loop μ-loop
-add-i c = search needs
-
-loop-less : tie.Need-loop-less Inv-loop μ-loop
-loop-less c = search needs
 
 loop-again : tie.Need-loop-again Inv-loop μ-loop
 loop-again c =
@@ -76,16 +52,5 @@ pub all-within-spec : {M : Type 1} → statement M
 all-within-spec =
     tie.close
     (tie.spec
-    Inv-loop
-    μ-loop
-    loop-holds
-    mul-is-within
-    shared-slice-read-is-within
-    mul-is-within-2
-    shared-slice-read-is-within-2
-    is-within-requires
-    returns
-    add-i
-    loop-less
-    loop-again
-    returns-2)
+    Inv-loop μ-loop (λ c. search needs) (λ c. search needs) (λ c. search needs) (λ c. search needs) (λ c. search needs) (λ c κs. search needs) returns
+    (λ c. search needs) (λ c. search needs) loop-again returns-2)

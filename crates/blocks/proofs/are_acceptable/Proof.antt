@@ -15,9 +15,6 @@ returns-2 c =
     let a = c .before .before .before .before .args in
     acceptable-many (a .offsets .now) (a .sizes .now) (c .before .if1 .left) (c .if2 .taken)
 
-all-within-requires : tie.Need-all-within-requires
-all-within-requires c κs = search needs
-
 returns-3 : tie.Need-returns-3
 returns-3 c =
     let e = c .before in
@@ -26,4 +23,4 @@ returns-3 c =
 
 pub are-acceptable-spec : {M : Type 1} → statement M
 are-acceptable-spec =
-    tie.close (tie.spec returns returns-2 all-within-requires returns-3)
+    tie.close (tie.spec returns returns-2 (λ c κs. search needs) returns-3)

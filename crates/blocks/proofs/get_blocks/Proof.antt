@@ -16,9 +16,6 @@ start c = c .before .before .before .before .before
 accepted : (c : tie.Else1) → acceptable (start (c .before) .args .offsets .now) (start (c .before) .args .sizes .now) ≡ true
 accepted c = sym (c .before .are-acceptable .ensures) ∙ not-false (c .before .are-acceptable .result) (c .if1 .left)
 
-are-acceptable-requires : tie.Need-are-acceptable-requires
-are-acceptable-requires c κs = search needs
-
 returns : tie.Need-returns
 returns c =
     let d = c .before in
@@ -26,20 +23,11 @@ returns c =
     malformed (a .offsets .now) (a .sizes .now) (a .block-offsets .now) (a .block-sizes .now)
     (sym (d .are-acceptable .ensures) ∙ not-true (d .are-acceptable .result) (c .if1 .taken))
 
-slice-aggregate-sort-and-write : tie.Need-slice-aggregate-sort-and-write
-slice-aggregate-sort-and-write c = search needs
-
 sort-and-write-requires : tie.Need-sort-and-write-requires
 sort-and-write-requires c κs =
     let e = c .before .before .before in
     let a = start (e .before) .args in
     (accepted e, acceptable-parts (a .offsets .now) (a .sizes .now) (accepted e) .1)
-
-same-length : tie.Need-same-length
-same-length c = search needs
-
-same-length-2 : tie.Need-same-length-2
-same-length-2 c = search needs
 
 returns-2 : tie.Need-returns-2
 returns-2 c =
@@ -53,10 +41,4 @@ pub get-blocks-spec : {M : Type 1} → statement M
 get-blocks-spec =
     tie.close
     (tie.spec
-    are-acceptable-requires
-    returns
-    slice-aggregate-sort-and-write
-    sort-and-write-requires
-    same-length
-    same-length-2
-    returns-2)
+    (λ c κs. search needs) returns (λ c. search needs) sort-and-write-requires (λ c. search needs) (λ c. search needs) returns-2)

@@ -5,15 +5,6 @@ use Rattle.blocks.proofs.Laws.{none-within, at-within, at-past}
 use Rattle.blocks.proofs.is_within.Statement.{statement}
 use Rattle.blocks.proofs.is_within.Tie as tie
 
-offset-of-requires : tie.Need-offset-of-requires
-offset-of-requires c κs = search needs
-
-enum-told : tie.Need-enum-told
-enum-told c = search needs
-
-enum-known-offset : tie.Need-enum-known-offset
-enum-known-offset c = search needs
-
 returns : tie.Need-returns
 returns c =
     let g = c .before .before in
@@ -33,4 +24,4 @@ returns-3 c =
 
 pub is-within-spec : {M : Type 1} → statement M
 is-within-spec =
-    tie.close (tie.spec offset-of-requires enum-told enum-known-offset returns returns-2 returns-3)
+    tie.close (tie.spec (λ c κs. search needs) (λ c. search needs) (λ c. search needs) returns returns-2 returns-3)

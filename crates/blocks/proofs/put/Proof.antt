@@ -5,20 +5,8 @@ use lib.Seq.{set-out}
 use Rattle.blocks.proofs.put.Statement.{statement}
 use Rattle.blocks.proofs.put.Tie as tie
 
-mul-column : tie.Need-mul-column
-mul-column c = search needs
-
-slice-write-column : tie.Need-slice-write-column
-slice-write-column c = search needs
-
-same-length : tie.Need-same-length
-same-length c = search needs
-
-returns : tie.Need-returns
-returns c = search needs
-
 returns-2 : tie.Need-returns-2
 returns-2 c = sym (set-out (c .before .args .column .now) (c .before .args .at) (c .before .args .value) (c .if1 .left))
 
 pub put-spec : {M : Type 1} → statement M
-put-spec = tie.close (tie.spec mul-column slice-write-column same-length returns returns-2)
+put-spec = tie.close (tie.spec (λ c. search needs) (λ c. search needs) (λ c. search needs) (λ c. search needs) returns-2)

@@ -37,19 +37,10 @@ in-front c =
     let s = start (c .before) in
     front-is (words s) (s .args .room .now) (c .sort .last .1 .0) (c .sort .result) (s .pre .1) (good s .1) (c .sort .ensures)
 
-slice-relend-prefix-sort : tie.Need-slice-relend-prefix-sort
-slice-relend-prefix-sort c = search needs
-
 slice-aggregate-sort : tie.Need-slice-aggregate-sort
 slice-aggregate-sort c =
     let s = start c in
     sym (length-take-le (length (words s)) (s .args .room .now) (s .pre .1))
-
-sort-requires : tie.Need-sort-requires
-sort-requires c κs = search needs
-
-slice-reshare-prefix-write-blocks : tie.Need-slice-reshare-prefix-write-blocks
-slice-reshare-prefix-write-blocks c = search needs
 
 slice-aggregate-write-blocks : tie.Need-slice-aggregate-write-blocks
 slice-aggregate-write-blocks c =
@@ -62,15 +53,6 @@ write-blocks-requires c κs =
     let s = start (d .before) in
     let g = good s in
     rw (in-front d) (order-walkable (words s) (s .args .sizes .now) (g .0) (g .1) (g .2))
-
-same-length : tie.Need-same-length
-same-length c = search needs
-
-same-length-2 : tie.Need-same-length-2
-same-length-2 c = search needs
-
-same-length-3 : tie.Need-same-length-3
-same-length-3 c = search needs
 
 returns : tie.Need-returns
 returns c =
@@ -87,13 +69,5 @@ pub sort-and-write-spec : {M : Type 1} → statement M
 sort-and-write-spec =
     tie.close
     (tie.spec
-    slice-relend-prefix-sort
-    slice-aggregate-sort
-    sort-requires
-    slice-reshare-prefix-write-blocks
-    slice-aggregate-write-blocks
-    write-blocks-requires
-    same-length
-    same-length-2
-    same-length-3
-    returns)
+    (λ c. search needs) slice-aggregate-sort (λ c κs. search needs) (λ c. search needs) slice-aggregate-write-blocks write-blocks-requires
+    (λ c. search needs) (λ c. search needs) (λ c. search needs) returns)

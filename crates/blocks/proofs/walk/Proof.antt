@@ -62,12 +62,6 @@ loop-holds c =
     let a = c .before .before .before .before .before .args in
     walking-starts (a .numbers .now) (a .offsets .now) (a .sizes .now) (a .block-offsets .now) (a .block-sizes .now)
 
-mul-place : tie.Need-mul-place Inv-loop μ-loop
-mul-place c = search needs
-
-shared-slice-read-place : tie.Need-shared-slice-read-place Inv-loop μ-loop
-shared-slice-read-place c = search needs
-
 cast-place : tie.Need-cast-place Inv-loop μ-loop
 cast-place c = let h = is-placed (c .before) in omega (arith, h, start (c .before .before) .good)
 
@@ -76,21 +70,6 @@ mul-offset-of c = let h = is-placed (c .before) in omega (arith, h, start (c .be
 
 shared-slice-read-offset-of : tie.Need-shared-slice-read-offset-of Inv-loop μ-loop
 shared-slice-read-offset-of c = is-placed (c .before .before)
-
-offset-of-requires : tie.Need-offset-of-requires Inv-loop μ-loop
-offset-of-requires c κs = search needs
-
-enum-known-offset : tie.Need-enum-known-offset Inv-loop μ-loop
-enum-known-offset c = search needs
-
-enum-told : tie.Need-enum-told Inv-loop μ-loop
-enum-told c = search needs
-
-add-i : tie.Need-add-i Inv-loop μ-loop
-add-i c = search needs
-
-loop-less : tie.Need-loop-less Inv-loop μ-loop
-loop-less c = search needs
 
 loop-again : tie.Need-loop-again Inv-loop μ-loop
 loop-again c =
@@ -101,9 +80,6 @@ loop-again c =
     (l .inv)
     (body d .loop-test .taken)
     (sym (d .offset-of .ensures) ∙ c .enum-told .given .1)
-
-close-requires : tie.Need-close-requires Inv-loop μ-loop
-close-requires c κs = search needs
 
 mul-join : tie.Need-mul-join Inv-loop μ-loop
 mul-join c =
@@ -123,12 +99,6 @@ join-requires c κs =
     let s = span-within d .1 in
     omega (arith, l .inv .origin, l .inv .size, body d .loop-test .taken, start (head d) .pre .few)
 
-add-i-2 : tie.Need-add-i-2 Inv-loop μ-loop
-add-i-2 c = search needs
-
-loop-less-2 : tie.Need-loop-less-2 Inv-loop μ-loop
-loop-less-2 c = search needs
-
 loop-again-2 : tie.Need-loop-again-2 Inv-loop μ-loop
 loop-again-2 c =
     let k = c .before .before .before .before .before .before in
@@ -146,12 +116,6 @@ loop-again-2 c =
     (at-most (offsetOf (word (head d))) (o .0 .0) is (span-within d .0))
     (span-within d .1)
     (k .close .ensures))
-
-push-requires : tie.Need-push-requires Inv-loop μ-loop
-push-requires c κs = search needs
-
-add-result : tie.Need-add-result Inv-loop μ-loop
-add-result c = search needs
 
 same-length : tie.Need-same-length Inv-loop μ-loop
 same-length c =
@@ -178,29 +142,6 @@ pub walk-spec : {M : Type 1} → statement M
 walk-spec =
     tie.close
     (tie.spec
-    Inv-loop
-    μ-loop
-    loop-holds
-    mul-place
-    shared-slice-read-place
-    cast-place
-    mul-offset-of
-    shared-slice-read-offset-of
-    offset-of-requires
-    enum-known-offset
-    enum-told
-    add-i
-    loop-less
-    loop-again
-    close-requires
-    mul-join
-    shared-slice-read-join
-    join-requires
-    add-i-2
-    loop-less-2
-    loop-again-2
-    push-requires
-    add-result
-    same-length
-    same-length-2
-    returns)
+    Inv-loop μ-loop loop-holds (λ c. search needs) (λ c. search needs) cast-place mul-offset-of shared-slice-read-offset-of (λ c κs. search needs)
+    (λ c. search needs) (λ c. search needs) (λ c. search needs) (λ c. search needs) loop-again (λ c κs. search needs) mul-join shared-slice-read-join
+    join-requires (λ c. search needs) (λ c. search needs) loop-again-2 (λ c κs. search needs) (λ c. search needs) same-length same-length-2 returns)

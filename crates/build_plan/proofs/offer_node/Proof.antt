@@ -21,12 +21,6 @@ use Rattle.overlap_checker.proofs.offer.Reads as offer-reads
 abbrev lentTo : tie.Start → Store
 lentTo s = store (s .args .positions .now) (s .args .sizes .now) (s .args .count) (s .args .marks .now) (s .args .mark-count)
 
-enum-told : tie.Need-enum-told
-enum-told c = search needs
-
-enum-known-out : tie.Need-enum-known-out
-enum-known-out c = search needs
-
 returns : tie.Need-returns
 returns c =
     let s = c .before .before .before .before .before in
@@ -35,9 +29,6 @@ returns c =
       answered-none (stateIn (lentTo s)) (a .node .index) (offerAt (a .node) (a .out)) none,
       goes-none (lentTo s) (offerAt (a .node) (a .out)) (s .pre .0) none,
     )
-
-cast-offer : tie.Need-cast-offer
-cast-offer c = search needs
 
 offer-requires : tie.Need-offer-requires
 offer-requires c κs =
@@ -75,4 +66,4 @@ returns-3 c =
 pub offer-node-spec : {M : Type 1} → statement M
 offer-node-spec =
     tie.close
-    (tie.spec enum-told enum-known-out returns cast-offer offer-requires returns-2 returns-3)
+    (tie.spec (λ c. search needs) (λ c. search needs) returns (λ c. search needs) offer-requires returns-2 returns-3)

@@ -7,12 +7,6 @@ use Rattle.build_plan.proofs.spans_after.Reads as reads
 use Rattle.build_plan.proofs.spans_after.Lts as lts
 use Rattle.build_sights.proofs.is_span.Reads as is-span-reads
 
-is-span-requires : tie.Need-is-span-requires
-is-span-requires c κs = search needs
-
-add-result : tie.Need-add-result
-add-result c = search needs
-
 returns : tie.Need-returns
 returns c = rw (sym (c .before .is-span .ensures) ∙ c .if1 .taken)
 
@@ -20,4 +14,4 @@ returns-2 : tie.Need-returns-2
 returns-2 c = rw (sym (c .before .is-span .ensures) ∙ c .if1 .left)
 
 pub spans-after-spec : {M : Type 1} → statement M
-spans-after-spec = tie.close (tie.spec is-span-requires add-result returns returns-2)
+spans-after-spec = tie.close (tie.spec (λ c κs. search needs) (λ c. search needs) returns returns-2)

@@ -11,11 +11,8 @@ use Rattle.build_sights.proofs.is_written.Reads as is-written-reads
 returns : tie.Need-returns
 returns c = rw (eq-eqb (c .before .before .args .node .kind) 2 (c .if1 .taken))
 
-is-written-requires : tie.Need-is-written-requires
-is-written-requires c κs = search needs
-
 returns-2 : tie.Need-returns-2
 returns-2 c = rw (ne-eqb (c .before .before .before .args .node .kind) 2 (c .before .if1 .left)) (c .is-written .ensures)
 
 pub is-span-spec : {M : Type 1} → statement M
-is-span-spec = tie.close (tie.spec returns is-written-requires returns-2)
+is-span-spec = tie.close (tie.spec returns (λ c κs. search needs) returns-2)

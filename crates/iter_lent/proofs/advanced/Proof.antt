@@ -11,15 +11,6 @@ use Rattle.iter_lent.proofs.advanced.Tie as tie
 by-motion : (at : Pos) {m n : Motion} {r : Left} → m ≡ n → r ≡ lentOf at m → r ≡ lentOf at n
 by-motion at e f = f ∙ ap (λ (m : Motion). lentOf at m) e
 
-advance-requires : tie.Need-advance-address-requires
-advance-requires c κs = search needs
-
-enum-known-to : tie.Need-enum-known-to
-enum-known-to c = search needs
-
-enum-known-to-2 : tie.Need-enum-known-to-2
-enum-known-to-2 c = search needs
-
 returns : tie.Need-returns
 returns c =
     let a = c .before .before .before .before in
@@ -31,4 +22,4 @@ returns-2 c =
     by-motion (a .before .args .at) (a .advance-address .ensures .0) (rw (c .before .to2 .given .1))
 
 pub advanced-spec : {M : Type 1} → statement M
-advanced-spec = tie.close (tie.spec advance-requires enum-known-to enum-known-to-2 returns returns-2)
+advanced-spec = tie.close (tie.spec (λ c κs. search needs) (λ c. search needs) (λ c. search needs) returns returns-2)

@@ -35,41 +35,11 @@ plain : (c : tie.Else1) {m : Moved} {r : Motion} → let a = c .before .before .
     → (r ≡ advanceMotion (a .def) (a .at) (a .node)) × AdvanceTold (a .def) (a .at) (a .node) r
 plain c e n f = advance-answers _ _ _ (f ∙ advance-still _ _ _ (sound c ∙ e) n)
 
-is-bad-state-requires : tie.Need-is-bad-state-requires
-is-bad-state-requires c κs = search needs
-
-unskipped-requires : tie.Need-unskipped-requires
-unskipped-requires c κs = search needs
-
 returns : tie.Need-returns
 returns c =
     advance-answers _ _ _
     (c .unskipped .ensures
     ∙ advance-stopped _ _ _ _ (bad-state _ _ _ (sym (c .before .before .is-bad-state .ensures) ∙ c .before .if1 .taken)))
-
-stays-known-requires : tie.Need-stays-known-requires
-stays-known-requires c κs = search needs
-
-aligned-to-requires : tie.Need-aligned-to-requires
-aligned-to-requires c κs = search needs
-
-skipping-requires : tie.Need-skipping-requires
-skipping-requires c κs = search needs
-
-unskipped-requires-2 : tie.Need-unskipped-requires-2
-unskipped-requires-2 c κs = search needs
-
-unskipped-requires-3 : tie.Need-unskipped-requires-3
-unskipped-requires-3 c κs = search needs
-
-moved-by-requires : tie.Need-moved-by-requires
-moved-by-requires c κs = search needs
-
-unskipped-requires-4 : tie.Need-unskipped-requires-4
-unskipped-requires-4 c κs = search needs
-
-unskipped-requires-5 : tie.Need-unskipped-requires-5
-unskipped-requires-5 c κs = search needs
 
 returns-2 : tie.Need-returns-2
 returns-2 c =
@@ -111,20 +81,6 @@ pub advance-address-spec : {M : Type 1} → statement M
 advance-address-spec =
     tie.close
     (tie.spec
-    is-bad-state-requires
-    unskipped-requires
-    returns
-    stays-known-requires
-    aligned-to-requires
-    skipping-requires
-    unskipped-requires-2
-    unskipped-requires-3
-    moved-by-requires
-    unskipped-requires-4
-    unskipped-requires-5
-    returns-2
-    returns-3
-    returns-4
-    returns-5
-    returns-6
+    (λ c κs. search needs) (λ c κs. search needs) returns (λ c κs. search needs) (λ c κs. search needs) (λ c κs. search needs) (λ c κs. search needs)
+    (λ c κs. search needs) (λ c κs. search needs) (λ c κs. search needs) (λ c κs. search needs) returns-2 returns-3 returns-4 returns-5 returns-6
     returns-7)

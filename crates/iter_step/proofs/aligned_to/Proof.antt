@@ -4,24 +4,6 @@ use mathlib.Core.Path.{_∙_, sym}
 use Rattle.iter_step.proofs.aligned_to.Statement.{statement}
 use Rattle.iter_step.proofs.aligned_to.Tie as tie
 
-bits-until-alignment-requires : tie.Need-bits-until-alignment-requires
-bits-until-alignment-requires c κs = search needs
-
-enum-known-s : tie.Need-enum-known-s
-enum-known-s c = search needs
-
-moved-by-requires : tie.Need-moved-by-requires
-moved-by-requires c κs = search needs
-
-skipping-requires : tie.Need-skipping-requires
-skipping-requires c κs = search needs
-
-enum-known-why : tie.Need-enum-known-why
-enum-known-why c = search needs
-
-unskipped-requires : tie.Need-unskipped-requires
-unskipped-requires c κs = search needs
-
 returns : tie.Need-returns
 returns c =
     let m = c .before in
@@ -37,11 +19,5 @@ pub aligned-to-spec : {M : Type 1} → statement M
 aligned-to-spec =
     tie.close
     (tie.spec
-    bits-until-alignment-requires
-    enum-known-s
-    moved-by-requires
-    skipping-requires
-    enum-known-why
-    unskipped-requires
-    returns
+    (λ c κs. search needs) (λ c. search needs) (λ c κs. search needs) (λ c κs. search needs) (λ c. search needs) (λ c κs. search needs) returns
     returns-2)

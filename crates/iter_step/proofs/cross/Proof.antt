@@ -8,12 +8,6 @@ use Rattle.iter.specs.Laws.Shown.{paces-read}
 use Rattle.iter_step.proofs.cross.Statement.{statement}
 use Rattle.iter_step.proofs.cross.Tie as tie
 
-pace-of-parts-requires : tie.Need-pace-of-parts-requires
-pace-of-parts-requires c κs = search needs
-
-crossing-of-requires : tie.Need-crossing-of-requires
-crossing-of-requires c κs = search needs
-
 returns : tie.Need-returns
 returns c =
     let a = c .before .before .before .args in
@@ -21,4 +15,4 @@ returns c =
     c .crossing-of .ensures ∙ paces-read (a .def) (a .at) (a .node) (rw (toZ-ofZ w64 _ fits) at (c .before .pace-of-parts .ensures)) .1
 
 pub cross-spec : {M : Type 1} → statement M
-cross-spec = tie.close (tie.spec pace-of-parts-requires crossing-of-requires returns)
+cross-spec = tie.close (tie.spec (λ c κs. search needs) (λ c κs. search needs) returns)

@@ -3,11 +3,8 @@ use borrow.Author.Needs.{needs}
 use Rattle.iter_step.proofs.crossing_of.Statement.{statement}
 use Rattle.iter_step.proofs.crossing_of.Tie as tie
 
-sight-of-requires : tie.Need-sight-of-requires
-sight-of-requires c κs = search needs
-
 returns : tie.Need-returns
 returns c = rw (c .sight-of .ensures)
 
 pub crossing-of-spec : {M : Type 1} → statement M
-crossing-of-spec = tie.close (tie.spec sight-of-requires returns)
+crossing-of-spec = tie.close (tie.spec (λ c κs. search needs) returns)

@@ -4,15 +4,6 @@ use borrow.Author.Tests.{le-leb, lt-leb}
 use Rattle.iter_step.proofs.moved_by.Statement.{statement}
 use Rattle.iter_step.proofs.moved_by.Tie as tie
 
-cast-sum : tie.Need-cast-sum
-cast-sum c = search needs
-
-add-sum : tie.Need-add-sum
-add-sum c = search needs
-
-cast-t10 : tie.Need-cast-t10
-cast-t10 c = search needs
-
 returns : tie.Need-returns
 returns c = rw (le-leb _ _ (c .if1 .taken))
 
@@ -20,4 +11,4 @@ returns-2 : tie.Need-returns-2
 returns-2 c = rw (lt-leb _ _ (c .if1 .left))
 
 pub moved-by-spec : {M : Type 1} → statement M
-moved-by-spec = tie.close (tie.spec cast-sum add-sum cast-t10 returns returns-2)
+moved-by-spec = tie.close (tie.spec (λ c. search needs) (λ c. search needs) (λ c. search needs) returns returns-2)

@@ -27,12 +27,6 @@ crosses c =
     let in-list : bank < length (a .t2 .at) = omega (arith, sixteen (b .before), c .before .before .if1 .left) in
     c .cross .ensures ∙ ap (λ (p : Pos). crossingOf (a .def) p (a .node)) (any-default (a .t2 .at) bank _ origin in-list)
 
-bank-after-requires : tie.Need-bank-after-requires
-bank-after-requires c κs = search needs
-
-refused-step-requires : tie.Need-refused-step-requires
-refused-step-requires c κs = search needs
-
 returns : tie.Need-returns
 returns c =
     step-answers _ _ _
@@ -43,21 +37,6 @@ mul-cross c = omega (arith, c .if1 .left)
 
 element-copy-out-cross : tie.Need-element-copy-out-cross
 element-copy-out-cross c = omega (arith, c .if1 .left)
-
-cross-requires : tie.Need-cross-requires
-cross-requires c κs = search needs
-
-enum-known-sight : tie.Need-enum-known-sight
-enum-known-sight c = search needs
-
-moved-walk-requires : tie.Need-moved-walk-requires
-moved-walk-requires c κs = search needs
-
-enum-known-sight-2 : tie.Need-enum-known-sight-2
-enum-known-sight-2 c = search needs
-
-refused-step-requires-2 : tie.Need-refused-step-requires-2
-refused-step-requires-2 c κs = search needs
 
 returns-2 : tie.Need-returns-2
 returns-2 c =
@@ -81,15 +60,5 @@ pub step-spec : {M : Type 1} → statement M
 step-spec =
     tie.close
     (tie.spec
-    bank-after-requires
-    refused-step-requires
-    returns
-    mul-cross
-    element-copy-out-cross
-    cross-requires
-    enum-known-sight
-    moved-walk-requires
-    enum-known-sight-2
-    refused-step-requires-2
-    returns-2
-    returns-3)
+    (λ c κs. search needs) (λ c κs. search needs) returns mul-cross element-copy-out-cross (λ c κs. search needs) (λ c. search needs)
+    (λ c κs. search needs) (λ c. search needs) (λ c κs. search needs) returns-2 returns-3)

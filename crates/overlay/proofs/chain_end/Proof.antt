@@ -25,32 +25,8 @@ start h = h .before .before .before
 loop-holds : tie.Need-loop-holds Inv-loop μ-loop
 loop-holds c = (omega arith, omega arith, λ m l u. absurd (omega arith))
 
-add-loop : tie.Need-add-loop Inv-loop μ-loop
-add-loop c = omega arith
-
-mul-touches : tie.Need-mul-touches Inv-loop μ-loop
-mul-touches c = omega arith
-
-shared-slice-read-touches : tie.Need-shared-slice-read-touches Inv-loop μ-loop
-shared-slice-read-touches c = omega arith
-
-mul-touches-2 : tie.Need-mul-touches-2 Inv-loop μ-loop
-mul-touches-2 c = omega arith
-
 shared-slice-read-touches-2 : tie.Need-shared-slice-read-touches-2 Inv-loop μ-loop
 shared-slice-read-touches-2 c = omega (arith, start (c .before .before .before) .pre .0)
-
-add-touches : tie.Need-add-touches Inv-loop μ-loop
-add-touches c = omega arith
-
-mul-touches-3 : tie.Need-mul-touches-3 Inv-loop μ-loop
-mul-touches-3 c = omega arith
-
-shared-slice-read-touches-3 : tie.Need-shared-slice-read-touches-3 Inv-loop μ-loop
-shared-slice-read-touches-3 c = omega arith
-
-touches-requires : tie.Need-touches-requires Inv-loop μ-loop
-touches-requires c κs = search needs
 
 returns : tie.Need-returns Inv-loop μ-loop
 returns c =
@@ -64,12 +40,6 @@ returns c =
       broken = λ l. eqb-false (getD (a .offsets .now) i 0 + getD (a .sizes .now) i 0) (getD (a .offsets .now) (i + 1) 0)
           (sym (c .before .touches .ensures) ∙ not-true (c .before .touches .result) (c .if1 .taken));
     }
-
-add-i : tie.Need-add-i Inv-loop μ-loop
-add-i c = omega arith
-
-loop-less : tie.Need-loop-less Inv-loop μ-loop
-loop-less c = omega arith
 
 loop-again : tie.Need-loop-again Inv-loop μ-loop
 loop-again c =
@@ -101,20 +71,6 @@ pub chain-end-spec : {M : Type 1} → statement M
 chain-end-spec =
     tie.close
     (tie.spec
-    Inv-loop
-    μ-loop
-    loop-holds
-    add-loop
-    mul-touches
-    shared-slice-read-touches
-    mul-touches-2
-    shared-slice-read-touches-2
-    add-touches
-    mul-touches-3
-    shared-slice-read-touches-3
-    touches-requires
-    returns
-    add-i
-    loop-less
-    loop-again
+    Inv-loop μ-loop loop-holds (λ c. omega arith) (λ c. omega arith) (λ c. omega arith) (λ c. omega arith) shared-slice-read-touches-2
+    (λ c. omega arith) (λ c. omega arith) (λ c. omega arith) (λ c κs. search needs) returns (λ c. omega arith) (λ c. omega arith) loop-again
     returns-2)

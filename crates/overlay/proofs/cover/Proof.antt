@@ -18,21 +18,12 @@ in-row s = row 0 (s .args .offsets .now) (s .args .sizes .now) (s .pre .0)
 abbrev found : tie.After-chain-end → tie.After-find
 found k = k .before .before .before .before .before .before
 
-find-requires : tie.Need-find-requires
-find-requires c κs = search needs
-
 returns : tie.Need-returns
 returns c =
     let f = c .before in
     let s = start f in
     none-left (s .args .offsets .now) (s .args .sizes .now) (s .args .first) (s .args .end) (f .find .result) (in-row s) (f .find .ensures) (s .pre .1)
     (c .if1 .taken)
-
-mul-start : tie.Need-mul-start
-mul-start c = search needs
-
-shared-slice-read-start : tie.Need-shared-slice-read-start
-shared-slice-read-start c = omega arith
 
 returns-2 : tie.Need-returns-2
 returns-2 c =
@@ -41,9 +32,6 @@ returns-2 c =
     let s = start f in
     next-behind (s .args .offsets .now) (s .args .sizes .now) (s .args .first) (s .args .end) (f .find .result) (in-row s) (f .find .ensures) (s .pre .1)
     (e .if1 .left) (c .if2 .taken)
-
-begun-bytes-requires : tie.Need-begun-bytes-requires
-begun-bytes-requires c κs = search needs
 
 returns-3 : tie.Need-returns-3
 returns-3 c =
@@ -74,9 +62,6 @@ shared-slice-read-whole-bytes-2 c =
     let k = c .before .before in
     omega (arith, k .chain-end .ensures .one, in-row (start (found k)) .paired)
 
-whole-bytes-requires : tie.Need-whole-bytes-requires
-whole-bytes-requires c κs = search needs
-
 returns-4 : tie.Need-returns-4
 returns-4 c =
     let w = c .before in
@@ -105,18 +90,5 @@ pub cover-spec : {M : Type 1} → statement M
 cover-spec =
     tie.close
     (tie.spec
-    find-requires
-    returns
-    mul-start
-    shared-slice-read-start
-    returns-2
-    begun-bytes-requires
-    returns-3
-    chain-end-requires
-    mul-whole-bytes
-    shared-slice-read-whole-bytes
-    mul-whole-bytes-2
-    shared-slice-read-whole-bytes-2
-    whole-bytes-requires
-    returns-4
-    returns-5)
+    (λ c κs. search needs) returns (λ c. search needs) (λ c. omega arith) returns-2 (λ c κs. search needs) returns-3 chain-end-requires
+    mul-whole-bytes shared-slice-read-whole-bytes mul-whole-bytes-2 shared-slice-read-whole-bytes-2 (λ c κs. search needs) returns-4 returns-5)

@@ -14,9 +14,6 @@ start g = g .before .before .before .before .before .before .before
 abbrev lent : tie.Start → Trial
 lent s = trial (s .args .overlay .now) (s .args .released .now) (s .args .offsets .now) (s .args .sizes .now)
 
-in-order-requires : tie.Need-in-order-requires
-in-order-requires c κs = search needs
-
 returns : tie.Need-returns
 returns c =
     let g = c .before in
@@ -27,12 +24,6 @@ write-runs-requires : tie.Need-write-runs-requires
 write-runs-requires c κs =
     let e = c .before .before in
     sym (e .before .in-order .ensures) ∙ not-false (e .before .in-order .result) (e .if1 .left)
-
-same-length : tie.Need-same-length
-same-length c = search needs
-
-same-length-2 : tie.Need-same-length-2
-same-length-2 c = search needs
 
 returns-2 : tie.Need-returns-2
 returns-2 c =
@@ -46,4 +37,4 @@ returns-2 c =
 pub differences-spec : {M : Type 1} → statement M
 differences-spec =
     tie.close
-    (tie.spec in-order-requires returns write-runs-requires same-length same-length-2 returns-2)
+    (tie.spec (λ c κs. search needs) returns write-runs-requires (λ c. search needs) (λ c. search needs) returns-2)

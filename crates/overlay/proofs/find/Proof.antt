@@ -30,34 +30,10 @@ in-row s = row 0 (s .args .offsets .now) (s .args .sizes .now) (s .pre)
 loop-holds : tie.Need-loop-holds Inv-loop μ-loop
 loop-holds c = (omega arith, omega arith, (λ i h. absurd (omega arith)), (λ i h m. absurd (omega arith)))
 
-sub-mid : tie.Need-sub-mid Inv-loop μ-loop
-sub-mid c = omega arith
-
-add-mid : tie.Need-add-mid Inv-loop μ-loop
-add-mid c = omega arith
-
-mul-begun-bytes : tie.Need-mul-begun-bytes Inv-loop μ-loop
-mul-begun-bytes c = omega arith
-
-shared-slice-read-begun-bytes : tie.Need-shared-slice-read-begun-bytes Inv-loop μ-loop
-shared-slice-read-begun-bytes c = omega arith
-
-mul-begun-bytes-2 : tie.Need-mul-begun-bytes-2 Inv-loop μ-loop
-mul-begun-bytes-2 c = omega arith
-
 shared-slice-read-begun-bytes-2 : tie.Need-shared-slice-read-begun-bytes-2 Inv-loop μ-loop
 shared-slice-read-begun-bytes-2 c =
     let p = in-row (start (c .before .before .before)) .paired in
     omega arith
-
-begun-bytes-requires : tie.Need-begun-bytes-requires Inv-loop μ-loop
-begun-bytes-requires c κs = search needs
-
-add-lo : tie.Need-add-lo Inv-loop μ-loop
-add-lo c = omega arith
-
-loop-less : tie.Need-loop-less Inv-loop μ-loop
-loop-less c = omega arith
 
 loop-again : tie.Need-loop-again Inv-loop μ-loop
 loop-again c =
@@ -71,9 +47,6 @@ loop-again c =
       lower-half (a .offsets .now) (a .sizes .now) (in-row (start h)) (8 * a .first) mid (omega arith) low,
       h .loop .inv .3,
     )
-
-loop-less-2 : tie.Need-loop-less-2 Inv-loop μ-loop
-loop-less-2 c = omega arith
 
 loop-again-2 : tie.Need-loop-again-2 Inv-loop μ-loop
 loop-again-2 c =
@@ -102,19 +75,5 @@ pub find-spec : {M : Type 1} → statement M
 find-spec =
     tie.close
     (tie.spec
-    Inv-loop
-    μ-loop
-    loop-holds
-    sub-mid
-    add-mid
-    mul-begun-bytes
-    shared-slice-read-begun-bytes
-    mul-begun-bytes-2
-    shared-slice-read-begun-bytes-2
-    begun-bytes-requires
-    add-lo
-    loop-less
-    loop-again
-    loop-less-2
-    loop-again-2
-    returns)
+    Inv-loop μ-loop loop-holds (λ c. omega arith) (λ c. omega arith) (λ c. omega arith) (λ c. omega arith) (λ c. omega arith)
+    shared-slice-read-begun-bytes-2 (λ c κs. search needs) (λ c. omega arith) (λ c. omega arith) loop-again (λ c. omega arith) loop-again-2 returns)

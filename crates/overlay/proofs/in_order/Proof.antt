@@ -37,27 +37,12 @@ returns c =
 loop-holds : tie.Need-loop-holds Inv-loop μ-loop
 loop-holds c = (omega arith, c .if1 .left, refl)
 
-mul-if2 : tie.Need-mul-if2 Inv-loop μ-loop
-mul-if2 c = search needs
-
-shared-slice-read-if2 : tie.Need-shared-slice-read-if2 Inv-loop μ-loop
-shared-slice-read-if2 c = search needs
-
 returns-2 : tie.Need-returns-2 Inv-loop μ-loop
 returns-2 c =
     let h = c .before .before .before in
     let a = start h .args in
     sym (order-empty (h .loop .offset + h .loop .size) (a .offsets .now) (a .sizes .now) (h .loop .i) (c .before .before .loop-test .taken) (h .loop .inv .1)
     (c .if2 .taken)) ∙ h .loop .inv .2
-
-mul-ends-by : tie.Need-mul-ends-by Inv-loop μ-loop
-mul-ends-by c = search needs
-
-shared-slice-read-ends-by : tie.Need-shared-slice-read-ends-by Inv-loop μ-loop
-shared-slice-read-ends-by c = search needs
-
-ends-by-requires : tie.Need-ends-by-requires Inv-loop μ-loop
-ends-by-requires c κs = search needs
 
 returns-3 : tie.Need-returns-3 Inv-loop μ-loop
 returns-3 c =
@@ -67,24 +52,6 @@ returns-3 c =
     (sym (ended (c .before)) ∙ not-true (c .before .ends-by .result) (c .if3 .taken)) in
     sym (order-low (h .loop .offset + h .loop .size) (a .offsets .now) (a .sizes .now) (h .loop .i)
     (c .before .before .before .before .before .loop-test .taken) (h .loop .inv .1) low) ∙ h .loop .inv .2
-
-mul-offset : tie.Need-mul-offset Inv-loop μ-loop
-mul-offset c = search needs
-
-shared-slice-read-offset : tie.Need-shared-slice-read-offset Inv-loop μ-loop
-shared-slice-read-offset c = search needs
-
-mul-size : tie.Need-mul-size Inv-loop μ-loop
-mul-size c = search needs
-
-shared-slice-read-size : tie.Need-shared-slice-read-size Inv-loop μ-loop
-shared-slice-read-size c = search needs
-
-add-i : tie.Need-add-i Inv-loop μ-loop
-add-i c = search needs
-
-loop-less : tie.Need-loop-less Inv-loop μ-loop
-loop-less c = search needs
 
 loop-again : tie.Need-loop-again Inv-loop μ-loop
 loop-again c =
@@ -110,22 +77,6 @@ pub in-order-spec : {M : Type 1} → statement M
 in-order-spec =
     tie.close
     (tie.spec
-    Inv-loop
-    μ-loop
-    returns
-    loop-holds
-    mul-if2
-    shared-slice-read-if2
-    returns-2
-    mul-ends-by
-    shared-slice-read-ends-by
-    ends-by-requires
-    returns-3
-    mul-offset
-    shared-slice-read-offset
-    mul-size
-    shared-slice-read-size
-    add-i
-    loop-less
-    loop-again
-    returns-4)
+    Inv-loop μ-loop returns loop-holds (λ c. search needs) (λ c. search needs) returns-2 (λ c. search needs) (λ c. search needs)
+    (λ c κs. search needs) returns-3 (λ c. search needs) (λ c. search needs) (λ c. search needs) (λ c. search needs) (λ c. search needs)
+    (λ c. search needs) loop-again returns-4)

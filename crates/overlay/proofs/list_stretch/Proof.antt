@@ -27,9 +27,6 @@ start h = h .before .before .before .before .before
 loop-holds : tie.Need-loop-holds Inv-loop μ-loop
 loop-holds c = (omega arith, filling-starts)
 
-next-difference-requires : tie.Need-next-difference-requires Inv-loop μ-loop
-next-difference-requires c κs = search needs
-
 next-agreement-requires : tie.Need-next-agreement-requires Inv-loop μ-loop
 next-agreement-requires c κs =
     let h = c .before .before in
@@ -40,9 +37,6 @@ next-agreement-requires c κs =
 
 sub-push : tie.Need-sub-push Inv-loop μ-loop
 sub-push c = omega (arith, c .next-agreement .ensures)
-
-push-requires : tie.Need-push-requires Inv-loop μ-loop
-push-requires c κs = search needs
 
 add-n : tie.Need-add-n Inv-loop μ-loop
 add-n c =
@@ -106,16 +100,5 @@ pub list-stretch-spec : {M : Type 1} → statement M
 list-stretch-spec =
     tie.close
     (tie.spec
-    Inv-loop
-    μ-loop
-    loop-holds
-    next-difference-requires
-    next-agreement-requires
-    sub-push
-    push-requires
-    add-n
-    loop-less
-    loop-again
-    same-length
-    same-length-2
-    returns)
+    Inv-loop μ-loop loop-holds (λ c κs. search needs) next-agreement-requires sub-push (λ c κs. search needs) add-n loop-less loop-again same-length
+    same-length-2 returns)

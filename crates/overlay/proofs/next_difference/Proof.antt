@@ -15,17 +15,8 @@ Inv-loop overlay released at to i₀ i = at + lengthFrom (agree overlay released
 abbrev μ-loop : tie.MeasureT-loop
 μ-loop overlay released at to i₀ i = to - i
 
-skip-same-requires : tie.Need-skip-same-requires Inv-loop μ-loop
-skip-same-requires c κs = search needs
-
 loop-holds : tie.Need-loop-holds Inv-loop μ-loop
 loop-holds c = c .skip-same .ensures
-
-shared-slice-read-if1 : tie.Need-shared-slice-read-if1 Inv-loop μ-loop
-shared-slice-read-if1 c = search needs
-
-shared-slice-read-if1-2 : tie.Need-shared-slice-read-if1-2 Inv-loop μ-loop
-shared-slice-read-if1-2 c = search needs
 
 returns : tie.Need-returns Inv-loop μ-loop
 returns c =
@@ -33,12 +24,6 @@ returns c =
     let a = h .before .before .before .before .args in
     look-stop (agree (a .overlay .now) (a .released .now)) (a .at) (a .to) (h .loop .i)
     (ne-eqb (getD (a .overlay .now) (h .loop .i) 0) (getD (a .released .now) (h .loop .i) 0) (c .if1 .taken)) (h .loop .inv)
-
-add-i : tie.Need-add-i Inv-loop μ-loop
-add-i c = search needs
-
-loop-less : tie.Need-loop-less Inv-loop μ-loop
-loop-less c = search needs
 
 loop-again : tie.Need-loop-again Inv-loop μ-loop
 loop-again c =
@@ -58,14 +43,5 @@ pub next-difference-spec : {M : Type 1} → statement M
 next-difference-spec =
     tie.close
     (tie.spec
-    Inv-loop
-    μ-loop
-    skip-same-requires
-    loop-holds
-    shared-slice-read-if1
-    shared-slice-read-if1-2
-    returns
-    add-i
-    loop-less
-    loop-again
-    returns-2)
+    Inv-loop μ-loop (λ c κs. search needs) loop-holds (λ c. search needs) (λ c. search needs) returns (λ c. search needs) (λ c. search needs)
+    loop-again returns-2)

@@ -24,58 +24,25 @@ overlaid c = sym (c .before .before .which .ensures .answer) ∙ c .enum-told .g
 issued : (c : tie.After-enum-told2) → let s = start (c .before .before) in sourceOf (lent s) (s .args .first) (s .args .count) ≡ Released
 issued c = sym (c .before .before .which .ensures .answer) ∙ c .enum-told2 .given .1
 
-which-requires : tie.Need-which-requires
-which-requires c κs = search needs
-
-enum-told : tie.Need-enum-told
-enum-told c = search needs
-
 add-end : tie.Need-add-end
 add-end c =
     let s = start (c .before .before) in
     omega (arith, overlay-inside (lent s) (s .args .first) (s .args .count) (overlaid c))
-
-sub-result : tie.Need-sub-result
-sub-result c = omega arith
-
-part-result-start : tie.Need-part-result-start
-part-result-start c = omega arith
 
 part-result-end : tie.Need-part-result-end
 part-result-end c =
     let s = start (c .before .before) in
     omega (arith, overlay-inside (lent s) (s .args .first) (s .args .count) (overlaid c))
 
-enum-told-2 : tie.Need-enum-told-2
-enum-told-2 c = search needs
-
 add-end-2 : tie.Need-add-end-2
 add-end-2 c =
     let s = start (c .before .before) in
     omega (arith, released-inside (lent s) (s .args .first) (s .args .count) (issued c))
 
-sub-result-2 : tie.Need-sub-result-2
-sub-result-2 c = omega arith
-
-part-result-start-2 : tie.Need-part-result-start-2
-part-result-start-2 c = omega arith
-
 part-result-end-2 : tie.Need-part-result-end-2
 part-result-end-2 c =
     let s = start (c .before .before) in
     omega (arith, released-inside (lent s) (s .args .first) (s .args .count) (issued c))
-
-enum-told-3 : tie.Need-enum-told-3
-enum-told-3 c = search needs
-
-sub-result-3 : tie.Need-sub-result-3
-sub-result-3 c = search needs
-
-part-result-start-3 : tie.Need-part-result-start-3
-part-result-start-3 c = search needs
-
-part-result-end-3 : tie.Need-part-result-end-3
-part-result-end-3 c = search needs
 
 returns : tie.Need-returns
 returns c =
@@ -98,21 +65,6 @@ pub pick-spec : {M : Type 1} → statement M
 pick-spec =
     tie.close
     (tie.spec
-    which-requires
-    enum-told
-    add-end
-    sub-result
-    part-result-start
-    part-result-end
-    enum-told-2
-    add-end-2
-    sub-result-2
-    part-result-start-2
-    part-result-end-2
-    enum-told-3
-    sub-result-3
-    part-result-start-3
-    part-result-end-3
-    returns
-    returns-2
-    returns-3)
+    (λ c κs. search needs) (λ c. search needs) add-end (λ c. omega arith) (λ c. omega arith) part-result-end (λ c. search needs) add-end-2
+    (λ c. omega arith) (λ c. omega arith) part-result-end-2 (λ c. search needs) (λ c. search needs) (λ c. search needs) (λ c. search needs) returns
+    returns-2 returns-3)

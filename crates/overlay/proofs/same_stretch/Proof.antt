@@ -23,27 +23,6 @@ loop-holds c =
     let a = c .before .before .args in
     (omega arith, λ _. agree-none (a .overlay .now) (a .released .now) (a .at))
 
-add-both : tie.Need-add-both Inv-loop μ-loop
-add-both c = search needs
-
-shared-slice-read-both : tie.Need-shared-slice-read-both Inv-loop μ-loop
-shared-slice-read-both c = search needs
-
-add-both-2 : tie.Need-add-both-2 Inv-loop μ-loop
-add-both-2 c = search needs
-
-shared-slice-read-both-2 : tie.Need-shared-slice-read-both-2 Inv-loop μ-loop
-shared-slice-read-both-2 c = search needs
-
-both-requires : tie.Need-both-requires Inv-loop μ-loop
-both-requires c κs = search needs
-
-add-j : tie.Need-add-j Inv-loop μ-loop
-add-j c = search needs
-
-loop-less : tie.Need-loop-less Inv-loop μ-loop
-loop-less c = search needs
-
 loop-again : tie.Need-loop-again Inv-loop μ-loop
 loop-again c =
     let h = c .before .before .before .before in
@@ -59,15 +38,5 @@ pub same-stretch-spec : {M : Type 1} → statement M
 same-stretch-spec =
     tie.close
     (tie.spec
-    Inv-loop
-    μ-loop
-    loop-holds
-    add-both
-    shared-slice-read-both
-    add-both-2
-    shared-slice-read-both-2
-    both-requires
-    add-j
-    loop-less
-    loop-again
-    returns)
+    Inv-loop μ-loop loop-holds (λ c. search needs) (λ c. search needs) (λ c. search needs) (λ c. search needs) (λ c κs. search needs)
+    (λ c. search needs) (λ c. search needs) loop-again returns)

@@ -18,26 +18,11 @@ Inv-loop overlay released at to i₀ i = at + lengthFrom (agree overlay released
 abbrev μ-loop : tie.MeasureT-loop
 μ-loop overlay released at to i₀ i = to - i
 
-loop-holds : tie.Need-loop-holds Inv-loop μ-loop
-loop-holds c = refl
-
-sub-if1 : tie.Need-sub-if1 Inv-loop μ-loop
-sub-if1 c = search needs
-
 returns : tie.Need-returns Inv-loop μ-loop
 returns c = c .before .before .loop .inv
 
-same-stretch-requires : tie.Need-same-stretch-requires Inv-loop μ-loop
-same-stretch-requires c κs = search needs
-
 returns-2 : tie.Need-returns-2 Inv-loop μ-loop
 returns-2 c = c .before .before .before .before .loop .inv
-
-add-i : tie.Need-add-i Inv-loop μ-loop
-add-i c = search needs
-
-loop-less : tie.Need-loop-less Inv-loop μ-loop
-loop-less c = search needs
 
 loop-again : tie.Need-loop-again Inv-loop μ-loop
 loop-again c =
@@ -53,14 +38,5 @@ pub skip-same-spec : {M : Type 1} → statement M
 skip-same-spec =
     tie.close
     (tie.spec
-    Inv-loop
-    μ-loop
-    loop-holds
-    sub-if1
-    returns
-    same-stretch-requires
-    returns-2
-    add-i
-    loop-less
-    loop-again
+    Inv-loop μ-loop (λ c. refl) (λ c. search needs) returns (λ c κs. search needs) returns-2 (λ c. search needs) (λ c. search needs) loop-again
     returns-3)

@@ -59,9 +59,6 @@ to-is c =
     ∙ ap (λ (m : ℕ). min m (head c .before .at-most .result)) (c .before .whole-bytes .ensures)
     ∙ ap (min ((getD (s .args .offsets .now) last 0 + getD (s .args .sizes .now) last 0) / 8)) (is-shorter (head c .before))
 
-at-most-requires : tie.Need-at-most-requires Inv-loop μ-loop
-at-most-requires c κs = search needs
-
 loop-holds : tie.Need-loop-holds Inv-loop μ-loop
 loop-holds c =
     let s = start c in
@@ -72,37 +69,16 @@ chain-end-requires c κs =
     let s = start (c .before .before) in
     (in-row s .paired, c .loop-test .taken)
 
-mul-begun-bytes : tie.Need-mul-begun-bytes Inv-loop μ-loop
-mul-begun-bytes c = search needs
-
 shared-slice-read-begun-bytes : tie.Need-shared-slice-read-begun-bytes Inv-loop μ-loop
 shared-slice-read-begun-bytes c = c .before .before .loop-test .taken
 
-begun-bytes-requires : tie.Need-begun-bytes-requires Inv-loop μ-loop
-begun-bytes-requires c κs = search needs
-
-at-most-requires-2 : tie.Need-at-most-requires-2 Inv-loop μ-loop
-at-most-requires-2 c κs = search needs
-
-mul-whole-bytes : tie.Need-mul-whole-bytes Inv-loop μ-loop
-mul-whole-bytes c = search needs
-
 shared-slice-read-whole-bytes : tie.Need-shared-slice-read-whole-bytes Inv-loop μ-loop
 shared-slice-read-whole-bytes c = c .before .before .before .before .chain-end .ensures .one
-
-mul-whole-bytes-2 : tie.Need-mul-whole-bytes-2 Inv-loop μ-loop
-mul-whole-bytes-2 c = search needs
 
 shared-slice-read-whole-bytes-2 : tie.Need-shared-slice-read-whole-bytes-2 Inv-loop μ-loop
 shared-slice-read-whole-bytes-2 c =
     let k = c .before .before .before .before .before in
     omega (arith, k .chain-end .ensures .one, in-row (start (k .before .before .before)) .paired)
-
-whole-bytes-requires : tie.Need-whole-bytes-requires Inv-loop μ-loop
-whole-bytes-requires c κs = search needs
-
-at-most-requires-3 : tie.Need-at-most-requires-3 Inv-loop μ-loop
-at-most-requires-3 c κs = search needs
 
 list-stretch-requires : tie.Need-list-stretch-requires Inv-loop μ-loop
 list-stretch-requires c κs =
@@ -166,25 +142,6 @@ pub walk-spec : {M : Type 1} → statement M
 walk-spec =
     tie.close
     (tie.spec
-    Inv-loop
-    μ-loop
-    at-most-requires
-    loop-holds
-    chain-end-requires
-    mul-begun-bytes
-    shared-slice-read-begun-bytes
-    begun-bytes-requires
-    at-most-requires-2
-    mul-whole-bytes
-    shared-slice-read-whole-bytes
-    mul-whole-bytes-2
-    shared-slice-read-whole-bytes-2
-    whole-bytes-requires
-    at-most-requires-3
-    list-stretch-requires
-    add-i
-    loop-less
-    loop-again
-    same-length
-    same-length-2
-    returns)
+    Inv-loop μ-loop (λ c κs. search needs) loop-holds chain-end-requires (λ c. search needs) shared-slice-read-begun-bytes (λ c κs. search needs)
+    (λ c κs. search needs) (λ c. search needs) shared-slice-read-whole-bytes (λ c. search needs) shared-slice-read-whole-bytes-2
+    (λ c κs. search needs) (λ c κs. search needs) list-stretch-requires add-i loop-less loop-again same-length same-length-2 returns)

@@ -34,16 +34,10 @@ facts : (e : tie.Else2)
 facts e = let s = start (e .before .before .before) .args in inside-true (length (s .overlay .now)) (length (s .released .now)) (s .first) (s .count)
     (within e)
 
-in-order-requires : tie.Need-in-order-requires
-in-order-requires c κs = search needs
-
 returns : tie.Need-returns
 returns c =
     let s = start (c .before) in
     out-of-order (lent s) (s .args .first) (s .args .count) (sym (c .before .in-order .ensures) ∙ not-true (c .before .in-order .result) (c .if1 .taken))
-
-is-inside-requires : tie.Need-is-inside-requires
-is-inside-requires c κs = search needs
 
 returns-2 : tie.Need-returns-2
 returns-2 c =
@@ -71,10 +65,4 @@ pub which-spec : {M : Type 1} → statement M
 which-spec =
     tie.close
     (tie.spec
-    in-order-requires
-    returns
-    is-inside-requires
-    returns-2
-    add-cover
-    cover-requires
-    returns-3)
+    (λ c κs. search needs) returns (λ c κs. search needs) returns-2 add-cover cover-requires returns-3)

@@ -40,5 +40,4 @@ put-spec =
     tie.close
     (tie.spec
     (λ c. search needs) (λ c κs. search needs) (λ c. search needs) (λ c. search needs)
-    (λ c κs. omega (arith, fits (c .before .before .before .before))) (λ c. search needs)
-    returns)
+    (λ c κs. omega (arith, fits (c .before .before .before .before))) (λ c. search needs) returns)

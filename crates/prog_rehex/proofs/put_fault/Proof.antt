@@ -41,5 +41,4 @@ put-fault-spec =
     tie.close
     (tie.spec
     (λ c κs. search needs) (λ c. search needs) (λ c κs. search needs) (λ c. search needs) (λ c. search needs) (λ c κs. search needs) (λ c. search needs)
-    returns
-    (λ c. search needs) returns-2)
+    returns (λ c. search needs) returns-2)

@@ -43,12 +43,6 @@ fill-line-requires c κs =
     let r = k .known-line .result .line in
     (s .pre .0, subst (λ (l : List ℕ). r .first + 2 * r .count ≤ length l) (sym (e .part)) (e .says .room))
 
-add-counter : tie.Need-add-counter Inv-loop μ-loop
-add-counter c = search needs
-
-loop-less : tie.Need-loop-less Inv-loop μ-loop
-loop-less c = search needs
-
 loop-again : tie.Need-loop-again Inv-loop μ-loop
 loop-again c =
     let f = c .before .before in
@@ -75,16 +69,5 @@ pub fill-spec : {M : Type 1} → statement M
 fill-spec =
     tie.close
     (tie.spec
-    Inv-loop
-    μ-loop
-    loop-holds
-    known-line-requires
-    sub-fill-line
-    part-fill-line-start
-    part-fill-line-end
-    fill-line-requires
-    add-counter
-    loop-less
-    loop-again
-    same-length
-    returns)
+    Inv-loop μ-loop loop-holds known-line-requires sub-fill-line part-fill-line-start part-fill-line-end fill-line-requires (λ c. search needs)
+    (λ c. search needs) loop-again same-length returns)

@@ -25,27 +25,6 @@ loop-holds c =
     let a = c .before .before .args in
     (search needs, spelled-none (a .line .now) (a .first) (a .address) (a .load) (a .bytes .now))
 
-add-put-byte : tie.Need-add-put-byte Inv-loop μ-loop
-add-put-byte c = search needs
-
-mul-pair-inside : tie.Need-mul-pair-inside Inv-loop μ-loop
-mul-pair-inside c = search needs
-
-add-pair-inside : tie.Need-add-pair-inside Inv-loop μ-loop
-add-pair-inside c = search needs
-
-pair-inside-requires : tie.Need-pair-inside-requires Inv-loop μ-loop
-pair-inside-requires c κs = search needs
-
-put-byte-requires : tie.Need-put-byte-requires Inv-loop μ-loop
-put-byte-requires c κs = search needs
-
-add-j : tie.Need-add-j Inv-loop μ-loop
-add-j c = search needs
-
-loop-less : tie.Need-loop-less Inv-loop μ-loop
-loop-less c = search needs
-
 loop-again : tie.Need-loop-again Inv-loop μ-loop
 loop-again c =
     let b = c .before .before in
@@ -74,16 +53,5 @@ pub fill-line-spec : {M : Type 1} → statement M
 fill-line-spec =
     tie.close
     (tie.spec
-    Inv-loop
-    μ-loop
-    loop-holds
-    add-put-byte
-    mul-pair-inside
-    add-pair-inside
-    pair-inside-requires
-    put-byte-requires
-    add-j
-    loop-less
-    loop-again
-    same-length
-    returns)
+    Inv-loop μ-loop loop-holds (λ c. search needs) (λ c. search needs) (λ c. search needs) (λ c κs. search needs) (λ c κs. search needs)
+    (λ c. search needs) (λ c. search needs) loop-again same-length returns)

@@ -15,12 +15,10 @@ pub find-blocks-spec : {M : Type 1} → statement M
 find-blocks-spec =
     tie.close
     (tie.spec
-    walk-scratch-requires
-    (λ c. put-long (c .before .before .before .before .before .before .walk-scratch .ensures .0) .0)
+    walk-scratch-requires (λ c. put-long (c .before .before .before .before .before .before .walk-scratch .ensures .0) .0)
     (λ c. put-long (c .before .before .before .before .before .before .walk-scratch .ensures .0) .1)
     (λ c. ap length (c .before .before .before .before .before .before .walk-scratch .ensures .1))
     (λ c. c .before .before .before .before .before .before .walk-scratch .ensures)
     (λ c κs. let s = c .before .before .before .before .before .before .before in (s .pre .0, s .pre .1 .0 .ends))
     (λ c. put-long (c .before .before .before .before .walk-any .ensures) .0)
-    (λ c. put-long (c .before .before .before .before .walk-any .ensures) .1)
-    (λ c. (c .before .before .before .before .walk-any .ensures, refl)))
+    (λ c. put-long (c .before .before .before .before .walk-any .ensures) .1) (λ c. (c .before .before .before .before .walk-any .ensures, refl)))

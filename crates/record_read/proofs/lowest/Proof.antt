@@ -23,18 +23,6 @@ known-line-requires c κs =
     let w = l .loop .inv in
     (s .pre .0, (w .inside, good-at (a .format) (a .text .now) (a .n) (l .loop .counter) (w .place) (w .force) (s .pre .1) (c .loop-test .taken)))
 
-extent-requires : tie.Need-extent-requires Inv-loop μ-loop
-extent-requires c κs = search needs
-
-better-requires : tie.Need-better-requires Inv-loop μ-loop
-better-requires c κs = search needs
-
-add-counter : tie.Need-add-counter Inv-loop μ-loop
-add-counter c = search needs
-
-loop-less : tie.Need-loop-less Inv-loop μ-loop
-loop-less c = search needs
-
 loop-again : tie.Need-loop-again Inv-loop μ-loop
 loop-again c =
     let x = c .before in
@@ -55,13 +43,5 @@ pub lowest-spec : {M : Type 1} → statement M
 lowest-spec =
     tie.close
     (tie.spec
-    Inv-loop
-    μ-loop
-    loop-holds
-    known-line-requires
-    extent-requires
-    better-requires
-    add-counter
-    loop-less
-    loop-again
+    Inv-loop μ-loop loop-holds known-line-requires (λ c κs. search needs) (λ c κs. search needs) (λ c. search needs) (λ c. search needs) loop-again
     returns)

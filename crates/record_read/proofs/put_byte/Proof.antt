@@ -10,12 +10,6 @@ returns c =
     let a = c .before .args in
     byte-out (a .load) (a .address) (a .value) (a .bytes .now) (inl (c .if1 .taken))
 
-slice-write-bytes : tie.Need-slice-write-bytes
-slice-write-bytes c = search needs
-
-same-length : tie.Need-same-length
-same-length c = search needs
-
 returns-2 : tie.Need-returns-2
 returns-2 c =
     let a = c .before .before .args in
@@ -27,4 +21,4 @@ returns-3 c =
     byte-out (a .load) (a .address) (a .value) (a .bytes .now) (inr (c .if2 .left))
 
 pub put-byte-spec : {M : Type 1} → statement M
-put-byte-spec = tie.close (tie.spec returns slice-write-bytes same-length returns-2 returns-3)
+put-byte-spec = tie.close (tie.spec returns (λ c. search needs) (λ c. search needs) returns-2 returns-3)

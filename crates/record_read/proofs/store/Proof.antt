@@ -57,15 +57,5 @@ pub store-spec : {M : Type 1} → statement M
 store-spec =
     tie.close
     (tie.spec
-    store-up-requires
-    same-length
-    same-length-2
-    same-length-3
-    returns
-    (λ c κs. c .before .before .before .before .before .before .before .pre .0)
-    find-blocks-requires
-    same-length-4
-    same-length-5
-    same-length-6
-    same-length-7
-    returns-2)
+    store-up-requires same-length same-length-2 same-length-3 returns (λ c κs. c .before .before .before .before .before .before .before .pre .0)
+    find-blocks-requires same-length-4 same-length-5 same-length-6 same-length-7 returns-2)

@@ -54,15 +54,9 @@ fill-line-requires c κs =
     let r = k .known-line .result .line in
     (start (c .before .before .before .before .before) .pre .0 .0, subst (λ (l : List ℕ). r .first + 2 * r .count ≤ length l) (sym (e .part)) (e .says .room))
 
-extent-requires : tie.Need-extent-requires Inv-loop μ-loop
-extent-requires c κs = search needs
-
 close-requires : tie.Need-close-requires Inv-loop μ-loop
 close-requires c κs =
     listed-room (c .before .before .before .before .before .before .before .before .before .before .before .loop .inv .1 .listed)
-
-join-requires : tie.Need-join-requires Inv-loop μ-loop
-join-requires c κs = search needs
 
 add-counter : tie.Need-add-counter Inv-loop μ-loop
 add-counter c =
@@ -70,9 +64,6 @@ add-counter c =
     let less = t .before .loop-test .taken in
     let wide = start (t .before .before) .fits .n in
     search needs
-
-loop-less : tie.Need-loop-less Inv-loop μ-loop
-loop-less c = search needs
 
 loop-again : tie.Need-loop-again Inv-loop μ-loop
 loop-again c =
@@ -122,22 +113,5 @@ pub store-up-spec : {M : Type 1} → statement M
 store-up-spec =
     tie.close
     (tie.spec
-    Inv-loop
-    μ-loop
-    loop-holds
-    known-line-requires
-    sub-fill-line
-    part-fill-line-start
-    part-fill-line-end
-    fill-line-requires
-    extent-requires
-    close-requires
-    join-requires
-    add-counter
-    loop-less
-    loop-again
-    push-requires
-    same-length
-    same-length-2
-    same-length-3
-    returns)
+    Inv-loop μ-loop loop-holds known-line-requires sub-fill-line part-fill-line-start part-fill-line-end fill-line-requires (λ c κs. search needs)
+    close-requires (λ c κs. search needs) add-counter (λ c. search needs) loop-again push-requires same-length same-length-2 same-length-3 returns)

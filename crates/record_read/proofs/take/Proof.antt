@@ -72,16 +72,6 @@ pub take-spec : {M : Type 1} → statement M
 take-spec =
     tie.close
     (tie.spec
-    returns
-    (λ c κs. search needs)
-    count-blocks-requires
-    (λ c. ap length (c .before .before .before .count-blocks .ensures .1))
-    returns-2
-    (λ c. ap length (c .before .before .before .before .count-blocks .ensures .1))
-    returns-3
-    store-requires
-    (λ c. search needs)
-    (λ c. search needs)
-    (λ c. search needs)
-    same-length-6
-    returns-4)
+    returns (λ c κs. search needs) count-blocks-requires (λ c. ap length (c .before .before .before .count-blocks .ensures .1)) returns-2
+    (λ c. ap length (c .before .before .before .before .count-blocks .ensures .1)) returns-3 store-requires (λ c. search needs) (λ c. search needs)
+    (λ c. search needs) same-length-6 returns-4)

@@ -27,17 +27,8 @@ loop-holds c =
     let a = c .before .before .before .args in
     listed-starts (isGiven (a .load) (trail (a .format) (a .text .now) (a .n) .given)) (a .offsets .now) (a .sizes .now)
 
-lowest-requires : tie.Need-lowest-requires Inv-loop μ-loop
-lowest-requires c κs = search needs
-
 close-requires : tie.Need-close-requires Inv-loop μ-loop
 close-requires c κs = listed-room (c .before .before .before .before .loop .inv)
-
-join-requires : tie.Need-join-requires Inv-loop μ-loop
-join-requires c κs = search needs
-
-behind-requires : tie.Need-behind-requires Inv-loop μ-loop
-behind-requires c κs = search needs
 
 loop-less : tie.Need-loop-less Inv-loop μ-loop
 loop-less c =
@@ -86,16 +77,5 @@ pub walk-any-spec : {M : Type 1} → statement M
 walk-any-spec =
     tie.close
     (tie.spec
-    Inv-loop
-    μ-loop
-    loop-holds
-    lowest-requires
-    close-requires
-    join-requires
-    behind-requires
-    loop-less
-    loop-again
-    push-requires
-    same-length
-    same-length-2
-    returns)
+    Inv-loop μ-loop loop-holds (λ c κs. search needs) close-requires (λ c κs. search needs) (λ c κs. search needs) loop-less loop-again push-requires
+    same-length same-length-2 returns)

@@ -28,7 +28,4 @@ pub lower-of-spec : {M : Type 1} → statement M
 lower-of-spec =
     tie.close
     (tie.spec
-    returns
-    returns-2
-    returns-3
-    returns-4)
+    returns returns-2 returns-3 returns-4)

@@ -103,7 +103,7 @@ either-end-fault format load text other scratch kept left r q a x c d =
     let same = cr-lf-fault a x scratch (r, kept) (q, left) (fault-meets format load text scratch r kept c) (fault-meets format load other scratch q left d) in
     (ap (λ (y : DkFault × List ℕ). y .0) same, ap (λ (y : DkFault × List ℕ). y .1) same)
 
--- ---- lent scratch: they stay as they are, and nothing else depends on them (of `dk_record_fault` in FaultDecides)
+-- ---- lent scratch: it stays as it is, and nothing else depends on it (of `dk_record_fault` in FaultDecides)
 module _ (format load : ℕ) (text : List ℕ) where
   pub read-keeps-scratch : (old : Lent) (r : DkCount) (new : Lent) → Reads format load text old r new → new .scratch ≡ old .scratch
   read-keeps-scratch old r new c =

@@ -5,26 +5,11 @@ use Rattle.blocks.proofs.Laws.{closed-none, closed-kept}
 use Rattle.blocks.proofs.Block.close.Statement.{statement}
 use Rattle.blocks.proofs.Block.close.Tie as tie
 
-end-requires : tie.Need-end-requires
-end-requires c κs = search needs
-
 returns : tie.Need-returns
 returns c =
     let d = c .before in
     let a = d .before .before .before .args in
     closed-none (a .self) (a .offset) (c .if1 .taken ∙ d .end .ensures) (a .count) (a .block-offsets .now) (a .block-sizes .now)
-
-push-requires : tie.Need-push-requires
-push-requires c κs = search needs
-
-add-result : tie.Need-add-result
-add-result c = search needs
-
-same-length : tie.Need-same-length
-same-length c = search needs
-
-same-length-2 : tie.Need-same-length-2
-same-length-2 c = search needs
 
 returns-2 : tie.Need-returns-2
 returns-2 c =
@@ -36,4 +21,4 @@ returns-2 c =
 
 pub close-spec : {M : Type 1} → statement M
 close-spec =
-    tie.close (tie.spec end-requires returns push-requires add-result same-length same-length-2 returns-2)
+    tie.close (tie.spec (λ c κs. search needs) returns (λ c κs. search needs) (λ c. search needs) (λ c. search needs) (λ c. search needs) returns-2)

@@ -5,12 +5,6 @@ use Rattle.blocks.proofs.Laws.{joined-on, joined-anew}
 use Rattle.blocks.proofs.Block.join.Statement.{statement}
 use Rattle.blocks.proofs.Block.join.Tie as tie
 
-end-requires : tie.Need-end-requires
-end-requires c κs = search needs
-
-add-t7 : tie.Need-add-t7
-add-t7 c = search needs
-
 returns : tie.Need-returns
 returns c =
     let t = c .before in
@@ -23,4 +17,4 @@ returns-2 c =
     joined-anew (a .self) (a .offset) (a .size) (λ q. c .if1 .left (q ∙ sym (c .before .end .ensures)))
 
 pub join-spec : {M : Type 1} → statement M
-join-spec = tie.close (tie.spec end-requires add-t7 returns returns-2)
+join-spec = tie.close (tie.spec (λ c κs. search needs) (λ c. search needs) returns returns-2)

@@ -48,17 +48,13 @@ pub write-entries-spec : {M : Type 1} → statement M
 write-entries-spec =
     tie.close
     (tie.spec
-    Inv-loop μ-loop (λ c κs. search needs) loop-holds (λ c κs. search needs)
-    (λ c. omega (arith, low (c .before .before)))
-    (λ c. let t = c .before .before in first-fits (t .before .loop .inv) (start (t .before) .pre .1) (t .loop-test .taken))
-    (λ c κs. search needs)
+    Inv-loop μ-loop (λ c κs. search needs) loop-holds (λ c κs. search needs) (λ c. omega (arith, low (c .before .before)))
+    (λ c. let t = c .before .before in first-fits (t .before .loop .inv) (start (t .before) .pre .1) (t .loop-test .taken)) (λ c κs. search needs)
     (λ c. omega (arith, low (c .before .before .before)))
     (λ c. let t = c .before .before .before in second-fits (t .before .loop .inv) (start (t .before) .pre .1) (t .loop-test .taken))
-    (λ c κs. search needs)
-    (λ c. omega (arith, low (c .before .before .before .before)))
+    (λ c κs. search needs) (λ c. omega (arith, low (c .before .before .before .before)))
     (λ c. let t = c .before .before .before .before in third-fits (t .before .loop .inv) (start (t .before) .pre .1) (t .loop-test .taken))
-    (λ c κs. search needs)
-    (λ c. omega (arith, low (c .before .before .before .before .before)))
+    (λ c κs. search needs) (λ c. omega (arith, low (c .before .before .before .before .before)))
     (λ c. let t = c .before .before .before .before .before in fourth-fits (t .before .loop .inv) (start (t .before) .pre .1) (t .loop-test .taken))
     (λ c. omega (arith, low (c .before .before .before .before .before .before)))
     (λ c. omega (arith, c .before .before .before .before .before .before .loop-test .taken)) loop-again

@@ -7,17 +7,8 @@ use borrow.Author.Needs.{needs}
 use Rattle.build_map.proofs.maps.reach_row.Statement.{statement}
 use Rattle.build_map.proofs.maps.reach_row.Tie as tie
 
-enum-known-settled : tie.Need-enum-known-settled
-enum-known-settled c = search needs
-
 met-requires : tie.Need-met-requires
 met-requires c κs = subst Few (c .before .settled .given .1) (c .before .before .before .before .before .before .before .before .pre .1)
-
-enum-told : tie.Need-enum-told
-enum-told c = search needs
-
-trace-row-requires : tie.Need-trace-row-requires
-trace-row-requires c κs = search needs
 
 returns : tie.Need-returns
 returns c =
@@ -34,4 +25,4 @@ returns-2 c =
 pub reach-row-spec : {M : Type 1} → statement M
 reach-row-spec =
     tie.close
-    (tie.spec enum-known-settled met-requires enum-told trace-row-requires returns returns-2)
+    (tie.spec (λ c. search needs) met-requires (λ c. search needs) (λ c κs. search needs) returns returns-2)

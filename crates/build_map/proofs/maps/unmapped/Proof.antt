@@ -9,11 +9,8 @@ use borrow.Author.Needs.{needs}
 use Rattle.build_map.proofs.maps.unmapped.Statement.{statement}
 use Rattle.build_map.proofs.maps.unmapped.Tie as tie
 
-verdict-of-requires : tie.Need-verdict-of-requires
-verdict-of-requires c κs = search needs
-
 returns : tie.Need-returns
 returns c = ap (λ (v : Verdict). mapBy 0 (record { verdict = v; nodes = 0; fault = None }) (replicate 16 noLost)) (c .verdict-of .ensures)
 
 pub unmapped-spec : {M : Type 1} → statement M
-unmapped-spec = tie.close (tie.spec verdict-of-requires returns)
+unmapped-spec = tie.close (tie.spec (λ c κs. search needs) returns)

@@ -5,20 +5,8 @@ use Rattle.build_plan.proofs.checks.ends_past.Tie as tie
 use Rattle.build_plan.proofs.checks.ends_past.Reads as reads
 use Rattle.build_plan.proofs.checks.ends_past.Lts as lts
 
-enum-told : tie.Need-enum-told
-enum-told c = search needs
-
-enum-known-size : tie.Need-enum-known-size
-enum-known-size c = search needs
-
-cast-result : tie.Need-cast-result
-cast-result c = search needs
-
-returns : tie.Need-returns
-returns c = search needs
-
 returns-2 : tie.Need-returns-2
 returns-2 c = rw (c .before .size .given .1)
 
 pub ends-past-spec : {M : Type 1} → statement M
-ends-past-spec = tie.close (tie.spec enum-told enum-known-size cast-result returns returns-2)
+ends-past-spec = tie.close (tie.spec (λ c. search needs) (λ c. search needs) (λ c. search needs) (λ c. search needs) returns-2)

@@ -19,9 +19,6 @@ or-middle false b c e = rw e
 returns : tie.Need-returns
 returns c = rw (eq-eqb (c .before .before .args .node .kind) 2 (c .if1 .taken))
 
-is-written-requires : tie.Need-is-written-requires
-is-written-requires c κs = search needs
-
 returns-2 : tie.Need-returns-2
 returns-2 c =
     let n = c .before .before .before .before .args .node in
@@ -35,4 +32,4 @@ returns-3 c =
     )
 
 pub is-placed-spec : {M : Type 1} → statement M
-is-placed-spec = tie.close (tie.spec returns is-written-requires returns-2 returns-3)
+is-placed-spec = tie.close (tie.spec returns (λ c κs. search needs) returns-2 returns-3)

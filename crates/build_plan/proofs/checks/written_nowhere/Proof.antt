@@ -8,12 +8,6 @@ use Rattle.build_plan.proofs.checks.written_nowhere.Lts as lts
 use Rattle.build_sights.proofs.is_written.Reads as is-written-reads
 use Rattle.build_plan.proofs.checks.lacks_output.Reads as lacks-output-reads
 
-is-written-requires : tie.Need-is-written-requires
-is-written-requires c κs = search needs
-
-lacks-output-requires : tie.Need-lacks-output-requires
-lacks-output-requires c κs = search needs
-
 returns : tie.Need-returns
 returns c = rw (sym (c .before .before .is-written .ensures) ∙ c .before .if1 .taken) (c .lacks-output .ensures)
 
@@ -22,4 +16,4 @@ returns-2 c = rw (sym (c .before .is-written .ensures) ∙ c .if1 .left)
 
 pub written-nowhere-spec : {M : Type 1} → statement M
 written-nowhere-spec =
-    tie.close (tie.spec is-written-requires lacks-output-requires returns returns-2)
+    tie.close (tie.spec (λ c κs. search needs) (λ c κs. search needs) returns returns-2)

@@ -27,17 +27,8 @@ small c =
     rw (told c) (away-small (natAbs (c .before .before .args .def .start)) (c .before .before .args .def .unit) (start-within (c .before .before .args .def)
     (c .before .before .pre)) h)
 
-magnitude-requires : tie.Need-magnitude-requires
-magnitude-requires c κs = search needs
-
-cast-away : tie.Need-cast-away
-cast-away c = search needs
-
 mul-away : tie.Need-mul-away
 mul-away c = omega (arith, small (c .before))
-
-sub-t12 : tie.Need-sub-t12
-sub-t12 c = search needs
 
 add-t14 : tie.Need-add-t14
 add-t14 c = omega (arith, small (c .before .before))
@@ -67,4 +58,4 @@ returns-3 c =
 
 pub address-in-bits-spec : {M : Type 1} → statement M
 address-in-bits-spec =
-    tie.close (tie.spec magnitude-requires cast-away mul-away sub-t12 add-t14 returns returns-2 returns-3)
+    tie.close (tie.spec (λ c κs. search needs) (λ c. search needs) mul-away (λ c. search needs) add-t14 returns returns-2 returns-3)

@@ -15,9 +15,6 @@ use Rattle.iter.specs.declared.Skipped.{Skipped}
 use Rattle.iter.proofs.alignment.bits_until_alignment.Statement.{statement}
 use Rattle.iter.proofs.alignment.bits_until_alignment.Tie as tie
 
-is-tellable-requires : tie.Need-is-tellable-requires
-is-tellable-requires c κs = search needs
-
 returns : tie.Need-returns
 returns c = distance-answers _ _ _ _ (sym (four-when _ _ _ _ (sym (c .before .is-tellable .ensures) ∙ not-true _ (c .if1 .taken))))
 
@@ -30,9 +27,6 @@ returns-2 c = distance-answers _ _ _ _ (sym (to-none _ _ _ _ (tells (c .before))
 
 address-in-bits-requires : tie.Need-address-in-bits-requires
 address-in-bits-requires c κs = tells (c .before)
-
-remainder-by-requires : tie.Need-remainder-by-requires
-remainder-by-requires c κs = search needs
 
 gap-to-requires : tie.Need-gap-to-requires
 gap-to-requires c κs = c .remainder-by .ensures .1
@@ -57,11 +51,4 @@ pub bits-until-alignment-spec : {M : Type 1} → statement M
 bits-until-alignment-spec =
     tie.close
     (tie.spec
-    is-tellable-requires
-    returns
-    returns-2
-    address-in-bits-requires
-    remainder-by-requires
-    gap-to-requires
-    in-units-requires
-    returns-3)
+    (λ c κs. search needs) returns returns-2 address-in-bits-requires (λ c κs. search needs) gap-to-requires in-units-requires returns-3)

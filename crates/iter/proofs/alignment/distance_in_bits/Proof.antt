@@ -14,12 +14,6 @@ use Rattle.iter.proofs.alignment.distance_in_bits.Tie as tie
 returns : tie.Need-returns
 returns c = rw (c .if1 .taken)
 
-address-in-bits-requires : tie.Need-address-in-bits-requires
-address-in-bits-requires c κs = search needs
-
-remainder-by-requires : tie.Need-remainder-by-requires
-remainder-by-requires c κs = search needs
-
 gap-to-requires : tie.Need-gap-to-requires
 gap-to-requires c κs = c .remainder-by .ensures .1
 
@@ -36,4 +30,4 @@ returns-2 c =
 pub distance-in-bits-spec : {M : Type 1} → statement M
 distance-in-bits-spec =
     tie.close
-    (tie.spec returns address-in-bits-requires remainder-by-requires gap-to-requires returns-2)
+    (tie.spec returns (λ c κs. search needs) (λ c κs. search needs) gap-to-requires returns-2)

@@ -13,13 +13,10 @@ use Rattle.iter.proofs.alignment.is_tellable.Tie as tie
 returns : tie.Need-returns
 returns c = rw (eq-eqb _ _ (c .if1 .taken))
 
-magnitude-requires : tie.Need-magnitude-requires
-magnitude-requires c κs = search needs
-
 returns-2 : tie.Need-returns-2
 returns-2 c =
     let h : SFits w64 (c .before .before .before .before .args .def .start) = search needs in
     rw (ne-eqb _ _ (c .before .if1 .left), c .magnitude .ensures ∙ ap natAbs (toZ-ofZ h), size-natAbs (c .before .before .before .before .args .def .start))
 
 pub is-tellable-spec : {M : Type 1} → statement M
-is-tellable-spec = tie.close (tie.spec returns magnitude-requires returns-2)
+is-tellable-spec = tie.close (tie.spec returns (λ c κs. search needs) returns-2)

@@ -6,9 +6,6 @@ use Rattle.refusal.specs.Laws.Bools.{clash}
 use Rattle.iter.proofs.paces.adds_number.Statement.{statement}
 use Rattle.iter.proofs.paces.adds_number.Tie as tie
 
-is-bad-state-requires : tie.Need-is-bad-state-requires
-is-bad-state-requires c κs = search needs
-
 returns : tie.Need-returns
 returns c e = absurd (clash e refl)
 
@@ -24,4 +21,4 @@ returns-4 : tie.Need-returns-4
 returns-4 c e = absurd (clash e refl)
 
 pub adds-number-spec : {M : Type 1} → statement M
-adds-number-spec = tie.close (tie.spec is-bad-state-requires returns returns-2 returns-3 returns-4)
+adds-number-spec = tie.close (tie.spec (λ c κs. search needs) returns returns-2 returns-3 returns-4)

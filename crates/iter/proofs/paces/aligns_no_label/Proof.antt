@@ -5,12 +5,6 @@ use Rattle.refusal.specs.Laws.Bools.{clash}
 use Rattle.iter.proofs.paces.aligns_no_label.Statement.{statement}
 use Rattle.iter.proofs.paces.aligns_no_label.Tie as tie
 
-enum-told : tie.Need-enum-told
-enum-told c = search needs
-
-enum-told-2 : tie.Need-enum-told-2
-enum-told-2 c = search needs
-
 returns : tie.Need-returns
 returns c e = c .enum-told .given .1
 
@@ -18,4 +12,4 @@ returns-2 : tie.Need-returns-2
 returns-2 c e = absurd (clash e refl)
 
 pub aligns-no-label-spec : {M : Type 1} → statement M
-aligns-no-label-spec = tie.close (tie.spec enum-told enum-told-2 returns returns-2)
+aligns-no-label-spec = tie.close (tie.spec (λ c. search needs) (λ c. search needs) returns returns-2)

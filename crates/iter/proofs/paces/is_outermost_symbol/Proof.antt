@@ -4,9 +4,6 @@ use mathlib.Core.Path.{_∙_, sym}
 use Rattle.iter.proofs.paces.is_outermost_symbol.Statement.{statement}
 use Rattle.iter.proofs.paces.is_outermost_symbol.Tie as tie
 
-is-symbol-requires : tie.Need-is-symbol-requires
-is-symbol-requires c κs = search needs
-
 returns : tie.Need-returns
 returns c = rw (sym (c .before .before .is-symbol .ensures) ∙ c .before .if1 .taken)
 
@@ -14,4 +11,4 @@ returns-2 : tie.Need-returns-2
 returns-2 c = rw (sym (c .before .is-symbol .ensures) ∙ c .if1 .left, c .if1 .left)
 
 pub is-outermost-symbol-spec : {M : Type 1} → statement M
-is-outermost-symbol-spec = tie.close (tie.spec is-symbol-requires returns returns-2)
+is-outermost-symbol-spec = tie.close (tie.spec (λ c κs. search needs) returns returns-2)

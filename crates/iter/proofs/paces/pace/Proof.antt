@@ -8,32 +8,14 @@ use Rattle.iter.proofs.PaceLaws.{paces-item}
 use Rattle.iter.proofs.paces.pace.Statement.{statement}
 use Rattle.iter.proofs.paces.pace.Tie as tie
 
-stands-still-requires : tie.Need-stands-still-requires
-stands-still-requires c κs = search needs
-
-stood-requires : tie.Need-stood-requires
-stood-requires c κs = search needs
-
 returns : tie.Need-returns
 returns c = rw (c .stood .ensures) (c .before .before .stands-still .ensures (c .before .if1 .taken) _)
-
-adds-number-requires : tie.Need-adds-number-requires
-adds-number-requires c κs = search needs
-
-stays-known-requires : tie.Need-stays-known-requires
-stays-known-requires c κs = search needs
-
-added-requires : tie.Need-added-requires
-added-requires c κs = search needs
 
 returns-2 : tie.Need-returns-2
 returns-2 c =
     let k = c .before in
     let item = k .before .before .adds-number .ensures (k .before .if2 .taken) in
     paces-item _ _ _ (item .0) (item .1) (item .2) (rw (k .stays-known .ensures) at (c .added .ensures))
-
-pace-of-parts-requires : tie.Need-pace-of-parts-requires
-pace-of-parts-requires c κs = search needs
 
 returns-3 : tie.Need-returns-3
 returns-3 c =
@@ -45,12 +27,5 @@ pub pace-spec : {M : Type 1} → statement M
 pace-spec =
     tie.close
     (tie.spec
-    stands-still-requires
-    stood-requires
-    returns
-    adds-number-requires
-    stays-known-requires
-    added-requires
-    returns-2
-    pace-of-parts-requires
-    returns-3)
+    (λ c κs. search needs) (λ c κs. search needs) returns (λ c κs. search needs) (λ c κs. search needs) (λ c κs. search needs) returns-2
+    (λ c κs. search needs) returns-3)

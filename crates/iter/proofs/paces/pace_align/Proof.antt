@@ -12,12 +12,6 @@ use Rattle.iter.proofs.paces.pace_align.Tie as tie
 tells : (c : tie.Else1) → tellable (c .before .before .args .def) ≡ true
 tells c = sym (c .before .is-tellable .ensures) ∙ not-false _ (c .if1 .left)
 
-is-tellable-requires : tie.Need-is-tellable-requires
-is-tellable-requires c κs = search needs
-
-halted-requires : tie.Need-halted-requires
-halted-requires c κs = search needs
-
 returns : tie.Need-returns
 returns c =
     let t = c .before in
@@ -27,14 +21,8 @@ returns c =
 distance-in-bits-requires : tie.Need-distance-in-bits-requires
 distance-in-bits-requires c κs = tells c
 
-stays-known-requires : tie.Need-stays-known-requires
-stays-known-requires c κs = search needs
-
 in-units-requires : tie.Need-in-units-requires
 in-units-requires c κs = tells (c .before .before)
-
-added-requires : tie.Need-added-requires
-added-requires c κs = search needs
 
 returns-2 : tie.Need-returns-2
 returns-2 c =
@@ -50,11 +38,5 @@ pub pace-align-spec : {M : Type 1} → statement M
 pace-align-spec =
     tie.close
     (tie.spec
-    is-tellable-requires
-    halted-requires
-    returns
-    distance-in-bits-requires
-    stays-known-requires
-    in-units-requires
-    added-requires
+    (λ c κs. search needs) (λ c κs. search needs) returns distance-in-bits-requires (λ c κs. search needs) in-units-requires (λ c κs. search needs)
     returns-2)

@@ -16,41 +16,14 @@ past-ten k h not8 not9 not10 = omega (arith, not8, not9, not10)
 sound : (c : tie.Else1) → badState (c .before .before .args .node) ≡ false
 sound c = sym (c .before .is-bad-state .ensures) ∙ c .if1 .left
 
-is-bad-state-requires : tie.Need-is-bad-state-requires
-is-bad-state-requires c κs = search needs
-
-halted-requires : tie.Need-halted-requires
-halted-requires c κs = search needs
-
 returns : tie.Need-returns
 returns c = paces-bad _ _ _ (sym (c .before .before .is-bad-state .ensures) ∙ c .before .if1 .taken) (c .halted .ensures)
 
 pace-align-requires : tie.Need-pace-align-requires
 pace-align-requires c κs = (sound (c .before), c .match .keys1)
 
-made-requires : tie.Need-made-requires
-made-requires c κs = search needs
-
-stood-requires : tie.Need-stood-requires
-stood-requires c κs = search needs
-
-stood-requires-2 : tie.Need-stood-requires-2
-stood-requires-2 c κs = search needs
-
 pace-symbol-requires : tie.Need-pace-symbol-requires
 pace-symbol-requires c κs = (sound (c .before .before .before), omega (arith, c .if3 .taken))
-
-stays-known-requires : tie.Need-stays-known-requires
-stays-known-requires c κs = search needs
-
-added-requires : tie.Need-added-requires
-added-requires c κs = search needs
-
-halted-requires-2 : tie.Need-halted-requires-2
-halted-requires-2 c κs = search needs
-
-returns-2 : tie.Need-returns-2
-returns-2 c = search needs
 
 returns-3 : tie.Need-returns-3
 returns-3 c =
@@ -66,9 +39,6 @@ returns-5 c =
     let few : _ < 2 = t .if2 .taken in
     paces-plain _ _ _ (sound (t .before .before)) (early-plain (t .before .before .before .before .args .node) (t .if2 .taken)) (omega arith)
     (c .stood2 .ensures)
-
-returns-6 : tie.Need-returns-6
-returns-6 c = search needs
 
 returns-7 : tie.Need-returns-7
 returns-7 c =
@@ -87,21 +57,6 @@ pub pace-by-kind-spec : {M : Type 1} → statement M
 pace-by-kind-spec =
     tie.close
     (tie.spec
-    is-bad-state-requires
-    halted-requires
-    returns
-    pace-align-requires
-    made-requires
-    stood-requires
-    stood-requires-2
-    pace-symbol-requires
-    stays-known-requires
-    added-requires
-    halted-requires-2
-    returns-2
-    returns-3
-    returns-4
-    returns-5
-    returns-6
-    returns-7
-    returns-8)
+    (λ c κs. search needs) (λ c κs. search needs) returns pace-align-requires (λ c κs. search needs) (λ c κs. search needs) (λ c κs. search needs)
+    pace-symbol-requires (λ c κs. search needs) (λ c κs. search needs) (λ c κs. search needs) (λ c. search needs) returns-3 returns-4 returns-5
+    (λ c. search needs) returns-7 returns-8)

@@ -6,13 +6,10 @@ use mir.ValLaws.{toZ-ofZ}
 use Rattle.iter.proofs.paces.pace_of_parts.Statement.{statement}
 use Rattle.iter.proofs.paces.pace_of_parts.Tie as tie
 
-pace-by-kind-requires : tie.Need-pace-by-kind-requires
-pace-by-kind-requires c κs = search needs
-
 returns : tie.Need-returns
 returns c =
     let fits : SFits w64 (c .before .args .start) = search needs in
     rw (toZ-ofZ w64 _ fits) at (c .pace-by-kind .ensures)
 
 pub pace-of-parts-spec : {M : Type 1} → statement M
-pace-of-parts-spec = tie.close (tie.spec pace-by-kind-requires returns)
+pace-of-parts-spec = tie.close (tie.spec (λ c κs. search needs) returns)

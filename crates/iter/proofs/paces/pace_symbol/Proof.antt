@@ -21,32 +21,11 @@ symbol c = sym (c .before .is-outermost-symbol .ensures) ∙ not-false _ (c .if1
 tells : (c : tie.Else2) → tellable (c .before .before .before .before .before .before .before .args .def) ≡ true
 tells c = sym (c .before .is-tellable .ensures) ∙ not-false _ (c .if2 .left)
 
-is-outermost-symbol-requires : tie.Need-is-outermost-symbol-requires
-is-outermost-symbol-requires c κs = search needs
-
-stood-requires : tie.Need-stood-requires
-stood-requires c κs = search needs
-
 returns : tie.Need-returns
 returns c =
     let t = c .before in
     let s = t .before .before in
     paces-plain _ _ _ (s .pre .0) (sym (t .before .is-outermost-symbol .ensures) ∙ not-true _ (t .if1 .taken)) (few s) (c .stood .ensures)
-
-enum-told : tie.Need-enum-told
-enum-told c = search needs
-
-stood-requires-2 : tie.Need-stood-requires-2
-stood-requires-2 c κs = search needs
-
-enum-known-align : tie.Need-enum-known-align
-enum-known-align c = search needs
-
-is-tellable-requires : tie.Need-is-tellable-requires
-is-tellable-requires c κs = search needs
-
-halted-requires : tie.Need-halted-requires
-halted-requires c κs = search needs
 
 returns-2 : tie.Need-returns-2
 returns-2 c =
@@ -62,9 +41,6 @@ distance-in-bits-requires c κs = tells c
 
 in-units-requires : tie.Need-in-units-requires
 in-units-requires c κs = tells (c .before)
-
-aligned-first-requires : tie.Need-aligned-first-requires
-aligned-first-requires c κs = search needs
 
 returns-3 : tie.Need-returns-3
 returns-3 c =
@@ -87,17 +63,5 @@ pub pace-symbol-spec : {M : Type 1} → statement M
 pace-symbol-spec =
     tie.close
     (tie.spec
-    is-outermost-symbol-requires
-    stood-requires
-    returns
-    enum-told
-    stood-requires-2
-    enum-known-align
-    is-tellable-requires
-    halted-requires
-    returns-2
-    distance-in-bits-requires
-    in-units-requires
-    aligned-first-requires
-    returns-3
-    returns-4)
+    (λ c κs. search needs) (λ c κs. search needs) returns (λ c. search needs) (λ c κs. search needs) (λ c. search needs) (λ c κs. search needs)
+    (λ c κs. search needs) returns-2 distance-in-bits-requires in-units-requires (λ c κs. search needs) returns-3 returns-4)

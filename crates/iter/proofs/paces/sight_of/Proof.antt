@@ -4,9 +4,6 @@ use borrow.Author.Tests.{eq-eqb, ne-eqb}
 use Rattle.iter.proofs.paces.sight_of.Statement.{statement}
 use Rattle.iter.proofs.paces.sight_of.Tie as tie
 
-why-refused-requires : tie.Need-why-refused-requires
-why-refused-requires c κs = search needs
-
 returns : tie.Need-returns
 returns c = rw (eq-eqb _ _ (c .if1 .taken))
 
@@ -14,4 +11,4 @@ returns-2 : tie.Need-returns-2
 returns-2 c = rw (ne-eqb _ _ (c .before .if1 .left), c .why-refused .ensures)
 
 pub sight-of-spec : {M : Type 1} → statement M
-sight-of-spec = tie.close (tie.spec why-refused-requires returns returns-2)
+sight-of-spec = tie.close (tie.spec (λ c κs. search needs) returns returns-2)

@@ -14,17 +14,8 @@ use Rattle.iter.proofs.paces.stands_still.Tie as tie
 sound : (c : tie.Else1) → badState (c .before .before .args .node) ≡ false
 sound c = sym (c .before .is-bad-state .ensures) ∙ c .if1 .left
 
-is-bad-state-requires : tie.Need-is-bad-state-requires
-is-bad-state-requires c κs = search needs
-
 returns : tie.Need-returns
 returns c e = absurd (clash e refl)
-
-is-outermost-symbol-requires : tie.Need-is-outermost-symbol-requires
-is-outermost-symbol-requires c κs = search needs
-
-aligns-no-label-requires : tie.Need-aligns-no-label-requires
-aligns-no-label-requires c κs = search needs
 
 returns-2 : tie.Need-returns-2
 returns-2 c e at = paces-assert _ at _ (sound (c .before)) (c .match .keys1) refl
@@ -51,12 +42,4 @@ pub stands-still-spec : {M : Type 1} → statement M
 stands-still-spec =
     tie.close
     (tie.spec
-    is-bad-state-requires
-    returns
-    is-outermost-symbol-requires
-    aligns-no-label-requires
-    returns-2
-    returns-3
-    returns-4
-    returns-5
-    returns-6)
+    (λ c κs. search needs) returns (λ c κs. search needs) (λ c κs. search needs) returns-2 returns-3 returns-4 returns-5 returns-6)

@@ -40,12 +40,6 @@ fits c =
     let a = c .before .before .before .before .args in
     sum-fits (a .def .start) (a .position / a .def .unit) (start-within (a .def) (tells (c .before .before))) (few c)
 
-is-tellable-requires : tie.Need-is-tellable-requires
-is-tellable-requires c κs = search needs
-
-cast-units : tie.Need-cast-units
-cast-units c = search needs
-
 div-units : tie.Need-div-units
 div-units c = has-unit (c .before .before .before .before .args .def) (tells (c .before .before))
 
@@ -64,4 +58,4 @@ returns-2 c = address-answers _ _ _ (sym (address-four _ _ _ (sym (c .before .is
 pub get-address-spec : {M : Type 1} → statement M
 get-address-spec =
     tie.close
-    (tie.spec is-tellable-requires cast-units div-units cast-t9 add-t10 returns returns-2)
+    (tie.spec (λ c κs. search needs) (λ c. search needs) div-units cast-t9 add-t10 returns returns-2)

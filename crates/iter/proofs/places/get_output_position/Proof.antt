@@ -8,18 +8,6 @@ use Rattle.refusal.specs.declared.Offset.the-variants.{None, At}
 use Rattle.iter.proofs.places.get_output_position.Statement.{statement}
 use Rattle.iter.proofs.places.get_output_position.Tie as tie
 
-enum-known-offset : tie.Need-enum-known-offset
-enum-known-offset c = search needs
-
-cast-t6 : tie.Need-cast-t6
-cast-t6 c = search needs
-
-add-t8 : tie.Need-add-t8
-add-t8 c = search needs
-
-enum-told : tie.Need-enum-told
-enum-told c = search needs
-
 -- offset plus position
 sum : tie.After-known-told → ℕ
 sum c = c .before .offset .given .0 .0 + c .before .before .before .args .position
@@ -40,4 +28,4 @@ returns-2 c = (rw (c .enum-told .given .1), λ o e. absurd (none-is e))
 
 pub get-output-position-spec : {M : Type 1} → statement M
 get-output-position-spec =
-    tie.close (tie.spec enum-known-offset cast-t6 add-t8 enum-told returns returns-2)
+    tie.close (tie.spec (λ c. search needs) (λ c. search needs) (λ c. search needs) (λ c. search needs) returns returns-2)

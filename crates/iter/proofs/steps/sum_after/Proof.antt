@@ -6,12 +6,6 @@ use Rattle.iter.proofs.Sums.{sum-within, sum-stops}
 use Rattle.iter.proofs.steps.sum_after.Statement.{statement}
 use Rattle.iter.proofs.steps.sum_after.Tie as tie
 
-sub-if1 : tie.Need-sub-if1
-sub-if1 c = search needs
-
-add-result : tie.Need-add-result
-add-result c = search needs
-
 returns : tie.Need-returns
 returns c =
     let few : c .before .args .by < 2 ^ 32 = search needs in
@@ -23,4 +17,4 @@ returns-2 c =
     sum-stops (c .before .args .sum) (c .before .args .by) (omega arith) (c .if1 .left)
 
 pub sum-after-spec : {M : Type 1} → statement M
-sum-after-spec = tie.close (tie.spec sub-if1 add-result returns returns-2)
+sum-after-spec = tie.close (tie.spec (λ c. search needs) (λ c. search needs) returns returns-2)

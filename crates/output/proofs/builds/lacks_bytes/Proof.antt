@@ -6,11 +6,8 @@ use Rattle.output.proofs.builds.lacks_bytes.Tie as tie
 use Rattle.output.proofs.builds.lacks_bytes.Reads as reads
 use Rattle.output.proofs.builds.lacks_bytes.Lts as lts
 
-add-result : tie.Need-add-result
-add-result c = search needs
-
 returns : tie.Need-returns
 returns c = bytes-short (c .args .bytes) (c .args .bits)
 
 pub lacks-bytes-spec : {M : Type 1} → statement M
-lacks-bytes-spec = tie.close (tie.spec add-result returns)
+lacks-bytes-spec = tie.close (tie.spec (λ c. search needs) returns)

@@ -6,9 +6,6 @@ use borrow.Author.Needs.{needs}
 use Rattle.output.proofs.builds.room_for.Statement.{statement}
 use Rattle.output.proofs.builds.room_for.Tie as tie
 
-lacks-bytes-requires : tie.Need-lacks-bytes-requires
-lacks-bytes-requires c κs = search needs
-
 returns : tie.Need-returns
 returns c = rw (sym (c .before .lacks-bytes .ensures) ∙ c .if1 .taken)
 
@@ -23,4 +20,4 @@ returns-3 c =
     rw (sym (c .before .before .lacks-bytes .ensures) ∙ c .before .if1 .left, le-ltb (a .places) (a .spans) (omega (arith, c .if2 .left)))
 
 pub room-for-spec : {M : Type 1} → statement M
-room-for-spec = tie.close (tie.spec lacks-bytes-requires returns returns-2 returns-3)
+room-for-spec = tie.close (tie.spec (λ c κs. search needs) returns returns-2 returns-3)

@@ -11,18 +11,12 @@ use Rattle.output.proofs.builds.row_start.Reads as reads
 use Rattle.output.proofs.builds.row_start.Lts as lts
 use Rattle.refusal.proofs.lesser.Reads as lesser-reads
 
-lesser-requires : tie.Need-lesser-requires
-lesser-requires c κs = search needs
-
 returns : tie.Need-returns
 returns c =
     let a = c .before .before .args in
     let none : min (a .passes) (a .rows) - 1 ≡ 0 = omega (arith, c .before .lesser .ensures) in
     let whole = mul-le-mul-right (a .n) (c .before .before .pre .0) in
     (rw (none, zero-mul (a .n)), omega (arith, whole, one-mul (a .n)))
-
-sub-result : tie.Need-sub-result
-sub-result c = search needs
 
 mul-result : tie.Need-mul-result
 mul-result c =
@@ -39,4 +33,4 @@ returns-2 c =
     )
 
 pub row-start-spec : {M : Type 1} → statement M
-row-start-spec = tie.close (tie.spec lesser-requires returns sub-result mul-result returns-2)
+row-start-spec = tie.close (tie.spec (λ c κs. search needs) returns (λ c. search needs) mul-result returns-2)

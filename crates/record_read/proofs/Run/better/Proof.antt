@@ -5,9 +5,6 @@ use borrow.Author.Needs.{needs}
 use Rattle.record_read.proofs.Run.better.Statement.{statement}
 use Rattle.record_read.proofs.Run.better.Tie as tie
 
-greater-requires : tie.Need-greater-requires
-greater-requires c κs = search needs
-
 returns : tie.Need-returns
 returns c =
     let l = c .before in
@@ -55,4 +52,4 @@ returns-6 c =
     better-kept (a .from) (a .self) (a .next) (l .greater .result) (l .greater .ensures) (i .if1 .left) (j .if2 .left) (k .if4 .left)
 
 pub better-spec : {M : Type 1} → statement M
-better-spec = tie.close (tie.spec greater-requires returns returns-2 returns-3 returns-4 returns-5 returns-6)
+better-spec = tie.close (tie.spec (λ c κs. search needs) returns returns-2 returns-3 returns-4 returns-5 returns-6)

@@ -16,15 +16,6 @@ returns-2 c =
     let a = i .before .before .before .before .args in
     close-none (a .self) (a .next) (closed-touching (a .self) (a .next) (i .if1 .left) (sym (c .if2 .taken)) .0) (a .count) (a .offsets .now) (a .sizes .now)
 
-push-requires : tie.Need-push-requires
-push-requires c κs = search needs
-
-same-length : tie.Need-same-length
-same-length c = search needs
-
-same-length-2 : tie.Need-same-length-2
-same-length-2 c = search needs
-
 returns-3 : tie.Need-returns-3
 returns-3 c =
     let p = c .before .before .before .before in
@@ -34,4 +25,4 @@ returns-3 c =
     close-kept (a .self) (a .next) (closed-apart (a .self) (a .next) (i .if1 .left) (λ e. j .if2 .left (sym e)) .0) (p .push .ensures)
 
 pub close-spec : {M : Type 1} → statement M
-close-spec = tie.close (tie.spec returns returns-2 push-requires same-length same-length-2 returns-3)
+close-spec = tie.close (tie.spec returns returns-2 (λ c κs. search needs) (λ c. search needs) (λ c. search needs) returns-3)

@@ -43,10 +43,4 @@ pub is-digit-spec : {M : Type 1} → statement M
 is-digit-spec =
     tie.close
     (tie.spec
-    returns
-    returns-2
-    returns-3
-    returns-4
-    returns-5
-    returns-6
-    returns-7)
+    returns returns-2 returns-3 returns-4 returns-5 returns-6 returns-7)

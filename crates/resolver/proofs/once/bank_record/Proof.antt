@@ -7,26 +7,14 @@ use Rattle.resolver.specs.Theorems.Listed.{listed-bank, unlisted-bank, p
 use Rattle.resolver.proofs.once.bank_record.Statement.{statement}
 use Rattle.resolver.proofs.once.bank_record.Tie as tie
 
-no-record-requires : tie.Need-no-record-requires
-no-record-requires c κs = search needs
-
 returns : tie.Need-returns
 returns c = c .no-record .ensures ∙ sym (unlisted-bank _ _ (c .before .if1 .taken))
-
-no-record-requires-2 : tie.Need-no-record-requires-2
-no-record-requires-2 c κs = search needs
 
 returns-2 : tie.Need-returns-2
 returns-2 c =
     let a = c .before .before .before .args in
     let e : length (a .t1 .defs) ≡ 16 = simp length-map at (c .before .before .before .good .0 .1 .1 .0 .1 .0 .1) in
     c .no-record2 .ensures ∙ sym (past-records (a .t1) (a .bank) (omega arith))
-
-mul-result : tie.Need-mul-result
-mul-result c = search needs
-
-element-copy-out-result : tie.Need-element-copy-out-result
-element-copy-out-result c = search needs
 
 returns-3 : tie.Need-returns-3
 returns-3 c = let a = c .before .before .before .args in rw (listed-bank (a .t1) (a .bank) (c .before .before .if1 .left)) (search needs)
@@ -35,10 +23,4 @@ pub bank-record-spec : {M : Type 1} → statement M
 bank-record-spec =
     tie.close
     (tie.spec
-    no-record-requires
-    returns
-    no-record-requires-2
-    returns-2
-    mul-result
-    element-copy-out-result
-    returns-3)
+    (λ c κs. search needs) returns (λ c κs. search needs) returns-2 (λ c. search needs) (λ c. search needs) returns-3)

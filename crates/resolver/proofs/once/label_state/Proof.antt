@@ -17,9 +17,6 @@ still-open c =
     let a = c .before .args in
     ⊎-elim (λ w. unsettled (a .def) (a .now) (w .1 .ensures) (w .2 .left)) (λ w. unknown (a .def) (a .now) (w .left)) (c .if1 .came)
 
-on-boundary-requires : tie.Need-on-boundary-requires
-on-boundary-requires c κs = search needs
-
 returns : tie.Need-returns
 returns c =
     let a = c .before .before .before .args in
@@ -33,12 +30,6 @@ returns-3 c =
     let a = c .before .before .before .before .args in
     label-stopped (a .def) (a .now) (still-open (c .before .before .before)) (c .before .before .if3 .left) (pick-false _ _ (ne-eqb (a .before .fault) 0
     (c .if4 .taken)))
-
-whole-units-requires : tie.Need-whole-units-requires
-whole-units-requires c κs = search needs
-
-whole-units-requires-2 : tie.Need-whole-units-requires-2
-whole-units-requires-2 c κs = search needs
 
 returns-4 : tie.Need-returns-4
 returns-4 c =
@@ -60,11 +51,4 @@ pub label-state-spec : {M : Type 1} → statement M
 label-state-spec =
     tie.close
     (tie.spec
-    on-boundary-requires
-    returns
-    returns-2
-    returns-3
-    whole-units-requires
-    whole-units-requires-2
-    returns-4
-    returns-5)
+    (λ c κs. search needs) returns returns-2 returns-3 (λ c κs. search needs) (λ c κs. search needs) returns-4 returns-5)

@@ -6,9 +6,6 @@ use borrow.Author.Needs.{needs}
 use Rattle.resolver.proofs.once.node_state.Statement.{statement}
 use Rattle.resolver.proofs.once.node_state.Tie as tie
 
-label-state-requires : tie.Need-label-state-requires
-label-state-requires c κs = search needs
-
 returns : tie.Need-returns
 returns c = let a = c .before .before .args in
     label-node (a .node) (labelState (a .def) (a .now) (seenBy (a .before) 0) (a .is-first)) (c .before .match .keys1) (c .label-state .ensures)
@@ -21,4 +18,4 @@ returns-3 c = let a = c .before .before .args in
     stated-node (a .node) (labelState (a .def) (a .now) (seenBy (a .before) 0) (a .is-first)) (c .before .match .rest .1) (c .if1 .left)
 
 pub node-state-spec : {M : Type 1} → statement M
-node-state-spec = tie.close (tie.spec label-state-requires returns returns-2 returns-3)
+node-state-spec = tie.close (tie.spec (λ c κs. search needs) returns returns-2 returns-3)

@@ -3,14 +3,8 @@ use borrow.Author.Needs.{needs}
 use Rattle.resolver.proofs.passes.last_pass.Statement.{statement}
 use Rattle.resolver.proofs.passes.last_pass.Tie as tie
 
-pass-at-requires : tie.Need-pass-at-requires
-pass-at-requires c κs = search needs
-
-settle-requires : tie.Need-settle-requires
-settle-requires c κs = search needs
-
 returns : tie.Need-returns
 returns c = rw (← (c .before .pass-at .ensures)) (c .settle .ensures)
 
 pub last-pass-spec : {M : Type 1} → statement M
-last-pass-spec = tie.close (tie.spec pass-at-requires settle-requires returns)
+last-pass-spec = tie.close (tie.spec (λ c κs. search needs) (λ c κs. search needs) returns)

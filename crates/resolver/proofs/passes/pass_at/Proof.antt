@@ -61,12 +61,5 @@ pub pass-at-spec : {M : Type 1} → statement M
 pass-at-spec =
     tie.close
     (tie.spec
-    row-of-pass-requires
-    (λ c. search needs)
-    row-of-pass-requires-2
-    resolve-once-requires
-    returns
-    (λ c κs. search needs)
-    returns-2
-    resolve-once-requires-2
-    returns-3)
+    row-of-pass-requires (λ c. search needs) row-of-pass-requires-2 resolve-once-requires returns (λ c κs. search needs) returns-2
+    resolve-once-requires-2 returns-3)

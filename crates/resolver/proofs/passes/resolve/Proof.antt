@@ -11,30 +11,6 @@ use Rattle.resolver.proofs.passes.resolve.Tie as tie
 abbrev given : tie.Start → Lists
 given s = lists (s .args .kinds .now) (s .args .operands .now) (s .args .numbers .now) (s .args .states .now) (s .args .rows) (s .args .values .now)
 
-check-requires : tie.Need-check-requires
-check-requires c κs = search needs
-
-enum-known-why : tie.Need-enum-known-why
-enum-known-why c = search needs
-
-turned-away-requires : tie.Need-turned-away-requires
-turned-away-requires c κs = search needs
-
-enum-told : tie.Need-enum-told
-enum-told c = search needs
-
-check-lists-requires : tie.Need-check-lists-requires
-check-lists-requires c κs = search needs
-
-enum-known-why-2 : tie.Need-enum-known-why-2
-enum-known-why-2 c = search needs
-
-turned-away-requires-2 : tie.Need-turned-away-requires-2
-turned-away-requires-2 c κs = search needs
-
-enum-told-2 : tie.Need-enum-told-2
-enum-told-2 c = search needs
-
 resolve-iteratively-requires : tie.Need-resolve-iteratively-requires
 resolve-iteratively-requires c κs =
     let s = c .before .before .before .before .before .before .before .before .before .before .before in
@@ -70,15 +46,5 @@ pub resolve-spec : {M : Type 1} → statement M
 resolve-spec =
     tie.close
     (tie.spec
-    check-requires
-    enum-known-why
-    turned-away-requires
-    enum-told
-    check-lists-requires
-    enum-known-why-2
-    turned-away-requires-2
-    enum-told-2
-    resolve-iteratively-requires
-    returns
-    returns-2
-    returns-3)
+    (λ c κs. search needs) (λ c. search needs) (λ c κs. search needs) (λ c. search needs) (λ c κs. search needs) (λ c. search needs)
+    (λ c κs. search needs) (λ c. search needs) resolve-iteratively-requires returns returns-2 returns-3)

@@ -55,18 +55,12 @@ returns-2 c =
 pass-at-requires : tie.Need-pass-at-requires Inv-loop μ-loop
 pass-at-requires c κs = (c .before .before .before .before .before .before .before .before .pre, c .before .before .loop .inv .0)
 
-enum-known-why : tie.Need-enum-known-why Inv-loop μ-loop
-enum-known-why c = search needs
-
 returns-3 : tie.Need-returns-3 Inv-loop μ-loop
 returns-3 c =
     let s = c .before .before .before .before .before .before .before .before .before .before .before .before in
     let l = c .before .before .before .before .before .before .loop in
     refused-pass (passes s) (s .args .limit) (l .n) (l .inv .0) (c .before .before .before .before .before .loop-test .taken) (l .inv .3)
     (c .before .before .before .pass-at .ensures) (c .before .why .given .1)
-
-enum-known-state : tie.Need-enum-known-state Inv-loop μ-loop
-enum-known-state c = search needs
 
 pass-after-requires : tie.Need-pass-after-requires Inv-loop μ-loop
 pass-after-requires c κs =
@@ -122,22 +116,5 @@ pub resolve-iteratively-spec : {M : Type 1} → statement M
 resolve-iteratively-spec =
     tie.close
     (tie.spec
-    Inv-loop
-    μ-loop
-    last-pass-requires
-    returns
-    add-enough
-    loop-holds
-    last-pass-requires-2
-    returns-2
-    pass-at-requires
-    enum-known-why
-    returns-3
-    enum-known-state
-    pass-after-requires
-    returns-4
-    add-n
-    loop-less
-    loop-again
-    last-pass-requires-3
-    returns-5)
+    Inv-loop μ-loop last-pass-requires returns add-enough loop-holds last-pass-requires-2 returns-2 pass-at-requires (λ c. search needs) returns-3
+    (λ c. search needs) pass-after-requires returns-4 add-n loop-less loop-again last-pass-requires-3 returns-5)

@@ -4,12 +4,6 @@ use borrow.Author.Needs.{needs}
 use Rattle.resolver.proofs.passes.settle.Statement.{statement}
 use Rattle.resolver.proofs.passes.settle.Tie as tie
 
-enum-known-last : tie.Need-enum-known-last
-enum-known-last c = search needs
-
-enum-known-last-2 : tie.Need-enum-known-last-2
-enum-known-last-2 c = search needs
-
 returns : tie.Need-returns
 returns c = rw (c .before .last .given .1)
 
@@ -20,4 +14,4 @@ returns-3 : tie.Need-returns-3
 returns-3 c = rw (c .before .before .last2 .given .1, ne-eqb _ 2 (c .if1 .left))
 
 pub settle-spec : {M : Type 1} → statement M
-settle-spec = tie.close (tie.spec enum-known-last enum-known-last-2 returns returns-2 returns-3)
+settle-spec = tie.close (tie.spec (λ c. search needs) (λ c. search needs) returns returns-2 returns-3)
