@@ -304,12 +304,15 @@ pub fn part_verdict(image: &[u8], offset: u64, size: u64) -> Verdict
     }
 }
 
+// What is added to a digit above 9, for its letter.
+const LETTERS: u8 = b'a' - 10;
+
 // The hex digit of a number below 16.
 fn digit(n: u8) -> u8
     requires { ⌜ n < 16 ⌝ }
     ensures { λ r. ⌜ r ≡ digitOf n ⌝ }
 {
-    if n < 10 { b'0' + n } else { 87 + n }
+    if n < 10 { b'0' + n } else { LETTERS + n }
 }
 
 // The digits of the whole bytes, two for each.

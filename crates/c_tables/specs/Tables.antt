@@ -7,9 +7,10 @@ use lib.IntN.{ℤ, pos}
 use lib.ListN.{length, getD, replicate}
 use Rattle.refusal.specs.Limits.{maxBanks}
 use Rattle.refusal.specs.Pick.{pick}
+use Rattle.bankdef.specs.Check.{noBank}
 use Rattle.bankdef.specs.declared.Bankdef.{Bankdef}
 use Rattle.bankdef.specs.declared.Bankdefs.{Bankdefs}
-use Rattle.form_fields.specs.Banks.{bankSaid, noBank}
+use Rattle.form_fields.specs.Banks.{bankSaid}
 use Rattle.form_fields.specs.Columns.{column}
 use Rattle.resolver.specs.declared.Choices.{Choices}
 

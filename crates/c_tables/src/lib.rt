@@ -9,7 +9,7 @@ ghost use mathlib.Core.Path.{_≡_};
 ghost use mathlib.Core.List.{_++_};
 ghost use Prim.Native.Nat.{_-_, _≤_, min};
 ghost use lib.ListN.{length, replicate};
-ghost use Rattle.form_fields.specs.Banks.{noBank};
+ghost use Rattle.bankdef.specs.Check.{noBank};
 ghost use Rattle.c_tables.specs.Tables.{unitOf, bankOf, given, banksIn, agree, tableOf, choicesBy};
 
 // A bank with flags that mean nothing has no unit either, so that it is refused like any other whose numbers are beyond their limits.

@@ -1,11 +1,11 @@
 -- The banks of a file. Document 01: "1 bank (unit 2 bytes, signed start 8, size 4, offset 4, label alignment 4, flags 1: size 1, offset
 -- 2, label alignment 4, fill 8)". "A number whose flag is clear is not read." Document 02: "a payload one byte longer (fill bit, 0 or 1)".
-use mathlib.Core.Bool.{Bool, false}
+use mathlib.Core.Bool.{Bool}
 use mathlib.Core.List.{List, _++_}
 use mathlib.Core.Path.{_≡_}
 use Prim.Native.Nat.{ℕ, _+_, _*_, _-_, _/_, _%_, min}
 use lib.Dec.{ltb, eqb}
-use lib.IntN.{ℤ, pos}
+use lib.IntN.{ℤ}
 use lib.ListN.{replicate}
 use mir.Syntax.{w64}
 use mir.Val.{toZ}
@@ -13,6 +13,7 @@ use Rattle.refusal.specs.Limits.{maxBanks}
 use Rattle.refusal.specs.Pick.{pick}
 use Rattle.refusal.specs.declared.Opt.{Opt}
 use Rattle.refusal.specs.declared.Opt.the-variants.{None, Some}
+use Rattle.bankdef.specs.Check.{noBank}
 use Rattle.bankdef.specs.declared.Bankdef.{Bankdef}
 use Rattle.bankdef.specs.declared.Bankdefs.{Bankdefs}
 use Rattle.form_fields.specs.Words.{byte, word16, word32, word64}
@@ -66,10 +67,6 @@ bankOf k payload = bankFrom k payload 0 0
 -- The first `n` banks of a file, behind the head.
 abbrev pub banksIn : Kind → List ℕ → ℕ → List Bankdef
 banksIn k file n = column (bankAt k file) (3 + k .bank) (k .heads * 4) n
-
--- What stands in a table behind its banks.
-abbrev pub noBank : Bankdef
-noBank = record { unit = 0; start = pos 0; size = None; offset = None; align = None; fill = false; «fill_bit» = 0 }
 
 -- The table of a file: its first 16 banks, and how many it has.
 abbrev pub tableOf : List ℕ → Bankdefs

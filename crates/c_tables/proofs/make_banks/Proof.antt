@@ -4,7 +4,7 @@ use mathlib.Core.Path.{_≡_, ap, _∙_}
 use mathlib.Core.List.{_++_}
 use native.Mathlib.Omega.{arith}
 use lib.ListN.{length, replicate}
-use Rattle.form_fields.specs.Banks.{noBank}
+use Rattle.bankdef.specs.Check.{noBank}
 use Rattle.c_tables.specs.Tables.{Given, given, agree, countOf, banksIn}
 use Rattle.c_tables.proofs.Counts.{few}
 use borrow.Author.Needs.{needs}

@@ -8,8 +8,8 @@ use mir.Syntax.{w64}
 use mir.Val.{toZ, ofZ}
 use lib.IntN.{ℤ, pos}
 use lib.ListN.{set, getD, replicate}
+use Rattle.bankdef.specs.Check.{noBank}
 use Rattle.bankdef.specs.declared.Bankdef.{Bankdef}
-use Rattle.form_fields.specs.Banks.{noBank}
 use Rattle.form_fields.specs.Columns.{column}
 use Rattle.form_fields.specs.Laws.Columns.{column-set}
 use Rattle.c_tables.specs.Tables.{Given, given, bankOf, bankIn, banksIn}

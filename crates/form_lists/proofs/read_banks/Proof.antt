@@ -8,7 +8,8 @@ use native.Mathlib.Nat.{mul-le-mul-right}
 use native.Mathlib.Omega.{arith}
 use lib.ListN.{length, replicate}
 use Rattle.form_fields.specs.declared.Kind.{Kind}
-use Rattle.form_fields.specs.Banks.{banksIn, noBank}
+use Rattle.bankdef.specs.Check.{noBank}
+use Rattle.form_fields.specs.Banks.{banksIn}
 use Rattle.form_fields.specs.Kind.{Known, kindOf}
 use Rattle.form_fields.specs.Theorems.Kind.{kind-known, kind-headed}
 use Rattle.form_fields.specs.Laws.Kind.{known-heads}

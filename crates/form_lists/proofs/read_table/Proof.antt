@@ -6,7 +6,8 @@ use native.Mathlib.Nat.{mul-le-mul-right}
 use native.Mathlib.Omega.{arith}
 use lib.ListN.{set, replicate}
 use Rattle.form_fields.specs.declared.Kind.{Kind}
-use Rattle.form_fields.specs.Banks.{bankAt, banksIn, noBank}
+use Rattle.bankdef.specs.Check.{noBank}
+use Rattle.form_fields.specs.Banks.{bankAt, banksIn}
 use Rattle.form_fields.specs.Columns.{column}
 use Rattle.form_fields.specs.Laws.Columns.{column-set}
 use Rattle.form_fields.specs.Laws.Kind.{known-heads, known-bank}

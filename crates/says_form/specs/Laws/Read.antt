@@ -14,13 +14,14 @@ use mir.Val.{toZ}
 use borrow.Author.Tests.{eq-eqb, le-leb}
 use Rattle.refusal.specs.Limits.{maxBanks}
 use Rattle.refusal.specs.Pick.{pick}
+use Rattle.bankdef.specs.Check.{noBank}
 use Rattle.bankdef.specs.declared.Bankdef.{Bankdef}
 use Rattle.bankdef.specs.declared.Bankdefs.{Bankdefs}
 use Rattle.form_fields.specs.declared.Form.the-variants.{Sound as SoundForm}
 use Rattle.form_fields.specs.declared.Kind.{Kind}
 use Rattle.form_fields.specs.declared.Shape.{Shape}
 use Rattle.form_fields.specs.Banks as file-banks
-use Rattle.form_fields.specs.Banks.{optOf, isSet, bankAt, fillBitAt, noBank}
+use Rattle.form_fields.specs.Banks.{optOf, isSet, bankAt, fillBitAt}
 use Rattle.form_fields.specs.Columns.{column}
 use Rattle.form_fields.specs.Laws.Columns.{column-length}
 use Rattle.form_fields.specs.Laws.Cells.{cells-length}
