@@ -249,9 +249,38 @@ differs() {
 }
 # two layouts, node by node: without names, and by them with two tables in the other order
 compared() {
-    tools/form examples/banks.form >"$room/words" || wrong=1
-    sed 's/^reserve: 16$/reserve: 24/;s/^data 40: 48$/data 40: 32/;s/^values 0e/values 0f/;/^instruction 24/d' "$room/words" |
-        tools/form --make - >"$room/new.form" || wrong=1
+    # banks.form with another first value, without its second instruction, with a longer reserve and less data
+    tools/form --make - >"$room/new.form" <<'WORDS' || wrong=1
+bank unit 8
+bank unit 8 start 256 size 256 offset 0 fill
+bank unit 16 start 16384 size 128 offset 256 align 32 fill
+bank unit 8 start 32 size 64
+bank unit 8 start -8 size 64
+rows 1
+switch 1
+label
+instruction at 0: 24
+constant
+switch 3
+label
+reserve: 24
+label
+reserve: 8
+switch 2
+label
+data at 40: 32
+label
+open at 88: 16
+switch 4
+label
+reserve: 64
+switch 1
+align: 64
+label
+instruction at 104: 24
+values 0f004012340010004600b40168aaaa7f0001
+limit 10
+WORDS
     is 0 tools/compare examples/banks.form examples/banks.form
     has "$room/out" 'banks, blocks and image are the same' 'tools/compare of a layout with itself'
     is 0 tools/compare --svg --fill full examples/sequencer.form examples/sequencer.form
@@ -265,9 +294,9 @@ compared() {
     has "$room/out" 'bank 2: padding 16 -> 0, padding in units 1 -> 0, used 64 -> 48' tools/compare
     has "$room/out" '  new  bits 0..23' tools/compare
     has "$room/out" '  .* bytes differ: 0, 3..4, .*' tools/compare
-    printf 'form 2\nbank unit 8\nbank unit 8 size 64 offset 0\nswitch 1\nlabel\ndata: 8\nlabel\ndata 8: 16\nvalues 112233\nlimit 1\n' |
+    printf 'form 2\nbank unit 8\nbank unit 8 size 64 offset 0\nswitch 1\nlabel\ndata at 0: 8\nlabel\ndata at 8: 16\nvalues 112233\nlimit 1\n' |
         tools/form --make - >"$room/a.form" || wrong=1
-    printf 'form 2\nbank unit 8\nbank unit 8 size 64 offset 0\nswitch 1\nlabel\ndata 8: 16\nlabel\ndata: 8\nvalues 112233\nlimit 1\n' |
+    printf 'form 2\nbank unit 8\nbank unit 8 size 64 offset 0\nswitch 1\nlabel\ndata at 8: 16\nlabel\ndata at 0: 8\nvalues 112233\nlimit 1\n' |
         tools/form --make - >"$room/b.form" || wrong=1
     printf '1\tone\ta.asm:1\n3\ttwo\ta.asm:2\n' >"$room/a.names"
     printf '1\ttwo\ta.asm:1\n3\tone\ta.asm:2\n' >"$room/b.names"
@@ -339,25 +368,28 @@ wrong_words() {
     }
 }
 words_of_form() {
-    wrong_words 'line 1: limit wants one number, and here are 2: 1 2' 'limit 1 2\n'
-    wrong_words 'line 1: form 3: there are form 1 and form 2' 'form 3\n'
-    wrong_words 'line 2: form was said in line 1' 'form 2\nform 2\n'
-    wrong_words 'line 2: form stands ahead' 'bank unit 8\nform 2\n'
-    wrong_words 'line 1: the bracket before size is not closed' 'bank unit 8 (size 40\n'
-    wrong_words 'line 1: 40): no bracket was opened' 'bank unit 8 size 40)\n'
-    wrong_words 'line 2: limit was said in line 1' 'limit 1\nlimit 1\n'
-    wrong_words 'line 2: rows was said in line 1' 'rows 1\nrows 1\n'
-    wrong_words "line 1: the bank's unit is said twice" 'bank unit 8 unit 8\n'
-    wrong_words "line 1: the bank's size is said twice" 'bank unit 8 size 8 (size 8)\n'
-    wrong_words "line 1: the bank's fill is said twice" 'bank unit 8 fill fill\n'
-    wrong_words 'line 1: the bank has no unit' 'bank size 8\n'
-    wrong_words 'line 1: ones is of form 2' 'bank unit 8 fill ones\n'
-    wrong_words 'line 1: it begins with a byte order mark' '\357\273\277form 2\n'
-    wrong_words "line 2: no line begins with 'lable' (is it label?)" '# a remark\nlable\n'
-    wrong_words 'line 1: there is no number behind the colon' 'data 0:\n'
-    wrong_words "line 1: '1~' is no number" 'data 0: 1~?\n'
-    wrong_words 'line 1: the values have 3 hex digits' 'values abc\n'
-    wrong_words "line 1: 'xy' is not hex digits" 'values xy\n'
+    for words in 'limit 1 2\n' 'form 3\n' 'bank unit 8 (size 40\n' 'bank unit 8 size 40)\n' 'bank unit 8 unit 8\n' 'bank unit 8 size 8 (size 8)\n' \
+        'bank unit 8 fill fill\n' 'bank size 8\n' 'bank unit 8 fill ones\n' '\357\273\277form 2\n' 'data at 0:\n' 'data at 0: 1~?\n' 'values abc\n' \
+        'values xy\n'; do
+        wrong_words 'line 1[:,]' "$words"
+    done
+    for words in 'form 2\nform 2\n' 'bank unit 8\nform 2\n' 'limit 1\nlimit 1\n' 'rows 1\nrows 1\n'; do
+        wrong_words 'line 2[:,]' "$words"
+    done
+    wrong_words 'line 2[:,].*label' '# a remark\nlable\n'
+    # a number without its colon, a colon where none belongs, and a number that is missing never stand for 0
+    for node in 'reserve 32' 'reserve' 'align 16' 'addr 16' 'data 8' 'data' 'data at 8' 'instruction 16' 'open 8' 'switch: 1' 'switch' 'label: 1' 'nothing: 1' \
+        'nothing 1' 'assert 1' 'constant: 5' 'mark: 8' 'mark 8' 'kind 7' 'kind 7: 8' 'kind 7 32'; do
+        wrong_words 'line 4[:,]' "bank unit 8\nbank unit 8 size 64 offset 0\nrows 1\n$node\nlimit 1\n"
+    done
+    # nothing but a line feed ends a line: not a form feed, not U+0085, U+2028 or another character that some editor shows so
+    for end in '\014' '\013' '\034' '\302\205' '\342\200\250' '\342\200\251' '\r'; do
+        wrong_words 'line 3[:,]' "bank unit 8\nrows 1\nlabel # a remark${end}switch 0\nlimit 1\n"
+    done
+    printf 'bank unit 8\nrows 1\nmark\nreserve: 0\nkind 7 32: 0\nkind 1 1: 5\nswitch 1\nlimit 1\n' >"$room/words"
+    tools/form --make "$room/words" >"$room/back.form" && tools/form "$room/back.form" >"$room/words2" || wrong=1
+    sed 's/^reserve: 0$/mark/' "$room/words" >"$room/words1"
+    same "$room/words1" "$room/words2" "marks and nodes by their numbers come back changed"
     for form in examples/*.form; do
         tools/form "$form" >"$room/words" && tools/form --make "$room/words" >"$room/back.form" || wrong=1
         same "$form" "$room/back.form" "$form comes back changed from its words"
@@ -368,7 +400,7 @@ words_of_form() {
     # what a node is called is a remark, and says nothing of the file
     printf '2\tclamp_force\ttables.asm:12\n' >"$room/clamp.names"
     is 0 tools/form "$room/clamp.form"
-    has "$room/out" 'data: 128  # clamp_force, tables.asm:12' 'tools/form with names'
+    has "$room/out" 'data .*  # clamp_force, tables.asm:12' 'tools/form with names'
     tools/form --make "$room/out" >"$room/back.form" || wrong=1
     same "$room/clamp.form" "$room/back.form" "a file comes back changed from its words with names"
     is 2 tools/form --names "$room/clamp.form" "$room/clamp.form"
@@ -455,6 +487,42 @@ same "$room/words" "$room/err" "tools/map - has other words than for the file"
 cat examples/clamp-mark-after.form | tools/map /dev/stdin 2>"$room/err" | tail -n +2 >"$room/out"
 same "$room/drawn" "$room/out" "tools/map prints another map for a pipe than for the file"
 same "$room/words" "$room/err" "tools/map has other words for a pipe than for the file"
+# a disk that is full after 8 KiB, as a limit on the length of files whose signal is ignored: what was cut there is not an answer, and no file is made of it
+# shellcheck disable=SC2317
+full_after() ( # BLOCKS COMMAND ..
+    trap '' XFSZ
+    ulimit -f "$1"
+    shift
+    "$@"
+)
+whole_room=$room/whole.hex
+for call in "layout examples/sequencer.form" "layout examples/sequencer.form -o $room/cut" "map examples/sequencer.form" "map --svg examples/sequencer.form" \
+    "ihex --whole examples/sequencer.form" "srec --whole examples/sequencer.form -o $room/cut" "convert examples/sequencer.form --to 2" \
+    "convert examples/sequencer.form --to 2 -o $room/cut" "rehex $whole_room" "bench $whole_room $whole_room --range 0 5120"; do
+    # shellcheck disable=SC2086
+    is 2 full_after 16 tools/$call
+    [ ! -e "$room/cut" ] || {
+        echo "tools/$call: made a file of an answer that was cut"
+        wrong=1
+    }
+done
+# a last line that only looks like an answer: with a stand-in for the program that prints what it is told
+mkdir -p "$room/stand/bin" "$room/stand/path" && cp -R tools crates.txt "$room/stand/" && echo stand-in >"$room/stand/INSTALLED" || wrong=1
+printf '#!/bin/sh\necho x86_64\n' >"$room/stand/path/uname"
+# shellcheck disable=SC2016
+printf '#!/bin/sh\ncat >/dev/null\nprintf "$said"\nexit "${ends:-0}"\n' >"$room/stand/bin/layout"
+chmod +x "$room/stand/path/uname" "$room/stand/bin/layout"
+# shellcheck disable=SC2317
+stand() { # SAID [STATUS]
+    env PATH="$room/stand/path:$PATH" said="$1" ends="${2:-0}" "$room/stand/tools/layout" examples/worked.form
+}
+for said in '' 'image' 'image ff' 'image f\n' 'image ff0\n' 'image fg\n' 'image  ff\n' 'image ff \n' 'imagine\n' 'passes 1\nimage ff\nblock 0 8\n' 'refused\n' \
+    'refused 4\n' 'refused 4 0'; do
+    is 2 stand "$said"
+done
+is 0 stand 'passes 1\nblock 0 8\nimage ff\n'
+is 0 stand 'passes 1\nimage\n'
+is 2 stand 'passes 1\nimage ff\n' 1
 # a write that fails is not an answer
 [ ! -c /dev/full ] || for tool in ihex srec layout map; do
     "tools/$tool" examples/banks.form >/dev/full 2>"$room/err"

@@ -116,7 +116,7 @@ find_parts() {
 }
 
 # launch NAME ..: a program of target/bin, with the kit's own C library. launch_file FILE ..: a program that stands by itself. With `by=exec` it takes the
-# script's place.
+# script's place; else every write of its answer is checked, and one that failed ends the script.
 by=
 launch() {
     program=$programs/$1
@@ -131,5 +131,24 @@ launch() {
 }
 launch_file() {
     find_emulator || say "this is $(uname -m), and there is no emulator of x86-64"
-    $by ${emulator:+"$emulator"} "$@"
+    if [ -n "$by" ]; then
+        $by ${emulator:+"$emulator"} "$@"
+    else
+        checked ${emulator:+"$emulator"} "$@"
+    fi
+}
+# A program does not see that a write failed, on a full disk say, and cat does: the answer goes through cat. The statuses of both come back in `ends`.
+checked() {
+    { ends=$({
+        {
+            "$@" 3>&- 4>&-
+            echo "$?" >&3
+        } | cat >&4 3>&-
+        echo "$?" >&3
+    } 3>&1); } 4>&1
+    case $ends in
+    *'
+0') [ "${ends%?0}" = 0 ] ;;
+    *) say "the program's answer could not be written to the temporary folder: is there room in ${TMPDIR:-/tmp}?" ;;
+    esac
 }
