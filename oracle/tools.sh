@@ -487,14 +487,21 @@ same "$room/words" "$room/err" "tools/map - has other words than for the file"
 cat examples/clamp-mark-after.form | tools/map /dev/stdin 2>"$room/err" | tail -n +2 >"$room/out"
 same "$room/drawn" "$room/out" "tools/map prints another map for a pipe than for the file"
 same "$room/words" "$room/err" "tools/map has other words for a pipe than for the file"
-# a disk that is full after 8 KiB, as a limit on the length of files whose signal is ignored: what was cut there is not an answer, and no file is made of it
+# a disk that is full after 8 KiB, as a limit on the length of files whose signal is ignored, and the answer into a pipe, which has no limit: what was cut on
+# that disk is not an answer, and no file is made of it
 # shellcheck disable=SC2317
-full_after() ( # BLOCKS COMMAND ..
-    trap '' XFSZ
-    ulimit -f "$1"
-    shift
-    "$@"
-)
+full_after() { # BLOCKS COMMAND ..
+    {
+        (
+            trap '' XFSZ
+            ulimit -f "$1"
+            shift
+            "$@"
+        )
+        echo "$?" >"$room/status"
+    } | cat
+    return "$(cat "$room/status")"
+}
 whole_room=$room/whole.hex
 for call in "layout examples/sequencer.form" "layout examples/sequencer.form -o $room/cut" "map examples/sequencer.form" "map --svg examples/sequencer.form" \
     "ihex --whole examples/sequencer.form" "srec --whole examples/sequencer.form -o $room/cut" "convert examples/sequencer.form --to 2" \
