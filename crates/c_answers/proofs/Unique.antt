@@ -9,6 +9,8 @@ use Rattle.c_answers.proofs.layouts.tell_layout.Kinds as layout-kinds
 use Rattle.c_answers.proofs.layouts.tell_layout.Reads as layout-reads
 use Rattle.c_answers.proofs.layouts.tell_paged.Kinds as paged-kinds
 use Rattle.c_answers.proofs.layouts.tell_paged.Reads as paged-reads
+use Rattle.c_answers.proofs.maps.tell_map.Kinds as map-kinds
+use Rattle.c_answers.proofs.maps.tell_map.Reads as map-reads
 use Rattle.c_answers.proofs.counts.tell_refusal.Kinds as refusal-kinds
 use Rattle.c_answers.proofs.counts.tell_refusal.Reads as refusal-reads
 use Rattle.c_answers.proofs.counts.tell_blocks.Kinds as blocks-kinds
@@ -41,6 +43,9 @@ tell-layout-unique κs a x y e f p q = determined p q
 
 pub tell-paged-unique : OneOutcome 0 paged-kinds.ps paged-kinds.r paged-reads.Learnt
 tell-paged-unique κs a x y e f p q = determined p q
+
+pub tell-map-unique : OneOutcome 0 map-kinds.ps map-kinds.r map-reads.Learnt
+tell-map-unique κs a x y e f p q = determined p q
 
 pub tell-refusal-unique : OneOutcome 0 refusal-kinds.ps refusal-kinds.r refusal-reads.Learnt
 tell-refusal-unique κs a x y e f p q = determined p q

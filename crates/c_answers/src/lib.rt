@@ -2,6 +2,7 @@
 // library a function that makes one of it.
 mod counts;
 mod layouts;
+mod maps;
 mod offers;
 mod parts;
 
@@ -17,6 +18,7 @@ pub use counts::tell_refusal;
 pub use counts::tell_written;
 pub use layouts::tell_layout;
 pub use layouts::tell_paged;
+pub use maps::tell_map;
 pub use offers::tell_offer;
 pub use parts::tell_fault;
 pub use parts::tell_part;
@@ -34,6 +36,21 @@ pub struct DkLayout {
     pub k: u64,
     pub length: u64,
     pub spans: u64,
+    pub padding: [Lost; 16],
+}
+
+// The answer of a map. `refusal` is 1 to 4 where the call is refused, with `place` and `second`, and then nothing is shown. `stopped` is 5 to 13 where the
+// layout is refused and the map is not, with the refusal's `place` and `second`. `node` is the node at fault, the largest number for none. `passes` is how many
+// passes ran, `nodes` how many nodes are shown, from node 0 on, and `padding` the bits and the whole units that these lost to alignment in each bank.
+#[repr(C)]
+pub struct DkMap {
+    pub refusal: u64,
+    pub stopped: u64,
+    pub place: u64,
+    pub second: u64,
+    pub node: u64,
+    pub passes: u64,
+    pub nodes: u64,
     pub padding: [Lost; 16],
 }
 

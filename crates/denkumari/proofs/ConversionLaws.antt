@@ -8,7 +8,7 @@ use Rattle.form_fields.specs.Whole.{contentsIn}
 use Rattle.form_fields.specs.declared.Kind.{Kind}
 use Rattle.form_convert.specs.Convert.{outAfter, Converts}
 use Rattle.form_convert.specs.declared.Conversion.{Conversion}
-use Rattle.denkumari.specs.Conversions.{WayTold}
+use Rattle.c_model.specs.Conversions.{WayTold}
 use Rattle.c_answers.specs.Counts.{conversionCount}
 use Rattle.c_answers.specs.declared.DkCount.{DkCount}
 

@@ -8,7 +8,7 @@ use Rattle.output.specs.declared.Output.{Output}
 use Rattle.form_build.specs.Filed.{FileBuilt}
 use Rattle.c_answers.specs.Told.{layoutTold}
 use Rattle.c_answers.specs.declared.DkLayout.{DkLayout}
-use Rattle.denkumari.specs.Forms.{FormTold}
+use Rattle.c_model.specs.Forms.{FormTold}
 
 pub form-told : {file : List ℕ} {fill : ℕ} {page : Opt} {old new : Lent} {r : Output} {t : DkLayout} → t ≡ layoutTold r
     → FileBuilt file fill page old r new → FormTold file fill page old t new

@@ -6,8 +6,9 @@ use Rattle.resolver.specs.declared.Choices.{Choices}
 use Rattle.output.specs.Output.{input}
 use Rattle.build_map.specs.Map.{Lent, Maps}
 use Rattle.build_map.specs.declared.Map.{Map}
-use Rattle.denkumari.specs.Maps.{mapTold, MapTold}
-use Rattle.denkumari.specs.declared.maps.DkMap.{DkMap}
+use Rattle.c_model.specs.Maps.{MapTold}
+use Rattle.c_answers.specs.Maps.{mapTold}
+use Rattle.c_answers.specs.declared.DkMap.{DkMap}
 
 pub map-told : {banks table : Bankdefs} {l : Lists} {chosen choices : Choices} {old new : Lent} {r : Map} {t : DkMap} → banks ≡ table → chosen ≡ choices
     → t ≡ mapTold r → Maps (input banks l chosen) old r new → MapTold (input table l choices) old t new

@@ -5,7 +5,7 @@ use denote.Triple.Clauses.{AtExit}
 use Rattle.refusal.specs.Laws.Outcome.{OneView}
 use Rattle.refusal.specs.Laws.Pick.{determined, paired}
 use Rattle.build_map.specs.Map.{Lent, lent}
-use Rattle.denkumari.specs.declared.maps.DkMap.{DkMap}
+use Rattle.c_answers.specs.declared.DkMap.{DkMap}
 use Rattle.denkumari.proofs.maps.dk_map.Kinds as map-kinds
 use Rattle.denkumari.proofs.maps.dk_map.Reads as map-reads
 

@@ -12,7 +12,7 @@ use Rattle.output.specs.Output.{input, Lent, roomOf}
 use Rattle.output.specs.declared.Output.{Output}
 use Rattle.form_build.specs.Paged.{outputIn, BuiltIn}
 use Rattle.c_answers.specs.Told.{layoutTold, profileTold}
-use Rattle.denkumari.specs.Profiles.{ProfileSaid, PagedTold}
+use Rattle.c_model.specs.Profiles.{ProfileSaid, PagedTold}
 use Rattle.c_answers.specs.declared.DkLayout.{DkLayout}
 use Rattle.c_answers.specs.declared.DkProfile.{DkProfile}
 

@@ -7,7 +7,7 @@ use Rattle.refusal.specs.declared.Verdict.{Verdict}
 use Rattle.overlap_checker.specs.declared.Entry.{Entry}
 use Rattle.overlap_checker.specs.State.{after}
 use Rattle.overlap_checker.specs.Lent.{Lent, lent, stateIn, laidInto, leaving, callFigures, Calls}
-use Rattle.denkumari.specs.Stores.{OfferTold}
+use Rattle.c_model.specs.Stores.{OfferTold}
 use Rattle.c_answers.specs.Stores.{inFigures}
 use Rattle.c_answers.specs.declared.DkOffer.{DkOffer}
 

@@ -7,7 +7,7 @@ use Rattle.output.specs.Output.{input, Lent, Builds}
 use Rattle.output.specs.declared.Output.{Output}
 use Rattle.c_answers.specs.Told.{layoutTold}
 use Rattle.c_answers.specs.declared.DkLayout.{DkLayout}
-use Rattle.denkumari.specs.Tables.{TablesTold}
+use Rattle.c_model.specs.Tables.{TablesTold}
 
 pub tables-told : {banks table : Bankdefs} {l : Lists} {chosen choices : Choices} {old new : Lent} {r : Output} {t : DkLayout} → banks ≡ table
     → chosen ≡ choices → t ≡ layoutTold r → Builds (input banks l chosen) old r new → TablesTold (input table l choices) old t new

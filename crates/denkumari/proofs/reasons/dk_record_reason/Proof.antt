@@ -7,7 +7,7 @@ use borrow.Author.Needs.{needs}
 use Rattle.record_fault.specs.Reading.{readText}
 use Rattle.record_reason.specs.Reasons.{whyOf}
 use Rattle.record_reason.specs.declared.Why.{Why}
-use Rattle.denkumari.specs.Reasons.{kindOf, ReasonTold}
+use Rattle.c_model.specs.Reasons.{kindOf, ReasonTold}
 use Rattle.denkumari.proofs.reasons.dk_record_reason.Statement.{statement}
 use Rattle.denkumari.proofs.reasons.dk_record_reason.Tie as tie
 

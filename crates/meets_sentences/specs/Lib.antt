@@ -1,0 +1,4 @@
+pub mod InTurn
+pub mod Typed
+pub mod Theorems
+pub mod Laws

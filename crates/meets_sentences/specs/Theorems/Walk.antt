@@ -1,0 +1,102 @@
+-- Three of document 01's "Errors that look right" (one neighbour: says_store/Theorems/Demand3), each turned away by the sentences, and other rules of the walk
+-- and the passes as one would ask for them: from the sentences alone.
+use mathlib.Core.Path.{_≡_, refl, sym, ap, subst, _∙_}
+use mathlib.Core.Bool.{Bool, true, false}
+use mathlib.Core.Logic.{_⊎_, inl, inr, ⊎-elim}
+use Prim.Native.Nat.{ℕ, zero, suc, _+_, _%_, _≤_, _<_}
+use native.Mathlib.Omega.{arith}
+use lib.ListN.{getD}
+use Rattle.sort.specs.Laws.Sorted.{le-or-lt}
+use Rattle.iter.specs.declared.Lost.{Lost}
+use Rattle.says.specs.Build as b
+use Rattle.says.specs.Build.{Given, Lent, Outcome, banks, unit, nodes, kind, operand, state, Size, Align, Number, IsWritten, In}
+use Rattle.says.specs.Words.{Not}
+use Rattle.says.specs.Build.{Distance, Lead}
+use Rattle.says.specs.Build.{Advance, Known, BankAt, Sees, Reads, Unresolved, Last, Offer, Nine, Ten, Eleven}
+use Rattle.meets_sentences.specs.Laws.One.{in-one, number-one, lead-one, advance-one, at-one}
+use Rattle.meets_sentences.specs.Theorems.Outcomes.{AcceptedSo}
+
+module _ (g : Given) where
+  -- ---- "Adding an item's size to the bank switched to, not the one it stood in."
+
+  -- A bank that a node does not stand in is where it was, known as it was.
+  pub other-banks-stay : {r i c p q : ℕ} {k j : Bool} {s t : Lost} → Not (In g i c) → BankAt g r i c p k s → BankAt g r (suc i) c q j t → (q ≡ p) × (j ≡ k)
+  other-banks-stay out x (b.keeps y n) = let e = at-one g y x in (e .0, e .1)
+  other-banks-stay out x (b.moves y h l le a m k o) = absurd (out h)
+
+  no-lead : {i c p d : ℕ} → 4 ≤ kind g i → Lead g i c p d → d ≡ 0
+  no-lead h (b.symbol k o a d) = absurd (⊎-elim (λ e. omega arith) (λ e. omega arith) k)
+  no-lead h (b.other n) = refl
+
+  -- "4 to 7 add their number" to the bank that they stand in.
+  pub items-advance-their-own-bank : {r i c p q n : ℕ} {k j : Bool} {s t : Lost} → 4 ≤ kind g i → kind g i ≤ 7 → In g i c → Number g r i n
+      → BankAt g r i c p k s → BankAt g r (suc i) c q j t → q ≡ p + n
+  items-advance-their-own-bank h l in-c num x (b.keeps y m) = absurd (m in-c)
+  items-advance-their-own-bank {r} {i} {c} {p} {q} {n = n} h l in-c num x (b.moves {p = p′} {lead = d} y in-d lead le a m k o) =
+      let e = at-one g y x in
+      let none : d ≡ 0 = no-lead h lead in
+      omega (arith, e .0, advance-one g a (b.adds h l num))
+
+  -- "9 sets the position": to its number, wherever the bank was, and known exactly if its state is 0.
+  pub addr-sets-the-position : {r i c p q n : ℕ} {k j : Bool} {s t : Lost} → kind g i ≡ 9 → In g i c → Number g r i n → BankAt g r i c p k s
+      → BankAt g r (suc i) c q j t → q ≡ n
+  addr-sets-the-position e in-c num x (b.keeps y m) = absurd (m in-c)
+  addr-sets-the-position e in-c num x (b.moves y in-d lead le a m k o) = advance-one g a (b.sets e num)
+
+  pub addr-is-known-by-its-state : {r i c p q : ℕ} {k : Bool} {s t : Lost} → kind g i ≡ 9 → In g i c → BankAt g r i c p k s → BankAt g r (suc i) c q true t
+      → state g r i ≡ 0
+  addr-is-known-by-its-state e in-c x y = by e in-c y
+    where
+      by-known : {r i : ℕ} {k : Bool} → kind g i ≡ 9 → Known g r i k true → state g r i ≡ 0
+      by-known e (b.left h) = absurd (⊎-elim (λ x. omega arith) (λ x. ⊎-elim (λ y. omega arith) (λ y. omega arith) x) h)
+      by-known e (b.kept h l n z) = absurd (omega arith)
+      by-known e (b.made k z) = z
+
+      by : {r i c q : ℕ} {t : Lost} → kind g i ≡ 9 → In g i c → BankAt g r (suc i) c q true t → state g r i ≡ 0
+      by e in-c (b.keeps z m) = absurd (m in-c)
+      by e in-c (b.moves z in-d lead le a m k o) = by-known e k
+
+  -- ---- "Label alignment for labels only; constants of depth 0 move too."
+  pub constants-of-depth-0-move-too : {r i c p a d : ℕ} {k : Bool} {s : Lost} → kind g i ≡ 3 → operand g i ≡ 0 → Align g c a → Distance g c p a d
+      → BankAt g r i c p k s → In g i c → p + d ≤ 4294967295 → Sees g r i c (p + d) k
+  constants-of-depth-0-move-too e z al dist x h le = b.sees x h (b.symbol (inr e) z al dist) le
+
+  -- ---- "Reporting passes run as K.": below the limit one more pass runs
+  pub one-more-pass-below-the-limit : (old : Lent) (o : Outcome) → AcceptedSo g old o → o .answer .k < g .limit → o .answer .passes ≡ o .answer .k + 1
+  one-more-pass-below-the-limit old o a h = by (a .last) h
+    where
+      by : {k n : ℕ} → Last g k n → k < g .limit → n ≡ k + 1
+      by (b.limit-zero e) l = refl
+      by (b.below x y go r u) l = omega arith
+      by (b.at-limit x go) l = absurd (omega arith)
+
+  -- ---- states
+
+  -- "A pass is unresolved if any state is 2": of every kind that reads its state, reserves, aligns, addrs and asserts too.
+  pub state-2-unresolves : {n r i : ℕ} → i < nodes g → 3 ≤ kind g i → Reads g n r → state g r i ≡ 2 → Unresolved g n
+  state-2-unresolves = b.other
+
+  pub assert-unresolves : {n r i : ℕ} → i < nodes g → kind g i ≡ 10 → Reads g n r → state g r i ≡ 2 → Unresolved g n
+  assert-unresolves h e reads s = state-2-unresolves h (omega arith) reads s
+
+  -- ---- 9, 10 and 11
+
+  -- "9 and 10 apply to .. reserves": one that ends past its bank's size meets 10,
+  pub reserve-past-its-bank : {r i c p n m : ℕ} {k : Bool} → i < nodes g → kind g i ≡ 7 → Sees g r i c p k → Number g r i n → Size g c m
+      → m < p + n → Ten g r i
+  reserve-past-its-bank {c = c} {p = p} {n = n} {m = m} {k = k} h e s num size past =
+      ((h, inr (omega arith, omega arith)), (c, p, k, n, m, s, b.item (λ two. omega arith) num, size, past))
+
+  -- and none meets 11.
+  pub reserves-need-no-output : (r i : ℕ) → kind g i ≡ 7 → Not (Eleven g r i)
+  reserves-need-no-output r i e t = omega (arith, t .1 .1)
+
+  -- "bank 0 is used while other banks exist"; Ticket 13: "labels, written items and reserves in bank 0 are refused even when it is alone"
+  pub bank-0-beside-others : (r i : ℕ) → i < nodes g → (kind g i ≡ 2) ⊎ ((4 ≤ kind g i) × (kind g i ≤ 7)) → In g i 0 → 1 < banks g → Nine g r i
+  bank-0-beside-others r i h k z more = ((h, k), z, inl more)
+
+  pub bank-0-closed : (r i : ℕ) → i < nodes g → (kind g i ≡ 2) ⊎ ((4 ≤ kind g i) × (kind g i ≤ 7)) → In g i 0 → 1 ≤ g .closed → Nine g r i
+  bank-0-closed r i h k z closed = ((h, k), z, inr closed)
+
+  pub bank-0-alone : (r i : ℕ) → banks g ≡ 1 → g .closed ≡ 0 → Not (Nine g r i)
+  bank-0-alone r i one zero-closed t = ⊎-elim (λ (h : 1 < banks g). omega arith) (λ (h : 1 ≤ g .closed). omega arith) (t .2)

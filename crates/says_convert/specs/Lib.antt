@@ -1,4 +1,0 @@
-pub mod Built
-pub mod Convert
-pub mod Laws
-pub mod Theorems

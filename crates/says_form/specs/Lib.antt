@@ -1,4 +1,0 @@
-pub mod Files
-pub mod Form
-pub mod Laws
-pub mod Theorems

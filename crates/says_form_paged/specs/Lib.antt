@@ -1,2 +1,0 @@
-pub mod FormPaged
-pub mod Theorems

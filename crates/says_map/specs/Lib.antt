@@ -1,4 +1,0 @@
-pub mod Map
-pub mod Places
-pub mod Theorems
-pub mod Laws

@@ -1,3 +1,0 @@
-pub mod Overlay
-pub mod Laws
-pub mod Theorems

@@ -1,5 +1,0 @@
-pub mod Profile
-pub mod Paged
-pub mod Ticket9
-pub mod Laws
-pub mod Theorems

@@ -1,5 +1,0 @@
-pub mod Records
-pub mod Write
-pub mod Read
-pub mod Laws
-pub mod Theorems

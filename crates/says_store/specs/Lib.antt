@@ -1,4 +1,0 @@
-pub mod Store
-pub mod Calls
-pub mod Laws
-pub mod Theorems
