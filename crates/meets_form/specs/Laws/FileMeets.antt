@@ -41,7 +41,7 @@ use Rattle.meets_build.specs.Theorems.Meets.{lentOf}
 use Rattle.says.specs.Files.{Form, form-1, form-2}
 use Rattle.says.specs.Form as says
 use Rattle.says.specs.Form.{OfForm, brokenAt}
-use Rattle.says_form.specs.Laws.FileSays as file-says
+use Rattle.meets_form.specs.Laws.FileSays as file-says
 use Rattle.meets_form.specs.Laws.FileSays.{FileSays}
 use Rattle.meets_form.specs.Laws.Breaks.{form-broken}
 use Rattle.meets_form.specs.Laws.Read.{givenBy, layout-is, inputIn, inputOf, input-is}

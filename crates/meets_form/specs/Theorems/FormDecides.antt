@@ -5,7 +5,7 @@ use Rattle.meets.specs.Laws.Words.{OneOnly}
 use Rattle.says.specs.Build.{Given, Lent, Outcome, BuildSays}
 use Rattle.meets_sentences.specs.Theorems.Decides.{build-decides}
 use Rattle.says.specs.Form.{FormSays, broken, laid}
-use Rattle.says_form.specs.Laws.FileSays as file-says
+use Rattle.meets_form.specs.Laws.FileSays as file-says
 use Rattle.meets_form.specs.Laws.FileSays.{FileSays, file-decides}
 
 module _ (file : List ℕ) (fill : ℕ) (old : Lent) where

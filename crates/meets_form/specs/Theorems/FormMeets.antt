@@ -17,7 +17,7 @@ use Rattle.c_model.specs.Tables.{TablesTold}
 use Rattle.says.specs.Build.{Given, Lent, Outcome, BuildSays}
 use Rattle.meets_build.specs.Theorems.Meets.{lentOf, build-meets}
 use Rattle.says.specs.Form.{FormSays, broken, laid}
-use Rattle.says_form.specs.Laws.FileSays as file-says
+use Rattle.meets_form.specs.Laws.FileSays as file-says
 use Rattle.meets_form.specs.Laws.FileSays.{FileSays}
 use Rattle.meets_form.specs.Laws.FileMeets.{outcome, whole, built-so, left-so, file-meets}
 use Rattle.meets_form.specs.Laws.Read.{givenBy, typed}

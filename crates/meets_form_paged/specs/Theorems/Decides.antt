@@ -3,7 +3,7 @@ use mathlib.Core.List.{List}
 use Prim.Native.Nat.{ℕ}
 use Rattle.meets.specs.Laws.Words.{OneOnly}
 use Rattle.says.specs.Build.{Given, Lent, Outcome}
-use Rattle.says_form.specs.Laws.FileSays as file-says
+use Rattle.meets_form.specs.Laws.FileSays as file-says
 use Rattle.meets_form.specs.Laws.FileSays.{FileSays, file-decides}
 use Rattle.says.specs.Paged.{PagedSays}
 use Rattle.meets_profile.specs.Theorems.Decides.{paged-decides}

@@ -15,7 +15,7 @@ use Rattle.c_model.specs.Forms.{FormTold}
 use Rattle.c_model.specs.Profiles.{PagedTold}
 use Rattle.says.specs.Build.{Given, Lent, Outcome}
 use Rattle.meets_build.specs.Theorems.Meets.{lentOf}
-use Rattle.says_form.specs.Laws.FileSays as file-says
+use Rattle.meets_form.specs.Laws.FileSays as file-says
 use Rattle.meets_form.specs.Laws.FileSays.{FileSays}
 use Rattle.meets_form.specs.Laws.FileMeets.{outcome, whole, built-so, left-so, file-meets}
 use Rattle.meets_form.specs.Laws.Read.{givenBy, typed}

@@ -55,7 +55,7 @@ use Rattle.meets_build.specs.Laws.Shown.{Shown, listed}
 use Rattle.meets_build.specs.Laws.Stops.{reads-row}
 use Rattle.meets_build.specs.Laws.Table.{table}
 use Rattle.meets_build.specs.Laws.Walk.{Goes}
-use Rattle.says_meets.specs.Theorems.Meets as build-meets
+use Rattle.meets_build.specs.Theorems.Meets as build-meets
 use Rattle.meets_profile.specs.Laws.Sound.{by-definition}
 use Rattle.meets_profile.specs.Laws.Tried.{tries-all}
 use Rattle.says.specs.Map as m
