@@ -19,42 +19,42 @@
  * they leave one outcome, everything lent included (`.. decides`), and from them what people look for. crate/File.name is a name of a file in
  * crates/crate/specs; docs/STATEMENTS.md quotes each below the document's sentence, and docs/READING.md says how to read them.
  *
- * dk_build          sentences `says_build/Build.BuildSays`; `says_meets/Meets.build-meets`, `says_build/Decides.build-decides`. Refused, nothing has changed:
- *                   `says_build/Outcomes.refused-changes-nothing`. No shared bit: `says_build/Image.accepted-offers-apart`; the item's own bit:
- *                   `says_build/Image.item-own-bit`; every other: `says_build/Image.other-bit-fill`, `says_build/Image.other-bit-zero`. Padding:
- *                   `says_build/Padding.padding-is-the-sum`, `says_build/Padding.units-within-bits`. A raised limit:
- *                   `says_meets/RaisedLimit.raised-limit-is-harmless`
- * dk_form           sentences `says_form/Form.FormSays`; `says_form/FormMeets.form-meets`, `says_form/FormDecides.form-decides`. A broken file:
- *                   `says_form/Forms.broken-file`; bank 0: `says_form/Forms.form-2-closes-bank-0`, `says_form/Forms.form-1-opens-bank-0`
- * dk_profile        sentences `says_profile/Profile.ProfileSays`; `says_profile/Meets.profile-meets`, `says_profile/Decides.profile-decides`. Yes and 19:
- *                   `says_profile/Ticket9.yes-exactly`, `says_profile/Ticket9.nineteen-exactly`
- * dk_build_paged    sentences `says_profile/Paged.PagedSays`; `says_profile/Meets.paged-meets`, `says_profile/Decides.paged-decides`. After a yes the ordinary
- *                   build: `says_profile/Meets.paged-is-build`
- * dk_form_paged     sentences `says_form_paged/FormPaged.FormPagedSays`; `says_form_paged/Meets.form-paged-meets`, `says_form_paged/Decides.form-paged-decides`
- * dk_map            sentences `says_map/Map.MapSays`; `says_map/Meets.map-meets`, `says_map/Decides.map-decides`. Refused as the build is but for 14:
+ * dk_build          sentences `says/Build.BuildSays`; `meets_build/Meets.build-meets`, `meets_sentences/Decides.build-decides`. Refused, nothing has changed:
+ *                   `meets_sentences/Outcomes.refused-changes-nothing`. No shared bit: `meets_sentences/Image.accepted-offers-apart`; the item's own bit:
+ *                   `meets_sentences/Image.item-own-bit`; every other: `meets_sentences/Image.other-bit-fill`, `meets_sentences/Image.other-bit-zero`. Padding:
+ *                   `meets_sentences/Padding.padding-is-the-sum`, `meets_sentences/Padding.units-within-bits`. A raised limit:
+ *                   `meets_build/RaisedLimit.raised-limit-is-harmless`
+ * dk_form           sentences `says/Form.FormSays`; `meets_form/FormMeets.form-meets`, `meets_form/FormDecides.form-decides`. A broken file:
+ *                   `meets_form/Forms.broken-file`; bank 0: `meets_form/Forms.form-2-closes-bank-0`, `meets_form/Forms.form-1-opens-bank-0`
+ * dk_profile        sentences `says/Profile.ProfileSays`; `meets_profile/Meets.profile-meets`, `meets_profile/Decides.profile-decides`. Yes and 19:
+ *                   `meets_profile/Ticket9.yes-exactly`, `meets_profile/Ticket9.nineteen-exactly`
+ * dk_build_paged    sentences `says/Paged.PagedSays`; `meets_profile/Meets.paged-meets`, `meets_profile/Decides.paged-decides`. After a yes the ordinary
+ *                   build: `meets_profile/Meets.paged-is-build`
+ * dk_form_paged     sentences `says/FormPaged.FormPagedSays`; `meets_form_paged/Meets.form-paged-meets`, `meets_form_paged/Decides.form-paged-decides`
+ * dk_map            sentences `says/Map.MapSays`; `meets_map/Meets.map-meets`, `meets_map/Decides.map-decides`. Refused as the build is but for 14:
  *                   `build_map/AsBuilt.refused-exactly-as-built`; the node at fault: `build_map/AsBuilt.fault-is-where-refused`
- * dk_to_form2       sentences `says_convert/Convert.ConvertSays`; `says_convert/Meets.to-form2-meets`, `says_convert/Decides.to-form2-decides`. There and
- *                   back: `says_convert/Trips.form-1-and-back`; the same build: `says_convert/SameBuild.other-banks-same-build`,
- *                   `says_convert/SameBuild.one-bank-same-build`
- * dk_to_form1       the same sentences; `says_convert/Meets.to-form1-meets`, `says_convert/Decides.to-form1-decides`. And again:
- *                   `says_convert/Trips.form-2-and-again`; the same build: `says_convert/SameBuild.plain-same-build`, `says_convert/SameBuild.shape-same-build`
- * dk_blocks         sentences `says_bits/Blocks.DkBlocksSay`; `says_bits/Blocks.dk-blocks-meets`, `says_bits/Blocks.dk-blocks-decides`
- * dk_hex            sentences `says_bits/Hex.HexSays`; `says_bits/Hex.hex-meets`, `says_bits/Hex.hex-decides`
- * dk_offer          sentences `says_store/Store.OfferSays`; `says_store/Meets.offer-meets`, `says_store/Decides.offer-decides`. Calls one after the other,
- *                   from an empty store: `says_store/Demand3.stored-exactly`, `says_store/Demand3.marked-exactly`; in any order:
- *                   `says_store/Order.reordered-accepted`
- * dk_part           sentences `says_bits/Part.PartSays`; `says_bits/Part.part-meets`, `says_bits/Part.part-decides`
- * dk_overlay_range  sentences `says_overlay/Overlay.RangeSays`; `says_overlay/Range.range-meets`, `says_overlay/Range.range-decides`
- * dk_overlay_runs   sentences `says_overlay/Overlay.RunsSay`; `says_overlay/Runs.runs-meet`, `says_overlay/Runs.runs-decide`
- * dk_write_hex      sentences `says_records/Write.HexSays`; `says_records/WriteMeets.write-hex-meets`, `says_records/WriteDecides.write-hex-decides`. Read back:
- *                   `says_records/Calls.hex-back`; every line sums to zero: `says_records/Calls.hex-sums`
- * dk_write_srec     sentences `says_records/Write.SrecSays`; `says_records/WriteMeets.write-srec-meets`, `says_records/WriteDecides.write-srec-decides`. Read
- *                   back: `says_records/Calls.srec-back`; checksums: `says_records/Calls.srec-sums`
- * dk_read_records   sentences `says_records/Read.ReadSays`; `says_records/ReadMeets.read-meets`, `says_records/ReadDecides.read-decides`. Records in any order:
- *                   `says_records/Calls.any-order`; LF or CR LF: `says_records/Calls.either-end`
- * dk_record_fault   sentences `says_records/Read.FaultSays`; `says_records/FaultMeets.fault-meets`, `says_records/FaultDecides.fault-decides`
- * dk_record_reason  sentences `says_reason/Reason.DkReasonSays`; `says_reason/Meets.dk-reason-meets`, `says_reason/Decides.dk-reason-decides`. A reason exactly
- *                   where dk_read_records refuses 4: `says_reason/Calls.reason-exactly`; dk_record_fault's line: `says_reason/Calls.same-line`
+ * dk_to_form2       sentences `says/Convert.ConvertSays`; `meets_convert/Meets.to-form2-meets`, `meets_convert/Decides.to-form2-decides`. There and
+ *                   back: `meets_convert/Trips.form-1-and-back`; the same build: `meets_convert/SameBuild.other-banks-same-build`,
+ *                   `meets_convert/SameBuild.one-bank-same-build`
+ * dk_to_form1       the same sentences; `meets_convert/Meets.to-form1-meets`, `meets_convert/Decides.to-form1-decides`. And again:
+ *                   `meets_convert/Trips.form-2-and-again`; the same build: `meets_convert/SameBuild.plain-same-build`, `meets_convert/SameBuild.shape-same-build`
+ * dk_blocks         sentences `says/DkBlocks.DkBlocksSay`; `meets_bits/Blocks.dk-blocks-meets`, `meets_bits/Blocks.dk-blocks-decides`
+ * dk_hex            sentences `says/Hex.HexSays`; `meets_bits/Hex.hex-meets`, `meets_bits/Hex.hex-decides`
+ * dk_offer          sentences `says/Store.OfferSays`; `meets_store/Meets.offer-meets`, `meets_store/Decides.offer-decides`. Calls one after the other,
+ *                   from an empty store: `meets_store/Demand3.stored-exactly`, `meets_store/Demand3.marked-exactly`; in any order:
+ *                   `meets_store/Order.reordered-accepted`
+ * dk_part           sentences `says/Part.PartSays`; `meets_bits/Part.part-meets`, `meets_bits/Part.part-decides`
+ * dk_overlay_range  sentences `says/Overlay.RangeSays`; `meets_overlay/Range.range-meets`, `meets_overlay/Range.range-decides`
+ * dk_overlay_runs   sentences `says/Overlay.RunsSay`; `meets_overlay/Runs.runs-meet`, `meets_overlay/Runs.runs-decide`
+ * dk_write_hex      sentences `says/Write.HexSays`; `meets_records/WriteMeets.write-hex-meets`, `meets_records/WriteDecides.write-hex-decides`. Read back:
+ *                   `meets_records/Calls.hex-back`; every line sums to zero: `meets_records/Calls.hex-sums`
+ * dk_write_srec     sentences `says/Write.SrecSays`; `meets_records/WriteMeets.write-srec-meets`, `meets_records/WriteDecides.write-srec-decides`. Read
+ *                   back: `meets_records/Calls.srec-back`; checksums: `meets_records/Calls.srec-sums`
+ * dk_read_records   sentences `says/Read.ReadSays`; `meets_records/ReadMeets.read-meets`, `meets_records/ReadDecides.read-decides`. Records in any order:
+ *                   `meets_records/Calls.any-order`; LF or CR LF: `meets_records/Calls.either-end`
+ * dk_record_fault   sentences `says/Read.FaultSays`; `meets_records/FaultMeets.fault-meets`, `meets_records/FaultDecides.fault-decides`
+ * dk_record_reason  sentences `says/Reason.DkReasonSays`; `meets_reason/Meets.dk-reason-meets`, `meets_reason/Decides.dk-reason-decides`. A reason exactly
+ *                   where dk_read_records refuses 4: `meets_reason/Calls.reason-exactly`; dk_record_fault's line: `meets_reason/Calls.same-line`
  */
 #ifndef DENKUMARI_H
 #define DENKUMARI_H
