@@ -1,19 +1,19 @@
-"""docs/STATEMENTS.md from docs/statements/*.rows and the sources; tools/page runs it and says how it is called.
+"""docs/STATEMENTS.md and the pages docs/statements/*.md from docs/statements/*.rows and the sources; tools/page runs it and says how it is called.
 
 A file of rows is Markdown, with blocks of these kinds between the paragraphs, each a head line and lines `  KEY: TEXT` behind it (a longer TEXT goes on in
 lines that are indented by four):
 
-    row NAME             a sentence of the documents
+    row NAME             a sentence of the documents: one line of a page
       says: the sentence, quoted, or what is proved in words
-      theorem: the names of theorems in backquotes, with remarks; the first statements, up to the first semicolon, are quoted below the row, the others
-        linked. Or `none: why`
-      where: names that the statement needs to be read, sentences first; sentences are quoted, definitions where they are short
-      contract: crate::function, ..; what it ensures is quoted
+      theorem: the names of theorems in backquotes, with remarks: links to file and line, each with eight digits that change with its statement.
+        Or `none: why`
+      headline: yes, where the first statements, up to the first semicolon, are quoted below the line
+      where: names that the statement needs to be read, sentences first: links
       only: said where uniqueness is the only theorem: what then says the sentence
-      definition: names, links to file and line;   function:, edit:, note: as they are
+      definition:, function:, edit:, note: as they are, names as links
     function crate::name
       not: answers that its contract rules out
-      one: the theorem that its contract leaves one outcome; digits change with it and with the contract, which is quoted of exported functions
+      one: the theorem that its contract leaves one outcome; digits change with it and with the contract
     edit crate!label
       changes: what it changes
       refused: the fact at which the check refuses it
@@ -34,9 +34,12 @@ from antt import ROOT, functions_of, line_of, names_of, places, read, run
 
 PAGE = 'docs/STATEMENTS.md'
 ROWS = 'docs/statements'
+# the rows of the first page, and how many lines all pages may have
+FIRST = '0-reading'
+MOST_LINES = 1600
 KEYS = {
-    'row': ['says', 'theorem', 'where', 'contract', 'only', 'definition', 'function', 'edit', 'note'],
-    'function': ['not', 'one', 'note'],
+    'row': ['says', 'theorem', 'headline', 'where', 'only', 'definition', 'function', 'edit', 'note'],
+    'function': ['not', 'one'],
     'edit': ['changes', 'refused'],
     'together': ['change', 'stopped'],
 }
@@ -44,12 +47,9 @@ CITED = re.compile(r'`([a-z_0-9]+)(/|::|!)([^` ]+)`')
 # a theorem that two outcomes are one: by its file, or by its name
 UNIQUE_FILE = re.compile(r'Unique$')
 UNIQUE_NAME = re.compile(r'(-unique|-ensures|-decides)$|^one-(outcome|writing|paged|write|read|way|offer|build|file-build|built-in)$')
-# so many statements of a row are quoted, the others linked
-QUOTED = 6
-# the crate whose contracts are quoted, function by function
-EXPORTS = 'denkumari'
+# so many statements of a headline are quoted, of so many lines at most
+QUOTED = 2
 LONGEST = 40
-SHORT = LONGEST
 
 faults = []
 
@@ -75,55 +75,6 @@ def find(crate, rest, where):
     return None
 
 
-USED = re.compile(r'^use Rattle·([a-z_0-9]+)(?:·specs)?\.specs\.((?:Theorems\.|Laws\.)?[A-Z]\w*)\.\{([^}]*)\}', re.M)
-imports = {}
-
-
-def imports_of(path):
-    """name: (crate, File, name there), of what a file takes from specs/ of the repository."""
-    if path not in imports:
-        found = {}
-        for crate, file, names in USED.findall(read(path)):
-            for name in names.split(','):
-                there, _, here = name.strip().partition(' as ')
-                found[(here or there).strip()] = (crate, file.split('.')[-1], there.strip())
-        imports[path] = found
-    return imports[path]
-
-
-def is_word(d):
-    """Whether a declaration is the name of a fact or of a thing: a record, a family, or a definition that answers a type."""
-    head = ' '.join(d.signature)
-    return d.definition and bool(re.match(r'^\s*(pub )?(record|data) ', head) or re.search(r'Type 0\s*$', head))
-
-
-def is_fact(d):
-    """Of these, the facts: they are said of something."""
-    head = ' '.join(d.signature[:2])
-    return is_word(d) and not re.match(r'^\s*(abbrev |unfoldable |pub |record |data )*\S+ : Type 0', head)
-
-
-def words(d, text, taken):
-    """The words of the repository in a text of the file of d: declarations, each with its path and name; and limits."""
-    found, limits = [], []
-    for name in re.findall(r'[A-Za-z][\w₀₁₂·-]*', text):
-        there = None
-        if name in names_of(d.path):
-            there, key = names_of(d.path)[name], name
-        elif name in imports_of(d.path):
-            crate, file, key = imports_of(d.path)[name]
-            there = next((names_of(p)[key] for p in places(crate, file) if key in names_of(p)), None)
-        if there is None or there is d or (there.path, key) in taken:
-            continue
-        if there.path.endswith('/Limits.antt') and len(there.whole) == 2:
-            limits.append(there.whole[1].strip())
-            taken.add((there.path, key))
-        elif is_word(there):
-            found.append((key, there))
-            taken.add((there.path, key))
-    return found, limits
-
-
 def laid(declarations, whole):
     """A fenced quote, what is of one file and one module together."""
     out, path, around = [], None, []
@@ -144,48 +95,29 @@ def laid(declarations, whole):
     return out
 
 
-# what the page quotes of what statements speak of: name, and the first row that says `where`, to which words are linked
-quoted_in = {}
-met = set()
+def linked(text, where, up):
+    """A text whose names of theorems, definitions and functions lead to file and line; `up` is the way from its page to the root."""
+    def link(m):
+        crate, kind, rest = m.groups()
+        if kind == '/' and re.match(r'[A-Z][A-Za-z0-9]*\.', rest):
+            d = find(crate, rest, where)
+            return f'[{m.group(0)}]({up}{d.path}#L{d.line})' if d else m.group(0)
+        if kind == '::' and rest in functions_of(crate):
+            path = functions_of(crate)[rest][0]
+            return f'[{m.group(0)}]({up}{path}#L{line_of(path, rest)})'
+        if kind == '!':
+            return f'[{m.group(0)}]({up}crates/{crate}/must-fail/{rest}.edit)'
+        return m.group(0)
+    return CITED.sub(link, text)
 
 
-def word_name(key, d):
-    crate = d.path.split('/')[1]
-    file = os.path.basename(d.path)[:-5]
-    return f'{crate}/{file}.{key}'
-
-
-def spoken_of(cited, where):
-    """The facts of the repository that some statements name and do not quote themselves, and limits."""
-    given, taken, others, limits = [], set(), [], []
-    for crate, rest in cited:
-        d = find(crate, rest, where)
-        if d:
-            given.append(d)
-            taken.add((d.path, rest.partition('.')[2]))
-    for d in given:
-        around = [ln for head in d.around for ln in head]
-        found, numbers = words(d, ' '.join(around + (d.whole if d.definition else d.signature)), taken)
-        limits += [n for n in numbers if n not in limits]
-        others += [(k, there) for k, there in found if is_fact(there)]
-    return others, limits
-
-
-def word_link(key, d):
-    """A link to the row that quotes a word, or to its file and line."""
-    name = word_name(key, d)
-    return f'[`{key}`](#{quoted_in[name]})' if name in quoted_in else f'[`{key}`](../{d.path}#L{d.line})'
-
-
-def source_link(crate, rest, where):
-    d = find(crate, rest, where)
-    return f'[`{crate}/{rest}`](../{d.path}#L{d.line})' if d else f'`{crate}/{rest}`'
-
-
-def with_links(text, where):
-    """A text whose names of definitions lead to file and line."""
-    return CITED.sub(lambda m: source_link(m.group(1), m.group(3), where) if m.group(2) == '/' and re.match(r'[A-Z][A-Za-z0-9]*\.', m.group(3))
-                     else m.group(0), text)
+def with_digits(text, where, up):
+    """The same, and behind each name of a statement eight digits that change with it."""
+    def one(m):
+        crate, kind, rest = m.groups()
+        named = linked(m.group(0), where, up)
+        return f'{named} {digest(crate, rest, where)}' if kind == '/' and re.match(r'[A-Z][A-Za-z0-9]*\.', rest) else named
+    return CITED.sub(one, text)
 
 
 def is_there(kind, crate, rest, where):
@@ -232,7 +164,7 @@ def with_locals(declarations):
         for name in re.findall(r'[A-Za-z][\w₀₁₂′·-]*', ' '.join(d.signature)):
             local = names_of(d.path).get(name)
             if (local and local is not d and local not in declarations and id(local) not in seen and local.definition and local.around
-                    and local.around == d.around[:len(local.around)] and len(local.whole) <= 4 and not is_fact(local)):
+                    and local.around == d.around[:len(local.around)] and len(local.whole) <= 4 and 'Type 0' not in ' '.join(local.signature)):
                 seen.add(id(local))
                 out.append(local)
         out.append(d)
@@ -280,38 +212,39 @@ def counted(text, where):
 
 
 def rows():
-    """The parts of the page in their order: ('text', lines) and blocks."""
-    parts = []
+    """Of each file of rows its name and its parts in their order: ('text', lines) and blocks."""
     for file in sorted(glob.glob(os.path.join(ROOT, ROWS, '*.rows'))):
-        here = os.path.relpath(file, ROOT)
-        current, key, prose = None, None, []
-        for n, line in enumerate(open(file, encoding='utf-8').read().split('\n'), 1):
-            head = re.match(r'^(row|function|edit|together) (\S+)$', line)
-            if head:
-                if prose:
-                    parts.append(('text', prose))
-                    prose = []
-                current, key = Block(head.group(1), head.group(2), f'{here}:{n}'), None
-                parts.append((head.group(1), current))
-            elif current and re.match(r'^  [a-z]+:', line):
-                key, _, text = line.strip().partition(':')
-                if key not in KEYS[current.kind]:
-                    fault(f'{here}:{n}: {current.kind} {current.name} has no key {key}')
-                if key in current.text:
-                    fault(f'{here}:{n}: {current.kind} {current.name} has {key} twice')
-                current.text[key] = text.strip()
-            elif current and key and line.startswith('    '):
-                current.text[key] += ' ' + line.strip()
-            elif not line.strip() and current:
-                current = None
-            elif current:
-                fault(f'{here}:{n}: in {current.kind} {current.name}: a line that is neither a key nor the rest of one')
-            else:
-                prose.append(line)
-            if len(line) > 160:
-                fault(f'{here}:{n}: longer than 160 characters')
-        if prose:
-            parts.append(('text', prose))
+        yield os.path.basename(file)[:-5], parts_of(os.path.relpath(file, ROOT))
+
+
+def parts_of(here):
+    parts, current, key, prose = [], None, None, []
+    for n, line in enumerate(read(here).split('\n'), 1):
+        head = re.match(r'^(row|function|edit|together) (\S+)$', line)
+        if head:
+            if any(prose):
+                parts.append(('text', prose))
+            current, key, prose = Block(head.group(1), head.group(2), f'{here}:{n}'), None, []
+            parts.append((head.group(1), current))
+        elif current and re.match(r'^  [a-z]+:', line):
+            key, _, text = line.strip().partition(':')
+            if key not in KEYS[current.kind]:
+                fault(f'{here}:{n}: {current.kind} {current.name} has no key {key}')
+            if key in current.text:
+                fault(f'{here}:{n}: {current.kind} {current.name} has {key} twice')
+            current.text[key] = text.strip()
+        elif current and key and line.startswith('    '):
+            current.text[key] += ' ' + line.strip()
+        elif not line.strip() and current:
+            current = None
+        elif current:
+            fault(f'{here}:{n}: in {current.kind} {current.name}: a line that is neither a key nor the rest of one')
+        else:
+            prose.append(line)
+        if len(line) > 160:
+            fault(f'{here}:{n}: longer than 160 characters')
+    if any(prose):
+        parts.append(('text', prose))
     for kind, b in parts:
         if kind != 'text':
             b.text = {k: counted(v, b.where) for k, v in b.text.items()}
@@ -327,102 +260,51 @@ def anchor(heading):
     return re.sub(r'[^\w\- ]', '', heading.lower()).strip().replace(' ', '-')
 
 
-def is_short(cited, where):
-    d = find(*cited, where)
-    return d is not None and len(d.whole) <= SHORT
-
-
-def concluded(cited, where):
-    """The facts by whose names alone statements end: what follows, said elsewhere."""
-    out = []
-    for crate, rest in cited:
-        d = find(crate, rest, where)
-        if not d or is_unique(crate, rest) or re.search(r'-meets?$', rest):
-            continue
-        last = re.match(r'\s*([A-Z][\w₀₁₂′-]*)', re.split(r'→|:', ' '.join(d.signature))[-1])
-        for key, there in spoken_of([(crate, rest)], where)[0]:
-            name = tuple(word_name(key, there).split('/', 1))
-            if last and key == last.group(1) and there.definition and name not in out and find(*name, where) is there:
-                out.append(name)
-    return out
-
-
-def write_row(b):
-    out = [f'#### {b.name}'] + wrapped(b['says'], '> ', '> ') + ['']
-    theorem, cited = b['theorem'], statements(b['theorem'])
-    # the statements named before the first semicolon are quoted, the others linked
-    first = (statements(theorem.split('; ')[0]) or cited)[:QUOTED]
+def check_row(b, cited):
+    """What a row must say: a sentence, and a theorem or why there is none."""
+    theorem = b['theorem']
+    if not re.fullmatch(r'[a-z0-9]+(-[a-z0-9]+)*', b.name):
+        fault(f'{b.where}: no short name: {b.name}')
     if not b['says']:
         fault(f'{b.where}: row {b.name} has no sentence')
     if not theorem:
         fault(f'{b.where}: row {b.name} says neither a theorem nor why there is none')
-    elif theorem.startswith('none'):
-        out += wrapped('**No theorem**' + (theorem[4:] or '.'))
-    elif not cited:
+    elif not theorem.startswith('none') and not cited:
         fault(f'{b.where}: row {b.name} cites no theorem, and does not begin with "none"')
+    only = bool(cited) and all(is_unique(*c) for c in cited)
+    if only and not b['only']:
+        fault(f'{b.where}: uniqueness is the only theorem of row {b.name}, and it does not say so')
+    if b['only'] and not only:
+        fault(f'{b.where}: row {b.name} says that uniqueness is its only theorem, and it is not')
+
+
+def write_row(b, up):
+    """A line of the page, and below a headline its statements."""
+    theorem, cited = b['theorem'], statements(b['theorem'])
+    check_row(b, cited)
+    parts = [f'- <a id="{b.name}"></a>**{b.name}**: {b["says"].rstrip(".")}.']
+    if theorem.startswith('none'):
+        parts.append('No theorem' + (theorem[4:].rstrip('.') or '') + '.')
     else:
-        only = all(is_unique(*c) for c in cited)
-        if only and not b['only']:
-            fault(f'{b.where}: uniqueness is the only theorem of row {b.name}, and it does not say so')
-        if b['only'] and not only:
-            fault(f'{b.where}: row {b.name} says that uniqueness is its only theorem, and it is not')
-        if only and b['only']:
-            out += wrapped(f'**Uniqueness alone.** {b["only"]}') + ['']
-        text = theorem
-        for c in cited:
-            if c not in first:
-                text = text.replace('`' + '/'.join(c) + '`', source_link(*c, b.where))
-        out += wrapped(f'Theorem: {text}')
-    out += quote(first, False, b.where)
-    named = [c for c in statements(b['where']) if c not in cited]
-    shown, linked = named, ''
+        if b['only']:
+            parts.append(f'Uniqueness alone: {b["only"].rstrip(".")}.')
+        parts.append(f'Theorem: {with_digits(theorem.rstrip("."), b.where, up)}.')
     if b['where']:
-        # sentences are quoted in every row that names them, definitions where they are short; beside a theorem over sentences definitions are linked
-        said = any(c[0].startswith('says') for c in first)
-        quoted = [c for c in shown if c[0].startswith('says') or not said and is_short(c, b.where)]
-        text = b['where']
-        for c in shown:
-            if c not in quoted:
-                name = '/'.join(c)
-                text = text.replace(f'`{name}`', source_link(*c, b.where))
-        for c in quoted:
-            quoted_in.setdefault('/'.join(c), b.name)
-        if quoted:
-            out += wrapped(f'With {text}') + quote(quoted, True, b.where)
-        else:
-            linked = f'With {text.rstrip(".")}.'
-        shown = quoted
-    # a statement that ends in a fact by its name says what the fact says
-    ends = [c for c in concluded(first, b.where) if c not in named and is_short(c, b.where)]
-    if ends:
-        out += quote(ends, True, b.where)
-        shown = shown + ends
-        for c in ends:
-            quoted_in.setdefault('/'.join(c), b.name)
-    if b['contract']:
-        out += contracts(b['contract'], b.where)
-    foot = [f'{key.capitalize()}: {with_links(b[key], b.where) if key == "definition" else b[key]}.' for key in ('definition', 'function', 'edit') if b[key]]
-    if not all(is_unique(*c) for c in cited):
-        # a `meets` speaks of its contract and its sentences: the first row that names it has them
-        others, limits = spoken_of([c for c in first if not re.search(r'-meets?$', c[1]) or c not in met] + shown, b.where)
-        met.update(first)
-        if any(c[0].startswith('says') for c in first):
-            others = [(k, t) for k, t in others if t.path.startswith('crates/says')]
-        if others:
-            foot.insert(0, 'Words: ' + ', '.join(word_link(k, t) for k, t in others) + '.')
-        if limits:
-            foot.insert(0, 'Limits: ' + ', '.join(f'`{n}`' for n in limits) + '.')
-    if linked:
-        foot.insert(0, linked)
-    if foot:
-        out += ([] if out[-1] == '```' else ['']) + wrapped(' '.join(foot))
+        parts.append(f'With {linked(b["where"].rstrip("."), b.where, up)}.')
+    for key in ('definition', 'function', 'edit'):
+        if b[key]:
+            parts.append(f'{key.capitalize()}: {linked(b[key].rstrip("."), b.where, up)}.')
     if b['note']:
-        out += [''] + wrapped(b['note'])
-    return out + ['']
+        parts.append(linked(b['note'], b.where, up))
+    out = [' '.join(parts)]
+    if b['headline']:
+        first = (statements(theorem.split('; ')[0]) or cited)[:QUOTED]
+        out += ['  ' + line for line in quote(first, False, b.where)]
+    return out
 
 
-def write_function(b):
-    """A line of the table; of an exported function a paragraph with its contract."""
+def write_function(b, up):
+    """A line of the table of functions."""
     crate, _, name = b.name.partition('::')
     path, _, head = functions_of(crate).get(name, ('', False, []))
     if not path:
@@ -431,124 +313,123 @@ def write_function(b):
         fault(f'{b.where}: function {b.name} has not both of not and one')
     if not statements(b['one']):
         fault(f'{b.where}: function {b.name} names no theorem of its outcome')
-    digits = ', '.join(digest(c, r, b.where) for c, r in statements(b['one']))
-    if crate == EXPORTS:
-        return wrapped(f'**`{b.name}`** not: {b["not"].rstrip(".")}. One outcome: {b["one"]} (statement {digits})') + contracts(f'`{b.name}`', b.where) + ['']
     contract = hashlib.sha256('\n'.join(head).encode()).hexdigest()[:8]
-    if b['note']:
-        fault(f'{b.where}: function {b.name}: the table has no place for a note')
-    return [f'| `{b.name}` | {cell(b["not"])} | [{contract}](../{path}#L{line_of(path, name)}) | {cell(b["one"])} ({digits}) |']
+    return [f'| `{b.name}` | {cell(b["not"])} | [{contract}]({up}{path}#L{line_of(path, name)}) | {cell(with_digits(b["one"], b.where, up))} |']
 
 
 def cell(text):
     return text.replace('|', '\\|')
 
 
-def page():
-    parts = rows()
-    body, index, table, crate = [], [], None, None
-    seen, on_page, changed = {}, set(), set()
+TABLES = {
+    'function': ['| Function | Not | Contract | One outcome |', '|---|---|---|---|'],
+    'edit': ['| Edit | What it changes | Turned away at |', '|---|---|---|'],
+    'together': ['| Crate | Changed together | What stops it |', '|---|---|---|'],
+}
 
-    def close():
-        nonlocal table
-        if table:
-            body.append('')
-        table = None
 
+class Seen:
+    """What the pages name: rows, functions, edits, crates."""
+
+    def __init__(self):
+        self.blocks, self.cited = {}, set()
+
+    def block(self, kind, b):
+        if (kind, b.name) in self.blocks and kind != 'together':
+            fault(f'{b.where}: {kind} {b.name} is there twice, first in {self.blocks[kind, b.name]}')
+        self.blocks[kind, b.name] = b.where
+        self.text(list(b.text.values()) + ([f'`{b.name}`'] if kind in ('function', 'edit') else []), b.where)
+
+    def text(self, texts, where):
+        for text in texts:
+            for crate, kind, rest in CITED.findall(text):
+                is_there(kind, crate, rest, where)
+                self.cited.add((kind, crate, rest))
+
+
+def write_block(kind, b, up):
+    if kind == 'row':
+        return write_row(b, up)
+    if kind == 'function':
+        return write_function(b, up)
+    first, second = ('changes', 'refused') if kind == 'edit' else ('change', 'stopped')
+    if not b[first] or not b[second]:
+        fault(f'{b.where}: {kind} {b.name} has not both of {first} and {second}')
+    return [f'| `{b.name}` | {cell(linked(b[first], b.where, up))} | {cell(linked(b[second], b.where, up))} |']
+
+
+def one_page(parts, up, seen):
+    """The lines of a page, and its headings with the rows below each."""
+    body, index, last = [], [], None
     for kind, b in parts:
+        if last != kind and body and body[-1]:
+            body.append('')
         if kind == 'text':
-            close()
-            for line in b:
-                m = re.match(r'^(#{2,3}) (.*)$', line)
-                if m:
-                    index.append((len(m.group(1)), m.group(2), []))
-                body.append(line)
-            crate = None
-            for line in b:
-                for c in CITED.findall(line):
-                    is_there(c[1], c[0], c[2], f'{ROWS}, a paragraph')
-                    if c[1] == '::':
-                        on_page.add((c[1], c[0], c[2]))
-            continue
-        if (kind, b.name) in seen and kind != 'together':
-            fault(f'{b.where}: {kind} {b.name} is there twice, first in {seen[kind, b.name]}')
-        seen[kind, b.name] = b.where
-        for text in list(b.text.values()) + ([f'`{b.name}`'] if kind in ('function', 'edit') else []):
-            for c in CITED.findall(text):
-                is_there(c[1], c[0], c[2], b.where)
-                if c[1] == '::':
-                    on_page.add((c[1], c[0], c[2]))
-        if kind == 'row':
-            close()
-            if not re.fullmatch(r'[a-z0-9]+(-[a-z0-9]+)*', b.name):
-                fault(f'{b.where}: no short name: {b.name}')
-            if index:
-                index[-1][2].append(b.name)
-            body += write_row(b)
-        elif kind == 'function':
-            c = b.name.split('::')[0]
-            on_page.add(('::', c, b.name.split('::')[1]))
-            wanted = None if c == EXPORTS else kind
-            if table != wanted or wanted is None:
-                close()
-                table = wanted
-                if wanted:
-                    body += ['| Function | Not | Contract | One outcome |', '|---|---|---|---|']
-                elif c != crate:
-                    body += [f'### {c}', '']
-            crate = c
-            body += write_function(b)
-        elif kind == 'edit':
-            c, _, label = b.name.partition('!')
-            on_page.add(('!', c, label))
-            if table != kind:
-                close()
-                table = kind
-                body += ['| Edit | What it changes | Turned away at |', '|---|---|---|']
-            body.append(f'| `{b.name}` | {cell(b["changes"])} | {cell(b["refused"])} |')
-            if not b['changes'] or not b['refused']:
-                fault(f'{b.where}: edit {b.name} has not both of changes and refused')
+            seen.text(b, f'{ROWS}, a paragraph')
+            index += [(len(m.group(1)), m.group(2), []) for m in (re.match(r'^(#{2,3}) (.*)$', line) for line in b) if m]
+            body += b
         else:
-            changed.add(b.name)
-            if table != kind:
-                close()
-                table = kind
-                body += ['| Crate | Changed together | What stops it |', '|---|---|---|']
-            body.append(f'| `{b.name}` | {cell(b["change"])} | {cell(b["stopped"])} |')
-            if not b['change'] or not b['stopped']:
-                fault(f'{b.where}: together {b.name} has not both of change and stopped')
-    close()
-    # the index goes behind the first paragraphs, in the place of its line
-    lines = []
-    for level, heading, names in index:
-        text = f'[{heading}](#{anchor(heading)})' + (': ' if names else '') + ', '.join(f'[{n}](#{n})' for n in names)
-        lines += wrapped(text, '  ' * (level - 2) + '- ', '  ' * (level - 1))
-    out = []
-    for line in body:
-        out += lines if line == '{index}' else [line]
-    text = re.sub(r'\n{3,}', '\n\n', '\n'.join(out)).rstrip('\n') + '\n'
-    # what the repository has and the page must name
+            seen.block(kind, b)
+            if kind == 'row' and index:
+                index[-1][2].append(b.name)
+            if kind in TABLES and last != kind:
+                body += TABLES[kind]
+            body += write_block(kind, b, up)
+        last = kind
+    return re.sub(r'\n{3,}', '\n\n', '\n'.join(body)).strip('\n') + '\n', index
+
+
+def all_named(seen):
+    """What the repository has and a page must name."""
     crates = sorted(os.path.basename(os.path.dirname(p)) for p in glob.glob(os.path.join(ROOT, 'crates/*/src')))
+    changed = {n for k, n in seen.blocks if k == 'together'}
     for c in crates:
-        for name, (path, public, _) in sorted(functions_of(c).items()):
-            if public and ('::', c, name) not in on_page:
-                fault(f'a public function that is not on the page: {c}::{name}')
+        for name, (_, public, _) in sorted(functions_of(c).items()):
+            if public and ('::', c, name) not in seen.cited:
+                fault(f'a public function that is not on the pages: {c}::{name}')
         for path in sorted(glob.glob(os.path.join(ROOT, f'crates/{c}/must-fail/*.edit'))):
             label = os.path.basename(path)[:-5]
-            if ('!', c, label) not in on_page:
-                fault(f'an edit that is not on the page: {c}!{label}')
+            if ('!', c, label) not in seen.cited:
+                fault(f'an edit that is not on the pages: {c}!{label}')
         if c not in changed:
             fault(f'no row says what stops a change of definition and code together in {c}')
     for c in changed:
         if c not in crates:
             fault(f'together {c}: there is no such crate')
-    named = {n for k, n in seen if k == 'row'}
+    named = {n for k, n in seen.blocks if k == 'row'}
     for pattern in ('antt', 'edit'):
         for path in sorted(glob.glob(os.path.join(ROOT, f'crates/**/*.{pattern}'), recursive=True)):
             for n in re.findall(r'\[row ([a-z0-9-]+)\]', open(path, encoding='utf-8').read()):
                 if n not in named:
-                    fault(f'{os.path.relpath(path, ROOT)} cites a row that is not on the page: {n}')
-    return text
+                    fault(f'{os.path.relpath(path, ROOT)} cites a row that is not on the pages: {n}')
+
+
+def index_of(name, headings):
+    """The lines of the first page that lead to another."""
+    out = []
+    for level, heading, names in headings:
+        place = f'statements/{name}.md'
+        text = f'[{heading}]({place}#{anchor(heading)})' + (': ' if names else '') + ', '.join(f'[{n}]({place}#{n})' for n in names)
+        out += wrapped(text, '  ' * (level - 2) + '- ', '  ' * (level - 1))
+    return out
+
+
+def pages():
+    """path: text of every page."""
+    seen, out, index, first = Seen(), {}, [], ''
+    for name, parts in rows():
+        text, headings = one_page(parts, '../' if name == FIRST else '../../', seen)
+        if name == FIRST:
+            first = text
+        else:
+            out[f'{ROWS}/{name}.md'] = text
+            index += index_of(name, headings)
+    out[PAGE] = first.replace('{index}\n', '\n'.join(index) + '\n')
+    all_named(seen)
+    lines = sum(text.count('\n') for text in out.values())
+    if lines > MOST_LINES:
+        fault(f'the pages of statements have {lines} lines, more than {MOST_LINES}')
+    return out
 
 
 QUOTE = re.compile(r'<!-- quote ([^>]*?) -->\n(?:```\n.*?```\n)*', re.S)
@@ -691,11 +572,22 @@ def follow():
 
 
 def draw(count):
-    text = read(PAGE)
-    found = re.split(r'(?m)^(?=#{2,4} )', text)
-    found = [f for f in found if f.startswith('#### ') and '\n> ' in f]
+    found = []
+    for file in sorted(glob.glob(os.path.join(ROOT, ROWS, '*.md'))):
+        found += [ln for ln in open(file, encoding='utf-8') if ln.startswith('- <a id=')]
     for one in random.sample(found, min(count, len(found))):
         print(one)
+
+
+def held(path, text):
+    """A fault, with what differs, where a page is not what the rows and the sources make."""
+    old = read(path) if os.path.isfile(os.path.join(ROOT, path)) else ''
+    if old == text:
+        return
+    fault(f'{path} is not what {ROWS}/*.rows and the sources make: run tools/page and read what changed')
+    changed = [ln for ln in difflib.unified_diff(old.split('\n'), text.split('\n'), lineterm='', n=0) if not ln.startswith(('---', '+++', '@@'))]
+    for ln in changed[:8]:
+        fault('    ' + ln[:150])
 
 
 def main(arguments):
@@ -714,20 +606,20 @@ def main(arguments):
     if arguments not in ([], ['--check']):
         print('tools/page: --help says how to call it', file=sys.stderr)
         return 2
-    text = page()
+    made = pages()
     if not arguments:
-        with open(os.path.join(ROOT, PAGE), 'w', encoding='utf-8') as f:
-            f.write(text)
+        for path, text in made.items():
+            with open(os.path.join(ROOT, path), 'w', encoding='utf-8') as f:
+                f.write(text)
         fill(True)
     else:
         documents()
         fill(False)
-        if not os.path.isfile(os.path.join(ROOT, PAGE)) or read(PAGE) != text:
-            fault(f'{PAGE} is not what {ROWS} and the sources make: run tools/page and read what changed')
-            old = read(PAGE).split('\n') if os.path.isfile(os.path.join(ROOT, PAGE)) else []
-            changed = [ln for ln in difflib.unified_diff(old, text.split('\n'), lineterm='', n=0) if not ln.startswith(('---', '+++', '@@'))]
-            for ln in changed[:8]:
-                fault('    ' + ln[:150])
+        for path, text in made.items():
+            held(path, text)
+        for file in glob.glob(os.path.join(ROOT, ROWS, '*.md')):
+            if os.path.relpath(file, ROOT) not in made:
+                fault(f'{os.path.relpath(file, ROOT)}: no rows make it')
     for f in faults:
         print(f, file=sys.stderr)
     return 1 if faults else 0
