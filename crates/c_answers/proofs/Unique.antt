@@ -29,6 +29,8 @@ use Rattle.c_answers.proofs.parts.tell_source.Kinds as source-kinds
 use Rattle.c_answers.proofs.parts.tell_source.Reads as source-reads
 use Rattle.c_answers.proofs.parts.tell_fault.Kinds as fault-kinds
 use Rattle.c_answers.proofs.parts.tell_fault.Reads as fault-reads
+use Rattle.c_answers.proofs.parts.tell_reason.Kinds as reason-kinds
+use Rattle.c_answers.proofs.parts.tell_reason.Reads as reason-reads
 use Rattle.c_answers.proofs.offers.tell_offer.Kinds as offer-kinds
 use Rattle.c_answers.proofs.offers.tell_offer.Reads as offer-reads
 
@@ -73,6 +75,9 @@ tell-source-unique κs a x y e f p q = determined p q
 
 pub tell-fault-unique : OneOutcome 0 fault-kinds.ps fault-kinds.r fault-reads.Learnt
 tell-fault-unique κs a x y e f p q = determined p q
+
+pub tell-reason-unique : OneOutcome 0 reason-kinds.ps reason-kinds.r reason-reads.Learnt
+tell-reason-unique κs a x y e f p q = determined p q
 
 pub tell-offer-unique : OneOutcome 0 offer-kinds.ps offer-kinds.r offer-reads.Learnt
 tell-offer-unique κs a x y e f p q = determined p q

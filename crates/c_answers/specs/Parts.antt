@@ -1,4 +1,4 @@
--- A part of an image, the image that a range comes from, and the line at which a file is at fault, in numbers.
+-- A part of an image, the image that a range comes from, the line at which a file is at fault, and why, in numbers.
 use Prim.Native.Nat.{ℕ, _/_}
 use Rattle.refusal.specs.Refusals.{numberOf}
 use Rattle.refusal.specs.declared.Verdict.{Verdict}
@@ -7,9 +7,11 @@ use Rattle.overlay.specs.declared.Source.{Source}
 use Rattle.overlay.specs.declared.Source.the-variants.{Overlay, Released, Refused}
 use Rattle.record_fault.specs.declared.Fault.{Fault}
 use Rattle.record_fault.specs.declared.Fault.the-variants.{Good, At}
+use Rattle.record_reason.specs.declared.Why.{Why}
 use Rattle.c_answers.specs.declared.DkFault.{DkFault}
 use Rattle.c_answers.specs.declared.DkOverlay.{DkOverlay}
 use Rattle.c_answers.specs.declared.DkPart.{DkPart}
+use Rattle.c_answers.specs.declared.DkReason.{DkReason}
 
 -- "For a block on byte edges the caller gets back that part of its own image": here as its start and its length in bytes.
 abbrev pub partBy : ℕ → ℕ → Verdict → DkPart
@@ -26,3 +28,7 @@ overlayBy first count (Refused why) = record { refusal = numberOf why; image = 0
 abbrev pub lineTold : Fault → DkFault
 lineTold Good = record { fault = 0; line = 0 }
 lineTold (At n) = record { fault = 1; line = n }
+
+-- the line at fault, why, and the two numbers that go with it
+abbrev pub reasonTold : Why → DkReason
+reasonTold w = record { reason = w .reason; line = w .line; first = w .first; second = w .second }

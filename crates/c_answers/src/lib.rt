@@ -22,6 +22,7 @@ pub use maps::tell_map;
 pub use offers::tell_offer;
 pub use parts::tell_fault;
 pub use parts::tell_part;
+pub use parts::tell_reason;
 pub use parts::tell_source;
 
 // The answer of a layout. `refusal` is 0 where the layout was built, else document 01's number; then `place` and `second` are its
@@ -106,6 +107,15 @@ pub struct DkOverlay {
 pub struct DkFault {
     pub fault: u64,
     pub line: u64,
+}
+
+// The line at fault of a file of records, from 0, and why: a reason, 0 where the file is good, and the two numbers that go with it.
+#[repr(C)]
+pub struct DkReason {
+    pub reason: u64,
+    pub line: u64,
+    pub first: u64,
+    pub second: u64,
 }
 
 pub fn first_of(p: Place) -> u64

@@ -1,12 +1,14 @@
-// A part of an image, the image that a range comes from, and the line at which a file is at fault.
+// A part of an image, the image that a range comes from, the line at which a file is at fault, and why.
 use crate::DkFault;
 use crate::DkOverlay;
 use crate::DkPart;
+use crate::DkReason;
 use overlay::Source;
 use record_fault::Fault;
+use record_reason::Why;
 use refusal::Verdict;
 ghost use mathlib.Core.Path.{_≡_};
-ghost use Rattle.c_answers.specs.Parts.{partBy, overlayBy, lineTold};
+ghost use Rattle.c_answers.specs.Parts.{partBy, overlayBy, lineTold, reasonTold};
 
 // The block of `size` bits from bit `offset` on, in bytes.
 pub fn tell_part(verdict: Verdict, offset: u64, size: u64) -> DkPart
@@ -58,5 +60,16 @@ pub fn tell_fault(fault: Fault) -> DkFault
     match fault {
         Fault::Good => DkFault { fault: 0, line: 0 },
         Fault::At(line) => DkFault { fault: 1, line },
+    }
+}
+
+pub fn tell_reason(why: Why) -> DkReason
+    ensures { λ r. ⌜ r ≡ reasonTold why ⌝ }
+{
+    DkReason {
+        reason: why.reason,
+        line: why.line,
+        first: why.first,
+        second: why.second,
     }
 }

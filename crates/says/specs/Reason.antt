@@ -5,7 +5,7 @@ use mathlib.Core.Logic.{_⊎_}
 use Prim.Native.Nat.{ℕ, suc, _+_, _*_, _-_, _≤_, _<_, _%_}
 use lib.ListN.{length, getD, take, drop}
 use Rattle.record_lines.specs.Pieces.{Piece}
-use Rattle.record_reason.specs.declared.Why.{Why}
+use Rattle.c_answers.specs.declared.DkReason.{DkReason}
 use Rattle.says.specs.Words.{Tries, First, FirstPair, At, Not}
 use Rattle.says.specs.Records.{either, Lines, Digit, Spells, total, Hex, IsS, Srec, Width}
 
@@ -102,16 +102,16 @@ module _ (format : ℕ) where
 
   -- ---- a line by its number, from 0, and the first reason in this order
   module _ (load : ℕ) (ls : List (List ℕ)) (n : ℕ) where
-    abbrev pub why : ℕ → ℕ → ℕ → Why
+    abbrev pub why : ℕ → ℕ → ℕ → DkReason
     why reason first second = record { reason = reason; line = n; first = first; second = second }
 
     -- "the first line that gives one of this line's, from 0, and the lowest address that both give"
-    pub data Twice : Why → Type 0 where
+    pub data Twice : DkReason → Type 0 where
       twice : {i a : ℕ} → FirstPair (λ (k x : ℕ). (k < n) × GivesTo ls k x × GivesTo ls n x) i a → Twice (why 11 i a)
 
     -- "its first character, digits, length, a count below 3 in S-records, checksum, type, width, count, address field, past the last address, below the load
     -- address, given twice"
-    pub data LineSays (y : Why) : Type 0 where
+    pub data LineSays (y : DkReason) : Type 0 where
       line-says : {s from bare least : ℕ} {l : List ℕ} → LineAt 0 ls n s l → Form from bare least
           → Tries (λ (_ : Unit {0}). Not (Starts l)) (λ _. why 1 0 0)
           (Tries (First (NoDigit l from)) (λ k. why 2 k (getD l k 0))
@@ -131,14 +131,14 @@ module _ (format : ℕ) where
     Ended = (m : ℕ) × (l : List ℕ) × (n ≡ suc m) × At ls m l × EndRecord l
 
     -- "a line behind the end record"; "the text ends without an end record: `line` is the number of its lines"
-    pub data FaultLine : Why → Type 0 where
+    pub data FaultLine : DkReason → Type 0 where
       behind : n < length ls → Ended → FaultLine (why 12 0 0)
       no-end : n ≡ length ls → Not Ended → FaultLine (why 13 0 0)
-      line : {y : Why} → Not Ended → LineSays y → FaultLine y
+      line : {y : DkReason} → Not Ended → LineSays y → FaultLine y
 
   module _ (load : ℕ) (text scratch : List ℕ) where
     -- the first line that has a reason is told; beside the answer stands the lent scratch afterwards: the call "leaves it as it was" (include/denkumari.h)
-    pub data DkReasonSays : Why × List ℕ → Type 0 where
-      none : {ls : List (List ℕ)} → Lines text ls → ((n : ℕ) (y : Why) → Not (FaultLine load ls n y)) → DkReasonSays (why load ls 0 0 0 0, scratch)
-      first : {n : ℕ} {ls : List (List ℕ)} {y : Why} → Lines text ls → First (λ (k : ℕ). (z : Why) × FaultLine load ls k z) n → FaultLine load ls n y
+    pub data DkReasonSays : DkReason × List ℕ → Type 0 where
+      none : {ls : List (List ℕ)} → Lines text ls → ((n : ℕ) (y : DkReason) → Not (FaultLine load ls n y)) → DkReasonSays (why load ls 0 0 0 0, scratch)
+      first : {n : ℕ} {ls : List (List ℕ)} {y : DkReason} → Lines text ls → First (λ (k : ℕ). (z : DkReason) × FaultLine load ls k z) n → FaultLine load ls n y
           → DkReasonSays (y, scratch)

@@ -6,11 +6,16 @@ use lib.Dec.{eqb}
 use Rattle.refusal.specs.Laws.Pick.{pick-false}
 use Rattle.refusal.specs.Pick.{pick}
 use Rattle.record_reason.specs.Spelling.{orElse}
-use Rattle.record_reason.specs.Reasons.{toldOf}
+use Rattle.record_reason.specs.Reasons as reasons
 use Rattle.record_reason.specs.declared.Cause.{Cause}
-use Rattle.record_reason.specs.declared.Why.{Why}
+use Rattle.c_answers.specs.Parts.{reasonTold}
+use Rattle.c_answers.specs.declared.DkReason.{DkReason}
 use Rattle.says.specs.Words as w
 use Rattle.says.specs.Words.{Tries}
+
+-- a cause at a line, as a caller is told of it
+abbrev pub toldOf : ℕ → Cause → DkReason
+toldOf n c = reasonTold (reasons.toldOf n c)
 
 pub or-first : (c r : Cause) → eqb (c .reason) 0 ≡ false → orElse c r ≡ c
 or-first c r e = pick-false r c e
@@ -22,7 +27,7 @@ or-assoc a b c = go (eqb (a .reason) 0) refl
     go true e = refl
     go false e = or-first a c e
 
-module _ (n : ℕ) {X : Type 0} {Met : X → Type 0} {refusal : X → Why} {Then : Why → Type 0} where
+module _ (n : ℕ) {X : Type 0} {Met : X → Type 0} {refusal : X → DkReason} {Then : DkReason → Type 0} where
   -- a test that fails is the reason
   pub unless : (b : Bool) (x : X) (c d r : Cause) → refusal x ≡ toldOf n c → eqb (c .reason) 0 ≡ false → (b ≡ false → Met x)
       → (b ≡ true → (z : X) → Met z → ⊥) → (b ≡ true → Then (toldOf n (orElse d r))) → Tries Met refusal Then (toldOf n (orElse (pick b d c) r))

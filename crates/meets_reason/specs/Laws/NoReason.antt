@@ -14,7 +14,7 @@ use Rattle.record_lines.specs.Pieces.{Piece, piece, endOf}
 use Rattle.record_fault.specs.Reading.{formatBy, newPieces, stateAfter, fine, isNew}
 use Rattle.record_fault.specs.Trail.{trail}
 use Rattle.record_reason.specs.Reasons.{lineOf, itemOf}
-use Rattle.record_reason.specs.declared.Why.{Why}
+use Rattle.c_answers.specs.declared.DkReason.{DkReason}
 use Rattle.says.specs.Words as w
 use Rattle.says.specs.Words.{Tries, At}
 use Rattle.says.specs.Records as r
@@ -58,7 +58,7 @@ module _ (format load : ℕ) (ls : List (List ℕ)) (n st : ℕ) (l : List ℕ) 
         let same = last-one x bytes (spells-bytes p spelled) in
         h (same .1 ∙ checksum-one format l sum (subst (λ (y : List ℕ). Checksum format (total y) b) (same .0) k))
 
-    spelled-none : ((y : Why) → TypeSays format load ls n st l y → ⊥) → (y : Why) → LineChain format load ls n st from bare least l y → ⊥
+    spelled-none : ((y : DkReason) → TypeSays format load ls n st l y → ⊥) → (y : DkReason) → LineChain format load ls n st from bare least l y → ⊥
     spelled-none on =
         none (λ x h. h starts)
         (none (all-digits format l from (digits-of spelled))
@@ -102,7 +102,7 @@ module _ (format load : ℕ) (ls : List (List ℕ)) (n st : ℕ) (l : List ℕ) 
     hex-address (is-end e z i) u (s.other-field g k o m) = m (hex-one k h .1 ∙ z)
     hex-address (is-upper e z i) u (s.other-field g k o m) = m (hex-one k h .1 ∙ z)
 
-    hex-chain : HexFits t field b → ((y : Why) → SpanSays format load ls n st l y → ⊥) → (y : Why) → LineChain format load ls n st 1 11 0 l y → ⊥
+    hex-chain : HexFits t field b → ((y : DkReason) → SpanSays format load ls n st l y → ⊥) → (y : DkReason) → LineChain format load ls n st 1 11 0 l y → ⊥
     unfolding total
     hex-chain fits span =
         let check = h .check in
@@ -118,7 +118,7 @@ module _ (format load : ℕ) (ls : List (List ℕ)) (n st : ℕ) (l : List ℕ) 
         (s.hex f (below-last bytes check (h .spelled)) sum)
         (none (hex-type fits) (none hex-width (none (hex-count fits) (none (hex-address fits) span))))
 
-  pub hex-none : format ≡ 0 → {x : Item} → HexSaid st l x → (x ≡ bad → ⊥) → ((y : Why) → SpanSays format load ls n st l y → ⊥) → (y : Why)
+  pub hex-none : format ≡ 0 → {x : Item} → HexSaid st l x → (x ≡ bad → ⊥) → ((y : DkReason) → SpanSays format load ls n st l y → ⊥) → (y : DkReason)
       → LineChain format load ls n st 1 11 0 l y → ⊥
   hex-none f (hex.gave h) m span = hex-chain f h (is-data refl) span
   hex-none f (hex.moved h) m span = hex-chain f h (is-upper refl refl refl) span
@@ -181,7 +181,7 @@ module _ (format load : ℕ) (ls : List (List ℕ)) (n st : ℕ) (l : List ℕ) 
     wide (is-end (r.four p q i j) o e) = omega arith
     wide (is-header e q) = omega arith
 
-    srec-chain : SrecFits kind v b → ((y : Why) → SpanSays format load ls n st l y → ⊥) → (y : Why) → LineChain format load ls n st 2 4 3 l y → ⊥
+    srec-chain : SrecFits kind v b → ((y : DkReason) → SpanSays format load ls n st l y → ⊥) → (y : DkReason) → LineChain format load ls n st 2 4 3 l y → ⊥
     srec-chain fits span =
         let check = h .check in
         let bytes : List ℕ = h .count ∷ h .field ++ b in
@@ -198,7 +198,7 @@ module _ (format load : ℕ) (ls : List (List ℕ)) (n st : ℕ) (l : List ℕ) 
         (s.s-record m (h .sum))
         (none (srec-type fits) (none (srec-width fits) (none (srec-count fits) (none srec-field span))))
 
-  pub srec-none : (format ≡ 0 → ⊥) → {x : Item} → SrecSaid st l x → (x ≡ bad → ⊥) → ((y : Why) → SpanSays format load ls n st l y → ⊥) → (y : Why)
+  pub srec-none : (format ≡ 0 → ⊥) → {x : Item} → SrecSaid st l x → (x ≡ bad → ⊥) → ((y : DkReason) → SpanSays format load ls n st l y → ⊥) → (y : DkReason)
       → LineChain format load ls n st 2 4 3 l y → ⊥
   srec-none m (srec.gave {w = w} v o h e) k span = srec-chain m h (is-data (width-is v) (own-width st w o)) span
   srec-none m (srec.skipped h) k span = srec-chain m h (is-header refl refl) span
@@ -241,7 +241,7 @@ module _ (format load : ℕ) (text : List ℕ) (n : ℕ) (l : List ℕ) (rest : 
   item-is = ap (λ (m : List ℕ). formatBy format st m) (line-is format text n here)
 
   -- an end record or one that is skipped gives none
-  span-kept : {x : Item} → Kept x → formatBy format st l ≡ x → (y : Why) → SpanSays format load ls n st l y → ⊥
+  span-kept : {x : Item} → Kept x → formatBy format st l ≡ x → (y : DkReason) → SpanSays format load ls n st l y → ⊥
   span-kept {x} k e = none past (none below twice)
     where
       past : (z : ℕ × ℕ) → Past format l st (z .0) (z .1) → ⊥
@@ -250,14 +250,14 @@ module _ (format load : ℕ) (text : List ℕ) (n : ℕ) (l : List ℕ) (rest : 
       below : (x : ℕ × ℕ) → Below format l load ls st (x .0) (x .1) → ⊥
       below (a, b) (s.below (s.line-gives d g) i h f) = clashes k (sym e) (data-item format d)
 
-      twice : (y : Why) → Twice format load ls n y → ⊥
+      twice : (y : DkReason) → Twice format load ls n y → ⊥
       twice y (s.twice {a = a} f) =
           let c = gives-covers format text n a (f .so .2) in
           clashes k (sym e) (inr (c .0, c .1, c .2, sym item-is ∙ c .3))
 
   -- bytes that fit in
   span-given : (a : ℕ) (b : List ℕ) (after : ℕ) → formatBy format st l ≡ gives a b after
-      → fine load (trail format text n .given) (newPieces (gives a b after)) ≡ true → (y : Why) → SpanSays format load ls n st l y → ⊥
+      → fine load (trail format text n .given) (newPieces (gives a b after)) ≡ true → (y : DkReason) → SpanSays format load ls n st l y → ⊥
   span-given a b after e ok = none past (none below twice)
     where
       line : LineGives format st l after (piece a b)
@@ -289,7 +289,7 @@ module _ (format load : ℕ) (text : List ℕ) (n : ℕ) (l : List ℕ) (rest : 
           let many : length (q .bytes) ≡ length b = ap (λ (p : Piece). length (p .bytes)) same in
           ⊎-elim (λ z. omega arith) (λ x. omega (arith, x .0)) parts
 
-      twice : (y : Why) → Twice format load ls n y → ⊥
+      twice : (y : DkReason) → Twice format load ls n y → ⊥
       twice y (s.twice {i} {a = x} f) =
           let own = new-once format text n a b after (item-is ∙ e) in
           ⊎-elim
@@ -300,21 +300,21 @@ module _ (format load : ℕ) (text : List ℕ) (n : ℕ) (l : List ℕ) (rest : 
           (λ p. own (p .2) i x (f .so .0) (f .so .1) (f .so .2)) parts
 
   -- ---- the line
-  chain-by : {from bare least : ℕ} → (formatBy format st l ≡ bad → ⊥) → ((y : Why) → SpanSays format load ls n st l y → ⊥) → s.Form format from bare least
-      → (y : Why) → LineChain format load ls n st from bare least l y → ⊥
+  chain-by : {from bare least : ℕ} → (formatBy format st l ≡ bad → ⊥) → ((y : DkReason) → SpanSays format load ls n st l y → ⊥) → s.Form format from bare least
+      → (y : DkReason) → LineChain format load ls n st from bare least l y → ⊥
   chain-by never span (s.hex f) = hex-none format load ls n st l f (hex.said st l) (λ e. never (as-hex format f st l ∙ e)) span
   chain-by never span (s.s-records m) = srec-none format load ls n st l m (srec.said st l) (λ e. never (as-srec format m st l ∙ e)) span
 
-  line-none : (formatBy format st l ≡ bad → ⊥) → ((y : Why) → SpanSays format load ls n st l y → ⊥) → (y : Why) → LineSays format load ls n y → ⊥
+  line-none : (formatBy format st l ≡ bad → ⊥) → ((y : DkReason) → SpanSays format load ls n st l y → ⊥) → (y : DkReason) → LineSays format load ls n y → ⊥
   line-none never span y (s.line-says x f t) =
       let same = line-one format x (line-at format text n here) in
       chain-by never span f y (rw (same .0, same .1) at t)
 
-  pub kept-none : {x : Item} → Kept x → formatBy format st l ≡ x → (y : Why) → LineSays format load ls n y → ⊥
+  pub kept-none : {x : Item} → Kept x → formatBy format st l ≡ x → (y : DkReason) → LineSays format load ls n y → ⊥
   kept-none k e = line-none (λ b. clashes k (sym e) (inl b)) (span-kept k e)
 
   pub given-none : (a : ℕ) (b : List ℕ) (after : ℕ) → formatBy format st l ≡ gives a b after
-      → fine load (trail format text n .given) (newPieces (gives a b after)) ≡ true → (y : Why) → LineSays format load ls n y → ⊥
+      → fine load (trail format text n .given) (newPieces (gives a b after)) ≡ true → (y : DkReason) → LineSays format load ls n y → ⊥
   given-none a b after e ok = line-none (λ f. differ (sym e ∙ f)) (span-given a b after e ok)
     where
       differ : {x z : ℕ} {y : List ℕ} → gives x y z ≡ bad → ⊥

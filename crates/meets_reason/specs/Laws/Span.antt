@@ -15,21 +15,22 @@ use Rattle.record_lines.specs.Pieces.{Piece, piece, endOf}
 use Rattle.record_fault.specs.Reading.{formatBy, newPieces, fine, isNew}
 use Rattle.record_fault.specs.Trail.{trail}
 use Rattle.record_reason.specs.Spelling.{causeOf}
-use Rattle.record_reason.specs.Reasons.{itemOf, addressIn, giver, lowest, spanCause, toldOf}
+use Rattle.record_reason.specs.Reasons.{itemOf, addressIn, giver, lowest, spanCause}
 use Rattle.record_reason.specs.declared.Cause.{Cause}
-use Rattle.record_reason.specs.declared.Why.{Why}
+use Rattle.c_answers.specs.declared.DkReason.{DkReason}
 use Rattle.says.specs.Words as w
 use Rattle.says.specs.Words.{Tries}
 use Rattle.says.specs.Records as r
 use Rattle.says.specs.Reason as s
 use Rattle.says.specs.Reason.{DataLine, LineGives, GivesTo, Past, Below, why, Twice}
+use Rattle.meets_reason.specs.Laws.Chain.{toldOf}
 use Rattle.meets_reason.specs.Laws.One.{data-one, gives-one}
 use Rattle.meets_reason.specs.Laws.Items.{gives-item}
 use Rattle.meets_reason.specs.Laws.Trails.{lines, line-is}
 use Rattle.meets_reason.specs.Laws.Bytes.{covers-to, lowest-first, twice-is}
 
 -- the sentences from here on
-abbrev pub SpanSays : (format load : ℕ) (ls : List (List ℕ)) (n st : ℕ) (l : List ℕ) → Why → Type 0
+abbrev pub SpanSays : (format load : ℕ) (ls : List (List ℕ)) (n st : ℕ) (l : List ℕ) → DkReason → Type 0
 SpanSays format load ls n st l =
     Tries (λ (x : ℕ × ℕ). Past format l st (x .0) (x .1)) (λ x. why format load ls n 9 (x .0) (x .1))
     (Tries (λ (x : ℕ × ℕ). Below format l load ls st (x .0) (x .1)) (λ x. why format load ls n 10 (x .0) (x .1))

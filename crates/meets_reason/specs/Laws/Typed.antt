@@ -19,9 +19,8 @@ use Rattle.record_srec_line.specs.ReadBack as back
 use Rattle.record_fault.specs.Reading.{formatBy}
 use Rattle.record_fault.specs.Trail.{trail}
 use Rattle.record_reason.specs.Spelling.{causeOf, nothing, orElse, fieldsOf, hexTyped, dataTyped, endTyped, srecTyped}
-use Rattle.record_reason.specs.Reasons.{toldOf}
 use Rattle.record_reason.specs.declared.Cause.{Cause}
-use Rattle.record_reason.specs.declared.Why.{Why}
+use Rattle.c_answers.specs.declared.DkReason.{DkReason}
 use Rattle.says.specs.Words as w
 use Rattle.says.specs.Words.{Tries, First, At}
 use Rattle.says.specs.Records as r
@@ -34,24 +33,24 @@ use Rattle.says.specs.Reason as s
 use Rattle.says.specs.Reason.{NoDigit, Count, Long, WrongSum, OtherType, OtherWidth, OtherCount, OtherField, why}
 use Rattle.meets_reason.specs.Laws.One.{at-one, inside, count-one, width-by}
 use Rattle.meets_reason.specs.Laws.Items.{Kept, ended, skipped, clashes, own-width, agrees-own, as-hex, as-srec}
-use Rattle.meets_reason.specs.Laws.Chain.{unless, where-so}
+use Rattle.meets_reason.specs.Laws.Chain.{toldOf, unless, where-so}
 use Rattle.meets_reason.specs.Laws.Span.{SpanSays, AtFault, broken, unfit}
 
 -- the sentences from here on
-abbrev pub FieldSays : (format load : ℕ) (ls : List (List ℕ)) (n st : ℕ) (l : List ℕ) → Why → Type 0
+abbrev pub FieldSays : (format load : ℕ) (ls : List (List ℕ)) (n st : ℕ) (l : List ℕ) → DkReason → Type 0
 FieldSays format load ls n st l = Tries (OtherField format l) (λ f. why format load ls n 8 f 0) (SpanSays format load ls n st l)
 
-abbrev pub CountSays : (format load : ℕ) (ls : List (List ℕ)) (n st : ℕ) (l : List ℕ) → Why → Type 0
+abbrev pub CountSays : (format load : ℕ) (ls : List (List ℕ)) (n st : ℕ) (l : List ℕ) → DkReason → Type 0
 CountSays format load ls n st l =
     Tries (λ (x : ℕ × ℕ). OtherCount format l (x .0) (x .1)) (λ x. why format load ls n 4 (x .0) (x .1)) (FieldSays format load ls n st l)
 
-abbrev pub TypeSays : (format load : ℕ) (ls : List (List ℕ)) (n st : ℕ) (l : List ℕ) → Why → Type 0
+abbrev pub TypeSays : (format load : ℕ) (ls : List (List ℕ)) (n st : ℕ) (l : List ℕ) → DkReason → Type 0
 TypeSays format load ls n st l =
     Tries (OtherType format l) (λ t. why format load ls n 6 t 0)
     (Tries (OtherWidth format l st) (λ w. why format load ls n 7 w st) (CountSays format load ls n st l))
 
 -- and all of them, from how a line is spelled on
-abbrev pub LineChain : (format load : ℕ) (ls : List (List ℕ)) (n st from bare least : ℕ) (l : List ℕ) → Why → Type 0
+abbrev pub LineChain : (format load : ℕ) (ls : List (List ℕ)) (n st from bare least : ℕ) (l : List ℕ) → DkReason → Type 0
 LineChain format load ls n st from bare least l =
     Tries (λ (_ : Unit {0}). s.Starts format l → ⊥) (λ _. why format load ls n 1 0 0)
     (Tries (First (NoDigit format l from)) (λ k. why format load ls n 2 k (getD l k 0))

@@ -2,7 +2,7 @@
 use mathlib.Core.Path.{_≡_}
 use mathlib.Core.List.{List}
 use Prim.Native.Nat.{ℕ, _<_}
-use Rattle.record_reason.specs.declared.Why.{Why}
+use Rattle.c_answers.specs.declared.DkReason.{DkReason}
 use Rattle.c_answers.specs.declared.DkCount.{DkCount}
 use Rattle.c_answers.specs.declared.DkFault.{DkFault}
 use Rattle.c_model.specs.RecordFiles.{FaultTold, readAs}
@@ -16,7 +16,7 @@ use Rattle.meets_reason.specs.Theorems.Meets.{dk-reason-meets}
 use Rattle.meets_reason.specs.Theorems.Told.{ChecksumTold, TwiceTold, BelowTold, line-is-faults, refused-4-exactly, checksum-with-both-values}
 use Rattle.meets_reason.specs.Theorems.Told.{given-twice-by-which-line, below-with-lowest}
 
-module _ (format load : ℕ) (text scratch left : List ℕ) (y : Why) (c : ReasonTold format load text scratch y left) where
+module _ (format load : ℕ) (text scratch left : List ℕ) (y : DkReason) (c : ReasonTold format load text scratch y left) where
   says : DkReasonSays format load text scratch (y, left)
   says = dk-reason-meets format load text scratch y left c
 

@@ -7,7 +7,7 @@ use native.Mathlib.Omega.{arith}
 use lib.ListN.{length, getD}
 use Rattle.refusal.specs.Laws.Pick.{paired}
 use Rattle.record_lines.specs.Pieces.{Piece}
-use Rattle.record_reason.specs.declared.Why.{Why}
+use Rattle.c_answers.specs.declared.DkReason.{DkReason}
 use Rattle.meets.specs.Laws.Words.{OneOnly, tries-one, first-one, first-pair-one}
 use Rattle.meets_records.specs.Laws.One.{lines-one}
 use Rattle.says.specs.Reason as s
@@ -31,7 +31,7 @@ module _ (format load : ℕ) (ls : List (List ℕ)) (n : ℕ) where
       let same = first-pair-one _ i a j b f g in
       ap₂ (why format load ls n 11) (same .0) (same .1)
 
-  abbrev tell : ℕ → ℕ → ℕ → Why
+  abbrev tell : ℕ → ℕ → ℕ → DkReason
   tell = why format load ls n
 
   form-one : {a b c d e f : ℕ} → Form format a b c → Form format d e f → (a ≡ d) × (b ≡ e) × (c ≡ f)
@@ -57,7 +57,7 @@ module _ (format load : ℕ) (ls : List (List ℕ)) (n : ℕ) where
       (tries-one _ _ _ (λ a b h k. let e = past-one h k in ap₂ (tell 9) (e .0) (e .1))
       (tries-one _ _ _ (λ a b h k. let e = below-one h k in ap₂ (tell 10) (e .0) (e .1)) twice-one)))))))))) y z t u
 
-  inside : (y : Why) → LineSays format load ls n y → n < length ls
+  inside : (y : DkReason) → LineSays format load ls n y → n < length ls
   inside y (s.line-says x f t) = drop-long n ls (drop-line format x .1)
 
   pub fault-line-decides : OneOnly (FaultLine format load ls n)
@@ -80,21 +80,21 @@ module _ (format load : ℕ) (text : List ℕ) where
       absurd (none n v (subst (λ (k : List (List ℕ)). FaultLine format load k n v) (lines-one a x) t))
   dk-reason-decides scratch y z (s.first {n = n} {ls} {y = v} a f t) (s.first {n = m} {y = w} b g u) =
       let lines = lines-one b a in
-      let same : m ≡ n = first-one (λ (k : ℕ). (z : Why) × FaultLine format load ls k z) m n (rw lines at g) f in
+      let same : m ≡ n = first-one (λ (k : ℕ). (z : DkReason) × FaultLine format load ls k z) m n (rw lines at g) f in
       paired (fault-line-decides format load ls n v w t (rw (same, lines) at u)) refl
 
   -- the scratch is given back as it was
-  pub reason-keeps-scratch : {scratch : List ℕ} (y : Why × List ℕ) → DkReasonSays format load text scratch y → y .1 ≡ scratch
+  pub reason-keeps-scratch : {scratch : List ℕ} (y : DkReason × List ℕ) → DkReasonSays format load text scratch y → y .1 ≡ scratch
   reason-keeps-scratch y (s.none x none) = refl
   reason-keeps-scratch y (s.first a f t) = refl
 
   -- with other scratch it answers the same
-  other-scratch : {scratch : List ℕ} (other : List ℕ) (y : Why × List ℕ) → DkReasonSays format load text scratch y
+  other-scratch : {scratch : List ℕ} (other : List ℕ) (y : DkReason × List ℕ) → DkReasonSays format load text scratch y
       → DkReasonSays format load text other (y .0, other)
   other-scratch other y (s.none x none) = s.none x none
   other-scratch other y (s.first a f t) = s.first a f t
 
-  pub any-scratch-reason : {scratch other : List ℕ} (y z : Why × List ℕ) → DkReasonSays format load text scratch y → DkReasonSays format load text other z
+  pub any-scratch-reason : {scratch other : List ℕ} (y z : DkReason × List ℕ) → DkReasonSays format load text scratch y → DkReasonSays format load text other z
       → y .0 ≡ z .0
   any-scratch-reason {scratch} {other} y z a b =
-      ap (λ (x : Why × List ℕ). x .0) (dk-reason-decides other (y .0, other) z (other-scratch other y a) b)
+      ap (λ (x : DkReason × List ℕ). x .0) (dk-reason-decides other (y .0, other) z (other-scratch other y a) b)

@@ -27,9 +27,10 @@ use Rattle.record_fault.specs.Reading.{formatBy, Read, sound, faulty, readText}
 use Rattle.record_fault.specs.Trail.{trail}
 use Rattle.record_reason.specs.Spelling.{causeOf, orElse, leading, wantedOf, sumCause, spelled, hexTyped, srecTyped, ownCause}
 use Rattle.record_reason.specs.Spelling.{startBy, manyBy, topBy}
-use Rattle.record_reason.specs.Reasons.{itemOf, isEnd, endsBefore, spanCause, lineCause, causeAt, toldOf, whyOf}
+use Rattle.record_reason.specs.Reasons.{itemOf, isEnd, endsBefore, spanCause, lineCause, causeAt, whyOf}
 use Rattle.record_reason.specs.declared.Cause.{Cause}
-use Rattle.record_reason.specs.declared.Why.{Why}
+use Rattle.c_answers.specs.Parts.{reasonTold}
+use Rattle.c_answers.specs.declared.DkReason.{DkReason}
 use Rattle.c_model.specs.Reasons.{kindOf, ReasonTold}
 use Rattle.says.specs.Records as r
 use Rattle.says.specs.Records.{Hex, IsS, Srec}
@@ -47,7 +48,7 @@ use Rattle.meets_reason.specs.Laws.Stops.{Goes, goes-no-end, Fault, faul
 use Rattle.meets_reason.specs.Laws.NoReason.{kept-none, given-none}
 use Rattle.meets_reason.specs.Laws.Spelling.{no-digit, all-digits, count-is, long-is, long-right, long-by, sum-wrong, sum-right}
 use Rattle.meets_reason.specs.Laws.Formats.{same-read, same-why}
-use Rattle.meets_reason.specs.Laws.Chain.{or-assoc, unless, where-so}
+use Rattle.meets_reason.specs.Laws.Chain.{toldOf, or-assoc, unless, where-so}
 use Rattle.meets_reason.specs.Laws.Span.{SpanSays, AtFault, broken, unfit, span-says}
 use Rattle.meets_reason.specs.Laws.Typed.{TypeSays, LineChain, hex-typed, srec-typed}
 
@@ -285,7 +286,7 @@ module _ (format load : ℕ) (text : List ℕ) where
   by-fault n h (stops.unfit a b c g d e f) = at-line n g d (unfit a b c e f)
 
   -- ---- the lines before it have none
-  no-fault : (n : ℕ) → Stands format load text n → (y : Why) → FaultLine format load all n y → ⊥
+  no-fault : (n : ℕ) → Stands format load text n → (y : DkReason) → FaultLine format load all n y → ⊥
   no-fault n (stops.given a b c g d e f) y (s.behind h x) = not-behind n g x
   no-fault n (stops.given a b c g d e f) y (s.no-end z m) = omega (arith, drop-long n all d)
   no-fault n (stops.given {l} {rest} a b c g d e f) y (s.line m x) = given-none format load text n l rest d a b c e f y x
@@ -297,7 +298,7 @@ module _ (format load : ℕ) (text : List ℕ) where
   no-fault n (stops.over h f) y (s.line m (s.line-says x g t)) = omega (arith, drop-long n all (drop-line format x .1))
 
   -- ---- the file
-  says : (scratch : List ℕ) (x : Read) → readText format load text ≡ x → DkReasonSays format load text scratch (whyOf format load text x, scratch)
+  says : (scratch : List ℕ) (x : Read) → readText format load text ≡ x → DkReasonSays format load text scratch (reasonTold (whyOf format load text x), scratch)
   says scratch (sound out) e = s.none (lines-meet text) (λ n. no-fault n (stands-good format load text out e n))
   says scratch (faulty n) e =
       let told = by-fault n (fault-within format load text n e) (fault-at format load text n e) in
@@ -309,19 +310,20 @@ module _ (format load : ℕ) (text : List ℕ) where
         ];
       }) told
 
-  pub reason-meets : (scratch : List ℕ) (r : Why) (new : List ℕ) → r ≡ whyOf format load text (readText format load text) → new ≡ scratch
+  pub reason-meets : (scratch : List ℕ) (r : DkReason) (new : List ℕ) → r ≡ reasonTold (whyOf format load text (readText format load text)) → new ≡ scratch
       → DkReasonSays format load text scratch (r, new)
   reason-meets scratch r new e f = subst (DkReasonSays format load text scratch) (sym (paired e f)) (says scratch (readText format load text) refl)
 
 -- ---- the call
 module _ (format load : ℕ) (text scratch : List ℕ) where
-  by-kind : {k : ℕ} {r : Why} {new : List ℕ} → kindOf format ≡ k → ReasonTold format load text scratch r new → r ≡ whyOf k load text (readText k load text)
-  by-kind e c = c .answer ∙ ap (λ (k : ℕ). whyOf k load text (readText k load text)) e
+  by-kind : {k : ℕ} {r : DkReason} {new : List ℕ} → kindOf format ≡ k → ReasonTold format load text scratch r new
+      → r ≡ reasonTold (whyOf k load text (readText k load text))
+  by-kind e c = c .answer ∙ ap (λ (k : ℕ). reasonTold (whyOf k load text (readText k load text))) e
 
-  pub dk-reason-meets : (r : Why) (new : List ℕ) → ReasonTold format load text scratch r new → DkReasonSays format load text scratch (r, new)
+  pub dk-reason-meets : (r : DkReason) (new : List ℕ) → ReasonTold format load text scratch r new → DkReasonSays format load text scratch (r, new)
   dk-reason-meets r new c = reason-meets format load text scratch r new (either (eqb format 0)
       (λ t. by-kind {k = format} (rw t (sym (eqb-true format 0 t))) c)
       (λ t.
       let m = eqb-false format 0 t in
       by-kind {k = 1} (rw t refl) c
-      ∙ sym (same-why format load text m (readText format load text) ∙ ap (whyOf 1 load text) (same-read format load text m)))) (c .left)
+      ∙ sym (ap reasonTold (same-why format load text m (readText format load text) ∙ ap (whyOf 1 load text) (same-read format load text m))))) (c .left)

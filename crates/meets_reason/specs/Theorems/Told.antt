@@ -11,8 +11,8 @@ use Rattle.record_lines.specs.Pieces.{Piece}
 use Rattle.record_fault.specs.Reading.{Read, sound, faulty, readText}
 use Rattle.record_fault.specs.Outcome.{faultOf}
 use Rattle.record_reason.specs.Reasons.{whyOf}
-use Rattle.record_reason.specs.declared.Why.{Why}
-use Rattle.c_answers.specs.Parts.{lineTold}
+use Rattle.c_answers.specs.declared.DkReason.{DkReason}
+use Rattle.c_answers.specs.Parts.{lineTold, reasonTold}
 use Rattle.c_answers.specs.declared.DkFault.{DkFault}
 use Rattle.c_model.specs.RecordFiles.{readAs, FaultTold}
 use Rattle.says.specs.Words as w
@@ -42,7 +42,7 @@ stands s.here = (omega arith, refl)
 stands (s.later a x) = let k = stands x in (omega (arith, k .0), k .1)
 
 -- ---- what is told with three of the reasons
-module _ (format load : ℕ) (text : List ℕ) (y : Why) where
+module _ (format load : ℕ) (text : List ℕ) (y : DkReason) where
   -- "the checksum: what it is, and what it should be"
   pub record ChecksumTold : Type 0 where
     pub lines : List (List ℕ)
@@ -79,17 +79,17 @@ module _ (format load : ℕ) (text : List ℕ) (y : Why) where
 
 module _ (format load : ℕ) (text : List ℕ) (ls : List (List ℕ)) (cut : Lines text ls) (n : ℕ) where
   -- the line is this one, and the reason tells what it says
-  abbrev P : Why → Type 0
+  abbrev P : DkReason → Type 0
   P y = (y .line ≡ n) × Tells format load text y
 
-  abbrev tell : ℕ → ℕ → ℕ → Why
+  abbrev tell : ℕ → ℕ → ℕ → DkReason
   tell = why format load ls n
 
   -- a reason of which nothing more is said
   plain : (k a b : ℕ) → (k ≡ 0 → ⊥) → (k ≡ 5 → ⊥) → (k ≡ 11 → ⊥) → (k ≡ 10 → ⊥) → P (tell k a b)
   plain k a b z c t l = (refl, (z, λ e. absurd (c e), λ e. absurd (t e), λ e. absurd (l e)))
 
-  twice-told : (y : Why) → Twice format load ls n y → P y
+  twice-told : (y : DkReason) → Twice format load ls n y → P y
   twice-told y (s.twice {i} {a} f) = (
     refl,
     (
@@ -108,7 +108,7 @@ module _ (format load : ℕ) (text : List ℕ) (ls : List (List ℕ)) (cut : Lin
     ),
   )
 
-  line-told : (y : Why) → LineSays format load ls n y → P y
+  line-told : (y : DkReason) → LineSays format load ls n y → P y
   line-told y (s.line-says {s = st} {from = from} {l = l} at form t) =
       tries-all P (λ x m. plain 1 0 0 (λ e. omega arith) (λ e. omega arith) (λ e. omega arith) (λ e. omega arith))
       (tries-all P (λ x m. plain 2 x _ (λ e. omega arith) (λ e. omega arith) (λ e. omega arith) (λ e. omega arith))
@@ -151,39 +151,39 @@ module _ (format load : ℕ) (text : List ℕ) (ls : List (List ℕ)) (cut : Lin
         ),
       )
 
-  fault-told : (y : Why) → FaultLine format load ls n y → P y
+  fault-told : (y : DkReason) → FaultLine format load ls n y → P y
   fault-told y (s.behind h x) = plain 12 0 0 (λ e. omega arith) (λ e. omega arith) (λ e. omega arith) (λ e. omega arith)
   fault-told y (s.no-end e m) = plain 13 0 0 (λ e. omega arith) (λ e. omega arith) (λ e. omega arith) (λ e. omega arith)
   fault-told y (s.line m x) = line-told y x
 
 module _ (format load : ℕ) (text : List ℕ) where
   -- where the reader stops there is a reason
-  stops-told : (n : ℕ) {y : Why} → readText format load text ≡ faulty n → y ≡ whyOf format load text (faulty n) → y .reason ≡ 0 → ⊥
+  stops-told : (n : ℕ) {y : DkReason} → readText format load text ≡ faulty n → y ≡ reasonTold (whyOf format load text (faulty n)) → y .reason ≡ 0 → ⊥
   stops-told n e same z =
       let t = by-fault format load text n (fault-within format load text n e) (fault-at format load text n e) in
-      fault-told format load text (lines format text) (lines-meet text) n _ t .1 .0 (sym (ap (λ (k : Why). k .reason) same) ∙ z)
+      fault-told format load text (lines format text) (lines-meet text) n _ t .1 .0 (sym (ap (λ (k : DkReason). k .reason) same) ∙ z)
 
-module _ (format load : ℕ) (text scratch left : List ℕ) (y : Why) (c : DkReasonSays format load text scratch (y, left)) where
+module _ (format load : ℕ) (text scratch left : List ℕ) (y : DkReason) (c : DkReasonSays format load text scratch (y, left)) where
   told : Tells format load text y ⊎ (y ≡ record { reason = 0; line = 0; first = 0; second = 0 })
   told = go c
     where
-      go : {x : Why × List ℕ} → DkReasonSays format load text scratch x
+      go : {x : DkReason × List ℕ} → DkReasonSays format load text scratch x
           → Tells format load text (x .0) ⊎ (x .0 ≡ record { reason = 0; line = 0; first = 0; second = 0 })
       go (s.none cut never) = inr refl
       go (s.first {n} {ls} {y} cut f t) = inl (fault-told format load text ls cut n y t .1)
 
   -- the answer is the definition's, since the sentences leave one
-  why-by : {x : Read} → readText format load text ≡ x → y ≡ whyOf format load text x
+  why-by : {x : Read} → readText format load text ≡ x → y ≡ reasonTold (whyOf format load text x)
   why-by e =
       let one = dk-reason-decides format load text scratch (y, left) _ c (reason-meets format load text scratch _ scratch refl refl) in
-      ap (λ (x : Why × List ℕ). x .0) one ∙ ap (whyOf format load text) e
+      ap (λ (x : DkReason × List ℕ). x .0) one ∙ ap (λ (x : Read). reasonTold (whyOf format load text x)) e
 
   sound-told : (out : List Piece) → readText format load text ≡ sound out → (y .line ≡ 0) × (y .reason ≡ 0)
-  sound-told out e = let same = why-by e in (ap (λ (z : Why). z .line) same, ap (λ (z : Why). z .reason) same)
+  sound-told out e = let same = why-by e in (ap (λ (z : DkReason). z .line) same, ap (λ (z : DkReason). z .reason) same)
 
   fault-line : (n : ℕ) → readText format load text ≡ faulty n → (y .line ≡ n) × (y .reason ≡ 0 → ⊥)
   fault-line n e =
-      (ap (λ (z : Why). z .line) (why-by e), stops-told format load text n e (why-by e))
+      (ap (λ (z : DkReason). z .line) (why-by e), stops-told format load text n e (why-by e))
 
   no-reason : {ps : List Piece} → Good format load text ps → y .reason ≡ 0
   no-reason {ps} g = sound-told (solid ps) (good-sound format load text g) .1
@@ -238,12 +238,12 @@ module _ (format load : ℕ) (text scratch left : List ℕ) (y : Why) (c : DkRea
 
   -- "the checksum with both values"
   pub checksum-with-both-values : y .reason ≡ 5 → ChecksumTold format load text y
-  checksum-with-both-values e = ⊎-elim (λ t. t .1 e) (λ z. absurd (omega (arith, ap (λ (k : Why). k .reason) z))) told
+  checksum-with-both-values e = ⊎-elim (λ t. t .1 e) (λ z. absurd (omega (arith, ap (λ (k : DkReason). k .reason) z))) told
 
   -- "given twice and by which line"
   pub given-twice-by-which-line : y .reason ≡ 11 → TwiceTold format load text y
-  given-twice-by-which-line e = ⊎-elim (λ t. t .2 e) (λ z. absurd (omega (arith, ap (λ (k : Why). k .reason) z))) told
+  given-twice-by-which-line e = ⊎-elim (λ t. t .2 e) (λ z. absurd (omega (arith, ap (λ (k : DkReason). k .reason) z))) told
 
   -- "below the load address (with the lowest address that the file gives)"
   pub below-with-lowest : y .reason ≡ 10 → BelowTold format load text y
-  below-with-lowest e = ⊎-elim (λ t. t .3 e) (λ z. absurd (omega (arith, ap (λ (k : Why). k .reason) z))) told
+  below-with-lowest e = ⊎-elim (λ t. t .3 e) (λ z. absurd (omega (arith, ap (λ (k : DkReason). k .reason) z))) told
