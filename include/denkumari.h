@@ -1,60 +1,21 @@
-/* Denkumari: from a table of banks and a list of nodes to an image, its spans and its blocks. Every function here is proved against
- * the rules of docs/, which "document" means below. Link with libdenkumari.a, x86-64 Linux; it calls nothing but memory functions of
- * the C library, allocates nothing, keeps nothing between calls, and may be called from any thread.
+/* Denkumari: from a table of banks and a list of nodes to an image, its spans and its blocks. Every function here is proved: its contract is what the
+ * documents say of it ("document" means documents 01 and 02), and the last comment of this file names the theorems. Link with libdenkumari.a (x86-64 Linux), or
+ * compile portable/denkumari.c with any C99 compiler. It calls nothing but memory functions of the C library, allocates nothing, keeps nothing between calls,
+ * and may be called from any thread.
  *
- * Buffers. You own every buffer. Each is a pointer and the number of its elements (not of its bytes), and is used during the call only. The
- * pointers have to be good for their lengths; where a length is 0 any pointer will do, NULL too. A buffer that a function writes may overlap no
- * other of the same call. Nothing else is asked of you: every number may have any
- * value, and what is not acceptable is refused.
+ * Buffers. You own every buffer, and it is used during the call only. Each is a pointer and the number of its elements (not of its bytes), but for the arrays of
+ * dk_offer (512 elements each) and the four lists of dk_map (4,096 each), which have no number. The pointers have to be good for their lengths and aligned for
+ * their type; where a length is 0 any pointer will do, NULL too. A buffer that a function writes may overlap no other of the same call. `scratch` is written
+ * during the call and is then as it was: it is writable memory that no two calls share. Nothing else is asked of you: every number may have any value, and what is
+ * not acceptable is refused.
  *
- * Refusals. `refusal` is 0 where the call was accepted, else one of the numbers below, and `place` (and `second`) says where. A refused
- * call leaves every buffer as it was, and every other field of its answer is 0, except `passes`, and `dk_offer`'s counts, which are those
- * given. An accepted call leaves the lists that it wrote as they were past what it wrote; the rest of the image is made zero, or takes
- * the fill bits of filled banks.
+ * Refusals. `refusal` is 0 where the call was accepted, else one of the numbers below, and `place` (and `second`) says where. A refused call leaves every buffer
+ * as it was, and every other field of its answer is 0, except `passes`, dk_offer's counts, which are those given, and dk_map's `node`, which is DK_NO_NODE. An
+ * accepted call leaves the lists that it wrote as they were past what it wrote; the rest of the image is made zero, or takes the fill bits of filled banks. A
+ * text that is written has no final zero byte.
  *
  * Stack. What a call needs, all its frames included, is said of each, with what was measured on the longest lists, rounded up. bindings/c/stack.c measures
  * it by painting a thread's stack, and the tests fail where a call needs more; docs/BENCHMARK.md has the bytes.
- *
- * Statements. What a call promises is written in sentences, from the documents and in their numerals; proved are that the function says them (`.. meets`), that
- * they leave one outcome, everything lent included (`.. decides`), and from them what people look for. crate/File.name is a name of a file in
- * crates/crate/specs; docs/STATEMENTS.md quotes each below the document's sentence, and docs/READING.md says how to read them.
- *
- * dk_build          sentences `says/Build.BuildSays`; `meets_build/Meets.build-meets`, `meets_sentences/Decides.build-decides`. Refused, nothing has changed:
- *                   `meets_sentences/Outcomes.refused-changes-nothing`. No shared bit: `meets_sentences/Image.accepted-offers-apart`; the item's own bit:
- *                   `meets_sentences/Image.item-own-bit`; every other: `meets_sentences/Image.other-bit-fill`, `meets_sentences/Image.other-bit-zero`. Padding:
- *                   `meets_sentences/Padding.padding-is-the-sum`, `meets_sentences/Padding.units-within-bits`. A raised limit:
- *                   `meets_build/RaisedLimit.raised-limit-is-harmless`
- * dk_form           sentences `says/Form.FormSays`; `meets_form/FormMeets.form-meets`, `meets_form/FormDecides.form-decides`. A broken file:
- *                   `meets_form/Forms.broken-file`; bank 0: `meets_form/Forms.form-2-closes-bank-0`, `meets_form/Forms.form-1-opens-bank-0`
- * dk_profile        sentences `says/Profile.ProfileSays`; `meets_profile/Meets.profile-meets`, `meets_profile/Decides.profile-decides`. Yes and 19:
- *                   `meets_profile/Ticket9.yes-exactly`, `meets_profile/Ticket9.nineteen-exactly`
- * dk_build_paged    sentences `says/Paged.PagedSays`; `meets_profile/Meets.paged-meets`, `meets_profile/Decides.paged-decides`. After a yes the ordinary
- *                   build: `meets_profile/Meets.paged-is-build`
- * dk_form_paged     sentences `says/FormPaged.FormPagedSays`; `meets_form_paged/Meets.form-paged-meets`, `meets_form_paged/Decides.form-paged-decides`
- * dk_map            sentences `says/Map.MapSays`; `meets_map/Meets.map-meets`, `meets_map/Decides.map-decides`. Refused as the build is but for 14:
- *                   `build_map/AsBuilt.refused-exactly-as-built`; the node at fault: `build_map/AsBuilt.fault-is-where-refused`
- * dk_to_form2       sentences `says/Convert.ConvertSays`; `meets_convert/Meets.to-form2-meets`, `meets_convert/Decides.to-form2-decides`. There and
- *                   back: `meets_convert/Trips.form-1-and-back`; the same build: `meets_convert/SameBuild.other-banks-same-build`,
- *                   `meets_convert/SameBuild.one-bank-same-build`
- * dk_to_form1       the same sentences; `meets_convert/Meets.to-form1-meets`, `meets_convert/Decides.to-form1-decides`. And again:
- *                   `meets_convert/Trips.form-2-and-again`; the same build: `meets_convert/SameBuild.plain-same-build`, `meets_convert/SameBuild.shape-same-build`
- * dk_blocks         sentences `says/DkBlocks.DkBlocksSay`; `meets_bits/Blocks.dk-blocks-meets`, `meets_bits/Blocks.dk-blocks-decides`
- * dk_hex            sentences `says/Hex.HexSays`; `meets_bits/Hex.hex-meets`, `meets_bits/Hex.hex-decides`
- * dk_offer          sentences `says/Store.OfferSays`; `meets_store/Meets.offer-meets`, `meets_store/Decides.offer-decides`. Calls one after the other,
- *                   from an empty store: `meets_store/Demand3.stored-exactly`, `meets_store/Demand3.marked-exactly`; in any order:
- *                   `meets_store/Order.reordered-accepted`
- * dk_part           sentences `says/Part.PartSays`; `meets_bits/Part.part-meets`, `meets_bits/Part.part-decides`
- * dk_overlay_range  sentences `says/Overlay.RangeSays`; `meets_overlay/Range.range-meets`, `meets_overlay/Range.range-decides`
- * dk_overlay_runs   sentences `says/Overlay.RunsSay`; `meets_overlay/Runs.runs-meet`, `meets_overlay/Runs.runs-decide`
- * dk_write_hex      sentences `says/Write.HexSays`; `meets_records/WriteMeets.write-hex-meets`, `meets_records/WriteDecides.write-hex-decides`. Read back:
- *                   `meets_records/Calls.hex-back`; every line sums to zero: `meets_records/Calls.hex-sums`
- * dk_write_srec     sentences `says/Write.SrecSays`; `meets_records/WriteMeets.write-srec-meets`, `meets_records/WriteDecides.write-srec-decides`. Read
- *                   back: `meets_records/Calls.srec-back`; checksums: `meets_records/Calls.srec-sums`
- * dk_read_records   sentences `says/Read.ReadSays`; `meets_records/ReadMeets.read-meets`, `meets_records/ReadDecides.read-decides`. Records in any order:
- *                   `meets_records/Calls.any-order`; LF or CR LF: `meets_records/Calls.either-end`
- * dk_record_fault   sentences `says/Read.FaultSays`; `meets_records/FaultMeets.fault-meets`, `meets_records/FaultDecides.fault-decides`
- * dk_record_reason  sentences `says/Reason.DkReasonSays`; `meets_reason/Meets.dk-reason-meets`, `meets_reason/Decides.dk-reason-decides`. A reason exactly
- *                   where dk_read_records refuses 4: `meets_reason/Calls.reason-exactly`; dk_record_fault's line: `meets_reason/Calls.same-line`
  */
 #ifndef DENKUMARI_H
 #define DENKUMARI_H
@@ -96,7 +57,7 @@ enum dk_refusal {
     DK_NEGATIVE_ALIGNMENT = 6, /* no longer given: alignments are met below address 0 too */
     DK_LABEL_OFF_BOUNDARY = 7, /* a label in the last pass is between two addresses; place: the node */
     DK_UNRESOLVED = 8,         /* the last pass ended unresolved; place 0 */
-    DK_DEFAULT_BANK = 9,       /* bank 0 is used though there are others or it is closed; place: the node */
+    DK_DEFAULT_BANK = 9,       /* bank 0 is used, but it is closed or not the only bank; place: the node */
     DK_PAST_BANK = 10,         /* an item ends past its bank's size; place: the node */
     DK_NO_OUTPUT = 11,         /* an item is written in a bank without output offset; place: the node */
     DK_OVERLAP = 12,           /* an item would share a bit with another, or have a mark (an item of size 0) strictly inside it, or is a mark
@@ -120,8 +81,8 @@ enum dk_refusal {
 
 /* The rules of the profile, in the order in which they are tried. */
 enum dk_rule {
-    DK_RULE_PAGE = 1,   /* the page size has exactly one bit set */
-    DK_RULE_ALIGN = 2,  /* every alignment is 0 or has exactly one bit set: label alignments, then those of nodes, in every row */
+    DK_RULE_PAGE = 1,   /* the page size is a power of two */
+    DK_RULE_ALIGN = 2,  /* every alignment is 0 or a power of two: label alignments, then those of nodes, in every row */
     DK_RULE_OFFSET = 3, /* a bank's offset is on a page */
     DK_RULE_SIZE = 4,   /* a bank with an offset has a size of whole pages */
     DK_RULE_UNIT = 5,   /* address units are 8 or 16 bits */
@@ -182,7 +143,7 @@ struct dk_part {
     uint64_t length;  /* in bytes */
 };
 
-/* Three answers have the name of their call, which C++ takes for the call alone unless `struct` stands before it: they have these names too. */
+/* Three answers have the name of their call. In C++ these names mean the function; use these aliases for the structs. */
 typedef struct dk_part dk_part_answer;
 typedef struct dk_offer dk_offer_answer;
 typedef struct dk_profile dk_profile_answer;
@@ -203,8 +164,8 @@ struct dk_offer {
  *
  * Node j has kinds[j], and operands[j], a bank for DK_SWITCH, a depth for DK_LABEL and DK_CONSTANT, the first bit in `values` for items. There are
  * `rows` rows, 1 to 16; row r gives node j numbers[r * nodes + j] and states[r * nodes + j] (0 resolved, 1 stable, 2 unresolved). `limit` is
- * the pass limit. `fill` is DK_FILL_INHERITED, by which a filled bank whose last bit is the image's length is left out, or DK_FILL_FULL, by which the image
- * reaches the end of every filled bank. `closed` says whether bank 0 may hold labels, written items and reserves where it is the only bank: 0, as in form 1,
+ * the pass limit. `fill` is DK_FILL_INHERITED, customasm's rule (if the image ends just before a filled bank's last bit, that bit is left out), or DK_FILL_FULL, by which the
+ * image reaches the end of every filled bank. `closed` says whether bank 0 may hold labels, written items and reserves where it is the only bank: 0, as in form 1,
  * that it may; any other number, as in form 2, that it may not.
  *
  * Writes the image, bits from the top of each byte, and the spans, labels and written items in the order of the nodes: span i has addresses[i],
@@ -292,7 +253,7 @@ struct dk_layout dk_form_paged(const uint8_t *file, size_t file_len, uint8_t fil
                                uint64_t *offsets, size_t offsets_len,
                                uint64_t *sizes, size_t sizes_len);
 
-/* The node of a map that is at fault, where there is none; and the place in the output of a node that has none. */
+/* The node of a map that is at fault, where there is none. */
 #define DK_NO_NODE UINT64_MAX
 
 /* The map of a layout. */
@@ -337,8 +298,9 @@ struct dk_mapped dk_map(const uint16_t *units, size_t units_len,
 struct dk_count dk_to_form2(const uint8_t *file, size_t file_len, uint8_t *out, size_t out_len);
 struct dk_count dk_to_form1(const uint8_t *file, size_t file_len, uint8_t *out, size_t out_len);
 
-/* The blocks that spans make: taken by offset, a span that starts at the end of those before it joins them. As many offsets as sizes, at
- * most 4,096 (else 4). Block i starts at bit block_offsets[i] and has block_sizes[i] bits. It needs less than 12 KiB of stack (10.5 KiB), 8 KiB
+/* The blocks that spans make: taken by offset, a span that starts at the end of those before it joins them; a span whose offset is DK_NO_OFFSET is passed over,
+ * and blocks of size 0 are dropped. Refused 4 (place 0) unless there are as many offsets as sizes, at most 4,096, no offset but DK_NO_OFFSET above 8,589,934,590 and
+ * no size above 4,294,967,295; then 14 (place 2). Block i starts at bit block_offsets[i] and has block_sizes[i] bits. It needs less than 12 KiB of stack (10.5 KiB), 8 KiB
  * of it for the spans' numbers. */
 struct dk_count dk_blocks(const uint64_t *offsets, size_t offsets_len,
                           const uint64_t *sizes, size_t sizes_len,
@@ -418,8 +380,8 @@ enum dk_format { DK_INTEL_HEX = 0, DK_S_RECORDS = 1 };
  * neither of the two or the file bad: a line, a byte given twice or below `load`; then 14 where `bytes` (place 0) or a list (place 2) is too short.
  * The call answers the same whatever `scratch` is, and leaves it as it was; it may be empty. Time grows with the text where records ascend, descend or stand in
  * a few blocks in any order. Where many records jump it grows with the text too if `scratch` is all zeros and has a byte for every 8 addresses from the lowest
- * that is given to the highest; with fewer zeros the text is read once more for each 8 * scratch_len of those addresses that has a byte; with none, with more
- * than 2^29 bytes, or where `scratch` has a byte that is not zero, time grows with the square of the number of lines. It needs less than 2 KiB of stack
+ * that is given to the highest. With less, the text is read again for each 8 * scratch_len of those addresses that has a byte. With none, with more than 2^29
+ * bytes, or with a byte in it that is not zero, time grows with the square of the number of lines. It needs less than 2 KiB of stack
  * (1.5 KiB). */
 struct dk_count dk_read_records(uint8_t format, const uint8_t *text, size_t text_len, uint32_t load,
                                 uint8_t *bytes, size_t bytes_len,
@@ -433,7 +395,7 @@ struct dk_fault {
     uint64_t line;  /* the first line at which no good file can go on, from 0 */
 };
 
-/* The same file, asked why it is refused with 4, in the same time, with `scratch` as above. In a format that is neither no file is good: line 0. It needs less
+/* At which line the same file is bad, in the same time, with `scratch` as above. Unknown format: fault 1, line 0. It needs less
  * than 1 KiB of stack. */
 struct dk_fault dk_record_fault(uint8_t format, const uint8_t *text, size_t text_len, uint32_t load,
                                 uint8_t *scratch, size_t scratch_len);
@@ -516,7 +478,7 @@ static inline const char *dk_words(uint64_t refusal)
     case DK_POSITION_PAST: return "a position would pass 4,294,967,295";
     case DK_LABEL_OFF_BOUNDARY: return "a label in the last pass is between two addresses";
     case DK_UNRESOLVED: return "the last pass ended unresolved";
-    case DK_DEFAULT_BANK: return "bank 0 is used though there are others or it is closed";
+    case DK_DEFAULT_BANK: return "bank 0 is used, but it is closed or not the only bank";
     case DK_PAST_BANK: return "an item ends past its bank's size";
     case DK_NO_OUTPUT: return "an item is written in a bank that has no place in the output";
     case DK_OVERLAP: return "a placement would share a bit with another, or have a mark strictly inside it, or is a mark strictly inside another";
@@ -537,5 +499,48 @@ static inline const char *dk_words(uint64_t refusal)
 #ifdef __cplusplus
 }
 #endif
+
+/* Statements. The contract of each function is a sentence, from the documents and in their numerals (crates/says). Proved are that the function says it (the
+ * proof goes by `.. meets`), that it allows exactly one outcome, everything lent included (`.. decides`), and from it what people look for. crate/File.name is a
+ * name of a file in crates/crate/specs; docs/STATEMENTS.md has each beside the document's words, and docs/READING.md says how to read them. Those on reading
+ * and reasons speak of the formats 0 and 1 (`format < 2`).
+ *
+ * dk_build          sentences `says/Build.BuildSays`; `meets_build/Meets.build-meets`, `meets_sentences/Decides.build-decides`. Refused, nothing has changed:
+ *                   `meets_sentences/Outcomes.refused-changes-nothing`. No shared bit: `meets_sentences/Image.accepted-offers-apart`; the item's own bit:
+ *                   `meets_sentences/Image.item-own-bit`; every other: `meets_sentences/Image.other-bit-fill`, `meets_sentences/Image.other-bit-zero`. Padding:
+ *                   `meets_sentences/Padding.padding-is-the-sum`, `meets_sentences/Padding.units-within-bits`. A raised limit:
+ *                   `meets_build/RaisedLimit.raised-limit-is-harmless`
+ * dk_form           sentences `says/Form.FormSays`; `meets_form/FormMeets.form-meets`, `meets_form/FormDecides.form-decides`. A broken file:
+ *                   `meets_form/Forms.broken-file`; bank 0: `meets_form/Forms.form-2-closes-bank-0`, `meets_form/Forms.form-1-opens-bank-0`
+ * dk_profile        sentences `says/Profile.ProfileSays`; `meets_profile/Meets.profile-meets`, `meets_profile/Decides.profile-decides`. Yes and 19:
+ *                   `meets_profile/Ticket9.yes-exactly`, `meets_profile/Ticket9.nineteen-exactly`
+ * dk_build_paged    sentences `says/Paged.PagedSays`; `meets_profile/Meets.paged-meets`, `meets_profile/Decides.paged-decides`. After a yes the ordinary
+ *                   build: `meets_profile/Meets.paged-is-build`
+ * dk_form_paged     sentences `says/FormPaged.FormPagedSays`; `meets_form_paged/Meets.form-paged-meets`, `meets_form_paged/Decides.form-paged-decides`
+ * dk_map            sentences `says/Map.MapSays`; `meets_map/Meets.map-meets`, `meets_map/Decides.map-decides`. Refused as the build is but for 14:
+ *                   `build_map/AsBuilt.refused-exactly-as-built`; the node at fault: `build_map/AsBuilt.fault-is-where-refused`
+ * dk_to_form2       sentences `says/Convert.ConvertSays`; `meets_convert/Meets.to-form2-meets`, `meets_convert/Decides.to-form2-decides`. There and
+ *                   back: `meets_convert/Trips.form-1-and-back`; the same build: `meets_convert/SameBuild.other-banks-same-build`,
+ *                   `meets_convert/SameBuild.one-bank-same-build`
+ * dk_to_form1       the same sentences; `meets_convert/Meets.to-form1-meets`, `meets_convert/Decides.to-form1-decides`. And again:
+ *                   `meets_convert/Trips.form-2-and-again`; the same build: `meets_convert/SameBuild.plain-same-build`, `meets_convert/SameBuild.shape-same-build`
+ * dk_blocks         sentences `says/DkBlocks.DkBlocksSay`; `meets_bits/Blocks.dk-blocks-meets`, `meets_bits/Blocks.dk-blocks-decides`
+ * dk_hex            sentences `says/Hex.HexSays`; `meets_bits/Hex.hex-meets`, `meets_bits/Hex.hex-decides`
+ * dk_offer          sentences `says/Store.OfferSays`; `meets_store/Meets.offer-meets`, `meets_store/Decides.offer-decides`. Calls one after the other,
+ *                   from an empty store: `meets_store/Demand3.stored-exactly`, `meets_store/Demand3.marked-exactly`; in any order:
+ *                   `meets_store/Order.reordered-accepted`
+ * dk_part           sentences `says/Part.PartSays`; `meets_bits/Part.part-meets`, `meets_bits/Part.part-decides`
+ * dk_overlay_range  sentences `says/Overlay.RangeSays`; `meets_overlay/Range.range-meets`, `meets_overlay/Range.range-decides`
+ * dk_overlay_runs   sentences `says/Overlay.RunsSay`; `meets_overlay/Runs.runs-meet`, `meets_overlay/Runs.runs-decide`
+ * dk_write_hex      sentences `says/Write.HexSays`; `meets_records/WriteMeets.write-hex-meets`, `meets_records/WriteDecides.write-hex-decides`. Read back:
+ *                   `meets_records/Calls.hex-back`; every line sums to zero: `meets_records/Calls.hex-sums`
+ * dk_write_srec     sentences `says/Write.SrecSays`; `meets_records/WriteMeets.write-srec-meets`, `meets_records/WriteDecides.write-srec-decides`. Read
+ *                   back: `meets_records/Calls.srec-back`; checksums: `meets_records/Calls.srec-sums`
+ * dk_read_records   sentences `says/Read.ReadSays`; `meets_records/ReadMeets.read-meets`, `meets_records/ReadDecides.read-decides`. Records in any order:
+ *                   `meets_records/Calls.any-order`; LF or CR LF: `meets_records/Calls.either-end`
+ * dk_record_fault   sentences `says/Read.FaultSays`; `meets_records/FaultMeets.fault-meets`, `meets_records/FaultDecides.fault-decides`
+ * dk_record_reason  sentences `says/Reason.DkReasonSays`; `meets_reason/Meets.dk-reason-meets`, `meets_reason/Decides.dk-reason-decides`. A reason exactly
+ *                   where dk_read_records refuses 4: `meets_reason/Calls.reason-exactly`; dk_record_fault's line: `meets_reason/Calls.same-line`
+ */
 
 #endif
