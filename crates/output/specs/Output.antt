@@ -119,7 +119,7 @@ passesOf b = layoutOf (b .banks) (b .lists) (b .choices) .passes
 abbrev pub settledOf : Input → Settled
 settledOf b = layoutOf (b .banks) (b .lists) (b .choices) .settled
 
--- The answer: "K, passes run, image length, number of spans", or one refusal, with the passes run; and each bank's padding.
+-- The answer: K, the passes run, the image's length and the number of spans, or one refusal, with the passes run; and each bank's padding.
 unfoldable pub buildOf : Input → Room → Output
 buildOf b room =
     outputOf (program (b .banks) (b .lists)) (rowOfPass (b .lists) (passesOf b)) (passesOf b) (settledBuild b room (passesOf b) (settledOf b))

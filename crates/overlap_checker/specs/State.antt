@@ -41,7 +41,7 @@ unfoldable pub namedIn : State → Entry → Entry
 namedIn s e = pick (clashesAny e (s .intervals)) (named (s .intervals) e) (interval (lowestInside e (s .marks)) 0)
 
 -- What an offer, made for a node, is answered: as the enum, and in document 01's figures. "12 the stored start and size" (a mark has size 0), "13 too in a
--- build [the node]".
+-- build": the node.
 abbrev pub answer : State → Entry → ℕ → Verdict
 answer s e node = tries s e (Refused (Overlap (namedIn s e .position) (namedIn s e .size))) (Refused (StoreFull node)) Accepted
 

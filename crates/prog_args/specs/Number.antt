@@ -10,7 +10,7 @@ use Rattle.refusal.specs.Pick.{pick}
 use Rattle.refusal.specs.declared.Opt.{Opt}
 use Rattle.refusal.specs.declared.Opt.the-variants.{None, Some}
 
--- "0" to "9", "A" to "F", "a" to "f"; 16 is no digit's value.
+-- `0` to `9`, `A` to `F`, `a` to `f`; 16 is no digit's value.
 abbrev pub digitValue : ℕ → ℕ
 digitValue c =
     pick (ltb c 48) 16

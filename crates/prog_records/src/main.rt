@@ -80,7 +80,7 @@ fn block_count(bits: u64) -> usize
     if bits == 0 { 0 } else { 1 }
 }
 
-// The text of the whole image as one block. "the last byte's unused bits" are zero in the image.
+// The text of the whole image as one block. The last byte's unused bits are zero in the image.
 fn put_whole(format: u8, load: u32, bits: u64, image: &[u8], out: &mut [u8]) -> usize
     requires { ⌜ length (now image) ≤ imageRoom ⌝ }
     requires { ⌜ bits ≤ 8 * imageRoom ⌝ }

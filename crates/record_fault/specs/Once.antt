@@ -1,4 +1,4 @@
--- "nothing given twice", line by line and address by address.
+-- Nothing is given twice, line by line and address by address.
 use mathlib.Core.Path.{_≡_}
 use mathlib.Core.Bool.{Bool, true}
 use mathlib.Core.List.{List, [], _∷_}

@@ -25,7 +25,7 @@ pub data HexFile : ℕ → List Piece → List (List ℕ) → Type 0 where
       → HexFile (p .address / 65536) l lines
       → HexFile upper (p ∷ l) (first ∷ line ∷ lines)
 
--- "every record written is good by the reader's own rule"
+-- A record that is written is good by the reader's own rule.
 abbrev pub Good : List ℕ → Type 0
 Good line = goodLine line ≡ true
 

@@ -10,7 +10,7 @@ use Rattle.bankdef.specs.Check.{firstPair}
 use Rattle.bankdef.specs.Fill.{fillFrom, fullLength, fillBy}
 use Rattle.bankdef.specs.Cases.{alone, bitBank, lockBank, pair, two}
 
--- "banks (offset 0, size 8), (8, 8): apart. (0, 9), (8, 8): 3. (8, 8), (0, no size): 3. (0, 8), (8, no size): apart." "fill alone,
+-- "banks (offset 0, size 8), (8, 8): apart." "(0, 9), (8, 8): 3." "(8, 8), (0, no size): 3." "(0, 8), (8, no size): apart." "fill alone,
 -- offset 0: size 1 gives length 0, size 2 gives 2."
 pub bank-cases : (two 0 (Some 8) 8 (Some 8) ≡ Accepted) × (two 0 (Some 9) 8 (Some 8) ≡ Refused (BanksOverlap 1 2)) × (two 8 (Some 8) 0 None ≡ Refused
     (BanksOverlap 1 2)) × (two 0 (Some 8) 8 None ≡ Accepted) × (numberOf (BanksOverlap 1 2) ≡ 3) × (alone 1 ≡ 0) × (alone 2 ≡ 2)

@@ -39,7 +39,7 @@ module _ {k : Kind} (known : Known k) (file : List ℕ) (short : length file ≤
       (ap (fieldAt file 5 1) (limit-begin known file c rest begins) ∙ none)
       ∙ ap (λ (n : ℕ). brokenAt (n + 1)) (before-is known file c (field 4 (c .values) ++ rest) begins (stops known file c rest begins))
 
-  -- After the limit too: "bytes after the limit are an extra one", whatever they are.
+  -- After the limit too: bytes behind it are an extra field, whatever they are.
   pub fault-behind-limit : (x : ℕ) (more : List ℕ) → Begins k file c (field 4 (c .values) ++ (field 5 (c .limit ∷ []) ++ (x ∷ more)))
       → formIn k file ≡ brokenAt (fieldsAt k c + 2)
   fault-behind-limit x more begins =

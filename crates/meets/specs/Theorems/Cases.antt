@@ -55,7 +55,7 @@ module _ (o : ℕ) (m : Opt) (p : ℕ) (n : Opt) (so : o ≤ 4294967295) (sm : S
 abbrev Says : ℕ → Opt → ℕ → Opt → Told Nothing → Type 0
 Says o m p n = CheckSays (table (bank (Some o) m false) (bank (Some p) n false))
 
--- "banks (offset 0, size 8), (8, 8): apart. (0, 9), (8, 8): 3. (8, 8), (0, no size): 3. (0, 8), (8, no size): apart."
+-- "banks (offset 0, size 8), (8, 8): apart." "(0, 9), (8, 8): 3." "(8, 8), (0, no size): 3." "(0, 8), (8, no size): apart."
 pub record BankCases : Type 0 where
   pub touching : (x : Told Nothing) → Says 0 (Some 8) 8 (Some 8) x → x ≡ gives nothing
   pub sharing : (x : Told Nothing) → Says 0 (Some 9) 8 (Some 8) x → x ≡ refuses 3 (Two 1 2)

@@ -23,7 +23,7 @@ past-stays-past hex value (c ∷ text) h =
     either-none (ltb (digitValue c) (baseOf hex)) (numberFrom (baseOf hex) (baseOf hex * value + digitValue c) text)
     (past-stays-past hex (baseOf hex * value + digitValue c) text (grows hex value (digitValue c) h))
 
--- "128" spells 128, and so does "0x80"; "4294967296" is past the limit, and "12x" and "0x" are none.
+-- `128` spells 128, and so does `0x80`; `4294967296` is past the limit, and `12x` and `0x` are none.
 pub spells-128 : numberIn (49 ∷ 50 ∷ 56 ∷ []) ≡ Some 128
 unfolding numberFrom
 spells-128 = refl

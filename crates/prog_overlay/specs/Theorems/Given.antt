@@ -16,7 +16,7 @@ module _ (load : ℕ) (pieces : List Piece) where
   abbrev free : ℕ → ℕ
   free at = freeFrom (origins (blocksGiven load pieces)) (sizes (blocksGiven load pieces)) at
 
-  -- "which file does not give which address": the file gives no byte there,
+  -- Which file does not give which address: the file gives no byte there,
   pub named-is-not-given : (at : ℕ) → given pieces (load + free at) ≡ false
   named-is-not-given at =
       free-fails (isGiven load pieces) 0 (suc (reach load pieces)) (runsGiven load pieces) (given-runs load pieces)

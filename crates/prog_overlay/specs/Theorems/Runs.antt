@@ -64,7 +64,7 @@ module _ (load : ℕ) (old : List ℕ) (under issued : List Piece) where
       (getD-take n released b 0 (omega (arith, length-take n released))
       ∙ filled-at load issued overlay b (omega (arith, length-take m overlay)) ∙ byte-kept issued (load + b) (getD overlay b 0) e)
 
-  -- "no byte is shown that a file does not give": of a run, both give every byte.
+  -- No byte is shown that a file does not give: of a run, both give every byte.
   pub run-is-given-by-both : (b : ℕ) → Holds (runsOf images) b → (given under (load + b) ≡ true) × (given issued (load + b) ≡ true)
   run-is-given-by-both b h =
       let i = runs-hold-exactly images b .0 h in

@@ -74,7 +74,7 @@ module _ (type field : ℕ) (bytes : List ℕ) (ht : type < 256) (hf : field < 6
       ∙ take-all (5 + length bytes) whole (omega (arith, long-whole)))
       ∙ ap (λ (k : ℕ). k % 256) (omega (arith, sum-append bytes check)) ∙ zero-sum (sumOf (recordBytes type field bytes))
 
-  -- "every record written is good by the reader's own rule"
+  -- Every record that is written is good by the reader's own rule.
   pub written-record-good : goodLine line ≡ true
   unfolding goodLine
   written-record-good =

@@ -47,7 +47,7 @@ module _ (load : ℕ) (old : Lent) where
   abbrev pub Enough : List Piece → Type 0
   Enough pieces = reach load pieces ≤ length (old .bytes)
 
-  -- "places for blocks": those of the shorter list
+  -- The places for blocks: those of the shorter list
   abbrev pub FewPlaces : List Piece → Type 0
   FewPlaces pieces = (length (old .offsets) < length (blocksGiven load pieces)) ⊎ (length (old .sizes) < length (blocksGiven load pieces))
 

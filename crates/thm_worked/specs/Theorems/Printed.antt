@@ -52,7 +52,7 @@ use Rattle.print_report.specs.Report.{reportText}
 use Rattle.thm_worked.specs.Laws.Room.{any-room}
 use Rattle.thm_worked.specs.March.{marchFile}
 
--- In March "a reservation of zero bits on the first word" let the second table be written into the first: it is refused, and the table is named.
+-- In March a reservation of zero bits on the first word let the second table be written into the first: it is refused, and the table is named.
 pub march-refused : reportText marchFile 0 None ≡ ascii "refused 12 0 128\n"
 unfolding marchFile reportText begins2 kindOf formIn shapeIn bankCountIn nodesStartIn nodeCountIn rowsStartIn rowCountIn valuesStartIn valuesSizeIn
     limitStartIn fieldsBeforeIn run runIn soundAt fieldAt word16 word32 word64 bankAt column cells buildOf layoutOf listsOf nodesTo anyRowFault
