@@ -50,6 +50,8 @@ class Declared:
     def __init__(self, path, line, around, signature, whole, definition):
         self.path, self.line, self.around, self.signature, self.whole, self.definition = path, line, around, signature, whole, definition
         self.comment, self.name, self.owner, self.inner, self.field = [], '', None, [], False
+        # the comments above the modules that it stands in; other declarations of the file with the same name
+        self.notes, self.others = [], []
 
     def is_type(self):
         return bool(re.match(r'\s*((pub|abbrev|unfoldable) )*(record|data) ', self.signature[0])) or self.path.endswith('.rt')
@@ -82,17 +84,23 @@ def declared_in(path):
     every[path] = []
 
     def above(i):
-        """The comment right above a line, as far as it is indented alike; a heading of a file's part is none."""
+        """The comment right above a line, as far as it is indented alike; a heading (`-- ----`) begins one."""
         j = i
-        while j > 0 and lines[j - 1].strip().startswith('-- ') and indent(lines[j - 1]) == indent(lines[i]) and not lines[j - 1].strip().startswith('-- ----'):
+        while j > 0 and lines[j - 1].strip().startswith('-- ') and indent(lines[j - 1]) == indent(lines[i]):
             j -= 1
+            if lines[j].strip().startswith('-- ----'):
+                break
         return lines[j:i]
 
     def put(name, declared, public, member):
-        rank = (not public, member)
-        if name not in names or rank < names[name].rank:
+        declared.rank = (not public, member)
+        if name not in names:
             names[name] = declared
-            declared.rank = rank
+        elif declared.rank < names[name].rank:
+            declared.others = names[name].others + [names[name]]
+            names[name] = declared
+        else:
+            names[name].others.append(declared)
 
     while i < len(lines):
         text = lines[i].strip()
@@ -106,22 +114,21 @@ def declared_in(path):
         while k < len(words) and words[k] in MODIFIERS:
             k += 1
         first = words[k] if k < len(words) else ''
-        context = [a[1] for a in around]
+        context, notes = [a[1] for a in around], [a[2] for a in around]
         if first == 'module':
-            head = [lines[i]]
+            head, note = [lines[i]], above(i)
             while not head[-1].endswith(' where') and i + 1 < len(lines):
                 i += 1
                 head.append(lines[i])
-            around.append((d, head))
+            around.append((d, head, note))
             last = None
             i += 1
         elif first in ('record', 'data') and k + 1 < len(words):
             whole, end = block(lines, i)
             own = Declared(path, i + 1, context, whole, whole, True)
-            own.name = words[k + 1]
+            own.name, own.notes, own.comment = words[k + 1], notes, above(i)
             every[path].append(own)
             put(own.name, own, 'pub' in words[:k], False)
-            names[own.name].comment = names[own.name].comment or above(i)
             head = [whole[0]]
             n = 1
             while not head[-1].endswith(' where') and n < len(whole):
@@ -154,7 +161,7 @@ def declared_in(path):
             signed = ' : ' in text or text.endswith(' :')
             if signed and (after == ':' or after[:1] in ('(', '{')) and not re.match(r'^[^:]* = ', ' '.join(words[k:])):
                 last = Declared(path, i + 1, context, part, list(part), any(w in ('abbrev', 'unfoldable') for w in words[:k]))
-                last.name, last.comment = first, above(i)
+                last.name, last.notes, last.comment = first, notes, above(i)
                 every[path].append(last)
                 put(first, last, 'pub' in words[:k], False)
             elif last and first == last.name:
@@ -244,9 +251,10 @@ def struct(crate, name):
                     whole = [x for x in lines[i:j + 1] if not x.strip().startswith('//')]
                     found = Declared(os.path.relpath(path, ROOT), i + 1, [], whole, whole, True)
                     found.name = name
-                    while i > 0 and lines[i - 1].startswith('//'):
+                    while i > 0 and lines[i - 1].startswith(('//', '#[')):
                         i -= 1
-                        found.comment.insert(0, '--' + lines[i][2:])
+                        if lines[i].startswith('//'):
+                            found.comment.insert(0, '--' + lines[i][2:])
         structs[crate, name] = found
     return structs[crate, name]
 
@@ -263,8 +271,15 @@ def module(path):
     return f'crates/{crate}/{where}/{rest.replace(".", "/")}.antt'
 
 
-def named(path, name, seen=()):
-    """What a name of a module is: a declaration, the name of one of the library, or None."""
+def meant(d, words):
+    """What a name stands for that several types of a file may have for a constructor: those of them that are spoken of beside it, else all."""
+    owners = [x.owner for x in [d] + d.others if x.owner] if d.owner else []
+    spoken = [x for x in owners if x.name in words]
+    return (spoken or owners) if len(owners) > 1 else [d.owner or d]
+
+
+def named(path, name, seen=(), words=None):
+    """What a name of a module is: a declaration, the name of one of the library, or None; with `words`, the ones beside it, a list of declarations too."""
     there = module(path)
     if there is None:
         return f'{path}.{name}'
@@ -274,9 +289,9 @@ def named(path, name, seen=()):
         return None
     if name in names_of(there) and not names_of(there)[name].field:
         d = names_of(there)[name]
-        return d.owner or d
+        return (d.owner or d) if words is None else meant(d, words)
     if name in uses_of(there).passed and there not in seen:
-        return named(*uses_of(there).passed[name], seen + (there,))
+        return named(*uses_of(there).passed[name], seen + (there,), words)
     return None
 
 
@@ -316,25 +331,28 @@ def mentioned(path, lines, own):
     """What the words of a declaration mean: declarations, and names of the library."""
     uses = uses_of(path)
     here = names_of(path) if path.endswith('.antt') else {}
+    toks = tokens(lines)
+    words = {t for t, _ in toks}
 
     def resolve(name):
+        """The declarations that a name may mean, or the name of one of the library, in a list."""
         for alias in (name, f'_{name}_', f'{name}_', f'_{name}'):
             if alias in here and not here[alias].field:
-                return here[alias].owner or here[alias]
+                return meant(here[alias], words)
             if alias in uses.names:
-                return named(*uses.names[alias])
-        return None
+                found = named(*uses.names[alias], words=words)
+                return found if isinstance(found, list) else [found]
+        return []
 
     def is_constructor(name):
-        d = resolve(name)
-        return isinstance(d, Declared) and (d.is_type() and name != d.name)
+        return any(isinstance(d, Declared) and d.is_type() and name != d.name for d in resolve(name))
     hidden = bound(lines, is_constructor)
-    toks = tokens(lines)
     out, n = [], 0
     while n < len(toks):
         t = toks[n][0]
         if n + 2 < len(toks) and toks[n + 1] == ('.', True) and toks[n + 2][1] and t in uses.modules and t not in hidden:
-            out.append(named(uses.modules[t], toks[n + 2][0]))
+            found = named(uses.modules[t], toks[n + 2][0], words=words)
+            out += found if isinstance(found, list) else [found]
             n += 3
             continue
         if t == '.':
@@ -342,13 +360,11 @@ def mentioned(path, lines, own):
             continue
         after = toks[n + 1][0] if n + 1 < len(toks) else ''
         before = toks[n - 1][0] if n else ''
-        if (after == '=' and before in ('{', ';') or after == ':' and before in ('pub', '(', '{', ';')
-                or t in WORDS or t in hidden or t == own or re.fullmatch(r'[\d_]+|[(){},;@]', t)):
+        # what a colon follows is declared here: a field, a constructor, a binder
+        if (after == '=' and before in ('{', ';') or after == ':' or t in WORDS or t in hidden or t == own or re.fullmatch(r'[\d_]+|[(){},;@]', t)):
             n += 1
             continue
-        d = resolve(t)
-        if d is not None:
-            out.append(d)
+        out += resolve(t)
         n += 1
     return [d for d in out if d is not None]
 
@@ -371,7 +387,7 @@ def functions_of(crate):
                     if ln.strip() == '{':
                         break
                     head.append(ln.rstrip())
-                    if ln.rstrip().endswith('{') and '⌜' not in ln and 'ensures' not in ln:
+                    if ln.rstrip().endswith('{') and not any(re.match(r'\s*(requires|ensures)\b', x) for x in head):
                         head[-1] = ln.rstrip()[:-1].rstrip()
                         break
                 d = indent(head[0])

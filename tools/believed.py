@@ -1,8 +1,8 @@
 """What a statement rests on; tools/believed runs it and says how it is called.
 
 From a statement to what its words name, from there to what those name, and so on: types and definitions of the repository, each once. Theorems and proofs are
-not followed, and what a contract promises is not taken for true: it is proved. Names of the kit's library are counted apart. For an exported call the
-sentences that it promises are what must be believed, where it has some (SENTENCES): the contract's own figures stand beside them."""
+not followed. Names of the kit's library are counted apart. An exported call rests on its own `ensures`, which is counted, and on the sentence of crates/says
+that it names. What a contract of another function promises is not taken for true: it is proved."""
 import difflib
 import os
 import re
@@ -12,38 +12,8 @@ from antt import ROOT, Declared, functions_of, line_of, mentioned, named, names_
 
 TABLE = 'docs/BELIEVED.md'
 EXPORTS = 'denkumari'
-# exported call: its sentences, that its contract says them, that they leave one outcome; and what is asked of arguments there: what their types hold
-SENTENCES = {
-    'dk_build': ('says_build/Build.BuildSays', 'says_meets/Meets.build-meets', 'says_build/Decides.build-decides',
-                 'says_build/Typed.Typed'),
-    'dk_build_paged': ('says_profile/Paged.PagedSays', 'says_profile/Meets.paged-meets', 'says_profile/Decides.paged-decides',
-                       'says_build/Typed.Typed'),
-    'dk_profile': ('says_profile/Profile.ProfileSays', 'says_profile/Meets.profile-meets', 'says_profile/Decides.profile-decides',
-                   'says_build/Typed.Typed'),
-    'dk_map': ('says_map/Map.MapSays', 'says_map/Meets.map-meets', 'says_map/Decides.map-decides', 'says_build/Typed.Typed', 'says_map/Places.Places'),
-    'dk_form': ('says_form/Form.FormSays', 'says_form/FormMeets.form-meets', 'says_form/FormDecides.form-decides',
-                'form_fields/Whole.Bytes'),
-    'dk_form_paged': ('says_form_paged/FormPaged.FormPagedSays', 'says_form_paged/Meets.form-paged-meets',
-                      'says_form_paged/Decides.form-paged-decides', 'form_fields/Whole.Bytes'),
-    'dk_offer': ('says_store/Store.OfferSays', 'says_store/Meets.offer-meets', 'says_store/Decides.offer-decides',
-                 'says_store/Store.Arrays'),
-    'dk_blocks': ('says_bits/Blocks.DkBlocksSay', 'says_bits/Blocks.dk-blocks-meets', 'says_bits/Blocks.dk-blocks-decides'),
-    'dk_to_form2': ('says_convert/Convert.ConvertSays', 'says_convert/Meets.to-form2-meets', 'says_convert/Decides.to-form2-decides',
-                    'form_fields/Whole.Bytes'),
-    'dk_to_form1': ('says_convert/Convert.ConvertSays', 'says_convert/Meets.to-form1-meets', 'says_convert/Decides.to-form1-decides',
-                    'form_fields/Whole.Bytes'),
-    'dk_hex': ('says_bits/Hex.HexSays', 'says_bits/Hex.hex-meets', 'says_bits/Hex.hex-decides'),
-    'dk_part': ('says_bits/Part.PartSays', 'says_bits/Part.part-meets', 'says_bits/Part.part-decides'),
-    'dk_overlay_range': ('says_overlay/Overlay.RangeSays', 'says_overlay/Range.range-meets', 'says_overlay/Range.range-decides'),
-    'dk_overlay_runs': ('says_overlay/Overlay.RunsSay', 'says_overlay/Runs.runs-meet', 'says_overlay/Runs.runs-decide'),
-    'dk_write_hex': ('says_records/Write.HexSays', 'says_records/WriteMeets.write-hex-meets', 'says_records/WriteDecides.write-hex-decides',
-                     'bitvec/Bits.Bytes'),
-    'dk_write_srec': ('says_records/Write.SrecSays', 'says_records/WriteMeets.write-srec-meets', 'says_records/WriteDecides.write-srec-decides',
-                      'bitvec/Bits.Bytes'),
-    'dk_read_records': ('says_records/Read.ReadSays', 'says_records/ReadMeets.read-meets', 'says_records/ReadDecides.read-decides'),
-    'dk_record_fault': ('says_records/Read.FaultSays', 'says_records/FaultMeets.fault-meets', 'says_records/FaultDecides.fault-decides'),
-    'dk_record_reason': ('says_reason/Reason.DkReasonSays', 'says_reason/Meets.dk-reason-meets', 'says_reason/Decides.dk-reason-decides'),
-}
+# where each exported call is shown to leave one outcome: a line for each
+UNIQUE = f'crates/{EXPORTS}/proofs/Unique.antt'
 # the theorems of the table, beside those that the rows of demands and tickets name first
 ROWS = ('docs/statements/1-demands.rows', 'docs/statements/3-tickets.rows')
 
@@ -70,6 +40,37 @@ def contract(crate, name):
     d = Declared(path, line_of(path, name), [], head, head, True)
     d.name = name
     return d
+
+
+def is_export(name):
+    return bool(re.fullmatch(r'dk_\w+', name))
+
+
+def exports():
+    return sorted(f for f, (_, public, _) in functions_of(EXPORTS).items() if public)
+
+
+def clause(d):
+    """The lines of a contract from its `requires` or `ensures` on: what is read of an exported function beside its parameters."""
+    first = next((n for n, ln in enumerate(d.whole) if re.match(r'\s*(requires|ensures)\b', ln)), len(d.whole))
+    return d.whole[first:]
+
+
+def sentence(name):
+    """crate/File.name of the sentence that an exported call ensures, and the theorem that it leaves one outcome."""
+    d = contract(EXPORTS, name)
+    m = re.search(r'⌜\s*(\w+)', '\n'.join(clause(d)))
+    said = uses_of(d.path).names.get(m.group(1)) if m else None
+    one = re.search(rf'^{name.replace("_", "-")}-unique .*?\b([a-z0-9-]+-decides?)\b', read(UNIQUE), re.M)
+    if not said or not one:
+        stop(f'{name}: what it ensures is no sentence, or {UNIQUE} has no line for it')
+    return short(*said), short(*uses_of(UNIQUE).names[one.group(1)])
+
+
+def short(path, name):
+    """crate/File.name of a name in a module of the repository."""
+    m = re.match(r'Rattle·([a-z_0-9]+)(?:·\w+)?\.(?:specs|proofs)\.(.*)$', path)
+    return f'{m.group(1)}/{m.group(2).split(".")[-1]}.{name}'
 
 
 def named_by(d):
@@ -120,8 +121,8 @@ def in_order(found):
 
 def starts_of(name):
     """What a name of the command line stands for: declarations, and what to call them."""
-    if re.fullmatch(r'dk_\w+', name):
-        return [declared(n) for n in SENTENCES[name][:1] + SENTENCES[name][3:]] if name in SENTENCES else [contract(EXPORTS, name)]
+    if is_export(name):
+        return [contract(EXPORTS, name)]
     if '::' in name:
         return [contract(*name.split('::', 1))]
     if '/' in name:
@@ -132,42 +133,54 @@ def starts_of(name):
 
 
 def figures(name):
-    found, library = surface(starts_of(name))
-    return sum(d.lines() for d in found), len(found), len({d.path for d in found}), len(library)
+    """Lines, declarations, files, names of the library; of an exported call the lines of its `ensures` too."""
+    starts = starts_of(name)
+    found, library = surface(starts)
+    own = len(clause(starts[0])) if is_export(name) else 0
+    return own + sum(d.lines() for d in found), len(found), len({d.path for d in found}), len(library)
 
 
 def show(name, quiet):
     starts = starts_of(name)
     found, library = surface(starts)
-    lines = sum(d.lines() for d in found)
-    what = name
-    if name in SENTENCES:
-        what = f'{name}, by its sentences {SENTENCES[name][0]}'
-    print(f'{what}: {lines} lines, {len(found)} declarations in {len({d.path for d in found})} files; {len(library)} names of the kit\'s library')
-    if name in SENTENCES:
-        print(f'    its contract says them: {SENTENCES[name][1]}; they leave one outcome: {SENTENCES[name][2]}')
-        own, _ = surface([contract(EXPORTS, name)])
-        print(f'    by its contract alone it would be {sum(d.lines() for d in own)} lines in {len({d.path for d in own})} files')
+    lines, count, files, names = figures(name)
+    own = f', {len(clause(starts[0]))} of them its own `ensures`' if is_export(name) else ''
+    print(f'{name}: {lines} lines{own}; {count} declarations in {files} files; {names} names of the kit\'s library')
+    if is_export(name):
+        said, one = sentence(name)
+        print(f'    its sentence: {said}, which leaves one outcome: {one}')
     if quiet:
         return
-    if name not in SENTENCES:
-        for d in starts:
-            print(f'\nthe statement, {d.path}:{d.line}')
-            print('\n'.join('        ' + ln for head in d.around for ln in head))
-            print('\n'.join('        ' + ln for ln in d.signature))
+    for d in starts:
+        print(f'\nthe statement, {d.path}:{d.line}')
+        print('\n'.join('        ' + ln for head in d.around for ln in head))
+        print('\n'.join('        ' + ln for ln in d.signature))
     path, around = None, []
     for d in in_order(found):
         if d.path != path:
-            print(f'\n{d.path}')
+            print('\n'.join(['', d.path] + ['        ' + ln for ln in opening(d.path)]))
             path, around = d.path, []
         for n, head in enumerate(d.around):
             if n >= len(around) or around[n] != head:
-                print('\n'.join('        ' + ln for ln in head))
+                print('\n'.join('        ' + ln for ln in d.notes[n] + head))
         around = d.around
-        text = d.comment + d.text()
-        for n, ln in enumerate(text, d.line - len(d.comment)):
-            print(f'{n:6}  {ln}' if n >= d.line and n < d.line + len(d.signature) or n < d.line else f'        {ln}')
+        show_declared(d)
     print('\nof the kit: ' + ', '.join(sorted(library)))
+
+
+def opening(path):
+    """What a file of statements says of itself in its first lines."""
+    lines = read(path).split('\n')
+    return lines[:next((n for n, ln in enumerate(lines) if not ln.startswith('--')), 0)]
+
+
+def show_declared(d):
+    """Its comment and all of it, with the numbers of the lines that stand together."""
+    numbered = d.path.endswith('.antt')
+    for n, ln in enumerate(d.comment, d.line - len(d.comment)):
+        print(f'{n:6}  {ln}' if numbered else f'        {ln}')
+    for n, ln in enumerate(d.text(), d.line):
+        print(f'{n:6}  {ln}' if n < d.line + len(d.signature) else f'        {ln}')
 
 
 def headlines():
@@ -187,15 +200,13 @@ def table():
            'proof. Written by `tools/believed --write`; the tests fail where the sources make another table, so that nothing is added to what must be believed '
            'unseen. `tools/believed NAME` prints the lines themselves in reading order, and docs/READING.md says how to read them.', '',
            '## Exported calls', '',
-           'Believed are the sentences that a call promises: they use types, `bitAt` and the words of `says/Words`, and no other definition of the library; '
-           'what the types of arguments hold is counted too. '
-           '"By the contract" is what would have to be read without them. A call without sentences rests on its contract.', '',
-           '| Call | Lines | Declarations | Files | Sentences | By the contract: lines | files |', '|---|---|---|---|---|---|---|']
-    for name in sorted(f for f, (_, public, _) in functions_of(EXPORTS).items() if public):
-        own = surface([contract(EXPORTS, name)])[0]
+           'What a call ensures is its sentence, over its own parameters: its `ensures` and the sentence are believed. Sentences stand in crates/says and use '
+           'the types of answers, `bitAt` and the pieces of a text, and no other definition of the library.', '',
+           '| Call | Lines | of them its `ensures` | Declarations | Files | Sentence |', '|---|---|---|---|---|---|']
+    for name in exports():
         lines, count, files, _ = figures(name)
-        said = f'`{SENTENCES[name][0]}`' if name in SENTENCES else 'none'
-        out.append(f'| `{name}` | {lines} | {count} | {files} | {said} | {sum(d.lines() for d in own)} | {len({d.path for d in own})} |')
+        own = len(clause(contract(EXPORTS, name)))
+        out.append(f'| `{name}` | {lines} | {own} | {count} | {files} | `{sentence(name)[0]}` |')
     out += ['', '## Programs', '', 'By the contracts of their own functions; one that promises nothing of its own has 0.', '',
             '| Program | Lines | Declarations | Files |', '|---|---|---|---|']
     for path in sorted(os.listdir(os.path.join(ROOT, 'crates'))):
@@ -203,13 +214,13 @@ def table():
             lines, count, files, _ = figures(path)
             out.append(f'| `{path}` | {lines} | {count} | {files} |')
     out += ['', '## Theorems', '', 'The first that each row of the demands and tickets names (docs/STATEMENTS.md), but for the `meets` of the calls '
-            'above: those speak of the contract, which is proved and need not be believed.', '',
+            'above: those speak of the model of the calls, which need not be believed.', '',
             '| Theorem | Lines | Declarations | Files |', '|---|---|---|---|']
     for name in headlines():
         lines, count, files, _ = figures(name)
         out.append(f'| `{name}` | {lines} | {count} | {files} |')
     library = set()
-    for name in SENTENCES:
+    for name in exports():
         library |= surface(starts_of(name))[1]
     out += ['', '## Of the kit', '', 'Names of the kit\'s library that the sentences use: ' + ', '.join(f'`{n}`' for n in sorted(library)) + '.']
     return '\n'.join(l2 for ln in out for l2 in wrapped(ln)) + '\n'
@@ -229,9 +240,6 @@ def main(arguments):
         if option.startswith('-') and option not in ('-q', '--write', '--check'):
             stop(f'there is no option {option} (--help says what there is)')
     if arguments in ([], ['--write'], ['--check']):
-        for names in SENTENCES.values():
-            for n in names:
-                declared(n)
         text = table()
         if not arguments:
             print(text, end='')

@@ -1,14 +1,7 @@
 pub mod ConversionLaws
-pub mod ConversionUnique
 pub mod FormLaws
 pub mod MapLaws
-pub mod MapUnique
-pub mod OverlayUnique
 pub mod ProfileLaws
-pub mod ProfileUnique
-pub mod ReasonUnique
-pub mod RecordUnique
 pub mod StoreLaws
-pub mod StoreUnique
 pub mod TableLaws
 pub mod Unique

@@ -3,11 +3,7 @@ use c_answers::DkLayout;
 use c_answers::tell_layout;
 use c_tables::choose;
 use c_tables::make_banks;
-ghost use mathlib.Core.Path.{_≡_};
-ghost use Rattle.lists.specs.Lists.{lists};
-ghost use Rattle.output.specs.Output.{input, lent};
-ghost use Rattle.c_tables.specs.Tables.{given, tableOf, choicesBy};
-ghost use Rattle.denkumari.specs.Tables.{TablesTold};
+ghost use Rattle.says.specs.Build.{BuildSays};
 
 // Lays tables out: the image, and the spans in three lists. A refused call changes nothing that is lent.
 #[no_mangle]
@@ -34,14 +30,30 @@ pub extern "C" fn dk_build(
     sizes: &mut [u64],
 ) -> DkLayout
     ensures { λ r. ⌜
-        TablesTold
-        (input
-        (tableOf (given (now (units .entry)) (now (starts .entry)) (now («bank_sizes» .entry)) (now («bank_offsets» .entry))
-        (now (aligns .entry)) (now (flags .entry)) (now («fill_bits» .entry))))
-        (lists (now (kinds .entry)) (now (operands .entry)) (now (numbers .entry)) (now (states .entry)) rows (now (values .entry)))
-        (choicesBy limit fill closed))
-        (lent (now (image .entry)) (now (addresses .entry)) (now (offsets .entry)) (now (sizes .entry))) r
-        (lent (now (image .exit)) (now (addresses .exit)) (now (offsets .exit)) (now (sizes .exit)))
+        BuildSays
+        (record {
+          units = now (units .entry);
+          starts = now (starts .entry);
+          bankSizes = now («bank_sizes» .entry);
+          bankOffsets = now («bank_offsets» .entry);
+          aligns = now (aligns .entry);
+          flags = now (flags .entry);
+          fillBits = now («fill_bits» .entry);
+          kinds = now (kinds .entry);
+          operands = now (operands .entry);
+          numbers = now (numbers .entry);
+          states = now (states .entry);
+          rows = rows;
+          values = now (values .entry);
+          limit = limit;
+          fill = fill;
+          closed = closed;
+        })
+        (record { image = now (image .entry); addresses = now (addresses .entry); offsets = now (offsets .entry); sizes = now (sizes .entry) })
+        (record {
+          answer = r;
+          lent = record { image = now (image .exit); addresses = now (addresses .exit); offsets = now (offsets .exit); sizes = now (sizes .exit) };
+        })
         ⌝ }
 {
     let banks = make_banks(

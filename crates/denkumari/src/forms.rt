@@ -2,10 +2,8 @@
 use c_answers::DkLayout;
 use c_answers::tell_layout;
 use refusal::Opt;
-ghost use mathlib.Core.Path.{_≡_};
-ghost use Rattle.refusal.specs.declared.Opt.the-variants.{None, Some};
-ghost use Rattle.output.specs.Output.{lent};
-ghost use Rattle.denkumari.specs.Forms.{FormTold};
+ghost use Rattle.says.specs.Form.{FormSays};
+ghost use Rattle.says.specs.FormPaged.{FormPagedSays};
 
 // Lays a file of either form out, with the fill's choice: the image, and the spans in three lists. A refused call changes nothing that is lent.
 #[no_mangle]
@@ -18,9 +16,12 @@ pub extern "C" fn dk_form(
     sizes: &mut [u64],
 ) -> DkLayout
     ensures { λ r. ⌜
-        FormTold (now (file .entry)) fill None
-        (lent (now (image .entry)) (now (addresses .entry)) (now (offsets .entry)) (now (sizes .entry))) r
-        (lent (now (image .exit)) (now (addresses .exit)) (now (offsets .exit)) (now (sizes .exit)))
+        FormSays (now (file .entry)) fill
+        (record { image = now (image .entry); addresses = now (addresses .entry); offsets = now (offsets .entry); sizes = now (sizes .entry) })
+        (record {
+          answer = r;
+          lent = record { image = now (image .exit); addresses = now (addresses .exit); offsets = now (offsets .exit); sizes = now (sizes .exit) };
+        })
         ⌝ }
 {
     tell_layout(form_build::build_file(file, fill, Opt::None, image, addresses, offsets, sizes))
@@ -38,9 +39,12 @@ pub extern "C" fn dk_form_paged(
     sizes: &mut [u64],
 ) -> DkLayout
     ensures { λ r. ⌜
-        FormTold (now (file .entry)) fill (Some page)
-        (lent (now (image .entry)) (now (addresses .entry)) (now (offsets .entry)) (now (sizes .entry))) r
-        (lent (now (image .exit)) (now (addresses .exit)) (now (offsets .exit)) (now (sizes .exit)))
+        FormPagedSays (now (file .entry)) fill page
+        (record { image = now (image .entry); addresses = now (addresses .entry); offsets = now (offsets .entry); sizes = now (sizes .entry) })
+        (record {
+          answer = r;
+          lent = record { image = now (image .exit); addresses = now (addresses .exit); offsets = now (offsets .exit); sizes = now (sizes .exit) };
+        })
         ⌝ }
 {
     tell_layout(form_build::build_file(

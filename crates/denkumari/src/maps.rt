@@ -3,12 +3,7 @@ use c_answers::DkMap;
 use c_answers::tell_map;
 use c_tables::choose;
 use c_tables::make_banks;
-ghost use mathlib.Core.Path.{_≡_};
-ghost use Rattle.lists.specs.Lists.{lists};
-ghost use Rattle.output.specs.Output.{input};
-ghost use Rattle.build_map.specs.Map.{lent};
-ghost use Rattle.c_tables.specs.Tables.{given, tableOf, choicesBy};
-ghost use Rattle.denkumari.specs.Maps.{refusedBelow, stoppedFrom, nodeTold, refusedMap, mapTold, MapTold};
+ghost use Rattle.says.specs.Map.{MapSays};
 
 // Where each node stands in the row of the last pass, as far as the layout goes, and the node at which it is refused.
 #[no_mangle]
@@ -35,16 +30,36 @@ pub extern "C" fn dk_map(
     sizes: &mut [u32; 4096],
 ) -> DkMap
     ensures { λ r. ⌜
-        MapTold
-        (input
-        (tableOf (given (now (units .entry)) (now (starts .entry)) (now («bank_sizes» .entry)) (now («bank_offsets» .entry))
-        (now (aligns .entry)) (now (flags .entry)) (now («fill_bits» .entry))))
-        (lists (now (kinds .entry)) (now (operands .entry)) (now (numbers .entry)) (now (states .entry)) rows (now (values .entry)))
-        (choicesBy limit fill closed))
-        (lent (now («banks_of» .entry)) (now (positions .entry)) (now (outputs .entry)) (now (sizes .entry))) r
-        (lent (now («banks_of» .exit)) (now (positions .exit)) (now (outputs .exit)) (now (sizes .exit)))
+        MapSays
+        (record {
+          units = now (units .entry);
+          starts = now (starts .entry);
+          bankSizes = now («bank_sizes» .entry);
+          bankOffsets = now («bank_offsets» .entry);
+          aligns = now (aligns .entry);
+          flags = now (flags .entry);
+          fillBits = now («fill_bits» .entry);
+          kinds = now (kinds .entry);
+          operands = now (operands .entry);
+          numbers = now (numbers .entry);
+          states = now (states .entry);
+          rows = rows;
+          values = now (values .entry);
+          limit = limit;
+          fill = fill;
+          closed = closed;
+        })
+        (record { banks = now («banks_of» .entry); positions = now (positions .entry); outputs = now (outputs .entry); sizes = now (sizes .entry) })
+        (record {
+          answer = r;
+          lent = record { banks = now («banks_of» .exit); positions = now (positions .exit); outputs = now (outputs .exit); sizes = now (sizes .exit) };
+        })
         ⌝ }
 {
+    let first: &[u64] = &*banks_of;
+    let second: &[u32] = &*positions;
+    let third: &[u64] = &*outputs;
+    let fourth: &[u32] = &*sizes;
     let banks = make_banks(
         units,
         starts,

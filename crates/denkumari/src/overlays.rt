@@ -3,9 +3,7 @@ use c_answers::DkCount;
 use c_answers::DkOverlay;
 use c_answers::tell_listed;
 use c_answers::tell_source;
-ghost use mathlib.Core.Path.{_≡_};
-ghost use Rattle.overlay.specs.Trial.{trial};
-ghost use Rattle.denkumari.specs.Overlays.{RangeTold, RunsTold};
+ghost use Rattle.says.specs.Overlay.{RangeSays, RunsSay};
 
 // Which of the two images the `count` bytes from byte `first` on come from.
 #[no_mangle]
@@ -17,8 +15,9 @@ pub extern "C" fn dk_overlay_range(
     first: u64,
     count: u64,
 ) -> DkOverlay
-    ensures { λ r. ⌜ RangeTold (trial (now (overlay .entry)) (now (released .entry)) (now (offsets .entry)) (now (sizes .entry)))
-        first count r ⌝ }
+    ensures { λ r. ⌜
+        RangeSays (now (overlay .entry)) (now (released .entry)) (now (offsets .entry)) (now (sizes .entry)) first count r
+        ⌝ }
 {
     let source = overlay::which(overlay, released, offsets, sizes, first, count);
     tell_source(source, first, count)
@@ -34,8 +33,10 @@ pub extern "C" fn dk_overlay_runs(
     firsts: &mut [u64],
     counts: &mut [u64],
 ) -> DkCount
-    ensures { λ r. ⌜ RunsTold (trial (now (overlay .entry)) (now (released .entry)) (now (offsets .entry)) (now (sizes .entry)))
-        (now (firsts .entry)) (now (counts .entry)) r (now (firsts .exit)) (now (counts .exit)) ⌝ }
+    ensures { λ r. ⌜
+        RunsSay (now (overlay .entry)) (now (released .entry)) (now (offsets .entry)) (now (sizes .entry)) (now (firsts .entry)) (now (counts .entry))
+        (record { answer = r; firsts = now (firsts .exit); counts = now (counts .exit) })
+        ⌝ }
 {
     tell_listed(overlay::differences(overlay, released, offsets, sizes, firsts, counts))
 }

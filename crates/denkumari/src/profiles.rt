@@ -6,11 +6,8 @@ use c_answers::tell_paged;
 use c_tables::choose;
 use c_tables::make_banks;
 use refusal::Opt;
-ghost use mathlib.Core.Path.{_≡_};
-ghost use Rattle.lists.specs.Lists.{lists};
-ghost use Rattle.output.specs.Output.{input, lent};
-ghost use Rattle.c_tables.specs.Tables.{given, tableOf, choicesBy};
-ghost use Rattle.denkumari.specs.Profiles.{ProfileSaid, PagedTold};
+ghost use Rattle.says.specs.Profile.{ProfileSays};
+ghost use Rattle.says.specs.Paged.{PagedSays};
 
 // Whether tables keep the profile of a device with pages of `page` bits.
 #[no_mangle]
@@ -32,11 +29,26 @@ pub extern "C" fn dk_profile(
     fill: u8,
 ) -> DkProfile
     ensures { λ r. ⌜
-        ProfileSaid
-        (tableOf (given (now (units .entry)) (now (starts .entry)) (now («bank_sizes» .entry)) (now («bank_offsets» .entry))
-        (now (aligns .entry)) (now (flags .entry)) (now («fill_bits» .entry))))
-        (lists (now (kinds .entry)) (now (operands .entry)) (now (numbers .entry)) (now (states .entry)) rows (now (values .entry)))
-        fill page r
+        ProfileSays
+        (record {
+          units = now (units .entry);
+          starts = now (starts .entry);
+          bankSizes = now («bank_sizes» .entry);
+          bankOffsets = now («bank_offsets» .entry);
+          aligns = now (aligns .entry);
+          flags = now (flags .entry);
+          fillBits = now («fill_bits» .entry);
+          kinds = now (kinds .entry);
+          operands = now (operands .entry);
+          numbers = now (numbers .entry);
+          states = now (states .entry);
+          rows = rows;
+          values = now (values .entry);
+          limit = 0;
+          fill = fill;
+          closed = 0;
+        })
+        page r
         ⌝ }
 {
     let banks = make_banks(
@@ -88,14 +100,31 @@ pub extern "C" fn dk_build_paged(
     sizes: &mut [u64],
 ) -> DkLayout
     ensures { λ r. ⌜
-        PagedTold page
-        (input
-        (tableOf (given (now (units .entry)) (now (starts .entry)) (now («bank_sizes» .entry)) (now («bank_offsets» .entry))
-        (now (aligns .entry)) (now (flags .entry)) (now («fill_bits» .entry))))
-        (lists (now (kinds .entry)) (now (operands .entry)) (now (numbers .entry)) (now (states .entry)) rows (now (values .entry)))
-        (choicesBy limit fill closed))
-        (lent (now (image .entry)) (now (addresses .entry)) (now (offsets .entry)) (now (sizes .entry))) r
-        (lent (now (image .exit)) (now (addresses .exit)) (now (offsets .exit)) (now (sizes .exit)))
+        PagedSays
+        (record {
+          units = now (units .entry);
+          starts = now (starts .entry);
+          bankSizes = now («bank_sizes» .entry);
+          bankOffsets = now («bank_offsets» .entry);
+          aligns = now (aligns .entry);
+          flags = now (flags .entry);
+          fillBits = now («fill_bits» .entry);
+          kinds = now (kinds .entry);
+          operands = now (operands .entry);
+          numbers = now (numbers .entry);
+          states = now (states .entry);
+          rows = rows;
+          values = now (values .entry);
+          limit = limit;
+          fill = fill;
+          closed = closed;
+        })
+        page
+        (record { image = now (image .entry); addresses = now (addresses .entry); offsets = now (offsets .entry); sizes = now (sizes .entry) })
+        (record {
+          answer = r;
+          lent = record { image = now (image .exit); addresses = now (addresses .exit); offsets = now (offsets .exit); sizes = now (sizes .exit) };
+        })
         ⌝ }
 {
     let banks = make_banks(

@@ -1,7 +1,9 @@
 // Why a file of records is bad.
-use record_reason::Why;
+use c_answers::DkReason;
+use c_answers::tell_reason;
 ghost use mathlib.Core.Path.{_≡_};
-ghost use Rattle.denkumari.specs.Reasons.{kindOf, ReasonTold};
+ghost use Rattle.c_model.specs.Reasons.{kindOf};
+ghost use Rattle.says.specs.Reason.{DkReasonSays};
 
 // How a format's number is read where nothing is refused: 0 is Intel HEX, every other number S-records.
 fn kind_of(format: u8) -> u8
@@ -15,8 +17,13 @@ fn kind_of(format: u8) -> u8
 
 // The line at which a file that is read so is at fault, and why.
 #[no_mangle]
-pub extern "C" fn dk_record_reason(format: u8, text: &[u8], load: u32, scratch: &mut [u8]) -> Why
-    ensures { λ r. ⌜ ReasonTold format load (now (text .entry)) (now (scratch .entry)) r (now (scratch .exit)) ⌝ }
+pub extern "C" fn dk_record_reason(
+    format: u8,
+    text: &[u8],
+    load: u32,
+    scratch: &mut [u8],
+) -> DkReason
+    ensures { λ r. ⌜ DkReasonSays format load (now (text .entry)) (now (scratch .entry)) (r, now (scratch .exit)) ⌝ }
 {
-    record_reason::reason_of(kind_of(format), text, load, scratch)
+    tell_reason(record_reason::reason_of(kind_of(format), text, load, scratch))
 }

@@ -7,11 +7,8 @@ use c_answers::tell_fault;
 use c_answers::tell_written;
 use record_fault::Fault;
 use refusal::Refusal;
-ghost use mathlib.Core.Path.{_≡_};
-ghost use Rattle.record_write.specs.Outcome.{input, answerOf, textAfter};
-ghost use Rattle.record_write.specs.Srec.{answerSrec, lentSrec};
-ghost use Rattle.record_read.specs.Outcome.{lent};
-ghost use Rattle.denkumari.specs.RecordFiles.{WriteTold, readAs, ReadTold, FaultTold};
+ghost use Rattle.says.specs.Write.{HexSays, SrecSays};
+ghost use Rattle.says.specs.Read.{ReadSays, FaultSays};
 
 // Format 0 is Intel HEX, 1 S-records. There is no other.
 const FORMATS: u8 = 2;
@@ -26,10 +23,9 @@ pub extern "C" fn dk_write_hex(
     text: &mut [u8],
 ) -> DkCount
     ensures { λ r. ⌜
-        WriteTold
-        (answerOf (input 0 (now (image .entry)) (now (offsets .entry)) (now (sizes .entry)) load) (now (text .entry)))
-        (textAfter (input 0 (now (image .entry)) (now (offsets .entry)) (now (sizes .entry)) load) (now (text .entry)))
-        r (now (text .exit))
+        HexSays
+        (record { image = now (image .entry); offsets = now (offsets .entry); sizes = now (sizes .entry); load = load })
+        (now (text .entry)) (record { answer = r; text = now (text .exit) })
         ⌝ }
 {
     tell_written(record_write::write_ihex(image, offsets, sizes, load, text))
@@ -46,10 +42,9 @@ pub extern "C" fn dk_write_srec(
     text: &mut [u8],
 ) -> DkCount
     ensures { λ r. ⌜
-        WriteTold
-        (answerSrec (now (image .entry)) (now (offsets .entry)) (now (sizes .entry)) load width (now (text .entry)))
-        (lentSrec (now (image .entry)) (now (offsets .entry)) (now (sizes .entry)) load width (now (text .entry)))
-        r (now (text .exit))
+        SrecSays
+        (record { image = now (image .entry); offsets = now (offsets .entry); sizes = now (sizes .entry); load = load })
+        (now (text .entry)) width (record { answer = r; text = now (text .exit) })
         ⌝ }
 {
     tell_written(record_write::write_srec(image, offsets, sizes, load, width, text))
@@ -67,9 +62,12 @@ pub extern "C" fn dk_read_records(
     scratch: &mut [u8],
 ) -> DkCount
     ensures { λ r. ⌜
-        ReadTold load (readAs format load (now (text .entry)))
-        (lent (now (bytes .entry)) (now (offsets .entry)) (now (sizes .entry)) (now (scratch .entry))) r
-        (lent (now (bytes .exit)) (now (offsets .exit)) (now (sizes .exit)) (now (scratch .exit)))
+        ReadSays format load (now (text .entry))
+        (record { bytes = now (bytes .entry); offsets = now (offsets .entry); sizes = now (sizes .entry); scratch = now (scratch .entry) })
+        (record {
+          answer = r;
+          lent = record { bytes = now (bytes .exit); offsets = now (offsets .exit); sizes = now (sizes .exit); scratch = now (scratch .exit) };
+        })
         ⌝ }
 {
     if format >= FORMATS {
@@ -81,7 +79,7 @@ pub extern "C" fn dk_read_records(
 // The line at which a file that is read so is at fault.
 #[no_mangle]
 pub extern "C" fn dk_record_fault(format: u8, text: &[u8], load: u32, scratch: &mut [u8]) -> DkFault
-    ensures { λ r. ⌜ FaultTold (readAs format load (now (text .entry))) (now (scratch .entry)) r (now (scratch .exit)) ⌝ }
+    ensures { λ r. ⌜ FaultSays format load (now (text .entry)) (now (scratch .entry)) (r, now (scratch .exit)) ⌝ }
 {
     if format >= FORMATS {
         return tell_fault(Fault::At(0));

@@ -1,10 +1,7 @@
 // The store of placed intervals and marks, in three arrays and two counts that the caller keeps between calls.
 use c_answers::DkOffer;
 use c_answers::tell_offer;
-ghost use mathlib.Core.Path.{_≡_};
-ghost use Rattle.overlap_checker.specs.Interval.{interval};
-ghost use Rattle.overlap_checker.specs.Lent.{lent};
-ghost use Rattle.denkumari.specs.Stores.{OfferTold};
+ghost use Rattle.says.specs.Store.{OfferSays};
 
 // An offer of `size` bits from bit `position` on to a store: it tries 15, 4, 12, 13. Accepted, it is put in, with bits among the intervals, without
 // among the marks.
@@ -18,10 +15,16 @@ pub extern "C" fn dk_offer(
     position: u64,
     size: u64,
 ) -> DkOffer
-    ensures { λ r. ⌜ OfferTold (lent (now (positions .entry)) (now (sizes .entry)) count (now (marks .entry)) «mark_count»)
-        (interval position size) r
-        (lent (now (positions .exit)) (now (sizes .exit)) (r .count) (now (marks .exit)) (r .marks)) ⌝ }
+    ensures { λ r. ⌜
+        OfferSays
+        (record { positions = now (positions .entry); sizes = now (sizes .entry); count = count; marks = now (marks .entry); markCount = «mark_count» })
+        (record { position = position; size = size })
+        (record { answer = r; positions = now (positions .exit); sizes = now (sizes .exit); marks = now (marks .exit) })
+        ⌝ }
 {
+    let first: &[u64] = &*positions;
+    let second: &[u64] = &*sizes;
+    let third: &[u64] = &*marks;
     let offered = overlap_lent::check_and_insert(
         positions,
         sizes,
