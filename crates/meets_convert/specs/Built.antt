@@ -6,10 +6,16 @@ use mathlib.Core.Logic.{_⊎_}
 use Prim.Native.Nat.{ℕ, suc, _/_, _%_, _≤_, _<_}
 use lib.ListN.{getD, take, replicate}
 use Rattle.iter.specs.declared.Lost.{Lost}
-use Rattle.output.specs.Output.{Lent}
 use Rattle.c_answers.specs.declared.DkLayout.{DkLayout}
 use Rattle.says.specs.Files.{two, four, eight}
-use Rattle.says.specs.DkBlocks.{Outcome, DkBlocksSay}
+use Rattle.says.specs.Build.{Outcome}
+use Rattle.says.specs.Convert as convert
+use Rattle.says.specs.DkBlocks as blocks
+use Rattle.says.specs.DkBlocks.{DkBlocksSay}
+
+-- the file that a conversion has made
+abbrev pub made : convert.Outcome → List ℕ
+made v = take (v .answer .count) (v .out)
 
 -- ---- places
 
@@ -80,9 +86,10 @@ module _ (Rise : (number place second place′ second′ : ℕ) → Type 0) wher
         (record { refusal = number; place = p′; second = q′; passes = n; k = 0; length = 0; spans = 0; padding = replicate 16 unpadded })
 
   -- "the same image and blocks": of the spans that each build tells, `dk_blocks` answers and leaves the same, whatever is lent for the blocks
-  pub record SameBuild (a : DkLayout) (left : Lent) (b : DkLayout) (left′ : Lent) : Type 0 where
-    pub answers : Answers a b
-    pub image : left′ .image ≡ left .image
-    pub blocks : (starts sizes : List ℕ) (x y : Outcome) → DkBlocksSay (take (a .spans) (left .offsets)) (take (a .spans) (left .sizes)) starts sizes x
-        → DkBlocksSay (take (b .spans) (left′ .offsets)) (take (b .spans) (left′ .sizes)) starts sizes y → x ≡ y
-    pub all-lent : left′ ≡ left
+  pub record SameBuild (x y : Outcome) : Type 0 where
+    pub answers : Answers (x .answer) (y .answer)
+    pub image : y .lent .image ≡ x .lent .image
+    pub blocks : (starts sizes : List ℕ) (p q : blocks.Outcome)
+        → DkBlocksSay (take (x .answer .spans) (x .lent .offsets)) (take (x .answer .spans) (x .lent .sizes)) starts sizes p
+        → DkBlocksSay (take (y .answer .spans) (y .lent .offsets)) (take (y .answer .spans) (y .lent .sizes)) starts sizes q → p ≡ q
+    pub all-lent : y .lent ≡ x .lent

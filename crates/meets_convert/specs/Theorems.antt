@@ -1,5 +1,6 @@
 pub mod Alone
 pub mod Decides
+pub mod Exactly
 pub mod Example
 pub mod Meets
 pub mod OldReader

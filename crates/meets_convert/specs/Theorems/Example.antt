@@ -7,9 +7,6 @@ use Prim.Native.Nat.{ℕ, zero, suc, _≤_, _<_}
 use native.Mathlib.Omega.{arith}
 use lib.ListN.{length, getD, drop}
 use Rattle.refusal.specs.Laws.Bools.{unlike}
-use Rattle.form_fields.specs.Kind.{form1, form2}
-use Rattle.form_fields.specs.Whole.{Bytes}
-use Rattle.c_answers.specs.declared.DkCount.{DkCount}
 use Rattle.says.specs.Words as words
 use Rattle.says.specs.Words.{First}
 use Rattle.says.specs.Files as files
@@ -18,8 +15,7 @@ use Rattle.says.specs.Convert as says
 use Rattle.says.specs.Convert.{Turned, Widened, NamesOther, ShapeOf, Becomes, Drops, Outcome, other, ConvertSays}
 use Rattle.meets_convert.specs.Laws.Answers.{begins-so}
 use Rattle.meets_convert.specs.Theorems.Decides.{convert-decides}
-use Rattle.meets_convert.specs.Theorems.Meets.{to-form2-meets, to-form1-meets}
-use Rattle.meets_convert.specs.Theorems.Trips.{To2, To1, wrote}
+use Rattle.meets_convert.specs.Theorems.Trips.{wrote}
 
 -- unit 8, start 0, size 64, offset unread 7, label alignment unread 5, flags 1; nodes label, switch to bank 0, reserve of 8 bits; no values; limit 1
 abbrev pub inForm1 : List ℕ
@@ -152,24 +148,22 @@ module _ (f : Form) (file old : List ℕ) (h d : Held) (result : List ℕ) (is :
       (subst (λ (l : List ℕ). says.Writes f file old l goes-to) is (says.writes (begins-so result old room)))))))))
 
 -- What the calls make of each other's file, whatever the buffer held, if it has room for 120 and for 75 bytes.
-pub example-to-form2 : (old : List ℕ) → 120 ≤ length old → Bytes inForm1 → (r : DkCount) (new : List ℕ) → To2 inForm1 old r new
-    → (r ≡ wrote 120) × (new ≡ inForm2 ++ drop 120 old)
-example-to-form2 old room small r new told =
-    let same = convert-decides form-1 inForm1 old _ _ (to-form2-meets inForm1 old small r new told)
+pub example-to-form2 : (old : List ℕ) → 120 ≤ length old → (v : Outcome) → ConvertSays form-1 inForm1 old v
+    → v ≡ record { answer = wrote 120; out = inForm2 ++ drop 120 old }
+example-to-form2 old room v so =
+    convert-decides form-1 inForm1 old v _ so
     (goes form-1 inForm1 old held1 held2 inForm2 is-2 sound-1 (says.one-bank widens) (omega arith) (omega arith) (omega arith) none-other (omega arith)
-    (never form-1 refl) room) in
-    (ap (λ (o : Outcome). o .answer) same, ap (λ (o : Outcome). o .out) same)
+    (never form-1 refl) room)
   where
     never : (f : Form) → f ≡ form-1 → Drops held1 f → ⊥
     never f e (says.drops h x) = unlike cc
 
-pub example-to-form1 : (old : List ℕ) → 75 ≤ length old → Bytes inForm2 → (r : DkCount) (new : List ℕ) → To1 inForm2 old r new
-    → (r ≡ wrote 75) × (new ≡ inForm1 ++ drop 75 old)
-example-to-form1 old room small r new told =
-    let same = convert-decides form-2 inForm2 old _ _ (to-form1-meets inForm2 old small r new told)
+pub example-to-form1 : (old : List ℕ) → 75 ≤ length old → (v : Outcome) → ConvertSays form-2 inForm2 old v
+    → v ≡ record { answer = wrote 75; out = inForm1 ++ drop 75 old }
+example-to-form1 old room v so =
+    convert-decides form-2 inForm2 old v _ so
     (goes form-2 inForm2 old held2 held1 inForm1 is-1 sound-2 (says.shape (fits-1, none-other, widens)) (omega arith) (omega arith) (omega arith)
-    (λ i x. omega (arith, x .0)) (omega arith) clear room) in
-    (ap (λ (o : Outcome). o .answer) same, ap (λ (o : Outcome). o .out) same)
+    (λ i x. omega (arith, x .0)) (omega arith) clear room)
   where
     bit : (b : ℕ) → b < 2 → getD (getD (held2 .banks) b []) 23 0 ≡ 1 → ⊥
     bit zero h e = omega (arith, e)

@@ -1,7 +1,7 @@
 -- "The converted file gives the same image and blocks; node numbers in places rise by one" (document 02, Ticket 13), over a call of `dk_to_form2` or
 -- `dk_to_form1` and two of `dk_form` or `dk_form_paged`: the file and what was made of it. One-bank files and the shape that goes back to one bank.
 use mathlib.Core.Bool.{Bool, true, false}
-use mathlib.Core.Path.{_≡_, refl, sym, ap, subst, _∙_}
+use mathlib.Core.Path.{_≡_, refl, sym, ap, ap₂, subst, _∙_}
 use mathlib.Core.List.{List, [], _∷_, map}
 use mathlib.Core.Logic.{inl, inr}
 use Prim.Native.Nat.{ℕ, suc, _*_, _-_, _/_, _%_, _≤_, _<_}
@@ -31,8 +31,7 @@ use Rattle.form_fields.specs.Laws.Parts.{Any, each-any}
 use Rattle.form_fields.specs.Whole.{Bytes, contentsIn}
 use Rattle.form_fields.specs.Words.{byte, word16, word32, word64}
 use Rattle.form_fields.specs.Laws.Written.{flat-length}
-use Rattle.form_convert.specs.Convert.{dropsNone}
-use Rattle.form_rewrite.specs.Turning.{strays, widened, narrowed, shaped, dropsBit, toForm1, toForm2}
+use Rattle.form_rewrite.specs.Turning.{strays, widened, narrowed, shaped, dropsBit, toForm1}
 use Rattle.thm_conversions.specs.Builds.{profileBuild}
 use Rattle.thm_conversions.specs.Laws.OneBank.{Single, is-single}
 use Rattle.thm_conversions.specs.PagedPlaces as paged
@@ -51,12 +50,12 @@ use Rattle.thm_conversions.specs.Widened.{OneBank, onlyBank, raisedBuild}
 use Rattle.form_build.specs.Filed.{fileOutput}
 use Rattle.form_build.specs.Paged.{outputIn}
 use Rattle.form_build.specs.Theorems.Unique.{one-file-build}
-use Rattle.output.specs.Output.{Lent, Room, roomOf, buildOf}
+use Rattle.output.specs.Output as out
+use Rattle.output.specs.Output.{Room, roomOf, buildOf}
 use Rattle.output.specs.declared.Build.{Build}
 use Rattle.output.specs.declared.Build.the-variants.{Done, Refused}
 use Rattle.output.specs.declared.Output.{Output}
 use Rattle.c_answers.specs.Told.{firstOf, secondOf, buildTold, layoutTold}
-use Rattle.c_answers.specs.declared.DkCount.{DkCount}
 use Rattle.c_answers.specs.declared.DkLayout.{DkLayout}
 use Rattle.c_model.specs.Forms.{FormTold}
 use Rattle.says.specs.DkBlocks.{DkBlocksSay}
@@ -64,10 +63,18 @@ use Rattle.meets_bits.specs.Theorems.Blocks.{dk-blocks-decides}
 use Rattle.says.specs.Files.{two, four, eight, form-1, form-2, Held, Sound}
 use Rattle.meets_form.specs.Laws.Written.{held, contents, sound-contents}
 use Rattle.meets_convert.specs.Built as built
-use Rattle.meets_convert.specs.Built.{StartPast, Risen, PagedRisen, unpadded, Answers, SameBuild}
-use Rattle.says.specs.Convert.{ShapeOf}
+use Rattle.meets_convert.specs.Built.{made, StartPast, Risen, PagedRisen, unpadded, Answers, SameBuild}
+use Rattle.says.specs.Build.{Lent, Outcome}
+use Rattle.says.specs.Convert as convert
+use Rattle.says.specs.Convert.{ShapeOf, ConvertSays}
+use Rattle.says.specs.Form.{FormSays}
+use Rattle.says.specs.FormPaged.{FormPagedSays}
+use Rattle.meets_build.specs.Laws.Contract.{lentSo}
+use Rattle.meets_build.specs.Theorems.Meets.{lentOf}
+use Rattle.meets_form.specs.Theorems.FormExactly.{form-told}
+use Rattle.meets_form_paged.specs.Theorems.Exactly.{form-paged-told}
+use Rattle.meets_convert.specs.Laws.Calls.{called, made-bytes}
 use Rattle.meets_convert.specs.Laws.Turns.{map-at, of-strays, shape-so, so-shape}
-use Rattle.meets_convert.specs.Theorems.Trips.{To2, To1, converted}
 
 -- ---- the start and the size, by their bytes
 
@@ -268,7 +275,8 @@ spans-alike (built.refused h) = refl
 
 module _ (Rise : (number place second place′ second′ : ℕ) → Type 0) where
   -- the same answers and everything lent the same: the same image and blocks
-  alike : {a b : DkLayout} {left left′ : Lent} → Answers Rise a b → left′ ≡ left → SameBuild Rise a left b left′
+  alike : {a b : DkLayout} {left left′ : Lent} → Answers Rise a b → left′ ≡ left
+      → SameBuild Rise (record { answer = a; lent = left }) (record { answer = b; lent = left′ })
   alike {a} {b} {left} {left′} said same =
       record {
         answers = said;
@@ -280,7 +288,15 @@ module _ (Rise : (number place second place′ second′ : ℕ) → Type 0) wher
         all-lent = same;
       }
 
-module _ (x : Contents) (single : Single x) (fill : ℕ) (page : Opt) (old left left′ : Lent) (a b : DkLayout) where
+-- an outcome, by its answer and what is lent
+one-outcome : {a b : Outcome} → b .answer ≡ a .answer → lentOf (b .lent) ≡ lentOf (a .lent) → b ≡ a
+one-outcome e l = ap₂ (λ (r : DkLayout) (x : out.Lent). record { answer = r; lent = lentSo x }) e l
+
+-- a contract of a file's build, of an outcome of the sentences
+abbrev Told : List ℕ → ℕ → Opt → Lent → Outcome → Type 0
+Told file fill page old x = FormTold file fill page (lentOf old) (x .answer) (lentOf (x .lent))
+
+module _ (x : Contents) (single : Single x) (fill : ℕ) (page : Opt) (old : Lent) (a b : Outcome) where
   said-of : (room : Room) → Answers (RisenWith page (getD (x .banks) 0 []) (length (x .rows)) fill) (layoutTold (outputIn page (inputFor form1 x fill) room))
       (layoutTold (raisedIn page (inputFor form1 x fill) (outputIn page (inputFor form1 x fill) room)))
   said-of room =
@@ -290,109 +306,139 @@ module _ (x : Contents) (single : Single x) (fill : ℕ) (page : Opt) (old left 
       (is-single x (single .one))
       (answers (getD (x .banks) 0 []) (x .nodes) (x .rows) (x .values) (x .limit) fill (single .few) (single .none) page room)
 
-  both-files : FormTold (written form1 x) fill page old a left → FormTold (written form2 (widened x)) fill page old b left′
-      → SameBuild (RisenWith page (getD (x .banks) 0 []) (length (x .rows)) fill) a left b left′
+  both-files : Told (written form1 x) fill page old a → Told (written form2 (widened x)) fill page old b
+      → SameBuild (RisenWith page (getD (x .banks) 0 []) (length (x .rows)) fill) a b
   both-files told-a told-b =
       let here = inputFor form1 x fill in
-      let room = roomOf old in
+      let room = roomOf (lentOf old) in
       let Rise = RisenWith page (getD (x .banks) 0 []) (length (x .rows)) fill in
       let o-is : fileOutput (written form1 x) fill page room ≡ outputIn page here room = written-output is1 x (single .fits) (single .short) fill page room in
       let q = one-file-build (widened-same-build-in x fill page single (told-a .built)) (told-b .built) in
-      let of-a : layoutTold (outputIn page here room) ≡ a = ap layoutTold (sym o-is) ∙ sym (told-a .answer) in
-      let of-b : layoutTold (raisedIn page here (outputIn page here room)) ≡ b =
+      let of-a : layoutTold (outputIn page here room) ≡ a .answer = ap layoutTold (sym o-is) ∙ sym (told-a .answer) in
+      let of-b : layoutTold (raisedIn page here (outputIn page here room)) ≡ b .answer =
       ap (λ (o : Output). layoutTold (raisedIn page here o)) (sym o-is) ∙ ap layoutTold (q .0) ∙ sym (told-b .answer) in
-      alike Rise (subst (λ (y : DkLayout). Answers Rise a y) of-b
-      (subst (λ (y : DkLayout). Answers Rise y (layoutTold (raisedIn page here (outputIn page here room)))) of-a (said-of room))) (sym (q .1))
+      alike Rise (subst (λ (y : DkLayout). Answers Rise (a .answer) y) of-b
+      (subst (λ (y : DkLayout). Answers Rise y (layoutTold (raisedIn page here (outputIn page here room)))) of-a (said-of room)))
+      (ap lentSo (sym (q .1)))
 
 -- ---- the calls
 
 -- a one-bank file that was converted to form 2
-module _ (file out mid : List ℕ) (r : DkCount) (small : Bytes file) (first : To2 file out r mid) (nought : r .refusal ≡ 0) (h : Held)
-    (sound : Sound form-1 file h) (one : length (h .banks) ≡ 1) (fill : ℕ) (old left left′ : Lent) (a b : DkLayout) where
-  to-form2 : (page : Opt) → FormTold file fill page old a left → FormTold (take (r .count) mid) fill page old b left′
-      → SameBuild (RisenWith page (getD (h .banks) 0 []) (length (h .rows)) fill) a left b left′
+module _ (file out : List ℕ) (v : convert.Outcome) (small : Bytes file) (first : ConvertSays form-1 file out v) (nought : v .answer .refusal ≡ 0) (h : Held)
+    (sound : Sound form-1 file h) (one : length (h .banks) ≡ 1) (fill : ℕ) (old : Lent) (a b : Outcome) where
+  to-form2 : (page : Opt) → Told file fill page old a → Told (made v) fill page old b
+      → SameBuild (RisenWith page (getD (h .banks) 0 []) (length (h .rows)) fill) a b
   to-form2 page told-a told-b =
       let same : contentsIn form1 file ≡ contents h = sound-contents sound in
-      let (ok, is, made) = converted-single file out (r .count) mid small (converted form1 form2 toForm2 dropsNone file out r mid first nought)
+      let (ok, is, at) = converted-single file out (v .answer .count) (v .out) small (called form-1 file out v small first nought)
       (ap (λ (y : Contents). length (y .banks)) same ∙ one) in
-      subst (λ (y : Contents). SameBuild (RisenWith page (getD (y .banks) 0 []) (length (y .rows)) fill) a left b left′) same
-      (both-files (contentsIn form1 file) ok fill page old left left′ a b
-      (subst (λ (f : List ℕ). FormTold f fill page old a left) is told-a)
-      (subst (λ (f : List ℕ). FormTold f fill page old b left′) made told-b))
+      subst (λ (y : Contents). SameBuild (RisenWith page (getD (y .banks) 0 []) (length (y .rows)) fill) a b) same
+      (both-files (contentsIn form1 file) ok fill page old a b
+      (subst (λ (f : List ℕ). Told f fill page old a) is told-a)
+      (subst (λ (f : List ℕ). Told f fill page old b) at told-b))
 
 -- a file with the shape, which was converted back: the one-bank file is what was made
-module _ (file out mid : List ℕ) (r : DkCount) (small : Bytes file) (first : To1 file out r mid) (nought : r .refusal ≡ 0) (h d : Held)
-    (sound : Sound form-2 file h) (shape : ShapeOf d h) (fill : ℕ) (old left left′ : Lent) (a b : DkLayout) where
-  to-form1 : (page : Opt) → FormTold (take (r .count) mid) fill page old a left → FormTold file fill page old b left′
-      → SameBuild (RisenWith page (getD (d .banks) 0 []) (length (d .rows)) fill) a left b left′
+module _ (file out : List ℕ) (v : convert.Outcome) (small : Bytes file) (first : ConvertSays form-2 file out v) (nought : v .answer .refusal ≡ 0) (h d : Held)
+    (sound : Sound form-2 file h) (shape : ShapeOf d h) (fill : ℕ) (old : Lent) (a b : Outcome) where
+  to-form1 : (page : Opt) → Told (made v) fill page old a → Told file fill page old b
+      → SameBuild (RisenWith page (getD (d .banks) 0 []) (length (d .rows)) fill) a b
   to-form1 page told-a told-b =
       let same : contentsIn form2 file ≡ contents h = sound-contents sound in
       let s = so-shape d h shape in
-      let (ok, made, is) = converted-back-single file out (r .count) mid small (converted form2 form1 toForm1 dropsBit file out r mid first nought)
+      let (ok, at, is) = converted-back-single file out (v .answer .count) (v .out) small (called form-2 file out v small first nought)
       (ap (λ (y : Contents). shaped y) same ∙ s .0) in
       let x = narrowed (contentsIn form2 file) in
       let d-is : held x ≡ d = ap (λ (y : Contents). held (narrowed y)) same ∙ sym (s .1) in
-      subst (λ (y : Held). SameBuild (RisenWith page (getD (y .banks) 0 []) (length (y .rows)) fill) a left b left′) d-is
-      (both-files x ok fill page old left left′ a b
-      (subst (λ (f : List ℕ). FormTold f fill page old a left) made told-a)
-      (subst (λ (f : List ℕ). FormTold f fill page old b left′) is told-b))
+      subst (λ (y : Held). SameBuild (RisenWith page (getD (y .banks) 0 []) (length (y .rows)) fill) a b) d-is
+      (both-files x ok fill page old a b
+      (subst (λ (f : List ℕ). Told f fill page old a) at told-a)
+      (subst (λ (f : List ℕ). Told f fill page old b) is told-b))
 
 -- A one-bank file and the form 2 file that was made of it: the same image and blocks, everything lent the same, and places as `Risen` says.
-pub one-bank-same-build : (file out mid : List ℕ) (r : DkCount) → Bytes file → To2 file out r mid → r .refusal ≡ 0
-    → (h : Held) → Sound form-1 file h → length (h .banks) ≡ 1 → (fill : ℕ) (old left left′ : Lent) (a b : DkLayout)
-    → FormTold file fill None old a left → FormTold (take (r .count) mid) fill None old b left′
-    → SameBuild (Risen (getD (h .banks) 0 []) (length (h .rows)) fill) a left b left′
-one-bank-same-build file out mid r small first nought h sound one fill old left left′ a b =
-    to-form2 file out mid r small first nought h sound one fill old left left′ a b None
+pub one-bank-same-build : (file out : List ℕ) (v : convert.Outcome) → Bytes file → ConvertSays form-1 file out v → v .answer .refusal ≡ 0
+    → (h : Held) → Sound form-1 file h → length (h .banks) ≡ 1 → (fill : ℕ) (old : Lent) (a b : Outcome)
+    → FormSays file fill old a → FormSays (made v) fill old b → SameBuild (Risen (getD (h .banks) 0 []) (length (h .rows)) fill) a b
+one-bank-same-build file out v small first nought h sound one fill old a b x y =
+    to-form2 file out v small first nought h sound one fill old a b None (form-told file small fill old a x)
+    (form-told (made v) (made-bytes form-1 file out v small first nought) fill old b y)
 
 -- So it is with a page size.
-pub one-bank-same-paged-build : (file out mid : List ℕ) (r : DkCount) → Bytes file → To2 file out r mid → r .refusal ≡ 0
-    → (h : Held) → Sound form-1 file h → length (h .banks) ≡ 1 → (fill page : ℕ) (old left left′ : Lent) (a b : DkLayout)
-    → FormTold file fill (Some page) old a left → FormTold (take (r .count) mid) fill (Some page) old b left′
-    → SameBuild (PagedRisen (getD (h .banks) 0 []) (length (h .rows)) fill) a left b left′
-one-bank-same-paged-build file out mid r small first nought h sound one fill page old left left′ a b =
-    to-form2 file out mid r small first nought h sound one fill old left left′ a b (Some page)
+pub one-bank-same-paged-build : (file out : List ℕ) (v : convert.Outcome) → Bytes file → ConvertSays form-1 file out v → v .answer .refusal ≡ 0
+    → (h : Held) → Sound form-1 file h → length (h .banks) ≡ 1 → (fill page : ℕ) (old : Lent) (a b : Outcome)
+    → FormPagedSays file fill page old a → FormPagedSays (made v) fill page old b
+    → SameBuild (PagedRisen (getD (h .banks) 0 []) (length (h .rows)) fill) a b
+one-bank-same-paged-build file out v small first nought h sound one fill page old a b x y =
+    to-form2 file out v small first nought h sound one fill old a b (Some page) (form-paged-told file small fill page old a x)
+    (form-paged-told (made v) (made-bytes form-1 file out v small first nought) fill page old b y)
 
 -- A file with the shape and the one-bank file that was made of it: the same image and blocks.
-pub shape-same-build : (file out mid : List ℕ) (r : DkCount) → Bytes file → To1 file out r mid → r .refusal ≡ 0
-    → (h d : Held) → Sound form-2 file h → ShapeOf d h → (fill : ℕ) (old left left′ : Lent) (a b : DkLayout)
-    → FormTold (take (r .count) mid) fill None old a left → FormTold file fill None old b left′
-    → SameBuild (Risen (getD (d .banks) 0 []) (length (d .rows)) fill) a left b left′
-shape-same-build file out mid r small first nought h d sound shape fill old left left′ a b =
-    to-form1 file out mid r small first nought h d sound shape fill old left left′ a b None
+pub shape-same-build : (file out : List ℕ) (v : convert.Outcome) → Bytes file → ConvertSays form-2 file out v → v .answer .refusal ≡ 0
+    → (h d : Held) → Sound form-2 file h → ShapeOf d h → (fill : ℕ) (old : Lent) (a b : Outcome)
+    → FormSays (made v) fill old a → FormSays file fill old b → SameBuild (Risen (getD (d .banks) 0 []) (length (d .rows)) fill) a b
+shape-same-build file out v small first nought h d sound shape fill old a b x y =
+    to-form1 file out v small first nought h d sound shape fill old a b None
+    (form-told (made v) (made-bytes form-2 file out v small first nought) fill old a x) (form-told file small fill old b y)
 
 -- So it is with a page size.
-pub shape-same-paged-build : (file out mid : List ℕ) (r : DkCount) → Bytes file → To1 file out r mid → r .refusal ≡ 0
-    → (h d : Held) → Sound form-2 file h → ShapeOf d h → (fill page : ℕ) (old left left′ : Lent) (a b : DkLayout)
-    → FormTold (take (r .count) mid) fill (Some page) old a left → FormTold file fill (Some page) old b left′
-    → SameBuild (PagedRisen (getD (d .banks) 0 []) (length (d .rows)) fill) a left b left′
-shape-same-paged-build file out mid r small first nought h d sound shape fill page old left left′ a b =
-    to-form1 file out mid r small first nought h d sound shape fill old left left′ a b (Some page)
+pub shape-same-paged-build : (file out : List ℕ) (v : convert.Outcome) → Bytes file → ConvertSays form-2 file out v → v .answer .refusal ≡ 0
+    → (h d : Held) → Sound form-2 file h → ShapeOf d h → (fill page : ℕ) (old : Lent) (a b : Outcome)
+    → FormPagedSays (made v) fill page old a → FormPagedSays file fill page old b
+    → SameBuild (PagedRisen (getD (d .banks) 0 []) (length (d .rows)) fill) a b
+shape-same-paged-build file out v small first nought h d sound shape fill page old a b x y =
+    to-form1 file out v small first nought h d sound shape fill old a b (Some page)
+    (form-paged-told (made v) (made-bytes form-2 file out v small first nought) fill page old a x) (form-paged-told file small fill page old b y)
 
--- ---- other files: one answer and everything lent the same, with a page size or without
+-- ---- other files: one outcome, the answer and everything lent
+
+other-banks : (file out : List ℕ) (v : convert.Outcome) → Bytes file → ConvertSays form-1 file out v → v .answer .refusal ≡ 0
+    → (h : Held) → Sound form-1 file h → (length (h .banks) ≡ 1 → ⊥) → (fill : ℕ) (page : Opt) (old : Lent) (a b : Outcome)
+    → Told file fill page old a → Told (made v) fill page old b → b ≡ a
+other-banks file out v small first nought h sound more fill page old a b told-a told-b =
+    let call = called form-1 file out v small first nought in
+    let other : length (contentsIn form1 file .banks) ≡ 1 → ⊥ = λ e. more (ap (λ (y : Contents). length (y .banks)) (sym (sound-contents sound)) ∙ e) in
+    let q = one-file-build (form2-same-build file out (v .answer .count) (v .out) small call other fill page (told-a .built)) (told-b .built) in
+    one-outcome (told-b .answer ∙ ap layoutTold (sym (q .0)) ∙ sym (told-a .answer)) (sym (q .1))
 
 -- a form 1 file that does not have exactly one bank
-pub other-banks-same-build : (file out mid : List ℕ) (r : DkCount) → Bytes file → To2 file out r mid → r .refusal ≡ 0
-    → (h : Held) → Sound form-1 file h → (length (h .banks) ≡ 1 → ⊥) → (fill : ℕ) (page : Opt) (old left left′ : Lent) (a b : DkLayout)
-    → FormTold file fill page old a left → FormTold (take (r .count) mid) fill page old b left′ → (b ≡ a) × (left′ ≡ left)
-other-banks-same-build file out mid r small first nought h sound more fill page old left left′ a b told-a told-b =
-    let call = converted form1 form2 toForm2 dropsNone file out r mid first nought in
-    let other : length (contentsIn form1 file .banks) ≡ 1 → ⊥ = λ e. more (ap (λ (y : Contents). length (y .banks)) (sym (sound-contents sound)) ∙ e) in
-    let q = one-file-build (form2-same-build file out (r .count) mid small call other fill page (told-a .built)) (told-b .built) in
-    (told-b .answer ∙ ap layoutTold (sym (q .0)) ∙ sym (told-a .answer), sym (q .1))
+pub other-banks-same-build : (file out : List ℕ) (v : convert.Outcome) → Bytes file → ConvertSays form-1 file out v → v .answer .refusal ≡ 0
+    → (h : Held) → Sound form-1 file h → (length (h .banks) ≡ 1 → ⊥) → (fill : ℕ) (old : Lent) (a b : Outcome)
+    → FormSays file fill old a → FormSays (made v) fill old b → b ≡ a
+other-banks-same-build file out v small first nought h sound more fill old a b x y =
+    other-banks file out v small first nought h sound more fill None old a b (form-told file small fill old a x)
+    (form-told (made v) (made-bytes form-1 file out v small first nought) fill old b y)
 
--- a form 2 file that has neither exactly one bank nor the shape
-pub plain-same-build : (file out mid : List ℕ) (r : DkCount) → Bytes file → To1 file out r mid → r .refusal ≡ 0
+pub other-banks-same-paged-build : (file out : List ℕ) (v : convert.Outcome) → Bytes file → ConvertSays form-1 file out v → v .answer .refusal ≡ 0
+    → (h : Held) → Sound form-1 file h → (length (h .banks) ≡ 1 → ⊥) → (fill page : ℕ) (old : Lent) (a b : Outcome)
+    → FormPagedSays file fill page old a → FormPagedSays (made v) fill page old b → b ≡ a
+other-banks-same-paged-build file out v small first nought h sound more fill page old a b x y =
+    other-banks file out v small first nought h sound more fill (Some page) old a b (form-paged-told file small fill page old a x)
+    (form-paged-told (made v) (made-bytes form-1 file out v small first nought) fill page old b y)
+
+plain : (file out : List ℕ) (v : convert.Outcome) → Bytes file → ConvertSays form-2 file out v → v .answer .refusal ≡ 0
     → (h : Held) → Sound form-2 file h → (length (h .banks) ≡ 1 → ⊥) → ((d : Held) → ShapeOf d h → ⊥)
-    → (fill : ℕ) (page : Opt) (old left left′ : Lent) (a b : DkLayout)
-    → FormTold file fill page old a left → FormTold (take (r .count) mid) fill page old b left′ → (b ≡ a) × (left′ ≡ left)
-plain-same-build file out mid r small first nought h sound more plain fill page old left left′ a b told-a told-b =
-    let call = converted form2 form1 toForm1 dropsBit file out r mid first nought in
+    → (fill : ℕ) (page : Opt) (old : Lent) (a b : Outcome) → Told file fill page old a → Told (made v) fill page old b → b ≡ a
+plain file out v small first nought h sound more none fill page old a b told-a told-b =
+    let call = called form-2 file out v small first nought in
     let c = contentsIn form2 file in
     let same : c ≡ contents h = sound-contents sound in
     let other : length (c .banks) ≡ 1 → ⊥ = λ e. more (ap (λ (y : Contents). length (y .banks)) (sym same) ∙ e) in
-    let fits : Fits form2 c = turned-file is2 toForm1 dropsBit file out (r .count) mid small call .fits in
+    let fits : Fits form2 c = turned-file is2 toForm1 dropsBit file out (v .answer .count) (v .out) small call .fits in
     let unshaped : shaped c ≡ false =
-    either (shaped c) (λ t. absurd (plain (held (narrowed c)) (subst (ShapeOf (held (narrowed c))) (ap held same) (shape-so c fits t)))) (λ f. f) in
-    let q = one-file-build (form1-same-build file out (r .count) mid small call other unshaped fill page (told-a .built)) (told-b .built) in
-    (told-b .answer ∙ ap layoutTold (sym (q .0)) ∙ sym (told-a .answer), sym (q .1))
+    either (shaped c) (λ t. absurd (none (held (narrowed c)) (subst (ShapeOf (held (narrowed c))) (ap held same) (shape-so c fits t)))) (λ f. f) in
+    let q = one-file-build (form1-same-build file out (v .answer .count) (v .out) small call other unshaped fill page (told-a .built)) (told-b .built) in
+    one-outcome (told-b .answer ∙ ap layoutTold (sym (q .0)) ∙ sym (told-a .answer)) (sym (q .1))
+
+-- a form 2 file that has neither exactly one bank nor the shape
+pub plain-same-build : (file out : List ℕ) (v : convert.Outcome) → Bytes file → ConvertSays form-2 file out v → v .answer .refusal ≡ 0
+    → (h : Held) → Sound form-2 file h → (length (h .banks) ≡ 1 → ⊥) → ((d : Held) → ShapeOf d h → ⊥)
+    → (fill : ℕ) (old : Lent) (a b : Outcome) → FormSays file fill old a → FormSays (made v) fill old b → b ≡ a
+plain-same-build file out v small first nought h sound more none fill old a b x y =
+    plain file out v small first nought h sound more none fill None old a b (form-told file small fill old a x)
+    (form-told (made v) (made-bytes form-2 file out v small first nought) fill old b y)
+
+pub plain-same-paged-build : (file out : List ℕ) (v : convert.Outcome) → Bytes file → ConvertSays form-2 file out v → v .answer .refusal ≡ 0
+    → (h : Held) → Sound form-2 file h → (length (h .banks) ≡ 1 → ⊥) → ((d : Held) → ShapeOf d h → ⊥)
+    → (fill page : ℕ) (old : Lent) (a b : Outcome) → FormPagedSays file fill page old a → FormPagedSays (made v) fill page old b → b ≡ a
+plain-same-paged-build file out v small first nought h sound more none fill page old a b x y =
+    plain file out v small first nought h sound more none fill (Some page) old a b (form-paged-told file small fill page old a x)
+    (form-paged-told (made v) (made-bytes form-2 file out v small first nought) fill page old b y)

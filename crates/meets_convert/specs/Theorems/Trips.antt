@@ -10,17 +10,13 @@ use lib.ListN.{length, take, drop, length-map}
 use borrow.Author.Tests.{eqb-true, eqb-false, eq-eqb, ne-eqb}
 use Rattle.refusal.specs.Laws.Bools.{either, clash}
 use Rattle.refusal.specs.Pick.{pick}
-use Rattle.refusal.specs.Theorems.Told.{number-some}
 use Rattle.refusal.specs.declared.Refusal.the-variants.{Malformed}
 use Rattle.bankdef.specs.Search.{firstWhere}
-use Rattle.form_fields.specs.declared.Kind.{Kind}
 use Rattle.form_fields.specs.Contents.{Contents, written}
 use Rattle.form_fields.specs.Kind.{form1, form2, is1, is2}
 use Rattle.form_fields.specs.Whole.{Bytes, contentsIn}
 use Rattle.form_fields.specs.Theorems.Whole.{contents-back}
 use Rattle.form_convert.specs.Convert.{Converts, stray, outAfter, dropsNone}
-use Rattle.form_convert.specs.declared.Conversion.{Conversion}
-use Rattle.form_convert.specs.declared.Conversion.the-variants.{Converted, Refused}
 use Rattle.form_rewrite.specs.Laws.Fitting.{shortened-fits, rest-long, narrowed-long, shape-two, shape-some}
 use Rattle.form_rewrite.specs.Theorems.Fitting.{lengthened-fits, lengthened-long, form1-fits, form2-fits}
 use Rattle.thm_conversions.specs.Laws.ThereAndBack.{first-within}
@@ -32,59 +28,33 @@ use Rattle.thm_conversions.specs.Theorems.ThereAndBack.{to-form2-and-back, to-f
 use Rattle.thm_conversions.specs.Laws.ThereAndBack.{Fine, makes2, second-call, stray-none}
 use Rattle.c_answers.specs.Counts.{conversionCount}
 use Rattle.c_answers.specs.declared.DkCount.{DkCount}
-use Rattle.c_model.specs.Conversions.{WayTold, answerIn}
+use Rattle.c_model.specs.Conversions.{answerIn}
 use Rattle.says.specs.Words.{Begins}
 use Rattle.says.specs.Files.{Form, form-1, form-2, Held, bytes, Sound}
 use Rattle.meets_form.specs.Laws.Written.{held, contents, bytes-same, sound-contents, sound-fits, form-sound}
 use Rattle.says.specs.Convert as says
-use Rattle.says.specs.Convert.{Becomes, ShapeOf}
+use Rattle.says.specs.Convert.{Becomes, ShapeOf, Outcome, ConvertSays}
+use Rattle.meets_convert.specs.Built.{made}
 use Rattle.meets_convert.specs.Laws.Answers.{begins-so}
+use Rattle.meets_convert.specs.Laws.Calls.{any-call, converted, called, made-bytes}
 use Rattle.meets_convert.specs.Laws.Turns.{so-widened, each-so, shape-so, so-shape, becomes-so, so-becomes}
-
--- the contracts of the two calls (crates/denkumari/src/conversions.rt)
-abbrev pub To2 : List ℕ → List ℕ → DkCount → List ℕ → Type 0
-To2 file old r new = WayTold form1 form2 toForm2 dropsNone file old r new
-
-abbrev pub To1 : List ℕ → List ℕ → DkCount → List ℕ → Type 0
-To1 file old r new = WayTold form2 form1 toForm1 dropsBit file old r new
+use Rattle.meets_convert.specs.Theorems.Exactly.{convert-told}
 
 abbrev pub wrote : ℕ → DkCount
 wrote n = record { refusal = 0; place = 0; count = n }
 
--- ---- a contract, as the definitions tell it
-
-module _ (from to : Kind) (turn : Contents → Contents) (drops : Contents → Bool) (file old : List ℕ) (r : DkCount) (new : List ℕ)
-    (told : WayTold from to turn drops file old r new) where
-  abbrev answer : Conversion
-  answer = answerIn from to turn drops file old
-
-  any-call : Converts from to turn drops file old answer new
-  any-call = record { is = refl; out = told .out }
-
-  not-refused : r .refusal ≡ 0 → answer ≡ Converted (r .count)
-  not-refused zero = go answer refl
-    where
-      go : (a : Conversion) → answer ≡ a → answer ≡ Converted (r .count)
-      go (Refused why) e =
-          let same = told .answer ∙ ap conversionCount e in
-          absurd (omega (arith, ap (λ (x : DkCount). x .refusal) same, zero, number-some why))
-      go (Converted n) e =
-          let same = told .answer ∙ ap conversionCount e in
-          e ∙ ap Converted (sym (ap (λ (x : DkCount). x .count) same))
-
-  pub converted : r .refusal ≡ 0 → Converts from to turn drops file old (Converted (r .count)) new
-  converted zero = subst (λ (a : Conversion). Converts from to turn drops file old a new) (not-refused zero) any-call
-
 -- ---- the same bytes
 
 -- "Form 1 to 2 to 1": but for a file of two banks that becomes the shape
-pub form-1-and-back : (file out mid : List ℕ) (r : DkCount) → Bytes file → To2 file out r mid → r .refusal ≡ 0
+pub form-1-and-back : (file out : List ℕ) (v : Outcome) → Bytes file → ConvertSays form-1 file out v → v .answer .refusal ≡ 0
     → ((h d e : Held) → Sound form-1 file h → (length (h .banks) ≡ 1 → ⊥) → Becomes h form-1 d → ShapeOf e d → ⊥)
-    → (old new : List ℕ) (s : DkCount) → length file ≤ length old → To1 (take (r .count) mid) old s new
-    → (s ≡ wrote (length file)) × Begins file old new
-form-1-and-back file out mid r small first zero none old new s room second =
-    let call = converted form1 form2 toForm2 dropsNone file out r mid first zero in
-    let t = turned-file is1 toForm2 dropsNone file out (r .count) mid small call in
+    → (old : List ℕ) (w : Outcome) → length file ≤ length old → ConvertSays form-2 (made v) old w
+    → (w .answer ≡ wrote (length file)) × Begins file old (w .out)
+form-1-and-back file out v small first zero none old w room again =
+    let call = called form-1 file out v small first zero in
+    let t = turned-file is1 toForm2 dropsNone file out (v .answer .count) (v .out) small call in
+    let bytes′ = made-bytes form-1 file out v small first zero in
+    let second = convert-told form-2 (made v) bytes′ old w again in
     let c = contentsIn form1 file in
     let other : alone c ≡ false → shaped (lengthened c) ≡ false =
     λ a.
@@ -94,26 +64,28 @@ form-1-and-back file out mid r small first zero none old new s room second =
     absurd (none (held c) (held (lengthened c)) (held (narrowed (lengthened c))) (form-sound form-1 file small (t .shape) (t .sound)) more
     (says.longer more (each-so (λ (x : List ℕ). x ++ zeros 1) c)) (shape-so (lengthened c) (lengthened-fits c (t .fits)) b)))
     (λ b. b) in
-    let mid′ = take (r .count) mid in
-    let p = to-form2-and-back file out mid (r .count) small call other old new (answerIn form2 form1 toForm1 dropsBit mid′ old) room
-    (any-call form2 form1 toForm1 dropsBit mid′ old s new second) in (
+    let mid′ = made v in
+    let p = to-form2-and-back file out (v .out) (v .answer .count) small call other old (w .out) (answerIn form2 form1 toForm1 dropsBit mid′ old) room
+    (any-call form2 form1 toForm1 dropsBit mid′ old (w .answer) (w .out) second) in (
       second .answer ∙ ap conversionCount (p .0),
       subst (Begins file old) (sym (p .1)) (begins-so file old room),
     )
 
 -- "form 2 to 1 to 2 does too, for every file that can go back": but for one of one bank
-pub form-2-and-again : (file out mid : List ℕ) (r : DkCount) → Bytes file → To1 file out r mid → r .refusal ≡ 0
+pub form-2-and-again : (file out : List ℕ) (v : Outcome) → Bytes file → ConvertSays form-2 file out v → v .answer .refusal ≡ 0
     → ((h : Held) → Sound form-2 file h → length (h .banks) ≡ 1 → ⊥)
-    → (old new : List ℕ) (s : DkCount) → length file ≤ length old → To2 (take (r .count) mid) old s new
-    → (s ≡ wrote (length file)) × Begins file old new
-form-2-and-again file out mid r small first zero none old new s room second =
-    let call = converted form2 form1 toForm1 dropsBit file out r mid first zero in
-    let t = turned-file is2 toForm1 dropsBit file out (r .count) mid small call in
+    → (old : List ℕ) (w : Outcome) → length file ≤ length old → ConvertSays form-1 (made v) old w
+    → (w .answer ≡ wrote (length file)) × Begins file old (w .out)
+form-2-and-again file out v small first zero none old w room again =
+    let call = called form-2 file out v small first zero in
+    let t = turned-file is2 toForm1 dropsBit file out (v .answer .count) (v .out) small call in
+    let bytes′ = made-bytes form-2 file out v small first zero in
+    let second = convert-told form-1 (made v) bytes′ old w again in
     let c = contentsIn form2 file in
     let more : alone c ≡ false = ne-eqb (length (c .banks)) 1 (none (held c) (form-sound form-2 file small (t .shape) (t .sound))) in
-    let mid′ = take (r .count) mid in
-    let p = to-form1-and-again file out mid (r .count) small call more old new (answerIn form1 form2 toForm2 dropsNone mid′ old) room
-    (any-call form1 form2 toForm2 dropsNone mid′ old s new second) in (
+    let mid′ = made v in
+    let p = to-form1-and-again file out (v .out) (v .answer .count) small call more old (w .out) (answerIn form1 form2 toForm2 dropsNone mid′ old) room
+    (any-call form1 form2 toForm2 dropsNone mid′ old (w .answer) (w .out) second) in (
       second .answer ∙ ap conversionCount (p .0),
       subst (Begins file old) (sym (p .1)) (begins-so file old room),
     )
@@ -121,35 +93,39 @@ form-2-and-again file out mid r small first zero none old new s room second =
 -- ---- the exceptions
 
 -- "a one-bank form 2 file of 4,096 nodes goes back, and coming again is refused 4"
-pub full-file-not-again : (file out mid : List ℕ) (r : DkCount) → Bytes file → To1 file out r mid → r .refusal ≡ 0
+pub full-file-not-again : (file out : List ℕ) (v : Outcome) → Bytes file → ConvertSays form-2 file out v → v .answer .refusal ≡ 0
     → (h : Held) → Sound form-2 file h → length (h .banks) ≡ 1 → length (h .nodes) ≡ 4096
-    → (old new : List ℕ) (s : DkCount) → To2 (take (r .count) mid) old s new
-    → (s ≡ record { refusal = 4; place = 0; count = 0 }) × (new ≡ old)
-full-file-not-again file out mid r small first zero h sound one full old new s second =
-    let call = converted form2 form1 toForm1 dropsBit file out r mid first zero in
-    let t = turned-file is2 toForm1 dropsBit file out (r .count) mid small call in
+    → (old : List ℕ) (w : Outcome) → ConvertSays form-1 (made v) old w
+    → (w .answer ≡ record { refusal = 4; place = 0; count = 0 }) × (w .out ≡ old)
+full-file-not-again file out v small first zero h sound one full old w again =
+    let call = called form-2 file out v small first zero in
+    let t = turned-file is2 toForm1 dropsBit file out (v .answer .count) (v .out) small call in
+    let bytes′ = made-bytes form-2 file out v small first zero in
+    let second = convert-told form-1 (made v) bytes′ old w again in
     let c = contentsIn form2 file in
     let same : c ≡ contents h = sound-contents sound in
     let alone-is : alone c ≡ true = eq-eqb (length (c .banks)) 1 (ap (λ (x : Contents). length (x .banks)) same ∙ one) in
     let many : length (c .nodes) ≡ 4096 = ap (λ (x : Contents). length (x .nodes)) same ∙ full in
-    let back = any-call form1 form2 toForm2 dropsNone (take (r .count) mid) old s new second in
-    let a = answerIn form1 form2 toForm2 dropsNone (take (r .count) mid) old in
-    let p = full-one-bank-not-again c (t .fits) alone-is many (t .answer .short) old new a
-    (subst (λ (x : List ℕ). Converts form1 form2 toForm2 dropsNone x old a new) (t .made) back) in
+    let back = any-call form1 form2 toForm2 dropsNone (made v) old (w .answer) (w .out) second in
+    let a = answerIn form1 form2 toForm2 dropsNone (made v) old in
+    let p = full-one-bank-not-again c (t .fits) alone-is many (t .answer .short) old (w .out) a
+    (subst (λ (x : List ℕ). Converts form1 form2 toForm2 dropsNone x old a (w .out)) (t .made) back) in
     (second .answer ∙ ap conversionCount (p .0), p .1)
 
 -- "a one-bank form 2 file, which comes back as the shape": where both calls answer, what stands in the buffer is the shape of what the file became
-pub one-bank-comes-as-shape : (file out mid : List ℕ) (r : DkCount) → Bytes file → To1 file out r mid → r .refusal ≡ 0
+pub one-bank-comes-as-shape : (file out : List ℕ) (v : Outcome) → Bytes file → ConvertSays form-2 file out v → v .answer .refusal ≡ 0
     → (h : Held) → Sound form-2 file h → length (h .banks) ≡ 1
-    → (old new : List ℕ) (s : DkCount) → Bytes (take (r .count) mid) → To2 (take (r .count) mid) old s new → s .refusal ≡ 0
-    → (e : Held) × (d : Held) × Becomes h form-2 e × ShapeOf e d × (take (s .count) new ≡ bytes form-2 d)
-one-bank-comes-as-shape file out mid r small first zero h sound one old new s little second nought =
-    let call = converted form2 form1 toForm1 dropsBit file out r mid first zero in
-    let t = turned-file is2 toForm1 dropsBit file out (r .count) mid small call in
+    → (old : List ℕ) (w : Outcome) → ConvertSays form-1 (made v) old w → w .answer .refusal ≡ 0
+    → (e : Held) × (d : Held) × Becomes h form-2 e × ShapeOf e d × (made w ≡ bytes form-2 d)
+one-bank-comes-as-shape file out v small first zero h sound one old w again nought =
+    let call = called form-2 file out v small first zero in
+    let t = turned-file is2 toForm1 dropsBit file out (v .answer .count) (v .out) small call in
+    let bytes′ = made-bytes form-2 file out v small first zero in
+    let second = convert-told form-1 (made v) bytes′ old w again in
     let c = contentsIn form2 file in
     let alone-is : alone c ≡ true = eq-eqb (length (c .banks)) 1 (ap (λ (x : Contents). length (x .banks)) (sound-contents sound) ∙ one) in
-    let mid′ = take (r .count) mid in
-    let u = turned-file is1 toForm2 dropsNone mid′ old (s .count) new little (converted form1 form2 toForm2 dropsNone mid′ old s new second nought) in
+    let mid′ = made v in
+    let u = turned-file is1 toForm2 dropsNone mid′ old (w .answer .count) (w .out) bytes′ (converted form1 form2 toForm2 dropsNone mid′ old (w .answer) (w .out) second nought) in
     let back : contentsIn form1 mid′ ≡ toForm1 c = ap (contentsIn form1) (t .made) ∙ contents-back is1 (toForm1 c) (form1-fits c (t .fits)) in
     let x = toForm2 (toForm1 c) in
     let fits = form2-fits (toForm1 c) (form1-fits c (t .fits)) in
@@ -174,13 +150,15 @@ one-bank-comes-as-shape file out mid r small first zero h sound one old new s li
     )
 
 -- "a two-bank form 1 file that already has the shape, which comes back as one bank"
-pub shape-comes-as-one-bank : (file out mid : List ℕ) (r : DkCount) → Bytes file → To2 file out r mid → r .refusal ≡ 0
+pub shape-comes-as-one-bank : (file out : List ℕ) (v : Outcome) → Bytes file → ConvertSays form-1 file out v → v .answer .refusal ≡ 0
     → (h d e : Held) → Sound form-1 file h → (length (h .banks) ≡ 1 → ⊥) → Becomes h form-1 d → ShapeOf e d
-    → (old new : List ℕ) (s : DkCount) → Bytes (take (r .count) mid) → To1 (take (r .count) mid) old s new → s .refusal ≡ 0
-    → (length (e .banks) ≡ 1) × (take (s .count) new ≡ bytes form-1 e)
-shape-comes-as-one-bank file out mid r small first zero h d e sound more becomes shape old new s little second nought =
-    let call = converted form1 form2 toForm2 dropsNone file out r mid first zero in
-    let t = turned-file is1 toForm2 dropsNone file out (r .count) mid small call in
+    → (old : List ℕ) (w : Outcome) → ConvertSays form-2 (made v) old w → w .answer .refusal ≡ 0
+    → (length (e .banks) ≡ 1) × (made w ≡ bytes form-1 e)
+shape-comes-as-one-bank file out v small first zero h d e sound more becomes shape old w again nought =
+    let call = called form-1 file out v small first zero in
+    let t = turned-file is1 toForm2 dropsNone file out (v .answer .count) (v .out) small call in
+    let bytes′ = made-bytes form-1 file out v small first zero in
+    let second = convert-told form-2 (made v) bytes′ old w again in
     let c = contentsIn form1 file in
     let same : c ≡ contents h = sound-contents sound in
     let d-is : d ≡ held (toForm2 c) = so-becomes form-1 h d (sound-fits sound) becomes ∙ ap (λ (x : Contents). held (toForm2 x)) (sym same) in
@@ -189,8 +167,8 @@ shape-comes-as-one-bank file out mid r small first zero h d e sound more becomes
     let e-is : e ≡ held (toForm1 (toForm2 c)) =
     p .1 ∙ ap (λ (x : Held). held (narrowed (contents x))) d-is
     ∙ sym (ap (λ (b : Bool). held (pick b (narrowed (toForm2 c)) (shortened (toForm2 c)))) shaped-is) in
-    let mid′ = take (r .count) mid in
-    let u = turned-file is2 toForm1 dropsBit mid′ old (s .count) new little (converted form2 form1 toForm1 dropsBit mid′ old s new second nought) in
+    let mid′ = made v in
+    let u = turned-file is2 toForm1 dropsBit mid′ old (w .answer .count) (w .out) bytes′ (converted form2 form1 toForm1 dropsBit mid′ old (w .answer) (w .out) second nought) in
     let back : contentsIn form2 mid′ ≡ toForm2 c = ap (contentsIn form2) (t .made) ∙ contents-back is2 (toForm2 c) (form2-fits c (t .fits)) in (
       shape .2 .one,
       u .made ∙ ap (λ (y : Contents). written form1 (toForm1 y)) back ∙ bytes-same form-1 (held (toForm1 (toForm2 c)))
@@ -200,13 +178,15 @@ shape-comes-as-one-bank file out mid r small first zero h d e sound more becomes
 -- ---- and neither is refused where there is room
 
 -- the shape comes back
-pub shape-comes-back : (file out mid : List ℕ) (r : DkCount) → Bytes file → To2 file out r mid → r .refusal ≡ 0
+pub shape-comes-back : (file out : List ℕ) (v : Outcome) → Bytes file → ConvertSays form-1 file out v → v .answer .refusal ≡ 0
     → (h d e : Held) → Sound form-1 file h → (length (h .banks) ≡ 1 → ⊥) → Becomes h form-1 d → ShapeOf e d
-    → (old new : List ℕ) (s : DkCount) → length (bytes form-1 e) ≤ length old → To1 (take (r .count) mid) old s new
-    → (s ≡ wrote (length (bytes form-1 e))) × Begins (bytes form-1 e) old new
-shape-comes-back file out mid r small first zero h d e sound more becomes shape old new s room second =
-    let call = converted form1 form2 toForm2 dropsNone file out r mid first zero in
-    let t = turned-file is1 toForm2 dropsNone file out (r .count) mid small call in
+    → (old : List ℕ) (w : Outcome) → length (bytes form-1 e) ≤ length old → ConvertSays form-2 (made v) old w
+    → (w .answer ≡ wrote (length (bytes form-1 e))) × Begins (bytes form-1 e) old (w .out)
+shape-comes-back file out v small first zero h d e sound more becomes shape old w room again =
+    let call = called form-1 file out v small first zero in
+    let t = turned-file is1 toForm2 dropsNone file out (v .answer .count) (v .out) small call in
+    let bytes′ = made-bytes form-1 file out v small first zero in
+    let second = convert-told form-2 (made v) bytes′ old w again in
     let c = contentsIn form1 file in
     let x = toForm2 c in
     let m = makes2 c (t .fits) in
@@ -222,8 +202,8 @@ shape-comes-back file out mid r small first zero h d e sound more becomes shape 
     sym (length-map (c .banks) (λ (b : List ℕ). b ++ zeros 1)) ∙ ap (λ (y : Contents). length (y .banks)) (sym longer-is) ∙ shape-two x shaped-is in
     let from-c = ap (λ (y : Contents). length (written form2 y)) longer-is in
     let fits = form2-fits c (t .fits) in
-    let made : written form1 (narrowed x) ≡ bytes form-1 e = bytes-same form-1 (held (narrowed x)) ∙ ap (bytes form-1) (sym e-is) in
-    let long = ap length made in
+    let is-made : written form1 (narrowed x) ≡ bytes form-1 e = bytes-same form-1 (held (narrowed x)) ∙ ap (bytes form-1) (sym e-is) in
+    let long = ap length is-made in
     let ok : Fine form1 x (narrowed x) (dropsBit x) (length old) =
     record {
       few = omega (arith, t .answer .few, rest-long x fits (shape-two x shaped-is) (shape-some x shaped-is));
@@ -233,23 +213,25 @@ shape-comes-back file out mid r small first zero h d e sound more becomes shape 
       kept = m .clear;
       fits = omega (arith, long, room);
     } in
-    let mid′ = take (r .count) mid in
+    let mid′ = made v in
     let a = answerIn form2 form1 toForm1 dropsBit mid′ old in
-    let back = any-call form2 form1 toForm1 dropsBit mid′ old s new second in
-    let q = second-call is2 toForm1 dropsBit x (narrowed x) fits (t .answer .short) goes old new a ok
-    (subst (λ (f : List ℕ). Converts form2 form1 toForm1 dropsBit f old a new) (t .made) back) in (
+    let back = any-call form2 form1 toForm1 dropsBit mid′ old (w .answer) (w .out) second in
+    let q = second-call is2 toForm1 dropsBit x (narrowed x) fits (t .answer .short) goes old (w .out) a ok
+    (subst (λ (f : List ℕ). Converts form2 form1 toForm1 dropsBit f old a (w .out)) (t .made) back) in (
       second .answer ∙ ap conversionCount (q .0) ∙ ap wrote long,
-      subst (Begins (bytes form-1 e) old) (sym (q .1 ∙ ap (λ (f : List ℕ). f ++ drop (length f) old) made)) (begins-so (bytes form-1 e) old room),
+      subst (Begins (bytes form-1 e) old) (sym (q .1 ∙ ap (λ (f : List ℕ). f ++ drop (length f) old) is-made)) (begins-so (bytes form-1 e) old room),
     )
 
 -- and a one-bank form 2 file comes again, where it has fewer than 4,096 nodes and the result is within its form's length
-pub one-bank-comes-again : (file out mid : List ℕ) (r : DkCount) → Bytes file → To1 file out r mid → r .refusal ≡ 0
+pub one-bank-comes-again : (file out : List ℕ) (v : Outcome) → Bytes file → ConvertSays form-2 file out v → v .answer .refusal ≡ 0
     → (h d e : Held) → Sound form-2 file h → length (h .banks) ≡ 1 → length (h .nodes) < 4096 → Becomes h form-2 e → ShapeOf e d
-    → (old new : List ℕ) (s : DkCount) → length (bytes form-2 d) ≤ 65536 → length (bytes form-2 d) ≤ length old → To2 (take (r .count) mid) old s new
-    → (s ≡ wrote (length (bytes form-2 d))) × Begins (bytes form-2 d) old new
-one-bank-comes-again file out mid r small first zero h d e sound one few becomes shape old new s low room second =
-    let call = converted form2 form1 toForm1 dropsBit file out r mid first zero in
-    let t = turned-file is2 toForm1 dropsBit file out (r .count) mid small call in
+    → (old : List ℕ) (w : Outcome) → length (bytes form-2 d) ≤ 65536 → length (bytes form-2 d) ≤ length old → ConvertSays form-1 (made v) old w
+    → (w .answer ≡ wrote (length (bytes form-2 d))) × Begins (bytes form-2 d) old (w .out)
+one-bank-comes-again file out v small first zero h d e sound one few becomes shape old w low room again =
+    let call = called form-2 file out v small first zero in
+    let t = turned-file is2 toForm1 dropsBit file out (v .answer .count) (v .out) small call in
+    let bytes′ = made-bytes form-2 file out v small first zero in
+    let second = convert-told form-1 (made v) bytes′ old w again in
     let c = contentsIn form2 file in
     let same : c ≡ contents h = sound-contents sound in
     let single : length (c .banks) ≡ 1 = ap (λ (y : Contents). length (y .banks)) same ∙ one in
@@ -262,8 +244,8 @@ one-bank-comes-again file out mid r small first zero h d e sound one few becomes
     let again : toForm2 y ≡ widened y = ap (λ (b : Bool). pick b (widened y) (lengthened y)) still in
     let e-is : e ≡ held y = so-becomes form-2 h e (sound-fits sound) becomes ∙ ap (λ (z : Contents). held (toForm1 z)) (sym same) ∙ ap held goes in
     let d-is : d ≡ held (widened y) = so-widened e d (shape .2) ∙ ap (λ (z : Held). held (widened (contents z))) e-is in
-    let made : written form2 (widened y) ≡ bytes form-2 d = bytes-same form-2 (held (widened y)) ∙ ap (bytes form-2) (sym d-is) in
-    let long = ap length made in
+    let is-made : written form2 (widened y) ≡ bytes form-2 d = bytes-same form-2 (held (widened y)) ∙ ap (bytes form-2) (sym d-is) in
+    let long = ap length is-made in
     let none-c : length (c .nodes) ≤ firstWhere (strays 0) (c .nodes) = rw alone-is at (t .answer .none-strays) in
     let none-y : length (y .nodes) ≤ stray y = rw still none-c in
     let ok : Fine form2 y (widened y) false (length old) =
@@ -275,12 +257,12 @@ one-bank-comes-again file out mid r small first zero h d e sound one few becomes
       kept = refl;
       fits = omega (arith, long, room);
     } in
-    let mid′ = take (r .count) mid in
+    let mid′ = made v in
     let a = answerIn form1 form2 toForm2 dropsNone mid′ old in
-    let back = any-call form1 form2 toForm2 dropsNone mid′ old s new second in
+    let back = any-call form1 form2 toForm2 dropsNone mid′ old (w .answer) (w .out) second in
     let short : length (written form1 y) ≤ form1 .longest = rw goes at (t .answer .short) in
-    let q = second-call is1 toForm2 dropsNone y (widened y) (shortened-fits c (t .fits)) short again old new a ok
-    (subst (λ (f : List ℕ). Converts form1 form2 toForm2 dropsNone f old a new) (t .made ∙ ap (written form1) goes) back) in (
+    let q = second-call is1 toForm2 dropsNone y (widened y) (shortened-fits c (t .fits)) short again old (w .out) a ok
+    (subst (λ (f : List ℕ). Converts form1 form2 toForm2 dropsNone f old a (w .out)) (t .made ∙ ap (written form1) goes) back) in (
       second .answer ∙ ap conversionCount (q .0) ∙ ap wrote long,
-      subst (Begins (bytes form-2 d) old) (sym (q .1 ∙ ap (λ (f : List ℕ). f ++ drop (length f) old) made)) (begins-so (bytes form-2 d) old room),
+      subst (Begins (bytes form-2 d) old) (sym (q .1 ∙ ap (λ (f : List ℕ). f ++ drop (length f) old) is-made)) (begins-so (bytes form-2 d) old room),
     )
