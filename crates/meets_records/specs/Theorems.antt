@@ -7,7 +7,7 @@ pub mod ReadMeets
 pub mod Checksums
 pub mod Cases
 pub mod SameReading
+pub mod Scratch
 pub mod ReadBack
 pub mod Rewritten
 pub mod AnyLength
-pub mod Calls

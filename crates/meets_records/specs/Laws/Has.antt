@@ -1,6 +1,6 @@
 -- The bytes that pieces give, piece by piece instead of by index; pieces in another order. From the sentences alone.
 use mathlib.Core.Path.{_≡_, refl, sym, ap, subst}
-use mathlib.Core.List.{List, [], _∷_, _++_}
+use mathlib.Core.List.{List, [], _∷_, _++_, List·Permᴰ, List·Permᴰ·nil, List·Permᴰ·cons, List·Permᴰ·swap, List·Permᴰ·trans, Permᴰ·symm}
 use mathlib.Core.Logic.{_⊎_, inl, inr, ⊎-elim}
 use Prim.Native.Nat.{ℕ, zero, suc, _+_, _<_}
 use native.Mathlib.Omega.{arith}
@@ -74,32 +74,25 @@ lone-once (p ∷ ps) l (suc i) zero a b c g h = absurd (l .0 a c b (head-has p p
 lone-once (p ∷ ps) l (suc i) (suc j) a b c g h = ap suc (lone-once ps (l .1) i j a b c (behind 0 p ps i a b g) (behind 0 p ps j a c h))
 
 -- ---- in another order
-pub data Shuffled : List Piece → List Piece → Type 0 where
-  same : {ps : List Piece} → Shuffled ps ps
-  swap : {p q : Piece} {ps : List Piece} → Shuffled (p ∷ q ∷ ps) (q ∷ p ∷ ps)
-  next : {p : Piece} {ps qs : List Piece} → Shuffled ps qs → Shuffled (p ∷ ps) (p ∷ qs)
-  chain : {ps qs rs : List Piece} → Shuffled ps qs → Shuffled qs rs → Shuffled ps rs
+pub has-reordered : {ps qs : List Piece} → List·Permᴰ ps qs → (a b : ℕ) → Has ps a b → Has qs a b
+has-reordered List·Permᴰ·nil a b x = x
+has-reordered (List·Permᴰ·cons e o) a b (inl x) = inl (subst (λ (p : Piece). HasOne p a b) e x)
+has-reordered (List·Permᴰ·cons e o) a b (inr x) = inr (has-reordered o a b x)
+has-reordered (List·Permᴰ·swap e f) a b (inl x) = inr (inl (subst (λ (p : Piece). HasOne p a b) e x))
+has-reordered (List·Permᴰ·swap e f) a b (inr (inl x)) = inl (subst (λ (p : Piece). HasOne p a b) f x)
+has-reordered (List·Permᴰ·swap e f) a b (inr (inr x)) = inr (inr x)
+has-reordered (List·Permᴰ·trans o u) a b x = has-reordered u a b (has-reordered o a b x)
 
-pub turned : {ps qs : List Piece} → Shuffled ps qs → Shuffled qs ps
-turned same = same
-turned swap = swap
-turned (next x) = next (turned x)
-turned (chain x y) = chain (turned y) (turned x)
-
-pub has-shuffled : {ps qs : List Piece} → Shuffled ps qs → (a b : ℕ) → Has ps a b → Has qs a b
-has-shuffled same a b x = x
-has-shuffled swap a b (inl x) = inr (inl x)
-has-shuffled swap a b (inr (inl x)) = inl x
-has-shuffled swap a b (inr (inr x)) = inr (inr x)
-has-shuffled (next s) a b (inl x) = inl x
-has-shuffled (next s) a b (inr x) = inr (has-shuffled s a b x)
-has-shuffled (chain s t) a b x = has-shuffled t a b (has-shuffled s a b x)
-
-pub lone-shuffled : {ps qs : List Piece} → Shuffled ps qs → Lone ps → Lone qs
-lone-shuffled same l = l
-lone-shuffled swap l = (
-  λ a b c x y. ⊎-elim (λ z. l .0 a c b z (inl x)) (λ z. l .1 .0 a b c x z) y,
-  (λ a b c x y. l .0 a b c x (inr y), l .1 .1),
+pub lone-reordered : {ps qs : List Piece} → List·Permᴰ ps qs → Lone ps → Lone qs
+lone-reordered List·Permᴰ·nil l = l
+lone-reordered (List·Permᴰ·cons e o) l = (
+  λ a b c x y. l .0 a b c (subst (λ (p : Piece). HasOne p a b) (sym e) x) (has-reordered (Permᴰ·symm o) a c y),
+  lone-reordered o (l .1),
 )
-lone-shuffled (next s) l = (λ a b c x y. l .0 a b c x (has-shuffled (turned s) a c y), lone-shuffled s (l .1))
-lone-shuffled (chain s t) l = lone-shuffled t (lone-shuffled s l)
+lone-reordered (List·Permᴰ·swap e f) l = (
+  λ a b c x y.
+      let z = subst (λ (p : Piece). HasOne p a b) (sym f) x in
+      ⊎-elim (λ v. l .0 a c b (subst (λ (p : Piece). HasOne p a c) (sym e) v) (inl z)) (λ v. l .1 .0 a b c z v) y,
+  (λ a b c x y. l .0 a b c (subst (λ (p : Piece). HasOne p a b) (sym e) x) (inr y), l .1 .1),
+)
+lone-reordered (List·Permᴰ·trans o u) l = lone-reordered u (lone-reordered o l)

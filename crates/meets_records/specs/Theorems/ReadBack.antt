@@ -57,7 +57,9 @@ pub record Returned (g : Given) (old : Lent) (z : Outcome) : Type 0 where
   pub accepted : z .answer .refusal ≡ 0
   pub same : (x : ℕ) → InBlock g x → getD (z .lent .bytes) x 0 ≡ getD (g .image) x 0
   pub kept : (x : ℕ) → Not (InBlock g x) → getD (z .lent .bytes) x 0 ≡ getD (old .bytes) x 0
-  -- the blocks have the same bytes,
+  -- the blocks are on byte edges and not empty,
+  pub edges : (i : ℕ) → i < z .answer .count → (getD (z .lent .offsets) i 0 % 8 ≡ 0) × (getD (z .lent .sizes) i 0 % 8 ≡ 0) × (0 < getD (z .lent .sizes) i 0)
+  -- they have the same bytes,
   pub blocks : (i : ℕ) → i < z .answer .count → (x : ℕ) → getD (z .lent .offsets) i 0 / 8 ≤ x
       → x < (getD (z .lent .offsets) i 0 + getD (z .lent .sizes) i 0) / 8 → InBlock g x
   pub every : (x : ℕ) → InBlock g x → (i : ℕ) × (i < z .answer .count) × (getD (z .lent .offsets) i 0 / 8 ≤ x)
@@ -277,6 +279,11 @@ module _ (g : Given) (format : ℕ) (text : List ℕ) (ps : List Piece) (fit : G
               let place : g .load + x - g .load ≡ x = omega arith in
               ap (λ (z : ℕ). getD bytes z 0) (sym place) ∙ f .given (k .0) (g .load + x) (getD (g .image) x 0) (k .1);
           kept = λ x out. f .kept x (λ h. out (in-at x h));
+          edges = λ i h.
+              let k = block-is (b .each i h) in
+              let p = o .front i h in
+              let q = n .front i (omega (arith, many)) in
+              (omega (arith, p, k .from), omega (arith, q, k .size), omega (arith, q, k .size, k .some));
           blocks = λ i h x low high. listed i h x (omega (arith, o .front i h)) (omega (arith, o .front i h, n .front i (omega arith)));
           every = λ x i.
               let k = found x i in

@@ -135,6 +135,9 @@ module _ (format load : ℕ) where
   says-one (r.s-records n w a x) (r.hex f b y) = absurd (omega arith)
   says-one (r.s-records n w a x) (r.s-records n′ v b y) = srec-lines-one w v x (rw (lines-one b a) at y)
 
+  pub good-said : {text : List ℕ} {m : ℕ} {ps qs : List Piece} → Good format load text ps → Says format load text m qs → ps ≡ qs
+  good-said (r.good x i o) y = says-one x y
+
   pub good-one : {text : List ℕ} {ps qs : List Piece} → Good format load text ps → Good format load text qs → ps ≡ qs
   good-one (r.good x i o) (r.good y j u) = says-one x y
 

@@ -1,8 +1,8 @@
 -- What is read depends on nothing but the bytes at the addresses: two good files that give the same bytes to the same addresses have one outcome, in
--- the answer and in everything lent, whatever their formats. So records come in any order (`order-free`), and a line ends at LF, CR LF or the end of
+-- the answer and in everything lent, whatever their formats. So data records come in any order (`order-free`), and a line ends at LF, CR LF or the end of
 -- the text, each line by itself (`cr-lf-free`, and of the line at fault `cr-lf-fault`; docs/DECISIONS.md). From the sentences alone.
 use mathlib.Core.Path.{_≡_, refl, sym, ap, _∙_, subst}
-use mathlib.Core.List.{List, [], _∷_}
+use mathlib.Core.List.{List, [], _∷_, List·Permᴰ, Permᴰ·symm}
 use mathlib.Core.Logic.{_⊎_}
 use Prim.Native.Nat.{ℕ, suc, _+_, _-_, _≤_, _<_}
 use native.Mathlib.Omega.{arith}
@@ -13,15 +13,13 @@ use Rattle.says.specs.Words as words
 use Rattle.says.specs.Words.{Tries}
 use Rattle.says.specs.Records as r
 use Rattle.says.specs.Words.{Not}
-use Rattle.says.specs.Records.{Lines, Hex, Srec, Width}
+use Rattle.says.specs.Records.{Lines, Width}
 use Rattle.says.specs.Read as s
-use Rattle.says.specs.Read.{HexLines, SrecLines, Gives, GivenTo, Good, GoesOn}
+use Rattle.says.specs.Read.{HexLines, SrecLines, GivenTo, Says, Good, GoesOn}
 use Rattle.says.specs.Read.{FaultSays, Block, Blocks, Lent, Outcome, Filled, Accepts, ReadSays}
-use Rattle.meets_records.specs.Laws.One.{lines-one, hex-one, srec-kind}
-use Rattle.meets_records.specs.Laws.Has as shuffle
-use Rattle.meets_records.specs.Laws.Has.{Has, gives-has, has-gives, once-lone, lone-once, Shuffled, turned}
-use Rattle.meets_records.specs.Laws.Has.{has-shuffled, lone-shuffled}
-use Rattle.meets_records.specs.Theorems.ReadDecides.{good-one, read-decides, distinct}
+use Rattle.meets_records.specs.Laws.One.{lines-one, srec-kind}
+use Rattle.meets_records.specs.Laws.Has.{Has, gives-has, has-gives, once-lone, lone-once, has-reordered, lone-reordered}
+use Rattle.meets_records.specs.Theorems.ReadDecides.{good-said, good-one, read-decides, distinct}
 use Rattle.meets_records.specs.Theorems.FaultDecides.{fault-decides}
 
 -- ---- the same bytes
@@ -86,120 +84,57 @@ module _ (format format′ load : ℕ) (text other : List ℕ) (ps qs : List Pie
       let pieces : rs ≡ ps = good-one format load k g in
       read-decides format′ load other old y z (says-there y h (rw pieces at b) (rw pieces at t)) u
 
--- ---- files that are good together
-pub alike : (format load : ℕ) (text other : List ℕ) (old : Lent)
-    → ((ps : List Piece) → Good format load text ps → (qs : List Piece) × Good format load other qs × Shuffled ps qs)
-    → ((ps : List Piece) → Good format load other ps → (qs : List Piece) × Good format load text qs × Shuffled ps qs)
-    → (y z : Outcome) → ReadSays format load text old y → ReadSays format load other old z → y ≡ z
-alike format load text other old to back y z (s.bad n words.is) (s.bad m words.is) = refl
-alike format load text other old to back y z (s.bad n e) (s.read {ps = qs} h b t) = let k = back qs h in absurd (n (k .0) (k .1))
-alike format load text other old to back y z (s.read {ps = ps} g b t) u =
-    let k = to ps g in
-    same-reading format format load text other ps (k .0) old (has-shuffled (k .2)) (has-shuffled (turned (k .2))) g (k .1) y z (s.read g b t) u
+-- ---- any order
 
--- ---- any order: data records that change places, anywhere in a file, as often as one likes (in Intel HEX not across a type 04 record)
-pub data DataRecord (format : ℕ) (line : List ℕ) : Type 0 where
-  hex : {field : ℕ} {bytes : List ℕ} → format ≡ 0 → Hex r.either line 0 field bytes → DataRecord format line
-  s-record : {d e width top address : ℕ} {bytes : List ℕ} → format ≡ 1 → Width d e width top → Srec r.either line d width address bytes
-      → DataRecord format line
+-- the first address that doesn't fit is told by the end record
+top-one : {d e w m d′ e′ w′ m′ : ℕ} → Width d e w m → Width d′ e′ w′ m′ → e ≡ e′ → m ≡ m′
+top-one (r.two a b c f) (r.two a′ b′ c′ f′) x = omega arith
+top-one (r.two a b c f) (r.four a′ b′ c′ f′) x = absurd (omega arith)
+top-one (r.four a b c f) (r.two a′ b′ c′ f′) x = absurd (omega arith)
+top-one (r.four a b c f) (r.four a′ b′ c′ f′) x = omega arith
 
-pub data Reordered (format : ℕ) : List (List ℕ) → List (List ℕ) → Type 0 where
-  same : {ls : List (List ℕ)} → Reordered format ls ls
-  swap : {l m : List ℕ} {ls : List (List ℕ)} → DataRecord format l → DataRecord format m → Reordered format (l ∷ m ∷ ls) (m ∷ l ∷ ls)
-  next : {l : List ℕ} {ls ms : List (List ℕ)} → Reordered format ls ms → Reordered format (l ∷ ls) (l ∷ ms)
-  chain : {ls ms ns : List (List ℕ)} → Reordered format ls ms → Reordered format ms ns → Reordered format ls ns
+module _ {d e w m d′ e′ w′ m′ : ℕ} (here : Width d e w m) (there : Width d′ e′ w′ m′) where
+  ends-one : {ls : List (List ℕ)} {ps qs : List Piece} → SrecLines d e w ls ps → SrecLines d′ e′ w′ ls qs → e ≡ e′
+  ends-one (s.end h) (s.end k) = srec-kind h k
+  ends-one (s.end h) (s.piece k y) = absurd (distinct here there .1 (srec-kind h k))
+  ends-one (s.end h) (s.header k y) = absurd (distinct here there .3 (sym (srec-kind h k)))
+  ends-one (s.piece h x) (s.end k) = absurd (distinct here there .0 (srec-kind h k))
+  ends-one (s.piece h x) (s.piece k y) = ends-one x y
+  ends-one (s.piece h x) (s.header k y) = absurd (distinct here there .2 (sym (srec-kind h k)))
+  ends-one (s.header h x) (s.end k) = absurd (distinct here there .5 (srec-kind h k))
+  ends-one (s.header h x) (s.piece k y) = absurd (distinct here there .4 (srec-kind h k))
+  ends-one (s.header h x) (s.header k y) = ends-one x y
 
-filled-list : {l : List ℕ} {ls : List (List ℕ)} → l ∷ ls ≡ [] → ⊥
-filled-list e = let z : _≡_ {A = ℕ} (suc 0) 0 = cc in omega arith
+says-top : {format load m n : ℕ} {text : List ℕ} {ps qs : List Piece} → Says format load text m ps → Says format load text n qs → m ≡ n
+says-top (s.hex f a x) (s.hex g b y) = refl
+says-top (s.hex f a x) (s.s-records n w b y) = absurd (omega arith)
+says-top (s.s-records n w a x) (s.hex f b y) = absurd (omega arith)
+says-top (s.s-records n w a x) (s.s-records n′ v b y) = top-one w v (ends-one w v x (rw (lines-one b a) at y))
 
-within-there : {load top : ℕ} {ps qs : List Piece} → Shuffled ps qs → ((i a b : ℕ) → Gives ps i a b → (load ≤ a) × (a < top))
-    → (i a b : ℕ) → Gives qs i a b → (load ≤ a) × (a < top)
-within-there {ps = ps} {qs = qs} f h i a b g =
-    let k = has-gives ps a b (has-shuffled (turned f) a b (gives-has qs i a b g)) in
-    h (k .0) a b (k .1)
+module _ {format format′ load top : ℕ} {text other : List ℕ} {ps qs : List Piece} (x : Says format load text top ps) (y : Says format′ load other top qs)
+    (order : List·Permᴰ ps qs) where
+  good-there : Good format load text ps → Good format′ load other qs
+  good-there (s.good {top = m} z within once) =
+      let same : m ≡ top = says-top z x in
+      s.good y (λ i a b g.
+      let k = has-gives ps a b (has-reordered (Permᴰ·symm order) a b (gives-has qs i a b g)) in
+      let w = within (k .0) a b (k .1) in
+      (w .0, omega (arith, w .1, same)))
+      (lone-once qs (lone-reordered order (once-lone ps once)))
 
-module _ {format : ℕ} where
-  order-back : {ls ms : List (List ℕ)} → Reordered format ls ms → Reordered format ms ls
-  order-back same = same
-  order-back (swap x y) = swap y x
-  order-back (next x) = next (order-back x)
-  order-back (chain x y) = chain (order-back y) (order-back x)
-
-  stays-empty : {ls ms : List (List ℕ)} → Reordered format ls ms → ls ≡ [] → ms ≡ []
-  stays-empty same e = e
-  stays-empty (swap x y) e = absurd (filled-list e)
-  stays-empty (next x) e = absurd (filled-list e)
-  stays-empty (chain x y) e = stays-empty y (stays-empty x e)
-
-  is-hex : format ≡ 0 → {l : List ℕ} → DataRecord format l → (f : ℕ) × (b : List ℕ) × Hex r.either l 0 f b
-  is-hex e (hex {field} {bytes} f h) = (field, bytes, h)
-  is-hex e (s-record n v h) = absurd (omega arith)
-
-  module _ (z : format ≡ 0) where
-    hex-swap : {u : ℕ} {l m : List ℕ} {ls : List (List ℕ)} {ps : List Piece} → DataRecord format l → DataRecord format m → HexLines u (l ∷ m ∷ ls) ps
-        → (qs : List Piece) × HexLines u (m ∷ l ∷ ls) qs × Shuffled ps qs
-    hex-swap x y (s.upper h t) = absurd (omega (arith, hex-one (is-hex z x .2) h .0))
-    hex-swap x y (s.piece h e (s.end k)) = absurd (omega (arith, hex-one (is-hex z y .2) k .0))
-    hex-swap x y (s.piece h e (s.upper k t)) = absurd (omega (arith, hex-one (is-hex z y .2) k .0))
-    hex-swap x y (s.piece {p = p} h e (s.piece {p = q} {ps = ps} k f t)) = (q ∷ p ∷ ps, s.piece k f (s.piece h e t), shuffle.swap)
-
-    hex-reordered : {u : ℕ} {ls ms : List (List ℕ)} {ps : List Piece} → Reordered format ls ms → HexLines u ls ps
-        → (qs : List Piece) × HexLines u ms qs × Shuffled ps qs
-    hex-reordered {ps = ps} same t = (ps, t, shuffle.same)
-    hex-reordered (swap x y) t = hex-swap x y t
-    hex-reordered {u} (next {l = l} x) (s.end h) =
-        ([], subst (λ (n : List (List ℕ)). HexLines u (l ∷ n) []) (sym (stays-empty x refl)) (s.end h), shuffle.same)
-    hex-reordered (next x) (s.piece {p = p} h e t) = let k = hex-reordered x t in (p ∷ k .0, s.piece h e (k .1), shuffle.next (k .2))
-    hex-reordered (next x) (s.upper h t) = let k = hex-reordered x t in (k .0, s.upper h (k .1), k .2)
-    hex-reordered (chain x y) t =
-        let k = hex-reordered x t in
-        let m = hex-reordered y (k .1) in
-        (m .0, m .1, shuffle.chain (k .2) (m .2))
-
-  is-srec : format ≡ 1 → {l : List ℕ} → DataRecord format l
-      → (d : ℕ) × (e : ℕ) × (w : ℕ) × (top : ℕ) × (a : ℕ) × (b : List ℕ) × Width d e w top × Srec r.either l d w a b
-  is-srec n (hex e h) = absurd (omega arith)
-  is-srec n (s-record {d} {e} {width} {top} {address} {bytes} m v h) = (d, e, width, top, address, bytes, v, h)
-
-  module _ (n : format ≡ 1) {d e w top : ℕ} (v : Width d e w top) where
-    no-end : {l : List ℕ} {a : ℕ} {b : List ℕ} → DataRecord format l → Srec r.either l e w a b → ⊥
-    no-end x h = let k = is-srec n x in distinct (k .6) v .0 (srec-kind (k .7) h)
-
-    no-header : {l : List ℕ} {a : ℕ} {b : List ℕ} → DataRecord format l → Srec r.either l 48 2 a b → ⊥
-    no-header x h = let k = is-srec n x in distinct (k .6) v .2 (sym (srec-kind (k .7) h))
-
-    srec-swap : {l m : List ℕ} {ls : List (List ℕ)} {ps : List Piece} → DataRecord format l → DataRecord format m → SrecLines d e w (l ∷ m ∷ ls) ps
-        → (qs : List Piece) × SrecLines d e w (m ∷ l ∷ ls) qs × Shuffled ps qs
-    srec-swap x y (s.header h t) = absurd (no-header x h)
-    srec-swap x y (s.piece h (s.end k)) = absurd (no-end y k)
-    srec-swap x y (s.piece h (s.header k t)) = absurd (no-header y k)
-    srec-swap x y (s.piece {p = p} h (s.piece {p = q} {ps = ps} k t)) = (q ∷ p ∷ ps, s.piece k (s.piece h t), shuffle.swap)
-
-    srec-reordered : {ls ms : List (List ℕ)} {ps : List Piece} → Reordered format ls ms → SrecLines d e w ls ps
-        → (qs : List Piece) × SrecLines d e w ms qs × Shuffled ps qs
-    srec-reordered {ps = ps} same t = (ps, t, shuffle.same)
-    srec-reordered (swap x y) t = srec-swap x y t
-    srec-reordered (next {l = l} x) (s.end h) =
-        ([], subst (λ (n : List (List ℕ)). SrecLines d e w (l ∷ n) []) (sym (stays-empty x refl)) (s.end h), shuffle.same)
-    srec-reordered (next x) (s.piece {p = p} h t) = let k = srec-reordered x t in (p ∷ k .0, s.piece h (k .1), shuffle.next (k .2))
-    srec-reordered (next x) (s.header h t) = let k = srec-reordered x t in (k .0, s.header h (k .1), k .2)
-    srec-reordered (chain x y) t =
-        let k = srec-reordered x t in
-        let m = srec-reordered y (k .1) in
-        (m .0, m .1, shuffle.chain (k .2) (m .2))
-
-  module _ {load : ℕ} {text other : List ℕ} {ls ms : List (List ℕ)} (a : Lines text ls) (b : Lines other ms) (x : Reordered format ls ms) where
-    good-there : {ps : List Piece} → Good format load text ps → (qs : List Piece) × Good format load other qs × Shuffled ps qs
-    good-there {ps} (s.good {top} (s.hex e lines t) within once) =
-        let k = hex-reordered e x (subst (λ (n : List (List ℕ)). HexLines 0 n ps) (lines-one lines a) t) in
-        (k .0, s.good (s.hex e b (k .1)) (within-there (k .2) within) (lone-once (k .0) (lone-shuffled (k .2) (once-lone ps once))), k .2)
-    good-there {ps} (s.good {top} (s.s-records {d = d} {e = e} {width = w} n v lines t) within once) =
-        let k = srec-reordered n v x (subst (λ (n : List (List ℕ)). SrecLines d e w n ps) (lines-one lines a) t) in
-        (k .0, s.good (s.s-records n v b (k .1)) (within-there (k .2) within) (lone-once (k .0) (lone-shuffled (k .2) (once-lone ps once))), k .2)
-
-pub order-free : {format load : ℕ} {text other : List ℕ} {ls ms : List (List ℕ)} (old : Lent) → Lines text ls → Lines other ms → Reordered format ls ms
-    → (y z : Outcome) → ReadSays format load text old y → ReadSays format load other old z → y ≡ z
-order-free {format} {load} {text} {other} old a b x = alike format load text other old (λ ps g. good-there a b x g) (λ ps g. good-there b a (order-back x) g)
+-- Two files whose lines say the same pieces, in any order, have one outcome. A piece is a data record with its whole address; so data records stand in any
+-- order, in Intel HEX each under the upper half that makes its address, and type 04 and S0 records stand anywhere between them. The formats may differ, if
+-- the same addresses fit.
+module _ {format format′ load top : ℕ} {text other : List ℕ} {ps qs : List Piece} (x : Says format load text top ps) (y : Says format′ load other top qs)
+    (order : List·Permᴰ ps qs) where
+  pub order-free : (old : Lent) (v w : Outcome) → ReadSays format load text old v → ReadSays format′ load other old w → v ≡ w
+  order-free old v w (s.bad n words.is) (s.bad m words.is) = refl
+  order-free old v w (s.bad n e) (s.read {ps = rs} h b t) =
+      absurd (n ps (good-there y x (Permᴰ·symm order) (subst (Good format′ load other) (good-said format′ load h y) h)))
+  order-free old v w (s.read {ps = rs} g b t) u =
+      let mine = subst (Good format load text) (good-said format load g x) g in
+      same-reading format format′ load text other ps qs old (has-reordered order) (has-reordered (Permᴰ·symm order)) mine (good-there x y order mine) v w
+      (s.read g b t) u
 
 -- ---- the same lines
 module _ {format load : ℕ} {text other : List ℕ} {ls : List (List ℕ)} (a : Lines text ls) (b : Lines other ls) where
@@ -214,7 +149,10 @@ module _ {format load : ℕ} {text other : List ℕ} {ls : List (List ℕ)} (a :
 
 module _ {format load : ℕ} {text other : List ℕ} {ls : List (List ℕ)} (a : Lines text ls) (b : Lines other ls) where
   pub lines-free : (old : Lent) (y z : Outcome) → ReadSays format load text old y → ReadSays format load other old z → y ≡ z
-  lines-free old = alike format load text other old (λ ps g. (ps, same-lines a b g, shuffle.same)) (λ ps g. (ps, same-lines b a g, shuffle.same))
+  lines-free old y z (s.bad n words.is) (s.bad m words.is) = refl
+  lines-free old y z (s.bad n e) (s.read {ps = ps} h c t) = absurd (n ps (same-lines b a h))
+  lines-free old y z (s.read {ps = ps} g c t) u =
+      same-reading format format load text other ps ps old (λ i j x. x) (λ i j x. x) g (same-lines a b g) y z (s.read g c t) u
 
   pub fault-free : (scratch : List ℕ) (y z : DkFault × List ℕ) → FaultSays format load text scratch y → FaultSays format load other scratch z → y ≡ z
   fault-free scratch y z (s.none g) x = fault-decides format load other scratch y z (s.none (same-lines a b g)) x
