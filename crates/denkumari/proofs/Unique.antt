@@ -9,7 +9,7 @@ use Rattle.c_answers.specs.declared.DkFault.{DkFault}
 use Rattle.c_answers.specs.declared.DkReason.{DkReason}
 use Rattle.says.specs.Build as build
 use Rattle.says.specs.Convert as convert
-use Rattle.says.specs.DkBlocks as blocks
+use Rattle.says.specs.Blocks as blocks
 use Rattle.says.specs.Hex as hex
 use Rattle.says.specs.Map as map
 use Rattle.says.specs.Overlay as overlay

@@ -4,7 +4,7 @@ use c_answers::DkPart;
 use c_answers::tell_blocks;
 use c_answers::tell_hex;
 use c_answers::tell_part;
-ghost use Rattle.says.specs.DkBlocks.{DkBlocksSay};
+ghost use Rattle.says.specs.Blocks.{DkBlocksSay};
 ghost use Rattle.says.specs.Hex.{HexSays};
 ghost use Rattle.says.specs.Part.{PartSays};
 

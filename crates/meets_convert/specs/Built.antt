@@ -10,8 +10,8 @@ use Rattle.c_answers.specs.declared.DkLayout.{DkLayout}
 use Rattle.says.specs.Files.{two, four, eight}
 use Rattle.says.specs.Build.{Outcome}
 use Rattle.says.specs.Convert as convert
-use Rattle.says.specs.DkBlocks as blocks
-use Rattle.says.specs.DkBlocks.{DkBlocksSay}
+use Rattle.says.specs.Blocks as blocks
+use Rattle.says.specs.Blocks.{DkBlocksSay}
 
 -- the file that a conversion has made
 abbrev pub made : convert.Outcome → List ℕ

@@ -9,9 +9,7 @@ pub mod FormPaged
 pub mod Convert
 pub mod Map
 pub mod Store
-pub mod Ordered
 pub mod Blocks
-pub mod DkBlocks
 pub mod Part
 pub mod Hex
 pub mod Overlay

@@ -1,5 +1,5 @@
--- `blocks::get_blocks`: its contract says the sentences of Blocks (`blocks-meets`), and they leave one outcome, the answer and both lists lent for it
--- (`blocks-decides`).
+-- Blocks: what `blocks::get_blocks` promises, its answer in numbers, says the sentences of `dk_blocks` (`blocks-meets`), and they leave one outcome, the
+-- answer and both lists lent for it (`blocks-decides`).
 use mathlib.Core.Path.{_≡_, refl, sym, ap, fun-ext, _∙_}
 use mathlib.Core.Bool.{false}
 use mathlib.Core.List.{List, [], _∷_, _++_, map, tail}
@@ -11,7 +11,8 @@ use borrow.Author.Tests.{le-leb, lt-leb, leb-false, eq-eqb, ne-eqb, eqb-true, eq
 use lib.Dec.{leb, eqb}
 use lib.ListN.{length, getD, drop, drop-of-length-le, length-map, List·getD-map}
 use lib.Seq.{drop-cons}
-use Rattle.refusal.specs.Laws.Bools.{either, clash}
+use Rattle.refusal.specs.Laws.Bools.{either, clash, unlike}
+use Rattle.refusal.specs.Refusals.{numberOf, placeOf}
 use Rattle.refusal.specs.Told.{gives, refuses}
 use Rattle.refusal.specs.declared.Offset.the-variants.{At as Placed}
 use Rattle.refusal.specs.declared.Place.the-variants.{One}
@@ -21,6 +22,7 @@ use Rattle.sort.specs.Sorted.{sortedBy}
 use Rattle.sort.specs.Laws.Sorted.{le-or-lt}
 use Rattle.blocks.specs.declared.Block.{Block}
 use Rattle.blocks.specs.declared.Blocks.{Blocks}
+use Rattle.blocks.specs.declared.Blocks.the-variants.{Found, Refused}
 use Rattle.blocks.specs.Acceptable.{WellLent}
 use Rattle.blocks.specs.Theorems.Acceptable.{acceptable-exactly}
 use Rattle.blocks.specs.Theorems.Exactly as exactly
@@ -31,8 +33,10 @@ use Rattle.blocks.specs.Outcome.{roomFor, toldBy, Contract}
 use Rattle.blocks.specs.Laws.Passed.{same-blocks}
 use Rattle.blocks.specs.Spans.{Span, span, within, spansOf, allWithin, acceptable, rankOf}
 use Rattle.blocks.specs.Walk.{block, kept, blocksFrom, blocksOf}
+use Rattle.c_answers.specs.Counts.{blocksCount}
+use Rattle.c_answers.specs.declared.DkCount.{DkCount}
 use Rattle.says.specs.Blocks as says
-use Rattle.says.specs.Blocks.{Run, offset, size, NoOffset, Malformed, Walks, TooShort, Written, Taken, BlocksSay}
+use Rattle.says.specs.Blocks.{Block as Run, offset, size, NoOffset, Malformed, Walks, TooShort, Written, Taken, DkBlocksSay, refusal}
 use Rattle.meets.specs.Theorems.Ordered.{order-decides, order-meets}
 use Rattle.meets.specs.Laws.Words.{OneOnly, tries-one, begins-one}
 use Rattle.says.specs.Words.{Tries, refused, passed}
@@ -49,15 +53,15 @@ runs offsets lengths o n l = map run (blocksFrom (block o n) (map (spanAt offset
 module _ (offsets lengths : List ℕ) where
   walk-is : {o n : ℕ} {l : List ℕ} {b : List Run} → Walks offsets lengths o n l b → b ≡ runs offsets lengths o n l
   unfolding blocksFrom
-  walk-is (says.ends {o} {n} h) = rw (ne-eqb n 0 (λ e. omega arith))
+  walk-is (says.ends {o} {m = n} h) = rw (ne-eqb n 0 (λ e. omega arith))
   walk-is (says.ends-empty {o}) = refl
-  walk-is (says.passes {o} {n} {k} h w) = rw (eq-eqb (offset offsets lengths k) 18446744073709551615 h) (walk-is w)
-  walk-is (says.joins {o} {n} {k} h e w) =
+  walk-is (says.passes {o} {m = n} {i = k} h w) = rw (eq-eqb (offset offsets lengths k) 18446744073709551615 h) (walk-is w)
+  walk-is (says.joins {o} {m = n} {i = k} h e w) =
       rw (ne-eqb (offset offsets lengths k) 18446744073709551615 h, eq-eqb (offset offsets lengths k) (o + n) e) (walk-is w)
-  walk-is (says.closes {o} {n} {k} h e p w) =
+  walk-is (says.closes {o} {m = n} {i = k} h e p w) =
       rw (ne-eqb (offset offsets lengths k) 18446744073709551615 h, ne-eqb (offset offsets lengths k) (o + n) e, ne-eqb n 0 (λ z. omega arith))
       (ap (λ (m : List Run). (o, n) ∷ m) (walk-is w))
-  walk-is (says.drops {o} {k} h e w) =
+  walk-is (says.drops {o} {i = k} h e w) =
       rw (ne-eqb (offset offsets lengths k) 18446744073709551615 h, ne-eqb (offset offsets lengths k) (o + 0) e) (walk-is w)
 
   module _ (starts₀ sizes₀ : List ℕ) where
@@ -65,19 +69,19 @@ module _ (offsets lengths : List ℕ) where
     written-one b y z (says.written f g) (says.written h k) =
         rw (begins-one (map (λ (r : Run). r .0) b) starts₀ _ _ f h, begins-one (map (λ (r : Run). r .1) b) sizes₀ _ _ g k)
 
-    after-one : (b : List Run) → OneOnly (Tries (λ (_ : Unit {0}). TooShort offsets lengths starts₀ sizes₀ b) (λ _. (refuses 14 (One 2), starts₀, sizes₀))
+    after-one : (b : List Run) → OneOnly (Tries (λ (_ : Unit {0}). TooShort offsets lengths starts₀ sizes₀ b) (λ _. refusal offsets lengths starts₀ sizes₀ 14 2)
         (Written offsets lengths starts₀ sizes₀ b))
-    after-one b = tries-one (λ (_ : Unit {0}). TooShort offsets lengths starts₀ sizes₀ b) (λ _. (refuses 14 (One 2), starts₀, sizes₀)) _
+    after-one b = tries-one (λ (_ : Unit {0}). TooShort offsets lengths starts₀ sizes₀ b) (λ _. refusal offsets lengths starts₀ sizes₀ 14 2) _
         (λ x y m n. refl) (written-one b)
 
     taken-one : OneOnly (Taken offsets lengths starts₀ sizes₀)
-    taken-one y z t u =
-        let same : t .order ≡ u .order = order-decides offsets (t .order) (u .order) (t .in-order) (u .in-order) in
-        let blocks : t .blocks ≡ u .blocks = walk-is (t .walk) ∙ ap (runs offsets lengths 0 0) same ∙ sym (walk-is (u .walk)) in
-        after-one (t .blocks) y z (t .outcome) (rw (← blocks) at (u .outcome))
+    taken-one y z (says.taken {order = l} {b = a} t v s) (says.taken {order = m} {b} u w r) =
+        let same : l ≡ m = order-decides offsets l m t u in
+        let blocks : a ≡ b = walk-is v ∙ ap (runs offsets lengths 0 0) same ∙ sym (walk-is w) in
+        after-one a y z s (rw (← blocks) at r)
 
-    pub blocks-decides : OneOnly (BlocksSay offsets lengths starts₀ sizes₀)
-    blocks-decides = tries-one (λ (_ : Unit {0}). Malformed offsets lengths) (λ _. (refuses 4 (One 0), starts₀, sizes₀)) _
+    pub blocks-decides : OneOnly (DkBlocksSay offsets lengths starts₀ sizes₀)
+    blocks-decides = tries-one (λ (_ : Unit {0}). Malformed offsets lengths) (λ _. refusal offsets lengths starts₀ sizes₀ 4 0) _
         (λ x y m n. refl) taken-one
 
 -- ---- the contract says them
@@ -86,7 +90,7 @@ module _ (offsets lengths : List ℕ) where
   walk : (o n : ℕ) (l : List ℕ) → Walks offsets lengths o n l (runs offsets lengths o n l)
   unfolding blocksFrom
   walk o zero [] = says.ends-empty
-  walk o (suc n) [] = rw (ne-eqb (suc n) 0 (λ e. omega arith)) (says.ends {n = suc n} (omega arith))
+  walk o (suc n) [] = rw (ne-eqb (suc n) 0 (λ e. omega arith)) (says.ends {m = suc n} (omega arith))
   walk o n (k ∷ l) =
       let w = offset offsets lengths k in
       either (eqb w 18446744073709551615)
@@ -101,7 +105,7 @@ module _ (offsets lengths : List ℕ) where
           → Walks offsets lengths o n (k ∷ l)
           (map run (kept (block o n) ++ blocksFrom (block (offset offsets lengths k) (size offsets lengths k)) (map (spanAt offsets lengths) l)))
       go zero h e w = says.drops h e w
-      go (suc n) h e w = rw (ne-eqb (suc n) 0 (λ z. omega arith)) (says.closes {n = suc n} h e (omega arith) w)
+      go (suc n) h e w = rw (ne-eqb (suc n) 0 (λ z. omega arith)) (says.closes {m = suc n} h e (omega arith) w)
 
 -- The numbers in the order of their words stand for the spans taken by offset (as in blocks/proofs/Ordered, which is not open to other crates).
 module _ (x : List ℕ) (i y : ℕ) (t : List ℕ) (e : drop i x ≡ y ∷ t) where
@@ -173,18 +177,30 @@ module _ (words lengths : List ℕ) where
   malformed e = either (eqb (length words) (length lengths))
       (λ p. either (leb (length words) 4096)
       (λ q. let r = some-out words lengths (eqb-true (length words) (length lengths) p) (rw (p, q) at e) in
-      ⊎-elim (λ f. says.too-far (r .0) (r .1) (f .0) (f .1)) (λ l. says.too-long (r .0) (r .1) l) (r .2))
+      ⊎-elim (λ f. says.too-far {i = r .0} (r .1) (f .0) (f .1)) (λ l. says.too-long {i = r .0} (r .1) l) (r .2))
       (λ q. says.too-many (leb-false (length words) 4096 q)))
       (λ p. says.unpaired (eqb-false (length words) (length lengths) p))
 
   well-formed : WellLent words lengths → Malformed words lengths → ⊥
   well-formed w (says.unpaired f) = f (w .paired)
   well-formed w (says.too-many h) = omega (arith, w .few)
-  well-formed w (says.too-far k h p f) =
+  well-formed w (says.too-far {i = k} h p f) =
       let q = w .each k h .0 in
       let r : getD words k 0 ≤ 8589934590 = rw (ne-eqb (getD words k 0) 18446744073709551615 p) at q in
       omega arith
-  well-formed w (says.too-long k h l) = omega (arith, w .each k h .1)
+  well-formed w (says.too-long {i = k} h l) = omega (arith, w .each k h .1)
+
+-- an answer in document 01's figures, in the call's numbers
+counted : (r : Blocks) (n : ℕ) → toldBy r ≡ gives n → blocksCount r ≡ record { refusal = 0; place = 0; count = n }
+counted (Found m) n e = let s : m ≡ n = cc in rw s
+counted (Refused w) n e = unlike cc
+
+turned : (r : Blocks) (number place : ℕ) → toldBy r ≡ refuses number (One place) → blocksCount r ≡ record { refusal = number; place = place; count = 0 }
+turned (Found m) number place e = unlike cc
+turned (Refused w) number place e =
+    let s : numberOf w ≡ number = cc in
+    let t : placeOf w ≡ One place = cc in
+    rw (s, t)
 
 module _ (words lengths os ss : List ℕ) (r : Blocks) (os₁ ss₁ : List ℕ) (c : Contract words lengths os ss r os₁ ss₁) where
   abbrev made : List Block
@@ -200,7 +216,8 @@ module _ (words lengths os ss : List ℕ) (r : Blocks) (os₁ ss₁ : List ℕ) 
   column i = List·getD-map run made i (block 0 0)
 
   outcome : WellLent words lengths
-      → Tries (λ (_ : Unit {0}). TooShort words lengths os ss b) (λ _. (refuses 14 (One 2), os, ss)) (Written words lengths os ss b) (toldBy r, os₁, ss₁)
+      → Tries (λ (_ : Unit {0}). TooShort words lengths os ss b) (λ _. refusal words lengths os ss 14 2) (Written words lengths os ss b)
+      (record { answer = blocksCount r; starts = os₁; sizes = ss₁ })
   outcome w = either (roomFor made os ss)
       (λ t.
       let fits = exactly.room-exactly made os ss .0 t in
@@ -208,7 +225,7 @@ module _ (words lengths os ss : List ℕ) (r : Blocks) (os₁ ss₁ : List ℕ) 
       let at = exactly.found-written words lengths os ss r os₁ ss₁ c (length made) found in
       let past = exactly.past-written-kept words lengths os ss r os₁ ss₁ c (length made) found in
       let long = exactly.lengths-kept words lengths os ss r os₁ ss₁ c (length made) found in
-      rw (found, ← count) (passed
+      rw (counted r (length made) found, ← count) (passed
       (λ x s. ⊎-elim (λ h. omega (arith, count, fits .0)) (λ h. omega (arith, count, fits .1)) s)
       (says.written
       (record {
@@ -227,21 +244,16 @@ module _ (words lengths os ss : List ℕ) (r : Blocks) (os₁ ss₁ : List ℕ) 
       let short = exactly.no-room-exactly made os ss .0 f in
       let told : toldBy r ≡ refuses 14 (One 2) = exactly.refused-14-exactly words lengths os ss r os₁ ss₁ c .1 (w, short) in
       let kept = exactly.refused-keeps words lengths os ss r os₁ ss₁ c 14 (One 2) told in
-      rw (told, kept .0, kept .1) (refused tt (⊎-elim (λ h. inl (omega (arith, count))) (λ h. inr (omega (arith, count))) short)))
+      rw (turned r 14 2 told, kept .0, kept .1) (refused tt (⊎-elim (λ h. inl (omega (arith, count))) (λ h. inr (omega (arith, count))) short)))
 
-  pub blocks-meets : BlocksSay words lengths os ss (toldBy r, os₁, ss₁)
+  pub blocks-meets : DkBlocksSay words lengths os ss (record { answer = blocksCount r; starts = os₁; sizes = ss₁ })
   blocks-meets = either (acceptable words lengths)
       (λ t.
       let w = acceptable-exactly words lengths .0 t in
-      passed (λ x m. well-formed words lengths w m) (record {
-        order = order words;
-        in-order = order-meets words;
-        blocks = b;
-        walk = rw (← (blocks-in-order words lengths (w .paired))) (walk words lengths 0 0 (order words));
-        outcome = outcome w;
-      }))
+      passed (λ x m. well-formed words lengths w m) (says.taken {order = order words} {b = b} (order-meets words)
+      (rw (← (blocks-in-order words lengths (w .paired))) (walk words lengths 0 0 (order words))) (outcome w)))
       (λ f.
       let told : toldBy r ≡ refuses 4 (One 0) = exactly.refused-4-exactly words lengths os ss r os₁ ss₁ c .1
       (λ w. clash (acceptable-exactly words lengths .1 w) f) in
       let kept = exactly.refused-keeps words lengths os ss r os₁ ss₁ c 4 (One 0) told in
-      rw (told, kept .0, kept .1) (refused tt (malformed words lengths f)))
+      rw (turned r 4 0 told, kept .0, kept .1) (refused tt (malformed words lengths f)))

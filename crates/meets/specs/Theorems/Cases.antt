@@ -20,7 +20,7 @@ use Rattle.blocks.specs.Walk.{blocksFrom}
 use Rattle.blocks.specs.Outcome.{Contract}
 use Rattle.blocks.specs.declared.Blocks.the-variants.{Found}
 use Rattle.meets.specs.Table.{Bank, CheckSays}
-use Rattle.says.specs.Blocks.{Outcome, BlocksSay}
+use Rattle.says.specs.Blocks.{Outcome, DkBlocksSay}
 use Rattle.meets.specs.Theorems.Banks.{Held, check-meets, check-decides}
 use Rattle.meets.specs.Theorems.Blocks.{blocks-meets, blocks-decides}
 
@@ -83,15 +83,18 @@ joined : Contract (0 ∷ 8 ∷ []) (8 ∷ 8 ∷ []) room room (Found 1) (0 ∷ 0
 unfolding insertBy sortedBy spansOf allWithin blocksFrom
 joined = record { answer = refl; figures = refl; first = refl; second = refl }
 
+abbrev found : (count : ℕ) (starts sizes : List ℕ) → Outcome
+found count starts sizes = record { answer = record { refusal = 0; place = 0; count = count }; starts = starts; sizes = sizes }
+
 -- "spans (0, 8), (4, 0), (8, 8): blocks (0, 8), (8, 8). Without the middle one: (0, 16)."
 pub record BlockCases : Type 0 where
-  pub apart : (y : Outcome) → BlocksSay (0 ∷ 4 ∷ 8 ∷ []) (8 ∷ 0 ∷ 8 ∷ []) room room y → y ≡ (gives 2, 0 ∷ 8 ∷ [], 8 ∷ 8 ∷ [])
-  pub together : (y : Outcome) → BlocksSay (0 ∷ 8 ∷ []) (8 ∷ 8 ∷ []) room room y → y ≡ (gives 1, 0 ∷ 0 ∷ [], 16 ∷ 0 ∷ [])
+  pub apart : (y : Outcome) → DkBlocksSay (0 ∷ 4 ∷ 8 ∷ []) (8 ∷ 0 ∷ 8 ∷ []) room room y → y ≡ found 2 (0 ∷ 8 ∷ []) (8 ∷ 8 ∷ [])
+  pub together : (y : Outcome) → DkBlocksSay (0 ∷ 8 ∷ []) (8 ∷ 8 ∷ []) room room y → y ≡ found 1 (0 ∷ 0 ∷ []) (16 ∷ 0 ∷ [])
 
 pub block-cases-say : BlockCases
 block-cases-say = record {
-  apart = λ y s. blocks-decides (0 ∷ 4 ∷ 8 ∷ []) (8 ∷ 0 ∷ 8 ∷ []) room room y (gives 2, 0 ∷ 8 ∷ [], 8 ∷ 8 ∷ []) s
+  apart = λ y s. blocks-decides (0 ∷ 4 ∷ 8 ∷ []) (8 ∷ 0 ∷ 8 ∷ []) room room y (found 2 (0 ∷ 8 ∷ []) (8 ∷ 8 ∷ [])) s
       (blocks-meets (0 ∷ 4 ∷ 8 ∷ []) (8 ∷ 0 ∷ 8 ∷ []) room room (Found 2) (0 ∷ 8 ∷ []) (8 ∷ 8 ∷ []) marked);
-  together = λ y s. blocks-decides (0 ∷ 8 ∷ []) (8 ∷ 8 ∷ []) room room y (gives 1, 0 ∷ 0 ∷ [], 16 ∷ 0 ∷ []) s
+  together = λ y s. blocks-decides (0 ∷ 8 ∷ []) (8 ∷ 8 ∷ []) room room y (found 1 (0 ∷ 0 ∷ []) (16 ∷ 0 ∷ [])) s
       (blocks-meets (0 ∷ 8 ∷ []) (8 ∷ 8 ∷ []) room room (Found 1) (0 ∷ 0 ∷ []) (16 ∷ 0 ∷ []) joined);
 }

@@ -13,7 +13,7 @@ use Rattle.sort.specs.Sorted.{insertBy, sortedBy}
 use Rattle.sort.specs.Theorems.Sorted.{insert-before, insert-after}
 use Rattle.sort.specs.Laws.Sorted.{le-or-lt}
 use Rattle.meets.specs.Laws.Lists.{any-default}
-use Rattle.says.specs.Ordered.{Before, InOrder}
+use Rattle.says.specs.Blocks.{Before, ByOffset}
 use Rattle.says.specs.Words.{At}
 use Rattle.meets.specs.Laws.Words.{OneOnly}
 
@@ -78,10 +78,10 @@ module _ (keys : List ℕ) where
   at-of : (l : List ℕ) (k : ℕ) → List·Memᴰ k l → (i : ℕ) × At l i k
   at-of l k m = let p = mem-at l m in (p .0, (p .1, any-default l (p .0) k 0 (p .1) ∙ p .2))
 
-  pub order-decides : OneOnly (InOrder keys)
+  pub order-decides : OneOnly (ByOffset keys)
   order-decides a b f g = one-list a b (rises a (f .rising)) (rises b (g .rising)) (across a b f g) (across b a g f)
     where
-      across : (a b : List ℕ) → InOrder keys a → InOrder keys b → (k : ℕ) → List·Memᴰ k a → List·Memᴰ k b
+      across : (a b : List ℕ) → ByOffset keys a → ByOffset keys b → (k : ℕ) → List·Memᴰ k a → List·Memᴰ k b
       across a b f g k m =
           let p = at-of a k m in
           let q = g .each k (f .only (p .0) k (p .1)) in
@@ -154,7 +154,7 @@ module _ (keys : List ℕ) where
   sorted-rises i (suc n) = rises-insert i (sortedBy (keyAt keys) (numbersFrom (suc i) n))
       (λ k m. mem-numbers k (suc i) n (sorted-mem k (numbersFrom (suc i) n) m)) (sorted-rises (suc i) n)
 
-  pub order-meets : InOrder keys (order keys)
+  pub order-meets : ByOffset keys (order keys)
   order-meets = record {
     each = λ k h. at-of (order keys) k (mem-sorted k (numbersOf (length keys)) (numbers-mem k 0 (length keys) (omega arith) (omega arith)));
     only = λ i k h.
@@ -164,7 +164,7 @@ module _ (keys : List ℕ) where
   }
 
   -- "equal ones in their order": of two numbers with equal keys the lower one is taken first.
-  pub equal-in-their-order : (l : List ℕ) → InOrder keys l → (x y : ℕ) → x < y → getD keys x 0 ≡ getD keys y 0
+  pub equal-in-their-order : (l : List ℕ) → ByOffset keys l → (x y : ℕ) → x < y → getD keys x 0 ≡ getD keys y 0
       → (i j : ℕ) → At l i x → At l j y → i < j
   equal-in-their-order l o x y lt same i j at-x at-y =
       let is-x : getD l i 0 ≡ x = any-default l i 0 x (at-x .0) ∙ at-x .1 in

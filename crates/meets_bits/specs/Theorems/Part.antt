@@ -21,7 +21,8 @@ use Rattle.c_answers.specs.declared.DkPart.{DkPart}
 use Rattle.meets.specs.Laws.Words.{OneOnly, tries-one, is-one}
 use Rattle.says.specs.Words.{refused, passed, is}
 use Rattle.says.specs.Part as says
-use Rattle.says.specs.Part.{Unfit, Located, PartSays, Own, BytesSay, VerdictSays}
+use Rattle.says.specs.Part.{Unfit, Located, PartSays}
+use Rattle.meets_bits.specs.Handed.{Own, BytesSay, VerdictSays}
 
 module _ (image : List ℕ) (offset size : ℕ) where
   -- ---- they leave one outcome

@@ -20,7 +20,7 @@ use Rattle.resolver.specs.declared.Settled.the-variants.{At}
 use Rattle.output.specs.Output.{settledOf}
 use Rattle.c_answers.specs.Told.{layoutTold}
 use Rattle.says.specs.Blocks as blocks
-use Rattle.says.specs.Blocks.{BlocksSay}
+use Rattle.says.specs.Blocks.{DkBlocksSay}
 use Rattle.meets.specs.Theorems.Blocks.{blocks-decides}
 use Rattle.says.specs.Build.{Given, Lent, Outcome, BuildSays}
 use Rattle.meets_sentences.specs.Typed.{Typed}
@@ -71,9 +71,9 @@ done-so x e = by (x .build) refl
         told-number : x .build ≡ Refused why → layoutTold x .refusal ≡ numberOf why
         told-number f = rw f
 
--- what the spans that a build leaves give as blocks, in two lists lent for them: the sentences of `blocks::get_blocks`, which `dk_blocks` says in numbers
+-- what the spans that a build leaves give as blocks, in two lists lent for them: the sentences of `dk_blocks`
 abbrev pub BlocksOf : Outcome → (starts sizes : List ℕ) → blocks.Outcome → Type 0
-BlocksOf o = BlocksSay (take (o .answer .spans) (o .lent .offsets)) (take (o .answer .spans) (o .lent .sizes))
+BlocksOf o = DkBlocksSay (take (o .answer .spans) (o .lent .offsets)) (take (o .answer .spans) (o .lent .sizes))
 
 module _ (g : Given) (typed : Typed g) (old : Lent) (n : ℕ) (byte : n ≤ 255) where
   typed′ : Typed (withLimit g n)

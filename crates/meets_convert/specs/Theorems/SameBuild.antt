@@ -58,7 +58,7 @@ use Rattle.output.specs.declared.Output.{Output}
 use Rattle.c_answers.specs.Told.{firstOf, secondOf, buildTold, layoutTold}
 use Rattle.c_answers.specs.declared.DkLayout.{DkLayout}
 use Rattle.c_model.specs.Forms.{FormTold}
-use Rattle.says.specs.DkBlocks.{DkBlocksSay}
+use Rattle.says.specs.Blocks.{DkBlocksSay}
 use Rattle.meets_bits.specs.Theorems.Blocks.{dk-blocks-decides}
 use Rattle.says.specs.Files.{two, four, eight, form-1, form-2, Held, Sound}
 use Rattle.meets_form.specs.Laws.Written.{held, contents, sound-contents}
