@@ -1,8 +1,6 @@
 #!/usr/bin/env python3
 """Whether each exported function speaks of its own parameters, by name, and whether C is told of it as it is.
 
-    oracle/exports.py
-
 What a function of crates/denkumari ensures is a sentence of crates/says. The proofs hold its body to that; what no proof sees is which parameter is given to
 which field of the sentence, and which declaration C has of it. So: every field of a record in an `ensures`, and every parameter of its sentence, is given by
 the function's parameter of its name (EXCEPT lists the others, each with its ground); what is given before the call is taken at entry, what comes after at exit;
@@ -12,8 +10,11 @@ It tries itself: wherever two parameters or two fields have one type, they are e
 
 import re
 import sys
+from copy import copy
 from itertools import combinations
 from pathlib import Path
+
+import manners
 
 ROOT = Path(__file__).resolve().parent.parent
 sys.path.insert(0, str(ROOT / "tools"))
@@ -26,8 +27,8 @@ EXCEPT = {
     ("dk_profile", "closed"): ("0", "the profile does not ask whether bank 0 is closed, and the call does not say"),
     ("dk_map", "banks"): ("banks_of", "`banks` would be the table's in C; these are the banks of nodes"),
     ("dk_blocks", "lengths"): ("sizes", "in the sentence `sizes` are those of the blocks"),
-    ("dk_blocks", "starts₀"): ("block_offsets", "where blocks start, before the call"),
-    ("dk_blocks", "sizes₀"): ("block_sizes", "the sizes of the blocks, before the call"),
+    ("dk_to_form2", "f"): ("form-1", "the form that the call converts from: its own name says so"),
+    ("dk_to_form1", "f"): ("form-2", "the form that the call converts from: its own name says so"),
     ("dk_blocks", "starts"): ("block_offsets", "where blocks start; `offsets` are those of the spans"),
     ("dk_blocks", "sizes"): ("block_sizes", "the sizes of the blocks; `sizes` are those of the spans"),
 }
@@ -75,7 +76,7 @@ def exports():
             found.append(Export(f"crates/denkumari/src/{file.name}", m.group(1), m.group(2), m.group(3), " ".join(m.group(4).split())))
         said = len(re.findall(r"#\[no_mangle\]", text))
         if said != len([e for e in found if e.path.endswith(file.name)]):
-            raise SystemExit(f"crates/denkumari/src/{file.name}: an exported function has another form than this test reads")
+            raise manners.Stop(f"crates/denkumari/src/{file.name}: an exported function has another form than this test reads")
     return found
 
 
@@ -95,7 +96,7 @@ def spaced(text):
 def stripped(text):
     """A term without the parentheses around it."""
     text = text.strip()
-    while text.startswith("(") and text.endswith(")") and len(split(text[1:-1] + " x", " ")) >= 1 and closes(text):
+    while text.startswith("(") and closes(text):
         text = text[1:-1].strip()
     return text
 
@@ -153,8 +154,13 @@ def leaves(export):
     parts = arguments(export.ensures)[1:]
     found = []
     for n, part in enumerate(parts):
-        found += given(part, names[n] if n < len(names) else None, n == len(parts) - 1)
+        found += given(part, said_as(export, names[n]) if n < len(names) else None, n == len(parts) - 1)
     return found
+
+
+def said_as(export, name):
+    """A sentence's word for a parameter: `x₀` is x before the call, and `old` before it the one thing that is lent."""
+    return export.lent()[0] if name == "old" and len(export.lent()) == 1 else name.rstrip("₀")
 
 
 def taken(term):
@@ -276,27 +282,21 @@ def structs_wrong(source, told):
 # ---- exchanges that have to be seen
 
 
-def exchanged(text, a, b):
-    """A text with two names exchanged."""
-    return re.sub(rf"(?<![\w.]){a}(?!\w)|(?<![\w.]){b}(?!\w)", lambda m: b if m.group(0) == a else a, text)
-
-
 def unseen_in_contracts(found):
     """Pairs of parameters of one type whose exchange in what is ensured would not be seen; and how many pairs there are."""
     pairs = [(e, a, b) for e in found for (a, k), (b, m) in combinations(e.parameters, 2) if k == m]
     missed = []
     for e, a, b in pairs:
-        damaged = Export(e.path, e.name, "", e.answer, re.sub(r"(\w+) = ", r"\1=", e.ensures))
-        damaged.parameters = e.parameters
-        damaged.ensures = re.sub(r"(\w+)=", r"\1 = ", exchanged_values(damaged.ensures, a, b))
-        if not wrong_with(damaged):
+        other = copy(e)
+        other.ensures = exchanged(e.ensures, a, b)
+        if other.ensures == e.ensures or not wrong_with(other):
             missed.append(f"{e.name}: {a} and {b} exchanged in its ensures would not be seen")
     return missed, len(pairs)
 
 
-def exchanged_values(text, a, b):
+def exchanged(text, a, b):
     """Two names exchanged where they are given, not where they name a field."""
-    return re.sub(rf"(?<![\w.]){a}(?![\w=])|(?<![\w.]){b}(?![\w=])", lambda m: b if m.group(0) == a else a, text)
+    return re.sub(rf"(?<![\w.])({a}|{b})(?!\w| =)", lambda m: b if m.group(0) == a else a, text)
 
 
 def unseen_in_header(found, told, source):
@@ -320,9 +320,7 @@ def unseen_in_header(found, told, source):
 
 
 def main():
-    if len(sys.argv) > 1:
-        print(__doc__) if sys.argv[1:] == ["--help"] else print(f"oracle/exports.py: there is no option {sys.argv[1]} (--help says what there is)", file=sys.stderr)
-        return 0 if sys.argv[1:] == ["--help"] else 2
+    manners.parser(__doc__).parse_args()
     found, text = exports(), header()
     told, source = prototypes(text), structs_of_source()
     wrong = [w for e in found for w in wrong_with(e) + told_wrong(e, told)] + unneeded(found) + structs_wrong(source, structs_of_header(text))
@@ -336,8 +334,8 @@ def main():
     if not wrong:
         print(f"{len(found)} exports, {sum(len(leaves(e)) for e in found)} things given to their sentences by name, {len(EXCEPT)} exceptions; "
               f"{len(source)} structs; {pairs} exchanges in contracts and {others} in {HEADER}, all seen")
-    return 1 if wrong else 0
+    sys.exit(1 if wrong else 0)
 
 
 if __name__ == "__main__":
-    sys.exit(main())
+    manners.run(main)

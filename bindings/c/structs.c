@@ -1,6 +1,7 @@
 /* The structs of denkumari_tables.h, in C and, compiled as it is, in C++: document 01's worked example, a byte from tables to Intel HEX, what is refused before
- * a list is read, and the answers that have their call's name. That each field stands in its place is tested on random layouts by `batch --structs`. Prints
- * what is wrong; the last line says how many tests there were. */
+ * a list is read, and the answers that have their call's name. That each field stands in its place is tested on random layouts by `batch --structs`; here, of
+ * every struct that denkumari.h declares, by calls whose fields differ from each other: a field that had another offset in C than in the archive would have
+ * another's number. Prints what is wrong; the last line says how many tests there were. */
 #include <stdio.h>
 #include <string.h>
 
@@ -158,12 +159,109 @@ static void other_calls(void)
 #endif
 }
 
+/* A reserve of 16 bits, three bytes, a skip to bit 128 or back to bit 16, and a byte: built, or refused for what it overlaps. */
+static const uint8_t ahead_kinds[] = {DK_CONSTANT, DK_RESERVE, DK_OPEN_DATA, DK_ALIGN, DK_OPEN_DATA, DK_LABEL, DK_LABEL};
+static const uint8_t back_kinds[] = {DK_CONSTANT, DK_RESERVE, DK_OPEN_DATA, DK_ADDR, DK_OPEN_DATA, DK_LABEL, DK_LABEL};
+static const uint32_t ahead_numbers[] = {0, 16, 24, 128, 8, 0, 0, 0, 16, 24, 128, 8, 0, 0};
+static const uint32_t back_numbers[] = {0, 16, 24, 16, 8, 0, 0, 0, 16, 24, 16, 8, 0, 0};
+static const uint32_t no_operands[7] = {0};
+static const uint8_t late_states[14] = {2};
+static uint8_t longer_image[17];
+
+static struct dk_tables tables_of(const struct dk_bank *bank, size_t count, const uint8_t *kind, const uint32_t *number)
+{
+    struct dk_tables tables = dk_no_tables();
+    tables.banks = bank;
+    tables.bank_count = count;
+    tables.kinds = kind;
+    tables.operands = no_operands;
+    tables.node_count = 7;
+    tables.numbers = number;
+    tables.states = late_states;
+    tables.row_count = 2;
+    tables.values = values;
+    tables.values_len = sizeof values;
+    tables.limit = 10;
+    return tables;
+}
+
+static struct dk_mapped map_of(const struct dk_tables *tables)
+{
+    static uint64_t banks_of[DK_MAX_NODES], outputs[DK_MAX_NODES];
+    static uint32_t seen[DK_MAX_NODES], taken[DK_MAX_NODES];
+    struct dk_bank_lists b;
+    dk_list_banks(&b, tables);
+    return dk_map(b.units, b.count, b.starts, b.count, b.sizes, b.count, b.offsets, b.count, b.aligns, b.count, b.flags, b.count, b.fill_bits, b.count,
+                  tables->kinds, 7, tables->operands, 7, tables->numbers, 14, tables->states, 14, 2, tables->values, tables->values_len, tables->limit,
+                  tables->fill, tables->closed, banks_of, seen, outputs, taken);
+}
+
+static void fields_of_layouts(void)
+{
+    struct dk_bank bank[3] = {dk_bank_of(8), dk_bank_of(8), dk_bank_of(8)};
+    struct dk_tables ahead = tables_of(bank, 1, ahead_kinds, ahead_numbers), back = tables_of(bank, 1, back_kinds, back_numbers);
+    struct dk_tables three = tables_of(bank, 3, ahead_kinds, ahead_numbers);
+    struct dk_room room = lent();
+    room.image = longer_image;
+    room.image_len = sizeof longer_image;
+    dk_bank_offset(&bank[0], 0);
+    struct dk_layout r = dk_build_tables(&ahead, &room);
+    expect(r.refusal == 0 && r.passes == 3 && r.k == 2 && r.length == 136 && r.spans == 4, "the fields of a layout that is built");
+    expect(r.padding[0].bits == 88 && r.padding[0].units == 11 && r.padding[1].bits == 0, "what it loses");
+    r = dk_build_tables(&back, &room);
+    expect(r.refusal == DK_OVERLAP && r.place == 16 && r.second == 24 && r.passes == 3 && r.k == 0 && r.length == 0, "the fields of one that is refused");
+    struct dk_mapped m = map_of(&ahead);
+    expect(m.refusal == 0 && m.stopped == 0 && m.node == DK_NO_NODE && m.passes == 3 && m.nodes == 7, "the fields of a map");
+    expect(m.padding[0].bits == 88 && m.padding[0].units == 11 && m.padding[1].bits == 0, "what its nodes lose");
+    m = map_of(&back);
+    expect(m.refusal == 0 && m.stopped == DK_OVERLAP && m.place == 16 && m.second == 24 && m.node == 4 && m.passes == 3 && m.nodes == 5, "of a map that stops");
+    dk_bank_offset(&bank[1], 0);
+    dk_bank_offset(&bank[2], 0);
+    m = map_of(&three);
+    expect(m.refusal == DK_BANKS_OVERLAP && m.stopped == 0 && m.place == 1 && m.second == 2 && m.passes == 0, "of a map that is refused");
+    bank[0].flags = 0;
+    dk_bank_size(&bank[1], 16);
+    dk_bank_offset(&bank[2], 16);
+    dk_bank_size(&bank[2], 24);
+    dk_profile_answer said = dk_profile_tables(8, &three);
+    expect(said.refusal == 0 && said.pages[1] == 2 && said.pages[2] == 3 && said.pages[3] == DK_NO_PAGES, "the fields of a profile");
+    bank[2].unit = 9;
+    said = dk_profile_tables(8, &three);
+    expect(said.refusal == DK_OFF_PROFILE && said.place == DK_RULE_UNIT && said.second == 2 && said.pages[1] == 0, "of a profile that is broken");
+}
+
+static void fields_of_others(void)
+{
+    static uint64_t positions[DK_MAX_STORED] = {3, 20}, lengths[DK_MAX_STORED] = {5, 4}, marks[DK_MAX_STORED] = {40};
+    static const char text[] = ":018000002A55\n:018001002B53\n:00000001FF\n";
+    static const uint64_t starts[] = {8}, longs[] = {40};
+    static uint8_t scratch[1], digits[1];
+    dk_offer_answer o = dk_offer(positions, lengths, 2, marks, 1, 30, 1);
+    expect(o.refusal == 0 && o.count == 3 && o.marks == 1, "the fields of an offer");
+    o = dk_offer(positions, lengths, 3, marks, 1, 21, 1);
+    expect(o.refusal == DK_OVERLAP && o.place == 20 && o.second == 4 && o.count == 3 && o.marks == 1, "of an offer that is refused");
+    struct dk_count n = dk_hex(values, sizeof values, 8, digits, 1);
+    expect(n.refusal == DK_TOO_SHORT && n.place == 3 && n.count == 0, "the fields of a count that is refused");
+    dk_part_answer p = dk_part(values, sizeof values, 8, 16);
+    expect(p.refusal == 0 && p.start == 1 && p.length == 2, "the fields of a part");
+    expect(dk_part(values, sizeof values, 8, 1).refusal == DK_BAD_PART, "of a part that is refused");
+    struct dk_overlay v = dk_overlay_range(longer_image, 17, longer_image, 17, starts, 1, longs, 1, 3, 2);
+    expect(v.refusal == 0 && v.image == DK_OVERLAY && v.start == 3 && v.length == 2, "the fields of a range");
+    expect(dk_overlay_range(longer_image, 17, longer_image, 17, starts, 1, longs, 1, 5, 2).refusal == DK_PARTLY_COVERED, "of a range that is refused");
+    struct dk_fault f = dk_record_fault(0, (const uint8_t *)text, sizeof text - 13, 0, scratch, 0);
+    expect(f.fault == 1 && f.line == 2, "the fields of a fault");
+    struct dk_reason w = dk_record_reason(0, (const uint8_t *)text, sizeof text - 3, 0, scratch, 0);
+    expect(w.reason == DK_LINE_LENGTH && w.line == 2 && w.first == 10 && w.second == 11, "the fields of a reason");
+}
+
 int main(void)
 {
     worked_example();
     to_records();
     counts();
     other_calls();
+    fields_of_layouts();
+    fields_of_others();
     printf("%u tests, %u wrong\n", tests, faults);
     return faults != 0;
 }
