@@ -1,3 +1,4 @@
+pub mod Grounds
 pub mod InTurn
 pub mod Typed
 pub mod Theorems

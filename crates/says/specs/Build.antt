@@ -258,11 +258,6 @@ module _ (g : Given) where
     marks : {i a b y : ℕ} → StoredCount r i a b → Offer r i y 0 → StoredCount r (suc i) a (suc b)
     other : {i a b : ℕ} → StoredCount r i a b → ((y n : ℕ) → Offer r i y n → ⊥) → StoredCount r (suc i) a b
 
-  -- 12: "a placement overlaps", at node i with its offer: an interval, "or when an earlier accepted mark is strictly inside it"
-  pub data Overlaps (r i x m : ℕ) : Type 0 where
-    stored : {y n : ℕ} → Interval r i y n → Clash x m y n → Overlaps r i x m
-    marked : {y : ℕ} → Mark r i y → x < y → y < x + m → Overlaps r i x m
-
   -- "Refusal 12 names the lowest stored start at or above the offer if those two share a bit, otherwise the one below"; "naming the lowest such mark
   -- unless an interval is to be named"
   pub data Names (r i x m : ℕ) : (y n : ℕ) → Type 0 where
@@ -280,28 +275,28 @@ module _ (g : Given) where
     label : kind i ≡ 2 → Extent r i 0
     item : {n : ℕ} → Not (kind i ≡ 2) → Number r i n → Extent r i n
 
-  -- 9: "bank 0 is used while other banks exist"; Ticket 13: "9 in form 2 also with one bank" (`closed`)
-  abbrev pub Nine : ℕ → ℕ → Type 0
-  Nine r i = Placed i × In i 0 × ((1 < banks) ⊎ (1 ≤ g .closed))
+  -- why the build refuses node i: the refusal's number, its place and its second
+  pub data Why (r i : ℕ) : (number place second : ℕ) → Type 0 where
+    -- 9: "bank 0 is used while other banks exist"; Ticket 13: "9 in form 2 also with one bank" (`closed`)
+    bank-0 : Placed i → In i 0 → (1 < banks) ⊎ (1 ≤ g .closed) → Why r i 9 i 0
+    -- 10: "an item ends past its bank's size"
+    past-size : {b p e m : ℕ} {k : Bool} → Placed i → Sees r i b p k → Extent r i e → Size b m → m < p + e → Why r i 10 i 0
+    -- 11: "an item is written in a bank without output offset"
+    no-output : {b : ℕ} → i < nodes → IsWritten i → In i b → ((o : ℕ) → Offset b o → ⊥) → Why r i 11 i 0
+    -- 12: "a placement overlaps": its place is "the stored start and size"
+    overlaps : {x m y n : ℕ} → Offer r i x m → Names r i x m y n → Why r i 12 y n
+    -- 13: "the store holds 512 and the offer, of nonzero size, shares no bit"; Ticket 10: "also when 512 marks are kept and another is acceptable"
+    full : {x m intervals marks : ℕ} → Offer r i x m → StoredCount r i intervals marks → ((0 < m) × (intervals ≡ 512)) ⊎ ((m ≡ 0) × (marks ≡ 512))
+        → Why r i 13 i 0
 
-  abbrev pub Ten : ℕ → ℕ → Type 0
-  Ten r i = Placed i × ((b : ℕ) × (p : ℕ) × (k : Bool) × (e : ℕ) × (m : ℕ) × Sees r i b p k × Extent r i e × Size b m × (m < p + e))
+  abbrev pub Refuses : ℕ → ℕ → Type 0
+  Refuses r i = (number : ℕ) × (place : ℕ) × (second : ℕ) × Why r i number place second
 
-  abbrev pub Eleven : ℕ → ℕ → Type 0
-  Eleven r i = (i < nodes) × IsWritten i × ((b : ℕ) × In i b × ((o : ℕ) → Offset b o → ⊥))
-
-  abbrev pub Twelve : ℕ → ℕ → ℕ × ℕ → Type 0
-  Twelve r i w = (x : ℕ) × (m : ℕ) × Offer r i x m × Names r i x m (w .0) (w .1)
-
-  abbrev pub Thirteen : ℕ → ℕ → Type 0
-  Thirteen r i = (x : ℕ) × (m : ℕ) × (a : ℕ) × (b : ℕ) × Offer r i x m × StoredCount r i a b × (((0 < m) × (a ≡ 512)) ⊎ ((m ≡ 0) × (b ≡ 512)))
-
-  pub data Refuses (r i : ℕ) : Type 0 where
-    nine : Nine r i → Refuses r i
-    ten : Ten r i → Refuses r i
-    eleven : Eleven r i → Refuses r i
-    twelve : {x m : ℕ} → Offer r i x m → Overlaps r i x m → Refuses r i
-    thirteen : Thirteen r i → Refuses r i
+  -- "The build walks the nodes and tries 9, 10, 11, 12, 13 at each": the first node that is refused, and of what it is refused for the lowest number
+  pub record FirstWhy (r i number place second : ℕ) : Type 0 where
+    pub first : First (Refuses r) i
+    pub why : Why r i number place second
+    pub lowest : (other at with : ℕ) → Why r i other at with → number ≤ other
 
   -- ---- the image's length. "Fill takes every bank in order .. let h = offset + size - 1; if the image length is below h, it becomes h + 1."
   pub data Inherited : (b length : ℕ) → Type 0 where
@@ -360,15 +355,6 @@ module _ (g : Given) where
       lent = old;
     }
 
-    -- "The build walks the nodes and tries 9, 10, 11, 12, 13 at each": node i, of the row r of pass n, which is the last
-    abbrev pub AtNode : ℕ → ℕ → ℕ → Outcome → Type 0
-    AtNode r n i =
-        Tries (λ (_ : Unit {0}). Nine r i) (λ _. refusal 9 i 0 n)
-        (Tries (λ (_ : Unit {0}). Ten r i) (λ _. refusal 10 i 0 n)
-        (Tries (λ (_ : Unit {0}). Eleven r i) (λ _. refusal 11 i 0 n)
-        (Tries (Twelve r i) (λ w. refusal 12 (w .0) (w .1) n)
-        (Tries (λ (_ : Unit {0}). Thirteen r i) (λ _. refusal 13 i 0 n) (λ y. ⊥)))))
-
     -- bit number `bit` of the image belongs to a written item
     abbrev pub OfItem : ℕ → ℕ → Type 0
     OfItem r bit = (i : ℕ) × (x : ℕ) × (m : ℕ) × IsWritten i × Offer r i x m × (x ≤ bit) × (bit < x + m)
@@ -402,7 +388,7 @@ module _ (g : Given) where
 
     -- ---- the order. The build of row r of pass n: 9 to 13 at the first node that meets one, then "14 comes last: image, then spans".
     pub data Built (r k n : ℕ) (y : Outcome) : Type 0 where
-      refused : {i : ℕ} → First (Refuses r) i → AtNode r n i y → Built r k n y
+      refused : {i number place second : ℕ} → FirstWhy r i number place second → Is (refusal number place second n) y → Built r k n y
       placed : {l c : ℕ} → ((i : ℕ) → Refuses r i → ⊥) → Length r l → Spans nodes c
           → Tries (λ (_ : Unit {0}). 8 * length (old .image) < l) (λ _. refusal 14 0 0 n)
           (Tries (λ (_ : Unit {0}). (length (old .addresses) < c) ⊎ ((length (old .offsets) < c) ⊎ (length (old .sizes) < c))) (λ _. refusal 14 1 0 n)

@@ -3,15 +3,14 @@
 -- they leave one (`map-decides`). What is given is what `dk_build` is given.
 use mathlib.Core.Path.{_≡_}
 use mathlib.Core.Bool.{Bool, true, false}
-use mathlib.Core.List.{List, []}
+use mathlib.Core.List.{List}
 use Prim.Native.Nat.{ℕ, suc, _≤_, _<_}
 use lib.ListN.{length, getD, replicate}
 use Rattle.iter.specs.declared.Lost.{Lost}
 use Rattle.c_answers.specs.declared.DkMap.{DkMap}
 use Rattle.says.specs.Words.{First, Not}
-use Rattle.says.specs.Build as build
 use Rattle.says.specs.Build.{Given, losing, nodes, kind, Number, BankAt, Sees, Reads, Unresolved, Stops, Stopped, Runs, GoesOn, Last}
-use Rattle.says.specs.Build.{OffsetWord, Refuses, AtNode}
+use Rattle.says.specs.Build.{OffsetWord, Refuses, FirstWhy}
 use Rattle.says.specs.Profile.{Checks}
 
 -- ---- what is lent, before the call and after it: a place for each node
@@ -28,10 +27,6 @@ pub record Outcome : Type 0 where
 -- where there is no node at fault
 abbrev pub noNode : ℕ
 noNode = 18446744073709551615
-
--- what the build is lent whose refusals the map tells: they do not depend on it
-abbrev pub nothing : build.Lent
-nothing = record { image = []; addresses = []; offsets = []; sizes = [] }
 
 module _ (g : Given) where
   -- ---- what is shown of a node: its bank, the position that it sees, "offset plus position" or none, and the bits of an item or a reserve (4 to 7)
@@ -99,8 +94,7 @@ module _ (g : Given) where
 
     -- "The build walks the nodes and tries 9, 10, 11, 12, 13 at each": those up to and with the first that it refuses, or all
     pub data Tried (n r : ℕ) (y : Outcome) : Type 0 where
-      refused : {i number place second : ℕ} → First (Refuses g r) i → AtNode g nothing r n i (build.refusal g nothing number place second n)
-          → Shows n r (suc i) number place second i y → Tried n r y
+      refused : {i number place second : ℕ} → FirstWhy g r i number place second → Shows n r (suc i) number place second i y → Tried n r y
       placed : ((i : ℕ) → Refuses g r i → ⊥) → Shows n r (nodes g) 0 0 0 noNode y → Tried n r y
 
     -- "Then each pass in node order meets 5, 6 and 7, and 8 at its end": the row is that of the last pass that ran

@@ -26,7 +26,8 @@ use Rattle.resolver.specs.Layout.{Checked}
 use Rattle.build_sights.specs.Visits.{seenPos, positionOf}
 use Rattle.build_sights.specs.declared.Visit.{Visit}
 use Rattle.says.specs.Build as says
-use Rattle.says.specs.Build.{Given, nodes, Offer, Overlaps, Nine, Ten, Eleven}
+use Rattle.says.specs.Build.{Given, nodes, Offer}
+use Rattle.meets_sentences.specs.Grounds.{Overlaps, Nine, Ten, Eleven}
 use Rattle.meets_build.specs.Laws.Shown.{Shown, listed}
 use Rattle.meets_sentences.specs.Typed.{Typed}
 use Rattle.meets_build.specs.Laws.Table.{table}

@@ -13,7 +13,9 @@ use Rattle.overlap_checker.specs.declared.Entry.{Entry}
 use Rattle.resolver.specs.Layout.{Checked}
 use Rattle.resolver.specs.Laws.Least.{or-past}
 use Rattle.says.specs.Build as says
-use Rattle.says.specs.Build.{Given, nodes, Clash, Interval, Mark, Overlaps}
+use Rattle.says.specs.Build.{Given, nodes, Clash, Interval, Mark}
+use Rattle.meets_sentences.specs.Grounds as ground
+use Rattle.meets_sentences.specs.Grounds.{Overlaps}
 use Rattle.meets_build.specs.Laws.Shown.{Shown, listed}
 use Rattle.meets_build.specs.Laws.Walk.{Goes}
 use Rattle.meets_build.specs.Laws.Offers.{offersTo, interval-member, member-interval, mark-member, member-mark}
@@ -43,8 +45,8 @@ module _ (g : Given) (tab : Bankdefs) (shown : Shown g tab) (c : Checked tab (li
       there : SharesBitWith e offers ⊎ CoversMark e offers → Overlaps g r i (e .position) (e .size)
       there (inl w) =
           let x = bits-shared (w .0) (w .1) (w .3) (w .4) in
-          says.stored (member-interval g tab shown c r all i h (w .0) (w .2) (x .0)) (x .1)
-      there (inr w) = says.marked (member-mark g tab shown c r all i h (w .0) (w .1) (w .2)) (w .3 .0) (w .3 .1)
+          ground.stored (member-interval g tab shown c r all i h (w .0) (w .2) (x .0)) (x .1)
+      there (inr w) = ground.marked (member-mark g tab shown c r all i h (w .0) (w .1) (w .2)) (w .3 .0) (w .3 .1)
 
       clashing : {y n : ℕ} → Interval g r i y n → Clash g (e .position) (e .size) y n → SharesBitWith e offers
       clashing {y} {n} k (says.bits a b below above) =
@@ -53,8 +55,8 @@ module _ (g : Given) (tab : Bankdefs) (shown : Shown g tab) (c : Checked tab (li
       clashing {y} {n} k (says.inside none b below above) = absurd (omega arith)
 
       back : Overlaps g r i (e .position) (e .size) → SharesBitWith e offers ⊎ CoversMark e offers
-      back (says.stored k l) = inl (clashing k l)
-      back (says.marked {y = y} k below above) = inr (interval y 0, mark-member g tab shown c r all h k, refl, (below, above))
+      back (ground.stored k l) = inl (clashing k l)
+      back (ground.marked {y = y} k below above) = inr (interval y 0, mark-member g tab shown c r all h k, refl, (below, above))
 
   -- One of size 0.
   pub inside-exactly : e .size ≡ 0 → InsideOf (e .position) offers ↔ Overlaps g r i (e .position) (e .size)
@@ -63,12 +65,12 @@ module _ (g : Given) (tab : Bankdefs) (shown : Shown g tab) (c : Checked tab (li
       there : InsideOf (e .position) offers → Overlaps g r i (e .position) (e .size)
       there w =
           let some : 0 < w .0 .size = omega (arith, w .2 .0, w .2 .1) in
-          says.stored (member-interval g tab shown c r all i h (w .0) (w .1) some) (says.inside none some (w .2 .0) (w .2 .1))
+          ground.stored (member-interval g tab shown c r all i h (w .0) (w .1) some) (says.inside none some (w .2 .0) (w .2 .1))
 
       clashing : {y n : ℕ} → Interval g r i y n → Clash g (e .position) (e .size) y n → InsideOf (e .position) offers
       clashing {y} {n} k (says.bits a b below above) = absurd (omega arith)
       clashing {y} {n} k (says.inside z b below above) = (interval y n, interval-member g tab shown c r all h k .0, (below, above))
 
       back : Overlaps g r i (e .position) (e .size) → InsideOf (e .position) offers
-      back (says.stored k l) = clashing k l
-      back (says.marked k below above) = absurd (omega arith)
+      back (ground.stored k l) = clashing k l
+      back (ground.marked k below above) = absurd (omega arith)

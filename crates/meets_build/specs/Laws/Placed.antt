@@ -32,7 +32,7 @@ use Rattle.c_answers.specs.declared.DkLayout.{DkLayout}
 use Rattle.build_sights.specs.Spans.{spansOf}
 use Rattle.says.specs.Words.{Tries, refused, passed}
 use Rattle.says.specs.Build as says
-use Rattle.says.specs.Build.{Given, nodes, Outcome, Reads, Offer, Refuses, Spans, Accepts, Built, BuildSays}
+use Rattle.says.specs.Build.{Given, nodes, Outcome, Reads, Offer, Why, Refuses, Spans, Accepts, Built, BuildSays}
 use Rattle.meets_build.specs.Laws.Shown.{Shown, listed}
 use Rattle.meets_sentences.specs.Typed.{Typed}
 use Rattle.meets_build.specs.Laws.Table.{table}
@@ -59,11 +59,14 @@ module _ (g : Given) where
   offered-listed (says.offer h k l s f n) = h
 
   pub refuses-listed : {r i : ℕ} → Refuses g r i → i < nodes g
-  refuses-listed (says.nine t) = t .0 .0
-  refuses-listed (says.ten t) = t .0 .0
-  refuses-listed (says.eleven t) = t .0
-  refuses-listed (says.twelve o v) = offered-listed o
-  refuses-listed (says.thirteen t) = offered-listed (t .4)
+  refuses-listed {r} {i} t = by (t .3)
+    where
+      by : {number place second : ℕ} → Why g r i number place second → i < nodes g
+      by (says.bank-0 p h c) = p .0
+      by (says.past-size p s x m h) = p .0
+      by (says.no-output h w x n) = h
+      by (says.overlaps o v) = offered-listed o
+      by (says.full o s f) = offered-listed o
 
   module _ (typed : Typed g) (old : out.Lent) (r : DkLayout) (new : out.Lent) (answer : r ≡ layoutTold (buildOf (inputOf g typed) (roomOf old)))
       (built : Builds (inputOf g typed) old (buildOf (inputOf g typed) (roomOf old)) new) (k : ℕ) (settled : settledOf (inputOf g typed) ≡ At k) where

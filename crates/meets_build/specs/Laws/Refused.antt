@@ -34,14 +34,18 @@ use Rattle.overlap_checker.specs.declared.Entry.{Entry}
 use Rattle.output.specs.RefusedAtNode as at-node
 use Rattle.build_plan.specs.Placing.{offerOf, answered as askedOf}
 use Rattle.resolver.specs.Laws.Least.{or-past}
-use Rattle.says.specs.Words.{First, refused, passed}
+use Rattle.says.specs.Words as words
+use Rattle.says.specs.Words.{First}
 use Rattle.meets_build.specs.Laws.Checks.{answered}
 use Rattle.meets_build.specs.Laws.Contract.{lentSo}
-use Rattle.says.specs.Build.{Twelve, Names, AtNode, Built}
+use Rattle.says.specs.Build.{Names, Why, FirstWhy, Built}
+use Rattle.c_answers.specs.Told.{firstOf, secondOf}
 use Rattle.meets_build.specs.Laws.Visited.{offer-only}
 use Rattle.meets_build.specs.Laws.Naming.{names-there}
 use Rattle.says.specs.Build as says
-use Rattle.says.specs.Build.{Given, nodes, Offer, Overlaps, StoredCount, Nine, Ten, Eleven, Thirteen, Refuses}
+use Rattle.says.specs.Build.{Given, nodes, Offer, StoredCount, Refuses}
+use Rattle.meets_sentences.specs.Grounds.{Overlaps, Nine, Ten, Eleven, Twelve, Thirteen}
+use Rattle.meets_sentences.specs.Laws.Why.{refuses-9, refuses-10, refuses-11, refuses-13, lowest-of, names-overlaps}
 use Rattle.meets_build.specs.Laws.Shown.{Shown, listed}
 use Rattle.meets_sentences.specs.Typed.{Typed}
 use Rattle.meets_build.specs.Laws.Table.{table}
@@ -62,7 +66,7 @@ module _ (g : Given) (typed : Typed g) (shown : Shown g (table g)) (ck : Checked
   module _ (all : Goes g (table g) shown ck r (nodes g)) where
     -- A node after which the build goes on is not refused.
     pub not-refused : (i : ℕ) (x : Reaches c i) (s : State) → placedAll (closedIn c) (visitsBefore c (suc i)) ≡ holds s → Refuses g r i → ⊥
-    not-refused i x s on z = by z
+    not-refused i x s on z = by (z .3)
       where
         no : {number : ℕ} {place : Place} → RefusedThere c i number place → ⊥
         no t = stops-holds (sym (t .stopped) ∙ on)
@@ -87,12 +91,12 @@ module _ (g : Given) (typed : Typed g) (shown : Shown g (table g)) (ck : Checked
             let e = held-one g (held-meets g (table g) shown ck r all i (let k = x .listed in omega arith)) h in
             no (thirteen-mark g typed shown ck old answer new meets all i x not-9 not-10 not-11 y m o (w .0) .1 (e .1 ∙ w .1, λ v. not-12 o v))
 
-        by : Refuses g r i → ⊥
-        by (says.nine n) = not-9 n
-        by (says.ten n) = not-10 n
-        by (says.eleven n) = not-11 n
-        by (says.twelve o v) = not-12 o v
-        by (says.thirteen t) = not-13 (t .4) (t .5) (t .6)
+        by : {number place second : ℕ} → Why g r i number place second → ⊥
+        by (says.bank-0 p h b) = not-9 (p, h, b)
+        by (says.past-size {b = b} {p} {e} {m} {k} h s y z l) = not-10 (h, (b, p, k, e, m, s, y, z, l))
+        by (says.no-output {b = b} h w y n) = not-11 (h, w, (b, y, n))
+        by (says.overlaps o v) = not-12 o (names-overlaps g v)
+        by (says.full o h w) = not-13 o h w
 
     -- So where the build has placed the first n nodes, none of them is refused by the sentences.
     pub none-refused : (k : ℕ) → settledOf (inputOf g typed) ≡ At k → (n : ℕ) → n ≤ nodes g → (s : State)
@@ -168,18 +172,26 @@ module _ (g : Given) (typed : Typed g) (shown : Shown g (table g)) (ck : Checked
         no-11 : Eleven g r i → ⊥
         no-11 z = let e = one-number t (eleven-there g typed shown ck old answer new meets all i x .1 (no-9, no-10, z)) in omega arith
 
-      -- "tries 9, 10, 11, 12, 13 at each": 9, 10 and 11
-      at-says : (n : ℕ) → numberOf why ≤ 11 → (w : Refusal) → w ≡ why → Cause (closedIn c) (x .stored) (visitIn c i) (x .at) w
-          → AtNode g lent′ r n i (answered g typed lent′ w n)
-      at-says n few w s (at-node.nine p d e) =
-          rw e (refused tt (nine-there g typed shown ck old answer new meets all i x .0 (there c i x (DefaultBank i) (at-node.nine p d refl))))
-      at-says n few w s (at-node.ten p d q e) =
+      -- what the node is refused for by the sentences: that number, with that place, and no lower one
+      abbrev Told-so : Refusal → Type 0
+      Told-so w = Why g r i (numberOf w) (firstOf (placeOf w)) (secondOf (placeOf w))
+          × ((number place second : ℕ) → Why g r i number place second → numberOf w ≤ number)
+
+      -- A build that is refused 9, 10 or 11 is refused so at its node by the sentences.
+      few-says : numberOf why ≤ 11 → (w : Refusal) → w ≡ why → Cause (closedIn c) (x .stored) (visitIn c i) (x .at) w → Told-so w
+      few-says few w s (at-node.nine p d e) =
+          let y = nine-there g typed shown ck old answer new meets all i x .0 (there c i x (DefaultBank i) (at-node.nine p d refl)) in
+          rw e (
+            refuses-9 g y,
+            lowest-of g (omega arith) (λ l. absurd (omega arith)) (λ l. absurd (omega arith)) (λ l. absurd (omega arith)) (λ l. absurd (omega arith)),
+          )
+      few-says few w s (at-node.ten p d q e) =
           let y = ten-there g typed shown ck old answer new meets all i x .0 (there c i x (PastBank i) (at-node.ten p d q refl)) in
-          rw e (passed (λ u z. y .0 z) (refused tt (y .1)))
-      at-says n few w s (at-node.eleven p d q v e) =
+          rw e (refuses-10 g (y .1), lowest-of g (omega arith) (λ l. y .0) (λ l. absurd (omega arith)) (λ l. absurd (omega arith)) (λ l. absurd (omega arith)))
+      few-says few w s (at-node.eleven p d q v e) =
           let y = eleven-there g typed shown ck old answer new meets all i x .0 (there c i x (NoOutput i) (at-node.eleven p d q v refl)) in
-          rw e (passed (λ u z. y .0 z) (passed (λ u z. y .1 z) (refused tt (y .2))))
-      at-says n few w s (at-node.store p d q v a) = absurd (by-offer (offerOf (visitIn c i)) refl)
+          rw e (refuses-11 g (y .2), lowest-of g (omega arith) (λ l. y .0) (λ l. y .1) (λ l. absurd (omega arith)) (λ l. absurd (omega arith)))
+      few-says few w s (at-node.store p d q v a) = absurd (by-offer (offerOf (visitIn c i)) refl)
         where
           by-offer : (l : List Entry) → offerOf (visitIn c i) ≡ l → ⊥
           by-offer [] is = cons-apart (sym (ap (askedOf (x .stored) i) is) ∙ a)
@@ -188,32 +200,6 @@ module _ (g : Given) (typed : Typed g) (shown : Shown g (table g)) (ck : Checked
               let two = only-two (x .stored) e i (numberOf w) (number-some w) (placeOf w, ap toldVerdict asked) in
               let same = ap numberOf s in
               ⊎-elim (λ (k : numberOf w ≡ 12). omega arith) (λ (k : numberOf w ≡ 13). omega arith) two
-
-      -- A build that is refused 9, 10 or 11 is refused so at its node by the sentences.
-      few-says : (n : ℕ) → numberOf why ≤ 11 → Refuses g r i × AtNode g lent′ r n i (answered g typed lent′ why n)
-      few-says n few = (refuses-so why refl cause, at-says n few why refl cause)
-        where
-          refuses-so : (w : Refusal) → w ≡ why → Cause (closedIn c) (x .stored) (visitIn c i) (x .at) w → Refuses g r i
-          refuses-so w s (at-node.nine p d e) =
-              says.nine (nine-there g typed shown ck old answer new meets all i x .0 (there c i x (DefaultBank i) (at-node.nine p d refl)))
-          refuses-so w s (at-node.ten p d q e) =
-              says.ten (ten-there g typed shown ck old answer new meets all i x .0 (there c i x (PastBank i) (at-node.ten p d q refl)) .1)
-          refuses-so w s (at-node.eleven p d q v e) =
-              says.eleven (eleven-there g typed shown ck old answer new meets all i x .0 (there c i x (NoOutput i) (at-node.eleven p d q v refl)) .2)
-          refuses-so w s (at-node.store p d q v a) = absurd (by-offer (offerOf (visitIn c i)) refl)
-            where
-              by-offer : (l : List Entry) → offerOf (visitIn c i) ≡ l → ⊥
-              by-offer [] is = cons-apart (sym (ap (askedOf (x .stored) i) is) ∙ a)
-              by-offer (e ∷ l) is =
-                  let asked : answer-to (x .stored) e i ≡ TurnedAway w = sym (ap (askedOf (x .stored) i) is) ∙ a in
-                  let two = only-two (x .stored) e i (numberOf w) (number-some w) (placeOf w, ap toldVerdict asked) in
-                  let same = ap numberOf s in
-                  ⊎-elim (λ (k : numberOf w ≡ 12). omega arith) (λ (k : numberOf w ≡ 13). omega arith) two
-
-      names-overlaps : {y m z l : ℕ} → Names g r i y m z l → Overlaps g r i y m
-      names-overlaps (says.above a b d f) = says.stored a f
-      names-overlaps (says.below a b d f h) = says.stored a f
-      names-overlaps (says.mark a b d f h) = says.marked a b d
 
       -- 12 and 13
       module _ (e : Entry) (is : offerOf (visitIn c i) ≡ e ∷ []) (asked : answer-to (x .stored) e i ≡ TurnedAway why) where
@@ -233,14 +219,13 @@ module _ (g : Given) (typed : Typed g) (shown : Shown g (table g)) (ck : Checked
           n11 : Eleven g r i → ⊥
           n11 = no-11 refused-there high
 
-          twelve-says : (n : ℕ) → numberOf why ≡ 12 → Refuses g r i × AtNode g lent′ r n i (answered g typed lent′ why n)
-          twelve-says n num =
+          twelve-says : numberOf why ≡ 12 → Told-so why
+          twelve-says num =
               let t = subst (λ (a : ℕ). RefusedThere c i a (placeOf why)) num refused-there in
               let past = gets-past g typed shown ck old answer new meets all i x n9 n10 n11 in
               let w = names-there g typed shown ck old answer new meets all i x past e member (placeOf why) t in (
-                says.twelve offer-here (names-overlaps (w .3)),
-                rw (num, w .2) (passed (λ u z. n9 z) (passed (λ u z. n10 z) (passed (λ u z. n11 z)
-                    (refused (w .0, w .1) (e .position, e .size, offer-here, w .3))))),
+                rw (num, w .2) (says.overlaps offer-here (w .3)),
+                rw num (lowest-of g (omega arith) (λ l. n9) (λ l. n10) (λ l. n11) (λ l. absurd (omega arith))),
               )
 
           place-13 : numberOf why ≡ 13 → placeOf why ≡ One i
@@ -268,15 +253,15 @@ module _ (g : Given) (typed : Typed g) (shown : Shown g (table g)) (ck : Checked
 
           no-12 : numberOf why ≡ 13 → (w : ℕ × ℕ) → Twelve g r i w → ⊥
           no-12 num w z =
-              let t = twelve-there g typed shown ck old answer new meets all i x n9 n10 n11 (z .0) (z .1) (z .2) .1 (names-overlaps (z .3)) in
+              let t = twelve-there g typed shown ck old answer new meets all i x n9 n10 n11 (z .0) (z .1) (z .2) .1 (names-overlaps g (z .3)) in
               let e = one-number refused-there (t .1) in
               omega arith
 
-          thirteen-says : (n : ℕ) → numberOf why ≡ 13 → Refuses g r i × AtNode g lent′ r n i (answered g typed lent′ why n)
-          thirteen-says n num =
+          thirteen-says : numberOf why ≡ 13 → Told-so why
+          thirteen-says num =
               let place = place-13 num in (
-                says.thirteen (thirteen-so num),
-                rw (num, place) (passed (λ u z. n9 z) (passed (λ u z. n10 z) (passed (λ u z. n11 z) (passed (no-12 num) (refused tt (thirteen-so num)))))),
+                rw (num, place) (refuses-13 g (thirteen-so num)),
+                rw num (lowest-of g (omega arith) (λ l. n9) (λ l. n10) (λ l. n11) (λ l. no-12 num)),
               )
 
       -- what the store was asked, where it is the store that refuses
@@ -299,19 +284,24 @@ module _ (g : Given) (typed : Typed g) (shown : Shown g (table g)) (ck : Checked
       few-or-store (at-node.eleven p d q v e) = inl (let z = ap numberOf e in omega arith)
       few-or-store (at-node.store p d q v a) = inr (store-of a)
 
-      store-says : (n : ℕ) → Store → Refuses g r i × AtNode g lent′ r n i (answered g typed lent′ why n)
-      store-says n s =
-          ⊎-elim (λ (m : numberOf why ≡ 12). twelve-says (s .0) (s .1) (s .2) (omega arith) n m)
-          (λ (m : numberOf why ≡ 13). thirteen-says (s .0) (s .1) (s .2) (omega arith) n m) (s .3)
+      store-says : Store → Told-so why
+      store-says s =
+          ⊎-elim (λ (m : numberOf why ≡ 12). twelve-says (s .0) (s .1) (s .2) (omega arith) m)
+          (λ (m : numberOf why ≡ 13). thirteen-says (s .0) (s .1) (s .2) (omega arith) m) (s .3)
 
       -- The node that the build is refused at, 9 to 13, is the first that the sentences refuse, with its number, its place and what 12 names.
-      pub refused-first : (n : ℕ) → First (Refuses g r) i × AtNode g lent′ r n i (answered g typed lent′ why n)
-      refused-first n =
-          let y = ⊎-elim (few-says n) (store-says n) (few-or-store cause) in (
-            record { so = y .0; none-below = λ j z. ⊎-elim (λ (l : i ≤ j). l) (λ (l : j < i). absurd (first-so j z l)) (or-past i j) },
-            y .1,
-          )
+      pub refused-first : FirstWhy g r i (numberOf why) (firstOf (placeOf why)) (secondOf (placeOf why))
+      refused-first =
+          let y = ⊎-elim (λ few. few-says few why refl cause) store-says (few-or-store cause) in
+          record {
+            first = record {
+              so = (numberOf why, firstOf (placeOf why), secondOf (placeOf why), y .0);
+              none-below = λ j z. ⊎-elim (λ (l : i ≤ j). l) (λ (l : j < i). absurd (first-so j z l)) (or-past i j);
+            };
+            why = y .0;
+            lowest = y .1;
+          }
 
       -- So it is built so by the sentences.
       pub build-refused : (n : ℕ) → Built g lent′ r k n (answered g typed lent′ why n)
-      build-refused n = let y = refused-first n in says.refused (y .0) (y .1)
+      build-refused n = says.refused refused-first words.is

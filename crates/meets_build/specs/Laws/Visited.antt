@@ -30,7 +30,8 @@ use Rattle.build_sights.specs.Spans.{sizeOf}
 use Rattle.build_sights.specs.Visits.{seenPos, positionOf, visitAt}
 use Rattle.build_sights.specs.declared.Visit.{Visit}
 use Rattle.says.specs.Build as says
-use Rattle.says.specs.Build.{Given, nodes, kind, banks, In, Size, Offset, Number, Sees, Offer, Extent, Placed, IsWritten, Nine, Ten, Eleven}
+use Rattle.says.specs.Build.{Given, nodes, kind, banks, In, Size, Offset, Number, Sees, Offer, Extent, Placed, IsWritten}
+use Rattle.meets_sentences.specs.Grounds.{Nine, Ten, Eleven}
 use Rattle.meets_sentences.specs.Laws.One.{in-one, number-one, sees-one}
 use Rattle.meets_build.specs.Laws.Shown.{Shown, Tells, listed, walked, rowNo, nodeNo, number-is}
 use Rattle.meets_build.specs.Laws.Walk.{bankNo, Goes, stands-in, tells-here, sees-seen}

@@ -1,16 +1,17 @@
 -- What holds of every layout file: form 2 closes bank 0 and form 1 does not, a reader of form 1 refuses form 2 at its first field, and a broken file runs no
 -- pass and changes nothing. From the sentences alone.
-use mathlib.Core.Path.{_≡_, sym, subst}
+use mathlib.Core.Path.{_≡_, refl, sym, ap, subst}
 use mathlib.Core.List.{List}
-use mathlib.Core.Logic.{inl, inr}
-use Prim.Native.Nat.{ℕ}
+use mathlib.Core.Logic.{inr, ⊎-elim}
+use Prim.Native.Nat.{ℕ, _≤_, _<_}
 use native.Mathlib.Omega.{arith}
 use lib.ListN.{length, getD}
 use Rattle.refusal.specs.declared.Refusal.the-variants.{Malformed}
 use Rattle.form_fields.specs.Theorems.Faults.{old-reader-refuses}
 use Rattle.says.specs.Words as words
 use Rattle.says.specs.Build as build
-use Rattle.says.specs.Build.{Given, Lent, Outcome, Placed, In, Nine, BuildSays}
+use Rattle.says.specs.Build.{Given, Lent, Outcome, banks, Placed, In, Why, BuildSays}
+use Rattle.meets_sentences.specs.Laws.Why.{nine-of}
 use Rattle.meets_sentences.specs.Theorems.Outcomes.{accepted-says}
 use Rattle.says.specs.Files.{Form, form-1, form-2, Held, Sound, Broken}
 use Rattle.says.specs.Form as form
@@ -28,12 +29,12 @@ form-2-closes-bank-0 {file} {fill} {old} {o} (form.laid {h = h′} {g = g′} (f
 form-2-closes-bank-0 {file} {fill} {old} {o} (form.laid {h = h′} {g = g′} (form.of-2 x) s′ l′ b) first e h g s l i p q =
     let same : g′ ≡ g = layout-one (subst (λ (k : Held). Layout form-2 k fill g′) (sound-one s′ s) l′) l in
     let a = accepted-says g old o (subst (λ (k : Given). BuildSays k old o) same b) e in
-    a .none-refused i (build.nine (p, q, inr (omega (arith, l .closed))))
+    a .none-refused i (9, i, 0, build.bank-0 p q (inr (omega (arith, l .closed))))
 
 -- "Form 1 files that use it are still read and compared as before": with one bank, no node of a form 1 file is refused for its bank.
-pub form-1-opens-bank-0 : {h : Held} {fill : ℕ} {g : Given} → Layout form-1 h fill g → length (h .banks) ≡ 1 → (r i : ℕ) → Nine g r i → ⊥
-form-1-opens-bank-0 {h} {fill} {g} l one r i (p, q, inl more) = omega (arith, l .units .0)
-form-1-opens-bank-0 {h} {fill} {g} l one r i (p, q, inr closed) = omega (arith, l .closed)
+pub form-1-opens-bank-0 : {h : Held} {fill : ℕ} {g : Given} → Layout form-1 h fill g → length (h .banks) ≡ 1 → (r i : ℕ) → Why g r i 9 i 0 → ⊥
+form-1-opens-bank-0 {h} {fill} {g} l one r i why =
+    ⊎-elim (λ (more : 1 < banks g). omega (arith, l .units .0)) (λ (closed : 1 ≤ g .closed). omega (arith, l .closed)) (nine-of g why refl .2)
 
 -- "An old reader refuses form 2 with 4": at field 0, whatever follows.
 pub old-reader : (file : List ℕ) → getD file 0 0 ≡ 16 → Broken form-1 file 0

@@ -41,11 +41,11 @@ use Rattle.c_answers.specs.Maps.{toldBy}
 use Rattle.c_model.specs.Tables.{TablesTold}
 use Rattle.c_answers.specs.declared.DkMap.{DkMap}
 use Rattle.says.specs.Build as build
-use Rattle.says.specs.Build.{Given, nodes, Reads, AtNode}
+use Rattle.says.specs.Build.{Given, nodes, Reads}
+use Rattle.meets_sentences.specs.Laws.Why.{nine-to-13}
 use Rattle.meets_sentences.specs.Theorems.Outcomes.{stops-five-or-seven}
 use Rattle.meets_sentences.specs.Typed.{Typed}
 use Rattle.meets_build.specs.Laws.AtNode.{call}
-use Rattle.meets_build.specs.Laws.Checks.{answered}
 use Rattle.meets_build.specs.Laws.Contract.{inputOf}
 use Rattle.meets_build.specs.Laws.Placed.{refuses-listed, stopped-build}
 use Rattle.meets_build.specs.Laws.Refused.{none-refused, refused-first}
@@ -57,23 +57,10 @@ use Rattle.meets_build.specs.Laws.Table.{table}
 use Rattle.meets_build.specs.Laws.Walk.{Goes}
 use Rattle.meets_build.specs.Theorems.Meets as build-meets
 use Rattle.meets_profile.specs.Laws.Sound.{by-definition}
-use Rattle.meets_profile.specs.Laws.Tried.{tries-all}
 use Rattle.says.specs.Map as m
-use Rattle.says.specs.Map.{Lent, nothing, UpTo, Shows, Tried, Mapped}
-use Rattle.meets_map.specs.Places.{Places}
+use Rattle.says.specs.Map.{Lent, UpTo, Shows, Tried, Mapped}
+use Rattle.meets_map.specs.Places.{Places, nothing}
 use Rattle.meets_map.specs.Laws.Shown.{lentOf, outcome, rowNow, shows-of}
-
--- ---- from the sentences alone
-
-module _ (g : Given) where
-  -- what a node is refused for is 9 or more
-  abbrev High : build.Outcome → Type 0
-  High y = 9 ≤ y .answer .refusal
-
-  at-least-9 : (r n i : ℕ) (y : build.Outcome) → AtNode g nothing r n i y → High y
-  at-least-9 r n i y a =
-      tries-all High (λ x. omega arith) y (tries-all High (λ x. omega arith) y (tries-all High (λ x. omega arith) y (tries-all High (λ x. omega arith) y
-      (tries-all High (λ x. omega arith) y (λ x. absurd x))))) a
 
 -- a layout that is refused for 5 or more is told so
 told-stopped : (why : Refusal) (node : ℕ) → 5 ≤ numberOf why → (n count : ℕ) (lost : List Lost)
@@ -203,9 +190,9 @@ module _ (g : Given) (typed : Typed g) (old : Lent) (places : Places old) (r : D
     placed-stops : (why : Refusal) → FirstRefused c why → Tried g old n row (outcome g typed old r new told)
     unfolding buildOf
     placed-stops why f =
-        let x = refused-first g typed is ck lent built (leaves b lent built) (contract .built) all k settled why f n in
-        let high = at-least-9 g row n (f .n) (answered g typed nothing why n) (x .1) in
-        m.refused (x .0) (x .1)
+        let x = refused-first g typed is ck lent built (leaves b lent built) (contract .built) all k settled why f in
+        let high = nine-to-13 g (x .why) .0 in
+        m.refused x
         (shows-of g typed old r new told places is ck (record { verdict = Refused why; nodes = suc (f .n); fault = AtFault (f .n) }) (stops-at why f)
         (numberOf why) (firstOf (placeOf why)) (secondOf (placeOf why)) (f .n) (told-stopped why (f .n) (omega arith)))
 

@@ -10,14 +10,14 @@ use lib.IntN.{ℤ, pos, _+ℤ_}
 use lib.ListN.{getD}
 use Rattle.says.specs.Words as w
 use Rattle.says.specs.Build as build
-use Rattle.says.specs.Build.{Given, losing, unit, start, nodes, IsSpan, Spans, SpanAt, Extent, AtNode, Laid, BuildSays}
+use Rattle.says.specs.Build.{Given, losing, unit, start, nodes, IsSpan, Spans, SpanAt, Extent, Laid, BuildSays}
 use Rattle.says.specs.Words.{Not}
 use Rattle.meets_sentences.specs.Laws.One.{number-one, at-one, sees-one, reads-one, word-one, three}
 use Rattle.meets_sentences.specs.Theorems.Decides.{last-one, early, spans-less, build-decides}
 use Rattle.meets_sentences.specs.Theorems.Outcomes.{AcceptedSo}
-use Rattle.meets_profile.specs.Laws.Tried.{Clear, cleared, through, tries-map}
+use Rattle.meets_profile.specs.Laws.Tried.{Clear, cleared, through}
 use Rattle.says.specs.Map as m
-use Rattle.says.specs.Map.{Lent, Outcome, nothing, noNode, Bits, Entry, refusal, Shows, Mapped, MapSays}
+use Rattle.says.specs.Map.{Lent, Outcome, noNode, Bits, Entry, refusal, Shows, Mapped, MapSays}
 
 -- A map's outcome beside a build's: both refused for 1 to 4; the map stopped where the build is refused; or the map whole, and the build accepted or
 -- refused 14.
@@ -30,18 +30,6 @@ pub data Agree (g : Given) (lent : build.Lent) (o : Outcome) : build.Outcome →
       → (y .answer .refusal ≡ 0) ⊎ (y .answer .refusal ≡ 14) → y .answer .passes ≡ o .answer .passes → Agree g lent o y
 
 module _ (g : Given) (old : Lent) (lent : build.Lent) where
-  -- a refusal of the build, whatever it was lent
-  abbrev again : build.Outcome → build.Outcome
-  again z = build.refusal g lent (z .answer .refusal) (z .answer .place) (z .answer .second) (z .answer .passes)
-
-  at-node-again : (r n i : ℕ) (z : build.Outcome) → AtNode g nothing r n i z → AtNode g lent r n i (again z)
-  at-node-again r n i z =
-      tries-map again (λ x. refl) z (λ n9.
-      tries-map again (λ x. refl) z (λ n10.
-      tries-map again (λ x. refl) z (λ n11.
-      tries-map again (λ x. refl) z (λ n12.
-      tries-map again (λ x. refl) z (λ n13 never. never)))))
-
   module _ (y : build.Outcome) (says : BuildSays g lent y) where
     -- what the build's sentences say is what the build comes to
     same-as : (number place second n : ℕ) → BuildSays g lent (build.refusal g lent number place second n) → build.refusal g lent number place second n ≡ y
@@ -67,7 +55,7 @@ module _ (g : Given) (old : Lent) (lent : build.Lent) where
       whole-agrees o z s p run settled q clear (build.unresolved p′ run′ u e) = absurd (settled (rw (last-one g p′ p .1) at u))
       whole-agrees o z s p run settled q clear (build.built p′ run′ u q′ (build.refused {i = i} f t)) =
           let pass = last-one g p′ p .1 in
-          absurd (clear i (rw (reads-one g (rw pass at q′) q) at (f .so)))
+          absurd (clear i (rw (reads-one g (rw pass at q′) q) at (f .first .so)))
       whole-agrees o z (m.shows a b) p run settled q clear (build.built p′ run′ u q′ (build.placed none l c (w.refused x h))) =
           whole refl refl refl (inr refl) (last-one g p′ p .1)
       whole-agrees o z (m.shows a b) p run settled q clear (build.built p′ run′ u q′ (build.placed none l c (w.passed x (w.refused v h)))) =
@@ -80,8 +68,7 @@ module _ (g : Given) (old : Lent) (lent : build.Lent) where
       mapped-agrees o (m.stops h l go f s q u t) = shown-agrees o t (build.stops h l go f s w.is)
       mapped-agrees o (m.last-stops p f s q u t) = shown-agrees o t (build.last-stops p f s w.is)
       mapped-agrees o (m.unresolved p run v q t) = shown-agrees o t (build.unresolved p run v w.is)
-      mapped-agrees o (m.tried {n = n} {r = r} p run v q (m.refused {i = i} f a t)) =
-          shown-agrees o t (build.built p run v q (build.refused f (at-node-again r n i _ a)))
+      mapped-agrees o (m.tried p run v q (m.refused f t)) = shown-agrees o t (build.built p run v q (build.refused f w.is))
       mapped-agrees o (m.tried p run v q (m.placed clear t)) =
           whole-agrees o y t p run v q clear (cleared g (λ number place second. build.refusal g lent number place second 0) c says)
 
@@ -114,9 +101,9 @@ module _ (g : Given) (old : Lent) (lent : build.Lent) where
     whole-of (m.stops h l go f s q u t) = absurd (early g h l go (f .so) (a .last))
     whole-of (m.last-stops {i = i} p f s q u t) = absurd (a .runs i (rw (last-one g p (a .last) .1) at (f .so)))
     whole-of (m.unresolved p run v q t) = absurd (a .settled (rw (last-one g p (a .last) .1) at v))
-    whole-of (m.tried p run v q (m.refused {i = i} f z t)) =
+    whole-of (m.tried p run v q (m.refused {i = i} f t)) =
         let pass = last-one g p (a .last) .1 in
-        absurd (a .none-refused i (rw (reads-one g (rw pass at q) (a .reads)) at (f .so)))
+        absurd (a .none-refused i (rw (reads-one g (rw pass at q) (a .reads)) at (f .first .so)))
     whole-of (m.tried {n = n} {r = r} p run v q (m.placed none t)) =
         let pass : n ≡ y .answer .passes = last-one g p (a .last) .1 in
         let row : r ≡ a .row = reads-one g (rw pass at q) (a .reads) in

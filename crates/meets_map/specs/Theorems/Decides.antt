@@ -10,12 +10,12 @@ use Rattle.sort.specs.Laws.Sorted.{le-or-lt}
 use Rattle.meets.specs.Laws.Words.{OneOnly, first-one}
 use Rattle.iter.specs.declared.Lost.{Lost}
 use Rattle.says.specs.Build as build
-use Rattle.says.specs.Build.{Given, losing, Stopped, Refuses}
+use Rattle.says.specs.Build.{Given, losing, Stopped}
 use Rattle.meets_sentences.specs.Laws.One.{three, number-one, at-one, sees-one, reads-one, word-one}
-use Rattle.meets_sentences.specs.Theorems.Decides.{stops-one, last-one, early, node-one}
+use Rattle.meets_sentences.specs.Theorems.Decides.{stops-one, last-one, early, first-why-one}
 use Rattle.meets_profile.specs.Laws.Tried.{checks-one}
 use Rattle.says.specs.Map as m
-use Rattle.says.specs.Map.{Lent, Outcome, nothing, Bits, Entry, UpTo, Sums, refusal, Left, Shows, Tried, Mapped, MapSays}
+use Rattle.says.specs.Map.{Lent, Outcome, Bits, Entry, UpTo, Sums, refusal, Left, Shows, Tried, Mapped, MapSays}
 
 module _ (g : Given) where
   bits-one : {r i x y : ℕ} → Bits g r i x → Bits g r i y → x ≡ y
@@ -63,15 +63,11 @@ module _ (g : Given) where
     shows-one y z (m.shows {sums} {new} p f) (m.shows {sums = sums′} {new = new′} q h) = rw (sums-one sums sums′ p q, left-one new new′ f h)
 
     tried-one : (n r : ℕ) → OneOnly (Tried g old n r)
-    tried-one n r y z (m.refused {i} {number} {place} {second} f a s) (m.refused {i = i′} {number = number′} {place = place′} {second = second′} f′ a′ s′) =
-        let node : i′ ≡ i = first-one (Refuses g r) i′ i f′ f in
-        let same = node-one g nothing r n i (λ j lt q. omega (arith, f .none-below j q)) _ _ (rw node at a′) a in
-        let what : number′ ≡ number = ap (λ (o : build.Outcome). o .answer .refusal) same in
-        let first : place′ ≡ place = ap (λ (o : build.Outcome). o .answer .place) same in
-        let next : second′ ≡ second = ap (λ (o : build.Outcome). o .answer .second) same in
-        shows-one y z s (rw (node, what, first, next) at s′)
-    tried-one n r y z (m.refused {i} f a s) (m.placed clear s′) = absurd (clear i (f .so))
-    tried-one n r y z (m.placed clear s) (m.refused {i} f a s′) = absurd (clear i (f .so))
+    tried-one n r y z (m.refused f s) (m.refused f′ s′) =
+        let e = first-why-one g f′ f in
+        shows-one y z s (rw (e .0, e .1, e .2, e .3) at s′)
+    tried-one n r y z (m.refused {i} f s) (m.placed clear s′) = absurd (clear i (f .first .so))
+    tried-one n r y z (m.placed clear s) (m.refused {i} f s′) = absurd (clear i (f .first .so))
     tried-one n r y z (m.placed clear s) (m.placed clear′ s′) = shows-one y z s s′
 
     mapped-one : OneOnly (Mapped g old)

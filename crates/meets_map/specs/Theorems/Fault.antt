@@ -9,7 +9,8 @@ use Rattle.says.specs.Words.{First}
 use Rattle.says.specs.Build.{Given, Reads, Refuses}
 use Rattle.meets_sentences.specs.Theorems.Outcomes.{stops-five-or-seven}
 use Rattle.says.specs.Map as m
-use Rattle.says.specs.Map.{Lent, Outcome, nothing, Shows, Mapped, MapSays}
+use Rattle.says.specs.Map.{Lent, Outcome, Shows, Mapped, MapSays}
+use Rattle.meets_map.specs.Places.{nothing}
 
 module _ (g : Given) (old : Lent) where
   pub record FaultAt (o : Outcome) : Type 0 where
@@ -32,7 +33,7 @@ module _ (g : Given) (old : Lent) where
   mapped-fault o (m.stops h l go f s q u t) k = few o t (five-or-seven (stops-five-or-seven g nothing s)) k
   mapped-fault o (m.last-stops p f s q u t) k = few o t (five-or-seven (stops-five-or-seven g nothing s)) k
   mapped-fault o (m.unresolved p run v q t) k = few o t (omega arith) k
-  mapped-fault o (m.tried p run v q (m.refused f a t)) k = at-node o t q f
+  mapped-fault o (m.tried p run v q (m.refused f t)) k = at-node o t q (f .first)
   mapped-fault o (m.tried p run v q (m.placed none t)) k = few o t (omega arith) k
 
   pub fault-is-first-refused : (o : Outcome) → MapSays g old o → 9 ≤ o .answer .stopped → FaultAt o

@@ -44,8 +44,8 @@ use Rattle.meets_build.specs.Laws.Table.{table, shown}
 use Rattle.meets_profile.specs.Laws.Sound.{clear}
 use Rattle.meets_profile.specs.Laws.Tried.{through}
 use Rattle.meets_profile.specs.Laws.Verdicts.{early}
-use Rattle.says.specs.Map.{Lent, Outcome, nothing, refusal, Mapped, MapSays}
-use Rattle.meets_map.specs.Places.{Places}
+use Rattle.says.specs.Map.{Lent, Outcome, refusal, Mapped, MapSays}
+use Rattle.meets_map.specs.Places.{Places, nothing}
 use Rattle.meets_map.specs.Laws.Shown.{lentOf, outcome, rowNow, answer-is, left-is}
 use Rattle.meets_map.specs.Laws.Ended.{refused-mapped, settled-mapped}
 

@@ -9,6 +9,7 @@ use Rattle.sort.specs.Laws.Sorted.{le-or-lt}
 use Rattle.c_answers.specs.declared.DkProfile.{DkProfile}
 use Rattle.says.specs.Words as w
 use Rattle.says.specs.Build as b
+use Rattle.meets_sentences.specs.Laws.Why.{nine-to-13}
 use Rattle.says.specs.Build.{Given, Lent, Outcome, banks, In, IsWritten, Reads, Offer, Refuses, Stops, Accepts, Built, Laid, refusal}
 use Rattle.says.specs.Words.{Not}
 use Rattle.meets_sentences.specs.Laws.One.{in-one}
@@ -51,10 +52,7 @@ module _ (g : Given) (page : ℕ) where
     accepts-later (b.accepts q f) = inl refl
 
     built-later : {r k n : ℕ} {y : Outcome} → Built g old r k n y → Later y
-    built-later {y = y} (b.refused f a) =
-        tries-all Later (λ x. inr (omega arith, omega arith)) y (tries-all Later (λ x. inr (omega arith, omega arith)) y
-        (tries-all Later (λ x. inr (omega arith, omega arith)) y (tries-all Later (λ x. inr (omega arith, omega arith)) y
-        (tries-all Later (λ x. inr (omega arith, omega arith)) y (λ x. absurd x))))) a
+    built-later (b.refused f w.is) = let z = nine-to-13 g (f .why) in inr (omega (arith, z .0), omega (arith, z .1))
     built-later {y = y} (b.placed clear l c t) =
         tries-all Later (λ x. inr (omega arith, omega arith)) y (tries-all Later (λ x. inr (omega arith, omega arith)) y accepts-later) t
 
@@ -86,16 +84,11 @@ module _ (g : Given) (page : ℕ) where
       pub reads : Reads g (y .answer .passes) row
       pub clear : (i : ℕ) → Refuses g row i → ⊥
 
-    abbrev NotYes : Outcome → Type 0
-    NotYes y = y .answer .refusal ≡ 0 → ⊥
-
     pub fine : {y : Outcome} → Laid g old y → y .answer .refusal ≡ 0 → Fine y
     fine (b.stops h l go f s w.is) e = absurd (omega (arith, stops-later s .0))
     fine (b.last-stops q f s w.is) e = absurd (omega (arith, stops-later s .0))
     fine (b.unresolved q r u w.is) e = absurd (let z : _≡_ {A = ℕ} 8 0 = e in omega arith)
-    fine {y} (b.built q r u v (b.refused f a)) e =
-        absurd (tries-all NotYes (λ x z. omega arith) y (tries-all NotYes (λ x z. omega arith) y (tries-all NotYes (λ x z. omega arith) y
-        (tries-all NotYes (λ x z. omega arith) y (tries-all NotYes (λ x z. omega arith) y (λ x. absurd x))))) a e)
+    fine {y} (b.built q r u v (b.refused f w.is)) e = absurd (let z = nine-to-13 g (f .why) .0 in omega (arith, e))
     fine {y} (b.built {n = n} {r = r} q go u v (b.placed clear l c t)) e =
         let n-passes : y .answer .passes ≡ n =
         tries-all (PassesAre n) (λ x. refl) y (tries-all (PassesAre n) (λ x. refl) y accepts-passes) t in
@@ -118,20 +111,7 @@ module _ (g : Given) (page : ℕ) where
           let s = h .sizes bank o there offset in
           let fits : o + (q + lead) + m ≤ o + s .0 =
           ⊎-elim (λ le. omega arith)
-          (λ past. absurd (clear i (b.ten (
-            (lt, inr (lo, hi)),
-            (
-              bank,
-              q + lead,
-              known,
-              m,
-              s .0,
-              b.sees here own l le,
-              b.item (λ e. omega arith) number,
-              s .1,
-              past,
-            ),
-          ))))
+          (λ past. absurd (clear i (10, i, 0, b.past-size (lt, inr (lo, hi)) (b.sees here own l le) (b.item (λ e. omega arith) number) (s .1) past)))
           (le-or-lt (q + lead + m) (s .0)) in
           subst (λ (x : ℕ). InPages g page x bit) same (record {
             o = o;

@@ -43,9 +43,7 @@ module _ (g : Given) (old : Lent) where
   accepts-ran h (b.accepts p f) = h
 
   built-ran : {r k n : ℕ} {y : Outcome} → 1 ≤ n → Built g old r k n y → Ran y
-  built-ran {y = y} h (b.refused f a) =
-      tries-all Ran (λ x. h) y (tries-all Ran (λ x. h) y (tries-all Ran (λ x. h) y (tries-all Ran (λ x. h) y
-      (tries-all Ran (λ x. h) y (λ x. absurd x))))) a
+  built-ran h (b.refused f w.is) = h
   built-ran {y = y} h (b.placed clear l c t) = tries-all Ran (λ x. h) y (tries-all Ran (λ x. h) y (accepts-ran h)) t
 
   laid-ran : {y : Outcome} → Laid g old y → Ran y

@@ -171,7 +171,7 @@ module _ (g : Given) (old : Lent) (o : Outcome) (a : AcceptedSo g old o) where
       let (m, q) = its-number g (a .row) i in
       either (eqb (flag g c / 2 % 2) 1)
       (λ t. (getD (g .bankOffsets) c 0 + p, m, b.offer h (w .0) (omega (arith, w .1)) x (eqb-true (flag g c / 2 % 2) 1 t, refl) q))
-      (λ f. absurd (a .none-refused i (b.eleven (h, w, (c, stands-in g x, λ _ offset. eqb-false (flag g c / 2 % 2) 1 f (offset .0))))))
+      (λ f. absurd (a .none-refused i (11, i, 0, b.no-output h w (stands-in g x) (λ _ offset. eqb-false (flag g c / 2 % 2) 1 f (offset .0)))))
 
   -- The bits of any of them can be written into an image as long as the build's, in any order.
   pub some-writing : (order : List ℕ) → ((i : ℕ) → Among i order → (i < nodes g) × IsWritten g i) → (image : List ℕ) → length image ≡ length (old .image)

@@ -16,8 +16,11 @@ use Rattle.says.specs.Banks.{Meet}
 use Rattle.says.specs.Build as b
 use Rattle.says.specs.Build.{Given, Lent, Outcome, banks, start, flag, Size, Offset, Filled, Unsized, NoBanks, BadBank, Overlap}
 use Rattle.says.specs.Words.{Not}
-use Rattle.says.specs.Build.{nodes, BadField, BadNode, Sees, Extent, Placed, Ten, Inherited, Ends, Unresolved, Last, refusal, BuildSays}
-use Rattle.says.specs.Build.{Interval, Clash, Names, Overlaps}
+use Rattle.says.specs.Build.{nodes, BadField, BadNode, Sees, Extent, Placed, Why, Inherited, Ends, Unresolved, Last, refusal, BuildSays}
+use Rattle.says.specs.Build.{Interval, Clash, Names}
+use Rattle.meets_sentences.specs.Grounds as ground
+use Rattle.meets_sentences.specs.Grounds.{Overlaps}
+use Rattle.meets_sentences.specs.Laws.Why.{ten-of}
 use Rattle.meets_sentences.specs.Laws.One.{sees-one, extent-one, inherited-one}
 use Rattle.meets_sentences.specs.Theorems.Outcomes.{AcceptedSo}
 
@@ -145,16 +148,16 @@ module _ (g : Given) where
   -- ---- "P bank size 40: position 30, size 10 passes, position 31 gives 10", over any node i that is placed there
 
   module _ (r i c : ℕ) (k : Bool) (placed : Placed g i) (size : Size g c 40) (item : Extent g r i 10) where
-    pub ends-at-40 : Sees g r i c 30 k → Not (Ten g r i)
+    pub ends-at-40 : Sees g r i c 30 k → Not (Why g r i 10 i 0)
     ends-at-40 s t =
-        let x = t .1 in
+        let x = ten-of g t refl .1 in
         let same = sees-one g s (x .5) in
         let e = extent-one g item (x .6) in
         let m : x .4 ≡ 40 = x .7 .1 ∙ ap (λ (y : ℕ). getD (g .bankSizes) y 0) (sym (same .0)) ∙ sym (size .1) in
         omega (arith, same .1, x .8)
 
-    pub ends-at-41 : Sees g r i c 31 k → Ten g r i
-    ends-at-41 s = (placed, (c, 31, k, 10, 40, s, item, size, omega arith))
+    pub ends-at-41 : Sees g r i c 31 k → Why g r i 10 i 0
+    ends-at-41 s = b.past-size placed s item size (omega arith)
 
   -- ---- "P store (0, 8), (8, 8), offer (7, 1): 12, names (0, 8)": at a node before which these two, and nothing else, are stored
 
@@ -172,24 +175,24 @@ module _ (g : Given) where
 
     -- "P store (0, 8), offers (0, 0) accepted,": a mark on an interval's first bit, or just past its last, is not inside
     pub mark-on-the-first-bit : ((y n : ℕ) → Interval g r i y n → (y ≡ 0) × (n ≡ 8)) → Not (Overlaps g r i 0 0)
-    mark-on-the-first-bit only (b.stored {y} {n} x c) = apart y n (only y n x) c
+    mark-on-the-first-bit only (ground.stored {y} {n} x c) = apart y n (only y n x) c
       where
         apart : (y n : ℕ) → (y ≡ 0) × (n ≡ 8) → Clash g 0 0 y n → ⊥
         apart y n e (b.bits a c d f) = omega arith
         apart y n e (b.inside a c d f) = omega arith
-    mark-on-the-first-bit only (b.marked x low high) = omega arith
+    mark-on-the-first-bit only (ground.marked x low high) = omega arith
 
     pub mark-just-past : ((y n : ℕ) → Interval g r i y n → (y ≡ 0) × (n ≡ 8)) → Not (Overlaps g r i 8 0)
-    mark-just-past only (b.stored {y} {n} x c) = apart y n (only y n x) c
+    mark-just-past only (ground.stored {y} {n} x c) = apart y n (only y n x) c
       where
         apart : (y n : ℕ) → (y ≡ 0) × (n ≡ 8) → Clash g 8 0 y n → ⊥
         apart y n e (b.bits a c d f) = omega arith
         apart y n e (b.inside a c d f) = omega (arith, e .0, e .1)
-    mark-just-past only (b.marked x low high) = omega arith
+    mark-just-past only (ground.marked x low high) = omega arith
 
     -- "then (4, 4): 12", also where it names (0, 8)
     pub offer-inside-an-interval : Interval g r i 0 8 → Overlaps g r i 4 4
-    offer-inside-an-interval stored = b.stored stored (b.bits (omega arith) (omega arith) (omega arith) (omega arith))
+    offer-inside-an-interval stored = ground.stored stored (b.bits (omega arith) (omega arith) (omega arith) (omega arith))
 
   -- ---- the fill
 

@@ -23,10 +23,12 @@ use Rattle.meets_sentences.specs.Laws.One.{offer-one, extent-one, word-o
 use Rattle.says.specs.Build as b
 use Rattle.says.specs.Build.{Given, Lent, Outcome, losing, In, Number, Lead, Advance, BankAt, Sees, Reads, Unresolved, Stops, Stopped, Runs}
 use Rattle.says.specs.Build.{GoesOn, Last, Offer}
-use Rattle.says.specs.Build.{Clash, Interval, Mark, Overlaps, Names, Extent, Twelve, Refuses, AtNode, Length, IsSpan, Spans}
+use Rattle.says.specs.Build.{Clash, Interval, Mark, Names, Extent, Why, Refuses, FirstWhy, Length, IsSpan, Spans}
 use Rattle.says.specs.Build.{OffsetWord, SpanAt, Padding, OfItem, Fills, Left, Accepts}
-use Rattle.says.specs.Build.{Built, Laid, BuildSays, NoBanks, BadBank, Overlap, BadField, BadNode, Nine, Ten, Eleven, Thirteen}
+use Rattle.says.specs.Build.{Built, Laid, BuildSays, NoBanks, BadBank, Overlap, BadField, BadNode}
 use Rattle.says.specs.Build.{refusal, banks, nodes, IsWritten}
+use Rattle.meets_sentences.specs.Grounds as ground
+use Rattle.meets_sentences.specs.Laws.Why.{none-overlaps}
 
 same-number : (x y : ℕ) → ((x ≡ y → ⊥) → ⊥) → x ≡ y
 same-number x y h = either (eqb x y) (λ t. eqb-true x y t) (λ f. absurd (h (eqb-false x y f)))
@@ -78,15 +80,22 @@ module _ (g : Given) where
       three g n k (λ lt. go′ n h lt .0 i s) (λ e. r i (rw e at s)) (λ gt. u (go k o gt .1))
   early {n} {i} h l go s (b.at-limit o go′) = go′ n h l .0 i s
 
-  -- ---- offers
+  -- ---- what a node is refused for. All but 12 have the node for their place.
+  at-itself : {r i number place second : ℕ} → Why g r i number place second → (number ≡ 12 → ⊥) → (i ≡ place) × (0 ≡ second)
+  at-itself (b.bank-0 p h c) n = (refl, refl)
+  at-itself (b.past-size p s x m h) n = (refl, refl)
+  at-itself (b.no-output h v x m) n = (refl, refl)
+  at-itself (b.overlaps o v) n = absurd (n refl)
+  at-itself (b.full q s f) n = (refl, refl)
+
   module _ (r i : ℕ) (clear : (j : ℕ) → j < i → Refuses g r j → ⊥) where
     -- two offers before node i that clash are one
     no-clash : {j j′ x m y n : ℕ} → j < i → j′ < i → Offer g r j x m → Offer g r j′ y n → 0 < m → 0 < n → x < y + n → y < x + m → j ≡ j′
     no-clash {j} {j′} h h′ o o′ p q s t =
         three g j j′
-        (λ lt. absurd (clear j′ h′ (b.twelve o′ (b.stored (b.interval lt o p) (b.bits q p t s)))))
+        (λ lt. absurd (none-overlaps g r i clear j′ _ _ h′ o′ (ground.stored (b.interval lt o p) (b.bits q p t s))))
         (λ e. e)
-        (λ gt. absurd (clear j h (b.twelve o (b.stored (b.interval gt o′ q) (b.bits p q s t)))))
+        (λ gt. absurd (none-overlaps g r i clear j _ _ h o (ground.stored (b.interval gt o′ q) (b.bits p q s t))))
 
     one-size : {y m n : ℕ} → Interval g r i y m → Interval g r i y n → m ≡ n
     one-size (b.interval {j} h o p) (b.interval {j = j′} h′ o′ p′) =
@@ -106,10 +115,31 @@ module _ (g : Given) where
     names-one (b.mark s h l m no₁) (b.below {y = y′} {n = n′} s′ h′ l′ c′ no′) = absurd (no₁ y′ n′ s′ c′)
     names-one (b.mark {y} s h l m no₁) (b.mark {y = y′} s′ h′ l′ m′ no′) = (omega (arith, m y′ s′ h′, m′ y s h), refl)
 
-    twelve-one : (u v : ℕ × ℕ) → Twelve g r i u → Twelve g r i v → (u .0 ≡ v .0) × (u .1 ≡ v .1)
-    twelve-one u v s t =
-        let e = offer-one g (s .2) (t .2) in
-        names-one (s .3) (rw (sym (e .0), sym (e .1)) at (t .3))
+    -- one number has one place and one second
+    why-one : {number place second number′ place′ second′ : ℕ} → Why g r i number place second → Why g r i number′ place′ second′ → number ≡ number′
+        → (place ≡ place′) × (second ≡ second′)
+    why-one (b.overlaps o v) (b.overlaps o′ v′) same =
+        let e = offer-one g o o′ in
+        names-one v (rw (sym (e .0), sym (e .1)) at v′)
+    why-one (b.overlaps o v) (b.bank-0 p h c) same = absurd (omega arith)
+    why-one (b.overlaps o v) (b.past-size p s x m h) same = absurd (omega arith)
+    why-one (b.overlaps o v) (b.no-output h w x n) same = absurd (omega arith)
+    why-one (b.overlaps o v) (b.full q s f) same = absurd (omega arith)
+    why-one (b.bank-0 p h c) w same = at-itself w (λ e. omega arith)
+    why-one (b.past-size p s x m h) w same = at-itself w (λ e. omega arith)
+    why-one (b.no-output h v x n) w same = at-itself w (λ e. omega arith)
+    why-one (b.full q s f) w same = at-itself w (λ e. omega arith)
+
+  -- What is refused first, with which number, place and second.
+  pub first-why-one : {r i number place second i′ number′ place′ second′ : ℕ} → FirstWhy g r i number place second → FirstWhy g r i′ number′ place′ second′
+      → (i ≡ i′) × (number ≡ number′) × (place ≡ place′) × (second ≡ second′)
+  first-why-one {r} {i} {number} {i′ = i′} {number′ = number′} {place′ = place′} {second′ = second′} f h =
+      let node : i′ ≡ i = first-one (Refuses g r) i′ i (h .first) (f .first) in
+      let there : Why g r i number′ place′ second′ = rw node at (h .why) in
+      let low : (other at with : ℕ) → Why g r i other at with → number′ ≤ other = rw node at (h .lowest) in
+      let same : number ≡ number′ = omega (arith, f .lowest _ _ _ there, low _ _ _ (f .why)) in
+      let e = why-one r i (λ j lt s. omega (arith, f .first .none-below j s)) (f .why) there same in
+      (sym node, same, e .0, e .1)
 
   -- ---- spans and sums
   pub spans-less : {i x j y : ℕ} → Spans g i x → IsSpan g i → Spans g j y → i < j → x < y
@@ -162,14 +192,6 @@ module _ (g : Given) where
         rw (padding-one sums sums′ p q, left-one new new′ f h)
 
     -- ---- the order
-    pub node-one : (r n i : ℕ) → ((j : ℕ) → j < i → Refuses g r j → ⊥) → OneOnly (AtNode g old r n i)
-    node-one r n i clear =
-        tries-one (λ (_ : Unit {0}). Nine g r i) (λ _. refusal g old 9 i 0 n) _ (λ a c s t. refl)
-        (tries-one (λ (_ : Unit {0}). Ten g r i) (λ _. refusal g old 10 i 0 n) _ (λ a c s t. refl)
-        (tries-one (λ (_ : Unit {0}). Eleven g r i) (λ _. refusal g old 11 i 0 n) _ (λ a c s t. refl)
-        (tries-one (Twelve g r i) (λ w. refusal g old 12 (w .0) (w .1) n) _ (λ u v s t. let e = twelve-one r i clear u v s t in rw (e .0, e .1))
-        (tries-one (λ (_ : Unit {0}). Thirteen g r i) (λ _. refusal g old 13 i 0 n) (λ y. ⊥) (λ a c s t. refl) (λ y z s t. absurd s)))))
-
     room-one : (r k n l c : ℕ) → OneOnly
         (Tries (λ (_ : Unit {0}). 8 * length (old .image) < l) (λ _. refusal g old 14 0 0 n)
         (Tries (λ (_ : Unit {0}). (length (old .addresses) < c) ⊎ ((length (old .offsets) < c) ⊎ (length (old .sizes) < c))) (λ _. refusal g old 14 1 0 n)
@@ -180,11 +202,9 @@ module _ (g : Given) where
         (λ _. refusal g old 14 1 0 n) _ (λ a c s t. refl) accepts-one)
 
     built-one : (r k n : ℕ) → OneOnly (Built g old r k n)
-    built-one r k n y z (b.refused {i} f a) (b.refused {i = j} f′ a′) =
-        let same : j ≡ i = first-one (Refuses g r) j i f′ f in
-        node-one r n i (λ j lt s. omega (arith, f .none-below j s)) y z a (rw same at a′)
-    built-one r k n y z (b.refused {i} f a) (b.placed clear l c t) = absurd (clear i (f .so))
-    built-one r k n y z (b.placed clear l c t) (b.refused {i} f a) = absurd (clear i (f .so))
+    built-one r k n y z (b.refused f w.is) (b.refused h w.is) = let e = first-why-one f h in rw (e .1, e .2, e .3)
+    built-one r k n y z (b.refused {i} f a) (b.placed clear l c t) = absurd (clear i (f .first .so))
+    built-one r k n y z (b.placed clear l c t) (b.refused {i} f a) = absurd (clear i (f .first .so))
     built-one r k n y z (b.placed {l} {c} clear p s t) (b.placed {l = l′} {c = c′} clear′ p′ s′ t′) =
         let longest : l′ ≡ l = omega (arith, p .1 l′ (p′ .0), p′ .1 l (p .0)) in
         let count : c′ ≡ c = spans-one g s′ s in

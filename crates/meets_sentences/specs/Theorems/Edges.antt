@@ -20,7 +20,7 @@ use Rattle.says.specs.Build as b
 use Rattle.says.specs.Build.{Given, Lent, Outcome, losing, banks, unit, start, flag, fillBit, NoBanks, BadBank, Overlap, nodes, kind}
 use Rattle.says.specs.Words.{Not}
 use Rattle.says.specs.Build.{operand, BadField}
-use Rattle.says.specs.Build.{BadNode, In, Lead, Advance, BankAt, Sees, Reads, Stops, Runs, Unresolved, Last, Offer, Placed, Refuses}
+use Rattle.says.specs.Build.{BadNode, In, Lead, Advance, BankAt, Sees, Reads, Stops, Runs, Unresolved, Last, Offer, Placed, Why, Refuses}
 use Rattle.says.specs.Build.{Inherited, Ends, Fill}
 use Rattle.says.specs.Build.{Reaches, Length, Spans, Padding, Left, Accepts, Laid, refusal, BuildSays}
 use Rattle.meets_sentences.specs.Laws.One.{loses-none, in-one}
@@ -166,11 +166,14 @@ module _ (count : ℕ) (from : ℤ) (size rows limit fill closed : ℕ) where
   unplaced i p = ⊎-elim (λ e. omega (arith, kind-0 i)) (λ e. omega (arith, kind-0 i, e .0)) (p .1)
 
   none-refused : (r i : ℕ) → Not (Refuses g r i)
-  none-refused r i (b.nine t) = unplaced i (t .0)
-  none-refused r i (b.ten t) = unplaced i (t .0)
-  none-refused r i (b.eleven t) = omega (arith, kind-0 i, t .1 .0)
-  none-refused r i (b.twelve o v) = no-offer o
-  none-refused r i (b.thirteen t) = no-offer (t .4)
+  none-refused r i t = by (t .3)
+    where
+      by : {number place second : ℕ} → Not (Why g r i number place second)
+      by (b.bank-0 p h c) = unplaced i p
+      by (b.past-size p s x m h) = unplaced i p
+      by (b.no-output h w x n) = omega (arith, kind-0 i, w .0)
+      by (b.overlaps o v) = no-offer o
+      by (b.full o s f) = no-offer o
 
   no-fill : (c : ℕ) → Inherited g c 0
   no-fill zero = b.no-bank-yet

@@ -4,7 +4,7 @@ use mathlib.Core.Path.{_≡_, refl, sym, ap, subst, _∙_}
 use mathlib.Core.Bool.{Bool, true, false}
 use mathlib.Core.Logic.{_⊎_, inl, inr, ⊎-elim}
 use mathlib.Core.List.{List}
-use Prim.Native.Nat.{ℕ, _+_, _-_, _/_, _%_, _^_, _≤_, _<_}
+use Prim.Native.Nat.{ℕ, suc, _+_, _-_, _/_, _%_, _^_, _≤_, _<_}
 use lib.ListN.{getD}
 use native.Mathlib.Omega.{arith}
 use Rattle.sort.specs.Laws.Sorted.{le-or-lt}
@@ -14,7 +14,9 @@ use Rattle.says.specs.Build as b
 use Rattle.says.specs.Build.{Given, Lent, Outcome, banks, nodes, kind, operand, fillBit, Filled, Size, Offset, Offer, IsWritten}
 use Rattle.says.specs.Words.{Not}
 use Rattle.says.specs.Build.{OfItem, Fills}
-use Rattle.says.specs.Build.{Inherited, Fill, Refuses, Sees, Number, Ten, Placed, Extent}
+use Rattle.says.specs.Build.{Inherited, Fill, Refuses, Sees, Number, Placed, Extent}
+use Rattle.meets_sentences.specs.Grounds as ground
+use Rattle.meets_sentences.specs.Laws.Why.{none-overlaps}
 use Rattle.meets_sentences.specs.Laws.One.{three, offer-one}
 use Rattle.meets_sentences.specs.Laws.Largest.{fill-full}
 use Rattle.meets_sentences.specs.Theorems.Outcomes.{AcceptedSo}
@@ -31,9 +33,12 @@ module _ (g : Given) where
   -- ---- what the build keeps apart, where no node is refused
 
   module _ (r : ℕ) (clear : (i : ℕ) → Not (Refuses g r i)) where
+    alone : {j x m : ℕ} → Offer g r j x m → ground.Overlaps g r j x m → ⊥
+    alone {j} {x} {m} o v = none-overlaps g r (suc j) (λ i h. clear i) j x m (omega arith) o v
+
     apart-in-order : {i j x m y n bit : ℕ} → i < j → Offer g r i x m → Offer g r j y n → x ≤ bit → bit < x + m → y ≤ bit → bit < y + n → ⊥
     apart-in-order {j = j} h o q a c d e =
-        clear j (b.twelve q (b.stored (b.interval h o (omega arith)) (b.bits (omega arith) (omega arith) (omega arith) (omega arith))))
+        alone q (ground.stored (b.interval h o (omega arith)) (b.bits (omega arith) (omega arith) (omega arith) (omega arith)))
 
     -- No two offers share a bit.
     pub offers-share-no-bit : {i j x m y n bit : ℕ} → Offer g r i x m → Offer g r j y n → x ≤ bit → bit < x + m → y ≤ bit → bit < y + n → i ≡ j
@@ -44,9 +49,9 @@ module _ (g : Given) where
     pub no-mark-inside : {i j x y n : ℕ} → Offer g r i x 0 → Offer g r j y n → y < x → x < y + n → ⊥
     no-mark-inside {i} {j} o q a c =
         three g i j
-        (λ l. clear j (b.twelve q (b.marked (b.mark l o) a c)))
+        (λ l. alone q (ground.marked (b.mark l o) a c))
         (λ same. one-node same a o q)
-        (λ l. clear i (b.twelve o (b.stored (b.interval l q (omega arith)) (b.inside refl (omega arith) a c))))
+        (λ l. alone o (ground.stored (b.interval l q (omega arith)) (b.inside refl (omega arith) a c)))
       where
         one-node : {i j x y n : ℕ} → i ≡ j → y < x → Offer g r i x 0 → Offer g r j y n → ⊥
         one-node {i} {j} {x} {y} {n} same l o q =
@@ -56,7 +61,7 @@ module _ (g : Given) where
     -- 10: "an item ends past its bank's size": none does.
     pub items-end-inside : {i c p e m : ℕ} {k : Bool} → Placed g i → Sees g r i c p k → Extent g r i e → Size g c m → p + e ≤ m
     items-end-inside {i} {c} {p} {e} {m} {k} placed s x size =
-        ⊎-elim (λ (h : p + e ≤ m). h) (λ (h : m < p + e). absurd (clear i (b.ten (placed, (c, p, k, e, m, s, x, size, h)))))
+        ⊎-elim (λ (h : p + e ≤ m). h) (λ (h : m < p + e). absurd (clear i (10, i, 0, b.past-size placed s x size h)))
         (le-or-lt (p + e) m)
 
   -- ---- an accepted build

@@ -12,8 +12,9 @@ use Rattle.says.specs.Words.{First}
 use Rattle.says.specs.Build as b
 use Rattle.says.specs.Build.{Given, Lent, Outcome, banks, NoBanks, BadBank, Overlap, nodes, BadField, BadNode, Last, Runs, Unresolved}
 use Rattle.says.specs.Words.{Not}
-use Rattle.says.specs.Build.{Reads, Stops, Refuses, AtNode, Length, Spans, Padding, Left, Built, Laid, refusal, BuildSays}
+use Rattle.says.specs.Build.{Reads, Stops, Refuses, FirstWhy, Length, Spans, Padding, Left, Built, Laid, refusal, BuildSays}
 use Rattle.meets_sentences.specs.Laws.First.{none-at-all, no-pair-at-all}
+use Rattle.meets_sentences.specs.Laws.Why.{nine-to-13}
 
 module _ (g : Given) (old : Lent) where
   -- refused: a number of document 01's table, a place, the passes run, and nothing lent is changed
@@ -80,15 +81,10 @@ module _ (g : Given) (old : Lent) where
   refused-with number place second passes l m n p =
       record { number = number; place = place; second = second; passes = passes; least = l; most = m; not-six = n; bounded = p; is = refl }
 
-  at-node : {r n i : ℕ} (o : Outcome) → n ≤ max 1 (g .limit) → AtNode g old r n i o → RefusedSo o
-  at-node {n = n} {i = i} o h (w.refused x m) = refused-with 9 i 0 n (omega arith) (omega arith) (λ e. omega arith) h
-  at-node {n = n} {i = i} o h (w.passed a (w.refused x m)) = refused-with 10 i 0 n (omega arith) (omega arith) (λ e. omega arith) h
-  at-node {n = n} {i = i} o h (w.passed a (w.passed c (w.refused x m))) = refused-with 11 i 0 n (omega arith) (omega arith) (λ e. omega arith) h
-  at-node {n = n} {i = i} o h (w.passed a (w.passed c (w.passed d (w.refused x m)))) =
-      refused-with 12 (x .0) (x .1) n (omega arith) (omega arith) (λ e. omega arith) h
-  at-node {n = n} {i = i} o h (w.passed a (w.passed c (w.passed d (w.passed e (w.refused x m))))) =
-      refused-with 13 i 0 n (omega arith) (omega arith) (λ e. omega arith) h
-  at-node o h (w.passed a (w.passed c (w.passed d (w.passed e (w.passed f never))))) = absurd never
+  at-node : {r n i number place second : ℕ} → FirstWhy g r i number place second → n ≤ max 1 (g .limit) → RefusedSo (refusal g old number place second n)
+  at-node {n = n} {number = number} {place = place} {second = second} f h =
+      let e = nine-to-13 g (f .why) in
+      refused-with number place second n (omega (arith, e .0)) (omega (arith, e .1)) (λ six. omega (arith, e .0)) h
 
   least-room : (n room : ℕ) → Not (room < n) → n ≤ room
   least-room n room none = ⊎-elim (λ (h : n ≤ room). h) (λ (h : room < n). absurd (none h)) (le-or-lt n room)
@@ -99,7 +95,7 @@ module _ (g : Given) (old : Lent) where
     laid o (b.stops h l go f s w.is) = inl (stopped s (omega arith))
     laid o (b.last-stops p f s w.is) = inl (stopped s (last-bounded p))
     laid o (b.unresolved {n = n} p r u w.is) = inl (refused-with 8 0 0 n (omega arith) (omega arith) (λ e. omega arith) (last-bounded p))
-    laid o (b.built p r u q (b.refused f a)) = inl (at-node o (last-bounded p) a)
+    laid o (b.built p r u q (b.refused f w.is)) = inl (at-node f (last-bounded p))
     laid o (b.built {n = n} p r u q (b.placed clear l c (w.refused x m))) =
         inl (refused-with 14 0 0 n (omega arith) (omega arith) (λ e. omega arith) (last-bounded p))
     laid o (b.built {n = n} p r u q (b.placed clear l c (w.passed a (w.refused x m)))) =

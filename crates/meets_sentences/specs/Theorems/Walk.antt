@@ -12,7 +12,8 @@ use Rattle.says.specs.Build as b
 use Rattle.says.specs.Build.{Given, Lent, Outcome, banks, unit, nodes, kind, operand, state, Size, Align, Number, IsWritten, In}
 use Rattle.says.specs.Words.{Not}
 use Rattle.says.specs.Build.{Distance, Lead}
-use Rattle.says.specs.Build.{Advance, Known, BankAt, Sees, Reads, Unresolved, Last, Offer, Nine, Ten, Eleven}
+use Rattle.says.specs.Build.{Advance, Known, BankAt, Sees, Reads, Unresolved, Last, Offer, Why}
+use Rattle.meets_sentences.specs.Laws.Why.{nine-of, eleven-of}
 use Rattle.meets_sentences.specs.Laws.One.{in-one, number-one, lead-one, advance-one, at-one}
 use Rattle.meets_sentences.specs.Theorems.Outcomes.{AcceptedSo}
 
@@ -83,20 +84,19 @@ module _ (g : Given) where
 
   -- "9 and 10 apply to .. reserves": one that ends past its bank's size meets 10,
   pub reserve-past-its-bank : {r i c p n m : ℕ} {k : Bool} → i < nodes g → kind g i ≡ 7 → Sees g r i c p k → Number g r i n → Size g c m
-      → m < p + n → Ten g r i
-  reserve-past-its-bank {c = c} {p = p} {n = n} {m = m} {k = k} h e s num size past =
-      ((h, inr (omega arith, omega arith)), (c, p, k, n, m, s, b.item (λ two. omega arith) num, size, past))
+      → m < p + n → Why g r i 10 i 0
+  reserve-past-its-bank h e s num size past = b.past-size (h, inr (omega arith, omega arith)) s (b.item (λ two. omega arith) num) size past
 
   -- and none meets 11.
-  pub reserves-need-no-output : (r i : ℕ) → kind g i ≡ 7 → Not (Eleven g r i)
-  reserves-need-no-output r i e t = omega (arith, t .1 .1)
+  pub reserves-need-no-output : (r i : ℕ) → kind g i ≡ 7 → Not (Why g r i 11 i 0)
+  reserves-need-no-output r i e t = omega (arith, eleven-of g t refl .1 .1)
 
   -- "bank 0 is used while other banks exist"; Ticket 13: "labels, written items and reserves in bank 0 are refused even when it is alone"
-  pub bank-0-beside-others : (r i : ℕ) → i < nodes g → (kind g i ≡ 2) ⊎ ((4 ≤ kind g i) × (kind g i ≤ 7)) → In g i 0 → 1 < banks g → Nine g r i
-  bank-0-beside-others r i h k z more = ((h, k), z, inl more)
+  pub bank-0-beside-others : (r i : ℕ) → i < nodes g → (kind g i ≡ 2) ⊎ ((4 ≤ kind g i) × (kind g i ≤ 7)) → In g i 0 → 1 < banks g → Why g r i 9 i 0
+  bank-0-beside-others r i h k z more = b.bank-0 (h, k) z (inl more)
 
-  pub bank-0-closed : (r i : ℕ) → i < nodes g → (kind g i ≡ 2) ⊎ ((4 ≤ kind g i) × (kind g i ≤ 7)) → In g i 0 → 1 ≤ g .closed → Nine g r i
-  bank-0-closed r i h k z closed = ((h, k), z, inr closed)
+  pub bank-0-closed : (r i : ℕ) → i < nodes g → (kind g i ≡ 2) ⊎ ((4 ≤ kind g i) × (kind g i ≤ 7)) → In g i 0 → 1 ≤ g .closed → Why g r i 9 i 0
+  bank-0-closed r i h k z closed = b.bank-0 (h, k) z (inr closed)
 
-  pub bank-0-alone : (r i : ℕ) → banks g ≡ 1 → g .closed ≡ 0 → Not (Nine g r i)
-  bank-0-alone r i one zero-closed t = ⊎-elim (λ (h : 1 < banks g). omega arith) (λ (h : 1 ≤ g .closed). omega arith) (t .2)
+  pub bank-0-alone : (r i : ℕ) → banks g ≡ 1 → g .closed ≡ 0 → Not (Why g r i 9 i 0)
+  bank-0-alone r i one zero-closed t = ⊎-elim (λ (h : 1 < banks g). omega arith) (λ (h : 1 ≤ g .closed). omega arith) (nine-of g t refl .2)
