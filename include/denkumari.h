@@ -524,7 +524,7 @@ static inline const char *dk_words(uint64_t refusal)
  *                   `meets_convert/SameBuild.one-bank-same-build`
  * dk_to_form1       the same sentences; `meets_convert/Meets.to-form1-meets`, `meets_convert/Decides.to-form1-decides`. And again:
  *                   `meets_convert/Trips.form-2-and-again`; the same build: `meets_convert/SameBuild.plain-same-build`, `meets_convert/SameBuild.shape-same-build`
- * dk_blocks         sentences `says/DkBlocks.DkBlocksSay`; `meets_bits/Blocks.dk-blocks-meets`, `meets_bits/Blocks.dk-blocks-decides`
+ * dk_blocks         sentences `says/Blocks.DkBlocksSay`; `meets_bits/Blocks.dk-blocks-meets`, `meets_bits/Blocks.dk-blocks-decides`
  * dk_hex            sentences `says/Hex.HexSays`; `meets_bits/Hex.hex-meets`, `meets_bits/Hex.hex-decides`
  * dk_offer          sentences `says/Store.OfferSays`; `meets_store/Meets.offer-meets`, `meets_store/Decides.offer-decides`. Calls one after the other,
  *                   from an empty store: `meets_store/Demand3.stored-exactly`, `meets_store/Demand3.marked-exactly`; in any order:
@@ -533,11 +533,11 @@ static inline const char *dk_words(uint64_t refusal)
  * dk_overlay_range  sentences `says/Overlay.RangeSays`; `meets_overlay/Range.range-meets`, `meets_overlay/Range.range-decides`
  * dk_overlay_runs   sentences `says/Overlay.RunsSay`; `meets_overlay/Runs.runs-meet`, `meets_overlay/Runs.runs-decide`
  * dk_write_hex      sentences `says/Write.HexSays`; `meets_records/WriteMeets.write-hex-meets`, `meets_records/WriteDecides.write-hex-decides`. Read back:
- *                   `meets_records/Calls.hex-back`; every line sums to zero: `meets_records/Calls.hex-sums`
+ *                   `meets_records/ReadBack.hex-comes-back`; every line sums to zero: `meets_records/Checksums.hex-written-sums`
  * dk_write_srec     sentences `says/Write.SrecSays`; `meets_records/WriteMeets.write-srec-meets`, `meets_records/WriteDecides.write-srec-decides`. Read
- *                   back: `meets_records/Calls.srec-back`; checksums: `meets_records/Calls.srec-sums`
+ *                   back: `meets_records/ReadBack.srec-comes-back`; checksums: `meets_records/Checksums.srec-written-sums`
  * dk_read_records   sentences `says/Read.ReadSays`; `meets_records/ReadMeets.read-meets`, `meets_records/ReadDecides.read-decides`. Records in any order:
- *                   `meets_records/Calls.any-order`; LF or CR LF: `meets_records/Calls.either-end`
+ *                   `meets_records/SameReading.order-free`; LF or CR LF: `meets_records/SameReading.cr-lf-free`
  * dk_record_fault   sentences `says/Read.FaultSays`; `meets_records/FaultMeets.fault-meets`, `meets_records/FaultDecides.fault-decides`
  * dk_record_reason  sentences `says/Reason.DkReasonSays`; `meets_reason/Meets.dk-reason-meets`, `meets_reason/Decides.dk-reason-decides`. A reason exactly
  *                   where dk_read_records refuses 4: `meets_reason/Calls.reason-exactly`; dk_record_fault's line: `meets_reason/Calls.same-line`
