@@ -9,7 +9,8 @@
  * during the call and is then as it was: it is writable memory that no two calls share. Nothing else is asked of you: every number may have any value, and what is
  * not acceptable is refused.
  *
- * Refusals. `refusal` is 0 where the call was accepted, else one of the numbers below, and `place` (and `second`) says where. A refused call leaves every buffer
+ * Refusals. `refusal` is 0 where the call was accepted, else one of the numbers below, and `place` (and `second`) says where. An answer
+ * without `place`, of dk_part and dk_overlay_range, is refused with numbers whose place is 0. A refused call leaves every buffer
  * as it was, and every other field of its answer is 0, except `passes`, dk_offer's counts, which are those given, and dk_map's `node`, which is DK_NO_NODE. An
  * accepted call leaves the lists that it wrote as they were past what it wrote; the rest of the image is made zero, or takes the fill bits of filled banks. A
  * text that is written has no final zero byte.
@@ -375,7 +376,8 @@ struct dk_count dk_write_srec(const uint8_t *image, size_t image_len,
 /* Which records a file is read as. */
 enum dk_format { DK_INTEL_HEX = 0, DK_S_RECORDS = 1 };
 
-/* Reads a file of records: the byte at address a goes to bytes[a - load], and every other byte stays as it was. Block i is the sizes[i] bits from bit
+/* Reads a file of records: the byte at address a goes to bytes[a - load], and every other byte stays as it was. Data records may stand in any order, in Intel
+ * HEX each under the type 04 record that makes its address; type 04 and S0 records stand anywhere before the end record. Block i is the sizes[i] bits from bit
  * offsets[i] on, ascending, touching ones joined; `count` is how many there are. S-records may have either width. Refused 4 (place 0) where the format is
  * neither of the two or the file bad: a line, a byte given twice or below `load`; then 14 where `bytes` (place 0) or a list (place 2) is too short.
  * The call answers the same whatever `scratch` is, and leaves it as it was; it may be empty. Time grows with the text where records ascend, descend or stand in
@@ -406,8 +408,8 @@ enum dk_cause {
     DK_NO_START = 1,        /* a line that does not begin with a colon or, in S-records, with S; a blank line too */
     DK_NO_DIGIT = 2,        /* a character that should be a digit: its place in the line, from 0, and the character */
     DK_LINE_LENGTH = 3,     /* the line's length: its characters, and those that its count asks for; the shortest record's where it has no count */
-    DK_RECORD_COUNT = 4,    /* the count, and what its type has: 0 in type 01, 2 in type 04, 5 in S7, 3 in S9; at least 3 in S0 and S1, 5 in S3. A count
-                               below 3 in S-records is told before the checksum, every other behind the width */
+    DK_RECORD_COUNT = 4,    /* the count, and what it should be: 0 in type 01, 2 in type 04. In S-records 3 where the count is below 3, in every type and
+                               before the checksum is looked at; else, behind the width, 3 in S9, 5 in S7, at least 5 in S3 */
     DK_CHECKSUM = 5,        /* the checksum: what it is, and what it should be */
     DK_RECORD_TYPE = 6,     /* a type other than 00, 01 and 04, or S0, S1, S3, S7 and S9: the type, in S-records its character; 0 */
     DK_ADDRESS_WIDTH = 7,   /* another width than the file's: the bytes of its address, and those of the lines before it */
@@ -427,8 +429,9 @@ struct dk_reason {
     uint64_t second;
 };
 
-/* The same file, asked what is wrong with the line at fault. Nothing is refused: every text has an answer, 0 where the file is good. (A format that is
- * neither is taken for S-records here.) With `scratch` as above, it takes the time of
+/* The same file, asked what is wrong with the line at fault. Nothing is refused: every text has an answer, 0 where the file is good. Ask with the format that
+ * dk_read_records was given. A format that is neither of the two, which that call refuses with 4, is read as S-records here, so that 0 then only says that the
+ * text would be good as S-records. With `scratch` as above, it takes the time of
  * dk_record_fault and of reading the lines before the one at fault once or twice more, and where a line is below `load` those of the whole text. It needs less
  * than 2 KiB of stack (1.4 KiB). */
 struct dk_reason dk_record_reason(uint8_t format, const uint8_t *text, size_t text_len, uint32_t load,
