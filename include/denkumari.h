@@ -503,47 +503,45 @@ static inline const char *dk_words(uint64_t refusal)
 }
 #endif
 
-/* Statements. The contract of each function is a sentence, from the documents and in their numerals (crates/says). Proved are that the function says it (the
- * proof goes by `.. meets`), that it allows exactly one outcome, everything lent included (`.. decides`), and from it what people look for. crate/File.name is a
- * name of a file in crates/crate/specs; docs/STATEMENTS.md has each beside the document's words, and docs/READING.md says how to read them. Those on reading
- * and reasons speak of the formats 0 and 1 (`format < 2`).
+/* Statements. What a call promises is a sentence over its own parameters, before and after, written from the documents and in their numerals: it is the
+ * function's `ensures` in crates/denkumari/src, and each function is proved to keep it. Proved besides are that the sentence leaves one outcome, everything
+ * lent included (`.. decides`), and from it what people look for. crate/File.name is a name of a file in crates/crate/specs; docs/STATEMENTS.md has each beside
+ * the document's words, and docs/READING.md says how to read them. Those that join reading, faults and reasons speak of the formats 0 and 1 (`format < 2`).
  *
- * dk_build          sentences `says/Build.BuildSays`; `meets_build/Meets.build-meets`, `meets_sentences/Decides.build-decides`. Refused, nothing has changed:
+ * dk_build          sentence `says/Build.BuildSays`; `meets_sentences/Decides.build-decides`. Refused, nothing has changed:
  *                   `meets_sentences/Outcomes.refused-changes-nothing`. No shared bit: `meets_sentences/Image.accepted-offers-apart`; the item's own bit:
- *                   `meets_sentences/Image.item-own-bit`; every other: `meets_sentences/Image.other-bit-fill`, `meets_sentences/Image.other-bit-zero`. Padding:
- *                   `meets_sentences/Padding.padding-is-the-sum`, `meets_sentences/Padding.units-within-bits`. A raised limit:
+ *                   `meets_sentences/Image.item-own-bit`; every other: `meets_sentences/Image.other-bit-fill`, `meets_sentences/Image.other-bit-zero`.
+ *                   Padding: `meets_sentences/Padding.padding-is-the-sum`, `meets_sentences/Padding.units-within-bits`. A raised limit:
  *                   `meets_build/RaisedLimit.raised-limit-is-harmless`
- * dk_form           sentences `says/Form.FormSays`; `meets_form/FormMeets.form-meets`, `meets_form/FormDecides.form-decides`. A broken file:
- *                   `meets_form/Forms.broken-file`; bank 0: `meets_form/Forms.form-2-closes-bank-0`, `meets_form/Forms.form-1-opens-bank-0`
- * dk_profile        sentences `says/Profile.ProfileSays`; `meets_profile/Meets.profile-meets`, `meets_profile/Decides.profile-decides`. Yes and 19:
- *                   `meets_profile/Ticket9.yes-exactly`, `meets_profile/Ticket9.nineteen-exactly`
- * dk_build_paged    sentences `says/Paged.PagedSays`; `meets_profile/Meets.paged-meets`, `meets_profile/Decides.paged-decides`. After a yes the ordinary
- *                   build: `meets_profile/Meets.paged-is-build`
- * dk_form_paged     sentences `says/FormPaged.FormPagedSays`; `meets_form_paged/Meets.form-paged-meets`, `meets_form_paged/Decides.form-paged-decides`
- * dk_map            sentences `says/Map.MapSays`; `meets_map/Meets.map-meets`, `meets_map/Decides.map-decides`. Refused as the build is but for 14:
+ * dk_form           sentence `says/Form.FormSays`; `meets_form/FormDecides.form-decides`. A broken file: `meets_form/Forms.broken-file`; bank 0:
+ *                   `meets_form/Forms.form-2-closes-bank-0`, `meets_form/Forms.form-1-opens-bank-0`
+ * dk_profile        sentence `says/Profile.ProfileSays`; `meets_profile/Decides.profile-decides`. Yes and 19: `meets_profile/Ticket9.yes-exactly`,
+ *                   `meets_profile/Ticket9.nineteen-exactly`
+ * dk_build_paged    sentence `says/Paged.PagedSays`; `meets_profile/Decides.paged-decides`. After a yes the ordinary build:
+ *                   `meets_profile/Meets.paged-is-build`
+ * dk_form_paged     sentence `says/FormPaged.FormPagedSays`; `meets_form_paged/Decides.form-paged-decides`
+ * dk_map            sentence `says/Map.MapSays`; `meets_map/Decides.map-decides`. Refused as the build is but for 14:
  *                   `build_map/AsBuilt.refused-exactly-as-built`; the node at fault: `build_map/AsBuilt.fault-is-where-refused`
- * dk_to_form2       sentences `says/Convert.ConvertSays`; `meets_convert/Meets.to-form2-meets`, `meets_convert/Decides.to-form2-decides`. There and
- *                   back: `meets_convert/Trips.form-1-and-back`; the same build: `meets_convert/SameBuild.other-banks-same-build`,
- *                   `meets_convert/SameBuild.one-bank-same-build`
- * dk_to_form1       the same sentences; `meets_convert/Meets.to-form1-meets`, `meets_convert/Decides.to-form1-decides`. And again:
- *                   `meets_convert/Trips.form-2-and-again`; the same build: `meets_convert/SameBuild.plain-same-build`, `meets_convert/SameBuild.shape-same-build`
- * dk_blocks         sentences `says/Blocks.DkBlocksSay`; `meets_bits/Blocks.dk-blocks-meets`, `meets_bits/Blocks.dk-blocks-decides`
- * dk_hex            sentences `says/Hex.HexSays`; `meets_bits/Hex.hex-meets`, `meets_bits/Hex.hex-decides`
- * dk_offer          sentences `says/Store.OfferSays`; `meets_store/Meets.offer-meets`, `meets_store/Decides.offer-decides`. Calls one after the other,
- *                   from an empty store: `meets_store/Demand3.stored-exactly`, `meets_store/Demand3.marked-exactly`; in any order:
- *                   `meets_store/Order.reordered-accepted`
- * dk_part           sentences `says/Part.PartSays`; `meets_bits/Part.part-meets`, `meets_bits/Part.part-decides`
- * dk_overlay_range  sentences `says/Overlay.RangeSays`; `meets_overlay/Range.range-meets`, `meets_overlay/Range.range-decides`
- * dk_overlay_runs   sentences `says/Overlay.RunsSay`; `meets_overlay/Runs.runs-meet`, `meets_overlay/Runs.runs-decide`
- * dk_write_hex      sentences `says/Write.HexSays`; `meets_records/WriteMeets.write-hex-meets`, `meets_records/WriteDecides.write-hex-decides`. Read back:
- *                   `meets_records/ReadBack.hex-comes-back`; every line sums to zero: `meets_records/Checksums.hex-written-sums`
- * dk_write_srec     sentences `says/Write.SrecSays`; `meets_records/WriteMeets.write-srec-meets`, `meets_records/WriteDecides.write-srec-decides`. Read
- *                   back: `meets_records/ReadBack.srec-comes-back`; checksums: `meets_records/Checksums.srec-written-sums`
- * dk_read_records   sentences `says/Read.ReadSays`; `meets_records/ReadMeets.read-meets`, `meets_records/ReadDecides.read-decides`. Records in any order:
- *                   `meets_records/SameReading.order-free`; LF or CR LF: `meets_records/SameReading.cr-lf-free`
- * dk_record_fault   sentences `says/Read.FaultSays`; `meets_records/FaultMeets.fault-meets`, `meets_records/FaultDecides.fault-decides`
- * dk_record_reason  sentences `says/Reason.DkReasonSays`; `meets_reason/Meets.dk-reason-meets`, `meets_reason/Decides.dk-reason-decides`. A reason exactly
- *                   where dk_read_records refuses 4: `meets_reason/Calls.reason-exactly`; dk_record_fault's line: `meets_reason/Calls.same-line`
+ * dk_to_form2       sentence `says/Convert.ConvertSays`; `meets_convert/Decides.to-form2-decides`. There and back: `meets_convert/Trips.form-1-and-back`;
+ *                   the same build: `meets_convert/SameBuild.other-banks-same-build`, `meets_convert/SameBuild.one-bank-same-build`
+ * dk_to_form1       the same sentence; `meets_convert/Decides.to-form1-decides`. And again: `meets_convert/Trips.form-2-and-again`; the same build:
+ *                   `meets_convert/SameBuild.plain-same-build`, `meets_convert/SameBuild.shape-same-build`
+ * dk_blocks         sentence `says/Blocks.DkBlocksSay`; `meets_bits/Blocks.dk-blocks-decides`
+ * dk_hex            sentence `says/Hex.HexSays`; `meets_bits/Hex.hex-decides`
+ * dk_offer          sentence `says/Store.OfferSays`; `meets_store/Decides.offer-decides`. Calls one after the other, from an empty store:
+ *                   `meets_store/Demand3.stored-exactly`, `meets_store/Demand3.marked-exactly`; in any order: `meets_store/Order.reordered-accepted`
+ * dk_part           sentence `says/Part.PartSays`; `meets_bits/Part.part-decides`
+ * dk_overlay_range  sentence `says/Overlay.RangeSays`; `meets_overlay/Range.range-decides`
+ * dk_overlay_runs   sentence `says/Overlay.RunsSay`; `meets_overlay/Runs.runs-decide`
+ * dk_write_hex      sentence `says/Write.HexSays`; `meets_records/WriteDecides.write-hex-decides`. Read back: `meets_records/ReadBack.hex-comes-back`;
+ *                   every line sums to zero: `meets_records/Checksums.hex-written-sums`
+ * dk_write_srec     sentence `says/Write.SrecSays`; `meets_records/WriteDecides.write-srec-decides`. Read back: `meets_records/ReadBack.srec-comes-back`;
+ *                   checksums: `meets_records/Checksums.srec-written-sums`
+ * dk_read_records   sentence `says/Read.ReadSays`; `meets_records/ReadDecides.read-decides`. Records in any order: `meets_records/SameReading.order-free`;
+ *                   LF or CR LF: `meets_records/SameReading.cr-lf-free`
+ * dk_record_fault   sentence `says/Read.FaultSays`; `meets_records/FaultDecides.fault-decides`
+ * dk_record_reason  sentence `says/Reason.DkReasonSays`; `meets_reason/Decides.dk-reason-decides`. A reason exactly where dk_read_records refuses 4:
+ *                   `meets_reason/Told.refused-4-exactly`; dk_record_fault's line: `meets_reason/Told.line-is-faults`
  */
 
 #endif

@@ -322,7 +322,8 @@ def bound(lines, is_constructor):
         ln = bare(ln)
         if ' = ' in ln or ln.rstrip().endswith(' ='):
             left = ln.split(' = ')[0]
-            if ' : ' not in left:
+            # not a field of a record that is made there
+            if ' : ' not in left and all(left.count(a) == left.count(b) for a, b in ('()', '{}')):
                 names |= {x for x in re.findall(r'[^\s(){},]+', left)[1:] if not is_constructor(x)}
     return names
 

@@ -501,8 +501,8 @@ def documents():
         for crate, kind, rest in CITED.findall(line):
             is_there(kind, crate, rest, f'include/denkumari.h:{n}')
     for call in sorted(set(re.findall(r'^struct \w+ (dk_\w+)\(', header, re.M))):
-        if not re.search(rf'^ \* {call} +(the same )?sentences', header, re.M):
-            fault(f'include/denkumari.h: its statements do not name the sentences of {call}')
+        if not re.search(rf'^ \* {call} +(the same )?sentence', header, re.M):
+            fault(f'include/denkumari.h: its statements do not name the sentence of {call}')
     said = {}
     m = re.search(r'DENKUMARI_VERSION "([^"]+)"', read('include/denkumari.h'))
     said['include/denkumari.h'] = m.group(1) if m else 'none'
