@@ -26,12 +26,12 @@ StartPast bank = (1099511627776 < eight bank 2) × (eight bank 2 < 1844674297419
 
 -- What becomes of a refusal's number and place, of a file with this payload of its bank, so many rows and this choice of the fill. No other refusal comes.
 pub data Risen (bank : List ℕ) (rows fill : ℕ) : (number place second place′ second′ : ℕ) → Type 0 where
-  -- 2: "a bad unit or start stays `2 0`"
+  -- 2: a bad unit or start stays bank 0's, whose record keeps both
   bank-0 : (two bank 0 ≡ 0) ⊎ StartPast bank → Risen bank rows fill 2 0 0 0 0
-  -- "2 becomes bank 1's only for a filled bank of size 0": flags, "size 1 .. fill 8"
+  -- 2: for "a filled bank has size 0" it becomes bank 1's; flags: "size 1, offset 2, label alignment 4, fill 8"
   bank-1 : (two bank 0 ≡ 0 → ⊥) → (StartPast bank → ⊥) → getD bank 22 0 / 8 % 2 ≡ 1 → getD bank 22 0 % 2 ≡ 1 → four bank 10 ≡ 0
       → Risen bank rows fill 2 0 0 1 0
-  -- 4: "Fields of 4 .. stay"
+  -- 4: the field of the row count and that of the choice stay
   row-count : (rows ≡ 0) ⊎ (16 < rows) → Risen bank rows fill 4 1 0 1 0
   choice : 1 < fill → Risen bank rows fill 4 3 0 3 0
   -- "node numbers in places rise by one"
@@ -41,7 +41,7 @@ pub data Risen (bank : List ℕ) (rows fill : ℕ) : (number place second place�
   node-10 : (i : ℕ) → Risen bank rows fill 10 i 0 (suc i) 0
   node-11 : (i : ℕ) → Risen bank rows fill 11 i 0 (suc i) 0
   node-13 : (i : ℕ) → Risen bank rows fill 13 i 0 (suc i) 0
-  -- "the places of 8, 12, 14 stay"
+  -- 8, 12 and 14 name no node: their places stay
   stays-8 : Risen bank rows fill 8 0 0 0 0
   stays-12 : (start size : ℕ) → Risen bank rows fill 12 start size start size
   stays-14 : (buffer : ℕ) → Risen bank rows fill 14 buffer 0 buffer 0
@@ -54,7 +54,7 @@ pub data PagedRisen (bank : List ℕ) (rows fill : ℕ) : (number place second p
   page-size : PagedRisen bank rows fill 19 1 0 1 0
   -- alignments: bank 0's becomes bank 1's, a node rises by one
   alignment : (at : ℕ) → PagedRisen bank rows fill 19 2 at 2 (suc at)
-  -- "In 19 rule 5 stays bank 0's, other banks become 1"
+  -- of the rules on banks the unit's stays bank 0's, whose record keeps it; offset and size become bank 1's
   offset : PagedRisen bank rows fill 19 3 0 3 1
   size : PagedRisen bank rows fill 19 4 0 4 1
   unit : PagedRisen bank rows fill 19 5 0 5 0
@@ -68,7 +68,7 @@ unpadded = record { bits = 0; units = 0 }
 
 module _ (Rise : (number place second place′ second′ : ℕ) → Type 0) where
   pub data Answers : DkLayout → DkLayout → Type 0 where
-    -- the same K, passes, length of the image and number of spans; "Bank 1 has bank 0's padding, bank 0 none."
+    -- the same K, passes, length of the image and number of spans; bank 1 has the padding that bank 0 had, bank 0 none
     accepted : {n k bits spans : ℕ} {sums : List Lost}
         → Answers (record { refusal = 0; place = 0; second = 0; passes = n; k = k; length = bits; spans = spans; padding = sums })
         (record {

@@ -1,4 +1,3 @@
-pub mod Calls
 pub mod Decides
 pub mod Meets
 pub mod Told

@@ -1,5 +1,5 @@
 -- What `dk_to_form2` and `dk_to_form1` say, from document 02, Tickets 7 and 13: what the fields of a file become in the other form, and in which order a
--- call is refused. What a file is says says_form/specs/Files. To be read instead of the definitions.
+-- call is refused. What a file is stands in Files.
 use mathlib.Core.Path.{_≡_}
 use mathlib.Core.List.{List, [], _∷_, _++_}
 use mathlib.Core.Logic.{_⊎_}

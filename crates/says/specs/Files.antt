@@ -78,29 +78,29 @@ pub record Sound (f : Form) (file : List ℕ) (h : Held) : Type 0 where
   pub fits : Fits f h
 
 -- ---- broken files. A whole field of this tag and length begins at byte `at`.
-abbrev pub Whole : (file : List ℕ) (at tag len : ℕ) → Type 0
-Whole file at tag len =
+abbrev pub FieldAt : (file : List ℕ) (at tag len : ℕ) → Type 0
+FieldAt file at tag len =
     (at + 3 + len ≤ length file) × (getD file at 0 ≡ tag) × (getD file (at + 1) 0 * 256 + getD file (at + 2) 0 ≡ len)
 
 -- The first `count` fields are a head, banks, nodes and rows with which a file of the form may begin, so many of each; the next field begins at `at`.
 -- A bank comes before nodes and rows, a node before rows.
 pub data Front (file : List ℕ) : Form → (count at banks nodes rows : ℕ) → Type 0 where
   begins-1 : Front file form-1 0 0 0 0 0
-  begins-2 : Whole file 0 16 1 → getD file 3 0 ≡ 2 → Front file form-2 1 4 0 0 0
-  bank-1 : {c at b : ℕ} → Front file form-1 c at b 0 0 → Whole file at 1 23 → getD file (at + 25) 0 ≤ 15 → Front file form-1 (suc c) (at + 26) (suc b) 0 0
-  bank-2 : {c at b : ℕ} → Front file form-2 c at b 0 0 → Whole file at 17 24 → getD file (at + 25) 0 ≤ 15 → getD file (at + 26) 0 ≤ 1
+  begins-2 : FieldAt file 0 16 1 → getD file 3 0 ≡ 2 → Front file form-2 1 4 0 0 0
+  bank-1 : {c at b : ℕ} → Front file form-1 c at b 0 0 → FieldAt file at 1 23 → getD file (at + 25) 0 ≤ 15 → Front file form-1 (suc c) (at + 26) (suc b) 0 0
+  bank-2 : {c at b : ℕ} → Front file form-2 c at b 0 0 → FieldAt file at 17 24 → getD file (at + 25) 0 ≤ 15 → getD file (at + 26) 0 ≤ 1
       → Front file form-2 (suc c) (at + 27) (suc b) 0 0
-  node : {f : Form} {c at b n : ℕ} → Front file f c at b n 0 → Whole file at 2 5 → Front file f (suc c) (at + 8) b (suc n) 0
-  row : {f : Form} {c at b n r : ℕ} → Front file f c at b n r → Whole file at 3 (5 * n) → Front file f (suc c) (at + (3 + 5 * n)) b n (suc r)
+  node : {f : Form} {c at b n : ℕ} → Front file f c at b n 0 → FieldAt file at 2 5 → Front file f (suc c) (at + 8) b (suc n) 0
+  row : {f : Form} {c at b n r : ℕ} → Front file f c at b n r → FieldAt file at 3 (5 * n) → Front file f (suc c) (at + (3 + 5 * n)) b n (suc r)
 
 -- Field i, from 0, and all before it are such as a file of the form may begin with.
-pub data Good (f : Form) (file : List ℕ) : ℕ → Type 0 where
-  front : {i at b n r : ℕ} → Front file f (suc i) at b n r → Good f file i
-  values : {i at b n r v : ℕ} → Front file f i at b n r → Whole file at 4 v → Good f file i
-  limit : {i at b n r v : ℕ} → Front file f i at b n r → Whole file at 4 v → Whole file (at + 3 + v) 5 1 → Good f file (suc i)
+pub data GoodField (f : Form) (file : List ℕ) : ℕ → Type 0 where
+  front : {i at b n r : ℕ} → Front file f (suc i) at b n r → GoodField f file i
+  values : {i at b n r v : ℕ} → Front file f i at b n r → FieldAt file at 4 v → GoodField f file i
+  limit : {i at b n r v : ℕ} → Front file f i at b n r → FieldAt file at 4 v → FieldAt file (at + 3 + v) 5 1 → GoodField f file (suc i)
 
 -- "A broken file (a field missing, unknown, out of order or extra, a wrong length, flags above 15) is 4 with the first such field's index, from 0";
 -- "longer: 4, place 0"
 pub data Broken (f : Form) (file : List ℕ) : ℕ → Type 0 where
   long : longest f < length file → Broken f file 0
-  at-field : {i : ℕ} → length file ≤ longest f → ((h : Held) → Sound f file h → ⊥) → First (λ k. Good f file k → ⊥) i → Broken f file i
+  at-field : {i : ℕ} → length file ≤ longest f → ((h : Held) → Sound f file h → ⊥) → First (λ k. GoodField f file k → ⊥) i → Broken f file i

@@ -1,5 +1,5 @@
--- What `dk_form` says, from documents 01 and 02: which bytes of a file say which layout, and of that layout what `dk_build` says
--- (says_build/specs/Build). To be read instead of the definitions.
+-- What `dk_form` says, from documents 01 and 02: which bytes of a file say which layout (what a file is stands in Files), and of that layout what `dk_build`
+-- says (Build).
 use mathlib.Core.Path.{_≡_}
 use mathlib.Core.List.{List, []}
 use Prim.Native.Nat.{ℕ, _+_, _*_, _≤_, _<_}

@@ -1,5 +1,5 @@
--- What `dk_form_paged` says, from document 02, Ticket 9: which bytes of a file say which layout is as in `dk_form` (says_form/specs/Form), and of that layout
--- what `dk_build_paged` says (says_profile/specs/Paged). To be read instead of the definitions.
+-- What `dk_form_paged` says, from document 02, Ticket 9: which bytes of a file say which layout is as in `dk_form` (Form), and of that layout what
+-- `dk_build_paged` says (Paged).
 use mathlib.Core.List.{List}
 use Prim.Native.Nat.{ℕ}
 use Rattle.says.specs.Words.{Is}

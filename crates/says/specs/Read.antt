@@ -1,4 +1,4 @@
--- What `dk_read_records` and `dk_record_fault` say, from document 02, Tickets 1 and 12. To be read instead of the definitions.
+-- What `dk_read_records` and `dk_record_fault` say, from document 02, Tickets 1 and 12.
 use mathlib.Core.Path.{_≡_}
 use mathlib.Core.List.{List, [], _∷_}
 use mathlib.Core.Logic.{_⊎_}
@@ -16,7 +16,7 @@ pub data HexLines : (in-force : ℕ) → List (List ℕ) → List Piece → Type
   end : {u : ℕ} {l : List ℕ} → Hex either l 1 0 [] → HexLines u (l ∷ []) []
   piece : {u field : ℕ} {l : List ℕ} {ls : List (List ℕ)} {p : Piece} {ps : List Piece} → Hex either l 0 field (p .bytes)
       → p .address ≡ 65536 * u + field → HexLines u ls ps → HexLines u (l ∷ ls) (p ∷ ps)
-  upper : {u a b : ℕ} {l : List ℕ} {ls : List (List ℕ)} {ps : List Piece} → Hex either l 4 0 (a ∷ b ∷ []) → HexLines (256 * a + b) ls ps
+  upper-half : {u a b : ℕ} {l : List ℕ} {ls : List (List ℕ)} {ps : List Piece} → Hex either l 4 0 (a ∷ b ∷ []) → HexLines (256 * a + b) ls ps
       → HexLines u (l ∷ ls) ps
 
 -- S-records of one width; the end record has any address. "A header record S0 is read and skipped."

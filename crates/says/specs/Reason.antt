@@ -1,4 +1,4 @@
--- What `dk_record_reason` says, from document 02, Tickets 1 and 12, in the words of `dk_record_fault`. To be read instead of the definitions.
+-- What `dk_record_reason` says, from document 02, Tickets 1 and 12, in the words of `dk_record_fault`.
 use mathlib.Core.Path.{_≡_}
 use mathlib.Core.List.{List, [], _∷_, _++_}
 use mathlib.Core.Logic.{_⊎_}
@@ -9,7 +9,7 @@ use Rattle.c_answers.specs.declared.DkReason.{DkReason}
 use Rattle.says.specs.Words.{Tries, First, FirstPair, At, Not}
 use Rattle.says.specs.Records.{either, Lines, Digit, Spells, total, Hex, IsS, Srec, Width}
 
--- "(A format that is neither is taken for S-records.)" (include/denkumari.h): nothing is refused here, and only whether it is 0 is asked
+-- Nothing is refused here: format 0 is Intel HEX, and every other number is taken for S-records (docs/DECISIONS.md)
 module _ (format : ℕ) where
   -- ---- one line after the other. In force is the upper half of addresses; in S-records the width of those before, 0 where there are none. A data line: its
   -- piece, what is in force behind it, and the first address that doesn't fit
@@ -17,15 +17,15 @@ module _ (format : ℕ) where
     hex : {field : ℕ} {p : Piece} → format ≡ 0 → Hex either l 0 field (p .bytes) → p .address ≡ 65536 * s + field → DataLine s l s 4294967296 p
     s-record : {d e w m : ℕ} {p : Piece} → Not (format ≡ 0) → Width d e w m → (s ≡ 0) ⊎ (s ≡ w) → Srec either l d w (p .address) (p .bytes) → DataLine s l w m p
 
-  -- "lines that are bad give none": an S-record whose last address doesn't fit its width is one, an Intel HEX record is not bad by that alone
+  -- A line that is bad gives none: an S-record whose last address doesn't fit its width is one, an Intel HEX record is not bad by that alone
   pub data LineGives (s : ℕ) (l : List ℕ) : (after : ℕ) → Piece → Type 0 where
     line-gives : {after top : ℕ} {p : Piece} → DataLine s l after top p → (format ≡ 0) ⊎ (p .address + length (p .bytes) ≤ top) → LineGives s l after p
 
-  -- what is in force behind a line; bad ones "leave the upper half or the width in force as it is", and so do all others
+  -- what is in force behind a line: bad ones leave the upper half or the width in force as it is, and so do all others
   pub data After (s : ℕ) (l : List ℕ) : ℕ → Type 0 where
     gave : {after : ℕ} {p : Piece} → LineGives s l after p → After s l after
-    upper : {a b : ℕ} → format ≡ 0 → Hex either l 4 0 (a ∷ b ∷ []) → After s l (256 * a + b)
-    other : ((after : ℕ) (p : Piece) → Not (LineGives s l after p)) → ((a b : ℕ) → format ≡ 0 → Not (Hex either l 4 0 (a ∷ b ∷ []))) → After s l s
+    upper-half : {a b : ℕ} → format ≡ 0 → Hex either l 4 0 (a ∷ b ∷ []) → After s l (256 * a + b)
+    neither : ((after : ℕ) (p : Piece) → Not (LineGives s l after p)) → ((a b : ℕ) → format ≡ 0 → Not (Hex either l 4 0 (a ∷ b ∷ []))) → After s l s
 
   -- line k of some, from 0, where s is in force at the first: what is in force there, and its characters
   pub data LineAt : (s : ℕ) (ls : List (List ℕ)) (k at : ℕ) (l : List ℕ) → Type 0 where
@@ -37,9 +37,9 @@ module _ (format : ℕ) where
     gives-to : {s t : ℕ} {l : List ℕ} {p : Piece} → LineAt 0 ls k s l → LineGives s l t p → p .address ≤ a → a < p .address + length (p .bytes) → GivesTo ls k a
 
   -- ---- how a line is spelled. The characters before the digits, those of a line whose count is 0, and the least count
-  pub data Form : (from bare least : ℕ) → Type 0 where
-    hex : format ≡ 0 → Form 1 11 0
-    s-records : Not (format ≡ 0) → Form 2 4 3
+  pub data Spelling : (from bare least : ℕ) → Type 0 where
+    hex : format ≡ 0 → Spelling 1 11 0
+    s-records : Not (format ≡ 0) → Spelling 2 4 3
 
   -- "Bytes of a record, checksum included, sum to zero and wrap at 256"; "the ones' complement of the low byte of the sum"
   pub data Checksum (sum c : ℕ) : Type 0 where
@@ -51,7 +51,7 @@ module _ (format : ℕ) where
       hex : format ≡ 0 → Hex either l 1 0 [] → EndRecord
       s-record : {d e w top address : ℕ} → Not (format ≡ 0) → Width d e w top → Srec either l e w address [] → EndRecord
 
-    -- a colon, or S "in either case"
+    -- a colon, or S in either letter case
     pub data Starts : Type 0 where
       colon : format ≡ 0 → At l 0 58 → Starts
       letter : {c : ℕ} → Not (format ≡ 0) → At l 0 c → IsS either c → Starts
@@ -78,16 +78,16 @@ module _ (format : ℕ) where
       hex : {f : ℕ} {b : List ℕ} → format ≡ 0 → Hex either l t f b → Not (t ≡ 0) → Not (t ≡ 1) → Not (t ≡ 4) → OtherType t
       s-record : Not (format ≡ 0) → At l 1 t → Not (t ≡ 48) → Not (t ≡ 49) → Not (t ≡ 51) → Not (t ≡ 55) → Not (t ≡ 57) → OtherType t
 
-    -- "one width in a file, the end record of the same"
+    -- there is one width in a file, and the end record has the same
     pub data OtherWidth (s w : ℕ) : Type 0 where
       other-width : {d e top t : ℕ} → Not (format ≡ 0) → Width d e w top → At l 1 t → (t ≡ d) ⊎ (t ≡ e) → Not (s ≡ 0) → Not (s ≡ w) → OtherWidth s w
 
-    -- the count, and what it should be: "0 in type 01, 2 in type 04, 5 in S7, 3 in S9; at least 3 in S0 and S1, 5 in S3"
+    -- the count, and what it should be (one below 3 in S-records is told before): "0 in type 01, 2 in type 04, 5 in S7, 3 in S9; at least 3 in S0 and S1, 5 in S3"
     pub data OtherCount (c m : ℕ) : Type 0 where
       hex : {t f : ℕ} {b : List ℕ} → format ≡ 0 → Hex either l t f b → ((t ≡ 1) × (m ≡ 0)) ⊎ ((t ≡ 4) × (m ≡ 2)) → c ≡ length b → Not (c ≡ m) → OtherCount c m
       s-record : {d e w top : ℕ} → Not (format ≡ 0) → Width d e w top → Count 2 c → m ≡ w + 1 → (At l 1 d × (c < m)) ⊎ (At l 1 e × Not (c ≡ m)) → OtherCount c m
 
-    -- "address field 0000"
+    -- the address field of types 01 and 04 is 0000
     pub data OtherField (f : ℕ) : Type 0 where
       other-field : {t : ℕ} {b : List ℕ} → format ≡ 0 → Hex either l t f b → (t ≡ 1) ⊎ (t ≡ 4) → Not (f ≡ 0) → OtherField f
 
@@ -109,10 +109,10 @@ module _ (format : ℕ) where
     pub data Twice : DkReason → Type 0 where
       twice : {i a : ℕ} → FirstPair (λ (k x : ℕ). (k < n) × GivesTo ls k x × GivesTo ls n x) i a → Twice (why 11 i a)
 
-    -- "its first character, digits, length, a count below 3 in S-records, checksum, type, width, count, address field, past the last address, below the load
-    -- address, given twice"
+    -- in this order: its first character, digits, length, a count below 3 in S-records, checksum, type, width, count, address field, past the last address,
+    -- below the load address, given twice
     pub data LineSays (y : DkReason) : Type 0 where
-      line-says : {s from bare least : ℕ} {l : List ℕ} → LineAt 0 ls n s l → Form from bare least
+      line-says : {s from bare least : ℕ} {l : List ℕ} → LineAt 0 ls n s l → Spelling from bare least
           → Tries (λ (_ : Unit {0}). Not (Starts l)) (λ _. why 1 0 0)
           (Tries (First (NoDigit l from)) (λ k. why 2 k (getD l k 0))
           (Tries (λ (m : ℕ). Long l from bare least m × Not (length l ≡ m)) (λ m. why 3 (length l) m)

@@ -1,4 +1,4 @@
--- What `dk_write_hex` and `dk_write_srec` say, from document 02, Tickets 1 and 12. To be read instead of the definitions.
+-- What `dk_write_hex` and `dk_write_srec` say, from document 02, Tickets 1 and 12.
 use mathlib.Core.Path.{_≡_}
 use mathlib.Core.List.{List, [], _∷_, _++_}
 use Prim.Native.Nat.{ℕ, suc, _+_, _*_, _≤_, _<_, _/_, _%_}
@@ -36,21 +36,21 @@ pub data SrecText (data-digit end-digit width : ℕ) : List Piece → (text : Li
 
 module _ (g : Given) where
   -- block i: its first bit and how many
-  abbrev pub Block : ℕ → ℕ → ℕ → Type 0
-  Block i o s = (i < length (g .offsets)) × (i < length (g .sizes)) × (o ≡ getD (g .offsets) i 0) × (s ≡ getD (g .sizes) i 0)
+  abbrev pub BlockAt : ℕ → ℕ → ℕ → Type 0
+  BlockAt i o s = (i < length (g .offsets)) × (i < length (g .sizes)) × (o ≡ getD (g .offsets) i 0) × (s ≡ getD (g .sizes) i 0)
 
   -- "16 for a block by document 01's rule": empty, not on byte edges, outside the image
   pub data BadPart : Type 0 where
-    empty : {i o : ℕ} → Block i o 0 → BadPart
-    offset : {i o s : ℕ} → Block i o s → Not (o % 8 ≡ 0) → BadPart
-    size : {i o s : ℕ} → Block i o s → Not (s % 8 ≡ 0) → BadPart
-    outside : {i o s : ℕ} → Block i o s → 8 * length (g .image) < o + s → BadPart
+    empty : {i o : ℕ} → BlockAt i o 0 → BadPart
+    offset : {i o s : ℕ} → BlockAt i o s → Not (o % 8 ≡ 0) → BadPart
+    size : {i o s : ℕ} → BlockAt i o s → Not (s % 8 ≡ 0) → BadPart
+    outside : {i o s : ℕ} → BlockAt i o s → 8 * length (g .image) < o + s → BadPart
 
   -- "4 for blocks not ascending or sharing a bit, an address past 2^32 - 1"; lists of different lengths are 4 too. `top`: the first address that doesn't fit
   pub data BadPlace (top : ℕ) : Type 0 where
     lengths : Not (length (g .offsets) ≡ length (g .sizes)) → BadPlace top
-    order : {i o s p n : ℕ} → Block i o s → Block (suc i) p n → p < o + s → BadPlace top
-    past : {i o s : ℕ} → Block i o s → top < g .load + (o + s) / 8 → BadPlace top
+    order : {i o s p n : ℕ} → BlockAt i o s → BlockAt (suc i) p n → p < o + s → BadPlace top
+    past : {i o s : ℕ} → BlockAt i o s → top < g .load + (o + s) / 8 → BadPlace top
 
   -- The cut of a block, here of the image's bytes from `at` to `stop`: each record "as long as 16 bytes, its block and its 64 KiB line allow". "The
   -- first byte of a block goes to a load address from the caller plus offset / 8."

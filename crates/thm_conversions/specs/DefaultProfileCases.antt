@@ -33,11 +33,11 @@ pub record RaisedCases : Type 0 where
   pub kept : both (bank 8 (Some 32) (Some 48) (Some 8)) (nodes 8 8) 16 ≡ (Accepted, Accepted)
   -- "page size (place 0)" stays
   pub page-24 : both (bank 8 (Some 32) (Some 48) (Some 8)) (nodes 8 8) 24 ≡ (Refused (OffProfile 1 0), Refused (OffProfile 1 0))
-  -- "other banks become 1"
+  -- other rules on banks become bank 1's
   pub label-6 : both (bank 8 (Some 32) (Some 48) (Some 6)) (nodes 8 8) 16 ≡ (Refused (OffProfile 2 0), Refused (OffProfile 2 1))
   pub offset-8 : both (bank 8 (Some 32) (Some 8) None) (nodes 8 8) 16 ≡ (Refused (OffProfile 3 0), Refused (OffProfile 3 1))
   pub unsized : both (bank 8 None (Some 48) None) (nodes 8 8) 16 ≡ (Refused (OffProfile 4 0), Refused (OffProfile 4 1))
-  -- "rule 5 stays bank 0's"
+  -- rule 5 stays bank 0's
   pub unit-10 : both (bank 10 None None None) (nodes 8 8) 16 ≡ (Refused (OffProfile 5 0), Refused (OffProfile 5 0))
   -- nodes are one higher
   pub align-12 : both (bank 8 None None None) (nodes 8 12) 16 ≡ (Refused (OffProfile 2 1), Refused (OffProfile 2 2))

@@ -18,7 +18,7 @@ pub data PagedRises (b : Input) : Refusal → Refusal → Type 0 where
   page-size : PagedRises b (OffProfile 1 0) (OffProfile 1 0)
   -- of alignments bank 0's becomes bank 1's, and a node rises by one
   alignment : (at : ℕ) → PagedRises b (OffProfile 2 at) (OffProfile 2 (suc at))
-  -- "In 19 rule 5 stays bank 0's, other banks become 1"
+  -- rule 5 stays bank 0's, other banks become 1
   offset : PagedRises b (OffProfile 3 0) (OffProfile 3 1)
   size : PagedRises b (OffProfile 4 0) (OffProfile 4 1)
   unit : PagedRises b (OffProfile 5 0) (OffProfile 5 0)

@@ -1,4 +1,5 @@
--- "On the way back a one-bank form 2 file that uses bank 0 goes from 9 to accepted": one bank of unit 8, a reserve of 8 bits, limit 1, in both forms.
+-- A one-bank form 2 file that uses bank 0 is refused 9, and is accepted once it has gone back to form 1 (docs/DECISIONS.md): one bank of unit 8, a reserve of
+-- 8 bits, limit 1, in both forms.
 use mathlib.Core.Path.{_≡_, refl, ap, _∙_}
 use mathlib.Core.Bool.{Bool, true, _&&_}
 use mathlib.Core.List.{List, [], _∷_}

@@ -1,4 +1,4 @@
--- There and back over two calls of the exported functions. "Form 1 to 2 to 1 gives the same bytes; form 2 to 1 to 2 does too, for every file that can go
+-- There and back, over two calls by their sentences alone. "Form 1 to 2 to 1 gives the same bytes; form 2 to 1 to 2 does too, for every file that can go
 -- back" (document 02, Ticket 7), and what Ticket 13 and a full file except.
 use mathlib.Core.Path.{_≡_, refl, sym, ap, subst, _∙_}
 use mathlib.Core.Bool.{Bool, true, false}
@@ -92,7 +92,7 @@ form-2-and-again file out v small first zero none old w room again =
 
 -- ---- the exceptions
 
--- "a one-bank form 2 file of 4,096 nodes goes back, and coming again is refused 4"
+-- a one-bank form 2 file of 4,096 nodes goes back, and coming again is refused 4 (docs/DECISIONS.md)
 pub full-file-not-again : (file out : List ℕ) (v : Outcome) → Bytes file → ConvertSays form-2 file out v → v .answer .refusal ≡ 0
     → (h : Held) → Sound form-2 file h → length (h .banks) ≡ 1 → length (h .nodes) ≡ 4096
     → (old : List ℕ) (w : Outcome) → ConvertSays form-1 (made v) old w

@@ -25,7 +25,7 @@ use Rattle.form_fields.specs.Shape.{valuesSizeIn, limitStartIn, fieldsBeforeIn,
 use Rattle.form_fields.specs.Words.{byte, word16}
 use Rattle.says.specs.Words.{First}
 use Rattle.says.specs.Files as files
-use Rattle.says.specs.Files.{Form, form-1, form-2, longest, Held, Sound, Whole, Front, Good, Broken}
+use Rattle.says.specs.Files.{Form, form-1, form-2, longest, Held, Sound, FieldAt, Front, GoodField, Broken}
 use Rattle.meets_form.specs.Laws.Written.{kind, longest-same, sound-form}
 
 module _ (file : List ℕ) where
@@ -35,11 +35,11 @@ module _ (file : List ℕ) where
   unfolding word16
   word-is at = ap (λ (n : ℕ). getD file (at + 1) 0 * 256 + getD file n 0) {x = at + 1 + 1} {y = at + 2} (omega arith)
 
-  pub whole-of : (at tag len : ℕ) → fieldAt file tag len at ≡ true → Whole file at tag len
+  pub whole-of : (at tag len : ℕ) → fieldAt file tag len at ≡ true → FieldAt file at tag len
   whole-of at tag len e =
       (field-ends file tag len at e, field-tag file tag len at e, sym (word-is at) ∙ field-len file tag len at e)
 
-  pub field-of : (at tag len : ℕ) → Whole file at tag len → fieldAt file tag len at ≡ true
+  pub field-of : (at tag len : ℕ) → FieldAt file at tag len → fieldAt file tag len at ≡ true
   unfolding fieldAt
   field-of at tag len w =
       rw (
@@ -49,14 +49,14 @@ module _ (file : List ℕ) where
       )
 
   -- a bank's
-  bank-1-of : (at : ℕ) → soundAt file 1 23 at ≡ true → Whole file at 1 23 × (getD file (at + 25) 0 ≤ 15)
+  bank-1-of : (at : ℕ) → soundAt file 1 23 at ≡ true → FieldAt file at 1 23 × (getD file (at + 25) 0 ≤ 15)
   unfolding soundAt
   bank-1-of at e =
       let p = both (fieldAt file 1 23 at) (leb (byte file (at + 2 + 23)) 15) e in
       let same : getD file (at + 25) 0 ≡ getD file (at + 2 + 23) 0 = ap (λ (n : ℕ). getD file n 0) (omega arith) in
       (whole-of at 1 23 (p .0), omega (arith, same, leb-true (byte file (at + 2 + 23)) 15 (p .1)))
 
-  bank-2-of : (at : ℕ) → soundAt file 17 24 at ≡ true → Whole file at 17 24 × (getD file (at + 25) 0 ≤ 15) × (getD file (at + 26) 0 ≤ 1)
+  bank-2-of : (at : ℕ) → soundAt file 17 24 at ≡ true → FieldAt file at 17 24 × (getD file (at + 25) 0 ≤ 15) × (getD file (at + 26) 0 ≤ 1)
   unfolding soundAt
   bank-2-of at e =
       let p = both (fieldAt file 17 24 at) (leb (byte file (at + 1 + 24)) 15 && leb (byte file (at + 2 + 24)) 1) e in
@@ -68,13 +68,13 @@ module _ (file : List ℕ) where
         omega (arith, bit, leb-true (byte file (at + 2 + 24)) 1 (q .1)),
       )
 
-  bank-1-sound : (at : ℕ) → Whole file at 1 23 → getD file (at + 25) 0 ≤ 15 → soundAt file 1 23 at ≡ true
+  bank-1-sound : (at : ℕ) → FieldAt file at 1 23 → getD file (at + 25) 0 ≤ 15 → soundAt file 1 23 at ≡ true
   unfolding soundAt
   bank-1-sound at w flags =
       let same : getD file (at + 25) 0 ≡ getD file (at + 2 + 23) 0 = ap (λ (n : ℕ). getD file n 0) (omega arith) in
       rw (field-of at 1 23 w, le-leb (byte file (at + 2 + 23)) 15 (omega (arith, same)))
 
-  bank-2-sound : (at : ℕ) → Whole file at 17 24 → getD file (at + 25) 0 ≤ 15 → getD file (at + 26) 0 ≤ 1 → soundAt file 17 24 at ≡ true
+  bank-2-sound : (at : ℕ) → FieldAt file at 17 24 → getD file (at + 25) 0 ≤ 15 → getD file (at + 26) 0 ≤ 1 → soundAt file 17 24 at ≡ true
   unfolding soundAt
   bank-2-sound at w flags bit =
       let f : getD file (at + 25) 0 ≡ getD file (at + 1 + 24) 0 = ap (λ (n : ℕ). getD file n 0) (omega arith) in
@@ -82,11 +82,11 @@ module _ (file : List ℕ) where
       rw (field-of at 17 24 w, le-leb (byte file (at + 1 + 24)) 15 (omega (arith, f)), le-leb (byte file (at + 2 + 24)) 1 (omega (arith, b)))
 
   -- of a node or a row nothing more is asked
-  node-sound : (at : ℕ) → Whole file at 2 5 → soundAt file 2 5 at ≡ true
+  node-sound : (at : ℕ) → FieldAt file at 2 5 → soundAt file 2 5 at ≡ true
   unfolding soundAt
   node-sound at w = rw (field-of at 2 5 w)
 
-  row-sound : (at n : ℕ) → Whole file at 3 (5 * n) → soundAt file 3 (5 * n) at ≡ true
+  row-sound : (at n : ℕ) → FieldAt file at 3 (5 * n) → soundAt file 3 (5 * n) at ≡ true
   unfolding soundAt
   row-sound at n w = rw (field-of at 3 (5 * n) w)
 
@@ -308,26 +308,26 @@ module _ (file : List ℕ) where
           }
 
   -- Before every field with which a file goes on stands one.
-  pub good-below : {f : Form} (i : ℕ) → Good f file (suc i) → Good f file i
+  pub good-below : {f : Form} (i : ℕ) → GoodField f file (suc i) → GoodField f file i
   good-below {f} i g = by g (suc i) refl
     where
-      front-of : (j at b n r : ℕ) → Front file f j at b n r → j ≡ suc i → Good f file i
+      front-of : (j at b n r : ℕ) → Front file f j at b n r → j ≡ suc i → GoodField f file i
       front-of j at b n r g e = files.front (moved e refl refl refl refl g)
 
-      by : {j : ℕ} → Good f file j → (m : ℕ) → j ≡ suc i → Good f file i
+      by : {j : ℕ} → GoodField f file j → (m : ℕ) → j ≡ suc i → GoodField f file i
       by (files.front {i = j} {at} {b} {n} {r} g) m e = back (came g (suc i) (ap suc e))
         where
-          back : Came f (suc i) at b n r → Good f file i
+          back : Came f (suc i) at b n r → GoodField f file i
           back (first p z q u v w) = absurd (omega (arith, z))
           back (later x) = files.front (x .was)
       by (files.values {i = j} {at} {b} {n} {r} g w) m e = front-of j at b n r g e
       by (files.limit {i = j} g v w) m e = files.values {i = i} (moved (omega (arith, e)) refl refl refl refl g) v
 
-  good-down : {f : Form} (k i : ℕ) → Good f file (i + k) → Good f file i
-  good-down {f} zero i g = subst (Good f file) (omega arith) g
-  good-down {f} (suc k) i g = good-down k i (good-below (i + k) (subst (Good f file) (omega arith) g))
+  good-down : {f : Form} (k i : ℕ) → GoodField f file (i + k) → GoodField f file i
+  good-down {f} zero i g = subst (GoodField f file) (omega arith) g
+  good-down {f} (suc k) i g = good-down k i (good-below (i + k) (subst (GoodField f file) (omega arith) g))
 
-  good-before : {f : Form} (i j : ℕ) → i ≤ j → Good f file j → Good f file i
+  good-before : {f : Form} (i j : ℕ) → i ≤ j → GoodField f file j → GoodField f file i
   good-before {f} i j h g = go (split i j h)
     where
       split : (i j : ℕ) → i ≤ j → (k : ℕ) × (j ≡ i + k)
@@ -335,8 +335,8 @@ module _ (file : List ℕ) where
       split (suc i) zero h = absurd (omega arith)
       split (suc i) (suc j) h = let p = split i j (omega arith) in (p .0, ap suc (p .1) ∙ omega arith)
 
-      go : (k : ℕ) × (j ≡ i + k) → Good f file i
-      go p = good-down (p .0) i (subst (Good f file) (p .1) g)
+      go : (k : ℕ) × (j ≡ i + k) → GoodField f file i
+      go p = good-down (p .0) i (subst (GoodField f file) (p .1) g)
 
   -- ---- behind the counted fields
 
@@ -360,7 +360,7 @@ module _ (file : List ℕ) where
             (subst (λ (m : ℕ). How f (x .at₀) m r) (s .n-same) (subst (How f (x .at₀) (x .n₀)) (s .r-same) (x .how)))
 
     -- behind it stand the values: then no field of the front does
-    module _ {v : ℕ} (values : Whole file at 4 v) where
+    module _ {v : ℕ} (values : FieldAt file at 4 v) where
       not-on : {at′ b′ n′ r′ : ℕ} → Front file f (suc c) at′ b′ n′ r′ → ⊥
       not-on k = front-tag f at n r (on-from k) (values .1)
 
@@ -376,33 +376,33 @@ module _ (file : List ℕ) where
               back before (later x) = before (suc c + m) (x .at₀) (x .b₀) (x .n₀) (x .r₀) (omega arith) (x .was) refl
 
   module _ (f : Form) {c at b n r : ℕ} (g : Front file f c at b n r) where
-    whole-here : {at′ v : ℕ} → at′ ≡ at → Whole file at′ 4 v → Whole file at 4 v
-    whole-here {at′} {v} e w = subst (λ (m : ℕ). Whole file m 4 v) e w
+    whole-here : {at′ v : ℕ} → at′ ≡ at → FieldAt file at′ 4 v → FieldAt file at 4 v
+    whole-here {at′} {v} e w = subst (λ (m : ℕ). FieldAt file m 4 v) e w
 
     -- The three ways to break behind the front: no values, no limit, something more.
-    pub no-values : (How f at n r → ⊥) → ((v : ℕ) → Whole file at 4 v → ⊥) → Good f file c → ⊥
+    pub no-values : (How f at n r → ⊥) → ((v : ℕ) → FieldAt file at 4 v → ⊥) → GoodField f file c → ⊥
     no-values no-front never h = go h refl
       where
-        go : {j : ℕ} → Good f file j → j ≡ c → ⊥
+        go : {j : ℕ} → GoodField f file j → j ≡ c → ⊥
         go (files.front k) e = no-front (on-from f g (moved (ap suc e) refl refl refl refl k))
         go (files.values {v = v} k w) e = never v (whole-here (state-one c (moved e refl refl refl refl k) g .at-same) w)
         go (files.limit k w x) e = not-on f k w (moved (sym e) refl refl refl refl g)
 
-    pub no-limit : {v : ℕ} → Whole file at 4 v → (Whole file (at + 3 + v) 5 1 → ⊥) → Good f file (suc c) → ⊥
+    pub no-limit : {v : ℕ} → FieldAt file at 4 v → (FieldAt file (at + 3 + v) 5 1 → ⊥) → GoodField f file (suc c) → ⊥
     no-limit {v} values never h = go h refl
       where
-        go : {j : ℕ} → Good f file j → j ≡ suc c → ⊥
+        go : {j : ℕ} → GoodField f file j → j ≡ suc c → ⊥
         go (files.front {i = j} {at = at′} {b = b′} {n = n′} {r = r′} k) e = not-past f g values (suc j) at′ b′ n′ r′ (omega (arith, e)) k
         go (files.values k w) e = not-on f g values (moved e refl refl refl refl k)
         go (files.limit {v = v′} k w x) e =
             let same = state-one c (moved (omega (arith, e)) refl refl refl refl k) g .at-same in
             let size : v′ ≡ v = sym (whole-here same w .2) ∙ values .2 in
-            never (subst (λ (m : ℕ). Whole file m 5 1) (ap₂ (λ (p q : ℕ). p + 3 + q) same size) x)
+            never (subst (λ (m : ℕ). FieldAt file m 5 1) (ap₂ (λ (p q : ℕ). p + 3 + q) same size) x)
 
-    pub no-extra : {v : ℕ} → Whole file at 4 v → Good f file (suc (suc c)) → ⊥
+    pub no-extra : {v : ℕ} → FieldAt file at 4 v → GoodField f file (suc (suc c)) → ⊥
     no-extra {v} values h = go h refl
       where
-        go : {j : ℕ} → Good f file j → j ≡ suc (suc c) → ⊥
+        go : {j : ℕ} → GoodField f file j → j ≡ suc (suc c) → ⊥
         go (files.front {i = j} {at = at′} {b = b′} {n = n′} {r = r′} k) e = not-past f g values (suc j) at′ b′ n′ r′ (omega (arith, e)) k
         go (files.values {i = j} {at = at′} {b = b′} {n = n′} {r = r′} k w) e = not-past f g values j at′ b′ n′ r′ (omega (arith, e)) k
         go (files.limit k w x) e = not-on f g values (moved (omega (arith, e)) refl refl refl refl k)
@@ -417,7 +417,7 @@ headless file j at b n r (files.bank-2 {c = d} {at = p} {b = q} g w x y) = headl
 headless file j at b n r (files.node {c = d} {at = p} {b = q} {n = m} g w) = headless file d p q m 0 g
 headless file j at b n r (files.row {c = d} {at = p} {b = q} {n = m} {r = l} g w) = headless file d p q m l g
 
-no-head : (f : Form) (file : List ℕ) → headed (kind f) file ≡ false → (j : ℕ) → Good f file j → j ≡ 0 → ⊥
+no-head : (f : Form) (file : List ℕ) → headed (kind f) file ≡ false → (j : ℕ) → GoodField f file j → j ≡ 0 → ⊥
 no-head form-1 file e j h z = clash refl e
 no-head form-2 file e j (files.front {i = i} {at} {b} {n} {r} g) z = clash (headless file (suc i) at b n r g) e
 no-head form-2 file e j (files.values {i = i} {at} {b} {n} {r} g w) z = clash (headless file i at b n r g) e
@@ -427,7 +427,7 @@ module _ (f : Form) (file : List ℕ) where
   abbrev k : Kind
   k = kind f
 
-  first-of : (i : ℕ) → ((j : ℕ) → j < i → Good f file j) → (Good f file i → ⊥) → First (λ j. Good f file j → ⊥) i
+  first-of : (i : ℕ) → ((j : ℕ) → j < i → GoodField f file j) → (GoodField f file i → ⊥) → First (λ j. GoodField f file j → ⊥) i
   first-of i good bad =
       record {
         so = bad;
@@ -446,7 +446,7 @@ module _ (f : Form) (file : List ℕ) where
       clash e (ap (soundAt file 2 5) rows ∙ ends-at file 2 5 (nodeCountIn k file) (nodesStartIn k file) refl)
   no-front (of-row e) = clash e (ends-at file 3 (5 * nodeCountIn k file) (rowCountIn k file) (rowsStartIn k file) refl)
 
-  size-is : (v : ℕ) → Whole file (valuesStartIn k file) 4 v → v ≡ valuesSizeIn k file
+  size-is : (v : ℕ) → FieldAt file (valuesStartIn k file) 4 v → v ≡ valuesSizeIn k file
   unfolding valuesSizeIn
   size-is v w = sym (w .2) ∙ sym (word-is file (valuesStartIn k file))
 
@@ -466,7 +466,7 @@ module _ (f : Form) (file : List ℕ) where
         never : {t : Shape} → formIn k file ≡ SoundForm t → ⊥
         never b = unlike cc
 
-    broken-at : (i : ℕ) → formIn k file ≡ BrokenForm (Malformed i) → length file ≤ longest f → ((j : ℕ) → j < i → Good f file j) → (Good f file i → ⊥)
+    broken-at : (i : ℕ) → formIn k file ≡ BrokenForm (Malformed i) → length file ≤ longest f → ((j : ℕ) → j < i → GoodField f file j) → (GoodField f file i → ⊥)
         → BrokenAt why
     broken-at i b short good bad = record { index = i; refusal = same b; says = files.at-field short not-sound (first-of i good bad) }
 
@@ -484,12 +484,12 @@ module _ (f : Form) (file : List ℕ) where
         (λ h.
         let c = fieldsBeforeIn k file in
         let g = all-begin file f h in
-        let below : (j : ℕ) → j < c → Good f file j = λ j less. good-before file j (c - 1) (omega arith)
+        let below : (j : ℕ) → j < c → GoodField f file j = λ j less. good-before file j (c - 1) (omega arith)
         (files.front (moved file {c′ = suc (c - 1)} (omega arith) refl refl refl refl g)) in
         by-test (fieldAt file 4 (valuesSizeIn k file) (valuesStartIn k file))
         (λ v.
         let w = whole-of file (valuesStartIn k file) 4 (valuesSizeIn k file) v in
-        let more : (j : ℕ) → j < c + 1 → Good f file j = λ j less. good-before file j c (omega arith) (files.values g w) in
+        let more : (j : ℕ) → j < c + 1 → GoodField f file j = λ j less. good-before file j c (omega arith) (files.values g w) in
         by-test (fieldAt file 5 1 (limitStartIn k file))
         (λ l.
         let x = whole-of file (limitStartIn k file) 5 1 l in
@@ -497,12 +497,12 @@ module _ (f : Form) (file : List ℕ) where
         (λ m.
         broken-at (c + 2) (rest.form-extra k file short h v l (ltb-true (limitStartIn k file + 4) (length file) m)) short′
         (λ j less. good-before file j (suc c) (omega arith) (files.limit g w x))
-        (λ b. no-extra file f g w (subst (Good f file) (omega arith) b)))
+        (λ b. no-extra file f g w (subst (GoodField f file) (omega arith) b)))
         (λ m. absurd (let b = rest.form-sound k file short h v l (ltb-false (limitStartIn k file + 4) (length file) m) in
         unlike cc)))
         (λ l.
         broken-at (c + 1) (rest.form-limit k file short h v l) short′ more
-        (λ b. no-limit file f g w (λ x. clash (field-of file (limitStartIn k file) 5 1 x) l) (subst (Good f file) (omega arith) b))))
+        (λ b. no-limit file f g w (λ x. clash (field-of file (limitStartIn k file) 5 1 x) l) (subst (GoodField f file) (omega arith) b))))
         (λ v.
         broken-at c (rest.form-values k file short h v) short′ below
         (no-values file f g no-front

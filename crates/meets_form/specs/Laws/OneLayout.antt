@@ -9,7 +9,7 @@ use lib.ListN.{length, getD}
 use lib.Seq.{ext-getD}
 use Rattle.meets.specs.Laws.Words.{first-one}
 use Rattle.says.specs.Build.{Given}
-use Rattle.says.specs.Files.{two, four, Form, Held, Sound, Broken, Good, long, at-field}
+use Rattle.says.specs.Files.{two, four, Form, Held, Sound, Broken, GoodField, long, at-field}
 use Rattle.says.specs.Form.{fillBit, Signed, from-0, below-0, Column, Cells, Layout, OfForm, of-1, of-2}
 
 column-one : (payloads : List (List ℕ)) (read : List ℕ → ℕ) (l m : List ℕ) → Column l payloads read → Column m payloads read → l ≡ m
@@ -90,7 +90,7 @@ pub broken-one : {f : Form} {file : List ℕ} {i j : ℕ} → Broken f file i �
 broken-one (long x) (long y) = refl
 broken-one (long x) (at-field y n p) = absurd (omega arith)
 broken-one (at-field x n p) (long y) = absurd (omega arith)
-broken-one {f} {file} (at-field {i} x n p) (at-field {i = j} y m q) = first-one (λ k. Good f file k → ⊥) i j p q
+broken-one {f} {file} (at-field {i} x n p) (at-field {i = j} y m q) = first-one (λ k. GoodField f file k → ⊥) i j p q
 
 pub not-both : {f : Form} {file : List ℕ} {i : ℕ} {h : Held} → Broken f file i → Sound f file h → ⊥
 not-both (long x) s = omega (arith, s .short)

@@ -127,11 +127,11 @@ module _ (format : ℕ) where
   module _ (st : ℕ) (l : List ℕ) where
     stays : {x : Item} → formatBy format st l ≡ x → ((a : ℕ) (b : List ℕ) (c : ℕ) → gives a b c ≡ x → ⊥) → ((a : ℕ) → passes a ≡ x → format ≡ 0 → ⊥)
         → After format st l st
-    stays e g p = s.other (λ after q h. g (q .address) (q .bytes) after (sym (gives-item h) ∙ e)) (λ a b f h. p (256 * a + b) (sym (upper-item st f h) ∙ e) f)
+    stays e g p = s.neither (λ after q h. g (q .address) (q .bytes) after (sym (gives-item h) ∙ e)) (λ a b f h. p (256 * a + b) (sym (upper-item st f h) ∙ e) f)
 
     after-by : (x : Item) → formatBy format st l ≡ x → Said st l x → After format st l (stateAfter st x)
     after-by x e (gave g) = s.gave g
-    after-by x e (moved f h) = s.upper f h
+    after-by x e (moved f h) = s.upper-half f h
     after-by x e (skipped n) =
         stays e (λ a b c z. unlike cc) (λ a z f. n f)
     after-by x e (closed c) =

@@ -53,16 +53,16 @@ module _ (format : ℕ) where
 
   pub after-one : {st a b : ℕ} {l : List ℕ} → After format st l a → After format st l b → a ≡ b
   after-one (s.gave g) (s.gave h) = gives-one g h .0
-  after-one (s.gave g) (s.upper f h) = absurd (not-upper g f h)
-  after-one (s.gave {after} {p} g) (s.other none never) = absurd (none after p g)
-  after-one (s.upper f h) (s.gave g) = absurd (not-upper g f h)
-  after-one (s.upper f h) (s.upper g k) =
+  after-one (s.gave g) (s.upper-half f h) = absurd (not-upper g f h)
+  after-one (s.gave {after} {p} g) (s.neither none never) = absurd (none after p g)
+  after-one (s.upper-half f h) (s.gave g) = absurd (not-upper g f h)
+  after-one (s.upper-half f h) (s.upper-half g k) =
       let one = apart (hex-one h k .2) in
       omega (arith, one .0, apart (one .1) .0)
-  after-one (s.upper {a} {b} f h) (s.other none never) = absurd (never a b f h)
-  after-one (s.other none never) (s.gave {after} {p} g) = absurd (none after p g)
-  after-one (s.other none never) (s.upper {a} {b} f h) = absurd (never a b f h)
-  after-one (s.other none never) (s.other none′ never′) = refl
+  after-one (s.upper-half {a} {b} f h) (s.neither none never) = absurd (never a b f h)
+  after-one (s.neither none never) (s.gave {after} {p} g) = absurd (none after p g)
+  after-one (s.neither none never) (s.upper-half {a} {b} f h) = absurd (never a b f h)
+  after-one (s.neither none never) (s.neither none′ never′) = refl
 
   pub line-one : {st k a b : ℕ} {ls : List (List ℕ)} {l m : List ℕ} → LineAt format st ls k a l → LineAt format st ls k b m → (a ≡ b) × (l ≡ m)
   line-one s.here s.here = (refl, refl)

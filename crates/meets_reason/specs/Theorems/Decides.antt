@@ -11,7 +11,7 @@ use Rattle.c_answers.specs.declared.DkReason.{DkReason}
 use Rattle.meets.specs.Laws.Words.{OneOnly, tries-one, first-one, first-pair-one}
 use Rattle.meets_records.specs.Laws.One.{lines-one}
 use Rattle.says.specs.Reason as s
-use Rattle.says.specs.Reason.{Form, GivesTo, NoDigit, Past, Below, why, Twice, LineSays, FaultLine, DkReasonSays}
+use Rattle.says.specs.Reason.{Spelling, GivesTo, NoDigit, Past, Below, why, Twice, LineSays, FaultLine, DkReasonSays}
 use Rattle.meets_reason.specs.Laws.One.{data-one, gives-one, line-one, count-one, long-one, sum-one, type-one, other-width-one, other-count-one}
 use Rattle.meets_reason.specs.Laws.One.{other-field-one}
 use Rattle.meets_reason.specs.Laws.Trails.{drop-line, drop-long}
@@ -34,7 +34,7 @@ module _ (format load : ℕ) (ls : List (List ℕ)) (n : ℕ) where
   abbrev tell : ℕ → ℕ → ℕ → DkReason
   tell = why format load ls n
 
-  form-one : {a b c d e f : ℕ} → Form format a b c → Form format d e f → (a ≡ d) × (b ≡ e) × (c ≡ f)
+  form-one : {a b c d e f : ℕ} → Spelling format a b c → Spelling format d e f → (a ≡ d) × (b ≡ e) × (c ≡ f)
   form-one (s.hex f) (s.hex g) = (refl, refl, refl)
   form-one (s.hex f) (s.s-records m) = absurd (m f)
   form-one (s.s-records m) (s.hex f) = absurd (m f)

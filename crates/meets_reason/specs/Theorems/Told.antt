@@ -55,7 +55,7 @@ module _ (format load : ℕ) (text : List ℕ) (y : DkReason) where
     pub should : Checksum format (total bytes) (y .second)
     pub other : Not (y .first ≡ y .second)
 
-  -- "given twice and by which line"
+  -- a byte given twice, and by which line
   pub record TwiceTold : Type 0 where
     pub lines : List (List ℕ)
     pub cut : Lines text lines
@@ -188,7 +188,7 @@ module _ (format load : ℕ) (text scratch left : List ℕ) (y : DkReason) (c : 
   no-reason : {ps : List Piece} → Good format load text ps → y .reason ≡ 0
   no-reason {ps} g = sound-told (solid ps) (good-sound format load text g) .1
 
-  -- "a file has a reason exactly when it is bad"
+  -- a file has a reason exactly when it is bad
   pub bad-exactly : format < 2 → (Bad format load text → y .reason ≡ 0 → ⊥) × ((y .reason ≡ 0 → ⊥) → Bad format load text)
   bad-exactly known = (go (readText format load text) refl, λ n ps g. n (no-reason g))
     where
@@ -236,14 +236,14 @@ module _ (format load : ℕ) (text scratch left : List ℕ) (y : DkReason) (c : 
         λ n. absurd (n (no-reason g)),
       )
 
-  -- "the checksum with both values"
+  -- "the checksum: what it is, and what it should be" (include/denkumari.h)
   pub checksum-with-both-values : y .reason ≡ 5 → ChecksumTold format load text y
   checksum-with-both-values e = ⊎-elim (λ t. t .1 e) (λ z. absurd (omega (arith, ap (λ (k : DkReason). k .reason) z))) told
 
-  -- "given twice and by which line"
+  -- a byte given twice, and by which line
   pub given-twice-by-which-line : y .reason ≡ 11 → TwiceTold format load text y
   given-twice-by-which-line e = ⊎-elim (λ t. t .2 e) (λ z. absurd (omega (arith, ap (λ (k : DkReason). k .reason) z))) told
 
-  -- "below the load address (with the lowest address that the file gives)"
+  -- below the load address, with the lowest address that the file gives
   pub below-with-lowest : y .reason ≡ 10 → BelowTold format load text y
   below-with-lowest e = ⊎-elim (λ t. t .3 e) (λ z. absurd (omega (arith, ap (λ (k : DkReason). k .reason) z))) told

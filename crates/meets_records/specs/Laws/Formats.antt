@@ -73,12 +73,12 @@ lines-ended (l ∷ ls) a = line-ended l (ended ls) ls (a .0) (lines-ended ls (a 
 pub hex-lines-above : {u : ℕ} {ls : List (List ℕ)} {ps : List Piece} → HexLines u ls ps → AllAbove ls
 hex-lines-above (s.end h) = (hex-above h, tt)
 hex-lines-above (s.piece h e x) = (hex-above h, hex-lines-above x)
-hex-lines-above (s.upper h x) = (hex-above h, hex-lines-above x)
+hex-lines-above (s.upper-half h x) = (hex-above h, hex-lines-above x)
 
 pub hex-told : {u : ℕ} {ls : List (List ℕ)} {ps : List Piece} → HexLines u ls ps → Tells hexItem u ls ps
 hex-told (s.end {u} h) = closes (hex.item-end u h)
 hex-told (s.piece {u} {p = p} h e more) = tells {p = p} (hex.item-data u h ∙ ap (λ (a : ℕ). gives a (p .bytes) u) (sym e)) (hex-told more)
-hex-told (s.upper {u} h more) = skips (hex.item-upper u h) (hex-told more)
+hex-told (s.upper-half {u} h more) = skips (hex.item-upper u h) (hex-told more)
 
 hex-ends : {u : ℕ} {l : List ℕ} {x : Item} → HexSaid u l x → x ≡ ends → Hex r.either l 1 0 []
 hex-ends (hex.gave c) e = unlike cc
@@ -106,7 +106,7 @@ pub told-hex : {u : ℕ} {ls : List (List ℕ)} {ps : List Piece} → Tells hexI
 told-hex (closes {state} {line} e) = s.end (hex-ends (hex.said state line) e)
 told-hex (skips {state} {line = line} {lines = ls} {l = ps} e t) =
     let k = hex-passes (hex.said state line) e in
-    s.upper (k .2) (subst (λ (u : ℕ). HexLines u ls ps) (k .3) (told-hex t))
+    s.upper-half (k .2) (subst (λ (u : ℕ). HexLines u ls ps) (k .3) (told-hex t))
 told-hex (tells {state} {line = line} {lines = ls} {l = ps} e t) =
     let k = hex-gives (hex.said state line) e in
     s.piece (k .1) (k .2) (subst (λ (u : ℕ). HexLines u ls ps) (k .3) (told-hex t))

@@ -70,7 +70,7 @@ hex-back (w.differs {v = v} {l = l} {m = m} {t = t} {p = p} {ps = ps} e n h c d 
     let lines : HexLines v (m ∷ k .0) (p ∷ ps) = s.piece (hex-either d) e (k .2) in (
       l ∷ m ∷ k .0,
       line-ended l (m ++ (10 ∷ t)) (m ∷ k .0) (hex-above (hex-either c)) (line-ended m t (k .0) (hex-above (hex-either d)) (k .1)),
-      s.upper (hex-either c) (subst (λ (u : ℕ). HexLines u (m ∷ k .0) (p ∷ ps)) h lines),
+      s.upper-half (hex-either c) (subst (λ (u : ℕ). HexLines u (m ∷ k .0) (p ∷ ps)) h lines),
     )
 
 digits-above : {d e w top : ℕ} → Width d e w top → (13 < d) × (13 < e)

@@ -31,8 +31,9 @@ pub record Fits (top most : ℕ) (p : Piece) : Type 0 where
   pub few : length (p .bytes) ≤ most
   pub bytes : Bytes (p .bytes)
 
-abbrev pub Sound : ℕ → ℕ → List Piece → Type 0
-Sound load top ps = ((i a b : ℕ) → Gives ps i a b → (load ≤ a) × (a < top)) × ((i j a b c : ℕ) → Gives ps i a b → Gives ps j a c → i ≡ j)
+-- Pieces that give bytes from `load` on and below `top` alone, and none twice.
+abbrev pub OnceWithin : ℕ → ℕ → List Piece → Type 0
+OnceWithin load top ps = ((i a b : ℕ) → Gives ps i a b → (load ≤ a) × (a < top)) × ((i j a b c : ℕ) → Gives ps i a b → Gives ps j a c → i ≡ j)
 
 -- ---- Intel HEX
 hex-lines : (ps : List Piece) (u : ℕ) → All (Fits 4294967296 255) ps → (ls : List (List ℕ)) × HexLines u ls ps
@@ -47,11 +48,11 @@ hex-lines (p ∷ ps) u all =
     let place : p .address ≡ 65536 * (256 * (half / 256) + half % 256) + p .address % 65536 = omega arith in
     let rest = hex-lines ps (256 * (half / 256) + half % 256) (all .1) in (
       lineOf 4 0 (half / 256 ∷ half % 256 ∷ []) ∷ lineOf 0 (p .address % 65536) (p .bytes) ∷ rest .0,
-      s.upper (hex-written 4 0 (half / 256 ∷ half % 256 ∷ []) (omega arith) (omega arith) (upper-bytes half bound) (omega arith))
+      s.upper-half (hex-written 4 0 (half / 256 ∷ half % 256 ∷ []) (omega arith) (omega arith) (upper-bytes half bound) (omega arith))
           (s.piece (hex-written 0 (p .address % 65536) (p .bytes) (omega arith) (omega arith) (f .bytes) (omega arith)) place (rest .1)),
     )
 
-pub hex-any : (load : ℕ) (ps : List Piece) → All (Fits 4294967296 255) ps → Sound load 4294967296 ps → (text : List ℕ) × Good 0 load text ps
+pub hex-any : (load : ℕ) (ps : List Piece) → All (Fits 4294967296 255) ps → OnceWithin load 4294967296 ps → (text : List ℕ) × Good 0 load text ps
 hex-any load ps all sound =
     let k = hex-lines ps 0 all in
     (ended (k .0), s.good (s.hex refl (lines-ended (k .0) (hex-lines-above (k .1))) (k .1)) (sound .0) (sound .1))
@@ -76,7 +77,7 @@ srec-lines {w} v (p ∷ ps) all =
     )
 
 pub srec-any : {w : ℕ} → back.Width w → (load : ℕ) (ps : List Piece)
-    → All (λ p. Fits (256 ^ w) 255 p × (w + length (p .bytes) + 1 ≤ 255)) ps → Sound load (256 ^ w) ps → (text : List ℕ) × Good 1 load text ps
+    → All (λ p. Fits (256 ^ w) 255 p × (w + length (p .bytes) + 1 ≤ 255)) ps → OnceWithin load (256 ^ w) ps → (text : List ℕ) × Good 1 load text ps
 srec-any v load ps all sound =
     let k = srec-lines v ps all in
     (ended (k .0), s.good (s.s-records refl (width-is v) (lines-ended (k .0) (srec-lines-above v (k .1))) (k .1)) (sound .0) (sound .1))

@@ -60,7 +60,7 @@ srec-sums {b = b} {kind = kind} x = record {
 hex-all : {u : ℕ} {ls : List (List ℕ)} {ps : List Piece} → HexLines u ls ps → All SumsToZero ls
 hex-all (s.end h) = (hex-sums h, tt)
 hex-all (s.piece h e x) = (hex-sums h, hex-all x)
-hex-all (s.upper h x) = (hex-sums h, hex-all x)
+hex-all (s.upper-half h x) = (hex-sums h, hex-all x)
 
 srec-all : {d e w : ℕ} {ls : List (List ℕ)} {ps : List Piece} → SrecLines d e w ls ps → All Complements ls
 srec-all (s.end h) = (srec-sums h, tt)

@@ -27,16 +27,16 @@ same-number x y h = either (eqb x y) (λ t. eqb-true x y t) (λ f. absurd (h (eq
 hex-lines-one : {u : ℕ} {ls : List (List ℕ)} {ps qs : List Piece} → HexLines u ls ps → HexLines u ls qs → ps ≡ qs
 hex-lines-one (r.end h) (r.end k) = refl
 hex-lines-one (r.end h) (r.piece k e x) = absurd (omega (arith, hex-one h k .0))
-hex-lines-one (r.end h) (r.upper k x) = absurd (omega (arith, hex-one h k .0))
+hex-lines-one (r.end h) (r.upper-half k x) = absurd (omega (arith, hex-one h k .0))
 hex-lines-one (r.piece k e x) (r.end h) = absurd (omega (arith, hex-one h k .0))
 hex-lines-one (r.piece {p = p} h e x) (r.piece {p = q} k f y) =
     let same = hex-one h k in
     let piece : p ≡ q = same-piece p q (omega (arith, same .1)) (same .2) in
     rw (piece, hex-lines-one x y)
-hex-lines-one (r.piece h e x) (r.upper k y) = absurd (omega (arith, hex-one h k .0))
-hex-lines-one (r.upper k x) (r.end h) = absurd (omega (arith, hex-one h k .0))
-hex-lines-one (r.upper k x) (r.piece h e y) = absurd (omega (arith, hex-one h k .0))
-hex-lines-one (r.upper {a = a} {b = b} h x) (r.upper {a = c} {b = d} k y) =
+hex-lines-one (r.piece h e x) (r.upper-half k y) = absurd (omega (arith, hex-one h k .0))
+hex-lines-one (r.upper-half k x) (r.end h) = absurd (omega (arith, hex-one h k .0))
+hex-lines-one (r.upper-half k x) (r.piece h e y) = absurd (omega (arith, hex-one h k .0))
+hex-lines-one (r.upper-half {a = a} {b = b} h x) (r.upper-half {a = c} {b = d} k y) =
     let one = apart (hex-one h k .2) in
     let two = apart (one .1) in
     let half : 256 * c + d ≡ 256 * a + b = omega (arith, one .0, two .0) in

@@ -1,4 +1,4 @@
--- Padding in the two layouts: "Bank 1 has bank 0's padding, bank 0 none", nor has any other bank.
+-- Padding in the two layouts: bank 1 has the padding that bank 0 had, and no other bank any.
 use Prim.Native.Nat.{ℕ, zero, suc, _+_, _/_}
 use native.Mathlib.Nat.{zero-div}
 use mathlib.Core.Path.{_≡_, refl, sym, ap, ap₂, _∙_, fun-ext}

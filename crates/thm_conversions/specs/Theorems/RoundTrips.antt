@@ -100,7 +100,7 @@ widened-again d fits e =
     (each-two (Long (5 * n)) (λ (row : List ℕ). startsZero row ≡ true) (d .rows) (fits .of-rows) (each-holds startsZero (d .rows) (p₄ .1))) in
     λ i. record { banks = banks i; nodes = nodes i; rows = rows i; values = d .values; limit = d .limit }
 
--- "Form 2 to 1 to 2", "for every file that can go back", but for one with one bank.
+-- "form 2 to 1 to 2", "for every file that can go back", but for one with one bank.
 pub back-and-there : (d : Contents) → Fits form2 d → dropsBit d ≡ false → alone d ≡ false → toForm2 (toForm1 d) ≡ d
 back-and-there d fits none more =
     either (shaped d)

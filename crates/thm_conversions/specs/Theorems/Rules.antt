@@ -133,7 +133,7 @@ module _ (b : Input) (table : Bankdefs) (one : OneBank b) (two : TwoBanks (onlyB
 
   -- ---- all six
 
-  -- The rules name the same rule, its place raised: "In 19 rule 5 stays bank 0's, other banks become 1"; nodes rise by one.
+  -- The rules name the same rule, its place raised: rule 5 stays bank 0's, other banks become 1, nodes rise by one.
   pub rules-raised : (page : ℕ) → rulesOf table m page ≡ ruleVerdict (rulesOf (b .banks) l page)
   unfolding rulesOf
   rules-raised page =
