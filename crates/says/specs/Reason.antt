@@ -82,7 +82,7 @@ module _ (format : ℕ) where
     pub data OtherWidth (s w : ℕ) : Type 0 where
       other-width : {d e top t : ℕ} → Not (format ≡ 0) → Width d e w top → At l 1 t → (t ≡ d) ⊎ (t ≡ e) → Not (s ≡ 0) → Not (s ≡ w) → OtherWidth s w
 
-    -- the count, and what it should be (one below 3 in S-records is told before): "0 in type 01, 2 in type 04, 5 in S7, 3 in S9; at least 3 in S0 and S1, 5 in S3"
+    -- the count, and what it should be (one below 3 in S-records is told before): "0 in type 01, 2 in type 04"; "3 in S9, 5 in S7, at least 5 in S3"
     pub data OtherCount (c m : ℕ) : Type 0 where
       hex : {t f : ℕ} {b : List ℕ} → format ≡ 0 → Hex either l t f b → ((t ≡ 1) × (m ≡ 0)) ⊎ ((t ≡ 4) × (m ≡ 2)) → c ≡ length b → Not (c ≡ m) → OtherCount c m
       s-record : {d e w top : ℕ} → Not (format ≡ 0) → Width d e w top → Count 2 c → m ≡ w + 1 → (At l 1 d × (c < m)) ⊎ (At l 1 e × Not (c ≡ m)) → OtherCount c m

@@ -91,7 +91,7 @@ module _ (g : Given) (banks : Bankdefs) where
   pub state-is : (r i : ℕ) → i < nodes g → nodeNo r i .state ≡ state g r i
   state-is r i h = cell r i (g .states) h
 
--- The distance is "the fewest bits to a multiple".
+-- The distance is the fewest bits to a multiple.
 module _ (g : Given) (b : ℕ) (def : Bankdef) (t : Tells g b def) where
   base : def .start *ℤ pos (def .unit) ≡ start g b *ℤ pos (unit g b)
   base = ap (λ (z : ℤ). z *ℤ pos (def .unit)) (t .of-start) ∙ ap (λ (u : ℕ). start g b *ℤ pos u) (t .of-unit)
