@@ -4,7 +4,7 @@ use mathlib.Core.Logic.{_⊎_}
 use Prim.Native.Nat.{ℕ, _+_, _*_, _≤_, _<_}
 use Rattle.says.specs.Build.{Given, banks, unit, Size, Offset, Align, nodes, kind, Number, In, NoBanks, BadBank, Overlap, BadField, BadNode}
 use Rattle.says.specs.Words.{Not}
-use Rattle.says.specs.Profile.{OneBit, Whole, Pages, BadLabel, BadAlign, BadOffset, BadSize, BadUnit, BadAddr}
+use Rattle.says.specs.Profile.{OneBit, Multiple, Pages, BadLabel, BadAlign, BadOffset, BadSize, BadUnit, BadAddr}
 
 module _ (g : Given) where
   -- none of 1 to 4 is met
@@ -22,10 +22,10 @@ module _ (g : Given) where
       pub page-size : OneBit page
       pub labels : (b a : ℕ) → b < banks g → Align g b a → 0 < a → OneBit a
       pub aligns : (i r n : ℕ) → i < nodes g → kind g i ≡ 8 → r < g .rows → Number g r i n → 0 < n → OneBit n
-      pub offsets : (b o : ℕ) → b < banks g → Offset g b o → Whole page o
-      pub sizes : (b o : ℕ) → b < banks g → Offset g b o → (m : ℕ) × Size g b m × Whole page m
+      pub offsets : (b o : ℕ) → b < banks g → Offset g b o → Multiple page o
+      pub sizes : (b o : ℕ) → b < banks g → Offset g b o → (m : ℕ) × Size g b m × Multiple page m
       pub units : (b : ℕ) → b < banks g → (unit g b ≡ 8) ⊎ (unit g b ≡ 16)
-      pub addrs : (i b r n : ℕ) → i < nodes g → kind g i ≡ 9 → In g i b → r < g .rows → Number g r i n → Whole (unit g b) n
+      pub addrs : (i b r n : ℕ) → i < nodes g → kind g i ≡ 9 → In g i b → r < g .rows → Number g r i n → Multiple (unit g b) n
 
     -- A rule is broken at this bank or node. The turn is the rule's place in the ticket's order, where rule 2 has two: "alignments (banks, then nodes in every
     -- row)".

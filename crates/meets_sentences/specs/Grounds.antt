@@ -3,7 +3,12 @@ use mathlib.Core.Path.{_≡_, refl}
 use mathlib.Core.Bool.{Bool}
 use mathlib.Core.Logic.{_⊎_}
 use Prim.Native.Nat.{ℕ, _+_, _<_, _≤_}
-use Rattle.says.specs.Build.{Given, banks, nodes, Size, Offset, In, Sees, Offer, IsWritten, Clash, Interval, Mark, StoredCount, Names, Placed, Extent}
+use Rattle.iter.specs.declared.Lost.{Lost}
+use Rattle.says.specs.Build.{Given, Standing, banks, nodes, Size, Offset, In, Sees, Offer, IsWritten, Clash, Interval, Mark, StoredCount, Names, Placed, Extent}
+
+-- how a bank stands, part by part
+abbrev pub standsAt : ℕ → Bool → Lost → Standing
+standsAt position known lost = record { position = position; known = known; lost = lost }
 
 module _ (g : Given) where
   -- 12: "a placement overlaps", at node i with its offer: an interval, "or when an earlier accepted mark is strictly inside it"

@@ -5,7 +5,7 @@ use mathlib.Core.List.{List, [], _∷_}
 use Prim.Native.Nat.{ℕ, _+_, _≤_, _<_}
 use lib.ListN.{length, getD}
 use Rattle.bitvec.specs.Bits.{bitAt}
-use Rattle.says.specs.Build.{Given, Lent, operand, fillBit, IsWritten, Offer, Fills}
+use Rattle.says.specs.Build.{Given, Lent, operand, fillBit, IsWritten, Offer, InFilled}
 use Rattle.says.specs.Words.{Not}
 
 -- m bits are written at bit x: value bits from `from` on, and every other bit is as it was.
@@ -44,5 +44,5 @@ module _ (g : Given) where
   pub record Blank (old : Lent) (l : ℕ) (image : List ℕ) : Type 0 where
     pub as-long : length image ≡ length (old .image)
     pub bytes : (j : ℕ) → getD image j 0 < 256
-    pub fill-bit : (bit b : ℕ) → Fills g old l b bit → bitAt image bit ≡ fillBit g b
-    pub zero-bit : (bit : ℕ) → ((b : ℕ) → Not (Fills g old l b bit)) → bitAt image bit ≡ 0
+    pub fill-bit : (bit b : ℕ) → InFilled g old l b bit → bitAt image bit ≡ fillBit g b
+    pub zero-bit : (bit : ℕ) → ((b : ℕ) → Not (InFilled g old l b bit)) → bitAt image bit ≡ 0

@@ -1,5 +1,4 @@
 pub mod One
 pub mod First
-pub mod Largest
 pub mod Items
 pub mod Why

@@ -1,5 +1,4 @@
--- What `dk_hex` says of the first bits of some bytes, from document 01. To be read instead of the definitions. That the call says it, and that it leaves
--- one outcome, the answer and the hex lent for it: Theorems/Hex.
+-- What `dk_hex` says of the first bits of some bytes, from document 01.
 use mathlib.Core.Path.{_≡_}
 use mathlib.Core.List.{List}
 use Prim.Native.Nat.{ℕ, _+_, _*_, _≤_, _<_}

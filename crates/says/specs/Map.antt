@@ -1,6 +1,5 @@
--- What `dk_map` says (include/denkumari.h; docs/DECISIONS.md, "The map"): by node i, bank b, row r and pass n, as `dk_build` says it (says_build), whose
--- sentences are told again as far as a layout goes. To be read instead of the definitions: every outcome of the call meets these sentences (`map-meets`), and
--- they leave one (`map-decides`). What is given is what `dk_build` is given.
+-- What `dk_map` says (include/denkumari.h; docs/DECISIONS.md, "The map"): by node i, bank b, row r and pass n, as `dk_build` says it (Build), whose
+-- sentences are told again as far as a layout goes. What is given is what `dk_build` is given.
 use mathlib.Core.Path.{_≡_}
 use mathlib.Core.Bool.{Bool, true, false}
 use mathlib.Core.List.{List}
@@ -9,7 +8,7 @@ use lib.ListN.{length, getD, replicate}
 use Rattle.iter.specs.declared.Lost.{Lost}
 use Rattle.c_answers.specs.declared.DkMap.{DkMap}
 use Rattle.says.specs.Words.{First, Not}
-use Rattle.says.specs.Build.{Given, losing, nodes, kind, Number, BankAt, Sees, Reads, Unresolved, Stops, Stopped, Runs, GoesOn, Last}
+use Rattle.says.specs.Build.{Given, losing, Standing, nodes, kind, Number, BankAt, Sees, Reads, Unresolved, Stops, Stopped, RunsThrough, UnresolvedBefore, LastPass}
 use Rattle.says.specs.Build.{OffsetWord, Refuses, FirstWhy}
 use Rattle.says.specs.Profile.{Checks}
 
@@ -31,11 +30,11 @@ noNode = 18446744073709551615
 module _ (g : Given) where
   -- ---- what is shown of a node: its bank, the position that it sees, "offset plus position" or none, and the bits of an item or a reserve (4 to 7)
   pub data Bits (r i : ℕ) : ℕ → Type 0 where
-    takes : {n : ℕ} → 4 ≤ kind g i → kind g i ≤ 7 → Number g r i n → Bits r i n
+    takes : {v : ℕ} → 4 ≤ kind g i → kind g i ≤ 7 → Number g r i v → Bits r i v
     none : Not ((4 ≤ kind g i) × (kind g i ≤ 7)) → Bits r i 0
 
   pub data Entry (r i : ℕ) : (bank position output size : ℕ) → Type 0 where
-    entry : {b p w e : ℕ} {k : Bool} → Sees g r i b p k → OffsetWord g b p w → Bits r i e → Entry r i b p w e
+    entry : {b p w e : ℕ} {known : Bool} → Sees g r i b p known → OffsetWord g b p w → Bits r i e → Entry r i b p w e
 
   -- how many nodes are shown where node i stops a pass. 5, "a position would pass 4,294,967,295": those before it; 7, "a label in the last pass is off an
   -- address boundary": it too
@@ -45,7 +44,7 @@ module _ (g : Given) where
 
   -- "the sum of bits lost to `align` and to label alignment" by the first c nodes, and of the whole units of each skip, of banks 0 to 15
   abbrev pub Sums : ℕ → ℕ → List Lost → Type 0
-  Sums r c sums = (length sums ≡ 16) × ((b : ℕ) → b < 16 → (p : ℕ) × (k : Bool) × BankAt g r c b p k (getD sums b (losing 0 0)))
+  Sums r c sums = (length sums ≡ 16) × ((b : ℕ) → b < 16 → (at : Standing) × BankAt g r c b at × (getD sums b (losing 0 0) ≡ at .lost))
 
   -- ---- with what is lent
   module _ (old : Lent) where
@@ -99,13 +98,13 @@ module _ (g : Given) where
 
     -- "Then each pass in node order meets 5, 6 and 7, and 8 at its end": the row is that of the last pass that ran
     pub data Mapped (y : Outcome) : Type 0 where
-      stops : {n i number r c : ℕ} → 1 ≤ n → n < g .limit → GoesOn g n → First (Stopped g n false) i → Stops g n false i number → Reads g n r
+      stops : {n i number r c : ℕ} → 1 ≤ n → n < g .limit → UnresolvedBefore g n → First (Stopped g n false) i → Stops g n false i number → Reads g n r
           → UpTo i number c → Shows n r c number i 0 i y → Mapped y
-      last-stops : {k n i number r c : ℕ} → Last g k n → First (Stopped g n true) i → Stops g n true i number → Reads g n r → UpTo i number c
+      last-stops : {k n i number r c : ℕ} → LastPass g k n → First (Stopped g n true) i → Stops g n true i number → Reads g n r → UpTo i number c
           → Shows n r c number i 0 i y → Mapped y
-      unresolved : {k n r : ℕ} → Last g k n → Runs g n true → Unresolved g n → Reads g n r → Shows n r (nodes g) 8 0 0 noNode y → Mapped y
-      tried : {k n r : ℕ} → Last g k n → Runs g n true → Not (Unresolved g n) → Reads g n r → Tried n r y → Mapped y
+      unresolved : {k n r : ℕ} → LastPass g k n → RunsThrough g n true → Unresolved g n → Reads g n r → Shows n r (nodes g) 8 0 0 noNode y → Mapped y
+      tried : {k n r : ℕ} → LastPass g k n → RunsThrough g n true → Not (Unresolved g n) → Reads g n r → Tried n r y → Mapped y
 
-    -- The call is refused for 1 to 4 alone, in the build's order; `Checks` has them (says_profile).
+    -- The call is refused for 1 to 4 alone, in the build's order; `Checks` has them (Profile).
     abbrev pub MapSays : Outcome → Type 0
     MapSays = Checks g refusal Mapped

@@ -1,5 +1,4 @@
--- What `dk_overlay_range` and `dk_overlay_runs` say, and what `overlay::pick` hands back, from document 02, Ticket 4, as docs/DECISIONS.md reads it. To
--- be read instead of the definitions. That the calls say it, and that it leaves one outcome: Theorems/Range and Theorems/Runs.
+-- What `dk_overlay_range` and `dk_overlay_runs` say, and what `overlay::pick` hands back, from document 02, Ticket 4, as docs/DECISIONS.md reads it.
 use mathlib.Core.Path.{_≡_}
 use mathlib.Core.List.{List, [], _∷_}
 use mathlib.Core.Logic.{_⊎_}
@@ -46,16 +45,16 @@ module _ (overlay released offsets sizes : List ℕ) where
     Partly = ((k : ℕ) × InRange k × Covered k) × ((l : ℕ) × InRange l × (Covered l → ⊥))
 
     -- "If every byte of the range is covered"; "if no bit of it is"
-    abbrev pub Whole : Type 0
-    Whole = (b : ℕ) → first ≤ b → b < first + count → CoveredByte b
+    abbrev pub AllCovered : Type 0
+    AllCovered = (b : ℕ) → first ≤ b → b < first + count → CoveredByte b
 
-    abbrev pub Free : Type 0
-    Free = (k : ℕ) → InRange k → Covered k → ⊥
+    abbrev pub NoneCovered : Type 0
+    NoneCovered = (k : ℕ) → InRange k → Covered k → ⊥
 
     -- "which of the two": 1 the overlay, 2 the released image; "that part" of it, by its first byte and its bytes
     pub data Answers : DkOverlay → Type 0 where
-      overlaid : Whole → Answers (record { refusal = 0; image = 1; start = first; length = count })
-      issued : Free → Answers (record { refusal = 0; image = 2; start = first; length = count })
+      from-overlay : AllCovered → Answers (record { refusal = 0; image = 1; start = first; length = count })
+      from-released : NoneCovered → Answers (record { refusal = 0; image = 2; start = first; length = count })
 
     -- "why none (an empty part)"
     abbrev pub refusal : ℕ → DkOverlay
@@ -74,8 +73,8 @@ module _ (overlay released offsets sizes : List ℕ) where
     PartOf image part = (length part ≡ count) × ((k : ℕ) → k < count → getD part k 0 ≡ getD image (first + k) 0)
 
     pub data Hands (part : List ℕ) : Type 0 where
-      overlaid : Whole → PartOf overlay part → Hands part
-      issued : Free → PartOf released part → Hands part
+      from-overlay : AllCovered → PartOf overlay part → Hands part
+      from-released : NoneCovered → PartOf released part → Hands part
 
     abbrev pub BytesSay : List ℕ → Type 0
     BytesSay =

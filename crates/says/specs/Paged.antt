@@ -1,5 +1,5 @@
--- What `dk_build_paged` says, from document 02, Ticket 9: what is given, lent and answered is as in `dk_build`, whose sentences stand in says_build,
--- with the page size in bits beside it. To be read instead of the definitions.
+-- What `dk_build_paged` says, from document 02, Ticket 9: what is given, lent and answered is as in `dk_build` (Build), with the page size
+-- in bits beside it.
 use Prim.Native.Nat.{ℕ}
 use Rattle.says.specs.Build.{Given, Lent, Outcome, refusal, Laid}
 use Rattle.says.specs.Profile.{Checks, Rules}

@@ -1,6 +1,6 @@
--- What `dk_profile` says, from document 02, Ticket 9, "Paged device profile": by bank b, node i and row r, counted from 0. To be read instead of the
--- definitions. What is given is what `dk_build` is given, and the page size in bits; the call takes no limit and no word on bank 0 (`closed`): none of its
--- sentences reads them, but that a limit past 255 is 4, and a byte holds no such limit.
+-- What `dk_profile` says, from document 02, Ticket 9, "Paged device profile": by bank b, node i and row r, counted from 0, and a node's number v. What is given
+-- is what `dk_build` is given, and the page size in bits; the call takes no limit and no word on bank 0 (`closed`): none of its sentences reads them, but that a
+-- limit past 255 is 4, and a byte holds no such limit.
 use mathlib.Core.Path.{_≡_}
 use mathlib.Core.List.{List}
 use Prim.Native.Nat.{ℕ, _*_, _<_, _/_, _^_}
@@ -12,11 +12,11 @@ use Rattle.says.specs.Build.{nodes, kind, Number, BadField, BadNode, In}
 
 -- "exactly one bit set": a power of two
 abbrev pub OneBit : ℕ → Type 0
-OneBit n = (k : ℕ) × (n ≡ 2 ^ k)
+OneBit a = (e : ℕ) × (a ≡ 2 ^ e)
 
--- n is a whole number of times m
-abbrev pub Whole : (m n : ℕ) → Type 0
-Whole m n = (k : ℕ) × (n ≡ k * m)
+-- x is a multiple of m
+abbrev pub Multiple : (m x : ℕ) → Type 0
+Multiple m x = (times : ℕ) × (x ≡ times * m)
 
 module _ (g : Given) where
   -- the first bank that is so, and the first node: "each ascending"
@@ -31,7 +31,7 @@ module _ (g : Given) where
   Checks refusal Then =
       Tries (λ (_ : Unit {0}). NoBanks g) (λ _. refusal 1 0 0)
       (Tries (FirstBank (BadBank g)) (λ b. refusal 2 b 0)
-      (Tries (λ (w : ℕ × ℕ). FirstPair (Overlap g) (w .0) (w .1)) (λ w. refusal 3 (w .0) (w .1))
+      (Tries (λ (pair : ℕ × ℕ). FirstPair (Overlap g) (pair .0) (pair .1)) (λ pair. refusal 3 (pair .0) (pair .1))
       (Tries (First (BadField g)) (λ f. refusal 4 f 0)
       (Tries (FirstNode (BadNode g)) (λ i. refusal 4 i 0) Then))))
 
@@ -41,7 +41,7 @@ module _ (g : Given) where
 
   -- and an `align` "in every row"
   pub data BadAlign (i : ℕ) : Type 0 where
-    align : {r n : ℕ} → kind g i ≡ 8 → r < g .rows → Number g r i n → 0 < n → Not (OneBit n) → BadAlign i
+    align : {r v : ℕ} → kind g i ≡ 8 → r < g .rows → Number g r i v → 0 < v → Not (OneBit v) → BadAlign i
 
   -- 5: "address units are 8 or 16"
   abbrev pub BadUnit : ℕ → Type 0
@@ -49,17 +49,17 @@ module _ (g : Given) where
 
   -- 6: "`addr` goes only to a multiple of its bank's unit, in every row"
   pub data BadAddr (i : ℕ) : Type 0 where
-    addr : {b r n : ℕ} → kind g i ≡ 9 → In g i b → r < g .rows → Number g r i n → Not (Whole (unit g b) n) → BadAddr i
+    addr : {b r v : ℕ} → kind g i ≡ 9 → In g i b → r < g .rows → Number g r i v → Not (Multiple (unit g b) v) → BadAddr i
 
   module _ (page : ℕ) where
     -- 3: "every bank with an offset must have its offset on a page"
     pub data BadOffset (b : ℕ) : Type 0 where
-      off-page : {o : ℕ} → Offset g b o → Not (Whole page o) → BadOffset b
+      off-page : {o : ℕ} → Offset g b o → Not (Multiple page o) → BadOffset b
 
     -- 4: "and a size of whole pages"; "size (none breaks it)"
     pub data BadSize (b : ℕ) : Type 0 where
       no-size : {o : ℕ} → Offset g b o → Unsized g b → BadSize b
-      ragged : {o m : ℕ} → Offset g b o → Size g b m → Not (Whole page m) → BadSize b
+      ragged : {o m : ℕ} → Offset g b o → Size g b m → Not (Multiple page m) → BadSize b
 
     -- "The answer names the first rule broken, 1 to 6 in this order, each ascending: page size (place 0), alignments (banks, then nodes in every row),
     -- offset, size (none breaks it), unit, `addr`."

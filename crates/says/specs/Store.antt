@@ -1,6 +1,5 @@
--- What `dk_offer` says, from documents 01 and 02 in their own numerals: a store of intervals and marks, an offer to it, and what comes of it, the
--- answer and everything lent afterwards. To be read instead of the definitions: that it leaves one outcome is proved (Theorems/Decides.antt), and that
--- the call says it (Theorems/Meets.antt). Entries and marks are counted from 0. Where document 02 leaves room it is read as docs/DECISIONS.md says.
+-- What `dk_offer` says, from documents 01 and 02 in their own numerals: a store of intervals and marks, an offer to it, and what comes of it, the answer and
+-- everything lent afterwards. Entries and marks are counted from 0. Where document 02 leaves room it is read as docs/DECISIONS.md says.
 use mathlib.Core.Path.{_≡_}
 use mathlib.Core.List.{List}
 use mathlib.Core.Logic.{_⊎_}

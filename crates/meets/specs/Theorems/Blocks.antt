@@ -43,15 +43,15 @@ use Rattle.says.specs.Words.{Tries, refused, passed}
 
 -- ---- they leave one outcome
 
-abbrev run : Block → Run
+abbrev pub run : Block → Run
 run b = (b .origin, b .size)
 
-abbrev runs : List ℕ → List ℕ → ℕ → ℕ → List ℕ → List Run
+abbrev pub runs : List ℕ → List ℕ → ℕ → ℕ → List ℕ → List Run
 runs offsets lengths o n l = map run (blocksFrom (block o n) (map (spanAt offsets lengths) l))
 
 -- A walk's blocks are the definition's: a clause for each of its sentences, and so no two walks differ.
 module _ (offsets lengths : List ℕ) where
-  walk-is : {o n : ℕ} {l : List ℕ} {b : List Run} → Walks offsets lengths o n l b → b ≡ runs offsets lengths o n l
+  pub walk-is : {o n : ℕ} {l : List ℕ} {b : List Run} → Walks offsets lengths o n l b → b ≡ runs offsets lengths o n l
   unfolding blocksFrom
   walk-is (says.ends {o} {m = n} h) = rw (ne-eqb n 0 (λ e. omega arith))
   walk-is (says.ends-empty {o}) = refl
@@ -149,7 +149,7 @@ module _ (words lengths : List ℕ) where
         ∙ sorted-map (spanAt words lengths) wordRank (numbersOf (length words))
         ∙ ap (sortedBy wordRank) (spans-from words lengths 0 refl refl paired)
 
-    blocks-in-order : numberedBlocks words lengths (order words) ≡ blocksOf (spansOf words lengths)
+    pub blocks-in-order : numberedBlocks words lengths (order words) ≡ blocksOf (spansOf words lengths)
     blocks-in-order = ap (blocksFrom (block 0 0)) taken ∙ same-blocks wordRank rankOf alike (block 0 0) (spansOf words lengths)
 
 -- a span that is past a limit, where not all are within

@@ -47,7 +47,7 @@ use Rattle.says.specs.Build as says
 use Rattle.says.specs.Build.{Given, banks, nodes, kind, unit, start, flag, fillBit, Offset, IsWritten, Offer, Sees, Number, Spans}
 use Rattle.says.specs.Words.{Not}
 use Rattle.says.specs.Build.{SpanAt, OffsetWord}
-use Rattle.says.specs.Build.{Extent, IsSpan, OfItem, Fills, Left}
+use Rattle.says.specs.Build.{Extent, IsSpan, OfItem, InFilled, Left}
 use Rattle.meets_build.specs.Laws.Shown.{Shown, Tells, listed, number-is}
 use Rattle.meets_sentences.specs.Typed.{Typed}
 use Rattle.meets_build.specs.Laws.Table.{table}
@@ -158,8 +158,8 @@ module _ (g : Given) (typed : Typed g) (shown : Shown g (table g)) (ck : Checked
   tells : (b : ℕ) → b < banks g → Tells g b (getD (banksOf (table g)) b noBank)
   tells b h = shown .tells b (omega (arith, shown .count))
 
-  fill-bits : (bit b : ℕ) → Not (OfItem g (lentSo old) r bit) → Fills g (lentSo old) bits b bit → bitAt (new .image) bit ≡ fillBit g b
-  fill-bits bit b none (m, o, other, low, filled, size, offset, first, past, inside) =
+  fill-bits : (bit b : ℕ) → Not (OfItem g (lentSo old) r bit) → InFilled g (lentSo old) bits b bit → bitAt (new .image) bit ≡ fillBit g b
+  fill-bits bit b none (o, m, other, low, (filled, size, offset), first, past, inside) =
       gap-takes-fill-bit a bit (in-none bit none) inside b other (omega (arith, listed-banks g shown ck)) (record {
         fill = tells b low .has-fill filled;
         bits = m;
@@ -170,19 +170,17 @@ module _ (g : Given) (typed : Typed g) (shown : Shown g (table g)) (ck : Checked
         past = past;
       }) ∙ tells b low .of-bit
 
-  zero-bits : (bit : ℕ) → Not (OfItem g (lentSo old) r bit) → ((b : ℕ) → Not (Fills g (lentSo old) bits b bit)) → bitAt (new .image) bit ≡ 0
+  zero-bits : (bit : ℕ) → Not (OfItem g (lentSo old) r bit) → ((b : ℕ) → Not (InFilled g (lentSo old) bits b bit)) → bitAt (new .image) bit ≡ 0
   zero-bits bit none unfilled =
       either (ltb bit bits)
       (λ t. rest-zero-unfilled a bit (in-none bit none) (λ b other there f.
       let low : b < banks g = omega (arith, listed-banks g shown ck) in
       unfilled b (
-        f .bits,
         f .from,
+        f .bits,
         other,
         low,
-        tells b low .filled (f .fill),
-        tells b low .sized (f .bits) (f .size),
-        tells b low .placed (f .from) (f .offset),
+        (tells b low .filled (f .fill), tells b low .sized (f .bits) (f .size), tells b low .placed (f .from) (f .offset)),
         f .first,
         f .past,
         ltb-true bit bits t,

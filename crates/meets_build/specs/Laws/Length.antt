@@ -5,7 +5,7 @@ use mathlib.Core.List.{List, [], _∷_, _++_, List·Memᴰ}
 use mathlib.Core.Logic.{_⊎_, inl, inr, ⊎-elim}
 use Prim.Native.Nat.{ℕ, zero, suc, _+_, _-_, _≤_, _<_}
 use native.Mathlib.Omega.{arith}
-use borrow.Author.Tests.{eqb-true, eqb-false}
+use borrow.Author.Tests.{eq-eqb, ne-eqb, eqb-true, eqb-false}
 use lib.Dec.{eqb}
 use lib.ListN.{length, getD, take, length-take}
 use lib.Seq.{getD-take, take-suc, take-all}
@@ -30,8 +30,8 @@ use Rattle.build_sights.specs.Laws.ItemLaws.{fill-within, end-within}
 use Rattle.build_sights.specs.Theorems.ItemLaws.{length-is-one}
 use Rattle.build_sights.specs.Items.{Item, endOf, lengthOf}
 use Rattle.says.specs.Build as says
-use Rattle.says.specs.Build.{Given, banks, nodes, Filled, Size, Offset, Inherited, Ends, Fill, Reaches, Length, IsWritten, Offer}
-use Rattle.meets_sentences.specs.Laws.One.{fill-one}
+use Rattle.says.specs.Build.{Given, banks, nodes, Filled, Size, Offset, FilledRange, Inherited, Reaches, Length, IsWritten, Offer}
+use Rattle.meets_sentences.specs.Laws.One.{inherited-one}
 use Rattle.meets_build.specs.Laws.Shown.{Shown, Tells, listed}
 use Rattle.meets_build.specs.Laws.Table.{table}
 use Rattle.meets_build.specs.Laws.Walk.{Goes}
@@ -75,12 +75,12 @@ module _ (g : Given) (shown : Shown g (table g)) (ck : Checked (table g) (listed
   -- "if the image length is below h, it becomes h + 1"
   over-bank : (b : ℕ) → b < banks g → {n m : ℕ} → facts.Filled (getD l b noBank) n m → Inherited g b n → Inherited g (suc b) m
   over-bank b lt (facts.raises h f low) i =
-      says.raised {h = h} i (tells b lt .filled (f .fill)) (tells b lt .sized (f .bits) (f .size)) (tells b lt .placed (f .from) (f .offset))
+      says.raised {h = h} i (tells b lt .filled (f .fill), tells b lt .sized (f .bits) (f .size), tells b lt .placed (f .from) (f .offset))
       (omega (arith, f .last, some-bits b lt (f .bits) (f .fill) (f .size))) low
   over-bank b lt (facts.enough h f high) i =
-      says.reached {h = h} i (tells b lt .filled (f .fill)) (tells b lt .sized (f .bits) (f .size)) (tells b lt .placed (f .from) (f .offset))
+      says.reached {h = h} i (tells b lt .filled (f .fill), tells b lt .sized (f .bits) (f .size), tells b lt .placed (f .from) (f .offset))
       (omega (arith, f .last, some-bits b lt (f .bits) (f .fill) (f .size))) high
-  over-bank b lt (facts.without no-fill) i = says.other i (λ m o f s p. no-fill (o + m - 1) (fills b lt f s p))
+  over-bank b lt (facts.without no-fill) i = says.not-filled i (λ o m t. no-fill (o + m - 1) (fills b lt (t .0) (t .1) (t .2)))
 
   no-bank : fillFrom 0 [] ≡ 0
   unfolding fillFrom
@@ -98,42 +98,52 @@ module _ (g : Given) (shown : Shown g (table g)) (ck : Checked (table g) (listed
       ∙ fill-in-order 0 (take b l) (getD l b noBank ∷ []) ∙ one-bank before (getD l b noBank) in
       subst (Inherited g (suc b)) (sym next) (over-bank b h (filled-by (getD l b noBank) before) (inherited-to b (omega arith)))
 
+  -- "inherited fill .. or full fill", by the choice
+  full-is : g .fill ≡ 1 → fillBy (g .fill) l ≡ fullLength l
+  full-is e = rw (eq-eqb (g .fill) 1 e)
+
+  inherited-is : g .fill ≡ 0 → fillBy (g .fill) l ≡ fillLength l
+  inherited-is e = rw (ne-eqb (g .fill) 1 (λ f. omega arith))
+
+  whole : Inherited g (banks g) (fillLength l)
+  whole =
+      subst (λ (x : List Bankdef). Inherited g (banks g) (fillFrom 0 x)) (take-all (banks g) l (omega (arith, listed-banks)))
+      (inherited-to (banks g) (omega arith))
+
   -- Ticket 8: "the largest offset + size among banks with fill, size and offset, or 0"
-  ends-full : Ends g (fullLength l)
-  ends-full = ⊎-elim (λ (e : fullLength l ≡ 0). subst (Ends g) (sym e) says.nothing) some (full-ends l)
+  full-reached : (r : ℕ) → g .fill ≡ 1 → Reaches g r (fullLength l)
+  full-reached r one = ⊎-elim (λ (e : fullLength l ≡ 0). subst (Reaches g r) (sym e) says.nothing) some (full-ends l)
     where
-      some : FullEnd l (fullLength l) → Ends g (fullLength l)
+      some : FullEnd l (fullLength l) → Reaches g r (fullLength l)
       some (b, h, lt, s, e) =
           let low : b < banks g = omega (arith, listed-banks) in
-          subst (Ends g) (sym e)
-          (says.bank low (tells b low .filled (s .fill)) (tells b low .sized (s .bits) (s .size)) (tells b low .placed (s .from) (s .offset)))
+          subst (Reaches g r) (sym e)
+          (says.full one low (tells b low .filled (s .fill), tells b low .sized (s .bits) (s .size), tells b low .placed (s .from) (s .offset)))
 
-  ends-within : (e : ℕ) → Ends g e → e ≤ fullLength l
-  unfolding fills
-  ends-within e says.nothing = omega arith
-  ends-within e (says.bank {b = b} {m = m} {o = o} lt f s p) = full-reaches l b (o + m - 1) (omega (arith, listed-banks)) (fills b lt f s p)
-
-  -- "inherited fill .. or full fill", by the choice
-  pub fill-meets : Fill g (fillBy (g .fill) l)
-  fill-meets =
+  fill-reached : (r : ℕ) → Reaches g r (fillBy (g .fill) l)
+  fill-reached r =
       either (eqb (g .fill) 1)
-      (λ t. rw t (says.full (eqb-true (g .fill) 1 t) ends-full ends-within))
+      (λ t. let one = eqb-true (g .fill) 1 t in subst (Reaches g r) (sym (full-is one)) (full-reached r one))
       (λ t.
       let n = eqb-false (g .fill) 1 t in
-      rw t (says.inherited (omega (arith, accepted-lists (table g .len) (listed g) (g .fill) (ck .lists) .choice)) whole))
-    where
-      whole : Inherited g (banks g) (fillLength l)
-      whole =
-          subst (λ (x : List Bankdef). Inherited g (banks g) (fillFrom 0 x)) (take-all (banks g) l (omega (arith, listed-banks)))
-          (inherited-to (banks g) (omega arith))
+      let none : g .fill ≡ 0 = omega (arith, accepted-lists (table g .len) (listed g) (g .fill) (ck .lists) .choice) in
+      subst (Reaches g r) (sym (inherited-is none)) (says.inherited none whole))
+
+  full-within : {b o m : ℕ} → b < banks g → FilledRange g b o m → o + m ≤ fullLength l
+  unfolding fills
+  full-within {b} {o} {m} lt (f, s, p) = full-reaches l b (o + m - 1) (omega (arith, listed-banks)) (fills b lt f s p)
 
   module _ (r : ℕ) (all : Goes g (table g) shown ck r (nodes g)) where
     abbrev pub imageBits : ℕ
     imageBits = lengthOf (fillBy (g .fill) l) (items g (table g) shown ck r all)
 
     reaches-within : (e : ℕ) → Reaches g r e → e ≤ imageBits
-    reaches-within e (says.fill f) = omega (arith, fill-one g f fill-meets, fill-within (fillBy (g .fill) l) (items g (table g) shown ck r all))
-    reaches-within e (says.item {i = i} {x = x} {m = m} w o) =
+    reaches-within e says.nothing = omega arith
+    reaches-within e (says.inherited none i) =
+        omega (arith, inherited-one g i whole, inherited-is none, fill-within (fillBy (g .fill) l) (items g (table g) shown ck r all))
+    reaches-within e (says.full one lt range) =
+        omega (arith, full-within lt range, full-is one, fill-within (fillBy (g .fill) l) (items g (table g) shown ck r all))
+    reaches-within e (says.by-item {i = i} {x = x} {s = m} w o) =
         end-within (fillBy (g .fill) l) (item-member g (table g) shown ck r all (offered-listed o) w o)
       where
         offered-listed : {i x m : ℕ} → Offer g r i x m → i < nodes g
@@ -143,10 +153,10 @@ module _ (g : Given) (shown : Shown g (table g)) (ck : Checked (table g) (listed
     pub length-meets : Length g r imageBits
     length-meets = (
       ⊎-elim
-          (λ (e : imageBits ≡ fillBy (g .fill) l). subst (Reaches g r) (sym e) (says.fill fill-meets))
+          (λ (e : imageBits ≡ fillBy (g .fill) l). subst (Reaches g r) (sym e) (fill-reached r))
           (λ (e : (x : Item) × List·Memᴰ x (items g (table g) shown ck r all) × (imageBits ≡ endOf x)).
           let is = member-item g (table g) shown ck r all (e .0) (e .1) in
-          subst (Reaches g r) (sym (e .2)) (says.item (is .2 .0) (is .2 .1)))
+          subst (Reaches g r) (sym (e .2)) (says.by-item (is .2 .0) (is .2 .1)))
           (length-is-one (fillBy (g .fill) l) (items g (table g) shown ck r all)),
       reaches-within,
     )

@@ -29,7 +29,7 @@ use Rattle.build_sights.specs.Laws.VisitLaws.{each-next, each-member, each-from
 use Rattle.build_sights.specs.Visits.{each, visitAt, visitsTo}
 use Rattle.build_sights.specs.declared.Visit.{Visit}
 use Rattle.says.specs.Build as says
-use Rattle.says.specs.Build.{Given, nodes, BankAt, Offer, Interval, Mark, StoredCount, IsSpan, Spans, Padding}
+use Rattle.says.specs.Build.{Given, nodes, Standing, BankAt, Offer, Interval, Mark, StoredCount, IsSpan, Spans, Padding}
 use Rattle.meets_build.specs.Laws.Shown.{Shown, listed, walked, rowNo, nodeNo}
 use Rattle.meets_build.specs.Laws.Walk.{walkNo, Goes, at-walk}
 use Rattle.meets_build.specs.Laws.Visited.{visited, offer-when, offer-only}
@@ -39,14 +39,14 @@ module _ (g : Given) (tab : Bankdefs) (shown : Shown g tab) (c : Checked tab (li
   -- what the first n nodes lose, bank by bank, where the walk goes past them
   pub sums-meet : (n : ℕ) → n ≤ nodes g → Goes g tab shown c r n
       → (length (ofBanks (λ b. paddingTo (walked g tab) (rowNo g tab r) b n)) ≡ 16)
-      × ((b : ℕ) → b < 16 → (p : ℕ) × (k : Bool) × BankAt g r n b p k (getD (ofBanks (λ b. paddingTo (walked g tab) (rowNo g tab r) b n)) b noLost))
+      × ((b : ℕ) → b < 16 → (at : Standing) × BankAt g r n b at × (getD (ofBanks (λ b. paddingTo (walked g tab) (rowNo g tab r) b n)) b noLost ≡ at .lost))
   sums-meet n low goes = (
     length-of-banks (λ b. paddingTo (walked g tab) (rowNo g tab r) b n),
     λ b h.
         let few = accepted-lists (tab .len) (listed g) (g .fill) (c .lists) .few in
         let sum = getD-of-banks (λ b. paddingTo (walked g tab) (rowNo g tab r) b n) b h in
         let carried = walk-carries-padding (walked g tab) (rowNo g tab r) n b (omega arith) goes in
-        (_, _, subst (BankAt g r n b _ _) (carried ∙ sym sum) (at-walk g tab shown c r n low goes b h)),
+        (_, at-walk g tab shown c r n low goes b h, sum ∙ sym carried),
   )
 
 module _ (g : Given) (tab : Bankdefs) (shown : Shown g tab) (c : Checked tab (listed g) (g .fill)) (r : ℕ) (all : Goes g tab shown c r (nodes g)) where
@@ -161,7 +161,7 @@ module _ (g : Given) (tab : Bankdefs) (shown : Shown g tab) (c : Checked tab (li
       go : Counts i → (l : List Entry) → offerOf (v i) ≡ l → Counts (suc i)
       go before [] is =
           counts-by i [] is refl refl (omega (arith, no-counts .0)) (omega (arith, no-counts .1))
-          (says.other before (λ y n o. apart (sym (offer-when g tab shown c r all i h o) ∙ is)))
+          (says.not-offered before (λ y n o. apart (sym (offer-when g tab shown c r all i h o) ∙ is)))
       go before (e ∷ l) is = offered before e (offer-is (v i) e (subst (List·Memᴰ e) (sym is) (List·Memᴰ·head refl)))
 
   -- ---- spans
@@ -184,7 +184,7 @@ module _ (g : Given) (tab : Bankdefs) (shown : Shown g tab) (c : Checked tab (li
       subst (Spans g (suc i)) (sym (next ∙ plus-one (length l) one)) (says.more (spans-meet i) (span-exactly (v i .node) .0 t)))
       (λ t.
       let none = span-none (isSpan (v i .node)) (spanAt (v i)) t in
-      subst (Spans g (suc i)) (sym (next ∙ plus-none (length l) none)) (says.other (spans-meet i) (λ s. both-ways (span-exactly (v i .node) .1 s) t)))
+      subst (Spans g (suc i)) (sym (next ∙ plus-none (length l) none)) (says.no-span (spans-meet i) (λ s. both-ways (span-exactly (v i .node) .1 s) t)))
     where
       plus-one : (x : ℕ) {y : ℕ} → y ≡ 1 → x + y ≡ suc x
       plus-one x e = omega arith

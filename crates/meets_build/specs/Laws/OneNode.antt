@@ -76,8 +76,8 @@ module _ (g : Given) (banks : Bankdefs) (r i b : ℕ) (listed : i < nodes g) (de
   }
 
   pub sight-of : (at p : Pos) {t : Told Pos} → Sees def at n t → t ≡ gives p → Sight at p
-  sight-of at p (told.other h) e = sees-same at p (gives-same e) (says.other (λ x. h (x .0, x .1)))
-  sight-of at p (told.unaligned h) e = sees-same at p (gives-same e) (says.other (λ x. tells .unaligned h (x .2)))
+  sight-of at p (told.other h) e = sees-same at p (gives-same e) (says.unaligned (λ x. h (x .0, x .1)))
+  sight-of at p (told.unaligned h) e = sees-same at p (gives-same e) (says.unaligned (λ x. tells .unaligned h (x .2)))
   sight-of at p (told.aligned s a f (told.by d q (told.sum l))) e =
       subst (Sight at) (gives-same e) (record {
         lead = d .bits;
@@ -104,7 +104,7 @@ module _ (g : Given) (banks : Bankdefs) (r i b : ℕ) (listed : i < nodes g) (de
       subst (Known g r i was) (sym (same-bool is was (k .keeps five) (same ∙ zero))) (says.kept h l five zero))
       (λ z.
       let some = eqb-false (state g r i) 0 z in
-      subst (Known g r i was) (sym (false-bool is (λ y. some (sym same ∙ k .keeps five .0 y .1)))) (says.lost h (omega arith) five some)))
+      subst (Known g r i was) (sym (false-bool is (λ y. some (sym same ∙ k .keeps five .0 y .1)))) (says.unmade h (omega arith) five some)))
 
   known-set : (was is : Bool) → (is ≡ true) ↔ (n .state ≡ 0) → kind g i ≡ 9 → Known g r i was is
   known-set was is k nine =
@@ -115,7 +115,7 @@ module _ (g : Given) (banks : Bankdefs) (r i b : ℕ) (listed : i < nodes g) (de
       subst (Known g r i was) (sym (k .1 (same ∙ zero))) (says.made nine zero))
       (λ z.
       let some = eqb-false (state g r i) 0 z in
-      subst (Known g r i was) (sym (false-bool is (λ y. some (sym same ∙ k .0 y)))) (says.lost (omega arith) (omega arith) (λ f. omega arith) some))
+      subst (Known g r i was) (sym (false-bool is (λ y. some (sym same ∙ k .0 y)))) (says.unmade (omega arith) (omega arith) (λ f. omega arith) some))
 
   still : (kind g i ≤ 3) ⊎ (kind g i ≡ 10) → (kind g i ≤ 3) ⊎ ((kind g i ≡ 5) ⊎ (kind g i ≡ 10))
   still (inl h) = inl h
@@ -161,13 +161,14 @@ module _ (g : Given) (banks : Bankdefs) (r i b : ℕ) (listed : i < nodes g) (de
   skipping-of at p a (told.untold why f) e = absurd (no-untold (at .position) a why f)
 
   pub lead-lost : (at p : Pos) {m : Moved} {s : Skipped} → SightSkips def at n m s → m ≡ To p → Lead g i b (at .position) (s .bits)
-  lead-lost at p (told.other h) e = says.other (λ x. h (x .0, x .1))
-  lead-lost at p (told.unaligned h) e = says.other (λ x. tells .unaligned h (x .2))
+  lead-lost at p (told.other h) e = says.unaligned (λ x. h (x .0, x .1))
+  lead-lost at p (told.unaligned h) e = says.unaligned (λ x. tells .unaligned h (x .2))
   lead-lost at p (told.aligned o a f k) e = says.symbol (o .0) (o .1) (tells .aligned a f) (skipping-of at p a k e)
 
-  pub own-lost : (p q : Pos) (lead : ℕ) {m : Moved} {s : Skipped} → kind g i ≡ 8 → OwnSkips def p n m s → m ≡ To q → Loses g r i b lead (p .position) (s .bits)
-  own-lost p q lead eight (told.other h) e = absurd (h eight)
-  own-lost p q lead eight (told.aligns h k) e = says.by-align eight (number-is g banks r i listed) (skipping-of p q (n .number) k e)
+  -- the bits that an align skips are its distance
+  pub own-lost : (p q : Pos) {m : Moved} {s : Skipped} → kind g i ≡ 8 → OwnSkips def p n m s → m ≡ To q → Distance g b (p .position) (n .number) (s .bits)
+  own-lost p q eight (told.other h) e = absurd (h eight)
+  own-lost p q eight (told.aligns h k) e = skipping-of p q (n .number) k e
 
   -- and the whole units in it: "distance over unit, rounded down"
   skipping-units : {at : Pos} {a : ℕ} {m : Moved} {s : Skipped} → Skipping def at a i m s → s .units ≡ s .bits / unit g b

@@ -34,7 +34,6 @@ use Rattle.overlap_checker.specs.declared.Entry.{Entry}
 use Rattle.output.specs.RefusedAtNode as at-node
 use Rattle.build_plan.specs.Placing.{offerOf, answered as askedOf}
 use Rattle.resolver.specs.Laws.Least.{or-past}
-use Rattle.says.specs.Words as words
 use Rattle.says.specs.Words.{First}
 use Rattle.meets_build.specs.Laws.Checks.{answered}
 use Rattle.meets_build.specs.Laws.Contract.{lentSo}
@@ -93,7 +92,7 @@ module _ (g : Given) (typed : Typed g) (shown : Shown g (table g)) (ck : Checked
 
         by : {number place second : ℕ} → Why g r i number place second → ⊥
         by (says.bank-0 p h b) = not-9 (p, h, b)
-        by (says.past-size {b = b} {p} {e} {m} {k} h s y z l) = not-10 (h, (b, p, k, e, m, s, y, z, l))
+        by (says.past-size {b = b} {p} {e} {m} {known = k} h s y z l) = not-10 (h, (b, p, k, e, m, s, y, z, l))
         by (says.no-output {b = b} h w y n) = not-11 (h, w, (b, y, n))
         by (says.overlaps o v) = not-12 o (names-overlaps g v)
         by (says.full o h w) = not-13 o h w
@@ -304,4 +303,4 @@ module _ (g : Given) (typed : Typed g) (shown : Shown g (table g)) (ck : Checked
 
       -- So it is built so by the sentences.
       pub build-refused : (n : ℕ) → Built g lent′ r k n (answered g typed lent′ why n)
-      build-refused n = says.refused refused-first words.is
+      build-refused n = says.refused refused-first

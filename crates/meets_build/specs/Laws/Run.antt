@@ -25,9 +25,9 @@ use Rattle.resolver.specs.declared.Pass.{Pass}
 use Rattle.resolver.specs.declared.Pass.the-variants.{State, Refused as Failed}
 use Rattle.resolver.specs.declared.Resolution.{Resolution}
 use Rattle.resolver.specs.declared.Settled.the-variants.{At, Refused}
-use Rattle.says.specs.Words.{First, Is, is}
+use Rattle.says.specs.Words.{First}
 use Rattle.says.specs.Build as says
-use Rattle.says.specs.Build.{Given, Lent, nodes, Reads, Unresolved, Stops, Stopped, Runs, GoesOn, Last, Laid, refusal}
+use Rattle.says.specs.Build.{Given, Lent, nodes, Reads, Unresolved, Stops, Stopped, RunsThrough, UnresolvedBefore, LastPass, Laid, refusal}
 use Rattle.meets_build.specs.Laws.Shown.{Shown, listed, walked}
 use Rattle.meets_build.specs.Laws.Stops.{rowFor, reads-row, runs-meets, stops-meets}
 use Rattle.meets_build.specs.Laws.States.{Passes, past-all, unresolved-when, unresolved-only}
@@ -47,14 +47,14 @@ module _ (g : Given) (banks : Bankdefs) (shown : Shown g banks) (c : Checked ban
   ended : (n : ℕ) (last : Bool) (s : ℕ) → pass n last ≡ State s → Passes g banks shown c n last
   ended n last s e = ran-to-end (walked g banks) (rowOfPass (listed g) n) (rowOfPass (listed g) (n - 1)) (eqb n 1) last s e
 
-  ended-runs : (n : ℕ) → 1 ≤ n → (last : Bool) (s : ℕ) → pass n last ≡ State s → Runs g n last
+  ended-runs : (n : ℕ) → 1 ≤ n → (last : Bool) (s : ℕ) → pass n last ≡ State s → RunsThrough g n last
   ended-runs n h last s e = runs-meets g banks shown c n h last (ended n last s e)
 
   before-of : (n : ℕ) → Unsettled pass n → 2 ≤ n → Passes g banks shown c (n - 1) false
   before-of n u h = ended (n - 1) false 2 (two-of (pass (n - 1) false) (u (n - 1) (omega arith) (omega arith)))
 
   -- "passes 1, 2, .. run until one is not unresolved"
-  pub goes-on : (n : ℕ) → Unsettled pass n → GoesOn g n
+  pub goes-on : (n : ℕ) → Unsettled pass n → UnresolvedBefore g n
   goes-on n u j low high =
       let e = two-of (pass j false) (u j low high) in
       let before : Unsettled pass j = λ k l l′. u k l (omega arith) in
@@ -65,28 +65,28 @@ module _ (g : Given) (banks : Bankdefs) (shown : Shown g banks) (c : Checked ban
       → Unresolved g n → ⊥
   settles-says n h last s e prior other u = eqb-false s 2 other (unresolved-only g banks shown c n h last s e prior u)
 
-  after-meets : (k : ℕ) → SettlesBelow pass m k → Last g k (k + 1)
+  after-meets : (k : ℕ) → SettlesBelow pass m k → LastPass g k (k + 1)
   after-meets k s =
       let w = s .settles in
-      subst (Last g k) (sym (add-one k))
+      subst (LastPass g k) (sym (add-one k))
       (says.below (s .runs .counted) (s .runs .below) (goes-on k (s .runs .unsettled)) (ended-runs k (s .runs .counted) false (w .0) (w .1))
       (settles-says k (s .runs .counted) false (w .0) (w .1) (before-of k (s .runs .unsettled)) (w .2)))
 
-  limit-meets : (n : ℕ) → n ≡ max 1 m → Unsettled pass n → Last g m n
+  limit-meets : (n : ℕ) → n ≡ max 1 m → Unsettled pass n → LastPass g m n
   limit-meets n e u =
       either (eqb m 0)
       (λ t.
       let z : m ≡ 0 = eqb-true m 0 t in
       let one : n ≡ 1 = omega arith in
-      subst (λ (x : ℕ). Last g x n) (sym z) (subst (Last g 0) (sym one) (says.limit-zero z)))
+      subst (λ (x : ℕ). LastPass g x n) (sym z) (subst (LastPass g 0) (sym one) (says.limit-zero z)))
       (λ t.
       let some = eqb-false m 0 t in
       let same : n ≡ m = omega arith in
-      subst (Last g m) (sym same) (says.at-limit (omega arith) (goes-on m (subst (Unsettled pass) same u))))
+      subst (LastPass g m) (sym same) (says.at-limit (omega arith) (goes-on m (subst (Unsettled pass) same u))))
 
   -- The last pass, and K: and what that pass comes to is what the layout comes to.
-  pub last-meets : (n : ℕ) → RunsLast pass m n → (k : ℕ) × Last g k n × (settledBy pass m ≡ record { settled = lastOf k (pass n true); passes = n })
-  last-meets n (end-words.after k s e) = (k, subst (Last g k) (sym e) (after-meets k s), rw e (settled-below pass m k s))
+  pub last-meets : (n : ℕ) → RunsLast pass m n → (k : ℕ) × LastPass g k n × (settledBy pass m ≡ record { settled = lastOf k (pass n true); passes = n })
+  last-meets n (end-words.after k s e) = (k, subst (LastPass g k) (sym e) (after-meets k s), rw e (settled-below pass m k s))
   last-meets n (end-words.atLimit e u) = (m, limit-meets n e u, settled-limit pass m n e u)
 
   last-counted : (n : ℕ) → RunsLast pass m n → 1 ≤ n
@@ -99,9 +99,9 @@ module _ (g : Given) (banks : Bankdefs) (shown : Shown g banks) (c : Checked ban
   -- What ends the passes, where something does, after n of them: a node of a pass that is not the last or of the last one, or that the last one ends
   -- unresolved.
   pub data Halts (why : Refusal) (n : ℕ) : Type 0 where
-    early : {i : ℕ} → 1 ≤ n → n < g .limit → GoesOn g n → First (Stopped g n false) i → Stops g n false i (numberOf why) → placeOf why ≡ One i → Halts why n
-    at-last : {k i : ℕ} → Last g k n → First (Stopped g n true) i → Stops g n true i (numberOf why) → placeOf why ≡ One i → Halts why n
-    unsettled : {k : ℕ} → Last g k n → Runs g n true → Unresolved g n → why ≡ EndedUnresolved → Halts why n
+    early : {i : ℕ} → 1 ≤ n → n < g .limit → UnresolvedBefore g n → First (Stopped g n false) i → Stops g n false i (numberOf why) → placeOf why ≡ One i → Halts why n
+    at-last : {k i : ℕ} → LastPass g k n → First (Stopped g n true) i → Stops g n true i (numberOf why) → placeOf why ≡ One i → Halts why n
+    unsettled : {k : ℕ} → LastPass g k n → RunsThrough g n true → Unresolved g n → why ≡ EndedUnresolved → Halts why n
 
   module _ (old : Lent) where
     -- The refusal of a layout, in the sentences: "Then each pass in node order meets 5, 6 and 7, and 8 at its end."
@@ -110,8 +110,8 @@ module _ (g : Given) (banks : Bankdefs) (shown : Shown g banks) (c : Checked ban
 
     -- and of one that is accepted with K = k after n passes
     pub record SettledSo (k n : ℕ) : Type 0 where
-      pub last : Last g k n
-      pub runs : Runs g n true
+      pub last : LastPass g k n
+      pub runs : RunsThrough g n true
       pub not-unresolved : Unresolved g n → ⊥
       pub counted : 1 ≤ n
       pub past : Passes g banks shown c n true
@@ -136,13 +136,13 @@ module _ (g : Given) (banks : Bankdefs) (shown : Shown g banks) (c : Checked ban
         early (x .counted) (x .below) (goes-on n (x .unsettled)) (s .0) (s .1) (s .2)
 
     -- the last pass is refused
-    last-refused : (n k : ℕ) → 1 ≤ n → Last g k n → (why : Refusal) → pass n true ≡ Failed why → Halts why n
+    last-refused : (n k : ℕ) → 1 ≤ n → LastPass g k n → (why : Refusal) → pass n true ≡ Failed why → Halts why n
     last-refused n k h l why e =
         let f = first-met (walked g banks) (rowOfPass (listed g) n) (rowOfPass (listed g) (n - 1)) (eqb n 1) true why e in
         let s = stops-meets g banks shown c n h true (f .0) why (f .1) in
         at-last l (s .0) (s .1) (s .2)
 
-    decided : (n k : ℕ) → RunsLast pass m n → Last g k n → (x : Pass) → pass n true ≡ x → Meets (record { settled = lastOf k x; passes = n })
+    decided : (n k : ℕ) → RunsLast pass m n → LastPass g k n → (x : Pass) → pass n true ≡ x → Meets (record { settled = lastOf k x; passes = n })
     decided n k w l (Failed why) e = (
       λ other f. subst (λ (y : Refusal). Halts y n) (refused-same f) (last-refused n k (last-counted n w) l why e),
       λ j f. absurd (not-both (sym f)),
@@ -183,6 +183,6 @@ module _ (g : Given) (banks : Bankdefs) (shown : Shown g banks) (c : Checked ban
 
     -- and what ends them is the refusal that they say.
     pub halts-laid : (why : Refusal) (n : ℕ) → Halts why n → RefusedSo why n
-    halts-laid why n (early h l go f s p) = (_, p, says.stops h l go f s is)
-    halts-laid why n (at-last l f s p) = (_, p, says.last-stops l f s is)
-    halts-laid why n (unsettled l r u e) = rw e (0, refl, says.unresolved l r u is)
+    halts-laid why n (early h l go f s p) = (_, p, says.stops h l go f s)
+    halts-laid why n (at-last l f s p) = (_, p, says.last-stops l f s)
+    halts-laid why n (unsettled l r u e) = rw e (0, refl, says.unresolved l r u)

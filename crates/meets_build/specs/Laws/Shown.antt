@@ -28,7 +28,7 @@ use Rattle.resolver.specs.Passes.{program}
 use Rattle.says.specs.Build as says
 use Rattle.says.specs.Build.{Given, unit, start, flag, fillBit, Size, Offset, Align, Filled, nodes, kind, operand, state, Number}
 use Rattle.says.specs.Words.{Not}
-use Rattle.says.specs.Build.{Multiple, Distance}
+use Rattle.says.specs.Build.{Aligned, Distance}
 
 -- the lists
 abbrev pub listed : Given → Lists

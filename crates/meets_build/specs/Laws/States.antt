@@ -178,7 +178,7 @@ module _ (g : Given) (banks : Bankdefs) (shown : Shown g banks) (c : Checked ban
         let label : kind g i ≡ 2 = omega arith in
         let x = state-label label two in
         says.label h label (x .0) (x .1))
-        (λ (m : 2 < kind g i). says.other h m (reads-row g banks shown c n counted) (sym (state-other m) ∙ two))
+        (λ (m : 2 < kind g i). says.by-state h m (reads-row g banks shown c n counted) (sym (state-other m) ∙ two))
         (or-past (kind g i) 2))
         (or-past (kind g i) 1)
 
@@ -197,7 +197,7 @@ module _ (g : Given) (banks : Bankdefs) (shown : Shown g banks) (c : Checked ban
     unresolved-only (says.label {i = i} h k no-resolved no-stable) =
         unresolved-exactly banks (listed g) (g .fill) (c .lists) n last s comes .1
         (i, h, state-unresolved n counted last past-all prior i h k no-resolved no-stable)
-    unresolved-only (says.other {i = i} h k reads e) =
+    unresolved-only (says.by-state {i = i} h k reads e) =
         let row = reads-one g reads (reads-row g banks shown c n counted) in
         unresolved-exactly banks (listed g) (g .fill) (c .lists) n last s comes .1
         (i, h, state-other n counted last past-all prior i h k ∙ rw row at e)

@@ -31,7 +31,7 @@ use Rattle.resolver.specs.Laws.PositionPast.{step-five-only}
 use Rattle.resolver.specs.Laws.StepRefusals.{Refusable, step-refusals}
 use Rattle.says.specs.Words.{First}
 use Rattle.says.specs.Build as says
-use Rattle.says.specs.Build.{Given, nodes, kind, unit, In, Lead, Advance, BankAt, Sees, Reads, Stops, Stopped, Runs}
+use Rattle.says.specs.Build.{Given, nodes, kind, unit, In, Lead, Advance, Standing, BankAt, Sees, Reads, Stops, Stopped, RunsThrough}
 use Rattle.meets_sentences.specs.Laws.One.{in-one, lead-one, advance-one, at-one, sees-one, reads-one}
 use Rattle.meets_build.specs.Laws.Shown.{Shown, Tells, listed, walked, rowNo, nodeNo, number-is, distance-is}
 use Rattle.meets_build.specs.Laws.Walk.{AtIn, walkNo, bankNo, Goes, stands-in, one-of-16, tells-here, at-walk, sees-walk, sees-seen}
@@ -40,22 +40,22 @@ use Rattle.meets_build.specs.Laws.Walk.{AtIn, walkNo, bankNo, Goes, stan
 
 module _ (g : Given) where
   -- a bank that is somewhere after its node was not stopped there, by the bits skipped
-  not-lead : {r i c q p d : ℕ} {j k : Bool} {s t : Lost} → BankAt g r (suc i) c q j t → In g i c → BankAt g r i c p k s → Lead g i c p d
-      → 4294967295 < p + d → ⊥
+  not-lead : {r i c d : ℕ} {at new : Standing} → BankAt g r (suc i) c new → In g i c → BankAt g r i c at → Lead g i c (at .position) d
+      → 4294967295 < at .position + d → ⊥
   not-lead (says.keeps x n) h y l past = n h
-  not-lead (says.moves {lead = d′} x h′ l′ le a m k o) h y l past =
+  not-lead (says.moves {lead = d′} x h′ l′ le adv low kn los sum) h y l past =
       let e = at-one g x y in
       omega (arith, e .0, lead-one g (rw (e .0) at l′) l)
 
   -- nor by its own advance
-  not-move : {r i c q p d z : ℕ} {j k : Bool} {s t : Lost} → BankAt g r (suc i) c q j t → In g i c → BankAt g r i c p k s → Lead g i c p d
-      → Advance g r i c (p + d) z → 4294967295 < z → ⊥
+  not-move : {r i c d z : ℕ} {at new : Standing} → BankAt g r (suc i) c new → In g i c → BankAt g r i c at → Lead g i c (at .position) d
+      → Advance g r i c (at .position + d) z → 4294967295 < z → ⊥
   not-move (says.keeps x n) h y l v past = n h
-  not-move {p = u} {d = d} (says.moves {p = p′} {lead = d′} x h′ l′ le a m k o) h y l v past =
+  not-move {d = d} {at = at} (says.moves {lead = d′} {at = was} x h′ l′ le adv low kn los sum) h y l v past =
       let e = at-one g x y in
       let lead = lead-one g (rw (e .0) at l′) l in
-      let seen : p′ + d′ ≡ u + d = omega (arith, e .0) in
-      omega (arith, advance-one g (rw seen at a) v)
+      let seen : was .position + d′ ≡ at .position + d = omega (arith, e .0) in
+      omega (arith, low, advance-one g (rw seen at adv) v)
 
 -- ---- the row of a pass
 
@@ -133,10 +133,10 @@ module _ (g : Given) (banks : Bankdefs) (shown : Shown g banks) (c : Checked ban
   -- ---- a node that doesn't
 
   -- where the walk is after a node, in the node's bank
-  at-next : (i : ℕ) → i < nodes g → Goes g banks shown c r (suc i) → (q : ℕ) × (k : Bool) × (s : Lost) × BankAt g r (suc i) (bankNo g banks shown c r i) q k s
+  at-next : (i : ℕ) → i < nodes g → Goes g banks shown c r (suc i) → (new : Standing) × BankAt g r (suc i) (bankNo g banks shown c r i) new
   at-next i h w =
       let before : Goes g banks shown c r i = λ j k. w j (omega arith) in
-      (_, _, _, at-walk g banks shown c r (suc i) h w (bankNo g banks shown c r i) (one-of-16 g banks shown c r i h before))
+      (_, at-walk g banks shown c r (suc i) h w (bankNo g banks shown c r i) (one-of-16 g banks shown c r i h before))
 
   -- A node that the pass goes past does not stop it.
   pub no-stop : (last : Bool) (i number : ℕ) → i < nodes g → ((j : ℕ) → j < suc i → GoesPast p (rowOfPass (listed g) n) last j) → Stops g n last i number → ⊥
@@ -146,14 +146,14 @@ module _ (g : Given) (banks : Bankdefs) (shown : Shown g banks) (c : Checked ban
       let bank = in-one g stands-it (stands-in g banks shown c r i before) in
       let row = reads-one g reads-it reads-row in
       let x = at-next i h w in
-      not-lead g (rw (← bank, ← row) at (x .3)) stands-it at-it lead past
+      not-lead g (rw (← bank, ← row) at (x .1)) stands-it at-it lead past
   no-stop last i number h all (says.move-past l reads-it (says.sees at-it stands-it lead le) moves past) =
       let w = goes-of last (suc i) all in
       let before : Goes g banks shown c r i = λ j k. w j (omega arith) in
       let bank = in-one g stands-it (stands-in g banks shown c r i before) in
       let row = reads-one g reads-it reads-row in
       let x = at-next i h w in
-      not-move g (rw (← bank, ← row) at (x .3)) stands-it at-it lead moves past
+      not-move g (rw (← bank, ← row) at (x .1)) stands-it at-it lead moves past
   no-stop last i number h all (says.off-boundary l is-last label reads-it sight off) =
       let this = all i (omega arith) in
       let w = goes-of last (suc i) all in
@@ -168,7 +168,7 @@ module _ (g : Given) (banks : Bankdefs) (shown : Shown g banks) (c : Checked ban
   -- ---- what is promised
 
   -- A pass that goes past every node runs to its end.
-  pub runs-meets : (last : Bool) → ((i : ℕ) → i < nodes g → GoesPast p (rowOfPass (listed g) n) last i) → Runs g n last
+  pub runs-meets : (last : Bool) → ((i : ℕ) → i < nodes g → GoesPast p (rowOfPass (listed g) n) last i) → RunsThrough g n last
   runs-meets last all i s =
       let h = stopped-listed (s .1) in
       no-stop last i (s .0) h (λ j k. all j (omega arith)) (s .1)

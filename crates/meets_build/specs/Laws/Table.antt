@@ -155,12 +155,12 @@ module _ (g : Given) where
       either (leb 1 (countOf lent))
       (λ t. says.too-many (let q = leb-false (countOf lent) 16 (rw t at e) in omega arith))
       (λ t. says.too-few (let q = leb-false 1 (countOf lent) t in omega arith)))
-      (λ b. says.bits (eqb-false (length (g .fillBits)) len b)))
-      (λ f. says.flags (eqb-false (length (g .flags)) len f)))
-      (λ a. says.aligns (eqb-false (length (g .aligns)) len a)))
-      (λ o. says.offsets (eqb-false (length (g .bankOffsets)) len o)))
-      (λ m. says.sizes (eqb-false (length (g .bankSizes)) len m)))
-      (λ s. says.starts (eqb-false (length (g .starts)) len s))
+      (λ b. says.lists-differ (λ t. eqb-false (length (g .fillBits)) len b (t .5))))
+      (λ f. says.lists-differ (λ t. eqb-false (length (g .flags)) len f (t .4))))
+      (λ a. says.lists-differ (λ t. eqb-false (length (g .aligns)) len a (t .3))))
+      (λ o. says.lists-differ (λ t. eqb-false (length (g .bankOffsets)) len o (t .2))))
+      (λ m. says.lists-differ (λ t. eqb-false (length (g .bankSizes)) len m (t .1))))
+      (λ s. says.lists-differ (λ t. eqb-false (length (g .starts)) len s (t .0)))
 
   module _ (sound : countSound (table .len) ≡ true) where
     counts : (leb 1 (table .len) ≡ true) × (leb (table .len) 16 ≡ true)
@@ -178,12 +178,7 @@ module _ (g : Given) where
     pub no-banks-only : NoBanks g → ⊥
     no-banks-only (says.too-few h) = omega (arith, least, all .count)
     no-banks-only (says.too-many h) = omega (arith, most, all .count)
-    no-banks-only (says.starts h) = h (all .starts)
-    no-banks-only (says.sizes h) = h (all .sizes)
-    no-banks-only (says.offsets h) = h (all .offsets)
-    no-banks-only (says.aligns h) = h (all .aligns)
-    no-banks-only (says.flags h) = h (all .flags)
-    no-banks-only (says.bits h) = h (all .bits)
+    no-banks-only (says.lists-differ h) = h (all .starts, all .sizes, all .offsets, all .aligns, all .flags, all .bits)
 
     pub as-many : table .len ≡ banks g
     as-many = all .count

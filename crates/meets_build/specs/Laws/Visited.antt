@@ -79,7 +79,7 @@ module _ (g : Given) (tab : Bankdefs) (shown : Shown g tab) (c : Checked tab (li
 
   -- A node that offers, by the sentences, offers those bits.
   pub offer-when : {x m : ℕ} → Offer g r i x m → offerOf visited ≡ interval x m ∷ []
-  offer-when (says.offer {b = b} {p = p} {o = o} {n = n} listed-i k l sight offset number) =
+  offer-when (says.offer {b = b} {p = p} {o = o} {s = n} listed-i k l sight offset number) =
       let same = sees-one g sight sees-visited in
       let o-is = tells .has-offset o (subst (λ (y : ℕ). Offset g y o) (same .0) offset) in
       offered-at o o-is k l ∙ same-entry o (sym (same .1)) (number-one g (number-is g tab r i h) number)

@@ -47,8 +47,9 @@ use Rattle.resolver.specs.Theorems.Padding.{padding-bounded, walk-carries-paddi
 use Rattle.resolver.specs.Theorems.PositionPast.{listed-switches}
 use Rattle.says.specs.Build as says
 use Rattle.says.specs.Build.{Given, losing, unit, nodes, kind, operand, In, Number, Distance, Lead, Advance, Known, Loses, BankAt, Sees}
+use Rattle.meets_sentences.specs.Grounds.{standsAt}
 use Rattle.meets_sentences.specs.Laws.One.{in-one, lead-one, advance-one}
-use Rattle.meets_build.specs.Laws.Shown.{Shown, listed, walked, rowNo, nodeNo, Tells}
+use Rattle.meets_build.specs.Laws.Shown.{Shown, listed, walked, rowNo, nodeNo, Tells, number-is}
 use Rattle.meets_build.specs.Laws.OneNode.{Sight, Own, sight-of, own-of, lead-lost, own-lost, lead-units, own-units}
 
 -- ---- "The walk begins in bank 0."
@@ -70,7 +71,7 @@ apart e = unlike cc
 
 -- bank j in a walk, as the sentences say it before node i of row r
 abbrev pub AtIn : Given → ℕ → ℕ → ℕ → Walk → Type 0
-AtIn g r i j w = BankAt g r i j (getD (w .at) j origin .position) (getD (w .at) j origin .known) (getD (w .lost) j noLost)
+AtIn g r i j w = BankAt g r i j (standsAt (getD (w .at) j origin .position) (getD (w .at) j origin .known) (getD (w .lost) j noLost))
 
 -- and within the limit
 abbrev pub Good : Given → ℕ → ℕ → ℕ → Walk → Type 0
@@ -101,11 +102,13 @@ module _ (g : Given) (banks : Bankdefs) (shown : Shown g banks) (r i : ℕ) (h :
     pub sees-of : (p : Pos) {t : Told Pos} → told.Sees def at n t → t ≡ gives p → Sees g r i bank (p .position) (p .known)
     sees-of p s e = seen-by p (sight-of g banks r i bank h def tells at p s e)
 
-    loses-of : (p q : Pos) (s : Skipped) (x : Sight g banks r i bank h def tells at p) → Counts def at p q n s
-        → Loses g r i bank (x .lead) (p .position) (s .bits)
-    loses-of p q s x (fig.own k o) = own-lost g banks r i bank h def tells p q (x .lead) k o refl
-    loses-of p q s x (fig.sight k o) =
-        subst (Loses g r i bank (x .lead) (p .position)) (lead-one g (x .is) (lead-lost g banks r i bank h def tells at p o refl)) (says.by-lead k)
+    loses-of : (p q : Pos) (s : Skipped) (x : Sight g banks r i bank h def tells at p) → Own g banks r i bank h def tells p q → Counts def at p q n s
+        → Loses g i (x .lead) (p .position) (q .position) (s .bits)
+    loses-of p q s x y (fig.own k o) =
+        let moved = advance-one g (y .advance) (says.aligns k (number-is g banks r i h) (own-lost g banks r i bank h def tells p q k o refl)) in
+        says.by-align k (sym moved)
+    loses-of p q s x y (fig.sight k o) =
+        subst (Loses g i (x .lead) (p .position) (q .position)) (lead-one g (x .is) (lead-lost g banks r i bank h def tells at p o refl)) (says.by-lead k)
 
     -- the whole units in the bits lost
     units-of : (p q : Pos) (s : Skipped) → Counts def at p q n s → s .units ≡ s .bits / unit g bank
@@ -113,40 +116,40 @@ module _ (g : Given) (banks : Bankdefs) (shown : Shown g banks) (r i : ℕ) (h :
     units-of p q s (fig.sight k o) = lead-units g banks r i bank h def tells at o
 
     -- the bits lost are within the limit
-    lost-small : {p q lead l : ℕ} → p ≡ at .position + lead → p ≤ 4294967295 → q ≤ 4294967295 → Advance g r i bank p q → Loses g r i bank lead p l
-        → l ≤ 4294967295
-    lost-small sum a c v (says.by-align e m d) = let same = advance-one g v (says.aligns e m d) in omega arith
-    lost-small sum a c v (says.by-lead k) = omega arith
+    lost-small : {p q lead l : ℕ} → p ≡ at .position + lead → p ≤ 4294967295 → q ≤ 4294967295 → Loses g i lead p q l → l ≤ 4294967295
+    lost-small sum a c (says.by-align e moved) = omega arith
+    lost-small sum a c (says.by-lead k) = omega arith
 
     record Made (q : Pos) (s : Skipped) : Type 0 where
-      at-next : BankAt g r (suc i) bank (q .position) (q .known) (losing (was .bits + s .bits) (was .units + s .units))
+      at-next : BankAt g r (suc i) bank (standsAt (q .position) (q .known) (losing (was .bits + s .bits) (was .units + s .units)))
       small-next : q .position ≤ 4294967295
       small-lost : s .bits ≤ 4294967295
       small-units : s .units ≤ s .bits
 
     made-from : (p q : Pos) (s : Skipped) (x : Sight g banks r i bank h def tells at p) → Own g banks r i bank h def tells p q
-        → Loses g r i bank (x .lead) (p .position) (s .bits) → s .units ≡ s .bits / unit g bank → Made q s
+        → Loses g i (x .lead) (p .position) (q .position) (s .bits) → s .units ≡ s .bits / unit g bank → Made q s
     made-from p q s x y l u =
         let small-p = x .within small in
         let small-q = y .within small-p in
         let sum = x .sum in
         record {
           at-next =
-              subst (λ (k : ℕ). BankAt g r (suc i) bank (q .position) (q .known) (losing (was .bits + s .bits) (was .units + k))) (sym u)
-              (says.moves here stands (x .is) (omega arith) (subst (λ (k : ℕ). Advance g r i bank k (q .position)) sum (y .advance)) small-q
-              (subst (λ (k : Bool). Known g r i k (q .known)) (x .known) (y .known)) (subst (λ (k : ℕ). Loses g r i bank (x .lead) k (s .bits)) sum l));
+              says.moves {d = s .bits} here stands (x .is) (omega arith) (subst (λ (k : ℕ). Advance g r i bank k (q .position)) sum (y .advance)) small-q
+              (subst (λ (k : Bool). Known g r i k (q .known)) (x .known) (y .known))
+              (subst (λ (k : ℕ). Loses g i (x .lead) k (q .position) (s .bits)) sum l) (ap (λ (k : ℕ). losing (was .bits + s .bits) (was .units + k)) u);
           small-next = small-q;
-          small-lost = lost-small sum small-p small-q (y .advance) l;
+          small-lost = lost-small sum small-p small-q l;
           small-units = rw u (div-le-self (s .bits) (unit g bank));
         }
 
     made-of : (p q : Pos) (s : Skipped) → told.Sees def at n (gives p) → told.Advances def p n (gives q) → Counts def at p q n s → Made q s
     made-of p q s sees moves counts =
         let x = sight-of g banks r i bank h def tells at p sees refl in
-        made-from p q s x (own-of g banks r i bank h def tells (shown .typed) p q moves refl) (loses-of p q s x counts) (units-of p q s counts)
+        let y = own-of g banks r i bank h def tells (shown .typed) p q moves refl in
+        made-from p q s x y (loses-of p q s x y counts) (units-of p q s counts)
 
-  put : (j : ℕ) (q now : Pos) (l lost : Lost) → now ≡ q → lost ≡ l → BankAt g r (suc i) j (q .position) (q .known) l
-      → BankAt g r (suc i) j (now .position) (now .known) lost
+  put : (j : ℕ) (q now : Pos) (l lost : Lost) → now ≡ q → lost ≡ l → BankAt g r (suc i) j (standsAt (q .position) (q .known) l)
+      → BankAt g r (suc i) j (standsAt (now .position) (now .known) lost)
   put j q now l lost e f x = rw (e, f) x
 
   unstopped : (l : Lost) (s : Skipped) → l .bits + s .bits ≤ maxSum → l .units + s .units ≤ maxSum

@@ -11,7 +11,7 @@ use Rattle.iter.specs.Aligned.{Remains}
 use Rattle.iter.specs.Theorems.Aligned.{distance-aligns, remainder-remains}
 use Rattle.iter.specs.Distance.{remainder, distanceTo}
 use Rattle.says.specs.Build as says
-use Rattle.says.specs.Build.{Given, unit, start, Multiple, Distance}
+use Rattle.says.specs.Build.{Given, unit, start, Aligned, Distance}
 
 module _ (g : Given) (b p : ℕ) where
   -- the address in bits: start × unit + position

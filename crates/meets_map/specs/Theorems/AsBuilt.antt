@@ -1,7 +1,7 @@
 -- The map and the build of one layout, from the sentences of both alone: the map is refused or stops exactly where the build is refused, with the same number
 -- and places and after as many passes, but for 14, which is the build's alone; of a layout that is built it shows every node, the build's padding, and of each
 -- label and written item the build's span.
-use mathlib.Core.Path.{_≡_, refl, subst}
+use mathlib.Core.Path.{_≡_, refl, sym, subst, _∙_}
 use mathlib.Core.Bool.{true}
 use mathlib.Core.Logic.{_⊎_, inl, inr}
 use Prim.Native.Nat.{ℕ, _/_, _≤_, _<_}
@@ -48,12 +48,12 @@ module _ (g : Given) (old : Lent) (lent : build.Lent) where
       shown-agrees {n = n} {number = number} {place = place} {second = second} o (m.shows {sums} {new} p f) l =
           subst (Agree g lent o) (same-as number place second n (through-checks _ l)) (stopped refl)
 
-      whole-agrees : {k n r : ℕ} (o : Outcome) (z : build.Outcome) → Shows g old n r (nodes g) 0 0 0 noNode o → build.Last g k n → build.Runs g n true
+      whole-agrees : {k n r : ℕ} (o : Outcome) (z : build.Outcome) → Shows g old n r (nodes g) 0 0 0 noNode o → build.LastPass g k n → build.RunsThrough g n true
           → Not (build.Unresolved g n) → build.Reads g n r → ((i : ℕ) → build.Refuses g r i → ⊥) → Laid g lent z → Agree g lent o z
-      whole-agrees o z s p run settled q clear (build.stops h l go f t e) = absurd (early g h l go (f .so) p)
-      whole-agrees o z s p run settled q clear (build.last-stops {i = i} p′ f t e) = absurd (run i (rw (last-one g p′ p .1) at (f .so)))
-      whole-agrees o z s p run settled q clear (build.unresolved p′ run′ u e) = absurd (settled (rw (last-one g p′ p .1) at u))
-      whole-agrees o z s p run settled q clear (build.built p′ run′ u q′ (build.refused {i = i} f t)) =
+      whole-agrees o z s p run settled q clear (build.stops h l go f t) = absurd (early g h l go (f .so) p)
+      whole-agrees o z s p run settled q clear (build.last-stops {i = i} p′ f t) = absurd (run i (rw (last-one g p′ p .1) at (f .so)))
+      whole-agrees o z s p run settled q clear (build.unresolved p′ run′ u) = absurd (settled (rw (last-one g p′ p .1) at u))
+      whole-agrees o z s p run settled q clear (build.built p′ run′ u q′ (build.refused {i = i} f)) =
           let pass = last-one g p′ p .1 in
           absurd (clear i (rw (reads-one g (rw pass at q′) q) at (f .first .so)))
       whole-agrees o z (m.shows a b) p run settled q clear (build.built p′ run′ u q′ (build.placed none l c (w.refused x h))) =
@@ -65,10 +65,10 @@ module _ (g : Given) (old : Lent) (lent : build.Lent) where
           whole refl refl refl (inl refl) (last-one g p′ p .1)
 
       mapped-agrees : (o : Outcome) → Mapped g old o → Agree g lent o y
-      mapped-agrees o (m.stops h l go f s q u t) = shown-agrees o t (build.stops h l go f s w.is)
-      mapped-agrees o (m.last-stops p f s q u t) = shown-agrees o t (build.last-stops p f s w.is)
-      mapped-agrees o (m.unresolved p run v q t) = shown-agrees o t (build.unresolved p run v w.is)
-      mapped-agrees o (m.tried p run v q (m.refused f t)) = shown-agrees o t (build.built p run v q (build.refused f w.is))
+      mapped-agrees o (m.stops h l go f s q u t) = shown-agrees o t (build.stops h l go f s)
+      mapped-agrees o (m.last-stops p f s q u t) = shown-agrees o t (build.last-stops p f s)
+      mapped-agrees o (m.unresolved p run v q t) = shown-agrees o t (build.unresolved p run v)
+      mapped-agrees o (m.tried p run v q (m.refused f t)) = shown-agrees o t (build.built p run v q (build.refused f))
       mapped-agrees o (m.tried p run v q (m.placed clear t)) =
           whole-agrees o y t p run v q clear (cleared g (λ number place second. build.refusal g lent number place second 0) c says)
 
@@ -115,7 +115,10 @@ module _ (g : Given) (old : Lent) (lent : build.Lent) where
 
     same-padding : (z : Outcome) → Shows g old (y .answer .passes) (a .row) (nodes g) 0 0 0 noNode z → (b : ℕ) → b < 16
         → getD (z .answer .padding) b (losing 0 0) ≡ getD (y .answer .padding) b (losing 0 0)
-    same-padding z (m.shows s l) b h = at-one g (s .1 b h .2) (a .padding .1 b h .2) .2
+    same-padding z (m.shows s l) b h =
+        let (at, x, e) = s .1 b h in
+        let (at′, w, f) = a .padding .1 b h in
+        e ∙ at-one g x w .2 ∙ sym f
 
     -- Ticket 2: the map tells each bank's padding, bits and whole units, as the build does.
     pub padding-as-built : (b : ℕ) → b < 16 → getD (o .answer .padding) b (losing 0 0) ≡ getD (y .answer .padding) b (losing 0 0)

@@ -37,7 +37,9 @@ module _ (g : Given) where
 
   sums-one : {r c : ℕ} (x y : List Lost) → Sums g r c x → Sums g r c y → x ≡ y
   sums-one x y p q = ext-getD (losing 0 0) x y (p .0 ∙ sym (q .0)) (λ i h.
-      at-one g (p .1 i (omega (arith, p .0)) .2) (q .1 i (omega (arith, p .0)) .2) .2)
+      let (at, a, e) = p .1 i (omega (arith, p .0)) in
+      let (at′, c, f) = q .1 i (omega (arith, p .0)) in
+      e ∙ at-one g a c .2 ∙ sym f)
 
   module _ (old : Lent) where
     made : List ℕ → List ℕ → List ℕ → List ℕ → Lent

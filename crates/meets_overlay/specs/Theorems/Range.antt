@@ -27,13 +27,13 @@ use Rattle.meets.specs.Laws.Words.{OneOnly, tries-one}
 use Rattle.says.specs.Words.{Tries, refused, passed}
 use Rattle.meets_overlay.specs.Laws.Blocks.{some-fails, bad-blocks, no-bad-blocks, is-covered, covered-is}
 use Rattle.says.specs.Overlay as says
-use Rattle.says.specs.Overlay.{Covered, BadBlocks, BadRange, InRange, Partly, Whole, Free, Answers, RangeSays, PartOf, Hands, BytesSay}
+use Rattle.says.specs.Overlay.{Covered, BadBlocks, BadRange, InRange, Partly, AllCovered, NoneCovered, Answers, RangeSays, PartOf, Hands, BytesSay}
 
 module _ (overlay released os ss : List ℕ) (first count : ℕ) where
   -- ---- they leave one outcome
 
   -- a range with a byte is not both covered and free
-  one-of-two : 0 < count → Whole overlay released os ss first count → Free overlay released os ss first count → ⊥
+  one-of-two : 0 < count → AllCovered overlay released os ss first count → NoneCovered overlay released os ss first count → ⊥
   one-of-two some w f = f (8 * first) (omega arith, omega arith) (w first (omega arith) (omega arith) (8 * first) (omega arith) (omega arith))
 
   some-byte : (BadRange overlay released os ss first count → ⊥) → 0 < count
@@ -54,10 +54,10 @@ module _ (overlay released os ss : List ℕ) (first count : ℕ) where
     all-one = tries-one (λ (_ : Unit {0}). BadBlocks overlay released os ss) (λ _. none) _ (λ a b p q. refl) inside-one
 
   answers-one : 0 < count → OneOnly (Answers overlay released os ss first count)
-  answers-one some y z (says.overlaid w) (says.overlaid v) = refl
-  answers-one some y z (says.overlaid w) (says.issued f) = absurd (one-of-two some w f)
-  answers-one some y z (says.issued f) (says.overlaid w) = absurd (one-of-two some w f)
-  answers-one some y z (says.issued f) (says.issued g) = refl
+  answers-one some y z (says.from-overlay w) (says.from-overlay v) = refl
+  answers-one some y z (says.from-overlay w) (says.from-released f) = absurd (one-of-two some w f)
+  answers-one some y z (says.from-released f) (says.from-overlay w) = absurd (one-of-two some w f)
+  answers-one some y z (says.from-released f) (says.from-released g) = refl
 
   pub range-decides : OneOnly (RangeSays overlay released os ss first count)
   range-decides = all-one _ _ _ (Answers overlay released os ss first count) answers-one
@@ -66,10 +66,10 @@ module _ (overlay released os ss : List ℕ) (first count : ℕ) where
   part-one image p q f g = ext-getD 0 p q (f .0 ∙ sym (g .0)) (λ k h. f .1 k (omega (arith, f .0)) ∙ sym (g .1 k (omega (arith, f .0))))
 
   hands-one : 0 < count → OneOnly (Hands overlay released os ss first count)
-  hands-one some y z (says.overlaid w p) (says.overlaid v q) = part-one overlay y z p q
-  hands-one some y z (says.overlaid w p) (says.issued f q) = absurd (one-of-two some w f)
-  hands-one some y z (says.issued f p) (says.overlaid w q) = absurd (one-of-two some w f)
-  hands-one some y z (says.issued f p) (says.issued g q) = part-one released y z p q
+  hands-one some y z (says.from-overlay w p) (says.from-overlay v q) = part-one overlay y z p q
+  hands-one some y z (says.from-overlay w p) (says.from-released f q) = absurd (one-of-two some w f)
+  hands-one some y z (says.from-released f p) (says.from-overlay w q) = absurd (one-of-two some w f)
+  hands-one some y z (says.from-released f p) (says.from-released g q) = part-one released y z p q
 
   pub bytes-decide : OneOnly (BytesSay overlay released os ss first count)
   bytes-decide = all-one _ _ _ (Hands overlay released os ss first count) hands-one
@@ -95,10 +95,10 @@ module _ (overlay released os ss : List ℕ) (first count : ℕ) where
   good-range e (says.past-overlay h) = omega (arith, inside-true (length overlay) (length released) first count e .overlaid)
   good-range e (says.past-released h) = omega (arith, inside-true (length overlay) (length released) first count e .issued)
 
-  whole : allCovered bit first count ≡ true → Whole overlay released os ss first count
+  whole : allCovered bit first count ≡ true → AllCovered overlay released os ss first count
   whole e b l u k m v = is-covered overlay released os ss k (byte-holds bit b (all-holds bit first count e b l u) k (omega arith) (omega arith))
 
-  free : inOrder 0 os ss ≡ true → noneCovered bit first count ≡ true → Free overlay released os ss first count
+  free : inOrder 0 os ss ≡ true → noneCovered bit first count ≡ true → NoneCovered overlay released os ss first count
   free o e k r c = clash (covered-is overlay released os ss o k c) (none-holds bit first count e k (r .0) (r .1))
 
   some-free : inOrder 0 os ss ≡ true → allCovered bit first count ≡ false
@@ -123,13 +123,13 @@ module _ (overlay released os ss : List ℕ) (first count : ℕ) where
             (either (bit (8 * first + a .0)) (λ y. y) (λ n. absurd (clash refl (rw n at (a .2))))),
       )
 
-  whole-not-partly : Whole overlay released os ss first count → Partly overlay released os ss first count → ⊥
+  whole-not-partly : AllCovered overlay released os ss first count → Partly overlay released os ss first count → ⊥
   whole-not-partly w p =
       let l = p .1 .0 in
       let r = p .1 .1 in
       p .1 .2 (w (l / 8) (omega (arith, r .0, r .1)) (omega (arith, r .0, r .1)) l (omega arith) (omega arith))
 
-  free-not-partly : Free overlay released os ss first count → Partly overlay released os ss first count → ⊥
+  free-not-partly : NoneCovered overlay released os ss first count → Partly overlay released os ss first count → ⊥
   free-not-partly f p = f (p .0 .0) (p .0 .1) (p .0 .2)
 
   answered : (o i a n : Bool) → inOrder 0 os ss ≡ o → inside (length overlay) (length released) first count ≡ i → allCovered bit first count ≡ a
@@ -138,9 +138,9 @@ module _ (overlay released os ss : List ℕ) (first count : ℕ) where
   answered false i a n e f g h = refused tt (bad-blocks overlay released os ss e)
   answered true false a n e f g h = passed (λ _. no-bad-blocks overlay released os ss e) (refused tt (bad-range f))
   answered true true true n e f g h = passed (λ _. no-bad-blocks overlay released os ss e) (passed (λ _. good-range f)
-      (passed (λ _. whole-not-partly (whole g)) (says.overlaid (whole g))))
+      (passed (λ _. whole-not-partly (whole g)) (says.from-overlay (whole g))))
   answered true true false true e f g h = passed (λ _. no-bad-blocks overlay released os ss e) (passed (λ _. good-range f)
-      (passed (λ _. free-not-partly (free e h)) (says.issued (free e h))))
+      (passed (λ _. free-not-partly (free e h)) (says.from-released (free e h))))
   answered true true false false e f g h = passed (λ _. no-bad-blocks overlay released os ss e) (passed (λ _. good-range f)
       (refused tt (some-covered h, some-free e g)))
 
@@ -159,10 +159,10 @@ module _ (overlay released os ss : List ℕ) (first count : ℕ) where
   handed true false a n e f g h = passed (λ _. no-bad-blocks overlay released os ss e) (refused tt (bad-range f))
   handed true true true n e f g h = passed (λ _. no-bad-blocks overlay released os ss e) (passed (λ _. good-range f) (passed
       (λ _. whole-not-partly (whole g))
-      (says.overlaid (whole g) (part-of overlay (inside-true (length overlay) (length released) first count f .overlaid)))))
+      (says.from-overlay (whole g) (part-of overlay (inside-true (length overlay) (length released) first count f .overlaid)))))
   handed true true false true e f g h = passed (λ _. no-bad-blocks overlay released os ss e) (passed (λ _. good-range f) (passed
       (λ _. free-not-partly (free e h))
-      (says.issued (free e h) (part-of released (inside-true (length overlay) (length released) first count f .issued)))))
+      (says.from-released (free e h) (part-of released (inside-true (length overlay) (length released) first count f .issued)))))
   handed true true false false e f g h = passed (λ _. no-bad-blocks overlay released os ss e) (passed (λ _. good-range f)
       (refused tt (some-covered h, some-free e g)))
 

@@ -14,7 +14,7 @@ use Rattle.says.specs.Build.{Given, Lent, Outcome, banks, In, IsWritten, Reads,
 use Rattle.says.specs.Words.{Not}
 use Rattle.meets_sentences.specs.Laws.One.{in-one}
 use Rattle.says.specs.Profile as p
-use Rattle.says.specs.Profile.{Whole, Yes, ProfileSays, refused}
+use Rattle.says.specs.Profile.{Multiple, Yes, ProfileSays, refused}
 use Rattle.says.specs.Paged.{PagedSays}
 use Rattle.meets_profile.specs.Ticket9.{Sound, Holds, Names, InPages}
 use Rattle.meets_profile.specs.Laws.Ruled.{in-table}
@@ -52,14 +52,14 @@ module _ (g : Given) (page : ℕ) where
     accepts-later (b.accepts q f) = inl refl
 
     built-later : {r k n : ℕ} {y : Outcome} → Built g old r k n y → Later y
-    built-later (b.refused f w.is) = let z = nine-to-13 g (f .why) in inr (omega (arith, z .0), omega (arith, z .1))
+    built-later (b.refused f) = let z = nine-to-13 g (f .why) in inr (omega (arith, z .0), omega (arith, z .1))
     built-later {y = y} (b.placed clear l c t) =
         tries-all Later (λ x. inr (omega arith, omega arith)) y (tries-all Later (λ x. inr (omega arith, omega arith)) y accepts-later) t
 
     pub laid-later : {y : Outcome} → Laid g old y → Later y
-    laid-later (b.stops h l go f s w.is) = inr (stops-later s)
-    laid-later (b.last-stops q f s w.is) = inr (stops-later s)
-    laid-later (b.unresolved q r u w.is) = inr (omega arith, omega arith)
+    laid-later (b.stops h l go f s) = inr (stops-later s)
+    laid-later (b.last-stops q f s) = inr (stops-later s)
+    laid-later (b.unresolved q r u) = inr (omega arith, omega arith)
     laid-later (b.built q r u v t) = built-later t
 
     -- the ways that a build in the profile goes
@@ -85,10 +85,10 @@ module _ (g : Given) (page : ℕ) where
       pub clear : (i : ℕ) → Refuses g row i → ⊥
 
     pub fine : {y : Outcome} → Laid g old y → y .answer .refusal ≡ 0 → Fine y
-    fine (b.stops h l go f s w.is) e = absurd (omega (arith, stops-later s .0))
-    fine (b.last-stops q f s w.is) e = absurd (omega (arith, stops-later s .0))
-    fine (b.unresolved q r u w.is) e = absurd (let z : _≡_ {A = ℕ} 8 0 = e in omega arith)
-    fine {y} (b.built q r u v (b.refused f w.is)) e = absurd (let z = nine-to-13 g (f .why) .0 in omega (arith, e))
+    fine (b.stops h l go f s) e = absurd (omega (arith, stops-later s .0))
+    fine (b.last-stops q f s) e = absurd (omega (arith, stops-later s .0))
+    fine (b.unresolved q r u) e = absurd (let z : _≡_ {A = ℕ} 8 0 = e in omega arith)
+    fine {y} (b.built q r u v (b.refused f)) e = absurd (let z = nine-to-13 g (f .why) .0 in omega (arith, e))
     fine {y} (b.built {n = n} {r = r} q go u v (b.placed clear l c t)) e =
         let n-passes : y .answer .passes ≡ n =
         tries-all (PassesAre n) (λ x. refl) y (tries-all (PassesAre n) (λ x. refl) y accepts-passes) t in
@@ -98,21 +98,21 @@ module _ (g : Given) (page : ℕ) where
       some-bank : 0 < banks g
       some-bank = ⊎-elim (λ le. le) (λ lt. absurd (c .counted (b.too-few lt))) (le-or-lt 1 (banks g))
 
-      whole-size : (m : ℕ) → Whole page m → m / page * page ≡ m
+      whole-size : (m : ℕ) → Multiple page m → m / page * page ≡ m
       whole-size m q =
           let none : m % page ≡ 0 = ap (λ (x : ℕ). x % page) (q .1) ∙ mul-mod-left (q .0) page in
           omega (arith, div-add-mod' m page, none)
 
       pub in-pages : {i at x m bit : ℕ} → IsWritten g i → In g i at → Offer g row i x m → x ≤ bit → bit < x + m → InPages g page at bit
       in-pages {i} {at} {m = m} {bit = bit} written stands
-          (b.offer {b = bank} {o = o} lt lo hi (b.sees {p = q} {lead = lead} {k = known} here own l le) offset number) from to =
+          (b.offer {b = bank} {o = o} lt lo hi (b.sees {lead = lead} {at = stood} here own l le) offset number) from to =
           let same : bank ≡ at = in-one g own stands in
           let there : bank < banks g = in-table g (c .noded) some-bank own lt in
           let s = h .sizes bank o there offset in
-          let fits : o + (q + lead) + m ≤ o + s .0 =
+          let fits : o + (stood .position + lead) + m ≤ o + s .0 =
           ⊎-elim (λ le. omega arith)
           (λ past. absurd (clear i (10, i, 0, b.past-size (lt, inr (lo, hi)) (b.sees here own l le) (b.item (λ e. omega arith) number) (s .1) past)))
-          (le-or-lt (q + lead + m) (s .0)) in
+          (le-or-lt (stood .position + lead + m) (s .0)) in
           subst (λ (x : ℕ). InPages g page x bit) same (record {
             o = o;
             n = s .0 / page;

@@ -35,7 +35,7 @@ use Rattle.meets_sentences.specs.Typed.{Typed}
 use Rattle.meets_build.specs.Laws.Shown.{Shown, Tells, listed, number-is}
 use Rattle.meets_build.specs.Laws.Table.{table, shown}
 use Rattle.says.specs.Profile as p
-use Rattle.says.specs.Profile.{OneBit, Whole, FirstNode, BadLabel, BadAlign, BadOffset, BadSize, BadUnit, BadAddr, Rules}
+use Rattle.says.specs.Profile.{OneBit, Multiple, FirstNode, BadLabel, BadAlign, BadOffset, BadSize, BadUnit, BadAddr, Rules}
 use Rattle.meets_profile.specs.Laws.Sound.{no-node-bad}
 use Rattle.meets_profile.specs.Laws.Tried.{Keeps}
 
@@ -78,13 +78,13 @@ aligned-true a e h =
     let some : eqb a 0 ≡ false = ne-eqb a 0 (λ z. omega arith) in
     one-bit-power a .0 (let f : false || oneBit a ≡ true = rw some at e in f)
 
-pub whole-when : (m x : ℕ) → multiple x m ≡ true → Whole m x
+pub whole-when : (m x : ℕ) → multiple x m ≡ true → Multiple m x
 whole-when m x e = (x / m, let q = div-add-mod' x m in omega (arith, q, eqb-true (x % m) 0 e))
 
-whole-only : (m x : ℕ) → Whole m x → multiple x m ≡ true
+whole-only : (m x : ℕ) → Multiple m x → multiple x m ≡ true
 whole-only m x w = eq-eqb (x % m) 0 (ap (λ (y : ℕ). y % m) (w .1) ∙ mul-mod-left (w .0) m)
 
-pub not-whole : (m x : ℕ) → multiple x m ≡ false → Whole m x → ⊥
+pub not-whole : (m x : ℕ) → multiple x m ≡ false → Multiple m x → ⊥
 not-whole m x e w = clash (whole-only m x w) e
 
 -- ---- banks
@@ -197,7 +197,7 @@ module _ (g : Given) where
         p.align (x .is-kind) (x .listed-row) (number-is g (table g) (x .row) i h) (w .0) (w .1)
 
     align-good : alignsKept (listed g) i ≡ true → BadAlign g i → ⊥
-    align-good e (p.align {r} {n} k rn num some off) =
+    align-good e (p.align {r} {v = n} k rn num some off) =
         let same : numberIn (listed g) r i ≡ n = number-one g (number-is g (table g) r i h) num in
         off (subst OneBit same (aligned-true (numberIn (listed g) r i) (rows-good i 8 aligned e k r rn) (omega arith)))
 
@@ -230,15 +230,15 @@ module _ (g : Given) where
           let x = rows-bad i 9 (λ y. multiple y unitHere) e in
           p.addr (x .is-kind) (in-force i) (x .listed-row) (number-is g (table g) (x .row) i h)
           (λ w. not-whole unitHere (numberIn (listed g) (x .row) i) (x .fails)
-          (subst (λ (u : ℕ). Whole u (numberIn (listed g) (x .row) i)) (sym unit-here) w))
+          (subst (λ (u : ℕ). Multiple u (numberIn (listed g) (x .row) i)) (sym unit-here) w))
 
       addr-good : addrsKept (table g) (listed g) i ≡ true → BadAddr g i → ⊥
-      addr-good e (p.addr {b} {r} {n} k at rn num off) =
+      addr-good e (p.addr {b} {r} {v = n} k at rn num off) =
           let same : numberIn (listed g) r i ≡ n = number-one g (number-is g (table g) r i h) num in
           let bank : here ≡ b = in-one g (in-force i) at in
-          let w : Whole unitHere (numberIn (listed g) r i) =
+          let w : Multiple unitHere (numberIn (listed g) r i) =
           whole-when unitHere (numberIn (listed g) r i) (rows-good i 9 (λ y. multiple y unitHere) e k r rn) in
-          off (subst (λ (u : ℕ). Whole u n) (unit-here ∙ ap (unit g) bank) (subst (Whole unitHere) same w))
+          off (subst (λ (u : ℕ). Multiple u n) (unit-here ∙ ap (unit g) bank) (subst (Multiple unitHere) same w))
 
     -- ---- all six
 

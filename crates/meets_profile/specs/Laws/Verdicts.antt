@@ -18,7 +18,7 @@ use Rattle.c_tables.specs.Tables.{choicesBy}
 use Rattle.c_answers.specs.Told as told
 use Rattle.says.specs.Words as w
 use Rattle.says.specs.Build as b
-use Rattle.says.specs.Build.{Given, Lent, Outcome, Last, Accepts, Built, Laid, BuildSays, refusal}
+use Rattle.says.specs.Build.{Given, Lent, Outcome, LastPass, Accepts, Built, Laid, BuildSays, refusal}
 use Rattle.meets_sentences.specs.Typed.{Typed}
 use Rattle.meets_build.specs.Laws.Shown.{listed}
 use Rattle.meets_build.specs.Laws.Table.{table}
@@ -31,7 +31,7 @@ use Rattle.meets_profile.specs.Laws.Ruled.{rules-say}
 module _ (g : Given) (old : Lent) where
   -- ---- what comes after 4 has run a pass
 
-  last-runs : {k n : ℕ} → Last g k n → 1 ≤ n
+  last-runs : {k n : ℕ} → LastPass g k n → 1 ≤ n
   last-runs (b.limit-zero e) = omega arith
   last-runs (b.below h l go r u) = omega arith
   last-runs (b.at-limit h go) = h
@@ -43,13 +43,13 @@ module _ (g : Given) (old : Lent) where
   accepts-ran h (b.accepts p f) = h
 
   built-ran : {r k n : ℕ} {y : Outcome} → 1 ≤ n → Built g old r k n y → Ran y
-  built-ran h (b.refused f w.is) = h
+  built-ran h (b.refused f) = h
   built-ran {y = y} h (b.placed clear l c t) = tries-all Ran (λ x. h) y (tries-all Ran (λ x. h) y (accepts-ran h)) t
 
   laid-ran : {y : Outcome} → Laid g old y → Ran y
-  laid-ran (b.stops h l go f s w.is) = h
-  laid-ran (b.last-stops p f s w.is) = last-runs p
-  laid-ran (b.unresolved p r u w.is) = last-runs p
+  laid-ran (b.stops h l go f s) = h
+  laid-ran (b.last-stops p f s) = last-runs p
+  laid-ran (b.unresolved p r u) = last-runs p
   laid-ran (b.built p r u q t) = built-ran (last-runs p) t
 
   module _ (typed : Typed g) where

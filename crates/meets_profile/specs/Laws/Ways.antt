@@ -16,7 +16,7 @@ use Rattle.says.specs.Build.{Given, banks, unit, flag, Size, Offset, nodes, Bad
 use Rattle.says.specs.Words.{Not}
 use Rattle.meets_sentences.specs.Laws.First.{none-at-all, no-pair-at-all}
 use Rattle.says.specs.Profile as p
-use Rattle.says.specs.Profile.{OneBit, Whole, FirstBank, FirstNode, Checks, Rules, BadLabel, BadAlign, BadOffset, BadSize, BadUnit, BadAddr}
+use Rattle.says.specs.Profile.{OneBit, Multiple, FirstBank, FirstNode, Checks, Rules, BadLabel, BadAlign, BadOffset, BadSize, BadUnit, BadAddr}
 use Rattle.meets_profile.specs.Ticket9 as t
 use Rattle.meets_profile.specs.Ticket9.{Sound, Holds, Breaks, Names}
 use Rattle.meets_profile.specs.Laws.Ruled.{not-one, whole-when, not-whole}
@@ -31,7 +31,7 @@ try-way So y each then (passed none t) = then none t
 one-or-not : (n : ℕ) → Not (Not (OneBit n)) → OneBit n
 one-or-not n h = either (oneBit n) (λ e. one-bit-power n .0 e) (λ e. absurd (h (not-one n e)))
 
-whole-or-not : (m n : ℕ) → Not (Not (Whole m n)) → Whole m n
+whole-or-not : (m n : ℕ) → Not (Not (Multiple m n)) → Multiple m n
 whole-or-not m n h = either (multiple n m) (λ e. whole-when m n e) (λ e. absurd (h (not-whole m n e)))
 
 module _ (g : Given) where
@@ -87,7 +87,7 @@ module _ (g : Given) where
       no-addr : (i : ℕ) → i < nodes g → Not (BadAddr g i)
       no-addr i h bad = none-at-all (λ i. (i < nodes g) × BadAddr g i) (k .addrs) i (h, bad)
 
-      has-size : (b o : ℕ) → b < banks g → Offset g b o → (m : ℕ) × Size g b m × Whole page m
+      has-size : (b o : ℕ) → b < banks g → Offset g b o → (m : ℕ) × Size g b m × Multiple page m
       has-size b o h at =
           either (eqb (flag g b % 2) 1)
           (λ e.
@@ -117,15 +117,15 @@ module _ (g : Given) where
     pub breaks-not : {turn rule at : ℕ} → Breaks g page turn rule at → Holds g page → ⊥
     breaks-not (t.by-page off) k = off (k .page-size)
     breaks-not (t.by-label {b} h (p.label {a} al some off)) k = off (k .labels b a h al some)
-    breaks-not (t.by-align {i} h (p.align {r} {n} kd rn num some off)) k = off (k .aligns i r n h kd rn num some)
+    breaks-not (t.by-align {i} h (p.align {r} {v = n} kd rn num some off)) k = off (k .aligns i r n h kd rn num some)
     breaks-not (t.by-offset {b} h (p.off-page {o} at off)) k = off (k .offsets b o h at)
     breaks-not (t.by-size {b} h (p.no-size {o} at none)) k = let s = k .sizes b o h at in none (s .0) (s .1)
     breaks-not (t.by-size {b} h (p.ragged {o} {m} at s off)) k = off (same (k .sizes b o h at))
       where
-        same : ((m : ℕ) × Size g b m × Whole page m) → Whole page m
+        same : ((m : ℕ) × Size g b m × Multiple page m) → Multiple page m
         same w = let e : w .0 ≡ m = omega (arith, w .1 .1, s .1) in rw (← e) (w .2)
     breaks-not (t.by-unit {b} h bad) k = ⊎-elim (bad .0) (bad .1) (k .units b h)
-    breaks-not (t.by-addr {i} h (p.addr {b} {r} {n} kd at rn num off)) k = off (k .addrs i b r n h kd at rn num)
+    breaks-not (t.by-addr {i} h (p.addr {b} {r} {v = n} kd at rn num off)) k = off (k .addrs i b r n h kd at rn num)
 
     pub holds-keeps : Holds g page → Keeps g page
     holds-keeps k = record {

@@ -95,11 +95,11 @@ pub record ProfileCases : Type 0 where
 
 -- ---- numbers within their types
 
-abbrev within : ℕ → List ℕ → Bool
+abbrev pub within : ℕ → List ℕ → Bool
 within top [] = true
 within top (x ∷ l) = leb x top && within top l
 
-small : (top : ℕ) (l : List ℕ) → within top l ≡ true → (b : ℕ) → getD l b 0 ≤ top
+pub small : (top : ℕ) (l : List ℕ) → within top l ≡ true → (b : ℕ) → getD l b 0 ≤ top
 small top [] e b = omega arith
 small top (x ∷ l) e zero = leb-true x top (both (leb x top) (within top l) e .0)
 small top (x ∷ l) e (suc b) = small top l (both (leb x top) (within top l) e .1) b

@@ -1,6 +1,6 @@
 -- The sentences of a build leave one walk: a node stands in one bank, and before each node each bank is at one position, known or not, with one
 -- sum of bits and of whole units lost. From the sentences alone.
-use mathlib.Core.Path.{_≡_, refl, sym, ap, _∙_}
+use mathlib.Core.Path.{_≡_, refl, sym, ap, ap₂, _∙_}
 use mathlib.Core.Bool.{Bool, true, false}
 use mathlib.Core.Logic.{_⊎_, inl, inr, ⊎-elim}
 use Prim.Native.Nat.{ℕ, suc, _+_, _/_, _≤_, _<_}
@@ -10,8 +10,8 @@ use native.Mathlib.Nat.{zero-div}
 use native.Mathlib.Omega.{arith}
 use Rattle.iter.specs.declared.Lost.{Lost}
 use Rattle.says.specs.Build as b
-use Rattle.says.specs.Build.{Given, losing, In, Number, Distance, Lead, Advance, Known, Loses, BankAt, Sees, Reads, Offer, StoredCount}
-use Rattle.says.specs.Build.{Inherited, Fill}
+use Rattle.says.specs.Build.{Given, losing, In, Number, Distance, Lead, Advance, Known, Loses, Standing, BankAt, Sees, Reads, Offer, StoredCount}
+use Rattle.says.specs.Build.{Inherited}
 use Rattle.says.specs.Build.{Extent, OffsetWord, IsSpan, Spans}
 
 -- sums with a skip of no bits
@@ -47,9 +47,9 @@ module _ (g : Given) where
   lead-one {i} {c} {p} (b.symbol {a} k o h d) (b.symbol {a = a′} k′ o′ h′ d′) =
       let same : a′ ≡ a = omega (arith, h .1, h′ .1) in
       distance-one d (rw same at d′)
-  lead-one (b.symbol k o h d) (b.other n) = absurd (n (k, o, h .0))
-  lead-one (b.other n) (b.symbol k o h d) = absurd (n (k, o, h .0))
-  lead-one (b.other n) (b.other m) = refl
+  lead-one (b.symbol k o h d) (b.unaligned n) = absurd (n (k, o, h .0))
+  lead-one (b.unaligned n) (b.symbol k o h d) = absurd (n (k, o, h .0))
+  lead-one (b.unaligned n) (b.unaligned m) = refl
 
   neither : {k : ℕ} → (k ≤ 3) ⊎ (k ≡ 10) → 4 ≤ k → k ≤ 9 → ⊥
   neither e h l = ⊎-elim (λ x. omega arith) (λ x. omega arith) e
@@ -65,7 +65,7 @@ module _ (g : Given) where
   advance-one (b.adds h l n) (b.sets k n′) = absurd (omega arith)
   advance-one (b.aligns k n d) (b.stays f) = absurd (neither f (omega arith) (omega arith))
   advance-one (b.aligns k n d) (b.adds h l n′) = absurd (omega arith)
-  advance-one (b.aligns {n = m} {d = d} k n x) (b.aligns {n = m′} {d = e} k′ n′ y) =
+  advance-one (b.aligns {v = m} {d = d} k n x) (b.aligns {v = m′} {d = e} k′ n′ y) =
       let same : m′ ≡ m = sym (number-one n n′) in
       omega (arith, distance-one x (rw same at y))
   advance-one (b.aligns k n d) (b.sets k′ n′) = absurd (omega arith)
@@ -81,46 +81,45 @@ module _ (g : Given) where
   known-one (b.left e) (b.left f) = refl
   known-one (b.left e) (b.kept h l n z) = refl
   known-one (b.left e) (b.made k z) = absurd (untouched e (omega arith) (omega arith) (λ f. omega arith))
-  known-one (b.left e) (b.lost h l n z) = absurd (untouched e h l n)
+  known-one (b.left e) (b.unmade h l n z) = absurd (untouched e h l n)
   known-one (b.kept h l n z) (b.left f) = refl
   known-one (b.kept h l n z) (b.kept h′ l′ n′ z′) = refl
   known-one (b.kept h l n z) (b.made k z′) = absurd (omega arith)
-  known-one (b.kept h l n z) (b.lost h′ l′ n′ z′) = absurd (z′ z)
+  known-one (b.kept h l n z) (b.unmade h′ l′ n′ z′) = absurd (z′ z)
   known-one (b.made k z) (b.left f) = absurd (untouched f (omega arith) (omega arith) (λ f. omega arith))
   known-one (b.made k z) (b.kept h l n z′) = absurd (omega arith)
   known-one (b.made k z) (b.made k′ z′) = refl
-  known-one (b.made k z) (b.lost h l n z′) = absurd (z′ z)
-  known-one (b.lost h l n z) (b.left f) = absurd (untouched f h l n)
-  known-one (b.lost h l n z) (b.kept h′ l′ n′ z′) = absurd (z z′)
-  known-one (b.lost h l n z) (b.made k z′) = absurd (z z′)
-  known-one (b.lost h l n z) (b.lost h′ l′ n′ z′) = refl
+  known-one (b.made k z) (b.unmade h l n z′) = absurd (z′ z)
+  known-one (b.unmade h l n z) (b.left f) = absurd (untouched f h l n)
+  known-one (b.unmade h l n z) (b.kept h′ l′ n′ z′) = absurd (z z′)
+  known-one (b.unmade h l n z) (b.made k z′) = absurd (z z′)
+  known-one (b.unmade h l n z) (b.unmade h′ l′ n′ z′) = refl
 
-  loses-one : {r i c lead p x y : ℕ} → Loses g r i c lead p x → Loses g r i c lead p y → x ≡ y
-  loses-one (b.by-align {n = m} e n d) (b.by-align {n = m′} e′ n′ d′) =
-      let same : m′ ≡ m = sym (number-one n n′) in
-      distance-one d (rw same at d′)
-  loses-one (b.by-align e n d) (b.by-lead o) = absurd (o e)
-  loses-one (b.by-lead o) (b.by-align e n d) = absurd (o e)
+  loses-one : {i lead p q x y : ℕ} → Loses g i lead p q x → Loses g i lead p q y → x ≡ y
+  loses-one (b.by-align e d) (b.by-align e′ d′) = omega arith
+  loses-one (b.by-align e d) (b.by-lead o) = absurd (o e)
+  loses-one (b.by-lead o) (b.by-align e d) = absurd (o e)
   loses-one (b.by-lead o) (b.by-lead o′) = refl
 
   -- Before each node each bank is at one position, known or not, with one sum of bits and one of whole units lost.
-  pub at-one : {r i c p p′ : ℕ} {k k′ : Bool} {s s′ : Lost} → BankAt g r i c p k s → BankAt g r i c p′ k′ s′ → (p ≡ p′) × (k ≡ k′) × (s ≡ s′)
+  pub at-one : {r i c : ℕ} {at at′ : Standing} → BankAt g r i c at → BankAt g r i c at′
+      → (at .position ≡ at′ .position) × (at .known ≡ at′ .known) × (at .lost ≡ at′ .lost)
   at-one b.begins b.begins = (refl, refl, refl)
   at-one (b.keeps x n) (b.keeps y m) = at-one x y
-  at-one (b.keeps x n) (b.moves y h l le a q k o) = absurd (n h)
-  at-one (b.moves x h l le a q k o) (b.keeps y m) = absurd (m h)
-  at-one (b.moves {p = p} {lead = lead} {q = q} x h l le a m k o) (b.moves {p = p′} {lead = lead′} {q = q′} y h′ l′ le′ a′ m′ k′ o′) =
+  at-one (b.keeps x n) (b.moves y h l le adv low kn los sum) = absurd (n h)
+  at-one (b.moves x h l le adv low kn los sum) (b.keeps y n) = absurd (n h)
+  at-one {c = c} (b.moves {lead = lead} {d = d} {at = at} {new = new} x h l le adv low kn los sum) (b.moves {lead = lead′} {d = d′} {at = at′} {new = new′} y h′ l′ le′ adv′ low′ kn′ los′ sum′) =
       let e = at-one x y in
-      let same : p′ ≡ p = sym (e .0) in
+      let same : at′ .position ≡ at .position = sym (e .0) in
       let leads : lead ≡ lead′ = lead-one l (rw same at l′) in
-      let seen : p′ + lead′ ≡ p + lead = omega arith in
-      let ends : q ≡ q′ = advance-one a (rw seen at a′) in
-      let known = known-one k (rw (← (e .1)) at k′) in
-      let lost = loses-one o (rw (seen, ← leads) at o′) in
-      (ends, known, rw (e .2, lost))
+      let seen : at′ .position + lead′ ≡ at .position + lead = omega arith in
+      let ends : new .position ≡ new′ .position = advance-one adv (rw seen at adv′) in
+      let known = known-one kn (rw (← (e .1)) at kn′) in
+      let skips : d ≡ d′ = loses-one los (rw (seen, ← leads, ← ends) at los′) in
+      (ends, known, sum ∙ ap₂ (λ (s : Lost) (k : ℕ). losing (s .bits + k) (s .units + k / b.unit g c)) (e .2) skips ∙ sym sum′)
 
   pub sees-one : {r i c c′ p p′ : ℕ} {k k′ : Bool} → Sees g r i c p k → Sees g r i c′ p′ k′ → (c ≡ c′) × (p ≡ p′) × (k ≡ k′)
-  sees-one (b.sees {p = p} {lead = d} x h l le) (b.sees {p = p′} {lead = d′} y h′ l′ le′) =
+  sees-one (b.sees {lead = d} {at = at} x h l le) (b.sees {lead = d′} {at = at′} y h′ l′ le′) =
       let bank = in-one h′ h in
       let e = at-one x (rw bank at y) in
       let lead = lead-one l (rw (bank, sym (e .0)) at l′) in
@@ -153,9 +152,9 @@ module _ (g : Given) where
   pub spans-one : {i x y : ℕ} → Spans g i x → Spans g i y → x ≡ y
   spans-one b.before-all b.before-all = refl
   spans-one (b.more s h) (b.more t k) = ap suc (spans-one s t)
-  spans-one (b.more s h) (b.other t n) = absurd (n h)
-  spans-one (b.other s n) (b.more t h) = absurd (n h)
-  spans-one (b.other s n) (b.other t m) = spans-one s t
+  spans-one (b.more s h) (b.no-span t n) = absurd (n h)
+  spans-one (b.no-span s n) (b.more t h) = absurd (n h)
+  spans-one (b.no-span s n) (b.no-span t m) = spans-one s t
 
   pub three : (m n : ℕ) {X : Type 0} → (m < n → X) → (m ≡ n → X) → (n < m → X) → X
   three m n f h k = ⊎-elim (λ le. ⊎-elim (λ ge. h (omega arith)) (λ lt. f lt) (le-or-lt n m)) k (le-or-lt m n)
@@ -164,29 +163,23 @@ module _ (g : Given) where
   held-one b.at-first b.at-first = (refl, refl)
   held-one (b.more h o s) (b.more k p t) = let e = held-one h k in (ap suc (e .0), e .1)
   held-one (b.more h o s) (b.marks k p) = absurd (omega (arith, offer-one o p .1))
-  held-one (b.more h o s) (b.other k n) = absurd (n _ _ o)
+  held-one (b.more h o s) (b.not-offered k n) = absurd (n _ _ o)
   held-one (b.marks h o) (b.more k p t) = absurd (omega (arith, offer-one o p .1))
   held-one (b.marks h o) (b.marks k p) = let e = held-one h k in (e .0, ap suc (e .1))
-  held-one (b.marks h o) (b.other k n) = absurd (n _ _ o)
-  held-one (b.other h n) (b.more k p t) = absurd (n _ _ p)
-  held-one (b.other h n) (b.marks k p) = absurd (n _ _ p)
-  held-one (b.other h n) (b.other k m) = held-one h k
+  held-one (b.marks h o) (b.not-offered k n) = absurd (n _ _ o)
+  held-one (b.not-offered h n) (b.more k p t) = absurd (n _ _ p)
+  held-one (b.not-offered h n) (b.marks k p) = absurd (n _ _ p)
+  held-one (b.not-offered h n) (b.not-offered k m) = held-one h k
 
   -- the fill's length
   pub inherited-one : {c x y : ℕ} → Inherited g c x → Inherited g c y → x ≡ y
   inherited-one b.no-bank-yet b.no-bank-yet = refl
-  inherited-one (b.raised i f s o h l) (b.raised i′ f′ s′ o′ h′ l′) = omega (arith, s .1, s′ .1, o .1, o′ .1)
-  inherited-one (b.raised i f s o h l) (b.reached i′ f′ s′ o′ h′ l′) = absurd (omega (arith, inherited-one i i′, s .1, s′ .1, o .1, o′ .1))
-  inherited-one (b.raised i f s o h l) (b.other i′ n) = absurd (n _ _ f s o)
-  inherited-one (b.reached i f s o h l) (b.raised i′ f′ s′ o′ h′ l′) = absurd (omega (arith, inherited-one i i′, s .1, s′ .1, o .1, o′ .1))
-  inherited-one (b.reached i f s o h l) (b.reached i′ f′ s′ o′ h′ l′) = inherited-one i i′
-  inherited-one (b.reached i f s o h l) (b.other i′ n) = absurd (n _ _ f s o)
-  inherited-one (b.other i n) (b.raised i′ f s o h l) = absurd (n _ _ f s o)
-  inherited-one (b.other i n) (b.reached i′ f s o h l) = absurd (n _ _ f s o)
-  inherited-one (b.other i n) (b.other i′ n′) = inherited-one i i′
-
-  pub fill-one : {x y : ℕ} → Fill g x → Fill g y → x ≡ y
-  fill-one (b.inherited e i) (b.inherited f j) = inherited-one i j
-  fill-one (b.inherited e i) (b.full f x l) = absurd (omega arith)
-  fill-one (b.full e x l) (b.inherited f i) = absurd (omega arith)
-  fill-one (b.full {l = m} e x l) (b.full {l = n} f y k) = omega (arith, l n y, k m x)
+  inherited-one (b.raised i (f, s, o) h l) (b.raised i′ (f′, s′, o′) h′ l′) = omega (arith, s .1, s′ .1, o .1, o′ .1)
+  inherited-one (b.raised i (f, s, o) h l) (b.reached i′ (f′, s′, o′) h′ l′) = absurd (omega (arith, inherited-one i i′, s .1, s′ .1, o .1, o′ .1))
+  inherited-one (b.raised i (f, s, o) h l) (b.not-filled i′ n) = absurd (n _ _ (f, s, o))
+  inherited-one (b.reached i (f, s, o) h l) (b.raised i′ (f′, s′, o′) h′ l′) = absurd (omega (arith, inherited-one i i′, s .1, s′ .1, o .1, o′ .1))
+  inherited-one (b.reached i (f, s, o) h l) (b.reached i′ (f′, s′, o′) h′ l′) = inherited-one i i′
+  inherited-one (b.reached i (f, s, o) h l) (b.not-filled i′ n) = absurd (n _ _ (f, s, o))
+  inherited-one (b.not-filled i n) (b.raised i′ (f, s, o) h l) = absurd (n _ _ (f, s, o))
+  inherited-one (b.not-filled i n) (b.reached i′ (f, s, o) h l) = absurd (n _ _ (f, s, o))
+  inherited-one (b.not-filled i n) (b.not-filled i′ n′) = inherited-one i i′

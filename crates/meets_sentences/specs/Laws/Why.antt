@@ -26,7 +26,7 @@ module _ (g : Given) where
 
   pub ten-of : {r i number place second : ℕ} → Why g r i number place second → number ≡ 10 → Ten g r i
   ten-of (b.bank-0 p h c) e = absurd (omega arith)
-  ten-of (b.past-size {b = c} {p} {e = x} {m} {k} h s y z l) e = (h, (c, p, k, x, m, s, y, z, l))
+  ten-of (b.past-size {b = c} {p} {e = x} {m} {known = k} h s y z l) e = (h, (c, p, k, x, m, s, y, z, l))
   ten-of (b.no-output h w x n) e = absurd (omega arith)
   ten-of (b.overlaps o n) e = absurd (omega arith)
   ten-of (b.full o s f) e = absurd (omega arith)
@@ -60,10 +60,10 @@ module _ (g : Given) where
     where
       by : {number place second : ℕ} → Why g r i number place second → k ≤ number
       by (b.bank-0 p h c) = ⊎-elim (λ (l : k ≤ 9). l) (λ (l : 9 < k). absurd (n9 l (p, h, c))) (le-or-lt k 9)
-      by (b.past-size {b = c} {p} {e = x} {m} {k = known} h s y z past) =
+      by (b.past-size {b = c} {p} {e = x} {m} {known} h s y z past) =
           ⊎-elim (λ (l : k ≤ 10). l) (λ (l : 10 < k). absurd (n10 l (h, (c, p, known, x, m, s, y, z, past)))) (le-or-lt k 10)
       by (b.no-output {b = c} h w x n) = ⊎-elim (λ (l : k ≤ 11). l) (λ (l : 11 < k). absurd (n11 l (h, w, (c, x, n)))) (le-or-lt k 11)
-      by (b.overlaps {x} {m} {y} {n} o v) = ⊎-elim (λ (l : k ≤ 12). l) (λ (l : 12 < k). absurd (n12 l (y, n) (x, m, o, v))) (le-or-lt k 12)
+      by (b.overlaps {x} {s = m} {y} {t = n} o v) = ⊎-elim (λ (l : k ≤ 12). l) (λ (l : 12 < k). absurd (n12 l (y, n) (x, m, o, v))) (le-or-lt k 12)
       by (b.full o s f) = most
 
   -- every number is one of 9 to 13

@@ -19,7 +19,7 @@ use Rattle.bitvec.specs.Theorems.Written.{length-written}
 use Rattle.says.specs.Build as b
 use Rattle.says.specs.Build.{Given, Lent, Outcome, nodes, kind, operand, flag, IsWritten, Number, In, Sees, Offer}
 use Rattle.says.specs.Words.{Not}
-use Rattle.says.specs.Build.{Refuses, IsSpan, Spans, SpanAt, OfItem, Fills}
+use Rattle.says.specs.Build.{Refuses, IsSpan, Spans, SpanAt, OfItem, InFilled}
 use Rattle.meets_sentences.specs.Laws.One.{three, offer-one}
 use Rattle.meets_sentences.specs.Laws.Items.{Holds, Alone, its-own, free, as-long, in-bytes, puts-there}
 use Rattle.meets_sentences.specs.InTurn as turn
@@ -115,7 +115,7 @@ module _ (g : Given) (old : Lent) (o : Outcome) (a : AcceptedSo g old o) where
       differ (own-bit g r clear run (all (it .0) (offer-listed g (it .4)) (it .3)) (it .4) (it .5) (it .6)
       ∙ sym (subst (λ (n : ℕ). bitAt (o .lent .image) n ≡ bitAt (g .values) (operand g (it .0) + (k - x))) whole own)) in
       let same : bitAt last k ≡ bitAt image k = other-bit g r clear run (λ i x m w q low high. none (i, x, m, w, q, low, high)) in
-      let bare : (n : ℕ) → Not (Fills g old (o .answer .length) n k) = λ n range.
+      let bare : (n : ℕ) → Not (InFilled g old (o .answer .length) n k) = λ n range.
       differ (same ∙ blank .fill-bit k n range ∙ sym (left .fill-bit k n none range)) in
       differ (same ∙ blank .zero-bit k bare ∙ sym (left .zero-bit k none bare))))
 
@@ -145,7 +145,7 @@ module _ (g : Given) where
   spans-before zero = (0, b.before-all)
   spans-before (suc i) =
       let (n, s) = spans-before i in
-      ⊎-elim (λ h. (suc n, b.more s h)) (λ h. (n, b.other s h)) (span-or-not i)
+      ⊎-elim (λ h. (suc n, b.more s h)) (λ h. (n, b.no-span s h)) (span-or-not i)
 
   stands-in : {r i c p : ℕ} {k : Bool} → Sees g r i c p k → In g i c
   stands-in (b.sees x h l le) = h
@@ -158,7 +158,7 @@ module _ (g : Given) where
 module _ (g : Given) (old : Lent) (o : Outcome) (a : AcceptedSo g old o) where
   sees-there : {i n : ℕ} → Spans g i n → IsSpan g i → {z : ℤ} {w e : ℕ} → SpanAt g (a .row) n z w e
       → (c : ℕ) × (p : ℕ) × (k : Bool) × Sees g (a .row) i c p k
-  sees-there {i} s h (b.span {i = j} {b = c} {p = p} {k = k} lt h′ s′ x ex w) =
+  sees-there {i} s h (b.span {i = j} {b = c} {p = p} {known = k} lt h′ s′ x ex w) =
       let same : j ≡ i =
       three g i j (λ l. absurd (omega (arith, spans-less g s h s′ l))) (λ e. sym e) (λ l. absurd (omega (arith, spans-less g s′ h′ s l))) in
       (c, p, k, subst (λ (m : ℕ). Sees g (a .row) m c p k) same x)

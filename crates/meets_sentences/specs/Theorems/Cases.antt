@@ -16,7 +16,7 @@ use Rattle.says.specs.Banks.{Meet}
 use Rattle.says.specs.Build as b
 use Rattle.says.specs.Build.{Given, Lent, Outcome, banks, start, flag, Size, Offset, Filled, Unsized, NoBanks, BadBank, Overlap}
 use Rattle.says.specs.Words.{Not}
-use Rattle.says.specs.Build.{nodes, BadField, BadNode, Sees, Extent, Placed, Why, Inherited, Ends, Unresolved, Last, refusal, BuildSays}
+use Rattle.says.specs.Build.{nodes, BadField, BadNode, Sees, Extent, Placed, Why, Inherited, Unresolved, LastPass, refusal, BuildSays}
 use Rattle.says.specs.Build.{Interval, Clash, Names}
 use Rattle.meets_sentences.specs.Grounds as ground
 use Rattle.meets_sentences.specs.Grounds.{Overlaps}
@@ -95,7 +95,7 @@ module _ (g : Given) where
     pub limit-0 : (o : Outcome) → AcceptedSo g old o → g .limit ≡ 0 → (o .answer .k ≡ 0) × (o .answer .passes ≡ 1)
     limit-0 o a e = by (a .last)
       where
-        by : {k n : ℕ} → Last g k n → (k ≡ 0) × (n ≡ 1)
+        by : {k n : ℕ} → LastPass g k n → (k ≡ 0) × (n ≡ 1)
         by (b.limit-zero z) = (refl, refl)
         by (b.below h l go r u) = absurd (omega arith)
         by (b.at-limit h go) = absurd (omega arith)
@@ -103,7 +103,7 @@ module _ (g : Given) where
     pub limit-1 : (o : Outcome) → AcceptedSo g old o → g .limit ≡ 1 → (o .answer .k ≡ 1) × (o .answer .passes ≡ 1)
     limit-1 o a e = by (a .last)
       where
-        by : {k n : ℕ} → Last g k n → (k ≡ 1) × (n ≡ 1)
+        by : {k n : ℕ} → LastPass g k n → (k ≡ 1) × (n ≡ 1)
         by (b.limit-zero z) = absurd (omega arith)
         by (b.below h l go r u) = absurd (omega arith)
         by (b.at-limit h go) = (e, e)
@@ -112,7 +112,7 @@ module _ (g : Given) where
     pub limit-2 : (o : Outcome) → AcceptedSo g old o → 2 ≤ g .limit → Not (Unresolved g 1) → (o .answer .k ≡ 1) × (o .answer .passes ≡ 2)
     limit-2 o a e u = by (a .last)
       where
-        by : {k n : ℕ} → Last g k n → (k ≡ 1) × (n ≡ 2)
+        by : {k n : ℕ} → LastPass g k n → (k ≡ 1) × (n ≡ 2)
         by (b.limit-zero z) = absurd (omega arith)
         by (b.below {k} h l go r v) =
             let small : Not (1 < k) = λ more. u (go 1 (omega arith) more .1) in
@@ -198,19 +198,19 @@ module _ (g : Given) where
 
   -- "P fill alone, offset 0: size 1 gives length 0, size 2 gives 2": bank 0 filled, alone
   pub fill-of-size-1 : {l : ℕ} → Size g 0 1 → Offset g 0 0 → Inherited g 1 l → l ≡ 0
-  fill-of-size-1 s o (b.raised b.no-bank-yet f s′ o′ h k) = absurd (omega (arith, s .1, s′ .1, o .1, o′ .1))
-  fill-of-size-1 s o (b.reached b.no-bank-yet f s′ o′ h k) = refl
-  fill-of-size-1 s o (b.other b.no-bank-yet n) = refl
+  fill-of-size-1 s o (b.raised b.no-bank-yet (f, s′, o′) h k) = absurd (omega (arith, s .1, s′ .1, o .1, o′ .1))
+  fill-of-size-1 s o (b.reached b.no-bank-yet (f, s′, o′) h k) = refl
+  fill-of-size-1 s o (b.not-filled b.no-bank-yet n) = refl
 
   pub fill-of-size-2 : {l : ℕ} → Filled g 0 → Size g 0 2 → Offset g 0 0 → Inherited g 1 l → l ≡ 2
-  fill-of-size-2 f s o (b.raised b.no-bank-yet f′ s′ o′ h k) = omega (arith, s .1, s′ .1, o .1, o′ .1)
-  fill-of-size-2 f s o (b.reached b.no-bank-yet f′ s′ o′ h k) = absurd (omega (arith, s .1, s′ .1, o .1, o′ .1))
-  fill-of-size-2 f s o (b.other b.no-bank-yet n) = absurd (n _ _ f s o)
+  fill-of-size-2 f s o (b.raised b.no-bank-yet (f′, s′, o′) h k) = omega (arith, s .1, s′ .1, o .1, o′ .1)
+  fill-of-size-2 f s o (b.reached b.no-bank-yet (f′, s′, o′) h k) = absurd (omega (arith, s .1, s′ .1, o .1, o′ .1))
+  fill-of-size-2 f s o (b.not-filled b.no-bank-yet n) = absurd (n _ _ (f, s, o))
 
   -- Ticket 8: "A one-bit lock bank at offset 8 after a filled byte is missing from the image, because the inherited rule does nothing when the length equals
   -- the bank's last bit."
   pub lock-bank-left-out : (c : ℕ) {l : ℕ} → Inherited g c 8 → Size g c 1 → Offset g c 8 → Inherited g (suc c) l → l ≡ 8
-  lock-bank-left-out c before s o (b.raised i f s′ o′ h k) =
+  lock-bank-left-out c before s o (b.raised i (f, s′, o′) h k) =
       absurd (omega (arith, inherited-one g before i, s .1, s′ .1, o .1, o′ .1))
-  lock-bank-left-out c before s o (b.reached i f s′ o′ h k) = inherited-one g i before
-  lock-bank-left-out c before s o (b.other i n) = inherited-one g i before
+  lock-bank-left-out c before s o (b.reached i (f, s′, o′) h k) = inherited-one g i before
+  lock-bank-left-out c before s o (b.not-filled i n) = inherited-one g i before

@@ -21,10 +21,10 @@ use Rattle.says.specs.Words.{Tries, Is, First, FirstPair}
 use Rattle.meets_sentences.specs.Laws.One.{three, in-one, number-one, distance-one, lead-one, advance-one, at-one, sees-one, reads-one}
 use Rattle.meets_sentences.specs.Laws.One.{offer-one, extent-one, word-one, spans-one}
 use Rattle.says.specs.Build as b
-use Rattle.says.specs.Build.{Given, Lent, Outcome, losing, In, Number, Lead, Advance, BankAt, Sees, Reads, Unresolved, Stops, Stopped, Runs}
-use Rattle.says.specs.Build.{GoesOn, Last, Offer}
+use Rattle.says.specs.Build.{Given, Lent, Outcome, losing, In, Number, Lead, Advance, Standing, BankAt, Sees, Reads, Unresolved, Stops, Stopped, RunsThrough}
+use Rattle.says.specs.Build.{UnresolvedBefore, LastPass, Offer}
 use Rattle.says.specs.Build.{Clash, Interval, Mark, Names, Extent, Why, Refuses, FirstWhy, Length, IsSpan, Spans}
-use Rattle.says.specs.Build.{OffsetWord, SpanAt, Padding, OfItem, Fills, Left, Accepts}
+use Rattle.says.specs.Build.{OffsetWord, SpanAt, Padding, OfItem, InFilled, Left, Accepts}
 use Rattle.says.specs.Build.{Built, Laid, BuildSays, NoBanks, BadBank, Overlap, BadField, BadNode}
 use Rattle.says.specs.Build.{refusal, banks, nodes, IsWritten}
 use Rattle.meets_sentences.specs.Grounds as ground
@@ -38,9 +38,9 @@ module _ (g : Given) where
   sees-bound : {r i c p : ℕ} {k : Bool} → Sees g r i c p k → p ≤ 4294967295
   sees-bound (b.sees x h l le) = le
 
-  not-past : {r i c c′ p p′ d : ℕ} {k k′ : Bool} {s : Lost} → Sees g r i c p k → BankAt g r i c′ p′ k′ s → In g i c′ → Lead g i c′ p′ d
-      → 4294967295 < p′ + d → ⊥
-  not-past (b.sees {p = p} {lead = d} x h l le) y h′ l′ past =
+  not-past : {r i c c′ p d : ℕ} {k : Bool} {at′ : Standing} → Sees g r i c p k → BankAt g r i c′ at′ → In g i c′ → Lead g i c′ (at′ .position) d
+      → 4294967295 < at′ .position + d → ⊥
+  not-past (b.sees x h l le) y h′ l′ past =
       let bank = in-one g h′ h in
       let e = at-one g x (rw bank at y) in
       omega (arith, e .0, lead-one g l (rw (bank, sym (e .0)) at l′))
@@ -62,7 +62,7 @@ module _ (g : Given) where
   stops-one (b.off-boundary h t e r s o) (b.move-past h′ r′ s′ a p) = absurd (five-not-seven e s′ a p)
   stops-one (b.off-boundary h t e r s o) (b.off-boundary h′ t′ e′ r′ s′ o′) = refl
 
-  pub last-one : {k n k′ n′ : ℕ} → Last g k n → Last g k′ n′ → (k ≡ k′) × (n ≡ n′)
+  pub last-one : {k n k′ n′ : ℕ} → LastPass g k n → LastPass g k′ n′ → (k ≡ k′) × (n ≡ n′)
   last-one (b.limit-zero e) (b.limit-zero f) = (refl, refl)
   last-one (b.limit-zero e) (b.below o l go r u) = absurd (omega arith)
   last-one (b.limit-zero e) (b.at-limit o go) = absurd (omega arith)
@@ -74,7 +74,7 @@ module _ (g : Given) where
   last-one (b.at-limit o go) (b.below {k = k′} o′ l′ go′ r′ u′) = absurd (u′ (go k′ o′ l′ .1))
   last-one (b.at-limit o go) (b.at-limit o′ go′) = (refl, refl)
 
-  pub early : {n i k m : ℕ} → 1 ≤ n → n < g .limit → GoesOn g n → Stopped g n false i → Last g k m → ⊥
+  pub early : {n i k m : ℕ} → 1 ≤ n → n < g .limit → UnresolvedBefore g n → Stopped g n false i → LastPass g k m → ⊥
   early h l go s (b.limit-zero e) = omega arith
   early {n} {i} h l go s (b.below {k} o l′ go′ r u) =
       three g n k (λ lt. go′ n h lt .0 i s) (λ e. r i (rw e at s)) (λ gt. u (go k o gt .1))
@@ -103,16 +103,16 @@ module _ (g : Given) where
         offer-one g o (rw same at o′) .1
 
     names-one : {x m y n y′ n′ : ℕ} → Names g r i x m y n → Names g r i x m y′ n′ → (y ≡ y′) × (n ≡ n′)
-    names-one (b.above {y} {n} s h l c) (b.above {y = y′} {n = n′} s′ h′ l′ c′) =
+    names-one (b.above {y} {t = n} s h l c) (b.above {y = y′} {t = n′} s′ h′ l′ c′) =
         let e : y′ ≡ y = omega (arith, l y′ n′ s′ h′, l′ y n s h) in (sym e, one-size s (rw e at s′))
-    names-one (b.above {y} {n} s h l c) (b.below s′ h′ l′ c′ no′) = absurd (no′ y n s h c)
-    names-one (b.above {y} {n} s h l c) (b.mark s′ h′ l′ m′ no′) = absurd (no′ y n s c)
-    names-one (b.below s h l c no₁) (b.above {y = y′} {n = n′} s′ h′ l′ c′) = absurd (no₁ y′ n′ s′ h′ c′)
-    names-one (b.below {y} {n} s h l c no₁) (b.below {y = y′} {n = n′} s′ h′ l′ c′ no′) =
+    names-one (b.above {y} {t = n} s h l c) (b.below s′ h′ l′ c′ no′) = absurd (no′ y n s h c)
+    names-one (b.above {y} {t = n} s h l c) (b.mark s′ h′ l′ m′ no′) = absurd (no′ y n s c)
+    names-one (b.below s h l c no₁) (b.above {y = y′} {t = n′} s′ h′ l′ c′) = absurd (no₁ y′ n′ s′ h′ c′)
+    names-one (b.below {y} {t = n} s h l c no₁) (b.below {y = y′} {t = n′} s′ h′ l′ c′ no′) =
         let e : y′ ≡ y = omega (arith, l y′ n′ s′ h′, l′ y n s h) in (sym e, one-size s (rw e at s′))
-    names-one (b.below {y} {n} s h l c no₁) (b.mark s′ h′ l′ m′ no′) = absurd (no′ y n s c)
-    names-one (b.mark s h l m no₁) (b.above {y = y′} {n = n′} s′ h′ l′ c′) = absurd (no₁ y′ n′ s′ c′)
-    names-one (b.mark s h l m no₁) (b.below {y = y′} {n = n′} s′ h′ l′ c′ no′) = absurd (no₁ y′ n′ s′ c′)
+    names-one (b.below {y} {t = n} s h l c no₁) (b.mark s′ h′ l′ m′ no′) = absurd (no′ y n s c)
+    names-one (b.mark s h l m no₁) (b.above {y = y′} {t = n′} s′ h′ l′ c′) = absurd (no₁ y′ n′ s′ c′)
+    names-one (b.mark s h l m no₁) (b.below {y = y′} {t = n′} s′ h′ l′ c′ no′) = absurd (no₁ y′ n′ s′ c′)
     names-one (b.mark {y} s h l m no₁) (b.mark {y = y′} s′ h′ l′ m′ no′) = (omega (arith, m y′ s′ h′, m′ y s h), refl)
 
     -- one number has one place and one second
@@ -146,7 +146,7 @@ module _ (g : Given) where
   spans-less s h b.before-all lt = absurd (omega arith)
   spans-less {i} s h (b.more {i = j} t k) lt =
       three g i j (λ l. omega (arith, spans-less s h t l)) (λ e. omega (arith, spans-one g (rw e at s) t)) (λ l. absurd (omega arith))
-  spans-less {i} s h (b.other {i = j} t n) lt =
+  spans-less {i} s h (b.no-span {i = j} t n) lt =
       three g i j (λ l. spans-less s h t l) (λ e. absurd (n (rw e at h))) (λ l. absurd (omega arith))
 
   span-one : {r at w w′ e e′ : ℕ} {z z′ : ℤ} → SpanAt g r at z w e → SpanAt g r at z′ w′ e′ → (z ≡ z′) × (w ≡ w′) × (e ≡ e′)
@@ -157,7 +157,9 @@ module _ (g : Given) where
 
   padding-one : {r : ℕ} (x y : List Lost) → Padding g r x → Padding g r y → x ≡ y
   padding-one x y p q = ext-getD (losing 0 0) x y (p .0 ∙ sym (q .0)) (λ i h.
-      at-one g (p .1 i (omega (arith, p .0)) .2) (q .1 i (omega (arith, p .0)) .2) .2)
+      let (at, a, e) = p .1 i (omega (arith, p .0)) in
+      let (at′, c, f) = q .1 i (omega (arith, p .0)) in
+      e ∙ at-one g a c .2 ∙ sym f)
 
   module _ (old : Lent) where
     made : List ℕ → List ℤ → List ℕ → List ℕ → Lent
@@ -174,7 +176,7 @@ module _ (g : Given) where
         let inside : k - z < it .2 = omega (arith, it .5, it .6) in
         differ (subst (λ (n : ℕ). bitAt (x .image) n ≡ bitAt (y .image) n) whole
         (f .item-bit (it .0) z (it .2) (k - z) (it .3) (it .4) inside ∙ sym (h .item-bit (it .0) z (it .2) (k - z) (it .3) (it .4) inside))) in
-        let bare : (n : ℕ) → Fills g old l n k → ⊥ = λ n range. differ (f .fill-bit k n none range ∙ sym (h .fill-bit k n none range)) in
+        let bare : (n : ℕ) → InFilled g old l n k → ⊥ = λ n range. differ (f .fill-bit k n none range ∙ sym (h .fill-bit k n none range)) in
         differ (f .zero-bit k none bare ∙ sym (h .zero-bit k none bare)))) in
         let addresses : x .addresses ≡ y .addresses = ext-getD (pos 0) (x .addresses) (y .addresses) (f .as-long .1 ∙ sym (h .as-long .1)) (λ i lt.
         ⊎-elim (λ le. f .rest i le .0 ∙ sym (h .rest i le .0)) (λ in-spans. span-one (f .span i in-spans) (h .span i in-spans) .0) (le-or-lt c i)) in
@@ -202,38 +204,38 @@ module _ (g : Given) where
         (λ _. refusal g old 14 1 0 n) _ (λ a c s t. refl) accepts-one)
 
     built-one : (r k n : ℕ) → OneOnly (Built g old r k n)
-    built-one r k n y z (b.refused f w.is) (b.refused h w.is) = let e = first-why-one f h in rw (e .1, e .2, e .3)
-    built-one r k n y z (b.refused {i} f a) (b.placed clear l c t) = absurd (clear i (f .first .so))
-    built-one r k n y z (b.placed clear l c t) (b.refused {i} f a) = absurd (clear i (f .first .so))
+    built-one r k n y z (b.refused f) (b.refused h) = let e = first-why-one f h in rw (e .1, e .2, e .3)
+    built-one r k n y z (b.refused {i} f) (b.placed clear l c t) = absurd (clear i (f .first .so))
+    built-one r k n y z (b.placed clear l c t) (b.refused {i} f) = absurd (clear i (f .first .so))
     built-one r k n y z (b.placed {l} {c} clear p s t) (b.placed {l = l′} {c = c′} clear′ p′ s′ t′) =
         let longest : l′ ≡ l = omega (arith, p .1 l′ (p′ .0), p′ .1 l (p .0)) in
         let count : c′ ≡ c = spans-one g s′ s in
         room-one r k n l c y z t (rw (longest, count) at t′)
 
     laid-one : OneOnly (Laid g old)
-    laid-one y z (b.stops {n = n} {i = i} {number = m} h l go f s w.is) (b.stops {n = n′} {i = i′} {number = m′} h′ l′ go′ f′ s′ w.is) =
+    laid-one y z (b.stops {n = n} {i = i} {number = m} h l go f s) (b.stops {n = n′} {i = i′} {number = m′} h′ l′ go′ f′ s′) =
         let pass : n′ ≡ n = three g n n′ (λ lt. absurd (go′ n h lt .0 i (f .so))) (λ e. sym e) (λ gt. absurd (go n′ h′ gt .0 i′ (f′ .so))) in
         let node : i′ ≡ i = first-one (Stopped g n false) i′ i (rw pass at f′) f in
         let number : m′ ≡ m = stops-one (rw (pass, node) at s′) s in
         rw (pass, node, number)
-    laid-one y z (b.stops h l go f s e) (b.last-stops p f′ s′ e′) = absurd (early h l go (f .so) p)
-    laid-one y z (b.stops h l go f s e) (b.unresolved p r u e′) = absurd (early h l go (f .so) p)
-    laid-one y z (b.stops h l go f s e) (b.built p r u q t) = absurd (early h l go (f .so) p)
-    laid-one y z (b.last-stops p f s e) (b.stops h l go f′ s′ e′) = absurd (early h l go (f′ .so) p)
-    laid-one y z (b.last-stops {n = n} {i = i} {number = m} p f s w.is) (b.last-stops {n = n′} {i = i′} {number = m′} p′ f′ s′ w.is) =
+    laid-one y z (b.stops h l go f s) (b.last-stops p f′ s′) = absurd (early h l go (f .so) p)
+    laid-one y z (b.stops h l go f s) (b.unresolved p r u) = absurd (early h l go (f .so) p)
+    laid-one y z (b.stops h l go f s) (b.built p r u q t) = absurd (early h l go (f .so) p)
+    laid-one y z (b.last-stops p f s) (b.stops h l go f′ s′) = absurd (early h l go (f′ .so) p)
+    laid-one y z (b.last-stops {n = n} {i = i} {number = m} p f s) (b.last-stops {n = n′} {i = i′} {number = m′} p′ f′ s′) =
         let pass : n′ ≡ n = last-one p′ p .1 in
         let node : i′ ≡ i = first-one (Stopped g n true) i′ i (rw pass at f′) f in
         let number : m′ ≡ m = stops-one (rw (pass, node) at s′) s in
         rw (pass, node, number)
-    laid-one y z (b.last-stops {i = i} p f s e) (b.unresolved p′ r u e′) = absurd (r i (rw (last-one p p′ .1) at (f .so)))
-    laid-one y z (b.last-stops {i = i} p f s e) (b.built p′ r u q t) = absurd (r i (rw (last-one p p′ .1) at (f .so)))
-    laid-one y z (b.unresolved p r u e) (b.stops h l go f′ s′ e′) = absurd (early h l go (f′ .so) p)
-    laid-one y z (b.unresolved p r u e) (b.last-stops {i = i} p′ f s e′) = absurd (r i (rw (last-one p′ p .1) at (f .so)))
-    laid-one y z (b.unresolved {n = n} p r u w.is) (b.unresolved {n = n′} p′ r′ u′ w.is) = let pass : n′ ≡ n = last-one p′ p .1 in rw pass
-    laid-one y z (b.unresolved p r u e) (b.built p′ r′ u′ q t) = absurd (u′ (rw (last-one p p′ .1) at u))
-    laid-one y z (b.built p r u q t) (b.stops h l go f′ s′ e′) = absurd (early h l go (f′ .so) p)
-    laid-one y z (b.built p r u q t) (b.last-stops {i = i} p′ f s e′) = absurd (r i (rw (last-one p′ p .1) at (f .so)))
-    laid-one y z (b.built p r u q t) (b.unresolved p′ r′ u′ e′) = absurd (u (rw (last-one p′ p .1) at u′))
+    laid-one y z (b.last-stops {i = i} p f s) (b.unresolved p′ r u) = absurd (r i (rw (last-one p p′ .1) at (f .so)))
+    laid-one y z (b.last-stops {i = i} p f s) (b.built p′ r u q t) = absurd (r i (rw (last-one p p′ .1) at (f .so)))
+    laid-one y z (b.unresolved p r u) (b.stops h l go f′ s′) = absurd (early h l go (f′ .so) p)
+    laid-one y z (b.unresolved p r u) (b.last-stops {i = i} p′ f s) = absurd (r i (rw (last-one p′ p .1) at (f .so)))
+    laid-one y z (b.unresolved {n = n} p r u) (b.unresolved {n = n′} p′ r′ u′) = let pass : n′ ≡ n = last-one p′ p .1 in rw pass
+    laid-one y z (b.unresolved p r u) (b.built p′ r′ u′ q t) = absurd (u′ (rw (last-one p p′ .1) at u))
+    laid-one y z (b.built p r u q t) (b.stops h l go f′ s′) = absurd (early h l go (f′ .so) p)
+    laid-one y z (b.built p r u q t) (b.last-stops {i = i} p′ f s) = absurd (r i (rw (last-one p′ p .1) at (f .so)))
+    laid-one y z (b.built p r u q t) (b.unresolved p′ r′ u′) = absurd (u (rw (last-one p′ p .1) at u′))
     laid-one y z (b.built {k} {n} {r} p run u q t) (b.built {k = k′} {n = n′} {r = r′} p′ run′ u′ q′ t′) =
         let e = last-one p′ p in
         let row : r′ ≡ r = reads-one g (rw (e .1) at q′) q in

@@ -20,8 +20,8 @@ use Rattle.says.specs.Build as b
 use Rattle.says.specs.Build.{Given, Lent, Outcome, losing, banks, unit, start, flag, fillBit, NoBanks, BadBank, Overlap, nodes, kind}
 use Rattle.says.specs.Words.{Not}
 use Rattle.says.specs.Build.{operand, BadField}
-use Rattle.says.specs.Build.{BadNode, In, Lead, Advance, BankAt, Sees, Reads, Stops, Runs, Unresolved, Last, Offer, Placed, Why, Refuses}
-use Rattle.says.specs.Build.{Inherited, Ends, Fill}
+use Rattle.says.specs.Build.{BadNode, In, Lead, Advance, Standing, BankAt, Sees, Reads, Stops, RunsThrough, Unresolved, LastPass, Offer, Placed, Why, Refuses}
+use Rattle.says.specs.Build.{Inherited}
 use Rattle.says.specs.Build.{Reaches, Length, Spans, Padding, Left, Accepts, Laid, refusal, BuildSays}
 use Rattle.meets_sentences.specs.Laws.One.{loses-none, in-one}
 use Rattle.meets_sentences.specs.Theorems.Cases.{BanksPass, refused-1, refused-2, refused-4-field}
@@ -82,12 +82,9 @@ module _ (count : ℕ) (from : ℤ) (size rows limit fill closed : ℕ) where
   there : 1 ≤ count → count ≤ 16 → Not (NoBanks g)
   there h l (b.too-few x) = omega (arith, as-many)
   there h l (b.too-many x) = omega (arith, as-many)
-  there h l (b.starts n) = n (length-replicate count from ∙ sym as-many)
-  there h l (b.sizes n) = n (length-replicate count 0 ∙ sym as-many)
-  there h l (b.offsets n) = n (length-replicate count 0 ∙ sym as-many)
-  there h l (b.aligns n) = n (length-replicate count 0 ∙ sym as-many)
-  there h l (b.flags n) = n (length-replicate count 0 ∙ sym as-many)
-  there h l (b.bits n) = n (length-replicate count 0 ∙ sym as-many)
+  there h l (b.lists-differ n) =
+      let as-long : length {A = ℕ} (replicate count 0) ≡ banks g = length-replicate count 0 ∙ sym as-many in
+      n (length-replicate count from ∙ sym as-many, as-long, as-long, as-long, as-long, as-long)
 
   good : natAbs from ≤ 1099511627776 → (c : ℕ) → c < count → Not (BadBank g c)
   good s c h (b.beyond (bank.unit-zero e)) = omega (arith, unit-is c h)
@@ -129,7 +126,7 @@ module _ (count : ℕ) (from : ℤ) (size rows limit fill closed : ℕ) where
 
   lead-0 : {i c p d : ℕ} → Lead g i c p d → d ≡ 0
   lead-0 {i} (b.symbol k o a d) = absurd (no-symbol i k)
-  lead-0 (b.other n) = refl
+  lead-0 (b.unaligned n) = refl
 
   stays : {r i c p q : ℕ} → Advance g r i c p q → q ≡ p
   stays (b.stays e) = refl
@@ -137,15 +134,15 @@ module _ (count : ℕ) (from : ℤ) (size rows limit fill closed : ℕ) where
   stays {i = i} (b.aligns e n d) = absurd (omega (arith, kind-0 i))
   stays {i = i} (b.sets e n) = absurd (omega (arith, kind-0 i))
 
-  at-0 : {r i c p : ℕ} {k : Bool} {s : Lost} → BankAt g r i c p k s → p ≡ 0
+  at-0 : {r i c : ℕ} {at : Standing} → BankAt g r i c at → at .position ≡ 0
   at-0 b.begins = refl
   at-0 (b.keeps x n) = at-0 x
-  at-0 (b.moves x h l le a m k o) = omega (arith, at-0 x, lead-0 l, stays a)
+  at-0 (b.moves x h l le adv low kn los sum) = omega (arith, at-0 x, lead-0 l, stays adv)
 
   sees-0 : {r i c p : ℕ} {k : Bool} → Sees g r i c p k → p ≡ 0
   sees-0 (b.sees x h l le) = omega (arith, at-0 x, lead-0 l)
 
-  runs : (n : ℕ) (last : Bool) → Runs g n last
+  runs : (n : ℕ) (last : Bool) → RunsThrough g n last
   runs n last i s = none (s .1)
     where
       none : {number : ℕ} → Stops g n last i number → ⊥
@@ -155,7 +152,7 @@ module _ (count : ℕ) (from : ℤ) (size rows limit fill closed : ℕ) where
 
   settled : (n : ℕ) → Not (Unresolved g n)
   settled n (b.label {i} h k r s) = omega (arith, kind-0 i)
-  settled n (b.other {i} h k r e) = omega (arith, kind-0 i)
+  settled n (b.by-state {i} h k r e) = omega (arith, kind-0 i)
 
   -- ---- nothing is placed
 
@@ -175,48 +172,31 @@ module _ (count : ℕ) (from : ℤ) (size rows limit fill closed : ℕ) where
       by (b.overlaps o v) = no-offer o
       by (b.full o s f) = no-offer o
 
-  no-fill : (c : ℕ) → Inherited g c 0
-  no-fill zero = b.no-bank-yet
-  no-fill (suc c) = b.other (no-fill c) (λ m o f s p. omega (arith, no-flag c))
-
   only-0 : {c l : ℕ} → Inherited g c l → l ≡ 0
   only-0 b.no-bank-yet = refl
-  only-0 (b.raised {b = c} i f s o h k) = absurd (omega (arith, no-flag c))
-  only-0 (b.reached {b = c} i f s o h k) = absurd (omega (arith, no-flag c))
-  only-0 (b.other i n) = only-0 i
-
-  ends-0 : {l : ℕ} → Ends g l → l ≡ 0
-  ends-0 b.nothing = refl
-  ends-0 (b.bank {b = c} h f s o) = absurd (omega (arith, no-flag c))
-
-  fill-0 : {l : ℕ} → Fill g l → l ≡ 0
-  fill-0 (b.inherited e i) = only-0 i
-  fill-0 (b.full e x h) = ends-0 x
-
-  fill-there : fill ≤ 1 → Fill g 0
-  fill-there h =
-      ⊎-elim (λ (l : fill ≤ 0). b.inherited (omega arith) (no-fill (banks g)))
-      (λ (l : 0 < fill). b.full (omega arith) b.nothing (λ e x. omega (arith, ends-0 x)))
-      (le-or-lt fill 0)
+  only-0 (b.raised {b = c} i (f, s, o) h k) = absurd (omega (arith, no-flag c))
+  only-0 (b.reached {b = c} i (f, s, o) h k) = absurd (omega (arith, no-flag c))
+  only-0 (b.not-filled i n) = only-0 i
 
   reaches : {r : ℕ} (e : ℕ) → Reaches g r e → e ≤ 0
-  reaches e (b.fill f) = omega (arith, fill-0 f)
-  reaches e (b.item v o) = absurd (no-offer o)
+  reaches e b.nothing = omega arith
+  reaches e (b.inherited f i) = omega (arith, only-0 i)
+  reaches e (b.full {b = c} f h (x, s, o)) = absurd (omega (arith, no-flag c))
+  reaches e (b.by-item v o) = absurd (no-offer o)
 
   spans-0 : (i : ℕ) → Spans g i 0
   spans-0 zero = b.before-all
-  spans-0 (suc i) = b.other (spans-0 i) (⊎-elim (λ e. omega (arith, kind-0 i)) (λ e. omega (arith, kind-0 i, e .0)))
+  spans-0 (suc i) = b.no-span (spans-0 i) (⊎-elim (λ e. omega (arith, kind-0 i)) (λ e. omega (arith, kind-0 i, e .0)))
 
   in-0 : (i : ℕ) → In g i 0
   in-0 zero = b.first (λ (e : kind g 0 ≡ 1). omega (arith, kind-0 0))
   in-0 (suc i) = b.same (λ (e : kind g (suc i) ≡ 1). omega (arith, kind-0 (suc i))) (in-0 i)
 
-  stands : (r i c : ℕ) → BankAt g r i c 0 true (losing 0 0)
+  stands : (r i c : ℕ) → BankAt g r i c (record { position = 0; known = true; lost = losing 0 0 })
   stands r zero c = b.begins
   stands r (suc i) zero =
-      subst (BankAt g r (suc i) 0 0 true) (loses-none (unit g 0) (losing 0 0))
-      (b.moves {lead = 0} {l = 0} (stands r i 0) (in-0 i) (b.other (λ s. no-symbol i (s .0))) (omega arith)
-      (b.stays (inl (omega (arith, kind-0 i)))) (omega arith) (b.left (inl (omega (arith, kind-0 i)))) (b.by-lead (λ e. omega (arith, kind-0 i))))
+      b.moves {lead = 0} {d = 0} (stands r i 0) (in-0 i) (b.unaligned (λ s. no-symbol i (s .0))) (omega arith) (b.stays (inl (omega (arith, kind-0 i))))
+      (omega arith) (b.left (inl (omega (arith, kind-0 i)))) (b.by-lead (λ e. omega (arith, kind-0 i))) (sym (loses-none (unit g 0) (losing 0 0)))
   stands r (suc i) (suc c) = b.keeps (stands r i (suc c)) (λ x. let e = in-one g x (in-0 i) in omega arith)
 
   module _ (old : Lent) where
@@ -233,7 +213,7 @@ module _ (count : ℕ) (from : ℤ) (size rows limit fill closed : ℕ) where
           as-long = (length-replicate (length (old .image)) 0, refl, refl, refl);
           bytes = zeros-bytes (length (old .image));
           item-bit = λ i x m bit v o. absurd (no-offer o);
-          fill-bit = λ bit c n range. absurd (omega (arith, range .9));
+          fill-bit = λ bit c n range. absurd (omega (arith, range .7));
           zero-bit = λ bit n h. zeros-bit (length (old .image)) bit;
           span = λ at h. absurd (omega arith);
           rest = λ at h. (refl, refl, refl);
@@ -242,13 +222,13 @@ module _ (count : ℕ) (from : ℤ) (size rows limit fill closed : ℕ) where
     padding : (r : ℕ) → Padding g r (replicate 16 (losing 0 0))
     padding r = (
       length-replicate {A = Lost} 16 (losing 0 0),
-      λ c h. (0, true, subst (BankAt g r (nodes g) c 0 true) (sym (getD-replicate 16 c (losing 0 0) (losing 0 0) h)) (stands r (nodes g) c)),
+      λ c h. (_, stands r (nodes g) c, getD-replicate 16 c (losing 0 0) (losing 0 0) h),
     )
 
-    built : fill ≤ 1 → {k n r : ℕ} → Last g k n → Reads g n r → Laid g old (accepted k n)
+    built : fill ≤ 1 → {k n r : ℕ} → LastPass g k n → Reads g n r → Laid g old (accepted k n)
     built h {k} {n} {r} last reads =
         b.built last (runs n true) (settled n) reads
-        (b.placed (none-refused r) (b.fill (fill-there h), reaches) (spans-0 (nodes g))
+        (b.placed (none-refused r) (b.nothing, reaches) (spans-0 (nodes g))
         (w.passed (λ x l. omega arith) (w.passed (λ x l. ⊎-elim (λ y. omega arith) (λ y. ⊎-elim (λ z. omega arith) (λ z. omega arith) y) l)
         (b.accepts (padding r) (left r)))))
 
@@ -275,7 +255,7 @@ module _ (count : ℕ) (from : ℤ) (size rows limit fill closed : ℕ) where
 
       pub accepted-1 : limit ≡ 1 → BuildSays g old (accepted 1 1)
       accepted-1 e =
-          checked (built known (subst (λ (m : ℕ). Last g m m) e (b.at-limit (omega arith) (λ j h l. absurd (omega arith)))) (reads-of some 0 .1))
+          checked (built known (subst (λ (m : ℕ). LastPass g m m) e (b.at-limit (omega arith) (λ j h l. absurd (omega arith)))) (reads-of some 0 .1))
 
       pub accepted-2 : 2 ≤ limit → BuildSays g old (accepted 1 2)
       accepted-2 h =

@@ -13,12 +13,11 @@ use Rattle.says.specs.Banks as bank
 use Rattle.says.specs.Build as b
 use Rattle.says.specs.Build.{Given, Lent, Outcome, banks, nodes, kind, operand, fillBit, Filled, Size, Offset, Offer, IsWritten}
 use Rattle.says.specs.Words.{Not}
-use Rattle.says.specs.Build.{OfItem, Fills}
-use Rattle.says.specs.Build.{Inherited, Fill, Refuses, Sees, Number, Placed, Extent}
+use Rattle.says.specs.Build.{OfItem, InFilled}
+use Rattle.says.specs.Build.{Inherited, Refuses, Sees, Number, Placed, Extent}
 use Rattle.meets_sentences.specs.Grounds as ground
 use Rattle.meets_sentences.specs.Laws.Why.{none-overlaps}
 use Rattle.meets_sentences.specs.Laws.One.{three, offer-one}
-use Rattle.meets_sentences.specs.Laws.Largest.{fill-full}
 use Rattle.meets_sentences.specs.Theorems.Outcomes.{AcceptedSo}
 
 -- "Bits run from the top of each byte": what `bitAt` of the sentences is.
@@ -73,11 +72,11 @@ module _ (g : Given) where
     item-own-bit = a .left .item-bit
 
     -- "every other bit is the fill bit inside such a range and the image length,"
-    pub other-bit-fill : (bit c : ℕ) → Not (OfItem g old (a .row) bit) → Fills g old (o .answer .length) c bit → bitAt (o .lent .image) bit ≡ fillBit g c
+    pub other-bit-fill : (bit c : ℕ) → Not (OfItem g old (a .row) bit) → InFilled g old (o .answer .length) c bit → bitAt (o .lent .image) bit ≡ fillBit g c
     other-bit-fill = a .left .fill-bit
 
     -- "and zero elsewhere", to the last byte lent.
-    pub other-bit-zero : (bit : ℕ) → Not (OfItem g old (a .row) bit) → ((c : ℕ) → Not (Fills g old (o .answer .length) c bit)) → bitAt (o .lent .image) bit ≡ 0
+    pub other-bit-zero : (bit : ℕ) → Not (OfItem g old (a .row) bit) → ((c : ℕ) → Not (InFilled g old (o .answer .length) c bit)) → bitAt (o .lent .image) bit ≡ 0
     other-bit-zero = a .left .zero-bit
 
     -- No two offers of it share a bit, and no mark is strictly inside an interval.
@@ -96,7 +95,7 @@ module _ (g : Given) where
         omega arith
 
     -- Ticket 6: "takes the fill bit, reserved bits too"
-    pub reserved-bit-fill : {i x m bit c : ℕ} → kind g i ≡ 7 → Offer g (a .row) i x m → x ≤ bit → bit < x + m → Fills g old (o .answer .length) c bit
+    pub reserved-bit-fill : {i x m bit c : ℕ} → kind g i ≡ 7 → Offer g (a .row) i x m → x ≤ bit → bit < x + m → InFilled g old (o .answer .length) c bit
         → bitAt (o .lent .image) bit ≡ fillBit g c
     reserved-bit-fill {bit = bit} {c = c} e q low high f = other-bit-fill bit c (reserved-free e q low high) f
 
@@ -110,13 +109,10 @@ module _ (g : Given) where
 
     -- "Image length is .. the furthest end of a written item": no item ends past it.
     pub item-within : {i x m : ℕ} → IsWritten g i → Offer g (a .row) i x m → x + m ≤ o .answer .length
-    item-within w q = a .long .1 _ (b.item w q)
+    item-within w q = a .long .1 _ (b.by-item w q)
 
     -- ---- Ticket 8, "Fill must reach the end"
 
     -- "full fill, where the fill's length is the largest offset + size": every filled bank's last bit is in the image
     pub full-fill-reaches-the-end : g .fill ≡ 1 → (c m f : ℕ) → c < banks g → Filled g c → Size g c m → Offset g c f → f + m ≤ o .answer .length
-    full-fill-reaches-the-end one c m f h fill size offset =
-        let (l, is, reaches) = fill-full g one in
-        let within : l ≤ o .answer .length = a .long .1 l (b.fill is) in
-        omega (arith, reaches c m f h fill size offset)
+    full-fill-reaches-the-end one c m f h fill size offset = a .long .1 (f + m) (b.full one h (fill, size, offset))

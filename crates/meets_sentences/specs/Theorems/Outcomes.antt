@@ -10,7 +10,7 @@ use Rattle.sort.specs.Laws.Sorted.{le-or-lt}
 use Rattle.says.specs.Words as w
 use Rattle.says.specs.Words.{First}
 use Rattle.says.specs.Build as b
-use Rattle.says.specs.Build.{Given, Lent, Outcome, banks, NoBanks, BadBank, Overlap, nodes, BadField, BadNode, Last, Runs, Unresolved}
+use Rattle.says.specs.Build.{Given, Lent, Outcome, banks, NoBanks, BadBank, Overlap, nodes, BadField, BadNode, LastPass, RunsThrough, Unresolved}
 use Rattle.says.specs.Words.{Not}
 use Rattle.says.specs.Build.{Reads, Stops, Refuses, FirstWhy, Length, Spans, Padding, Left, Built, Laid, refusal, BuildSays}
 use Rattle.meets_sentences.specs.Laws.First.{none-at-all, no-pair-at-all}
@@ -38,8 +38,8 @@ module _ (g : Given) (old : Lent) where
     pub nodes-good : (i : ℕ) → i < nodes g → Not (BadNode g i)
     pub numbered : o .answer .refusal ≡ 0
     pub row : ℕ
-    pub last : Last g (o .answer .k) (o .answer .passes)
-    pub runs : Runs g (o .answer .passes) true
+    pub last : LastPass g (o .answer .k) (o .answer .passes)
+    pub runs : RunsThrough g (o .answer .passes) true
     pub settled : Not (Unresolved g (o .answer .passes))
     pub reads : Reads g (o .answer .passes) row
     pub none-refused : (i : ℕ) → Not (Refuses g row i)
@@ -51,7 +51,7 @@ module _ (g : Given) (old : Lent) where
     pub left : Left g old row (o .answer .length) (o .answer .spans) (o .lent)
 
   -- the last pass is within the limit, or it is pass 1
-  pub last-bounded : {k n : ℕ} → Last g k n → n ≤ max 1 (g .limit)
+  pub last-bounded : {k n : ℕ} → LastPass g k n → n ≤ max 1 (g .limit)
   last-bounded (b.limit-zero e) = omega arith
   last-bounded (b.below o l go r u) = omega arith
   last-bounded (b.at-limit o go) = omega arith
@@ -92,10 +92,10 @@ module _ (g : Given) (old : Lent) where
   module _ (there : Not (NoBanks g)) (good : (c : ℕ) → c < banks g → Not (BadBank g c)) (apart : (c d : ℕ) → Not (Overlap g c d))
       (fields : (f : ℕ) → Not (BadField g f)) (listed : (i : ℕ) → i < nodes g → Not (BadNode g i)) where
     laid : (o : Outcome) → Laid g old o → RefusedSo o ⊎ AcceptedSo o
-    laid o (b.stops h l go f s w.is) = inl (stopped s (omega arith))
-    laid o (b.last-stops p f s w.is) = inl (stopped s (last-bounded p))
-    laid o (b.unresolved {n = n} p r u w.is) = inl (refused-with 8 0 0 n (omega arith) (omega arith) (λ e. omega arith) (last-bounded p))
-    laid o (b.built p r u q (b.refused f w.is)) = inl (at-node f (last-bounded p))
+    laid o (b.stops h l go f s) = inl (stopped s (omega arith))
+    laid o (b.last-stops p f s) = inl (stopped s (last-bounded p))
+    laid o (b.unresolved {n = n} p r u) = inl (refused-with 8 0 0 n (omega arith) (omega arith) (λ e. omega arith) (last-bounded p))
+    laid o (b.built p r u q (b.refused f)) = inl (at-node f (last-bounded p))
     laid o (b.built {n = n} p r u q (b.placed clear l c (w.refused x m))) =
         inl (refused-with 14 0 0 n (omega arith) (omega arith) (λ e. omega arith) (last-bounded p))
     laid o (b.built {n = n} p r u q (b.placed clear l c (w.passed a (w.refused x m)))) =

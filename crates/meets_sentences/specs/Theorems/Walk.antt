@@ -12,7 +12,7 @@ use Rattle.says.specs.Build as b
 use Rattle.says.specs.Build.{Given, Lent, Outcome, banks, unit, nodes, kind, operand, state, Size, Align, Number, IsWritten, In}
 use Rattle.says.specs.Words.{Not}
 use Rattle.says.specs.Build.{Distance, Lead}
-use Rattle.says.specs.Build.{Advance, Known, BankAt, Sees, Reads, Unresolved, Last, Offer, Why}
+use Rattle.says.specs.Build.{Advance, Known, Standing, BankAt, Sees, Reads, Unresolved, LastPass, Offer, Why}
 use Rattle.meets_sentences.specs.Laws.Why.{nine-of, eleven-of}
 use Rattle.meets_sentences.specs.Laws.One.{in-one, number-one, lead-one, advance-one, at-one}
 use Rattle.meets_sentences.specs.Theorems.Outcomes.{AcceptedSo}
@@ -21,52 +21,50 @@ module _ (g : Given) where
   -- ---- "Adding an item's size to the bank switched to, not the one it stood in."
 
   -- A bank that a node does not stand in is where it was, known as it was.
-  pub other-banks-stay : {r i c p q : ℕ} {k j : Bool} {s t : Lost} → Not (In g i c) → BankAt g r i c p k s → BankAt g r (suc i) c q j t → (q ≡ p) × (j ≡ k)
+  pub other-banks-stay : {r i c : ℕ} {at new : Standing} → Not (In g i c) → BankAt g r i c at → BankAt g r (suc i) c new
+      → (new .position ≡ at .position) × (new .known ≡ at .known)
   other-banks-stay out x (b.keeps y n) = let e = at-one g y x in (e .0, e .1)
-  other-banks-stay out x (b.moves y h l le a m k o) = absurd (out h)
+  other-banks-stay out x (b.moves y h l le adv low kn los sum) = absurd (out h)
 
   no-lead : {i c p d : ℕ} → 4 ≤ kind g i → Lead g i c p d → d ≡ 0
   no-lead h (b.symbol k o a d) = absurd (⊎-elim (λ e. omega arith) (λ e. omega arith) k)
-  no-lead h (b.other n) = refl
+  no-lead h (b.unaligned n) = refl
 
   -- "4 to 7 add their number" to the bank that they stand in.
-  pub items-advance-their-own-bank : {r i c p q n : ℕ} {k j : Bool} {s t : Lost} → 4 ≤ kind g i → kind g i ≤ 7 → In g i c → Number g r i n
-      → BankAt g r i c p k s → BankAt g r (suc i) c q j t → q ≡ p + n
+  pub items-advance-their-own-bank : {r i c v : ℕ} {at new : Standing} → 4 ≤ kind g i → kind g i ≤ 7 → In g i c → Number g r i v
+      → BankAt g r i c at → BankAt g r (suc i) c new → new .position ≡ at .position + v
   items-advance-their-own-bank h l in-c num x (b.keeps y m) = absurd (m in-c)
-  items-advance-their-own-bank {r} {i} {c} {p} {q} {n = n} h l in-c num x (b.moves {p = p′} {lead = d} y in-d lead le a m k o) =
+  items-advance-their-own-bank h l in-c num x (b.moves {lead = d} y in-d lead le adv low kn los sum) =
       let e = at-one g y x in
       let none : d ≡ 0 = no-lead h lead in
-      omega (arith, e .0, advance-one g a (b.adds h l num))
+      omega (arith, e .0, advance-one g adv (b.adds h l num))
 
   -- "9 sets the position": to its number, wherever the bank was, and known exactly if its state is 0.
-  pub addr-sets-the-position : {r i c p q n : ℕ} {k j : Bool} {s t : Lost} → kind g i ≡ 9 → In g i c → Number g r i n → BankAt g r i c p k s
-      → BankAt g r (suc i) c q j t → q ≡ n
+  pub addr-sets-the-position : {r i c v : ℕ} {at new : Standing} → kind g i ≡ 9 → In g i c → Number g r i v → BankAt g r i c at
+      → BankAt g r (suc i) c new → new .position ≡ v
   addr-sets-the-position e in-c num x (b.keeps y m) = absurd (m in-c)
-  addr-sets-the-position e in-c num x (b.moves y in-d lead le a m k o) = advance-one g a (b.sets e num)
+  addr-sets-the-position e in-c num x (b.moves y in-d lead le adv low kn los sum) = advance-one g adv (b.sets e num)
 
-  pub addr-is-known-by-its-state : {r i c p q : ℕ} {k : Bool} {s t : Lost} → kind g i ≡ 9 → In g i c → BankAt g r i c p k s → BankAt g r (suc i) c q true t
-      → state g r i ≡ 0
-  addr-is-known-by-its-state e in-c x y = by e in-c y
+  pub addr-is-known-by-its-state : {r i c : ℕ} {at new : Standing} → kind g i ≡ 9 → In g i c → BankAt g r i c at → BankAt g r (suc i) c new
+      → new .known ≡ true → state g r i ≡ 0
+  addr-is-known-by-its-state e in-c x (b.keeps z m) is = absurd (m in-c)
+  addr-is-known-by-its-state {r} {i} e in-c x (b.moves {at = was} z in-d lead le adv low kn los sum) is = by-known (subst (Known g r i (was .known)) is kn)
     where
-      by-known : {r i : ℕ} {k : Bool} → kind g i ≡ 9 → Known g r i k true → state g r i ≡ 0
-      by-known e (b.left h) = absurd (⊎-elim (λ x. omega arith) (λ x. ⊎-elim (λ y. omega arith) (λ y. omega arith) x) h)
-      by-known e (b.kept h l n z) = absurd (omega arith)
-      by-known e (b.made k z) = z
-
-      by : {r i c q : ℕ} {t : Lost} → kind g i ≡ 9 → In g i c → BankAt g r (suc i) c q true t → state g r i ≡ 0
-      by e in-c (b.keeps z m) = absurd (m in-c)
-      by e in-c (b.moves z in-d lead le a m k o) = by-known e k
+      by-known : {k : Bool} → Known g r i k true → state g r i ≡ 0
+      by-known (b.left h) = absurd (⊎-elim (λ x. omega arith) (λ x. ⊎-elim (λ y. omega arith) (λ y. omega arith) x) h)
+      by-known (b.kept h l n z) = absurd (omega arith)
+      by-known (b.made k z) = z
 
   -- ---- "Label alignment for labels only; constants of depth 0 move too."
-  pub constants-of-depth-0-move-too : {r i c p a d : ℕ} {k : Bool} {s : Lost} → kind g i ≡ 3 → operand g i ≡ 0 → Align g c a → Distance g c p a d
-      → BankAt g r i c p k s → In g i c → p + d ≤ 4294967295 → Sees g r i c (p + d) k
+  pub constants-of-depth-0-move-too : {r i c a d : ℕ} {at : Standing} → kind g i ≡ 3 → operand g i ≡ 0 → Align g c a → Distance g c (at .position) a d
+      → BankAt g r i c at → In g i c → at .position + d ≤ 4294967295 → Sees g r i c (at .position + d) (at .known)
   constants-of-depth-0-move-too e z al dist x h le = b.sees x h (b.symbol (inr e) z al dist) le
 
   -- ---- "Reporting passes run as K.": below the limit one more pass runs
   pub one-more-pass-below-the-limit : (old : Lent) (o : Outcome) → AcceptedSo g old o → o .answer .k < g .limit → o .answer .passes ≡ o .answer .k + 1
   one-more-pass-below-the-limit old o a h = by (a .last) h
     where
-      by : {k n : ℕ} → Last g k n → k < g .limit → n ≡ k + 1
+      by : {k n : ℕ} → LastPass g k n → k < g .limit → n ≡ k + 1
       by (b.limit-zero e) l = refl
       by (b.below x y go r u) l = omega arith
       by (b.at-limit x go) l = absurd (omega arith)
@@ -75,7 +73,7 @@ module _ (g : Given) where
 
   -- "A pass is unresolved if any state is 2": of every kind that reads its state, reserves, aligns, addrs and asserts too.
   pub state-2-unresolves : {n r i : ℕ} → i < nodes g → 3 ≤ kind g i → Reads g n r → state g r i ≡ 2 → Unresolved g n
-  state-2-unresolves = b.other
+  state-2-unresolves = b.by-state
 
   pub assert-unresolves : {n r i : ℕ} → i < nodes g → kind g i ≡ 10 → Reads g n r → state g r i ≡ 2 → Unresolved g n
   assert-unresolves h e reads s = state-2-unresolves h (omega arith) reads s
