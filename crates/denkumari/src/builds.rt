@@ -29,8 +29,7 @@ pub extern "C" fn dk_build(
     offsets: &mut [u64],
     sizes: &mut [u64],
 ) -> DkLayout
-    ensures { λ r. ⌜
-        BuildSays
+    ensures { λ r. ⌜ BuildSays
         (record {
           units = now (units .entry);
           starts = now (starts .entry);
@@ -53,8 +52,7 @@ pub extern "C" fn dk_build(
         (record {
           answer = r;
           lent = record { image = now (image .exit); addresses = now (addresses .exit); offsets = now (offsets .exit); sizes = now (sizes .exit) };
-        })
-        ⌝ }
+        }) ⌝ }
 {
     let banks = make_banks(
         units,

@@ -15,14 +15,12 @@ pub extern "C" fn dk_form(
     offsets: &mut [u64],
     sizes: &mut [u64],
 ) -> DkLayout
-    ensures { λ r. ⌜
-        FormSays (now (file .entry)) fill
+    ensures { λ r. ⌜ FormSays (now (file .entry)) fill
         (record { image = now (image .entry); addresses = now (addresses .entry); offsets = now (offsets .entry); sizes = now (sizes .entry) })
         (record {
           answer = r;
           lent = record { image = now (image .exit); addresses = now (addresses .exit); offsets = now (offsets .exit); sizes = now (sizes .exit) };
-        })
-        ⌝ }
+        }) ⌝ }
 {
     tell_layout(form_build::build_file(file, fill, Opt::None, image, addresses, offsets, sizes))
 }
@@ -38,14 +36,12 @@ pub extern "C" fn dk_form_paged(
     offsets: &mut [u64],
     sizes: &mut [u64],
 ) -> DkLayout
-    ensures { λ r. ⌜
-        FormPagedSays (now (file .entry)) fill page
+    ensures { λ r. ⌜ FormPagedSays (now (file .entry)) fill page
         (record { image = now (image .entry); addresses = now (addresses .entry); offsets = now (offsets .entry); sizes = now (sizes .entry) })
         (record {
           answer = r;
           lent = record { image = now (image .exit); addresses = now (addresses .exit); offsets = now (offsets .exit); sizes = now (sizes .exit) };
-        })
-        ⌝ }
+        }) ⌝ }
 {
     tell_layout(form_build::build_file(
         file,

@@ -29,8 +29,7 @@ pub extern "C" fn dk_map(
     outputs: &mut [u64; 4096],
     sizes: &mut [u32; 4096],
 ) -> DkMap
-    ensures { λ r. ⌜
-        MapSays
+    ensures { λ r. ⌜ MapSays
         (record {
           units = now (units .entry);
           starts = now (starts .entry);
@@ -53,8 +52,7 @@ pub extern "C" fn dk_map(
         (record {
           answer = r;
           lent = record { banks = now («banks_of» .exit); positions = now (positions .exit); outputs = now (outputs .exit); sizes = now (sizes .exit) };
-        })
-        ⌝ }
+        }) ⌝ }
 {
     let first: &[u64] = &*banks_of;
     let second: &[u32] = &*positions;

@@ -15,9 +15,7 @@ pub extern "C" fn dk_overlay_range(
     first: u64,
     count: u64,
 ) -> DkOverlay
-    ensures { λ r. ⌜
-        RangeSays (now (overlay .entry)) (now (released .entry)) (now (offsets .entry)) (now (sizes .entry)) first count r
-        ⌝ }
+    ensures { λ r. ⌜ RangeSays (now (overlay .entry)) (now (released .entry)) (now (offsets .entry)) (now (sizes .entry)) first count r ⌝ }
 {
     let source = overlay::which(overlay, released, offsets, sizes, first, count);
     tell_source(source, first, count)
@@ -33,10 +31,8 @@ pub extern "C" fn dk_overlay_runs(
     firsts: &mut [u64],
     counts: &mut [u64],
 ) -> DkCount
-    ensures { λ r. ⌜
-        RunsSay (now (overlay .entry)) (now (released .entry)) (now (offsets .entry)) (now (sizes .entry)) (now (firsts .entry)) (now (counts .entry))
-        (record { answer = r; firsts = now (firsts .exit); counts = now (counts .exit) })
-        ⌝ }
+    ensures { λ r. ⌜ RunsSay (now (overlay .entry)) (now (released .entry)) (now (offsets .entry)) (now (sizes .entry)) (now (firsts .entry)) (now (counts .entry))
+        (record { answer = r; firsts = now (firsts .exit); counts = now (counts .exit) }) ⌝ }
 {
     tell_listed(overlay::differences(overlay, released, offsets, sizes, firsts, counts))
 }

@@ -16,10 +16,8 @@ pub extern "C" fn dk_blocks(
     block_offsets: &mut [u64],
     block_sizes: &mut [u64],
 ) -> DkCount
-    ensures { λ r. ⌜
-        DkBlocksSay (now (offsets .entry)) (now (sizes .entry)) (now («block_offsets» .entry)) (now («block_sizes» .entry))
-        (record { answer = r; starts = now («block_offsets» .exit); sizes = now («block_sizes» .exit) })
-        ⌝ }
+    ensures { λ r. ⌜ DkBlocksSay (now (offsets .entry)) (now (sizes .entry)) (now («block_offsets» .entry)) (now («block_sizes» .entry))
+        (record { answer = r; starts = now («block_offsets» .exit); sizes = now («block_sizes» .exit) }) ⌝ }
 {
     tell_blocks(blocks::get_blocks(offsets, sizes, block_offsets, block_sizes))
 }

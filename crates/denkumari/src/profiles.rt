@@ -28,8 +28,7 @@ pub extern "C" fn dk_profile(
     values: &[u8],
     fill: u8,
 ) -> DkProfile
-    ensures { λ r. ⌜
-        ProfileSays
+    ensures { λ r. ⌜ ProfileSays
         (record {
           units = now (units .entry);
           starts = now (starts .entry);
@@ -48,8 +47,7 @@ pub extern "C" fn dk_profile(
           fill = fill;
           closed = 0;
         })
-        page r
-        ⌝ }
+        page r ⌝ }
 {
     let banks = make_banks(
         units,
@@ -99,8 +97,7 @@ pub extern "C" fn dk_build_paged(
     offsets: &mut [u64],
     sizes: &mut [u64],
 ) -> DkLayout
-    ensures { λ r. ⌜
-        PagedSays
+    ensures { λ r. ⌜ PagedSays
         (record {
           units = now (units .entry);
           starts = now (starts .entry);
@@ -124,8 +121,7 @@ pub extern "C" fn dk_build_paged(
         (record {
           answer = r;
           lent = record { image = now (image .exit); addresses = now (addresses .exit); offsets = now (offsets .exit); sizes = now (sizes .exit) };
-        })
-        ⌝ }
+        }) ⌝ }
 {
     let banks = make_banks(
         units,

@@ -22,11 +22,9 @@ pub extern "C" fn dk_write_hex(
     load: u32,
     text: &mut [u8],
 ) -> DkCount
-    ensures { λ r. ⌜
-        HexSays
+    ensures { λ r. ⌜ HexSays
         (record { image = now (image .entry); offsets = now (offsets .entry); sizes = now (sizes .entry); load = load })
-        (now (text .entry)) (record { answer = r; text = now (text .exit) })
-        ⌝ }
+        (now (text .entry)) (record { answer = r; text = now (text .exit) }) ⌝ }
 {
     tell_written(record_write::write_ihex(image, offsets, sizes, load, text))
 }
@@ -41,11 +39,9 @@ pub extern "C" fn dk_write_srec(
     width: u8,
     text: &mut [u8],
 ) -> DkCount
-    ensures { λ r. ⌜
-        SrecSays
+    ensures { λ r. ⌜ SrecSays
         (record { image = now (image .entry); offsets = now (offsets .entry); sizes = now (sizes .entry); load = load })
-        (now (text .entry)) width (record { answer = r; text = now (text .exit) })
-        ⌝ }
+        (now (text .entry)) width (record { answer = r; text = now (text .exit) }) ⌝ }
 {
     tell_written(record_write::write_srec(image, offsets, sizes, load, width, text))
 }
@@ -61,14 +57,12 @@ pub extern "C" fn dk_read_records(
     sizes: &mut [u64],
     scratch: &mut [u8],
 ) -> DkCount
-    ensures { λ r. ⌜
-        ReadSays format load (now (text .entry))
+    ensures { λ r. ⌜ ReadSays format load (now (text .entry))
         (record { bytes = now (bytes .entry); offsets = now (offsets .entry); sizes = now (sizes .entry); scratch = now (scratch .entry) })
         (record {
           answer = r;
           lent = record { bytes = now (bytes .exit); offsets = now (offsets .exit); sizes = now (sizes .exit); scratch = now (scratch .exit) };
-        })
-        ⌝ }
+        }) ⌝ }
 {
     if format >= FORMATS {
         return tell_blocks(Blocks::Refused(Refusal::Malformed(0)));

@@ -15,12 +15,10 @@ pub extern "C" fn dk_offer(
     position: u64,
     size: u64,
 ) -> DkOffer
-    ensures { λ r. ⌜
-        OfferSays
+    ensures { λ r. ⌜ OfferSays
         (record { positions = now (positions .entry); sizes = now (sizes .entry); count = count; marks = now (marks .entry); markCount = «mark_count» })
         (record { position = position; size = size })
-        (record { answer = r; positions = now (positions .exit); sizes = now (sizes .exit); marks = now (marks .exit) })
-        ⌝ }
+        (record { answer = r; positions = now (positions .exit); sizes = now (sizes .exit); marks = now (marks .exit) }) ⌝ }
 {
     let first: &[u64] = &*positions;
     let second: &[u64] = &*sizes;
