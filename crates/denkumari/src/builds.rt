@@ -29,26 +29,24 @@ pub extern "C" fn dk_build(
     offsets: &mut [u64],
     sizes: &mut [u64],
 ) -> DkLayout
-    ensures { λ r. ⌜ BuildSays
-        (record {
-          units = now (units .entry);
-          starts = now (starts .entry);
-          bankSizes = now («bank_sizes» .entry);
-          bankOffsets = now («bank_offsets» .entry);
-          aligns = now (aligns .entry);
-          flags = now (flags .entry);
-          fillBits = now («fill_bits» .entry);
-          kinds = now (kinds .entry);
-          operands = now (operands .entry);
-          numbers = now (numbers .entry);
-          states = now (states .entry);
-          rows = rows;
-          values = now (values .entry);
-          limit = limit;
-          fill = fill;
-          closed = closed;
-        })
-        (record { image = now (image .entry); addresses = now (addresses .entry); offsets = now (offsets .entry); sizes = now (sizes .entry) })
+    ensures { λ r. ⌜ BuildSays (record {
+      units = now (units .entry);
+      starts = now (starts .entry);
+      bankSizes = now («bank_sizes» .entry);
+      bankOffsets = now («bank_offsets» .entry);
+      aligns = now (aligns .entry);
+      flags = now (flags .entry);
+      fillBits = now («fill_bits» .entry);
+      kinds = now (kinds .entry);
+      operands = now (operands .entry);
+      numbers = now (numbers .entry);
+      states = now (states .entry);
+      rows = rows;
+      values = now (values .entry);
+      limit = limit;
+      fill = fill;
+      closed = closed;
+    }) (record { image = now (image .entry); addresses = now (addresses .entry); offsets = now (offsets .entry); sizes = now (sizes .entry) })
         (record {
           answer = r;
           lent = record { image = now (image .exit); addresses = now (addresses .exit); offsets = now (offsets .exit); sizes = now (sizes .exit) };

@@ -29,26 +29,24 @@ pub extern "C" fn dk_map(
     outputs: &mut [u64; 4096],
     sizes: &mut [u32; 4096],
 ) -> DkMap
-    ensures { λ r. ⌜ MapSays
-        (record {
-          units = now (units .entry);
-          starts = now (starts .entry);
-          bankSizes = now («bank_sizes» .entry);
-          bankOffsets = now («bank_offsets» .entry);
-          aligns = now (aligns .entry);
-          flags = now (flags .entry);
-          fillBits = now («fill_bits» .entry);
-          kinds = now (kinds .entry);
-          operands = now (operands .entry);
-          numbers = now (numbers .entry);
-          states = now (states .entry);
-          rows = rows;
-          values = now (values .entry);
-          limit = limit;
-          fill = fill;
-          closed = closed;
-        })
-        (record { banks = now («banks_of» .entry); positions = now (positions .entry); outputs = now (outputs .entry); sizes = now (sizes .entry) })
+    ensures { λ r. ⌜ MapSays (record {
+      units = now (units .entry);
+      starts = now (starts .entry);
+      bankSizes = now («bank_sizes» .entry);
+      bankOffsets = now («bank_offsets» .entry);
+      aligns = now (aligns .entry);
+      flags = now (flags .entry);
+      fillBits = now («fill_bits» .entry);
+      kinds = now (kinds .entry);
+      operands = now (operands .entry);
+      numbers = now (numbers .entry);
+      states = now (states .entry);
+      rows = rows;
+      values = now (values .entry);
+      limit = limit;
+      fill = fill;
+      closed = closed;
+    }) (record { banks = now («banks_of» .entry); positions = now (positions .entry); outputs = now (outputs .entry); sizes = now (sizes .entry) })
         (record {
           answer = r;
           lent = record { banks = now («banks_of» .exit); positions = now (positions .exit); outputs = now (outputs .exit); sizes = now (sizes .exit) };

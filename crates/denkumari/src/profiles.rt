@@ -28,26 +28,24 @@ pub extern "C" fn dk_profile(
     values: &[u8],
     fill: u8,
 ) -> DkProfile
-    ensures { λ r. ⌜ ProfileSays
-        (record {
-          units = now (units .entry);
-          starts = now (starts .entry);
-          bankSizes = now («bank_sizes» .entry);
-          bankOffsets = now («bank_offsets» .entry);
-          aligns = now (aligns .entry);
-          flags = now (flags .entry);
-          fillBits = now («fill_bits» .entry);
-          kinds = now (kinds .entry);
-          operands = now (operands .entry);
-          numbers = now (numbers .entry);
-          states = now (states .entry);
-          rows = rows;
-          values = now (values .entry);
-          limit = 0;
-          fill = fill;
-          closed = 0;
-        })
-        page r ⌝ }
+    ensures { λ r. ⌜ ProfileSays (record {
+      units = now (units .entry);
+      starts = now (starts .entry);
+      bankSizes = now («bank_sizes» .entry);
+      bankOffsets = now («bank_offsets» .entry);
+      aligns = now (aligns .entry);
+      flags = now (flags .entry);
+      fillBits = now («fill_bits» .entry);
+      kinds = now (kinds .entry);
+      operands = now (operands .entry);
+      numbers = now (numbers .entry);
+      states = now (states .entry);
+      rows = rows;
+      values = now (values .entry);
+      limit = 0;
+      fill = fill;
+      closed = 0;
+    }) page r ⌝ }
 {
     let banks = make_banks(
         units,
@@ -97,27 +95,24 @@ pub extern "C" fn dk_build_paged(
     offsets: &mut [u64],
     sizes: &mut [u64],
 ) -> DkLayout
-    ensures { λ r. ⌜ PagedSays
-        (record {
-          units = now (units .entry);
-          starts = now (starts .entry);
-          bankSizes = now («bank_sizes» .entry);
-          bankOffsets = now («bank_offsets» .entry);
-          aligns = now (aligns .entry);
-          flags = now (flags .entry);
-          fillBits = now («fill_bits» .entry);
-          kinds = now (kinds .entry);
-          operands = now (operands .entry);
-          numbers = now (numbers .entry);
-          states = now (states .entry);
-          rows = rows;
-          values = now (values .entry);
-          limit = limit;
-          fill = fill;
-          closed = closed;
-        })
-        page
-        (record { image = now (image .entry); addresses = now (addresses .entry); offsets = now (offsets .entry); sizes = now (sizes .entry) })
+    ensures { λ r. ⌜ PagedSays (record {
+      units = now (units .entry);
+      starts = now (starts .entry);
+      bankSizes = now («bank_sizes» .entry);
+      bankOffsets = now («bank_offsets» .entry);
+      aligns = now (aligns .entry);
+      flags = now (flags .entry);
+      fillBits = now («fill_bits» .entry);
+      kinds = now (kinds .entry);
+      operands = now (operands .entry);
+      numbers = now (numbers .entry);
+      states = now (states .entry);
+      rows = rows;
+      values = now (values .entry);
+      limit = limit;
+      fill = fill;
+      closed = closed;
+    }) page (record { image = now (image .entry); addresses = now (addresses .entry); offsets = now (offsets .entry); sizes = now (sizes .entry) })
         (record {
           answer = r;
           lent = record { image = now (image .exit); addresses = now (addresses .exit); offsets = now (offsets .exit); sizes = now (sizes .exit) };
