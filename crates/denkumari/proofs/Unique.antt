@@ -72,31 +72,31 @@ use Rattle.denkumari.proofs.reasons.dk_record_reason.Kinds as record-re
 use Rattle.denkumari.proofs.reasons.dk_record_reason.Reads as record-reason-reads
 
 pub dk-build-unique : OneView 16 build-kinds.ps build-kinds.r build-reads.Learnt build.Outcome (λ κs x e.
-    let slices = e .1 .1 .1 .1 .1 .1 .1 .1 .1 .1 .1 .1 .1 .1 .1 .1 in
-    record { answer = x; lent = record { image = slices .0 .now; addresses = slices .1 .0 .now; offsets = slices .1 .1 .0 .now; sizes = slices .1 .1 .1 .0 .now } })
+    let s = e .1 .1 .1 .1 .1 .1 .1 .1 .1 .1 .1 .1 .1 .1 .1 .1 in
+    record { answer = x; lent = record { image = s .0 .now; addresses = s .1 .0 .now; offsets = s .1 .1 .0 .now; sizes = s .1 .1 .1 .0 .now } })
 dk-build-unique κs a x y e f p q = build-decides _ _ _ _ p q
 
 pub dk-build-paged-unique : OneView 16 build-paged-kinds.ps build-paged-kinds.r build-paged-reads.Learnt build.Outcome (λ κs x e.
-    let slices = e .1 .1 .1 .1 .1 .1 .1 .1 .1 .1 .1 .1 .1 .1 .1 .1 .1 in
-    record { answer = x; lent = record { image = slices .0 .now; addresses = slices .1 .0 .now; offsets = slices .1 .1 .0 .now; sizes = slices .1 .1 .1 .0 .now } })
+    let s = e .1 .1 .1 .1 .1 .1 .1 .1 .1 .1 .1 .1 .1 .1 .1 .1 .1 in
+    record { answer = x; lent = record { image = s .0 .now; addresses = s .1 .0 .now; offsets = s .1 .1 .0 .now; sizes = s .1 .1 .1 .0 .now } })
 dk-build-paged-unique κs a x y e f p q = paged-decides _ _ _ _ _ p q
 
 pub dk-map-unique : OneView 16 map-kinds.ps map-kinds.r map-reads.Learnt map.Outcome (λ κs x e.
-    let slices = e .1 .1 .1 .1 .1 .1 .1 .1 .1 .1 .1 .1 .1 .1 .1 .1 in
-    record { answer = x; lent = record { banks = slices .0 .now; positions = slices .1 .0 .now; outputs = slices .1 .1 .0 .now; sizes = slices .1 .1 .1 .0 .now } })
+    let s = e .1 .1 .1 .1 .1 .1 .1 .1 .1 .1 .1 .1 .1 .1 .1 .1 in
+    record { answer = x; lent = record { banks = s .0 .now; positions = s .1 .0 .now; outputs = s .1 .1 .0 .now; sizes = s .1 .1 .1 .0 .now } })
 dk-map-unique κs a x y e f p q = map-decides _ _ _ _ p q
 
 pub dk-profile-unique : OneOutcome 12 profile-kinds.ps profile-kinds.r profile-reads.Learnt
 dk-profile-unique κs a x y e f p q = profile-decides _ _ x y p q
 
 pub dk-form-unique : OneView 5 form-kinds.ps form-kinds.r form-reads.Learnt build.Outcome (λ κs x e.
-    let slices = e .1 .1 in
-    record { answer = x; lent = record { image = slices .0 .now; addresses = slices .1 .0 .now; offsets = slices .1 .1 .0 .now; sizes = slices .1 .1 .1 .0 .now } })
+    let s = e .1 .1 in
+    record { answer = x; lent = record { image = s .0 .now; addresses = s .1 .0 .now; offsets = s .1 .1 .0 .now; sizes = s .1 .1 .1 .0 .now } })
 dk-form-unique κs a x y e f p q = form-decides _ _ _ _ _ p q
 
 pub dk-form-paged-unique : OneView 5 form-paged-kinds.ps form-paged-kinds.r form-paged-reads.Learnt build.Outcome (λ κs x e.
-    let slices = e .1 .1 .1 in
-    record { answer = x; lent = record { image = slices .0 .now; addresses = slices .1 .0 .now; offsets = slices .1 .1 .0 .now; sizes = slices .1 .1 .1 .0 .now } })
+    let s = e .1 .1 .1 in
+    record { answer = x; lent = record { image = s .0 .now; addresses = s .1 .0 .now; offsets = s .1 .1 .0 .now; sizes = s .1 .1 .1 .0 .now } })
 dk-form-paged-unique κs a x y e f p q = form-paged-decides _ _ _ _ _ _ p q
 
 pub dk-to-form2-unique : OneView 2 to-form2-kinds.ps to-form2-kinds.r to-form2-reads.Learnt convert.Outcome
@@ -137,8 +137,8 @@ pub dk-write-srec-unique : OneView 4 write-srec-kinds.ps write-srec-kinds.r writ
 dk-write-srec-unique κs a x y e f p q = write-srec-decides _ _ _ _ _ p q
 
 pub dk-read-records-unique : OneView 5 read-records-kinds.ps read-records-kinds.r read-records-reads.Learnt read.Outcome (λ κs x e.
-    let slices = e .1 .1 .1 in
-    record { answer = x; lent = record { bytes = slices .0 .now; offsets = slices .1 .0 .now; sizes = slices .1 .1 .0 .now; scratch = slices .1 .1 .1 .0 .now } })
+    let s = e .1 .1 .1 in
+    record { answer = x; lent = record { bytes = s .0 .now; offsets = s .1 .0 .now; sizes = s .1 .1 .0 .now; scratch = s .1 .1 .1 .0 .now } })
 dk-read-records-unique κs a x y e f p q = read-decides _ _ _ _ _ _ p q
 
 pub dk-record-fault-unique : OneView 2 record-fault-kinds.ps record-fault-kinds.r record-fault-reads.Learnt (DkFault × List ℕ)

@@ -31,8 +31,8 @@ pub extern "C" fn dk_overlay_runs(
     firsts: &mut [u64],
     counts: &mut [u64],
 ) -> DkCount
-    ensures { λ r. ⌜ RunsSay (now (overlay .entry)) (now (released .entry)) (now (offsets .entry)) (now (sizes .entry)) (now (firsts .entry)) (now (counts .entry))
-        (record { answer = r; firsts = now (firsts .exit); counts = now (counts .exit) }) ⌝ }
+    ensures { λ r. ⌜ RunsSay (now (overlay .entry)) (now (released .entry)) (now (offsets .entry)) (now (sizes .entry))
+        (now (firsts .entry)) (now (counts .entry)) (record { answer = r; firsts = now (firsts .exit); counts = now (counts .exit) }) ⌝ }
 {
     tell_listed(overlay::differences(overlay, released, offsets, sizes, firsts, counts))
 }

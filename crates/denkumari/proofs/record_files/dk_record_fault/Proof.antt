@@ -27,4 +27,5 @@ pub dk-record-fault-spec : {M : Type 1} → statement M
 dk-record-fault-spec =
     tie.close
     (tie.spec
-    (λ c κs. search needs) returns (λ c κs. search needs) (λ c κs. search needs) (λ c. ap length (c .before .before .before .line-at-fault .ensures .1)) returns-2)
+    (λ c κs. search needs) returns (λ c κs. search needs) (λ c κs. search needs)
+    (λ c. ap length (c .before .before .before .line-at-fault .ensures .1)) returns-2)
