@@ -8,7 +8,8 @@ use lib.ListN.{length, getD, replicate}
 use Rattle.iter.specs.declared.Lost.{Lost}
 use Rattle.c_answers.specs.declared.DkMap.{DkMap}
 use Rattle.says.specs.Words.{First, Not}
-use Rattle.says.specs.Build.{Given, losing, Standing, nodes, kind, Number, BankAt, Sees, Reads, Unresolved, Stops, Stopped, RunsThrough, UnresolvedBefore, LastPass}
+use Rattle.says.specs.Build.{Given, losing, Standing, nodes, kind, Number, BankAt, Sees, Reads, Unresolved}
+use Rattle.says.specs.Build.{Stops, Stopped, RunsThrough, UnresolvedBefore, LastPass}
 use Rattle.says.specs.Build.{OffsetWord, Refuses, FirstWhy}
 use Rattle.says.specs.Profile.{Checks}
 

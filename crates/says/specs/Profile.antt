@@ -1,6 +1,6 @@
--- What `dk_profile` says, from document 02, Ticket 9, "Paged device profile": by bank b, node i and row r, counted from 0, and a node's number v. What is given
--- is what `dk_build` is given, and the page size in bits; the call takes no limit and no word on bank 0 (`closed`): none of its sentences reads them, but that a
--- limit past 255 is 4, and a byte holds no such limit.
+-- What `dk_profile` says, from document 02, Ticket 9, "Paged device profile": by bank b, node i and row r, counted from 0, and a node's number v. What is
+-- given is what `dk_build` is given, and the page size in bits; the call takes no limit and no word on bank 0 (`closed`): none of its sentences reads them,
+-- but that a limit past 255 is 4, and a byte holds no such limit.
 use mathlib.Core.Path.{_≡_}
 use mathlib.Core.List.{List}
 use Prim.Native.Nat.{ℕ, _*_, _<_, _/_, _^_}

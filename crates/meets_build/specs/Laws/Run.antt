@@ -99,7 +99,8 @@ module _ (g : Given) (banks : Bankdefs) (shown : Shown g banks) (c : Checked ban
   -- What ends the passes, where something does, after n of them: a node of a pass that is not the last or of the last one, or that the last one ends
   -- unresolved.
   pub data Halts (why : Refusal) (n : ℕ) : Type 0 where
-    early : {i : ℕ} → 1 ≤ n → n < g .limit → UnresolvedBefore g n → First (Stopped g n false) i → Stops g n false i (numberOf why) → placeOf why ≡ One i → Halts why n
+    early : {i : ℕ} → 1 ≤ n → n < g .limit → UnresolvedBefore g n → First (Stopped g n false) i → Stops g n false i (numberOf why)
+        → placeOf why ≡ One i → Halts why n
     at-last : {k i : ℕ} → LastPass g k n → First (Stopped g n true) i → Stops g n true i (numberOf why) → placeOf why ≡ One i → Halts why n
     unsettled : {k : ℕ} → LastPass g k n → RunsThrough g n true → Unresolved g n → why ≡ EndedUnresolved → Halts why n
 

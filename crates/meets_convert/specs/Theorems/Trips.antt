@@ -125,7 +125,8 @@ one-bank-comes-as-shape file out v small first zero h sound one old w again noug
     let c = contentsIn form2 file in
     let alone-is : alone c ≡ true = eq-eqb (length (c .banks)) 1 (ap (λ (x : Contents). length (x .banks)) (sound-contents sound) ∙ one) in
     let mid′ = made v in
-    let u = turned-file is1 toForm2 dropsNone mid′ old (w .answer .count) (w .out) bytes′ (converted form1 form2 toForm2 dropsNone mid′ old (w .answer) (w .out) second nought) in
+    let way = converted form1 form2 toForm2 dropsNone mid′ old (w .answer) (w .out) second nought in
+    let u = turned-file is1 toForm2 dropsNone mid′ old (w .answer .count) (w .out) bytes′ way in
     let back : contentsIn form1 mid′ ≡ toForm1 c = ap (contentsIn form1) (t .made) ∙ contents-back is1 (toForm1 c) (form1-fits c (t .fits)) in
     let x = toForm2 (toForm1 c) in
     let fits = form2-fits (toForm1 c) (form1-fits c (t .fits)) in
@@ -168,7 +169,8 @@ shape-comes-as-one-bank file out v small first zero h d e sound more becomes sha
     p .1 ∙ ap (λ (x : Held). held (narrowed (contents x))) d-is
     ∙ sym (ap (λ (b : Bool). held (pick b (narrowed (toForm2 c)) (shortened (toForm2 c)))) shaped-is) in
     let mid′ = made v in
-    let u = turned-file is2 toForm1 dropsBit mid′ old (w .answer .count) (w .out) bytes′ (converted form2 form1 toForm1 dropsBit mid′ old (w .answer) (w .out) second nought) in
+    let way = converted form2 form1 toForm1 dropsBit mid′ old (w .answer) (w .out) second nought in
+    let u = turned-file is2 toForm1 dropsBit mid′ old (w .answer .count) (w .out) bytes′ way in
     let back : contentsIn form2 mid′ ≡ toForm2 c = ap (contentsIn form2) (t .made) ∙ contents-back is2 (toForm2 c) (form2-fits c (t .fits)) in (
       shape .2 .one,
       u .made ∙ ap (λ (y : Contents). written form1 (toForm1 y)) back ∙ bytes-same form-1 (held (toForm1 (toForm2 c)))

@@ -48,7 +48,8 @@ module _ (g : Given) (old : Lent) (lent : build.Lent) where
       shown-agrees {n = n} {number = number} {place = place} {second = second} o (m.shows {sums} {new} p f) l =
           subst (Agree g lent o) (same-as number place second n (through-checks _ l)) (stopped refl)
 
-      whole-agrees : {k n r : ℕ} (o : Outcome) (z : build.Outcome) → Shows g old n r (nodes g) 0 0 0 noNode o → build.LastPass g k n → build.RunsThrough g n true
+      whole-agrees : {k n r : ℕ} (o : Outcome) (z : build.Outcome) → Shows g old n r (nodes g) 0 0 0 noNode o → build.LastPass g k n
+          → build.RunsThrough g n true
           → Not (build.Unresolved g n) → build.Reads g n r → ((i : ℕ) → build.Refuses g r i → ⊥) → Laid g lent z → Agree g lent o z
       whole-agrees o z s p run settled q clear (build.stops h l go f t) = absurd (early g h l go (f .so) p)
       whole-agrees o z s p run settled q clear (build.last-stops {i = i} p′ f t) = absurd (run i (rw (last-one g p′ p .1) at (f .so)))

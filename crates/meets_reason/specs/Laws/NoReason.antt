@@ -300,7 +300,8 @@ module _ (format load : ℕ) (text : List ℕ) (n : ℕ) (l : List ℕ) (rest : 
           (λ p. own (p .2) i x (f .so .0) (f .so .1) (f .so .2)) parts
 
   -- ---- the line
-  chain-by : {from bare least : ℕ} → (formatBy format st l ≡ bad → ⊥) → ((y : DkReason) → SpanSays format load ls n st l y → ⊥) → s.Spelling format from bare least
+  chain-by : {from bare least : ℕ} → (formatBy format st l ≡ bad → ⊥) → ((y : DkReason) → SpanSays format load ls n st l y → ⊥)
+      → s.Spelling format from bare least
       → (y : DkReason) → LineChain format load ls n st from bare least l y → ⊥
   chain-by never span (s.hex f) = hex-none format load ls n st l f (hex.said st l) (λ e. never (as-hex format f st l ∙ e)) span
   chain-by never span (s.s-records m) = srec-none format load ls n st l m (srec.said st l) (λ e. never (as-srec format m st l ∙ e)) span

@@ -108,7 +108,8 @@ module _ (g : Given) where
   at-one (b.keeps x n) (b.keeps y m) = at-one x y
   at-one (b.keeps x n) (b.moves y h l le adv low kn los sum) = absurd (n h)
   at-one (b.moves x h l le adv low kn los sum) (b.keeps y n) = absurd (n h)
-  at-one {c = c} (b.moves {lead = lead} {d = d} {at = at} {new = new} x h l le adv low kn los sum) (b.moves {lead = lead′} {d = d′} {at = at′} {new = new′} y h′ l′ le′ adv′ low′ kn′ los′ sum′) =
+  at-one {c = c} (b.moves {lead = lead} {d = d} {at = at} {new = new} x h l le adv low kn los sum)
+      (b.moves {lead = lead′} {d = d′} {at = at′} {new = new′} y h′ l′ le′ adv′ low′ kn′ los′ sum′) =
       let e = at-one x y in
       let same : at′ .position ≡ at .position = sym (e .0) in
       let leads : lead ≡ lead′ = lead-one l (rw same at l′) in

@@ -121,7 +121,8 @@ module _ (g : Given) where
             let far = reaches c in
             let some = interval-some t in
             let same = sep z l y n s t (omega arith) (omega arith) in
-            none y n (b.below t (omega arith) highest (subst (λ (k : ℕ). Clash g x m y k) (same .1) (subst (λ (v : ℕ). Clash g x m v l) (same .0) c)) none-above)
+            none y n (b.below t (omega arith) highest
+            (subst (λ (k : ℕ). Clash g x m y k) (same .1) (subst (λ (v : ℕ). Clash g x m v l) (same .0) c)) none-above)
 
     none-clashes : (z l : ℕ) → Interval g r i z l → Clash g x m z l → ⊥
     none-clashes z l s c = ⊎-elim (λ le. none-above z l s le c) (λ lt. none-below z l s lt c) (le-or-lt x z)

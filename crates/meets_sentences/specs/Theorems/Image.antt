@@ -76,7 +76,8 @@ module _ (g : Given) where
     other-bit-fill = a .left .fill-bit
 
     -- "and zero elsewhere", to the last byte lent.
-    pub other-bit-zero : (bit : ℕ) → Not (OfItem g old (a .row) bit) → ((c : ℕ) → Not (InFilled g old (o .answer .length) c bit)) → bitAt (o .lent .image) bit ≡ 0
+    pub other-bit-zero : (bit : ℕ) → Not (OfItem g old (a .row) bit) → ((c : ℕ) → Not (InFilled g old (o .answer .length) c bit))
+        → bitAt (o .lent .image) bit ≡ 0
     other-bit-zero = a .left .zero-bit
 
     -- No two offers of it share a bit, and no mark is strictly inside an interval.
