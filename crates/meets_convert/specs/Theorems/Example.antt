@@ -5,7 +5,7 @@ use mathlib.Core.List.{List, [], _∷_, _++_}
 use mathlib.Core.Logic.{⊎-elim}
 use Prim.Native.Nat.{ℕ, zero, suc, _≤_, _<_}
 use native.Mathlib.Omega.{arith}
-use lib.ListN.{length, getD, drop}
+use lib.ListN.{length, getD, take, drop}
 use Rattle.refusal.specs.Laws.Bools.{unlike}
 use Rattle.says.specs.Words as words
 use Rattle.says.specs.Words.{First}
@@ -172,3 +172,51 @@ example-to-form1 old room v so =
 
     clear : Drops held2 form-2 → ⊥
     clear (says.drops {b} h e) = bit b h e
+
+-- ---- 18: "a way back that would drop a fill bit of one". One bank of unit 8 with a fill bit of one, no node, one row, no values, limit 0.
+abbrev pub bitOfOne : List ℕ
+bitOfOne =
+    16 ∷ 0 ∷ 1 ∷ 2 ∷ 17 ∷ 0 ∷ 24 ∷ 0 ∷ 8 ∷ 0 ∷ 0 ∷ 0 ∷ 0 ∷ 0 ∷ 0 ∷ 0 ∷ 0 ∷ 0 ∷ 0 ∷ 0 ∷ 0 ∷ 0 ∷ 0 ∷ 0 ∷ 0 ∷ 0 ∷ 0 ∷ 0 ∷ 0 ∷ 0 ∷ 1
+    ∷ 3 ∷ 0 ∷ 0 ∷ 4 ∷ 0 ∷ 0 ∷ 5 ∷ 0 ∷ 1 ∷ 0 ∷ []
+
+abbrev bankOfOne : List ℕ
+bankOfOne = 0 ∷ 8 ∷ 0 ∷ 0 ∷ 0 ∷ 0 ∷ 0 ∷ 0 ∷ 0 ∷ 0 ∷ 0 ∷ 0 ∷ 0 ∷ 0 ∷ 0 ∷ 0 ∷ 0 ∷ 0 ∷ 0 ∷ 0 ∷ 0 ∷ 0 ∷ 0 ∷ 1 ∷ []
+
+abbrev held3 : Held
+held3 = record { banks = bankOfOne ∷ []; nodes = []; rows = [] ∷ []; values = []; limit = 0 }
+
+abbrev held4 : Held
+held4 = record { banks = take 23 bankOfOne ∷ []; nodes = []; rows = [] ∷ []; values = []; limit = 0 }
+
+is-3 : bitOfOne ≡ bytes form-2 held3
+unfolding fields
+is-3 = refl
+
+sound-3 : Sound form-2 bitOfOne held3
+sound-3 = record { is = is-3; short = omega arith; fits = record { banks = bank; nodes = λ i h. absurd (omega arith); rows = row } }
+  where
+    bank : (b : ℕ) → b < 1 → Bank (getD (held3 .banks) b []) form-2
+    bank zero h = of-2 refl (omega arith) (omega arith)
+    bank (suc b) h = absurd (omega arith)
+
+    row : (r : ℕ) → r < 1 → length (getD (held3 .rows) r []) ≡ 0
+    row zero h = refl
+    row (suc r) h = absurd (omega arith)
+
+shortened : Becomes held3 form-2 held4
+shortened =
+    says.shorter (λ e s. let two = ap length (s .2 .banks) in omega (arith, two))
+    (record { banks = (refl, each); nodes = refl; rows = refl; values = refl; limit = refl })
+  where
+    each : (b : ℕ) → b < 1 → getD (held4 .banks) b [] ≡ take 23 (getD (held3 .banks) b [])
+    each zero h = refl
+    each (suc b) h = absurd (omega arith)
+
+pub a-fill-bit-lost : (old : List ℕ) → ConvertSays form-2 bitOfOne old (says.refusal form-2 bitOfOne old 18 0)
+a-fill-bit-lost old =
+    says.sound sound-3 shortened
+    (words.passed (λ _ x. ⊎-elim (λ (p : 4096 < 0). omega arith) (λ (p : 4096 < 0). omega arith) x)
+    (words.passed (λ _ x. omega (arith, x))
+    (words.passed (λ i x. omega (arith, x .so .1))
+    (words.passed (λ _ x. omega (arith, x))
+    (words.refused tt (says.drops {b = 0} (omega arith) refl))))))
