@@ -192,6 +192,10 @@ is-3 : bitOfOne ≡ bytes form-2 held3
 unfolding fields
 is-3 = refl
 
+short-4 : length (bytes (other form-2) held4) ≡ 36
+unfolding fields
+short-4 = refl
+
 sound-3 : Sound form-2 bitOfOne held3
 sound-3 = record { is = is-3; short = omega arith; fits = record { banks = bank; nodes = λ i h. absurd (omega arith); rows = row } }
   where
@@ -218,5 +222,5 @@ a-fill-bit-lost old =
     (words.passed (λ _ x. ⊎-elim (λ (p : 4096 < 0). omega arith) (λ (p : 4096 < 0). omega arith) x)
     (words.passed (λ _ x. omega (arith, x))
     (words.passed (λ i x. omega (arith, x .so .1))
-    (words.passed (λ _ x. omega (arith, x))
+    (words.passed (λ _ x. omega (arith, x, short-4))
     (words.refused tt (says.drops {b = 0} (omega arith) refl))))))
