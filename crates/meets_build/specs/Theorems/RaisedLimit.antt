@@ -1,6 +1,6 @@
 -- Ticket 14, "Raising the pass limit is harmless": "when a layout is accepted with K below its limit, every limit above K gives the same K, passes run,
 -- image, spans and blocks, over the same rows", padding too. The blocks are `dk_blocks`' of the spans that the build leaves. That passes run never exceed the
--- larger of 1 and the limit is `passes-within-limit` of says_build.
+-- larger of 1 and the limit is `passes-within-limit` of meets_sentences.
 use mathlib.Core.Path.{_≡_, refl, sym, ap, subst, _∙_}
 use mathlib.Core.List.{List}
 use Prim.Native.Nat.{ℕ, _≤_, _<_}

@@ -1,4 +1,4 @@
--- Three of document 01's "Errors that look right" (one neighbour: says_store/Theorems/Demand3), each turned away by the sentences, and other rules of the walk
+-- Three of document 01's "Errors that look right" (one neighbour: meets_store/Theorems/Demand3), each turned away by the sentences, and other rules of the walk
 -- and the passes as one would ask for them: from the sentences alone.
 use mathlib.Core.Path.{_≡_, refl, sym, ap, subst, _∙_}
 use mathlib.Core.Bool.{Bool, true, false}
