@@ -1,0 +1,78 @@
+"""Lines of C: what each names, so that a local is declared where it is first set, and how they are laid out."""
+
+
+class Line:
+    """A statement. `uses`: the locals that it names; `sets`: the local that it sets whole, `init` what to, and `needs`: the locals named in that; `answer`: the
+    expression that it returns; `jump`: whether nothing runs behind it."""
+
+    def __init__(self, text, uses=frozenset(), sets=None, init='', needs=frozenset(), jump=False, answer=None):
+        self.text, self.uses, self.sets, self.init, self.needs, self.jump, self.answer = text, uses, sets, init, needs, jump, answer
+
+
+class Nest:
+    """Lines inside of `head { .. }`. kind: if, else, loop, switch, or case, which has braces where `braced`."""
+
+    def __init__(self, kind, head, lines, names=frozenset(), test=None):
+        self.kind, self.head, self.lines, self.names, self.test, self.braced, self.jump = kind, head, lines, names, test, kind != 'case', False
+
+    @property
+    def uses(self):
+        return self.names.union(*(line.uses for line in self.lines))
+
+
+def declare(lines, n, name, c):
+    """Declares local n in the innermost lines that have all that names it: with its first value, where that comes first."""
+    naming = [line for line in lines if n in line.uses]
+    if not naming:
+        return
+    first = naming[0]
+    if isinstance(first, Nest):
+        if len(naming) == 1 and n not in first.names and (first.kind != 'loop' or starts_anew(first.lines, n)):
+            inner = [one for one in first.lines if n in one.uses] if first.kind == 'switch' else [first]
+            if len(inner) == 1:
+                inner[0].braced = True
+                return declare(inner[0].lines, n, name, c)
+    elif first.sets == n and n not in first.needs:
+        first.text = f'{c}{name} = {first.init};'
+        return
+    lines.insert(lines.index(first), Line(f'{c}{name};'))
+
+
+def starts_anew(lines, n):
+    """Whether each turn of a loop sets local n before it is read."""
+    first = next(line for line in lines if n in line.uses)
+    return isinstance(first, Line) and first.sets == n and n not in first.needs
+
+
+def wrapped(text, indent):
+    """A statement in lines of at most 118 characters."""
+    out, ahead = '', ' ' * indent
+    while len(ahead + text) > 118:
+        cut = max(text.rfind(mark, 0, 118 - len(ahead)) + len(mark) - 1 for mark in (', ', ' && ', ' || ', ' ? '))
+        if cut < 20:
+            break
+        out += (ahead + text[:cut]).rstrip() + '\n'
+        text, ahead = text[cut:].lstrip(), ' ' * (indent + 8)
+    return out + ahead + text + '\n'
+
+
+def laid(lines, depth):
+    """The text of some lines."""
+    out, margin = '', ' ' * (4 * depth)
+    for line in lines:
+        if isinstance(line, Line):
+            out += wrapped(line.text, 4 * depth)
+        elif line.kind == 'case':
+            out += f'{margin[4:]}{line.head}{" {" * line.braced}\n{laid(line.lines, depth)}' + (margin[4:] + '}\n') * line.braced
+        elif line.kind == 'else' and is_if(line.lines):
+            out = f'{out[:-1]} else {laid(line.lines, depth).lstrip()}'
+        elif line.kind == 'else':
+            out = f'{out[:-1]} else {{\n{laid(line.lines, depth + 1)}{margin}}}\n'
+        else:
+            out += f'{wrapped(line.head + " {", 4 * depth)}{laid(line.lines, depth + 1)}{margin}}}\n'
+    return out
+
+
+def is_if(lines):
+    """Whether lines are one `if`, with or without an `else`."""
+    return [getattr(line, 'kind', '') for line in lines] in (['if'], ['if', 'else'])
