@@ -1,20 +1,17 @@
-/* Printed from the term that the proofs speak of (tools/portable --write); not to be edited. */
+/* The text functions of the programs as C99. Printed by tools/portable from the term that the proofs
+ * speak of; not to be edited. What follows this comment has the sum `text`, and what it was printed from has the sum
+ * `sources` (sha256; tools/portable.sh says of what).
+ *
+ * sources: e452515799c10b1f8fd66ebebf29eecacd3129699b6ad60a4fa5fdcf64187c7d
+ * text: 8299c523dc51a60ba62af61ced096498d59144d729fd8cc6ce478a80aa7c7438
+ * kit: rattle-kit-5b logic 064da1ca440f63e7
+ */
 #ifndef DENKUMARI_TEXTS_H
 #define DENKUMARI_TEXTS_H
 #include <stdbool.h>
 #include <stddef.h>
 #include <stdint.h>
 
-enum {
-    print_text__Written_To = 0,
-    print_text__Written_TooShort = 1
-};
-typedef struct {
-    uint8_t tag;
-    union {
-        struct { uint64_t f0; } To;
-    } u;
-} print_text__Written;
 typedef struct { const uint8_t *ptr; size_t len; } slice_u8;
 enum {
     refusal__Opt_None = 0,
@@ -27,6 +24,16 @@ typedef struct {
     } u;
 } refusal__Opt;
 typedef struct { uint8_t *ptr; size_t len; } mut_u8;
+enum {
+    print_text__Written_To = 0,
+    print_text__Written_TooShort = 1
+};
+typedef struct {
+    uint8_t tag;
+    union {
+        struct { uint64_t f0; } To;
+    } u;
+} print_text__Written;
 typedef struct {
     uint8_t format;
     uint32_t load;
@@ -140,8 +147,7 @@ record_reason__Why record_reason__reason_of(uint8_t format, slice_u8 text, uint3
 /* prog_overlay::load_file:
  * What a file gives, in what is lent. One that is too long is refused as it is, and not read.
  */
-blocks__Blocks prog_overlay__load_file(uint32_t load, slice_u8 source, mut_u8 bytes, mut_u64 offsets,
-        mut_u64 sizes);
+blocks__Blocks prog_overlay__load_file(uint32_t load, slice_u8 source, mut_u8 bytes, mut_u64 offsets, mut_u64 sizes);
 
 /* prog_overlay::put_unread: The refusal of a file, with its name and the line at fault. */
 uint64_t prog_overlay__put_unread(const refusal__Refusal *why, slice_u8 name, uint32_t load, slice_u8 source,
@@ -151,9 +157,9 @@ uint64_t prog_overlay__put_unread(const refusal__Refusal *why, slice_u8 name, ui
  * The whole text, where the overlay was read: the room for the released file's bytes begins as a copy of the
  * overlay's, so that where the released file gives no byte none differs.
  */
-uint64_t prog_overlay__put_released(prog_overlay__Asked asked, uint32_t load, slice_u8 source,
-        mut_u8 released, mut_u64 released_offsets, mut_u64 released_sizes, slice_u8 overlay, slice_u64 offsets,
-        slice_u64 sizes, mut_u64 firsts, mut_u64 counts, mut_u8 out);
+uint64_t prog_overlay__put_released(prog_overlay__Asked asked, uint32_t load, slice_u8 source, mut_u8 released,
+        mut_u64 released_offsets, mut_u64 released_sizes, slice_u8 overlay, slice_u64 offsets, slice_u64 sizes,
+        mut_u64 firsts, mut_u64 counts, mut_u8 out);
 
 /* form_convert::to_form1: Form 2 to form 1. A refused call changes nothing that is lent. */
 form_convert__Conversion form_convert__to_form1(slice_u8 file, mut_u8 out);

@@ -1,6 +1,6 @@
 """C's types for those of the term, each declared where it is first named. An integer of the term is its bits: an unsigned one in C."""
 from names import safe
-from term import Array, Int, Named, Ref, Simple, Slice, Unknown
+from term import Array, Int, Named, Ref, Simple, Slice, Unknown, manners
 
 
 def symbol(name):
@@ -124,3 +124,7 @@ class Types:
                 first, ways = self.ways(t)
                 return 8 * first + max(sum(map(self.room, parts)) for parts in ways)
         return 1 if t == Simple('bool') else 16
+
+
+if __name__ == '__main__':
+    manners.part(__doc__)

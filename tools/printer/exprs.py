@@ -4,7 +4,7 @@ from dataclasses import dataclass, field, replace
 from ctypes_of import element, symbol
 from flow import union
 from names import safe
-from term import BOOL, PTR, UNIT, Array, Const, Copy, Int, Named, Ref, Slice, Unknown
+from term import BOOL, PTR, UNIT, Array, Const, Copy, Int, Named, Ref, Slice, Unknown, manners
 
 SIZE = Int('size')                                      # C's size_t: the length of a slice
 # An operator in C, its strength (0 binds tightest), and how tight each side has to be: mixed ones are in parentheses.
@@ -266,3 +266,7 @@ class Exprs:
     def key(self, e, n):
         """A number that e is compared with: the name of a case, where e is the number of one."""
         return f'{symbol(e.has("tag")[0].name)}_{self.types.cases(e.has("tag")[0])[n]}' if e.has('tag') else f'{n}u'
+
+
+if __name__ == '__main__':
+    manners.part(__doc__)

@@ -2,7 +2,7 @@
 import copy
 from functools import reduce
 
-from term import PTR, Array, Body, Copy, Named, Place, Ref, Slice, Unknown
+from term import PTR, Array, Body, Copy, Named, Place, Ref, Slice, Unknown, manners
 
 
 def union(sets):
@@ -155,3 +155,7 @@ def sets_last(body, place):
     if ends(body):
         return True
     return bool(body) and (body[-1].to == place or body[-1].kind in ('if', 'switch') and all(sets_last(inner, place) for inner in body[-1].bodies))
+
+
+if __name__ == '__main__':
+    manners.part(__doc__)

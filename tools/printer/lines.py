@@ -1,5 +1,7 @@
 """Lines of C: what each names, so that a local is declared where it is first set, and how they are laid out."""
 
+from term import manners
+
 
 class Line:
     """A statement. `uses`: the locals that it names; `sets`: the local that it sets whole, `init` what to, and `needs`: the locals named in that; `answer`: the
@@ -76,3 +78,7 @@ def laid(lines, depth):
 def is_if(lines):
     """Whether lines are one `if`, with or without an `else`."""
     return [getattr(line, 'kind', '') for line in lines] in (['if'], ['if', 'else'])
+
+
+if __name__ == '__main__':
+    manners.part(__doc__)

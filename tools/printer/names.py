@@ -1,6 +1,8 @@
 """Names and comments from the sources, for readers: nothing that is printed means another thing by them."""
 import re
 
+from term import manners
+
 KEYWORDS = set('''auto break case char const continue default do double else enum extern float for goto if inline int long register restrict return short
     signed sizeof static struct switch typedef union unsigned void volatile while bool true false result tag u ptr len each answer r'''.split())
 FUNCTION = re.compile(r'((?:^ *//[^\n]*\n)*)(?:^ *#\[[^\n]*\n)*^( *)(?:pub )?(?:extern "C" )?fn (\w+)(?:<[^>]*>)?\s*\(([^)]*)\)', re.M)
@@ -71,3 +73,7 @@ class Names:
                 if fits:
                     return out
         return {}
+
+
+if __name__ == '__main__':
+    manners.part(__doc__)

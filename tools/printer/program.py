@@ -5,7 +5,7 @@ import textwrap
 from ctypes_of import Types, element, pad, symbol
 from lines import wrapped
 from stmts import WRAPPING, Printer
-from term import Array, Function, Named, Ref, Slice, Unknown, functions
+from term import Array, Function, Named, Ref, Slice, Unknown, functions, manners
 
 KIT = ('io', 'os', 'libc', 'std', 'core', 'alloc')
 
@@ -18,14 +18,20 @@ def comment(name, text):
     return f'/* {name}:\n' + ''.join(f' * {line}\n' for line in textwrap.wrap(text, 114)) + ' */\n'
 
 
+def only(name, found):
+    if len(found) != 1:
+        raise Unknown(f'the function {name}: there are {len(found)}')
+    return found[0]
+
+
 class Program:
     LARGE = 16                                          # a struct of more bytes that a function only reads is lent
 
     def __init__(self, texts, roots, names):
-        """`roots` picks the functions that are printed, with all that they call, from the names that there are."""
+        """`roots` names the functions that are printed, with all that they call, by their whole path or the end of it."""
         terms = functions(texts)
         self.names, self.types, self.functions, self.called, self.helpers = names, Types(names), {}, {}, {}
-        self.roots = roots(list(terms))
+        self.roots = [only(root, [name for name in terms if name == root or name.endswith('::' + root)]) for root in roots]
         todo = list(self.roots)
         while todo:
             name = todo.pop()
@@ -80,9 +86,9 @@ class Program:
             visit(root)
         return order
 
-    def file(self, banner, include, exports):
+    def file(self, include, exports):
         """The text of the file. A root is static where `exports`, the functions of the header, call it."""
-        texts, out = self.ordered(), f'{banner}#include <stdbool.h>\n#include <stddef.h>\n#include <stdint.h>\n#include "{include}"\n\n'
+        texts, out = self.ordered(), f'#include <stdbool.h>\n#include <stddef.h>\n#include <stdint.h>\n#include "{include}"\n\n'
         for name, text in texts.items():
             if name in self.roots and not exports:
                 texts[name] = text.replace('static inline ', '', 1)
@@ -90,12 +96,12 @@ class Program:
         out += '\n'.join(self.types.out) + '\n\n' + '\n'.join(self.helpers[name] for name in sorted(self.helpers)) + '\n'
         return out + '\n'.join(comment(name, self.names.of(self.functions[name])[0][2]) + text for name, text in texts.items()) + '\n' + '\n'.join(tops)
 
-    def header(self, banner, guard):
+    def header(self, guard):
         """A header for the roots; what it declares the file does not declare again."""
         heads = [comment(root, self.names.of(self.functions[root])[0][2]) + self.head(self.functions[root], '') + ';\n' for root in self.roots]
         types, self.types.out = '\n'.join(self.types.out), []
         includes = '#include <stdbool.h>\n#include <stddef.h>\n#include <stdint.h>\n'
-        return f'{banner}#ifndef {guard}\n#define {guard}\n{includes}\n{types}\n\n' + '\n'.join(heads) + '\n#endif\n'
+        return f'#ifndef {guard}\n#define {guard}\n{includes}\n{types}\n\n' + '\n'.join(heads) + '\n#endif\n'
 
     def export(self, answer, name, params, structs):
         """A function of the C header: pointers and lengths made slices, the answer told field by field."""
@@ -132,3 +138,7 @@ def read_header(text):
     text = re.sub(r'/\*.*?\*/', '', text, flags=re.S)
     structs = {name: re.findall(r'((?:struct )?\w+)\s+(\w+)(?:\[\w+\])?;', inner) for name, inner in re.findall(r'(struct \w+) \{(.*?)\};', text, re.S)}
     return [(answer, name, re.sub(r'\s+', ' ', params), structs) for answer, name, params in re.findall(r'^((?:struct )?\w+) (dk_\w+)\(([^)]*)\);', text, re.M)]
+
+
+if __name__ == '__main__':
+    manners.part(__doc__)

@@ -8,7 +8,7 @@ from ctypes_of import pad, symbol
 from exprs import BINARY, Exprs, address, cast, compared, made, narrowed, negated, widened
 from flow import live, may_write, sets, spread, taken, unblock, union, written_behind
 from lines import Line, Nest, declare, laid
-from term import BOOL, PTR, UNIT, Array, Const, Copy, Int, Named, Place, Ref, Slice
+from term import BOOL, PTR, UNIT, Array, Const, Copy, Int, Named, Place, Ref, Slice, manners
 
 WRAPPING = re.compile(r'std::num::wrapping_(add|sub)_u(\d+)')   # the kit's, by their meaning and not by their bodies
 
@@ -319,3 +319,7 @@ def is_short(test, yes, no):
 
 def chosen(test, yes, no):
     return made(f'{test.at(10)} ? {yes.at(12)} : {no.at(12)}', 13, yes.type, test, yes, no, literal=yes.literal and no.literal)
+
+
+if __name__ == '__main__':
+    manners.part(__doc__)

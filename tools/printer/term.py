@@ -1,6 +1,13 @@
 """Reads the text of `rt mir`, the term that the proofs speak of: types, places, values, statements, functions. A form that is not here is refused."""
 import re
+import sys
 from dataclasses import dataclass, make_dataclass
+from pathlib import Path
+
+ROOT = Path(__file__).resolve().parents[2]
+sys.path.append(str(ROOT / 'oracle'))
+sys.dont_write_bytecode = True
+import manners  # noqa: E402
 
 
 class Unknown(Exception):
@@ -206,3 +213,7 @@ def functions(texts):
             case _:
                 raise Unknown('a text that is no program')
     return found
+
+
+if __name__ == '__main__':
+    manners.part(__doc__)
