@@ -4,7 +4,7 @@
  *
  * sources: e452515799c10b1f8fd66ebebf29eecacd3129699b6ad60a4fa5fdcf64187c7d
  * text: 8299c523dc51a60ba62af61ced096498d59144d729fd8cc6ce478a80aa7c7438
- * kit: rattle-kit-5b logic 064da1ca440f63e7
+ * kit: rattle-kit-5b-plain logic 097e4c862dff5811
  */
 #ifndef DENKUMARI_TEXTS_H
 #define DENKUMARI_TEXTS_H

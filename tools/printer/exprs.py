@@ -1,10 +1,10 @@
 """Expressions of C for the term's places, operands and values."""
-from dataclasses import dataclass, field, replace
+from dataclasses import dataclass, replace
 
 from ctypes_of import element, symbol
 from flow import union
 from names import safe
-from term import BOOL, PTR, UNIT, Array, Const, Copy, Int, Named, Ref, Slice, Unknown, manners
+from term import BOOL, PTR, UNIT, Array, Const, Int, Ref, Slice, Unknown, manners, must
 
 SIZE = Int('size')                                      # C's size_t: the length of a slice
 # An operator in C, its strength (0 binds tightest), and how tight each side has to be: mixed ones are in parentheses.
@@ -25,7 +25,7 @@ class Expr:
     calls: bool = False
     literal: bool = False
     place: bool = False
-    known: tuple = field(default=('',))
+    known: tuple = ('',)
 
     def at(self, strength):
         return self.text if self.strength <= strength else f'({self.text})'
@@ -49,6 +49,10 @@ def negated(e):
         left, op, right = e.has('compared')
         return compared(left, OPPOSITE[op], right, e)
     return e.has('not')[0] if e.has('not') else made('!' + e.at(2), 2, BOOL, e, known=('not', e))
+
+
+def chosen(test, yes, no):
+    return made(f'{test.at(10)} ? {yes.at(12)} : {no.at(12)}', 13, yes.type, test, yes, no, literal=yes.literal and no.literal)
 
 
 def number(bits, n):
@@ -80,13 +84,11 @@ def address(e):
 
 
 class Exprs:
-    """A function's expressions. `pending` has the locals whose value is not yet set, since it may be put where the local is read."""
+    """A function's expressions. `pending` has the locals whose value is not yet set, since it may be put where the local is read; `lent` are the parameters
+    that are behind a pointer in C, `slots` the locals whose address is taken, `pointers` the types of locals that the term calls pointers."""
 
     def __init__(self, f, program):
         self.f, self.program, self.types, self.pending, self.lent, self.pointers = f, program, program.types, {}, set(), {}
-
-    def refuse(self, what):
-        raise Unknown(f'{what}, in {self.f.name}')
 
     def local(self, n):
         """A local by its name; what a parameter points to, where the value is lent."""
@@ -101,29 +103,24 @@ class Exprs:
         for kind, what in place.steps:
             if kind == 'variant':
                 case = what
-            elif kind == 'deref':
-                e = self.pointee(e, what)
             else:
-                e, case = self.part(e, case, what), None
+                e, case = self.pointee(e, what) if kind == 'deref' else self.part(e, case, what), None
             e.place = True
         return e
 
     def pointee(self, e, t):
         """What a pointer points to."""
         self.points(e, t)
-        if isinstance(t, Array):
-            self.refuse('an array behind a pointer, taken by value')
+        must(not isinstance(t, Array), 'an array behind a pointer, taken by value')
+        text, strength = (e.at(1) + '[0]', 1) if e.has('of') else ('*' + e.at(2), 2)
         if e.has('indexed'):
             base, i = e.has('indexed')
             text, strength = f'{base.at(1)}[{i.text}]', 1
-        else:
-            text, strength = (e.at(1) + '[0]', 1) if e.has('of') else ('*' + e.at(2), 2)
         return replace(made(text, strength, t, e), memory=True)
 
     def points(self, e, t):
         """Whether what e points to, of type t or its first element, may be written."""
-        if not isinstance(e.type, Ref) or element(e.type.to) != element(t):
-            self.refuse(f'a pointer of the type {e.type} to {t}')
+        must(isinstance(e.type, Ref) and element(e.type.to) == element(t), f'a pointer of the type {e.type} to {t}')
         return e.type.mut
 
     def part(self, e, case, n):
@@ -131,8 +128,7 @@ class Exprs:
         if isinstance(e.type, Slice):
             return made(e.at(1) + ('.len' if n else '.ptr'), 1, SIZE if n else Ref(e.type.mut, e.type.of), e, known=('of', e))
         kind, parts = self.types.shape(e.type)
-        if (kind == 'variants') != (case is not None):
-            self.refuse(f'a part of {e.type}')
+        must((kind == 'variants') == (case is not None), f'a part of {e.type}')
         if case is None:
             return made(dot(e) + self.types.fields(e.type)[n], 1, parts[n], e)
         if n == 0:
@@ -141,35 +137,32 @@ class Exprs:
 
     def value(self, operand):
         if isinstance(operand, Const):
-            if operand.type in (BOOL, UNIT):
-                return Expr('' if operand.type == UNIT else 'true' if operand.n else 'false', 0, operand.type)
-            return number(operand.type.bits, operand.n)
+            if isinstance(operand.type, Int):
+                return number(operand.type.bits, operand.n)
+            return Expr('' if operand.type == UNIT else 'true' if operand.n else 'false', 0, operand.type)
         e = self.place(operand.place)
         return replace(cast('uint64_t', e, Int(64)), known=('length', e)) if e.type == SIZE else e
 
     def fit(self, e, t):
         """As a value of type t: what is lent to be written may be read, and a pointer into a slice is a reference."""
         if isinstance(t, Slice) and e.type != t:
-            if not isinstance(e.type, Slice) or t.mut or e.type.of != t.of or not e.place:
-                self.refuse(f'{e.type} where {t} is wanted')
+            must(e.type == Slice(True, t.of) and not t.mut and e.place, f'{e.type} where {t} is wanted')
             return made(f'({self.types.c(t)}){{ {e.at(1)}.ptr, {e.at(1)}.len }}', 1, t, e)
         if isinstance(t, Ref) or t == PTR:
             if e.has('indexed'):
                 base, i = e.has('indexed')
                 e = made(f'{self.program.at_helper(base.type)}({base.text}, {i.text})', 1, e.type, e)
-            if t != PTR and self.points(e, t.to) < t.mut:
-                self.refuse(f'{e.type} where {t} is wanted')
+            must(t == PTR or self.points(e, t.to) >= t.mut, f'{e.type} where {t} is wanted')
             return made(e.text, e.strength, e.type if t == PTR else t, e)
-        if e.type != t:
-            self.refuse(f'{e.type} where {t} is wanted')
+        must(e.type == t, f'{e.type} where {t} is wanted')
         return e
 
     def assigned(self, s, t):
         """The value of an assignment to a place of type t."""
-        if s.value == 'address':
+        if s.value == 'addrOf':
             return self.address_of(s.reads[0].place)
         parts = [self.value(operand) for operand in s.reads]
-        if s.value == 'use':
+        if s.value == 'rvOpd':
             return parts[0] if t == PTR else self.fit(parts[0], t)
         if s.value == 'aggregate':
             return self.aggregate(parts, t)
@@ -179,21 +172,15 @@ class Exprs:
         if place.steps and place.steps[-1][0] == 'deref':       # &*r is r
             e, t = self.place(replace(place, steps=place.steps[:-1])), place.steps[-1][1]
             return made(e.text, e.strength, Ref(self.points(e, t), element(t)), e, known=e.known)
-        if place.indirect:
-            self.refuse('the address of a part of what is lent')
-        e, mut = self.place(place), place.local not in self.lent
+        must(not place.indirect, 'the address of a part of what is lent')
+        e = self.place(place)
         text, strength = (e.at(1) + '.a', 1) if isinstance(e.type, Array) else (address(e), 2)
-        return Expr(text, strength, Ref(mut, element(e.type)), e.uses)
+        return Expr(text, strength, Ref(place.local not in self.lent, element(e.type)), e.uses)
 
     def aggregate(self, parts, t):
         """A struct, a case of an enum, an array or a slice of its parts."""
         if isinstance(t, Slice):
-            pointer, length = parts
-            whole = (pointer.has('of') or [None])[0]
-            if whole and whole.type == t and length.has('length') and length.has('length')[0].has('of')[0].text == whole.text:
-                return whole
-            size = widened(length) if length.has('length') or length.literal else cast('size_t', length)
-            return made(f'({self.types.c(t)}){{ {self.fit(pointer, Ref(t.mut, t.of)).at(13)}, {size.at(13)} }}', 1, t, *parts)
+            return self.slice(t, *parts)
         if isinstance(t, Array):
             text = f'{{ {self.listed(parts, [t.of] * t.count)} }}'
         elif self.types.shape(t)[0] == 'fields':
@@ -204,9 +191,16 @@ class Exprs:
             text = f'.tag = {symbol(t.name)}_{case}' + (f', .u.{safe(case)} = {{ {inner} }}' if inner else '')
         return made(f'({self.types.c(t)}){{ {text} }}', 1, t, *parts)
 
+    def slice(self, t, pointer, length):
+        """A slice of a pointer and a length; those of another slice are that slice."""
+        whole = (pointer.has('of') or [None])[0]
+        if whole and whole.type == t and length.has('length') and length.has('length')[0].has('of')[0].text == whole.text:
+            return whole
+        size = widened(length) if length.has('length') or length.literal else cast('size_t', length)
+        return made(f'({self.types.c(t)}){{ {self.fit(pointer, Ref(t.mut, t.of)).at(13)}, {size.at(13)} }}', 1, t, pointer, length)
+
     def listed(self, parts, types):
-        if len(parts) != len(types):
-            self.refuse('an aggregate with too few or too many parts')
+        must(len(parts) == len(types), 'an aggregate with too few or too many parts')
         return ', '.join(self.fit(e, t).at(13) for e, t in zip(parts, types))
 
     def unary(self, op, e):
@@ -214,28 +208,24 @@ class Exprs:
             return negated(e)
         if op == 'countOnes' and isinstance(e.type, Int):
             return made(f'{self.program.ones_helper(e.type)}({e.text})', 1, Int(32), e)
-        match op:
-            case ['cast', ('unsigned' | 'signed') as kind, 'unsigned' | 'signed', bits] if isinstance(e.type, Int):
-                t = Int(int(bits))
-                if e.type == t:
+        match op, e.type:                               # a cast is proved to keep the number
+            case (['cast', 'unsigned' | 'signed' as sign, 'unsigned' | 'signed', bits], Int(had)) if sign == 'unsigned' or int(bits) <= had:
+                if int(bits) == had:
                     return e
-                if kind == 'unsigned' or t.bits < e.type.bits:
-                    return number(t.bits, *e.has('number')) if e.has('number') and t.bits > e.type.bits else cast(f'uint{bits}_t', e, t)
-        return self.refuse(f'the operator {op} on {e.type}')
+                return number(int(bits), *e.has('number')) if e.has('number') and int(bits) > had else cast(f'uint{bits}_t', e, Int(int(bits)))
+        raise Unknown(f'the operator {op} on {e.type}')
 
     def binary(self, op, a, b):
         name, signed = (op, False) if isinstance(op, str) else (op[0], op[1] == 'signed')
         if name == 'offset':
             return self.offset(a, b)
-        if name not in BINARY or a.type != b.type or not isinstance(a.type, Int) and (a.type, name) not in ((BOOL, 'eq'), (BOOL, 'ne')):
-            self.refuse(f'the operator {op} on {a.type}')
+        must(name in BINARY and a.type == b.type and (isinstance(a.type, Int) or a.type == BOOL and name in ('eq', 'ne')), f'the operator {op} on {a.type}')
+        must(not signed or name in ('add', 'sub', 'lt', 'le'), f'the operator {op}')
         (sign, strength, left, right), bits = BINARY[name], getattr(a.type, 'bits', 0)
         if name in ('add', 'sub') and b.has('number') == (0,):
             return a
         x, y = a, b
-        if signed and name not in ('add', 'sub'):       # sums of signed numbers have the same bits
-            if name not in ('lt', 'le'):
-                self.refuse(f'the operator {op}')
+        if signed and name in ('lt', 'le'):             # sums and differences of signed numbers have the bits of unsigned ones
             x, y = cast(f'int{bits}_t', a), cast(f'int{bits}_t', b)
         elif 0 < bits < 32 and name in ('mul', 'shl'):
             x = cast('uint32_t', a)
@@ -249,8 +239,7 @@ class Exprs:
 
     def offset(self, a, b):
         """A pointer to an element, by its number: the logic counts bytes, of a layout that the C compiler's need not be."""
-        if not isinstance(a.type, Ref) or b.type != Int(64) or a.has('indexed'):
-            self.refuse(f'an offset from {a.type}')
+        must(isinstance(a.type, Ref) and b.type == Int(64) and not a.has('indexed'), f'an offset from {a.type}')
         t = element(a.type.to)
         size, times, constant = self.types.size(t)[0], b.has('times'), b.has('number')
         if times and times[1] == size:

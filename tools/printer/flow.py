@@ -2,16 +2,11 @@
 import copy
 from functools import reduce
 
-from term import PTR, Array, Body, Copy, Named, Place, Ref, Slice, Unknown, manners
+from term import PTR, Array, Body, Copy, Named, Place, Ref, Slice, manners, must
 
 
 def union(sets):
     return reduce(frozenset.union, sets, frozenset())
-
-
-def local_of(operand):
-    """The local that an operand is a copy of, whole or in part, as a set."""
-    return frozenset([operand.place.local]) if isinstance(operand, Copy) else frozenset()
 
 
 def every(body):
@@ -37,7 +32,7 @@ def live(body, after, exits):
                 after = union(live(inner, after, exits) for inner in s.bodies)
             if s.to is not None:
                 after = after | {s.to.local} if s.to.steps else after - {s.to.local}
-            after |= union(map(local_of, s.reads))
+            after |= {o.place.local for o in s.reads if isinstance(o, Copy)}
     body.live = after
     return after
 
@@ -53,7 +48,7 @@ def around(body, exits):
 
 def taken(body):
     """The locals whose address is taken."""
-    return {s.reads[0].place.local for s in every(body) if s.kind == 'assign' and s.value == 'address' and not s.reads[0].place.indirect}
+    return {s.reads[0].place.local for s in every(body) if s.kind == 'assign' and s.value == 'addrOf' and not s.reads[0].place.indirect}
 
 
 def sets(body, n):
@@ -74,22 +69,15 @@ def may_write(types, t):
     return t == PTR
 
 
-def written_behind(f, body, n, functions):
-    """Whether local n may be written through its address, or that be given back."""
-    holds = {n}                                         # n itself, and the locals that may point into it
-
-    def held(operand, taking):
-        return isinstance(operand, Copy) and operand.place.local in holds and (taking or operand.place.local != n and not operand.place.indirect)
-
-    while True:
-        new = {s.to.local for s in every(body) if s.kind == 'assign' and any(held(o, s.value == 'address') for o in s.reads)}
-        if new <= holds:
-            break
+def written_behind(f, body, n):
+    """Whether local n may be written through its address: something is stored through a pointer into it, or such a pointer is given away to be written."""
+    holds, new = set(), {n}                             # n itself, and the locals that may point into it
+    while not new <= holds:
         holds |= new
-    calls = [s for s in every(body) if s.kind == 'call' and s.name in functions]
-    given = [functions[s.name].locals[i + 1] for s in calls for i, o in enumerate(s.reads) if held(o, False)]
+        new = {s.to.local for s in every(body) if s.kind == 'assign' and any(
+            isinstance(o, Copy) and o.place.local in holds and (s.value == 'addrOf' or o.place.local != n and not o.place.indirect) for o in s.reads)}
     stored = any(s.to is not None and s.to.local in holds and s.to.indirect for s in every(body))
-    return 0 in holds or stored or any(may_write(f.types, t) for t in given)
+    return stored or any(m == 0 or f.locals[m] != PTR and may_write(f.types, f.locals[m]) for m in holds - {n})
 
 
 def ends(body):
@@ -99,17 +87,12 @@ def ends(body):
     return body[-1].kind in ('exit', 'return', 'loop') or all(map(ends, body[-1].bodies))
 
 
-def is_loops(s):
-    """Whether a block is a loop's, so that leaving it is C's `break`."""
-    return len(s.bodies[0]) == 1 and s.bodies[0][0].kind == 'loop'
-
-
 def unblock(body):
-    """Takes away the blocks that are no loop's."""
+    """Takes away the blocks that are no loop's; leaving a loop's block is C's `break`."""
     out = Body()
     for s in body:
         s.bodies = [unblock(inner) for inner in s.bodies]
-        out += opened(s.bodies[0], 0) if s.kind == 'block' and not is_loops(s) else [s]
+        out += opened(s.bodies[0], 0) if s.kind == 'block' and [one.kind for one in s.bodies[0]] != ['loop'] else [s]
     return out
 
 
@@ -123,8 +106,8 @@ def opened(body, depth):
         inside = depth + (s.kind in ('block', 'loop'))
         if any(leaves(inner, inside) for inner in s.bodies):
             rest, falling = body[i + 1:], [inner for inner in s.bodies if not ends(inner)]
-            if s.kind not in ('if', 'switch') or len(falling) > 1 and (len(rest) > 3 or any(one.bodies for one in rest)):
-                raise Unknown('a block that is left from inside of a loop, or by several ways with much behind it')
+            must(s.kind in ('if', 'switch') and (len(falling) < 2 or len(rest) < 4 and not any(one.bodies for one in rest)),
+                 'a block that is left from inside of a loop, or by several ways with much behind it')
             s.bodies = [opened(inner if ends(inner) else Body(inner + copy.deepcopy(rest)), depth) for inner in s.bodies]
             return Body(body[:i + 1])
         s.bodies = [opened(inner, inside) for inner in s.bodies]
@@ -138,23 +121,27 @@ def leaves(body, depth):
 
 def spread(body):
     """`return x` behind branches that each set x last goes into the branches."""
-    if len(body) > 1 and body[-1].kind == 'return':
-        told = body[-2].kind == 'assign' and body[-2].value == 'use' and body[-2].to == Place(0) and isinstance(body[-2].reads[0], Copy)
-        tail = body[-2:] if told else body[-1:]
-        before, answer = body[:-len(tail)], tail[0].reads[0].place
-        if before and before[-1].kind in ('if', 'switch') and answer.steps == () and all(sets_last(inner, answer) for inner in before[-1].bodies):
-            before[-1].bodies = [inner if ends(inner) else Body(inner + copy.deepcopy(tail)) for inner in before[-1].bodies]
-            body = Body(before)
+    cut, answer = len(body) - 1, Place(0)
+    if body and body[-1].kind == 'return':
+        while cut > 0 and is_copy(body[cut - 1], answer):
+            cut, answer = cut - 1, body[cut - 1].reads[0].place
+        if cut > 0 and body[cut - 1].kind in ('if', 'switch') and all(sets_last(inner, answer) for inner in body[cut - 1].bodies):
+            fork, tail = body[cut - 1], body[cut:]
+            fork.bodies = [inner if ends(inner) else Body(inner + copy.deepcopy(tail)) for inner in fork.bodies]
+            body = Body(body[:cut])
     for s in body:
         s.bodies = [spread(inner) for inner in s.bodies]
     return body
 
 
+def is_copy(s, place):
+    """Whether a statement sets a place to a copy of a whole local."""
+    return s.kind == 'assign' and s.value == 'rvOpd' and s.to == place and isinstance(s.reads[0], Copy) and s.reads[0].place.steps == ()
+
+
 def sets_last(body, place):
     """Whether each way through a body ends in a jump or sets a place last."""
-    if ends(body):
-        return True
-    return bool(body) and (body[-1].to == place or body[-1].kind in ('if', 'switch') and all(sets_last(inner, place) for inner in body[-1].bodies))
+    return ends(body) or bool(body) and (body[-1].to == place or body[-1].kind in ('if', 'switch') and all(sets_last(inner, place) for inner in body[-1].bodies))
 
 
 if __name__ == '__main__':

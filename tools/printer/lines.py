@@ -1,25 +1,31 @@
 """Lines of C: what each names, so that a local is declared where it is first set, and how they are laid out."""
-
 from term import manners
 
 
 class Line:
     """A statement. `uses`: the locals that it names; `sets`: the local that it sets whole, `init` what to, and `needs`: the locals named in that; `answer`: the
     expression that it returns; `jump`: whether nothing runs behind it."""
+    kind, lines = '', ()
 
     def __init__(self, text, uses=frozenset(), sets=None, init='', needs=frozenset(), jump=False, answer=None):
         self.text, self.uses, self.sets, self.init, self.needs, self.jump, self.answer = text, uses, sets, init, needs, jump, answer
 
 
 class Nest:
-    """Lines inside of `head { .. }`. kind: if, else, loop, switch, or case, which has braces where `braced`."""
+    """Lines inside of `head { .. }`. kind: if, else, loop, switch, or case, which has braces where `braced`; `names`: the locals that the head names."""
+    text, sets, needs, jump, answer = '', None, (), False, None
 
     def __init__(self, kind, head, lines, names=frozenset(), test=None):
-        self.kind, self.head, self.lines, self.names, self.test, self.braced, self.jump = kind, head, lines, names, test, kind != 'case', False
+        self.kind, self.head, self.lines, self.names, self.test, self.braced = kind, head, lines, names, test, kind != 'case'
 
     @property
     def uses(self):
         return self.names.union(*(line.uses for line in self.lines))
+
+
+def is_only(lines, text):
+    """Whether lines are one statement with this text."""
+    return [line.text for line in lines] == [text]
 
 
 def declare(lines, n, name, c):
@@ -28,22 +34,20 @@ def declare(lines, n, name, c):
     if not naming:
         return
     first = naming[0]
-    if isinstance(first, Nest):
-        if len(naming) == 1 and n not in first.names and (first.kind != 'loop' or starts_anew(first.lines, n)):
-            inner = [one for one in first.lines if n in one.uses] if first.kind == 'switch' else [first]
-            if len(inner) == 1:
-                inner[0].braced = True
-                return declare(inner[0].lines, n, name, c)
-    elif first.sets == n and n not in first.needs:
+    inner = [one for one in first.lines if n in one.uses] if first.kind == 'switch' else [first]
+    if first.sets == n and n not in first.needs:
         first.text = f'{c}{name} = {first.init};'
-        return
-    lines.insert(lines.index(first), Line(f'{c}{name};'))
+    elif first.lines and len(naming) == len(inner) == 1 and n not in first.names and (first.kind != 'loop' or starts_anew(first.lines, n)):
+        inner[0].braced = True
+        declare(inner[0].lines, n, name, c)
+    else:
+        lines.insert(lines.index(first), Line(f'{c}{name};'))
 
 
 def starts_anew(lines, n):
     """Whether each turn of a loop sets local n before it is read."""
     first = next(line for line in lines if n in line.uses)
-    return isinstance(first, Line) and first.sets == n and n not in first.needs
+    return first.sets == n and n not in first.needs
 
 
 def wrapped(text, indent):
@@ -62,22 +66,16 @@ def laid(lines, depth):
     """The text of some lines."""
     out, margin = '', ' ' * (4 * depth)
     for line in lines:
-        if isinstance(line, Line):
+        if line.kind == '':
             out += wrapped(line.text, 4 * depth)
         elif line.kind == 'case':
             out += f'{margin[4:]}{line.head}{" {" * line.braced}\n{laid(line.lines, depth)}' + (margin[4:] + '}\n') * line.braced
-        elif line.kind == 'else' and is_if(line.lines):
+        elif line.kind == 'else' and [one.kind for one in line.lines] in (['if'], ['if', 'else']):
             out = f'{out[:-1]} else {laid(line.lines, depth).lstrip()}'
-        elif line.kind == 'else':
-            out = f'{out[:-1]} else {{\n{laid(line.lines, depth + 1)}{margin}}}\n'
         else:
-            out += f'{wrapped(line.head + " {", 4 * depth)}{laid(line.lines, depth + 1)}{margin}}}\n'
+            out = out[:-1] + ' else {\n' if line.kind == 'else' else out + wrapped(line.head + ' {', 4 * depth)
+            out += f'{laid(line.lines, depth + 1)}{margin}}}\n'
     return out
-
-
-def is_if(lines):
-    """Whether lines are one `if`, with or without an `else`."""
-    return [getattr(line, 'kind', '') for line in lines] in (['if'], ['if', 'else'])
 
 
 if __name__ == '__main__':

@@ -5,16 +5,17 @@ is pending. No pending value names a local for which another is pending, so they
 import re
 
 from ctypes_of import pad, symbol
-from exprs import BINARY, Exprs, address, cast, compared, made, narrowed, negated, widened
+from exprs import BINARY, Exprs, address, cast, chosen, compared, made, narrowed, negated, widened
 from flow import live, may_write, sets, spread, taken, unblock, union, written_behind
-from lines import Line, Nest, declare, laid
-from term import BOOL, PTR, UNIT, Array, Const, Copy, Int, Named, Place, Ref, Slice, manners
+from lines import Line, Nest, declare, is_only, laid
+from term import BOOL, PTR, UNIT, Array, Copy, Int, Named, Place, Slice, manners, must
 
 WRAPPING = re.compile(r'std::num::wrapping_(add|sub)_u(\d+)')   # the kit's, by their meaning and not by their bodies
 
 
 class Printer(Exprs):
-    """Prints one function."""
+    """Prints one function. `named` are the locals that the text names, `scopes` the loops around a statement and what is live where they are left, `alias`
+    the locals that are a parameter by another number."""
 
     def prepare(self):
         """Puts the body into shape, names the locals, and finds the parameters that are large and only read: they are lent."""
@@ -34,7 +35,7 @@ class Printer(Exprs):
 
     def copies_parameter(self, s):
         """Whether a statement copies a parameter to a local whose address is taken, and the parameter is not used again: C needs no second one."""
-        if s.kind != 'assign' or s.value != 'use' or s.to.steps or not isinstance(s.reads[0], Copy) or s.reads[0].place.steps:
+        if s.kind != 'assign' or s.value != 'rvOpd' or s.to.steps or not isinstance(s.reads[0], Copy) or s.reads[0].place.steps:
             return False
         n, m = s.to.local, s.reads[0].place.local
         return 1 <= m <= self.f.params < n and n in self.slots and m not in self.slots and m not in s.live and not sets(self.body, m) \
@@ -42,28 +43,29 @@ class Printer(Exprs):
 
     def is_only_read(self, n):
         """Whether a parameter is a large struct that nothing writes to."""
-        if not isinstance(self.f.locals[n], Named) or self.types.room(self.f.locals[n]) <= self.program.LARGE or sets(self.body, n):
-            return False
         same = [m for m in self.alias if self.alias[m] == n]
-        return not any(sets(self.body, m) or written_behind(self.f, self.body, m, self.program.functions) for m in same)
+        return isinstance(self.f.locals[n], Named) and self.types.size(self.f.locals[n])[0] > self.program.LARGE and not sets(self.body, n) \
+            and not any(sets(self.body, m) or written_behind(self.f, self.body, m) for m in same)
 
     def function(self):
         """The function's text."""
         lines = self.lines(self.body, frozenset())
-        if lines and getattr(lines[-1], 'text', '') == 'return;':
+        if is_only(lines[-1:], 'return;'):
             lines.pop()
         for n in self.named:
             if n == 0 or n > self.f.params and n not in self.alias:
                 declare(lines, n, self.name[n], pad(self.types.c(self.pointers[n] if self.f.locals[n] == PTR else self.f.locals[n])))
-        used = {self.alias.get(n, n) for n in union(frozenset(line.uses) for line in lines)}
+        used = {self.alias.get(n, n) for n in union(line.uses for line in lines)}
         unused = [Line(f'(void){self.name[n]};') for n in range(1, self.f.params + 1) if n not in used]
         return f'{self.program.head(self.f)}\n{{\n{laid(unused + lines, 1)}}}\n'
+
+    # What is pending
 
     def set(self, out, n):
         """Sets a local to its pending value."""
         e = self.fit(self.pending.pop(n), self.f.locals[n])
-        if self.f.locals[n] == PTR and self.pointers.setdefault(n, e.type) != e.type:
-            self.refuse('a pointer of two types')
+        if self.f.locals[n] == PTR:
+            must(self.pointers.setdefault(n, e.type) == e.type, 'a pointer of two types')
         self.named |= {n}
         typed = f'({self.types.c(e.type)})' if isinstance(e.type, (Named, Array, Slice)) else '('
         init = e.text[len(typed):] if e.text.startswith(typed + '{') else e.text
@@ -83,21 +85,14 @@ class Printer(Exprs):
 
     def ready(self, out, reads, after, changes):
         """Before a statement that reads some operands, with `after` live behind it: sets what is pending that it cannot take in, or that it would change."""
-        for n in list(self.pending):
-            e = self.pending[n]
+        def goes(n, e):
             here = [o.place.steps for o in reads if isinstance(o, Copy) and o.place.local == n]
             if not here:
-                stays = not changes(n, e)
-            else:
-                stays = len(here) == 1 and n not in after and (not here[0] or e.place or here[0][0][0] == 'deref')
-            if not stays:
-                self.set(out, n)
+                return changes(n, e)
+            return len(here) > 1 or n in after or bool(here[0]) and not e.place and here[0][0][0] != 'deref'
+        self.flush(out, goes)
 
-    def changed_by(self, to):
-        """Whether setting a place changes a pending value."""
-        if to.indirect:
-            return lambda _, e: e.memory
-        return lambda _, e: to.local in e.uses or to.local in self.slots and e.memory
+    # Statements
 
     def lines(self, body, after):
         """The lines of a body, with nothing left pending that is live behind it."""
@@ -112,98 +107,79 @@ class Printer(Exprs):
         return out
 
     def statement(self, out, s):
-        for n in [n for n, e in self.pending.items() if e.calls]:      # a call that may write is put nowhere but in what follows at once
-            if not (s.kind in ('return', 'if') or s.kind == 'assign' and s.value == 'use' and not s.to.steps) or s.reads != [Copy(Place(n))]:
-                self.set(out, n)
-        {'assign': self.assign, 'call': self.call, 'if': self.branch, 'switch': self.switch, 'block': self.loop, 'loop': self.loop, 'exit': self.exit,
-         'return': self.returned}[s.kind](out, s)
+        """One statement. A pending call that may write is put nowhere but in what follows at once."""
+        takes = s.kind in ('return', 'if') or s.kind == 'assign' and s.value == 'rvOpd' and not s.to.steps
+        self.flush(out, lambda n, e: e.calls and not (takes and s.reads == [Copy(Place(n))]))
+        getattr(self, 'do_' + s.kind)(out, s)
 
-    def returned(self, out, s):
+    def do_return(self, out, s):
         if self.f.locals[0] == UNIT:
-            out.append(Line('return;', jump=True))
-        else:
-            e = self.fit(self.value(s.reads[0]), self.f.locals[0])
-            self.named |= e.uses
-            out.append(Line(f'return {e.text};', e.uses, jump=True, answer=e))
+            return out.append(Line('return;', jump=True))
+        e = self.fit(self.value(s.reads[0]), self.f.locals[0])
+        self.named |= e.uses
+        return out.append(Line(f'return {e.text};', e.uses, jump=True, answer=e))
 
-    def exit(self, out, s):
+    def do_exit(self, out, s):
         """A loop's `continue` or `break`."""
-        (kind, after), inside = self.scopes[-1 - s.depth], self.scopes[len(self.scopes) - s.depth:]
-        self.flush(out, lambda n, _: n in after)
-        if kind == 'loop' and not inside:
-            out.append(Line('continue;', jump=True))
-        elif kind == 'block' and [scope for scope, _ in inside] == ['loop']:
-            out.append(Line('break;', jump=True))
-        else:
-            self.refuse('a loop that is left from inside of another, or of a switch')
+        way = [kind for kind, _ in self.scopes[-1 - s.depth:]]
+        must(way in (['loop'], ['block', 'loop']), 'a loop that is left from inside of another, or of a switch')
+        self.flush(out, lambda n, _: n in self.scopes[-1 - s.depth][1])
+        out.append(Line('continue;' if way == ['loop'] else 'break;', jump=True))
 
     def target(self, out, s, pure):
-        """Makes ready for a statement that sets a place; whether that is a local that can wait."""
-        n, whole = s.to.local, not s.to.steps
-        waits = whole and n not in self.slots and getattr(s, 'value', '') != 'repeat'
-        if not whole and not s.to.indirect and n in self.pending:
+        """Makes ready for a statement that sets a place: the place, or None for a local that can wait."""
+        n, steps = s.to.local, s.to.steps
+        waits = not steps and n not in self.slots and getattr(s, 'value', '') != 'repeat'
+        if steps and not s.to.indirect and n in self.pending:
             self.set(out, n)
-        changes = (lambda _, e: False) if waits else self.changed_by(s.to)
-        reads = s.reads + ([] if whole else [Copy(s.to)])
-        self.ready(out, reads, s.live - {n} if whole else s.live, changes if pure else lambda m, e: e.memory or changes(m, e))
-        return waits
 
-    def store(self, out, s, waits, e):
+        def changes(_, e):
+            return not pure and e.memory or not waits and (e.memory if s.to.indirect else n in e.uses or n in self.slots and e.memory)
+        self.ready(out, s.reads + ([Copy(s.to)] if steps else []), s.live if steps else s.live - {n}, changes)
+        self.named |= frozenset() if waits or s.to.indirect or self.f.locals[n] == UNIT else {n}
+        return None if waits else self.place(s.to) if steps else self.local(n)
+
+    def store(self, out, s, to, e):
         """Sets a statement's place to a value, at once or later."""
         n = s.to.local
-        if waits and n in s.live:
-            return self.later(out, n, e)
-        self.pending.pop(n, None) if not s.to.steps else None
-        if waits or e.type == UNIT:
-            return out.append(Line(f'{"" if e.type == UNIT else "(void)"}{e.text};', e.uses)) if e.calls else None
-        if not s.to.steps:
+        if to is None and n in s.live and e.type != UNIT:
+            self.later(out, n, e)
+        elif to is None or e.type == UNIT:
+            self.pending.pop(n, None)
+            out += [Line(f'{"" if e.type == UNIT else "(void)"}{e.text};', e.uses)] if e.calls else []
+        elif s.to.steps:
+            out.append(Line(f'{to.text} = {self.fit(e, to.type).text};', to.uses | e.uses))
+        else:
             self.pending[n] = e
-            return self.set(out, n)
-        to = self.place(s.to)
-        self.named |= frozenset() if s.to.indirect else {n}
-        return out.append(Line(f'{to.text} = {self.fit(e, to.type).text};', to.uses | e.uses))
+            self.set(out, n)
 
-    def type_at(self, place):
-        """The type of a place."""
-        if not place.steps:
-            return self.f.locals[place.local]
-        pending, self.pending = self.pending, dict(self.pending)
-        t = self.place(place).type
-        self.pending = pending
-        return t
-
-    def assign(self, out, s):
+    def do_assign(self, out, s):
         if self.f.locals[s.to.local] == UNIT:
             return
-        waits = self.target(out, s, True)
+        to = self.target(out, s, True)
         if s.value != 'repeat':
-            return self.store(out, s, waits, self.assigned(s, self.type_at(s.to)))
-        to = self.place(s.to) if s.to.steps else self.local(s.to.local)
+            return self.store(out, s, to, self.assigned(s, to.type if to else self.f.locals[s.to.local]))
         e = self.value(s.reads[0])
-        if to.type != Array(e.type, s.op):
-            self.refuse(f'{to.type} filled with {s.op} of {e.type}')
-        self.named |= frozenset() if s.to.indirect else {s.to.local}
+        must(to.type == Array(e.type, s.op), f'{to.type} filled with {s.op} of {e.type}')
         return out.append(Line(f'for (size_t each = 0; each < {s.op}u; each++) {to.text}.a[each] = {e.text};', to.uses | e.uses))
 
-    def call(self, out, s):
+    def do_call(self, out, s):
         wrapping, g = WRAPPING.fullmatch(s.name), self.program.functions.get(s.name)
-        if not wrapping and not g:
-            self.refuse(f'a call of {s.name}')
+        must(wrapping or g, f'a call of {s.name}')
         pure = bool(wrapping) or not any(may_write(g.types, t) for t in g.locals[1:g.params + 1])
-        waits = self.target(out, s, pure)
+        to = self.target(out, s, pure)
         parts = [self.value(operand) for operand in s.reads]
         if wrapping:
             (sign, strength, left, right), t = BINARY[wrapping[1]], Int(int(wrapping[2]))
             first = cast(f'uint{max(32, t.bits)}_t', parts[0]) if parts[0].literal and parts[1].literal else parts[0]
-            return self.store(out, s, waits, narrowed(f'{first.at(left)} {sign} {parts[1].at(right)}', strength, t, *parts))
-        if len(parts) != g.params:
-            self.refuse(f'a call of {s.name} with {len(parts)} arguments')
-        self.program.calls(self.f, g)
+            return self.store(out, s, to, narrowed(f'{first.at(left)} {sign} {parts[1].at(right)}', strength, t, *parts))
+        must(len(parts) == g.params, f'a call of {s.name} with {len(parts)} arguments')
+        self.program.called.setdefault(self.f.name, set()).add(g.name)
         given = [self.argument(self.fit(e, t), i in self.program.lent[g.name], pure) for i, (e, t) in enumerate(zip(parts, g.locals[1:]), 1)]
         e = made(f'{symbol(g.name)}({", ".join(given)})', 1, g.locals[0], *parts)
-        e.memory |= any(t not in (BOOL, Int(t.bits) if isinstance(t, Int) else BOOL) for t in g.locals[1:g.params + 1])
+        e.memory |= any(t != BOOL and not isinstance(t, Int) for t in g.locals[1:g.params + 1])
         e.calls |= not pure
-        return self.store(out, s, waits, e)
+        return self.store(out, s, to, e)
 
     def argument(self, e, lent, pure):
         """An argument, or the address of it where a parameter is lent."""
@@ -222,22 +198,21 @@ class Printer(Exprs):
         self.named |= e.uses
         return e
 
-    def branch(self, out, s):
+    def do_if(self, out, s):
         if self.joined(out, s):
             return
-        e, (yes, no) = self.tested(out, s), s.bodies
-        values = [self.only_value(inner, s.live) for inner in s.bodies]
-        if all(values) and values[0][0] == values[1][0] and is_short(e, values[0][1], values[1][1]):
-            return self.later(out, values[0][0], chosen(e, values[0][1], values[1][1]))
-        return self.forked(out, e, self.lines(yes, s.live), self.lines(no, s.live))
+        e, (yes, no) = self.tested(out, s), [self.only_value(inner, s.live) for inner in s.bodies]
+        if yes and no and yes[0] == no[0] and is_short(e, yes[1], no[1]):
+            self.later(out, yes[0], chosen(e, yes[1], no[1]))
+        else:
+            self.fork(out, e, *[self.lines(inner, s.live) for inner in s.bodies])
 
     def only_value(self, body, after):
         """The local and the value, where all that a body does is to set one local."""
         pending, self.pending, out = self.pending, {}, []
         for s in body:
             self.statement(out, s)
-        found = [(n, e) for n, e in self.pending.items() if n in after]
-        self.pending = pending
+        found, self.pending = [(n, e) for n, e in self.pending.items() if n in after], pending
         return found[0] if not out and len(found) == 1 else None
 
     def joined(self, out, s):
@@ -246,51 +221,42 @@ class Printer(Exprs):
         n = test.place.local if isinstance(test, Copy) and not test.place.steps else None
         if n not in self.pending or self.pending[n].calls or bool(yes) == bool(no):
             return False
-        found = self.only_value(yes or no, s.live)
-        if not found or found[0] != n or found[1].calls or n in found[1].uses:
+        m, b = self.only_value(yes or no, s.live) or (None, None)
+        if m != n or b.calls or n in b.uses:
             return False
-        b = found[1]
-        self.flush(out, lambda m, _: m != n and m in b.uses)
+        self.flush(out, lambda other, _: other != n and other in b.uses)
         a, sign, strength = self.pending[n], '&&' if yes else '||', 11 if yes else 12
         self.later(out, n, made(f'{a.at(strength if a.strength == strength else 10)} {sign} {b.at(10)}', strength, BOOL, a, b))
         return True
 
-    def forked(self, out, e, yes, no):
+    def fork(self, out, e, yes, no):
         """An `if` of two lists of lines."""
-        if not yes and not no:
-            return out.append(Line(f'(void){e.text};', e.uses)) if e.calls else None
         if not yes:
             e, yes, no = negated(e), no, yes
-        answers = [lines[0].answer if len(lines) == 1 and isinstance(lines[0], Line) else None for lines in (yes, no)]
-        if all(answers) and is_short(e, *answers):
+        answers = [lines[0].answer if len(lines) == 1 else None for lines in (yes, no)]
+        if not yes:
+            out += [Line(f'(void){e.text};', e.uses)] if e.calls else []
+        elif all(answers) and is_short(e, *answers):
             answer = chosen(e, *answers)
-            return out.append(Line(f'return {answer.text};', answer.uses, jump=True, answer=answer))
-        out.append(Nest('if', f'if ({e.text})', yes, e.uses, e))
-        if no and yes[-1].jump:
-            out += no
-        elif no:
-            out.append(Nest('else', 'else', no))
-        out[-1].jump = out[-1].jump or bool(no) and yes[-1].jump and no[-1].jump
-        return None
+            out.append(Line(f'return {answer.text};', answer.uses, jump=True, answer=answer))
+        else:
+            out.append(Nest('if', f'if ({e.text})', yes, e.uses, e))
+            out += no if no and yes[-1].jump else [Nest('else', 'else', no)] if no else []
 
-    def switch(self, out, s):
+    def do_switch(self, out, s):
         e = self.tested(out, s)
-        if len(s.bodies) == 1:
-            out += self.lines(s.bodies[0], s.live)
-        elif len(s.bodies) == 2 and len(s.keys[0]) == 1:
-            self.forked(out, compared(e.at(5), '==', self.key(e, s.keys[0][0]), e), *[self.lines(inner, s.live) for inner in s.bodies])
-        else:                                           # without a default no other number comes: so the last arm is the default
-            self.scopes.append(('switch', frozenset()))
-            rows = []
-            for i, (keys, inner) in enumerate(zip(s.keys, s.bodies)):
-                lines, names = self.lines(inner, s.live), [self.key(e, n) for n in keys]
-                head = 'default:' + (f' /* {", ".join(names)} */' if names else '') if i == len(s.keys) - 1 else ' '.join(f'case {name}:' for name in names)
-                rows.append(Nest('case', head, lines + ([] if lines and lines[-1].jump else [Line('break;')])))
-            self.scopes.pop()
-            out.append(Nest('switch', f'switch ({e.text})', rows, e.uses))
-            out[-1].jump = all(row.lines[-1].jump for row in rows)
+        if len(s.bodies) == 2 and len(s.keys[0]) == 1:
+            return self.fork(out, compared(e.at(5), '==', self.key(e, s.keys[0][0]), e), *[self.lines(inner, s.live) for inner in s.bodies])
+        rows, last = [], len(s.keys) - 1                # without a default no other number comes: so the last arm is the default
+        self.scopes.append(('switch', frozenset()))
+        for i, (keys, inner) in enumerate(zip(s.keys, s.bodies)):
+            lines, names = self.lines(inner, s.live), [self.key(e, n) for n in keys]
+            head = ' '.join(f'case {name}:' for name in names) if i < last else 'default:' + (f' /* {", ".join(names)} */' if names else '')
+            rows.append(Nest('case', head, lines + ([] if lines and lines[-1].jump else [Line('break;')])))
+        self.scopes.pop()
+        return out.append(Nest('switch', f'switch ({e.text})', rows, e.uses))
 
-    def loop(self, out, s):
+    def do_block(self, out, s):
         """A loop, or the block around it."""
         body = s.bodies[0]
         self.flush(out, lambda n, _: n in body.live or n in s.live)
@@ -301,24 +267,20 @@ class Printer(Exprs):
         if s.kind == 'block':
             out += lines
             return
-        if lines and getattr(lines[-1], 'text', '') == 'continue;':
+        if is_only(lines[-1:], 'continue;'):
             lines.pop()
-        first = lines[0] if lines else None
-        if isinstance(first, Nest) and first.test and [getattr(line, 'text', '') for line in first.lines] == ['break;'] \
-                and getattr(lines[1] if len(lines) > 1 else None, 'kind', '') != 'else':
-            out.append(Nest('loop', f'while ({negated(first.test).text})', lines[1:], first.names))
+        if lines and lines[0].kind == 'if' and is_only(lines[0].lines, 'break;') and [line.kind for line in lines[1:2]] != ['else']:
+            out.append(Nest('loop', f'while ({negated(lines[0].test).text})', lines[1:], lines[0].names))
         else:
             out.append(Nest('loop', 'for (;;)', lines))
+
+    do_loop = do_block
 
 
 def is_short(test, yes, no):
     """Whether a choice of two values reads well in one line."""
-    return yes.type == no.type and isinstance(yes.type, (Int, type(BOOL))) and max(yes.strength, no.strength) < 13 \
-        and len(test.text + yes.text + no.text) < 90 and not (yes.calls or no.calls)
-
-
-def chosen(test, yes, no):
-    return made(f'{test.at(10)} ? {yes.at(12)} : {no.at(12)}', 13, yes.type, test, yes, no, literal=yes.literal and no.literal)
+    return yes.type == no.type and (isinstance(yes.type, Int) or yes.type == BOOL and not {yes.text, no.text} & {'true', 'false'}) \
+        and max(yes.strength, no.strength) < 13 and len(test.text + yes.text + no.text) < 90 and not (yes.calls or no.calls)
 
 
 if __name__ == '__main__':

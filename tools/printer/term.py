@@ -9,20 +9,21 @@ sys.path.append(str(ROOT / 'oracle'))
 sys.dont_write_bytecode = True
 import manners  # noqa: E402
 
+# The kinds of types; two types are the same where their parts are. Bits of a Ref: whether it may be written through, and to what.
+Int, Simple, Named, Ref, Slice, Array = (make_dataclass(name, parts.split(), frozen=True) for name, parts in (
+    ('Int', 'bits'), ('Simple', 'name'), ('Named', 'name'), ('Ref', 'mut to'), ('Slice', 'mut of'), ('Array', 'of count')))
+BOOL, UNIT, PTR = Simple('bool'), Simple('unit'), Simple('ptr')
+# The kinds of operands.
+Copy, Const = make_dataclass('Copy', ['place'], frozen=True), make_dataclass('Const', ['type', 'n'], frozen=True)
+
 
 class Unknown(Exception):
     """Something that the printer does not know: then nothing is printed."""
 
 
-def shape(name, fields):
-    """A kind of type: two are the same where their fields are."""
-    return make_dataclass(name, fields.split(), frozen=True)
-
-
-Int, Simple, Named = shape('Int', 'bits'), shape('Simple', 'name'), shape('Named', 'name')
-Ref, Slice, Array = shape('Ref', 'mut to'), shape('Slice', 'mut of'), shape('Array', 'of count')
-BOOL, UNIT, PTR = Simple('bool'), Simple('unit'), Simple('ptr')
-SIMPLE = {'tyBool': BOOL, 'tyUnit': UNIT, 'tyPtr': PTR}
+def must(known, what):
+    if not known:
+        raise Unknown(what)
 
 
 @dataclass(frozen=True)
@@ -35,10 +36,6 @@ class Place:
     def indirect(self):
         """Whether it lies in memory that the local points to."""
         return any(kind == 'deref' for kind, _ in self.steps)
-
-
-Copy = make_dataclass('Copy', ['place'], frozen=True)
-Const = make_dataclass('Const', ['type', 'n'], frozen=True)
 
 
 class Body(list):
@@ -60,11 +57,9 @@ def parse(text):
     for bracket, name, word in re.findall(r'([()])|("[^"]*)"|([^\s()"]+)', text):
         if bracket == '(':
             stack.append([])
-        elif bracket:
-            done = stack.pop()
-            stack[-1].append(done)
         else:
-            stack[-1].append(name or word)
+            done = stack.pop() if bracket else name or word
+            stack[-1].append(done)
     return stack[0]
 
 
@@ -72,8 +67,7 @@ def items(x):
     """The members of a list of the logic."""
     out = []
     while x not in ('lnil', 'tnil', 'ttnil'):
-        if x[0] not in ('lcons', 'tcons', 'ttcons'):
-            raise Unknown(f'a list: {x[0]}')
+        must(x[0] in ('lcons', 'tcons', 'ttcons'), f'a list: {x[0]}')
         out.append(x[1])
         x = x[2]
     return out
@@ -82,7 +76,7 @@ def items(x):
 def type_of(x):
     match x:
         case 'tyBool' | 'tyUnit' | 'tyPtr':
-            return SIMPLE[x]
+            return Simple(x[2:].lower())
         case ['tyInt', '8' | '16' | '32' | '64']:
             return Int(int(x[1]))
         case ['tyRef', _, 'mut' | 'imm', to]:
@@ -91,51 +85,44 @@ def type_of(x):
             return Array(type_of(of), int(count))
         case ['tyNamed', ['pair', name, 'lnil']]:
             return Named(name[1:])
-        case ['tyStruct', '"&[]', parts]:
-            match [type_of(part) for part in items(parts)]:
-                case [Ref(mut, of), Int(64)]:
-                    return Slice(mut, of)
+        case ['tyStruct', '"&[]', ['tcons', ['tyRef', _, 'mut' | 'imm', _] as pointer, ['tcons', ['tyInt', '64'], 'tnil']]]:
+            return Slice(pointer[2] == 'mut', type_of(pointer[3]))
     raise Unknown(f'the type {x}')
 
 
 def place_of(x):
     steps = tuple((kind, type_of(of) if kind == 'deref' else int(of)) for kind, of in items(x[2]))
-    if x[0] != 'place' or any(kind not in ('deref', 'field', 'variant') for kind, _ in steps):
-        raise Unknown(f'the place {x}')
+    must(x[0] == 'place' and all(kind in ('deref', 'field', 'variant') for kind, _ in steps), f'the place {x}')
     return Place(int(x[1]), steps)
 
 
 def operand(x):
     match x:
-        case 'true' | 'false':
-            return Const(BOOL, x == 'true')
-        case 'unit':
-            return Const(UNIT, 0)
+        case 'true' | 'false' | 'unit':
+            return Const(UNIT if x == 'unit' else BOOL, x == 'true')
         case ['copy', place]:
             return Copy(place_of(place))
-        case ['int' | 'intBig', bits, n]:
-            return Const(Int(int(bits)), int(n))
-        case ['intNeg', bits, n]:
-            return Const(Int(int(bits)), 2 ** int(bits) - int(n))
+        case ['int' | 'intBig' | 'intNeg' as kind, bits, n]:
+            return Const(Int(int(bits)), 2 ** int(bits) - int(n) if kind == 'intNeg' else int(n))
     raise Unknown(f'the operand {x}')
 
 
 def assignment(to, x):
     """A place set to a value; `value` is the value's kind, `op` its operator, or a count."""
     match x:
-        case ['rvOpd', part]:
-            return Stmt('assign', [operand(part)], to, value='use', op=None)
-        case ['op1', op, part]:
-            return Stmt('assign', [operand(part)], to, value='op1', op=op)
-        case ['op2', op, left, right]:
-            return Stmt('assign', [operand(left), operand(right)], to, value='op2', op=op)
+        case ['rvOpd', *parts]:
+            op = None
+        case ['op1' | 'op2', op, *parts]:
+            pass
         case ['aggregate', parts]:
-            return Stmt('assign', [operand(part) for part in items(parts)], to, value='aggregate', op=None)
-        case ['repeat', part, count]:
-            return Stmt('assign', [operand(part)], to, value='repeat', op=int(count if isinstance(count, str) else count[1]))
+            op, parts = None, items(parts)
+        case ['repeat', part, ('lenLit', count) | [_, count] | count]:
+            op, parts = int(count), [part]
         case ['addrOf', place]:
-            return Stmt('assign', [Copy(place_of(place))], to, value='address', op=None)
-    raise Unknown(f'the value {x}')
+            op, parts = None, [['copy', place]]
+        case _:
+            raise Unknown(f'the value {x}')
+    return Stmt('assign', map(operand, parts), to, value=x[0], op=op)
 
 
 def statement(x):
@@ -145,31 +132,30 @@ def statement(x):
         case ['assign', to, value]:
             return assignment(place_of(to), value)
         case ['call', ['direct', ['fnRef', name]], parts, to]:
-            return Stmt('call', [operand(part) for part in items(parts)], place_of(to), name=name[1:])
+            return Stmt('call', map(operand, items(parts)), place_of(to), name=name[1:])
         case ['if', test, yes, no]:
             return Stmt('if', [operand(test)], None, [body_of(yes), body_of(no)])
-        case ['block' | 'loop', body]:
-            return Stmt(x[0], bodies=[body_of(body)])
+        case ['block' | 'loop' as kind, body]:
+            return Stmt(kind, bodies=[body_of(body)])
         case ['exit', depth]:
             return Stmt('exit', depth=int(depth))
         case ['switch', on, arms]:
-            return switch(operand(on), arms)
+            keys, bodies = zip(*arms_of(arms))
+            return Stmt('switch', [operand(on)], None, bodies, keys=keys)
     raise Unknown(f'the statement {x}')
 
 
-def switch(on, x):
-    """Arms, each with its keys; the default's keys are empty."""
-    keys, bodies = [], []
-    while x[0] == 'arm':
-        keys.append([int(key) for key in items(x[1])])
-        bodies.append(body_of(x[2]))
-        x = x[3]
-    if x != 'noDefault':
-        if x[0] != 'default':
-            raise Unknown(f'the arm {x[0]}')
-        keys.append([])
-        bodies.append(body_of(x[1]))
-    return Stmt('switch', [on], None, bodies, keys=keys)
+def arms_of(x):
+    """A switch's arms, each with its keys; the default's keys are empty."""
+    while x != 'noDefault':
+        match x:
+            case ['arm', keys, body, x]:
+                yield [int(key) for key in items(keys)], body_of(body)
+            case ['default', body]:
+                yield [], body_of(body)
+                return
+            case _:
+                raise Unknown(f'the arm {x}')
 
 
 def body_of(x):
@@ -194,24 +180,18 @@ class Function:
 
 def named(kind, parts):
     """A struct's fields ('fields', [type ..]), or an enum's cases ('variants', [[type ..] ..])."""
-    if kind == 'fields':
-        return kind, [type_of(part) for part in items(parts)]
-    if kind == 'variants':
-        return kind, [[type_of(part) for part in items(case)] for case in items(parts)]
-    raise Unknown(f'the types {kind}')
+    must(kind in ('fields', 'variants'), f'the types {kind}')
+    return kind, [type_of(part) if kind == 'fields' else [type_of(one) for one in items(part)] for part in items(parts)]
 
 
 def functions(texts):
     """The functions of some programs by their names, each as a term; one that is in two of them is the same in both."""
     found = {}
     for text in texts:
-        match parse(text):
-            case ['program', terms, ['fnRef', _]]:
-                for term in items(terms):
-                    if found.setdefault(term[1][1:], term) != term:
-                        raise Unknown(f'two functions of the name {term[1]}')
-            case _:
-                raise Unknown('a text that is no program')
+        program = parse(text)
+        must(len(program) == 3 and program[0] == 'program', 'a text that is no program')
+        for term in items(program[1]):
+            must(found.setdefault(term[1][1:], term) == term, f'two functions of the name {term[1]}')
     return found
 
 
