@@ -247,7 +247,8 @@ class Exprs:
         elif constant and constant[0] % size == 0:
             i = number(64, constant[0] // size)
         else:
-            i = b if size == 1 else made(f'{b.at(2)} / {size}u', 3, b.type, b)
+            must(size == 1, f'an offset that is no number of elements of {size} bytes')
+            i = b
         if i.has('number') == (0,):
             return made(a.text, a.strength, Ref(a.type.mut, t), a, known=a.known)
         return made('', 0, Ref(a.type.mut, t), a, i, known=('indexed', a, widened(i)))

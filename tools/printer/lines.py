@@ -28,8 +28,9 @@ def is_only(lines, text):
     return [line.text for line in lines] == [text]
 
 
-def declare(lines, n, name, c):
-    """Declares local n in the innermost lines that have all that names it: with its first value, where that comes first."""
+def declare(lines, n, name, c, is_number):
+    """Declares local n in the innermost lines that have all that names it: with its first value, where that comes first. A number stays outside of a loop that
+    has a `return`: clang ends each local of a loop on the way out, and makes that way a slow one."""
     naming = [line for line in lines if n in line.uses]
     if not naming:
         return
@@ -37,11 +38,17 @@ def declare(lines, n, name, c):
     inner = [one for one in first.lines if n in one.uses] if first.kind == 'switch' else [first]
     if first.sets == n and n not in first.needs:
         first.text = f'{c}{name} = {first.init};'
-    elif first.lines and len(naming) == len(inner) == 1 and n not in first.names and (first.kind != 'loop' or starts_anew(first.lines, n)):
+    elif first.lines and len(naming) == len(inner) == 1 and n not in first.names \
+            and (first.kind != 'loop' or starts_anew(first.lines, n) and not (is_number and returns(first.lines))):
         inner[0].braced = True
-        declare(inner[0].lines, n, name, c)
+        declare(inner[0].lines, n, name, c, is_number)
     else:
         lines.insert(lines.index(first), Line(f'{c}{name};'))
+
+
+def returns(lines):
+    """Whether there is a `return` in lines."""
+    return any(line.text.startswith('return') or returns(line.lines) for line in lines)
 
 
 def starts_anew(lines, n):

@@ -1,11 +1,13 @@
 """A whole file of C: the types, then each function behind those that it calls, then those of the header."""
 import re
 import textwrap
+from collections import Counter
 
 from ctypes_of import Types, element, pad, symbol
+from flow import every
 from lines import wrapped
 from stmts import WRAPPING, Printer
-from term import Array, Function, Named, Ref, Slice, Unknown, functions, manners
+from term import Array, Function, Named, Ref, Slice, Unknown, functions, manners, must
 
 KIT = ('io', 'os', 'libc', 'std', 'core', 'alloc')
 
@@ -19,8 +21,8 @@ def comment(name, text):
 
 
 def only(name, found):
-    if len(found) != 1:
-        raise Unknown(f'the function {name}: there are {len(found)}')
+    """The one function that a root names."""
+    must(len(found) == 1, f'the function {name}: there are {len(found)}')
     return found[0]
 
 
@@ -30,29 +32,34 @@ class Program:
     def __init__(self, texts, roots, names):
         """`roots` names the functions that are printed, with all that they call, by their whole path or the end of it."""
         terms = functions(texts)
-        self.names, self.types, self.functions, self.called, self.helpers = names, Types(names), {}, {}, {}
+        self.names, self.types, self.functions, self.called, self.helpers, self.callers = names, Types(names), {}, {}, {}, Counter()
         self.roots = [only(root, [name for name in terms if name == root or name.endswith('::' + root)]) for root in roots]
         todo = list(self.roots)
         while todo:
             name = todo.pop()
             if name not in self.functions and not WRAPPING.fullmatch(name):
-                if name.split('::')[0] in KIT or name not in terms:
-                    raise Unknown(f'the function {name}: it is the kit\'s, or there is none')
+                must(name in terms and name.split('::')[0] not in KIT, f'the function {name}: it is the kit\'s, or there is none')
                 f = self.functions[name] = Function(terms[name])
                 self.types.add(f.types)
-                todo += re.findall(r"'fnRef', '\"([^']*)'", str(terms[name]))
+                calls = [s.name for s in every(f.body) if s.kind == 'call']
+                self.callers.update(calls)
+                todo += calls
         self.printers = {name: Printer(f, self) for name, f in self.functions.items()}
-        self.lent = {name: printer.prepare() for name, printer in self.printers.items()}
+        self.lent = {name: self.named(name, printer.prepare) for name, printer in self.printers.items()}
+
+    def named(self, name, work):
+        """Does something of a function; what is not known there is told with its name."""
+        try:
+            return work()
+        except Unknown as unknown:
+            raise Unknown(f'{unknown}, in {name}') from None
 
     def params(self, f):
         return self.names.of(f)[0][0]
 
-    def calls(self, f, g):
-        """Notes that f calls g."""
-        self.called.setdefault(f.name, set()).add(g.name)
-
-    def head(self, f, kind='static inline '):
-        """A function's first line."""
+    def head(self, f, root=False):
+        """A function's first line. One that is called from several places is to be put into each; one that is called from one the compiler puts there."""
+        kind = '' if root else 'static inline ' if self.callers[f.name] > 1 else 'static '
         types = [f'const {self.types.c(t)} *' if i in self.lent[f.name] else self.types.c(t) for i, t in enumerate(f.locals[1:f.params + 1], 1)]
         params = ', '.join(pad(t) + name for t, name in zip(types, self.params(f))) or 'void'
         return wrapped(f'{kind}{pad(self.types.c(f.locals[0]))}{symbol(f.name)}({params})', 0).rstrip()
@@ -78,7 +85,7 @@ class Program:
 
         def visit(name):
             if name not in texts:
-                texts[name] = self.printers[name].function()
+                texts[name] = self.named(name, self.printers[name].function)
                 for other in sorted(self.called.get(name, ())):
                     visit(other)
                 order[name] = texts[name]
@@ -91,14 +98,14 @@ class Program:
         texts, out = self.ordered(), f'#include <stdbool.h>\n#include <stddef.h>\n#include <stdint.h>\n#include "{include}"\n\n'
         for name, text in texts.items():
             if name in self.roots and not exports:
-                texts[name] = text.replace('static inline ', '', 1)
+                texts[name] = re.sub('^static (inline )?', '', text)
         tops = [self.export(*one) for one in exports]
         out += '\n'.join(self.types.out) + '\n\n' + '\n'.join(self.helpers[name] for name in sorted(self.helpers)) + '\n'
         return out + '\n'.join(comment(name, self.names.of(self.functions[name])[0][2]) + text for name, text in texts.items()) + '\n' + '\n'.join(tops)
 
     def header(self, guard):
         """A header for the roots; what it declares the file does not declare again."""
-        heads = [comment(root, self.names.of(self.functions[root])[0][2]) + self.head(self.functions[root], '') + ';\n' for root in self.roots]
+        heads = [comment(root, self.names.of(self.functions[root])[0][2]) + self.head(self.functions[root], True) + ';\n' for root in self.roots]
         types, self.types.out = '\n'.join(self.types.out), []
         includes = '#include <stdbool.h>\n#include <stddef.h>\n#include <stdint.h>\n'
         return f'#ifndef {guard}\n#define {guard}\n{includes}\n{types}\n\n' + '\n'.join(heads) + '\n#endif\n'
@@ -111,8 +118,7 @@ class Program:
             wanted = self.types.c(Ref(t.mut, t.of) if isinstance(t, Slice) else t)
             one = param if c.strip() == wanted.strip() else f'({wanted.strip()}){param}'
             given.append(f'({self.types.c(t)}){{ {one}, {rest.pop(0).split(" ")[-1]} }}' if isinstance(t, Slice) else one)
-        if rest:
-            raise Unknown(f'the parameters of {name}: {rest}')
+        must(not rest, f'the parameters of {name}: {rest}')
         lines = [f'const {self.types.c(f.locals[0])} r = {symbol(f.name)}({", ".join(given)});', f'{answer} answer;']
         lines += self.told('answer', 'r', f.locals[0], answer, structs) + ['return answer;']
         _, _, text, sentence = self.names.of(f)[0]
@@ -127,8 +133,7 @@ class Program:
         if not isinstance(t, Named):
             return [f'{to} = {source};']
         parts = self.types.shape(t)[1]
-        if len(structs[struct]) != len(parts):
-            raise Unknown(f'the answer {struct}')
+        must(len(structs[struct]) == len(parts), f'the answer {struct}')
         return [line for (inner, field), name, part in zip(structs[struct], self.types.fields(t), parts)
                 for line in self.told(f'{to}.{field}', f'{source}.{name}', part, inner, structs)]
 

@@ -54,7 +54,8 @@ class Printer(Exprs):
             lines.pop()
         for n in self.named:
             if n == 0 or n > self.f.params and n not in self.alias:
-                declare(lines, n, self.name[n], pad(self.types.c(self.pointers[n] if self.f.locals[n] == PTR else self.f.locals[n])))
+                t = self.pointers[n] if self.f.locals[n] == PTR else self.f.locals[n]
+                declare(lines, n, self.name[n], pad(self.types.c(t)), t == BOOL or isinstance(t, Int))
         used = {self.alias.get(n, n) for n in union(line.uses for line in lines)}
         unused = [Line(f'(void){self.name[n]};') for n in range(1, self.f.params + 1) if n not in used]
         return f'{self.program.head(self.f)}\n{{\n{laid(unused + lines, 1)}}}\n'
