@@ -40,9 +40,8 @@ int one_in(uint64_t often)
 uint64_t edge(void)
 {
     static const uint64_t limits[] = {0, 16, 255, 512, 4096, 65535, UINT32_MAX, UINT64_C(8589934590), UINT64_C(1) << 40, UINT64_C(1) << 63, UINT64_MAX};
-    if (one_in(3))
-        return below(200);
-    return limits[below(sizeof limits / sizeof limits[0])] + below(5) - 2;
+    uint64_t limit = limits[below(sizeof limits / sizeof limits[0])];
+    return one_in(3) ? below(200) : limit + below(5) - 2;
 }
 
 /* ---- what is lent ---- */
@@ -95,17 +94,22 @@ static uint8_t *lend_room(size_t count, size_t width)
     return arena + first;
 }
 
+/* Elements are set as numbers, so that they are the same whichever end a machine puts first. */
 void *lend(size_t count, size_t width)
 {
     uint8_t *at = lend_room(count, width);
+    uint64_t number = 0;
     size_t i;
-    uint64_t bits = 0;
     if (count == 0 && one_in(2))
         return 0;
-    for (i = 0; i < count * width; i++, bits >>= 8) {
-        if (i % 8 == 0)
-            bits = drawn();
-        at[i] = (uint8_t)bits;
+    for (i = 0; i < count; i++) {
+        number = width == 8 || i % 8 == 0 ? drawn() : number >> 8;
+        if (width == 8)
+            ((uint64_t *)(void *)at)[i] = number;
+        else if (width == 4)
+            ((uint32_t *)(void *)at)[i] = (uint32_t)number;
+        else
+            at[i] = (uint8_t)number;
     }
     return at;
 }
@@ -142,19 +146,20 @@ static uint64_t element(const struct lent *one, size_t i)
     }
 }
 
-/* The elements of a buffer, as many to a step as 64 bits hold. */
+/* The elements of a buffer: bytes eight to a step, others one by one. */
 static uint64_t folded_lent(uint64_t sum, const struct lent *one)
 {
-    size_t i, together = 8 / one->width;
-    uint64_t number = 0;
-    for (i = 0; i < one->count; i++) {
-        number = one->width == 8 ? element(one, i) : number << 8 * one->width | element(one, i);
-        if (i % together == together - 1) {
-            sum = folded(sum, number);
-            number = 0;
+    const uint8_t *at = arena + one->first;
+    size_t i = 0;
+    if (one->width == 1)
+        for (; i + 8 <= one->count; i += 8) {
+            uint32_t high = (uint32_t)at[i] << 24 | (uint32_t)at[i + 1] << 16 | (uint32_t)at[i + 2] << 8 | at[i + 3];
+            uint32_t low = (uint32_t)at[i + 4] << 24 | (uint32_t)at[i + 5] << 16 | (uint32_t)at[i + 6] << 8 | at[i + 7];
+            sum = folded(sum, (uint64_t)high << 32 | low);
         }
-    }
-    return folded(sum, number);
+    for (; i < one->count; i++)
+        sum = folded(sum, element(one, i));
+    return sum;
 }
 
 /* Bytes of the guards before, between and behind the buffers that are not as they were painted. A sanitizer that shuts them sees every touch by itself. */

@@ -13,14 +13,14 @@ enum call {
     RULES = CALLS, IMAGES, SHORT_PLACES, SHORT_FORMS, FORMS_BUILT, STOPPED, FORMATS_READ, OFFERS_KEPT, COUNTED
 };
 
-/* Random numbers. */
+/* Random numbers. No expression has two of them in an order that C leaves open: they would be others under another compiler. */
 uint64_t drawn(void);
 uint64_t below(uint64_t limit);  /* from 0 to limit - 1 */
 int one_in(uint64_t often);
 uint64_t edge(void);             /* at or near a limit of some kind, or small */
 
 /* What is lent. Each buffer has exactly its elements, with guards on both sides; all of them go at the next round. */
-void *lend(size_t count, size_t width);                        /* filled with random bytes */
+void *lend(size_t count, size_t width);                        /* filled with random numbers; width 1, 4 or 8 */
 void *lend_copy(const void *from, size_t count, size_t width);
 void lend_anew(void);                                          /* a round begins: nothing is lent */
 

@@ -66,11 +66,12 @@ static void draw_banks(void)
     for (i = 0; i < d.banks; i++) {
         uint32_t size = d.grain != 0 ? d.page * (uint32_t)(1 + below(6)) : (uint32_t)(8 + below(500));
         d.units[i] = (uint16_t)(d.grain != 0 ? 8u << below(2) : one_in(2) ? 1 + below(12) : 8u << below(3));
-        d.starts[i] = (int64_t)below(80) - (one_in(3) ? 60 : 0);
+        d.starts[i] = (int64_t)below(140) - 60;
         d.sizes[i] = size;
         d.offsets[i] = at;
         d.aligns[i] = (uint32_t)(d.grain != 0 ? 8u << below(3) : below(24));
-        d.flags[i] = (uint8_t)(DK_HAS_SIZE | DK_HAS_OFFSET | (one_in(2) ? DK_FILL : 0) | (one_in(4) ? DK_HAS_ALIGN : 0));
+        d.flags[i] = (uint8_t)(DK_HAS_SIZE | DK_HAS_OFFSET | (one_in(2) ? DK_FILL : 0));
+        d.flags[i] |= (uint8_t)(one_in(4) ? DK_HAS_ALIGN : 0);
         d.fill_bits[i] = (uint8_t)(i != 0 && one_in(2));
         if (i == 0 && d.banks > 1)
             d.flags[0] = 0;
@@ -280,7 +281,7 @@ void round_of_tables(void)
     draw_twisted();
     lend_tables();
     called(PROFILE, make_profile, FIELDS(profile));
-    if (one_in(3)) {
+    if (one_in(6)) {
         l.map_banks = (uint64_t *)lend(DK_MAX_NODES, 8);
         l.map_positions = (uint32_t *)lend(DK_MAX_NODES, 4);
         l.map_outputs = (uint64_t *)lend(DK_MAX_NODES, 8);
@@ -364,13 +365,15 @@ static void put_file(unsigned form)
 
 static void damage_file(void)
 {
-    size_t turns;
+    size_t turns, at;
     switch (below(4)) {
     case 0: file_length = (size_t)below(file_length + 1); break;
-    case 1: put_number(drawn(), (unsigned)below(4)); break;
+    case 1: put_number(0, 1 + (unsigned)below(3)); break;
     default:
-        for (turns = 1 + (size_t)below(3); turns > 0; turns--)
-            file[below(file_length)] = (uint8_t)(one_in(2) ? below(18) : drawn());
+        for (turns = 1 + (size_t)below(3); turns > 0; turns--) {
+            at = (size_t)below(file_length);
+            file[at] = (uint8_t)(one_in(2) ? below(18) : drawn());
+        }
     }
 }
 
@@ -379,7 +382,7 @@ static void draw_long(void)
 {
     size_t i;
     d.nodes = 4095 + (size_t)below(3);
-    d.values_count = (one_in(2) ? 11685 : 12215) + (size_t)below(10);
+    d.values_count = one_in(2) ? 11685 + (size_t)below(10) : 12215 + (size_t)below(10);
     d.given_rows = d.rows = 1;
     d.banks = 2;
     d.flags[1] = DK_HAS_OFFSET;

@@ -112,21 +112,23 @@ static void put_srec_line(uint8_t type, unsigned width, uint32_t address, size_t
 
 static void put_bad_hex(uint32_t address)
 {
+    size_t length = (size_t)below(5);
     switch (below(7)) {
-    case 0: put_hex_line((uint8_t)(2 + below(4)), address, (size_t)below(5)); break;
+    case 0: put_hex_line((uint8_t)(2 + below(4)), address, length); break;
     case 1: put_hex_line(1, 0, 1 + (size_t)below(3)); break;
     case 2: put_hex_line(1, 1 + (uint32_t)below(300), 0); break;
     case 3: put_hex_line(4, 0, one_in(2) ? 1 : 3); break;
     case 4: put_upper(0, 1 + (uint32_t)below(200)); break;
     case 5: put_upper(0xffff, 0); put_hex_line(0, 0xfff8 + (uint32_t)below(8), 9); break;
-    default: more = one_in(2) ? 1 : -1; put_hex_line(0, address, 1 + (size_t)below(5)); more = 0;
+    default: more = one_in(2) ? 1 : -1; put_hex_line(0, address, 1 + length); more = 0;
     }
 }
 
 static void put_bad_srec(unsigned width, uint32_t address)
 {
+    uint8_t type = (uint8_t)"24568a"[below(6)];
     switch (below(8)) {
-    case 0: put_srec_line((uint8_t)"24568a"[below(6)], 2 + (unsigned)below(3), address, (size_t)below(5)); break;
+    case 0: put_srec_line(type, 2 + (unsigned)below(3), address, 3); break;
     case 1: put_srec_line((uint8_t)(width == 4 ? '7' : '9'), width, 0, 1); break;
     case 2: put_srec_line((uint8_t)(width == 4 ? '1' : '3'), 6 - width, address, 3); break;
     case 3: put_srec_line((uint8_t)(width == 4 ? '3' : '1'), width, UINT32_MAX - 2, 5); break;
@@ -164,6 +166,8 @@ static void make_text(int srec)
     uint32_t upper = one_in(3) ? (uint32_t)below(3) : 0, at = r.load;
     size_t lines = (size_t)below(one_in(10) ? 80 : 9), bad = one_in(2) ? (size_t)below(lines + 1) : lines + 9, i;
     text_length = 0;
+    lower_case = one_in(3);
+    with_cr = one_in(3);
     if (srec && one_in(2))
         put_srec_line('0', 2, 0, (size_t)below(9));
     if (!srec && (upper != 0 || r.load > 0xffff))
@@ -178,7 +182,8 @@ static void make_text(int srec)
             put_srec_line((uint8_t)(width == 4 ? '3' : '1'), width, at, length);
         else
             put_hex_line(0, at & 0xffff, length);
-        at = one_in(4) ? r.load + (uint32_t)below(900) : at + (uint32_t)length + (one_in(3) ? (uint32_t)below(40) : 0) - (one_in(60) ? 3 : 0);
+        at = one_in(4) ? r.load + (uint32_t)below(900) : at + (uint32_t)length - (one_in(60) ? 3 : 0);
+        at += one_in(3) ? (uint32_t)below(40) : 0;
     }
     if (srec && !one_in(12))
         put_srec_line((uint8_t)(width == 4 ? '7' : '9'), width, (uint32_t)(one_in(3) ? drawn() : 0), 0);
@@ -194,15 +199,16 @@ static void draw_blocks(void)
 {
     static uint64_t offsets[BLOCKS_MOST], sizes[BLOCKS_MOST];
     size_t i;
-    uint64_t at = 0;
+    uint64_t at = 0, *odd = one_in(2) ? offsets : sizes;
     r.blocks = (size_t)below(BLOCKS_MOST);
     for (i = 0; i < r.blocks; i++) {
         offsets[i] = at + 8 * below(20);
         sizes[i] = 8 * (1 + below(40));
         at = offsets[i] + sizes[i];
     }
+    at = one_in(2) ? edge() : below(900);
     if (r.blocks > 0 && one_in(6))
-        (one_in(2) ? offsets : sizes)[below(r.blocks)] = one_in(2) ? edge() : below(900);
+        odd[below(r.blocks)] = at;
     r.blocks_too = r.blocks - (r.blocks > 0 && one_in(40));
     r.block_offsets = (const uint64_t *)lend_copy(offsets, r.blocks, 8);
     r.block_sizes = (const uint64_t *)lend_copy(sizes, r.blocks_too, 8);
@@ -250,7 +256,7 @@ static void lend_to_read(int srec)
     r.scratch_count = one_in(2) ? 0 : (size_t)below(one_in(3) ? 300 : 12);
     r.scratch = (uint8_t *)lend_copy(zeros, r.scratch_count, 1);
     if (r.scratch_count > 0 && one_in(12))
-        r.scratch[below(r.scratch_count)] = (uint8_t)drawn();
+        r.scratch[below(r.scratch_count)] = 4;
 }
 
 void round_of_records(void)

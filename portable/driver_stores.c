@@ -34,11 +34,11 @@ static void draw_store(uint64_t count, uint64_t mark_count)
 
 static void damage_store(void)
 {
-    size_t at = (size_t)below(s.count + 1 < STORED ? s.count + 1 : STORED);
+    size_t at = (size_t)below(s.count + 1 < STORED ? s.count + 1 : STORED), mark = (size_t)below(STORED);
     switch (below(6)) {
     case 0: s.positions[at] = edge(); break;
     case 1: s.sizes[at] = one_in(2) ? 0 : edge(); break;
-    case 2: s.marks[below(STORED)] = one_in(2) ? edge() : below(400); break;
+    case 2: s.marks[mark] = one_in(2) ? edge() : below(400); break;
     case 3: s.count = one_in(2) ? edge() : 511 + below(4); break;
     case 4: s.mark_count = one_in(2) ? edge() : 511 + below(4); break;
     default: s.marks[0] = s.positions[0] + 1;
@@ -47,11 +47,11 @@ static void damage_store(void)
 
 void round_of_offers(void)
 {
-    uint64_t turns = 1 + below(8), most = one_in(8) ? 505 + below(8) : below(20);
+    uint64_t turns = 1 + below(8), most = one_in(8) ? 505 + below(8) : below(20), stored = one_in(4) ? 0 : most;
     s.positions = (uint64_t *)lend(STORED, 8);
     s.sizes = (uint64_t *)lend(STORED, 8);
     s.marks = (uint64_t *)lend(STORED, 8);
-    draw_store(one_in(4) ? 0 : most, one_in(3) ? most : 0);
+    draw_store(stored, one_in(3) ? most : 0);
     if (one_in(5))
         damage_store();
     for (; turns > 0; turns--) {
@@ -85,12 +85,12 @@ static void draw_spans(size_t count, uint64_t places)
 {
     static uint64_t offsets[SPANS_MOST], sizes[SPANS_MOST];
     size_t i;
-    uint64_t at = 0;
+    uint64_t at = 0, *odd = one_in(2) ? offsets : sizes;
     for (i = 0; i < count; i++) {
         offsets[i] = one_in(4) ? below(30 * count + 1) : one_in(10) ? DK_NO_OFFSET : at;
         sizes[i] = one_in(6) ? 0 : below(40);
         if (places > 0 && one_in(count) && places-- > 0)
-            (one_in(2) ? offsets : sizes)[i] = edge();
+            odd[i] = edge();
         at = offsets[i] + sizes[i];
     }
     b.offsets_count = count;
@@ -129,7 +129,7 @@ static void make_runs(void) { runs = dk_overlay_runs(LAID, o.firsts, o.firsts_co
 static void draw_overlay(void)
 {
     static uint64_t offsets[BLOCKS_MOST], sizes[BLOCKS_MOST];
-    uint64_t at = 0, grain = one_in(3) ? 1 : 8;
+    uint64_t at = 0, grain = one_in(3) ? 1 : 8, *odd = one_in(2) ? offsets : sizes;
     size_t i;
     o.blocks = (size_t)below(one_in(3) ? BLOCKS_MOST : 6);
     for (i = 0; i < o.blocks; i++) {
@@ -137,8 +137,9 @@ static void draw_overlay(void)
         sizes[i] = grain * (1 + below(40));
         at = offsets[i] + sizes[i];
     }
+    at = one_in(2) ? edge() : below(300);
     if (o.blocks > 0 && one_in(6))
-        (one_in(2) ? offsets : sizes)[below(o.blocks)] = one_in(2) ? edge() : below(300);
+        odd[below(o.blocks)] = at;
     o.blocks_too = o.blocks - (o.blocks > 0 && one_in(40));
     o.offsets = (const uint64_t *)lend_copy(offsets, o.blocks, 8);
     o.sizes = (const uint64_t *)lend_copy(sizes, o.blocks_too, 8);
