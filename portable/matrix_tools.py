@@ -1,0 +1,55 @@
+"""For portable/matrix: which tools this machine has, which Debian package has those that it lacks, and how programs of other machines are started."""
+
+import platform
+import shutil
+import subprocess
+import sys
+from pathlib import Path
+
+sys.path.insert(0, str(Path(__file__).resolve().parent.parent / "oracle"))
+
+import manners  # noqa: E402
+
+HOST = platform.machine()
+LIMIT = 1_800  # seconds that a run may take: an emulator on a busy machine
+PACKAGES = {
+    "gcc": "gcc", "clang": "clang", "cc": "gcc", "tcc": "tcc", "wasm-ld": "lld", "node": "nodejs", "wine": "wine64",
+    "x86_64-linux-gnu-gcc": "gcc-x86-64-linux-gnu libc6-dev-amd64-cross", "aarch64-linux-gnu-gcc": "gcc-aarch64-linux-gnu libc6-dev-arm64-cross",
+    "i686-linux-gnu-gcc": "gcc-i686-linux-gnu libc6-dev-i386-cross", "arm-linux-gnueabihf-gcc": "gcc-arm-linux-gnueabihf libc6-dev-armhf-cross",
+    "s390x-linux-gnu-gcc": "gcc-s390x-linux-gnu libc6-dev-s390x-cross", "x86_64-w64-mingw32-gcc": "gcc-mingw-w64-x86-64",
+    "arm-none-eabi-gcc": "gcc-arm-none-eabi", "qemu-system-arm": "qemu-system-arm", "qemu-x86_64": "qemu-user", "qemu-aarch64": "qemu-user",
+    "qemu-i386": "qemu-user", "qemu-arm": "qemu-user", "qemu-s390x": "qemu-user"}
+EMULATORS = {"x86_64": "qemu-x86_64", "aarch64": "qemu-aarch64", "i686": "qemu-i386", "armhf": "qemu-arm", "s390x": "qemu-s390x"}
+RUNS = {"x86_64": ("x86_64", "i686"), "aarch64": ("aarch64",), "s390x": ("s390x",)}  # what a machine runs by itself
+
+
+def emulated(arch):
+    """The words that start a program of that machine here."""
+    return [] if arch in RUNS.get(HOST, ()) else [EMULATORS[arch]]
+
+
+def want(tool, what):
+    """Whether a tool is there; if not, what is skipped for want of it is said. Wine runs x86-64 programs on x86-64 alone."""
+    if tool == "wine" and HOST != "x86_64":
+        print(f"left out: {what}: wine runs x86-64 programs on x86-64, and this is {HOST}")
+        return False
+    if shutil.which(tool):
+        return True
+    print(f"skipped: {what}, for want of {tool} (Debian: {PACKAGES.get(tool, tool)})")
+    return False
+
+
+def launched(words):
+    """Runs a program; what it says on standard error, where qemu-system-arm puts semihosting, counts as said."""
+    return subprocess.run(words, stdout=subprocess.PIPE, stderr=subprocess.STDOUT, stdin=subprocess.DEVNULL, timeout=LIMIT)
+
+
+def first_line(*command):
+    try:
+        return subprocess.run(command, stdout=subprocess.PIPE, stderr=subprocess.STDOUT).stdout.decode().splitlines()[0]
+    except (OSError, IndexError):
+        return "not installed"
+
+
+if __name__ == "__main__":
+    manners.part(__doc__)
