@@ -16,10 +16,10 @@ def promised():
     found = {}
     for comment, declarations in re.findall(r"/\*((?:(?!\*/).)*?)\*/\n((?:(?:struct dk_\w+ )dk_\w+\([^;]*\);\n+)+)", text, re.S):
         calls = re.findall(r"^struct \w+ (dk_\w+)\(", declarations, re.M)
-        said = re.search(r"needs? less than ([^(.]*) of\s+\*?\s*stack(?: \(([^)]*)\))?", re.sub(r"\n \* ", " ", comment))
+        said = re.search(r"needs? less\s+than ([^(]*?) of\s+\*?\s*stack(?: \(([^)]*)\))?", re.sub(r"\n \* ", " ", comment))
         if not said:
             raise Differ(f"include/denkumari.h says nothing of the stack of {calls}")
-        limits = [int(n) for n in re.findall(r"\d+", said[1])]
+        limits = [float(n) for n in re.findall(r"\d+(?:\.\d)?", said[1])]
         measured = [float(n) for n in re.findall(r"\d+\.\d", said[2] or "")]
         for i, call in enumerate(calls):
             found[call] = limits[min(i, len(limits) - 1)], measured[min(i, len(measured) - 1)] if measured else None
@@ -34,14 +34,14 @@ def stack_rows(ours):
         call = name.split(",")[0]
         # of a call that was made in several ways the header has the most
         most[call] = max(int(measured), most.get(call, (0, 0))[0]), int(limit)
-        yield f"| {name} | {int(limit) // 1024} KiB | {'at most ' * (int(measured) <= 128)}{int(measured):,} |"
+        yield f"| {name} | {int(limit) / 1024:g} KiB | {'at most ' * (int(measured) <= 128)}{int(measured):,} |"
     if set(most) != set(header):
         raise Differ(f"bindings/c/stack.c does not measure {sorted(set(header) - set(most))}")
     for call, (measured, limit) in most.items():
         said, figure = header[call]
         kib = math.ceil(measured / 102.4) / 10  # the header rounds up
         if said * 1024 != limit or (figure is not None and figure != kib):
-            wrong.append(f"{call}: less than {limit // 1024} KiB ({kib} KiB)")
+            wrong.append(f"{call}: less than {limit / 1024:g} KiB ({kib} KiB)")
     if wrong:
         raise Differ("include/denkumari.h is to say: " + "; ".join(wrong))
 

@@ -15,8 +15,10 @@
  * accepted call leaves the lists that it wrote as they were past what it wrote; the rest of the image is made zero, or takes the fill bits of filled banks. A
  * text that is written has no final zero byte.
  *
- * Stack. What a call needs, all its frames included, is said of each, with what was measured on the longest lists, rounded up. bindings/c/stack.c measures
- * it by painting a thread's stack, and the tests fail where a call needs more; docs/BENCHMARK.md has the bytes.
+ * Stack. What a call needs, all its frames included, is said of each, with what was measured of the archive on the longest lists, rounded up. It holds for
+ * the archive, and for portable/denkumari.c where gcc or clang compiles it with -O1, -O2, -O3 or -Os. Without optimisation a call takes more: up to 3 KiB where
+ * 1 to 2 KiB are promised. bindings/c/stack.c measures it by painting a thread's stack, and the tests fail where a call needs more; docs/BENCHMARK.md has the
+ * bytes for the archive, docs/PORTABLE.md for the portable C on x86-64, on Arm and on a Cortex-M4.
  */
 #ifndef DENKUMARI_H
 #define DENKUMARI_H
@@ -398,7 +400,7 @@ struct dk_fault {
 };
 
 /* At which line the same file is bad, in the same time, with `scratch` as above. Unknown format: fault 1, line 0. It needs less
- * than 1 KiB of stack. */
+ * than 1.5 KiB of stack. */
 struct dk_fault dk_record_fault(uint8_t format, const uint8_t *text, size_t text_len, uint32_t load,
                                 uint8_t *scratch, size_t scratch_len);
 

@@ -324,14 +324,14 @@ int main(void)
     bad |= measure("dk_read_records, Intel HEX", read_hex, 2048);
     bad |= measure("dk_write_srec", write_srec, 1024);
     bad |= measure("dk_read_records, S-records", read_srec, 2048);
-    bad |= measure("dk_record_fault", fault, 1024);
+    bad |= measure("dk_record_fault", fault, 1536);
     for (unsigned i = 0; i < 97; i++) {
         unsigned at = i * 41 % 97;
         jumps_length += (size_t)sprintf(jumps + jumps_length, ":0100%02X0041%02X\n", at, (0u - (1 + at + 65)) & 255);
     }
     jumps_length += (size_t)sprintf(jumps + jumps_length, ":00000001FF\n");
     bad |= measure("dk_read_records, jumps", read_jumps, 2048);
-    bad |= measure("dk_record_fault, jumps", fault_jumps, 1024);
+    bad |= measure("dk_record_fault, jumps", fault_jumps, 1536);
     bad |= measure("dk_record_reason, jumps", reason_jumps, 2048);
     bad |= measure("dk_record_reason", reason, 2048);
     bad |= measure("dk_record_reason, below", reason_below, 2048);
