@@ -20,6 +20,8 @@ PACKAGES = {
     "arm-none-eabi-gcc": "gcc-arm-none-eabi", "qemu-system-arm": "qemu-system-arm", "qemu-x86_64": "qemu-user", "qemu-aarch64": "qemu-user",
     "qemu-i386": "qemu-user", "qemu-arm": "qemu-user", "qemu-s390x": "qemu-user"}
 EMULATORS = {"x86_64": "qemu-x86_64", "aarch64": "qemu-aarch64", "i686": "qemu-i386", "armhf": "qemu-arm", "s390x": "qemu-s390x"}
+# Tools that are there and must not be used: of f(s->a, g(t)), t a struct of 16 bytes, tcc 0.9.27 for AArch64 passes another number in the place of s->a
+UNUSABLE = {("tcc", "aarch64"): "tcc's code for AArch64 spoils an argument that stands before a call with a struct of 16 bytes"}
 RUNS = {"x86_64": ("x86_64", "i686"), "aarch64": ("aarch64",), "s390x": ("s390x",)}  # what a machine runs by itself
 
 
@@ -29,9 +31,9 @@ def emulated(arch):
 
 
 def want(tool, what):
-    """Whether a tool is there; if not, what is skipped for want of it is said. Wine runs x86-64 programs on x86-64 alone."""
-    if tool == "wine" and HOST != "x86_64":
-        print(f"left out: {what}: wine runs x86-64 programs on x86-64, and this is {HOST}")
+    """Whether a tool is there and can be used on this machine; if not, what is left out or skipped for want of it is said."""
+    if (tool, HOST) in UNUSABLE or (tool == "wine" and HOST != "x86_64"):
+        print(f"left out: {what}: {UNUSABLE.get((tool, HOST), f'wine runs x86-64 programs on x86-64, and this is {HOST}')}")
         return False
     if shutil.which(tool):
         return True
