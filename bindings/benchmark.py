@@ -5,8 +5,8 @@
     oracle/build.sh --edit bindings/long.edit --flags "-C opt-level=3" build/fast
     python3 bindings/benchmark.py [--ours FOLDER] [--rust FOLDER] [--rehex PROGRAM] [--only TABLE ..] [--turns N] [--write DOCUMENT]
 
-FOLDERs are where the two builds put their programs. Prints the tables machine, layouts, where, series, calls, programs, stack and orders; with --write
-they take the place of those in the document. Ends with 1 where two sides give different answers, where an exported call has no row, or where a stack figure of
+FOLDERs are where the two builds put their programs. Prints the tables machine, layouts, where, series, calls, portable, programs, stack and orders; with --write
+they take the place of those in the document. On another machine than x86-64 the tables portable, stack and orders can be had, by qemu-x86_64. Ends with 1 where two sides give different answers, where an exported call has no row, or where a stack figure of
 include/denkumari.h is not the measured one."""
 
 import re
@@ -18,6 +18,7 @@ from benchmark_calls import call_rows, ratio
 from benchmark_count import Differ, each, manners, times, wanted
 from benchmark_layouts import LAYOUTS, MARKED, SERIES
 from benchmark_orders import order_rows
+from benchmark_portable import portable_rows
 from benchmark_stack import stack_rows
 from benchmark_where import where_rows
 from form1 import encode
@@ -25,7 +26,7 @@ from generate import batched
 from programs_time import program_rows
 
 LONGEST = 65_000
-TABLES = ("machine", "layouts", "where", "series", "calls", "programs", "stack", "orders")
+TABLES = ("machine", "layouts", "where", "series", "calls", "portable", "programs", "stack", "orders")
 
 
 def big(number):
@@ -123,6 +124,7 @@ def main():
     sides = Sides(asked.ours, asked.rust)
     tables = {"machine": machine_rows, "layouts": lambda: layout_rows(sides, asked.turns), "where": lambda: where_rows(asked.ours, asked.rust),
               "series": lambda: series_rows(sides), "calls": lambda: call_rows(asked.ours, asked.rust, asked.turns),
+              "portable": lambda: portable_rows(asked.ours),
               "programs": lambda: program_rows([asked.rehex] if asked.rehex else manners.command("rehex"), asked.turns),
               "stack": lambda: stack_rows(asked.ours), "orders": lambda: order_rows(asked.ours)}
     for name in asked.only or tables:

@@ -1,11 +1,15 @@
-"""Counting the instructions and the processor time of a command, with what it does once taken off."""
+"""Counting the instructions and the processor time of a command, with what it does once taken off. On x86-64 callgrind counts; elsewhere the programs are
+x86-64 ones all the same, and qemu-user counts by a plugin of ours. The two have been seen to agree to the instruction."""
 
+import functools
 import os
+import platform
 import re
 import resource
 import shutil
 import subprocess
 import sys
+import tempfile
 from pathlib import Path
 
 sys.path.insert(0, str(Path(__file__).resolve().parent.parent / "oracle"))
@@ -24,9 +28,8 @@ class Differ(Exception):
 
 
 def instructions(command, given=b"", within=()):
-    """Instructions that callgrind counts, of the whole process or within some functions, and what the command printed."""
-    valgrind = ["valgrind", "--tool=callgrind", "--callgrind-out-file=/dev/null"] + [f"--toggle-collect={name}" for name in within]
-    done = subprocess.run(valgrind + command, input=given, stdout=subprocess.PIPE, stderr=subprocess.PIPE, env={**os.environ, **LOOPS})
+    """Instructions of the whole process or within some functions, and what the command printed."""
+    done = subprocess.run(counter(tuple(within)) + command, input=given, stdout=subprocess.PIPE, stderr=subprocess.PIPE, env={**os.environ, **LOOPS})
     found = re.search(rb"Collected : (\d+)", done.stderr)
     if done.returncode != 0 or not found:
         raise SystemExit(f"{' '.join(map(str, command))}: status {done.returncode}, {done.stderr[-300:].decode(errors='replace')}")
@@ -60,9 +63,36 @@ def times(runs, costs, turns):
     return least
 
 
+def native():
+    return platform.machine() == "x86_64"
+
+
+def started():
+    """The words that start an x86-64 program here."""
+    return [] if native() else ["qemu-x86_64"]
+
+
+@functools.lru_cache(None)
+def counter(within):
+    """The words that run a command and count its instructions."""
+    if native():
+        return ["valgrind", "--tool=callgrind", "--callgrind-out-file=/dev/null"] + [f"--toggle-collect={name}" for name in within]
+    if within:
+        raise manners.Stop("the instructions within a function are counted by callgrind, on x86-64 alone")
+    folder = tempfile.TemporaryDirectory()
+    counter.folders.append(folder)
+    plugin = Path(folder.name) / "plugin.so"
+    subprocess.run(["cc", "-O2", "-shared", "-fPIC", Path(__file__).parent / "benchmark_plugin.c", "-o", plugin], check=True)
+    return ["qemu-x86_64", "-plugin", str(plugin)]
+
+
+counter.folders = []
+
+
 def wanted():
-    if not shutil.which("valgrind"):
-        raise manners.Stop("instructions are counted by valgrind, which is not installed")
+    tool = "valgrind" if native() else "qemu-x86_64"
+    if not shutil.which(tool):
+        raise manners.Stop(f"instructions are counted by {tool}, which is not installed")
 
 
 if __name__ == "__main__":

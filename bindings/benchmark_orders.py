@@ -3,7 +3,7 @@
 import subprocess
 from random import Random
 
-from benchmark_count import Differ, instructions, manners
+from benchmark_count import Differ, instructions, manners, started
 
 ORDERS = ("ascending", "descending", "shuffled")
 SIZES = {"4 KiB": 4_096, "64 KiB": 65_536, "1 MiB": 1_048_576}
@@ -64,7 +64,7 @@ def one(ours, path, made, bytes_each, size, order):
     path.write_text(text_of(made, bytes_each, size, order))
     wanted = f"0 1 {sum(i % 251 for i in range(size))}\n".encode()
     command = [str(ours / "orders_time"), str(FORMATS.index(made))]
-    said = subprocess.run(command + ["1", path], stdout=subprocess.PIPE, check=True).stdout
+    said = subprocess.run(started() + command + ["1", path], stdout=subprocess.PIPE, check=True).stdout
     if said != wanted:
         raise Differ(f"{made}, {size} bytes by {bytes_each}, {order}: {said.decode()} for {wanted.decode()}")
     return instructions(command + ["1", path])[0] - instructions(command + ["0", path])[0]

@@ -5,7 +5,7 @@ import re
 import subprocess
 from pathlib import Path
 
-from benchmark_count import Differ, manners
+from benchmark_count import Differ, manners, started
 
 HEADER = Path(__file__).resolve().parent.parent / "include" / "denkumari.h"
 
@@ -29,7 +29,7 @@ def promised():
 def stack_rows(ours):
     yield "| call | needs less than | measured, bytes |\n|---|---|---|"
     header, wrong, most = promised(), [], {}
-    lines = subprocess.run([ours / "stack"], stdout=subprocess.PIPE, check=True).stdout.decode().splitlines()
+    lines = subprocess.run([*started(), ours / "stack"], stdout=subprocess.PIPE, check=True).stdout.decode().splitlines()
     for name, measured, limit in (re.match(r"(.*): (\d+) bytes of stack, below (\d+)", line).groups() for line in lines):
         call = name.split(",")[0]
         # of a call that was made in several ways the header has the most

@@ -65,7 +65,7 @@ fn compiled(here: &Path) -> Result<PathBuf, String> {
     let (object, archive) = (out.join("denkumari.o"), out.join("libdenkumari.a"));
     let _ = std::fs::remove_file(&archive); // ar would keep what is in it
     let compiling = |command: &mut Command| {
-        command.args(["-std=c99", "-O2", "-fPIC", "-c"]).arg(&source).arg("-I").arg(&include).arg("-o").arg(&object);
+        command.args(["-std=c99", "-O3", "-fPIC", "-c"]).arg(&source).arg("-I").arg(&include).arg("-o").arg(&object);
     };
     first_of("CC", &["cc", "gcc", "clang"], compiling, "a C compiler compiles portable/denkumari.c")?;
     let packing = |command: &mut Command| {
