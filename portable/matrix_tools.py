@@ -1,5 +1,6 @@
 """For portable/matrix: which tools this machine has, which Debian package has those that it lacks, and how programs of other machines are started."""
 
+import os
 import platform
 import shutil
 import subprocess
@@ -11,9 +12,11 @@ sys.path.insert(0, str(Path(__file__).resolve().parent.parent / "oracle"))
 import manners  # noqa: E402
 
 HOST = platform.machine()
+# Debian's wine64 has no name on the PATH of its own
+WINE = next((name for name in ("wine", "wine64", "/usr/lib/wine/wine64") if shutil.which(name)), "wine")
 LIMIT = 1_800  # seconds that a run may take: an emulator on a busy machine
 PACKAGES = {
-    "gcc": "gcc", "clang": "clang", "cc": "gcc", "tcc": "tcc", "wasm-ld": "lld", "node": "nodejs", "wine": "wine64",
+    "gcc": "gcc", "clang": "clang", "cc": "gcc", "tcc": "tcc", "wasm-ld": "lld", "ld.lld": "lld", "llvm-dlltool": "llvm", "node": "nodejs", "wine": "wine64",
     "x86_64-linux-gnu-gcc": "gcc-x86-64-linux-gnu libc6-dev-amd64-cross", "aarch64-linux-gnu-gcc": "gcc-aarch64-linux-gnu libc6-dev-arm64-cross",
     "i686-linux-gnu-gcc": "gcc-i686-linux-gnu libc6-dev-i386-cross", "arm-linux-gnueabihf-gcc": "gcc-arm-linux-gnueabihf libc6-dev-armhf-cross",
     "s390x-linux-gnu-gcc": "gcc-s390x-linux-gnu libc6-dev-s390x-cross", "x86_64-w64-mingw32-gcc": "gcc-mingw-w64-x86-64",
@@ -32,8 +35,8 @@ def emulated(arch):
 
 def want(tool, what):
     """Whether a tool is there and can be used on this machine; if not, what is left out or skipped for want of it is said."""
-    if (tool, HOST) in UNUSABLE or (tool == "wine" and HOST != "x86_64"):
-        print(f"left out: {what}: {UNUSABLE.get((tool, HOST), f'wine runs x86-64 programs on x86-64, and this is {HOST}')}")
+    if (tool, HOST) in UNUSABLE:
+        print(f"left out: {what}: {UNUSABLE[tool, HOST]}")
         return False
     if shutil.which(tool):
         return True
@@ -41,9 +44,11 @@ def want(tool, what):
     return False
 
 
-def launched(words):
-    """Runs a program; what it says on standard error, where qemu-system-arm puts semihosting, counts as said."""
-    return subprocess.run(words, stdout=subprocess.PIPE, stderr=subprocess.STDOUT, stdin=subprocess.DEVNULL, timeout=LIMIT)
+def launched(words, room=None):
+    """Runs a program. What qemu-system-arm says on standard error, semihosting, counts as said. Wine keeps its folder beside the program."""
+    wine = {"WINEPREFIX": str(room / "wine"), "WINEDEBUG": "-all"} if words[0] == WINE else {}
+    told = subprocess.STDOUT if not wine else subprocess.DEVNULL
+    return subprocess.run(words, stdout=subprocess.PIPE, stderr=told, stdin=subprocess.DEVNULL, timeout=LIMIT, env={**os.environ, **wine})
 
 
 def first_line(*command):
