@@ -5,8 +5,9 @@
     oracle/build.sh --edit bindings/long.edit --flags "-C opt-level=3" build/fast
     python3 bindings/benchmark.py [--ours FOLDER] [--rust FOLDER] [--rehex PROGRAM] [--only TABLE ..] [--turns N] [--write DOCUMENT]
 
-FOLDERs are where the two builds put their programs. Prints the tables machine, layouts, where, series, calls, portable, programs, stack and orders; with --write
-they take the place of those in the document. On another machine than x86-64 the tables portable, stack and orders can be had, by qemu-x86_64. Ends with 1 where two sides give different answers, where an exported call has no row, or where a stack figure of
+FOLDERs are where the two builds put their programs. Prints the tables machine, layouts, where, series, calls, portable, programs, stack and orders; with
+--write they take the place of those in the document. On another machine than x86-64 the tables portable, stack and orders can be had, by qemu-x86_64. Ends
+with 1 where two sides give different answers, where an exported call has no row, or where a stack figure of
 include/denkumari.h is not the measured one."""
 
 import re

@@ -18,6 +18,12 @@ INCLUDED = f"-I{ROOT / 'include'}"
 MACHINES = {"x86_64": ("x86_64-linux-gnu-gcc", "x86_64-linux-gnu"), "aarch64": ("aarch64-linux-gnu-gcc", "aarch64-linux-gnu"),
             "armhf": ("arm-linux-gnueabihf-gcc", "arm-linux-gnueabihf")}
 BARE = ["arm-none-eabi-gcc", "-mcpu=cortex-m4", "-mthumb", "-mfloat-abi=soft", "-ffreestanding"]
+# The two memory functions, and a start that does nothing: what stands beside the calls whose size is told.
+STUB = """#include <stddef.h>
+void *memcpy(void *a, const void *b, size_t n) { char *d = a; const char *s = b; while (n--) *d++ = *s++; return a; }
+void *memset(void *a, int c, size_t n) { char *d = a; while (n--) *d++ = (char)c; return a; }
+void start(void) {}
+"""
 LOADER = ("dk_read_records", "dk_record_fault", "dk_record_reason", "dk_blocks", "dk_offer", "dk_part", "dk_overlay_range", "dk_overlay_runs", "dk_write_hex",
           "dk_hex")
 
@@ -90,8 +96,7 @@ def stack_rows(source, bare, archive):
 def bare_size(source, room, calls):
     """Bytes of code and constants that a program with these calls, and nothing else, has on a Cortex-M4."""
     stub, program = room / "stub.c", room / "alone.elf"
-    stub.write_text("#include <stddef.h>\nvoid *memcpy(void *a, const void *b, size_t n) { char *d = a; const char *s = b; while (n--) *d++ = *s++; return a; }\n"
-                    "void *memset(void *a, int c, size_t n) { char *d = a; while (n--) *d++ = (char)c; return a; }\nvoid start(void) {}\n")
+    stub.write_text(STUB)
     kept = [f"-Wl,-u,{call}" for call in calls]
     subprocess.run([*BARE, "-Os", "-nostdlib", "-ffunction-sections", "-fno-tree-loop-distribute-patterns", "-Wl,--gc-sections", "-Wl,-e,start", INCLUDED,
                     *kept, str(source), str(stub), "-lgcc", "-o", str(program)], check=True)
