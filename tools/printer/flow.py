@@ -141,7 +141,9 @@ def is_copy(s, place):
 
 def sets_last(body, place):
     """Whether each way through a body ends in a jump or sets a place last."""
-    return ends(body) or bool(body) and (body[-1].to == place or body[-1].kind in ('if', 'switch') and all(sets_last(inner, place) for inner in body[-1].bodies))
+    if not body or ends(body):
+        return bool(body)
+    return body[-1].to == place or body[-1].kind in ('if', 'switch') and all(sets_last(inner, place) for inner in body[-1].bodies)
 
 
 if __name__ == '__main__':

@@ -9,7 +9,7 @@ sys.path.append(str(ROOT / 'oracle'))
 sys.dont_write_bytecode = True
 import manners  # noqa: E402
 
-# The kinds of types; two types are the same where their parts are. Bits of a Ref: whether it may be written through, and to what.
+# The kinds of types; two types are the same where their parts are. `mut`: whether it may be written through.
 Int, Simple, Named, Ref, Slice, Array = (make_dataclass(name, parts.split(), frozen=True) for name, parts in (
     ('Int', 'bits'), ('Simple', 'name'), ('Named', 'name'), ('Ref', 'mut to'), ('Slice', 'mut of'), ('Array', 'of count')))
 BOOL, UNIT, PTR = Simple('bool'), Simple('unit'), Simple('ptr')
