@@ -16,7 +16,7 @@
  * text that is written has no final zero byte.
  *
  * Stack. What a call needs, all its frames included, is said of each, with what was measured of the archive on the longest lists, rounded up. It holds for
- * the archive, and for portable/denkumari.c where gcc or clang compiles it with -O1, -O2, -O3 or -Os. Without optimisation a call takes more: up to 3 KiB where
+ * the archive, and for portable/denkumari.c where gcc or clang compiles it with -O2, -O3 or -Os. Without optimisation a call takes more: up to 3 KiB where
  * 1 to 2 KiB are promised. bindings/c/stack.c measures it by painting a thread's stack, and the tests fail where a call needs more; docs/BENCHMARK.md has the
  * bytes for the archive, docs/PORTABLE.md for the portable C on x86-64, on Arm and on a Cortex-M4.
  */
