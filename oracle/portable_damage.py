@@ -60,13 +60,15 @@ DAMAGES = [
      "the term puts a slice's pointer together with the length of the same slice, or with a number"),
     ("true is printed as false", "exprs", "'true' if operand.n else 'false'", "'false' if operand.n else 'true'", ""),
     ("what is read from a local in memory counts as no memory", "exprs", "frozenset([n]), n in self.slots, place=True)",
-     "frozenset([n]), False, place=True)", ""),
+     "frozenset([n]), False, place=True)",
+     "the same text: no value of such a local is pending where something is stored through its address"),
     ("wrapping subtraction is an addition", "stmts", "BINARY[wrapping[1]]", "BINARY['add']", ""),
     ("a pending value is put where it is read, also twice", "stmts", "return len(here) > 1 or n in after", "return n in after", ""),
     ("a pending value is put where it is read, and is read again later", "stmts", "return len(here) > 1 or n in after", "return len(here) > 1", ""),
     ("a store does not set what reads memory first", "stmts", "(e.memory if s.to.indirect else", "(False if s.to.indirect else", ""),
     ("a call that writes does not set what reads memory first", "stmts", "return not pure and e.memory or not waits", "return not waits", ""),
-    ("a local is set though pending values name its old one", "stmts", "        self.flush(out, lambda _, other: n in other.uses)\n", "", ""),
+    ("a local is set though pending values name its old one", "stmts", "        self.flush(out, lambda _, other: n in other.uses)\n", "",
+     "two statements move behind others that they do not touch: pending values are set in the order in which they were made"),
     ("what is pending at the end of a body is forgotten", "stmts", "        self.flush(out, lambda n, _: n in after)\n        self.pending = pending",
      "        self.pending = pending", ""),
     ("a call that writes is put where its answer is read, however late", "stmts", "lambda n, e: e.calls and not (takes", "lambda n, e: False and (takes",
@@ -79,7 +81,8 @@ DAMAGES = [
     ("break and continue are exchanged", "stmts", "'continue;' if way == ['loop'] else 'break;'", "'break;' if way == ['loop'] else 'continue;'", ""),
     ("an argument is lent though the call may write to it", "stmts", "if e.place and (pure or not e.memory):", "if e.place:",
      "no call of today's sources lends a large value together with the right to write to it"),
-    ("a parameter that is set is lent", "stmts", "> self.program.LARGE and not sets(self.body, n)", "> self.program.LARGE", ""),
+    ("a parameter that is set is lent", "stmts", "> self.program.LARGE and not sets(self.body, n)", "> self.program.LARGE",
+     "the same text: the term never sets a parameter, but copies it to a local first"),
     ("a parameter is taken for its copy though it is read again", "stmts", "and m not in s.live and not sets(self.body, m)", "and not sets(self.body, m)",
      "the term copies a parameter to memory before anything else, and does not read it again"),
     ("an array is filled but for its last element", "stmts", "each < {s.op}u;", "each < {s.op - 1}u;", ""),
@@ -112,7 +115,7 @@ class Room:
         if not self.compile(source, ["-w", "-o", self.folder / "driver", *self.driver]):
             return None
         try:
-            done = subprocess.run([self.folder / "driver", self.calls, "7"], capture_output=True, check=False, timeout=120)
+            done = subprocess.run([self.folder / "driver", self.calls, "7"], capture_output=True, check=False, timeout=60)
         except subprocess.TimeoutExpired:
             return "no end"
         return done.returncode, done.stdout
