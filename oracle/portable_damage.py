@@ -87,7 +87,8 @@ DAMAGES = [
     ("a parameter is taken for its copy though it is read again", "stmts", "and m not in s.live and not sets(self.body, m)", "and not sets(self.body, m)",
      "the term copies a parameter to memory before anything else, and does not read it again"),
     ("an array is filled but for its last element", "stmts", "each < {s.op}u;", "each < {s.op - 1}u;", ""),
-    ("a local is declared in a loop that reads what the turn before left", "lines", "starts_anew(first.lines, n) and not", "not", ""),
+    ("a local is declared in a loop that reads what the turn before left", "lines", "starts_anew(first.lines, n) and not", "not",
+     "a local that a loop alone names is set in each turn before it is read: otherwise the first turn would read it unset"),
     ("the fields of an answer are told in the wrong order", "program", "zip(structs[struct], self.types.fields(t), parts)",
      "zip(structs[struct][::-1], self.types.fields(t), parts)", ""),
 ]
