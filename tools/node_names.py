@@ -14,32 +14,64 @@ import manners  # noqa: E402
 BAD_LINE = "is not a number, a name and a place with tabs between"
 
 
+def cksum(data):
+    """The sum and the length of a file, as POSIX cksum prints them."""
+    crc, length = 0, len(data)
+    for byte in data + length.to_bytes((length.bit_length() + 7) // 8, "little"):
+        crc = (crc << 8) & 0xffffffff ^ TABLE[crc >> 24 ^ byte]
+    return f"{crc ^ 0xffffffff} {length}"
+
+
+def shifted(byte):
+    """A byte's entry of the table: the remainder of eight steps."""
+    crc = byte << 24
+    for _ in range(8):
+        crc = crc << 1 ^ (0x104c11db7 if crc >> 31 else 0)
+    return crc
+
+
+TABLE = [shifted(byte) for byte in range(256)]
+
+
+def first_line(data):
+    """The line that says of which layout file names are; a tool that writes names writes it ahead of them."""
+    return "form\t" + cksum(data).replace(" ", "\t") + "\n"
+
+
 def is_plain(text):
     return not any(ord(one) < 32 or 127 <= ord(one) < 160 for one in text)
 
 
 def parsed(text):
-    names, above = {}, -1
+    """The names, and the sum of the layout file that they are of where the first line has it."""
+    names, above, belongs = {}, -1, None
     lines = text.split("\n")
     for line, words in enumerate(lines[:-1] if lines[-1] == "" else lines, 1):
         parts = words.removesuffix("\r").split("\t")
+        if line == 1 and parts[0] == "form" and len(parts) == 3 and all(part.isascii() and part.isdigit() for part in parts[1:]):
+            belongs = " ".join(parts[1:])
+            continue
         if len(parts) != 3 or not (parts[0].isascii() and parts[0].isdigit()) or not all(map(is_plain, parts[1:])):
             raise ValueError(f"line {line} {BAD_LINE}")
         if int(parts[0]) <= above:
             raise ValueError(f"the node in line {line} is not above that of the line before")
         above = int(parts[0])
         names[above] = (parts[1], parts[2])
-    return names
+    return names, belongs
 
 
-def read(path, given):
+def read(path, given, data=None):
     """The name and the place of each node that has them, from the file that was given or from NAME.names beside NAME.form; one that only lies there is passed
-    over where it is no names file."""
+    over where it is no names file, or is of another layout file. `data` is what the layout file holds, which is read where it is not given."""
     beside = path[:-len(".form")] + ".names" if path.endswith(".form") else None
     if not given and (beside is None or not Path(beside).is_file()):
         return {}
     try:
-        return parsed(Path(given or beside).read_bytes().decode("utf-8"))
+        names, belongs = parsed(Path(given or beside).read_bytes().decode("utf-8"))
+        has = None if belongs is None else cksum(Path(path).read_bytes() if data is None else data)
+        if belongs == has:
+            return names
+        return stale(path, given, beside, f"cksum {belongs}, and {path} has {has}")
     except UnicodeDecodeError:
         wrong = "it is not UTF-8"
     except OSError as error:
@@ -49,6 +81,14 @@ def read(path, given):
     if given:
         raise manners.Stop(f"{given} is no names file: {wrong}")
     print(f"{manners.called()}: the names of {beside} are left out: {wrong}", file=sys.stderr)
+    return {}
+
+
+def stale(path, given, beside, sums):
+    """Names of another layout file: an end where they were given, else they are left out, and told."""
+    if given:
+        raise manners.Stop(f"{given} does not belong to {path}: {sums}")
+    print(f"{manners.called()}: the names of {beside} are left out: they belong to another layout file ({sums})", file=sys.stderr)
     return {}
 
 
