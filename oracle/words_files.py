@@ -260,61 +260,65 @@ reserve|limit 1 => line 1, column 8: expected a colon after reserve, found the e
 reserve:|limit 1 => line 1, column 9: expected a space and a number, found the end of the line
 reserve:32|limit 1 => line 1, column 9: expected a space and a number, found '32'
 reserve : 32|limit 1 => line 1, column 8: expected a colon after reserve, found a space
-reserve: 3 2|limit 1 => line 1, column 10: expected 1 number, found 2: there is 1 row (for more rows, a line rows 2 goes ahead of the nodes)
-rows 3|reserve: 3 2|limit 1 => line 2, column 10: expected 1 or 3 numbers, found 2: there are 3 rows
+reserve: 3 2|limit 1 => line 1, column 10: found 2 numbers, and there is 1 row (for 2 rows, put a line rows 2 before the nodes)
+rows 3|reserve: 3 2|limit 1 => line 2, column 10: found 2 numbers, and there are 3 rows (give one for all rows, or one for each)
 reserve: 010|limit 1 => line 1, column 10: expected a number, found '010'
 reserve: -1|limit 1 => line 1, column 10: expected a number, found '-1'
 reserve: 4294967296|limit 1 => line 1, column 10: expected a number, 0 to 4294967295, found '4294967296'
 reserve: 8!3|limit 1 => line 1, column 11: expected the end of the line or a remark, found '!'
 reserve: 8~?|limit 1 => line 1, column 12: expected the end of the line or a remark, found '?'
 reserve: 8 |limit 1 => line 1, column 11: expected the end of the line or a remark, found a space
- label|limit 1 => line 1, column 1: expected the first word of a line, found a space
+ label|limit 1 => line 1, column 1: expected form, bank, rows, a node, values or limit, found a space
 switch: 1|limit 1 => line 1, column 7: expected a space and the number of a bank, found ':'
 switch|limit 1 => line 1, column 7: expected a space and the number of a bank, found the end of the line
 switch  1|limit 1 => line 1, column 8: expected the number of a bank, found a second space
-data 8|limit 1 => line 1, column 7: expected a colon after the bits of a word (data 8: HEX), found the end of the line
-data: 8|limit 1 => line 1, column 5: expected a space and at, or the bits of a word, found ':'
-data 24: 16|limit 1 => line 1, column 10: expected a word of 24 bits, 6 hex digits, found '16' (for 16 bits of the values from bit 24 on: at 24: 16)
-data 10: 3ff 55|limit 1 => line 1, column 14: expected a word of 10 bits, 3 hex digits, found '55' (for 55 bits of the values from bit 10 on: at 10: 55)
+data 8|limit 1 => line 1, column 7: expected a colon after the word size (data 8: HEX), found the end of the line
+data: 8|limit 1 => line 1, column 5: expected a space and at or a word size in bits, found ':'
+data 24: 16|limit 1 => line 1, column 10: expected a word of 24 bits, 6 hex digits, found '16' (did you mean data at 24: 16?)
+data 10: 3ff 55|limit 1 => line 1, column 14: expected a word of 10 bits, 3 hex digits, found '55' (did you mean data at 10: 55?)
 data 10: 400|limit 1 => line 1, column 10: 400 has more than 10 bits
-data 0: 0|limit 1 => line 1, column 6: expected at, or the bits of a word, 1 to 524280, found '0'
-data 8: ff|values ff|limit 1 => line 2, column 1: the values are already given, by the words in hex from line 1 on: give them there or here
+data 0: 0|limit 1 => line 1, column 6: expected at or a word size in bits, 1 to 524280, found '0'
+data 8: ff|values ff|limit 1 => line 2, column 1: the values are already given as hex words, from line 1 on: use one or the other
 constant: 5|limit 1 => line 1, column 11: expected a state: 0, 0~ or 0?, found '5'
 label: 1|limit 1 => line 1, column 6: expected the end of the line or a remark, found ':'
 mark: 0|limit 1 => line 1, column 5: expected the end of the line or a remark, found ':'
-node|limit 1 => line 1, column 1: expected the first word of a line, found 'node'
-lable|limit 1 => line 1, column 1: expected the first word of a line, found 'lable' (did you mean label?)
+node|limit 1 => line 1, column 1: expected form, bank, rows, a node, values or limit, found 'node'
+lable|limit 1 => line 1, column 1: expected form, bank, rows, a node, values or limit, found 'lable' (did you mean label?)
 kind 7: 8|limit 1 => line 1, column 7: expected a space and an operand, found ':'
-kind 7 32: 1!2|limit 1 => line 1, column 14: expected a state that there is not, 3 to 255, found '2'
+kind 7 32: 1!2|limit 1 => line 1, column 14: expected a state, 3 to 255, found '2'
 values abc|limit 1 => line 1, column 8: expected bytes in hex, two digits each, found 'abc'
 values|limit 1 => line 1, column 7: expected a space and bytes in hex, found the end of the line
 limit 256 => line 1, column 7: expected the pass limit, 0 to 255, found '256'
 limit 1 2 => line 1, column 8: expected the end of the line or a remark, found a space
 limit 1|limit 1 => line 2, column 1: limit is already given in line 1
-limit 1|label => line 2, column 1: label cannot stand after limit (line 1): the order is form, banks, rows, nodes, values, limit
-label|bank unit 8|limit 1 => line 2, column 1: bank cannot stand after a node (line 1): the order is form, banks, rows, nodes, values, limit
+limit 1|label => line 2, column 1: label cannot come after limit (line 1): the order is form, banks, rows, nodes, values, limit
+label|bank unit 8|limit 1 => line 2, column 1: bank cannot come after a node (line 1): the order is form, banks, rows, nodes, values, limit
 label => line 2, column 1: expected limit, found the end of the file
 form 3|limit 1 => line 1, column 6: expected 1 or 2, found '3'
+bank unit 8 start -9223372036854775809|limit 1 => line 1, column 19: expected an address, -9223372036854775808 to 9223372036854775807, \
+found '-9223372036854775809'
+bank unit 8 start -999999999999999999999999|limit 1 => line 1, column 19: expected an address, -9223372036854775808 to 9223372036854775807, \
+found '-999999999999999999999999'
 bank|limit 1 => line 1, column 5: expected a space and unit, found the end of the line
 bank size 8|limit 1 => line 1, column 6: expected unit, found 'size'
-bank unit 8 unit 8|limit 1 => line 1, column 13: unit is given twice or out of order: a bank has unit, start, size, offset, align, fill, ones, in this order
-bank unit 8 (size 40|limit 1 => line 1, column 21: expected a bracket that closes (size, found the end of the line
+bank unit 8 unit 8|limit 1 => line 1, column 13: unit is given twice or out of order: the order is unit, start, size, offset, align, fill, ones
+bank unit 8 (size 40|limit 1 => line 1, column 21: expected a closing bracket for (size, found the end of the line
 bank unit 8 size 40)|limit 1 => line 1, column 20: expected the end of the line or a remark, found ')'
-bank unit 8 (start 4)|limit 1 => line 1, column 14: only size, offset and align stand in brackets, and not start
-bank unit 8 fill ones|limit 1 => line 1, column 18: ones is a word of form 2, and these words are of form 1: form 2 goes in the first line
+bank unit 8 (start 4)|limit 1 => line 1, column 14: only size, offset and align may be in brackets, not start
+bank unit 8 fill ones|limit 1 => line 1, column 18: ones needs form 2: put a line form 2 before the banks
 """
-STRANGE = {"label # a\x0cdata at 0: 8\nlimit 1\n": "line 1, column 10: the character U+000C cannot stand in a remark",
-           "label # a\u2028mark\nlimit 1\n": "line 1, column 10: the character U+2028 cannot stand in a remark",
+STRANGE = {"label # a\x0cdata at 0: 8\nlimit 1\n": "line 1, column 10: the character U+000C is not allowed in a remark",
+           "label # a\u2028mark\nlimit 1\n": "line 1, column 10: the character U+2028 is not allowed in a remark",
            "label\rmark\nlimit 1\n": "line 1, column 6: expected the end of the line or a remark, found the character U+000D",
            "label\x0b\nlimit 1\n": "line 1, column 6: expected the end of the line or a remark, found the character U+000B",
-           "\ufeffform 2\nlimit 1\n": "line 1, column 1: expected the first word of a line, found the character U+FEFF (a byte order mark)",
+           "\ufeffform 2\nlimit 1\n": "line 1, column 1: expected form, bank, rows, a node, values or limit, found the character U+FEFF (a byte order mark)",
            "reserve: \u0663\nlimit 1\n": "line 1, column 10: expected a number, found the character U+0663",
            "label\u00a01\nlimit 1\n": "line 1, column 6: expected the end of the line or a remark, found the character U+00A0",
-           "limit 1": "line 1, column 8: the file ends without a line feed here: it may have been cut",
+           "limit 1": "line 1, column 8: the last line has no line end: the file may have been cut",
            "": "line 1, column 1: expected limit, found the end of the file",
            "reserve: " + "9" * 5_000 + "\nlimit 1\n": f"line 1, column 10: expected a number, 0 to 4294967295, found '{'9' * 40}'",
-           "rows 65535\nlimit 1\n": "line 1, column 1: the file is too long: form 1 has at most 65,000 bytes, and up to this line there are 196,612",
-           "label\n" * 9_000 + "limit 1\n": "line 5000, column 1: the file is too long: form 1 has at most 65,000 bytes, and up to this line there are 65,010"}
+           "rows 65535\nlimit 1\n": "line 1, column 1: up to this line the file has 196,612 bytes, and form 1 has at most 65,000",
+           "label\n" * 9_000 + "limit 1\n": "line 5000, column 1: up to this line the file has 65,010 bytes, and form 1 has at most 65,000"}
 
 
 def sayings(grammar):

@@ -24,6 +24,7 @@ U32, MOST_BITS = 2**32 - 1, 8 * 65_535
 BANK, NODE, ROW, VALUES, LIMIT, HEAD, SECOND_BANK = 1, 2, 3, 4, 5, 16, 17
 NUMBER = re.compile("0|[1-9][0-9]*|0x[0-9a-fA-F]+")
 TOKEN = re.compile("(?:(?![:~?!()#])[!-~])*")
+MORE = re.compile("[ \t][^ \t#]")
 # what no remark holds: control characters, and what some editors show as the end of a line or in another order than it is read
 HIDDEN = re.compile("[\x00-\x08\x0a-\x1f\x7f-\x9f\u2028\u2029\u202a-\u202e\u2066-\u2069\ufeff]")
 
@@ -58,7 +59,7 @@ class Line:
 
     def goes_on(self):
         """Whether one more word follows, behind one blank."""
-        return re.match("[ \t][^ \t#]", self.text[self.at:]) is not None
+        return MORE.match(self.text, self.at) is not None
 
     def blank(self, before):
         if self.next() not in (" ", "\t"):
@@ -85,7 +86,7 @@ class Line:
         if not NUMBER.fullmatch(token):
             self.expected(what)
         # decimal digits are not led by zeros, so that so many are past every range
-        value = high + 1 if len(token) > 20 and token.isdecimal() else int(token, 0)
+        value = 2**64 if len(token) > 20 and token.isdecimal() else int(token, 0)
         value = -value if minus else value
         if not low <= value <= high:
             self.expected(f"{what}, {low} to {high}")
@@ -101,9 +102,9 @@ class Line:
                 self.expected("the end of the line or a remark")
             hidden = HIDDEN.search(rest, blanks)
             if hidden:
-                self.stop(f"the character U+{ord(hidden.group()):04X} cannot stand in a remark", self.at + hidden.start())
+                self.stop(f"the character U+{ord(hidden.group()):04X} is not allowed in a remark", self.at + hidden.start())
         if not self.ended:
-            self.stop("the file ends without a line feed here: it may have been cut", len(self.text))
+            self.stop("the last line has no line end: the file may have been cut", len(self.text))
 
 
 class Words:
@@ -122,7 +123,7 @@ class Words:
         stage = "node" if word in NODES else word
         if stage not in ORDER or word == "node":
             near = difflib.get_close_matches(word, (*ORDER[:3], *NODES, *ORDER[4:]), 1)
-            line.expected("the first word of a line", f" (did you mean {near[0]}?)" if near else "")
+            line.expected("form, bank, rows, a node, values or limit", f" (did you mean {near[0]}?)" if near else "")
         self.enter(line, stage, word)
         line.at = len(word)
         if stage == "node":
@@ -131,7 +132,7 @@ class Words:
             getattr(self, f"read_{stage}")(line)
         line.end()
         if self.size() > LONGEST[self.form]:
-            line.stop(f"the file is too long: form {self.form} has at most {LONGEST[self.form]:,} bytes, and up to this line there are {self.size():,}", 0)
+            line.stop(f"up to this line the file has {self.size():,} bytes, and form {self.form} has at most {LONGEST[self.form]:,}", 0)
 
     def enter(self, line, stage, word):
         """Lines come in the order of the file, and form, rows and limit once."""
@@ -139,7 +140,7 @@ class Words:
             line.stop(f"{stage} is already given in line {self.given[stage]}")
         if ORDER.index(stage) < self.stage:
             last = ORDER[self.stage]
-            line.stop(f"{word} cannot stand after {'a node' if last == 'node' else last} (line {self.given[last]}): "
+            line.stop(f"{word} cannot come after {'a node' if last == 'node' else last} (line {self.given[last]}): "
                       "the order is form, banks, rows, nodes, values, limit")
         self.stage = ORDER.index(stage)
         self.given[stage] = line.number
@@ -174,10 +175,10 @@ class Words:
         every = ("unit", "start", "size", "offset", "align", "fill", "ones")
         token = TOKEN.match(line.text, line.at).group()
         if token == "ones" and self.form == 1:
-            line.stop("ones is a word of form 2, and these words are of form 1: form 2 goes in the first line")
+            line.stop("ones needs form 2: put a line form 2 before the banks")
         if token in every and token not in names:
-            line.stop(f"only size, offset and align stand in brackets, and not {token}" if bracket and token not in BRACKETED else
-                      f"{token} is given twice or out of order: a bank has {', '.join(every)}, in this order")
+            line.stop(f"only size, offset and align may be in brackets, not {token}" if bracket and token not in BRACKETED else
+                      f"{token} is given twice or out of order: the order is {', '.join(every)}")
         return line.literal(*[name for name in names if name != "ones" or self.form == 2] or ["the end of the line"])
 
     def bank_number(self, line, name, bracket):
@@ -187,7 +188,7 @@ class Words:
         number = line.number_of(what, -2**63, 2**63 - 1, True) if name == "start" else line.number_of(what, 0, U32)
         if bracket:
             if line.next() != ")":
-                line.expected(f"a bracket that closes ({name}")
+                line.expected(f"a closing bracket for ({name}")
             line.at += 1
         return number
 
@@ -230,29 +231,29 @@ class Words:
 
     def written(self, line, word):
         """Where a node's bits begin in the values, and how many they are: said by numbers, or by the words themselves."""
-        line.blank("at, or the bits of a word")
+        line.blank("at or a word size in bits")
         if TOKEN.match(line.text, line.at).group() == "at":
             line.at += 2
             line.blank("a bit of the values")
             operand = line.number_of("a bit of the values", 0, U32)
             return operand, self.numbers(line, "the bit of the values")
-        size, operand = line.number_of("at, or the bits of a word", 1, MOST_BITS), self.bits
-        line.colon(f"the bits of a word ({word} {size}: HEX)")
+        size, operand = line.number_of("at or a word size in bits", 1, MOST_BITS), self.bits
+        line.colon(f"the word size ({word} {size}: HEX)")
         self.given.setdefault("words", line.number)
         while True:
             line.blank("a word in hex")
-            self.pack(line, size)
+            self.pack(line, word, size)
             if not line.goes_on():
                 break
         if line.next() == ":":
             return operand, self.numbers(line, "the words")
         return operand, [(self.bits - operand, 0)]
 
-    def pack(self, line, size):
+    def pack(self, line, word, size):
         """One word in hex, with as many digits as its bits have."""
         token, digits = TOKEN.match(line.text, line.at).group(), -(-size // 4)
         if not re.fullmatch("[0-9a-fA-F]+", token) or len(token) != digits:
-            meant = f" (for {token} bits of the values from bit {size} on: at {size}: {token})" if token.isdecimal() else ""
+            meant = f" (did you mean {word} at {size}: {token}?)" if token.isdecimal() else ""
             line.expected(f"a word of {size} bit{'s' * (size > 1)}, {digits} hex digit{'s' * (digits > 1)}", meant)
         if int(token, 16) >> size:
             line.stop(f"{token} has more than {size} bits")
@@ -268,9 +269,8 @@ class Words:
             line.blank("a number")
             cells.append((cell or self.cell)(line))
         if len(cells) not in (1, self.rows):
-            rows = f"there {'is 1 row' if self.rows == 1 else f'are {self.rows} rows'}"
-            more = "" if "rows" in self.given else f" (for more rows, a line rows {len(cells)} goes ahead of the nodes)"
-            line.stop(f"expected {'1 number' if self.rows < 2 else f'1 or {self.rows} numbers'}, found {len(cells)}: {rows}{more}", start)
+            remedy = "give one for all rows, or one for each" if self.rows > 1 else f"for {len(cells)} rows, put a line rows {len(cells)} before the nodes"
+            line.stop(f"found {len(cells)} numbers, and there {'is 1 row' if self.rows == 1 else f'are {self.rows} rows'} ({remedy})", start)
         return cells
 
     @staticmethod
@@ -290,12 +290,12 @@ class Words:
         number, state = self.cell(line)
         if state == 0 and line.next() == "!":
             line.at += 1
-            state = line.number_of("a state that there is not", 3, 255)
+            state = line.number_of("a state", 3, 255)
         return number, state
 
     def read_values(self, line):
         if "words" in self.given:
-            line.stop(f"the values are already given, by the words in hex from line {self.given['words']} on: give them there or here", 0)
+            line.stop(f"the values are already given as hex words, from line {self.given['words']} on: use one or the other", 0)
         line.blank("bytes in hex")
         while True:
             token = TOKEN.match(line.text, line.at).group()
