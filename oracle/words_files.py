@@ -138,6 +138,8 @@ def the_page(grammar):
             page = re.match("(?:    .*\n)+", text.split(before, 1)[1]).group()
             if model.printed(data) != re.sub("(?m)^    ", "", page):
                 yield f"words of the page lay out as {model.printed(data)!r}"
+        if f"    {node_names.first_line(made[2])}    1\tstart" not in text:
+            yield f"the page's names are not of its last words: {node_names.first_line(made[2])!r}"
 
 
 # Damage ------------------------------------------------------------------------------------------------------------------------------------------------------
@@ -310,6 +312,8 @@ bank unit 8 fill ones|limit 1 => line 1, column 18: ones needs form 2: put a lin
 STRANGE = {"label # a\x0cdata at 0: 8\nlimit 1\n": "line 1, column 10: the character U+000C is not allowed in a remark",
            "label # a\u2028mark\nlimit 1\n": "line 1, column 10: the character U+2028 is not allowed in a remark",
            "label\rmark\nlimit 1\n": "line 1, column 6: expected the end of the line or a remark, found the character U+000D",
+           "label\r\r\nlimit 1\n": "line 1, column 6: expected the end of the line or a remark, found the character U+000D",
+           "\r\r\nlimit 1\n": "line 1, column 1: expected form, bank, rows, a node, values or limit, found the character U+000D",
            "label\x0b\nlimit 1\n": "line 1, column 6: expected the end of the line or a remark, found the character U+000B",
            "\ufeffform 2\nlimit 1\n": "line 1, column 1: expected form, bank, rows, a node, values or limit, found the character U+FEFF (a byte order mark)",
            "reserve: \u0663\nlimit 1\n": "line 1, column 10: expected a number, found the character U+0663",
@@ -317,8 +321,8 @@ STRANGE = {"label # a\x0cdata at 0: 8\nlimit 1\n": "line 1, column 10: the chara
            "limit 1": "line 1, column 8: the last line has no line end: the file may have been cut",
            "": "line 1, column 1: expected limit, found the end of the file",
            "reserve: " + "9" * 5_000 + "\nlimit 1\n": f"line 1, column 10: expected a number, 0 to 4294967295, found '{'9' * 40}'",
-           "rows 65535\nlimit 1\n": "line 1, column 1: up to this line the file has 196,612 bytes, and form 1 has at most 65,000",
-           "label\n" * 9_000 + "limit 1\n": "line 5000, column 1: up to this line the file has 65,010 bytes, and form 1 has at most 65,000"}
+           "rows 65535\nlimit 1\n": "line 1, column 1: up to here the file has 196,612 bytes, and form 1 has at most 65,000",
+           "label\n" * 9_000 + "limit 1\n": "line 5000, column 1: up to here the file has 65,010 bytes, and form 1 has at most 65,000"}
 
 
 def sayings(grammar):
@@ -401,7 +405,7 @@ def faults(room):
     with open(room / "long", "wb") as long:
         long.truncate(5_000_000_000)
     yield from outcome(called(room / "long"), 2, "longer than 65,536 bytes", "a long layout file")
-    yield from outcome(called("--make", room / "long"), 2, "longer than 16,777,216 bytes", "a long file of words")
+    yield from outcome(called("--make", room / "long"), 2, "longer than 4,194,304 bytes", "a long file of words")
     strange = os.fsencode(room) + b"/\xff\n.form"
     Path(os.fsdecode(strange)).write_bytes(big.read_bytes())
     for locale in ("C", "POSIX", "C.UTF-8", "en_US.ISO-8859-1", "tr_TR.UTF-8"):

@@ -131,8 +131,7 @@ class Words:
         else:
             getattr(self, f"read_{stage}")(line)
         line.end()
-        if self.size() > LONGEST[self.form]:
-            line.stop(f"up to this line the file has {self.size():,} bytes, and form {self.form} has at most {LONGEST[self.form]:,}", 0)
+        self.fits(line, 0)
 
     def enter(self, line, stage, word):
         """Lines come in the order of the file, and form, rows and limit once."""
@@ -260,6 +259,7 @@ class Words:
         self.packed.append(f"{int(token, 16):0{size}b}")
         self.bits += size
         line.at += len(token)
+        self.fits(line)
 
     def numbers(self, line, after, hint="", cell=None):
         """Numbers behind a colon: one for all rows, or one for each."""
@@ -303,6 +303,7 @@ class Words:
                 line.expected("bytes in hex, two digits each")
             self.values += bytes.fromhex(token)
             line.at += len(token)
+            self.fits(line)
             if not line.goes_on():
                 break
             line.blank("bytes in hex")
@@ -311,10 +312,12 @@ class Words:
         line.blank("the pass limit")
         self.limit = line.number_of("the pass limit", 0, 255)
 
-    def size(self):
-        """How many bytes the file has so far, with its values and its limit."""
-        banks = sum(3 + len(bank) for bank in self.banks) + 4 * (self.form == 2)
-        return banks + 8 * len(self.nodes) + self.rows * (3 + 5 * len(self.nodes)) + 3 + len(self.values) + -(-self.bits // 8) + 4
+    def fits(self, line, at=None):
+        """No more is read than the longest file has: all that is said up to here, with the values and the limit."""
+        head = 26 * len(self.banks) if self.form == 1 else 4 + 27 * len(self.banks)
+        size = head + 8 * len(self.nodes) + self.rows * (3 + 5 * len(self.nodes)) + 3 + len(self.values) + -(-self.bits // 8) + 4
+        if size > LONGEST[self.form]:
+            line.stop(f"up to here the file has {size:,} bytes, and form {self.form} has at most {LONGEST[self.form]:,}", at)
 
     def make(self):
         """The bytes of the file."""
@@ -341,7 +344,8 @@ def made(data):
     lines = decoded(data).split("\n")
     words = Words()
     for number, text in enumerate(lines[:-1], 1):
-        words.read(Line(number, text, True))
+        if text not in ("", "\r"):
+            words.read(Line(number, text, True))
     if lines[-1]:
         words.read(Line(len(lines), lines[-1], False))
     if words.limit is None:

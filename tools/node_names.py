@@ -71,7 +71,8 @@ def read(path, given, data=None):
         has = None if belongs is None else cksum(Path(path).read_bytes() if data is None else data)
         if belongs == has:
             return names
-        return stale(path, given, beside, f"cksum {belongs}, and {path} has {has}")
+        of = "standard input" if path == "-" else path
+        return stale(of, given, beside, f"cksum {belongs}, and {of} has {has}")
     except UnicodeDecodeError:
         wrong = "it is not UTF-8"
     except OSError as error:
