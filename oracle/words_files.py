@@ -167,9 +167,11 @@ def sound_words(chance):
 
 def damaged_characters(chance, text):
     at = chance.randrange(len(text) + 1)
-    how = chance.randrange(6)
+    how = chance.randrange(7)
     if how == 0:
         return text[:at] + chance.choice(ALPHABET) + text[at + 1:]
+    if how == 6:
+        return text[:at] + text[at:].swapcase()[:1] + text[at + 1:]
     if how == 1:
         return text[:at] + text[at + 1:]
     if how == 2:
@@ -184,7 +186,7 @@ def damaged_characters(chance, text):
 def damaged_lines(chance, text):
     lines = text.split("\n")
     at, other = chance.randrange(len(lines)), chance.randrange(len(lines))
-    how = chance.randrange(4)
+    how = chance.randrange(5)
     if how == 0:
         del lines[at]
     elif how == 1:
@@ -192,10 +194,22 @@ def damaged_lines(chance, text):
     elif how == 2:
         lines[at], lines[other] = lines[other], lines[at]
     else:
-        pieces, others = lines[at].split(" "), lines[other].split(" ")
-        pieces[chance.randrange(len(pieces))] = chance.choice(others)
-        lines[at] = " ".join(pieces)
+        lines[at] = damaged_words(chance, lines[at], lines[other])
     return "\n".join(lines)
+
+
+def damaged_words(chance, line, other):
+    """A word, or two with the number behind it, in another's place, there twice, or gone."""
+    words, others, size = re.split("([ \t])", line), re.split("([ \t])", other), chance.choice((1, 2, 2, 4, 4))
+    at, source = chance.randrange(len(words)), chance.randrange(len(others))
+    how = chance.randrange(3)
+    if how == 0:
+        words[at:at + 1] = others[source:source + 1]
+    elif how == 1:
+        words[at:at] = words[at:at + size]
+    else:
+        del words[at:at + size]
+    return "".join(words)
 
 
 def damaged(chance, text):
@@ -301,6 +315,11 @@ bank unit 8 start -9223372036854775809|limit 1 => line 1, column 19: expected an
 found '-9223372036854775809'
 bank unit 8 start -999999999999999999999999|limit 1 => line 1, column 19: expected an address, -9223372036854775808 to 9223372036854775807, \
 found '-999999999999999999999999'
+bank unit 8 fill fill|limit 1 => line 1, column 18: fill is given twice or out of order: the order is unit, start, size, offset, align, fill, ones
+bank unit 8 size 8 (size 8)|limit 1 => line 1, column 21: size is given twice or out of order: the order is unit, start, size, offset, align, fill, ones
+bank unit 8 offset 0 size 8|limit 1 => line 1, column 22: size is given twice or out of order: the order is unit, start, size, offset, align, fill, ones
+bank unit 0X8|limit 1 => line 1, column 11: expected the bits of an address, found '0X8'
+bank unit 65536|limit 1 => line 1, column 11: expected the bits of an address, 0 to 65535, found '65536'
 bank|limit 1 => line 1, column 5: expected a space and unit, found the end of the line
 bank size 8|limit 1 => line 1, column 6: expected unit, found 'size'
 bank unit 8 unit 8|limit 1 => line 1, column 13: unit is given twice or out of order: the order is unit, start, size, offset, align, fill, ones
