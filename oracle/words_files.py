@@ -368,8 +368,10 @@ def outcome(done, status, said, what):
 
 
 def is_file(path, data, mode, what):
-    if path.read_bytes() != data or path.stat().st_mode & 0o7777 != mode or list(path.parent.glob(".part.*")):
-        yield f"{what}: {len(path.read_bytes())} bytes, mode {path.stat().st_mode & 0o7777:o}, {[one.name for one in path.parent.glob('.part.*')]}"
+    left = [one.name for one in path.parent.glob(".part.*")]
+    if not path.is_file() or path.read_bytes() != data or path.stat().st_mode & 0o7777 != mode or left:
+        yield f"{what}: {path.name} is not there" if not path.is_file() else \
+            f"{what}: {path.stat().st_size} bytes, mode {path.stat().st_mode & 0o7777:o}, left: {left}"
 
 
 def written(room):
@@ -386,9 +388,15 @@ def written(room):
     bad = b"reserve 32\nlimit 1\n"
     yield from outcome(called("--make", "-", "-o", out, given=bad), 2, "line 1, column 8", "words that are wrong")
     yield from is_file(out, worked, 0o755, "words that are wrong")
-    yield from outcome(called("--make", words, "-o", words), 2, "is the file that is read", "over its input")
+    yield from outcome(called("--make", words, "-o", words), 2, "is a file that is read", "over its input")
     (room / "link").symlink_to(words)
-    yield from outcome(called("--make", words, "-o", room / "link"), 2, "is the file that is read", "over its input by a link")
+    yield from outcome(called("--make", words, "-o", room / "link"), 2, "is a file that is read", "over its input by a link")
+    with open(words, "rb") as given:
+        done = subprocess.run([sys.executable, FORM, "--make", "-", "-o", words], stdin=given, capture_output=True, check=False)
+    yield from outcome(done, 2, "is a file that is read", "over standard input")
+    (room / "brake.names").write_text("1\tone\t\n")
+    yield from outcome(called(out, "-o", room / "brake.names"), 2, "is a file that is read", "over its names")
+    (room / "brake.names").unlink()
     yield from is_file(words, shown(worked), 0o666 & ~umask(), "over its input")
     yield from outcome(called("--make", words, "-o", room), 2, "no regular file", "over a folder")
     yield from outcome(called("--make", words, "-o", "/dev/null"), 2, "no regular file", "over a device")

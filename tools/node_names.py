@@ -60,11 +60,17 @@ def parsed(text):
     return names, belongs
 
 
+def beside_of(path):
+    """NAME.names beside NAME.form, where that is there."""
+    beside = path[:-len(".form")] + ".names" if path.endswith(".form") else ""
+    return beside if beside and Path(beside).is_file() else None
+
+
 def read(path, given, data=None):
     """The name and the place of each node that has them, from the file that was given or from NAME.names beside NAME.form; one that only lies there is passed
     over where it is no names file, or is of another layout file. `data` is what the layout file holds, which is read where it is not given."""
-    beside = path[:-len(".form")] + ".names" if path.endswith(".form") else None
-    if not given and (beside is None or not Path(beside).is_file()):
+    beside = None if given else beside_of(path)
+    if not given and not beside:
         return {}
     try:
         names, belongs = parsed(Path(given or beside).read_bytes().decode("utf-8"))
