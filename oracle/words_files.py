@@ -267,6 +267,15 @@ def cuts(grammar):
                 yield f"taken, though it was cut: {whole[:size]!r}"
 
 
+def characters(grammar):
+    """Each character in a remark, and in a word: taken by both readers, or by neither."""
+    for code in (*range(0x3000), *range(0xfe00, 0x10010)):
+        for words in (f"label # {chr(code)}\nlimit 1\n", f"label{chr(code)}1\nlimit 1\n"):
+            data = words.encode("utf-8", "surrogatepass")
+            if read(data)[0] != words_judge.said(grammar, data):
+                yield f"U+{code:04X} is read otherwise than the grammar says: {words!r}"
+
+
 # What is said ------------------------------------------------------------------------------------------------------------------------------------------------
 
 SAID = """
@@ -476,7 +485,7 @@ def main():
     parser.add_argument("--seed", type=manners.count, default=0, metavar="N")
     asked = parser.parse_args()
     grammar = words_judge.on_the_page()
-    found = [*the_page(grammar), *layouts(grammar, asked.cases, asked.seed), *cuts(grammar), *sayings(grammar)]
+    found = [*the_page(grammar), *layouts(grammar, asked.cases, asked.seed), *cuts(grammar), *characters(grammar), *sayings(grammar)]
     found += damages(grammar, asked.cases, asked.seed)
     with manners.room() as room:
         for part in (written, faults, names):
