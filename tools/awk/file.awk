@@ -2,7 +2,7 @@
 # the lines of the program `mapper`, those of `layout`, and the bytes of the file as `od -An -v -tu1` writes them, any of them left out.
 BEGIN {
     CONVFMT = OFMT = "%.15g"
-    n = have = shown = 0
+    n = have = shown = blocks = 0
     fault = -1
     split("nothing,bank switch,label,constant,instruction,data,data of open size,reserve,align,addr,assert", kind_name, ",")
     for (i = 0; i <= 10; i++) kinds[i] = kind_name[i + 1]

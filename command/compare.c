@@ -1,0 +1,2 @@
+#include "commands.h"
+int do_compare(struct asked *a) { (void)a; fail("not yet"); }

@@ -1,0 +1,126 @@
+/* What is asked of a layout file: its layout, its map, a refusal of it in words, its other form. */
+#include "commands.h"
+#include "files.h"
+#include "words.h"
+#include <string.h>
+
+struct choices choices_of(const struct asked *asked) {
+    struct choices c = {asked->fill, (asked->given & PAGE) != 0, asked->page};
+    return c;
+}
+
+struct layout *read_refused(struct bytes file, struct choices c) {
+    struct layout *l = read_layout(file);
+    take_map(l, proved_map(file, c));
+    l->is_full = c.fill;
+    return l;
+}
+
+/* A refused layout's text goes to standard output too, and never into a file of its own. */
+static int refuse(struct bytes text, const struct layout *l, const struct names *names, const struct refusal *r) {
+    struct text said = {0};
+    print_answer(text);
+    put_refusal(&said, l, names, r);
+    tell_text(&said);
+    return REFUSED;
+}
+
+int do_layout(struct asked *asked) {
+    struct names *names = asked->names[0] ? find_names("", asked->names[0]) : NULL;
+    struct bytes file = read_input(asked->file[0], LAYOUT_MAX), text = proved_layout(file, choices_of(asked));
+    struct refusal r;
+    if (!is_refusal(last_line(text), &r)) return answer(text, asked->out);
+    return refuse(text, read_refused(file, choices_of(asked)), names ? names : find_names(asked->file[0], NULL), &r);
+}
+
+/* The refusal of a map, or the layout's own: 14 is the layout's alone to say, since the map lends no image. */
+static int map_refusal(struct layout *l, struct bytes file, struct choices c, struct refusal *r) {
+    if (l->is_refused) *r = l->refusal;
+    if (l->is_refused) return 1;
+    struct bytes text = proved_layout(file, c);
+    take_report(l, text);
+    if (!is_refusal(last_line(text), r)) return 0;
+    if (r->number != 14) fail("the map and the layout do not agree");
+    return 1;
+}
+
+int do_map(struct asked *asked) {
+    struct names *names = find_names(asked->file[0], asked->names[0]);
+    struct bytes file = read_input(asked->file[0], LAYOUT_MAX);
+    struct layout *l = read_refused(file, choices_of(asked));
+    struct refusal r;
+    struct text shown = {0};
+    int is_refused = map_refusal(l, file, choices_of(asked), &r);
+    struct bytes text = proved_map(file, choices_of(asked));
+    if (!(asked->given & LINES)) {
+        if (l->has_map) put_table(&shown, called(asked->file[0]), l, names);
+        text = bytes_of(&shown);
+    }
+    return is_refused ? refuse(text, l, names, &r) : answer(text, asked->out);
+}
+
+/* Numbers of refusals that a layout file never has: of a conversion, of lent rooms, of parts and overlays. */
+static int is_of_layout(const struct refusal *r) { return r->number < 15 ? r->number != 14 || r->place[0] == 0 : r->number == 19; }
+
+static int is_spelled(const char *said) {
+    const char *digits = "0123456789";
+    if (strncmp(said, "refused ", 8) != 0) return 0;
+    size_t n = strspn(said += 8, digits), numbers = 0;
+    if (n == 0 || n > 2 || said[0] == '0' || (n == 2 && said[0] != '1')) return 0;
+    for (said += n; *said == ' '; said += n, numbers++) {
+        n = strspn(++said, digits);
+        if (n == 0 || n > 18) return 0;
+    }
+    return *said == 0 && (numbers == 1 || numbers == 2);
+}
+
+/* Whether the layout, or its conversion, is refused so; what it says instead goes to standard error. */
+static int is_so(const struct refusal *r, struct bytes line, const char *file) {
+    struct refusal found = {0, {0, 0}};
+    struct text said = {0};
+    int is_refused = is_refusal(line, &found);
+    if (is_refused && found.number == r->number && found.place[0] == r->place[0] && found.place[1] == r->place[1]) return 1;
+    put_escaped(&said, called(file));
+    put(&said, " does not have this refusal: ");
+    if (is_refused) put(&said, "it is %.*s", (int)line.len - 1, (const char *)line.at);
+    else put(&said, "it is accepted; --fill, --page and --to are those of the refused call");
+    tell_text(&said);
+    return 0;
+}
+
+int do_words(struct asked *asked) {
+    struct bytes said = {(const uint8_t *)asked->file[1], strlen(asked->file[1])};
+    struct refusal r;
+    struct text text = {0};
+    int is_refused;
+    if (!is_spelled(asked->file[1]) || !is_refusal(said, &r)) fail("usage: denkumari words FILE 'refused NUMBER PLACE ..'");
+    struct names *names = find_names(asked->file[0], asked->names[0]);
+    struct bytes file = read_input(asked->file[0], LAYOUT_MAX);
+    struct layout *l = read_refused(file, choices_of(asked));
+    if (asked->given & TO_FORM) {
+        struct bytes line = proved_convert(file, asked->to[0] - '0', &is_refused);
+        if (!is_refused) line.len = 0;
+        if (!is_so(&r, line, asked->file[0])) return FAILED;
+        put_conversion(&text, l, names, &r, asked->to[0] - '0');
+    } else {
+        if (is_of_layout(&r) && !is_so(&r, last_line(proved_layout(file, choices_of(asked))), asked->file[0])) return FAILED;
+        put_refusal(&text, l, names, &r);
+    }
+    put(&text, "\n");
+    print_answer(bytes_of(&text));
+    return DONE;
+}
+
+int do_convert(struct asked *asked) {
+    if (!asked->to) fail("--to 1 or --to 2 is missing");
+    int is_refused, to = asked->to[0] - '0';
+    struct bytes file = read_input(asked->file[0], LAYOUT_MAX), text = proved_convert(file, to, &is_refused);
+    struct refusal r;
+    struct text said = {0};
+    if (!is_refused) return answer(text, asked->out);
+    is_refusal(text, &r);
+    put(&said, "refused with %d: ", r.number);
+    put_conversion(&said, read_layout(file), find_names(asked->file[0], NULL), &r, to);
+    tell_text(&said);
+    return REFUSED;
+}

@@ -1,0 +1,14 @@
+/* What nodes are called and where they stand in the source: the names file beside a layout file (docs/FORMAT.md). */
+#ifndef DENKUMARI_NAMES_H
+#define DENKUMARI_NAMES_H
+#include "say.h"
+
+struct names {
+    struct bytes name[8200], place[8200]; /* by node; empty where there is none */
+};
+
+/* The names of the file `given`, or of NAME.names beside NAME.form; NULL where there are none. One that was given and is bad fails. */
+struct names *find_names(const char *form, const char *given);
+int has_name(const struct names *names, int64_t node);
+void put_name(struct text *t, const struct names *names, int64_t node); /* "clamp_force, tables.asm:12", or "node 7" */
+#endif

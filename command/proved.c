@@ -1,0 +1,105 @@
+/* The proved functions, each with the room that its contract asks for. */
+#include "proved.h"
+#include "texts.h"
+#include <string.h>
+
+#define COUNT(a) (sizeof(a) / sizeof *(a))
+
+static uint8_t report[163840], map[663552], records[131072], rehexed[3145728], benched[4194304], converted[65537], bytes[1048576], more_bytes[524288],
+    scratch[65536];
+static uint64_t offsets[4096], sizes[4096], more_offsets[4096], more_sizes[4096], firsts[65536], counts[65536];
+
+static slice_u8 lent(struct bytes b) {
+    slice_u8 s = {b.at, b.len};
+    return s;
+}
+
+static struct bytes first_of(const uint8_t *at, uint64_t n) {
+    struct bytes b = {at, (size_t)n};
+    return b;
+}
+
+static refusal__Opt page_of(struct choices c) {
+    refusal__Opt page;
+    memset(&page, 0, sizeof page);
+    page.tag = c.has_page ? refusal__Opt_Some : refusal__Opt_None;
+    if (c.has_page) page.u.Some.f0 = c.page;
+    return page;
+}
+
+int proved_number(struct bytes word, uint32_t *n) {
+    refusal__Opt found = prog_args__number(lent(word));
+    if (found.tag == refusal__Opt_Some) *n = found.u.Some.f0;
+    return found.tag == refusal__Opt_Some;
+}
+
+struct bytes proved_layout(struct bytes file, struct choices c) {
+    mut_u8 out = {report, sizeof report};
+    print_text__Written w = print_report__report(lent(file), c.fill, page_of(c), out);
+    if (w.tag != print_text__Written_To) fail("the layout's text does not fit its room");
+    return first_of(report, w.u.To.f0);
+}
+
+struct bytes proved_map(struct bytes file, struct choices c) {
+    return first_of(map, print_map__files__write_map(lent(file), c.fill, page_of(c), map));
+}
+
+struct bytes proved_records(struct bytes file, struct choices c, uint8_t format, uint32_t load, int is_whole) {
+    prog_records__Wanted wanted = {format, load, is_whole != 0};
+    mut_u8 out = {records, sizeof records};
+    return first_of(records, prog_records__put_file(wanted, lent(file), c.fill, page_of(c), out));
+}
+
+struct bytes proved_rehex(struct bytes file, uint8_t kind, uint8_t format, uint32_t load) {
+    mut_u8 image = {bytes, sizeof bytes}, out = {rehexed, sizeof rehexed};
+    mut_u64 starts = {offsets, COUNT(offsets)}, lengths = {sizes, COUNT(sizes)};
+    return first_of(rehexed, prog_rehex__put_file(kind, format, load, lent(file), image, starts, lengths, out));
+}
+
+/* Rooms for both files' bytes begin as erased flash reads. */
+static struct bytes bench(prog_overlay__Asked asked, struct bytes released, struct bytes overlay, uint32_t load) {
+    mut_u8 over = {bytes, 524288}, under = {more_bytes, sizeof more_bytes}, out = {benched, sizeof benched};
+    mut_u64 starts = {offsets, COUNT(offsets)}, lengths = {sizes, COUNT(sizes)}, more_starts = {more_offsets, COUNT(more_offsets)},
+            more_lengths = {more_sizes, COUNT(more_sizes)}, first = {firsts, COUNT(firsts)}, count = {counts, COUNT(counts)};
+    memset(bytes, 255, 524288);
+    memset(more_bytes, 255, sizeof more_bytes);
+    blocks__Blocks found = prog_overlay__load_file(load, lent(overlay), over, starts, lengths);
+    if (found.tag == blocks__Blocks_Refused) {
+        slice_u8 name = {(const uint8_t *)"overlay\n", 8};
+        return first_of(benched, prog_overlay__put_unread(&found.u.Refused.f0, name, load, lent(overlay), out));
+    }
+    slice_u8 read = {bytes, 524288};
+    slice_u64 read_starts = {offsets, (size_t)found.u.Found.f0}, read_lengths = {sizes, (size_t)found.u.Found.f0};
+    return first_of(benched, prog_overlay__put_released(asked, load, lent(released), under, more_starts, more_lengths, read, read_starts, read_lengths, first,
+                                                        count, out));
+}
+
+struct bytes proved_bench(struct bytes released, struct bytes overlay, uint32_t load) {
+    prog_overlay__Asked asked;
+    memset(&asked, 0, sizeof asked);
+    asked.tag = prog_overlay__Asked_Runs;
+    return bench(asked, released, overlay, load);
+}
+
+struct bytes proved_bench_range(struct bytes released, struct bytes overlay, uint32_t load, uint32_t address, uint32_t count) {
+    prog_overlay__Asked asked;
+    memset(&asked, 0, sizeof asked);
+    asked.tag = prog_overlay__Asked_Range;
+    asked.u.Range.f0 = address;
+    asked.u.Range.f1 = count;
+    return bench(asked, released, overlay, load);
+}
+
+struct bytes proved_convert(struct bytes file, int form, int *is_refused) {
+    mut_u8 out = {converted, sizeof converted};
+    form_convert__Conversion c = form == 1 ? form_convert__to_form1(lent(file), out) : form_convert__to_form2(lent(file), out);
+    *is_refused = c.tag != form_convert__Conversion_Converted;
+    return first_of(converted, *is_refused ? print_text__write_refusal(out, 0, &c.u.Refused.f0) : c.u.Converted.f0);
+}
+
+struct reason proved_reason(struct bytes file, uint8_t kind, uint32_t load) {
+    mut_u8 room = {scratch, sizeof scratch};
+    record_reason__Why w = record_reason__reason_of(kind, lent(file), load, room);
+    struct reason r = {w.reason, w.line, w.first, w.second};
+    return r;
+}

@@ -1,0 +1,133 @@
+/* Text that grows, and words on standard error. Nothing here asks a locale: none is ever set. */
+#include "say.h"
+#include "system.h"
+#include <stdarg.h>
+#include <stdio.h>
+#include <stdlib.h>
+#include <string.h>
+
+char tool[40] = "denkumari";
+
+static void make_room(struct text *t, size_t more) {
+    if (t->room - t->len > more) return;
+    size_t room = 2 * (t->len + more) + 256;
+    char *at = realloc(t->at, room);
+    if (!at) {
+        write_all(2, "denkumari: there is no memory left\n", 35);
+        exit(FAILED);
+    }
+    t->at = at;
+    t->room = room;
+}
+
+void put_bytes(struct text *t, const void *from, size_t n) {
+    make_room(t, n);
+    if (n > 0) memcpy(t->at + t->len, from, n);
+    t->len += n;
+    t->at[t->len] = 0;
+}
+
+static void put_list(struct text *t, const char *form, va_list words) {
+    va_list again;
+    va_copy(again, words);
+    int n = vsnprintf(NULL, 0, form, again);
+    va_end(again);
+    if (n < 0) return;
+    make_room(t, (size_t)n);
+    vsnprintf(t->at + t->len, (size_t)n + 1, form, words);
+    t->len += (size_t)n;
+}
+
+void put(struct text *t, const char *form, ...) {
+    va_list words;
+    va_start(words, form);
+    put_list(t, form, words);
+    va_end(words);
+}
+
+void put_several(struct text *t, long long count, const char *what) { put(t, "%lld %s%s", count, what, count == 1 ? "" : "s"); }
+
+void put_both(struct text *t, long long number) {
+    if (number < 10) put(t, "%lld", number);
+    else put(t, "%lld = 0x%llx", number, (unsigned long long)number);
+}
+
+struct bytes bytes_of(const struct text *t) {
+    struct bytes b = {(const uint8_t *)t->at, t->len};
+    return b;
+}
+
+void empty(struct text *t) {
+    t->len = 0;
+    put_bytes(t, "", 0);
+}
+
+static int within(uint8_t c, int low, int high) { return c >= low && c <= high; }
+
+/* Control characters, those of C1 too, are not printable. */
+size_t character(const uint8_t *at, size_t n) {
+    static const struct {
+        uint8_t first, last, low, high, size;
+    } shapes[] = {{0xc2, 0xc2, 0xa0, 0xbf, 2}, {0xc3, 0xdf, 0x80, 0xbf, 2}, {0xe0, 0xe0, 0xa0, 0xbf, 3},
+                  {0xe1, 0xec, 0x80, 0xbf, 3}, {0xed, 0xed, 0x80, 0x9f, 3}, {0xee, 0xef, 0x80, 0xbf, 3},
+                  {0xf0, 0xf0, 0x90, 0xbf, 4}, {0xf1, 0xf3, 0x80, 0xbf, 4}, {0xf4, 0xf4, 0x80, 0x8f, 4}};
+    if (n == 0) return 0;
+    if (at[0] < 0x80) return at[0] >= 32 && at[0] != 127;
+    for (size_t i = 0; i < sizeof shapes / sizeof *shapes; i++) {
+        if (!within(at[0], shapes[i].first, shapes[i].last) || n < shapes[i].size || !within(at[1], shapes[i].low, shapes[i].high)) continue;
+        for (size_t k = 2; k < shapes[i].size; k++)
+            if (!within(at[k], 0x80, 0xbf)) return 0;
+        return shapes[i].size;
+    }
+    return 0;
+}
+
+void put_escaped(struct text *t, const char *word) {
+    size_t n = strlen(word);
+    for (size_t i = 0, long_; i < n; i += long_ ? long_ : 1) {
+        long_ = character((const uint8_t *)word + i, n - i);
+        if (long_) put_bytes(t, word + i, long_);
+        else put(t, "\\x%02x", (unsigned)(unsigned char)word[i]);
+    }
+}
+
+void tell_text(const struct text *t) {
+    struct text line = {0};
+    put(&line, "%s: ", tool);
+    put_bytes(&line, t->at, t->len);
+    put(&line, "\n");
+    write_all(2, line.at, line.len); /* where this fails there is nobody left to be told */
+    free(line.at);
+}
+
+void tell(const char *form, ...) {
+    struct text t = {0};
+    va_list words;
+    va_start(words, form);
+    put_list(&t, form, words);
+    va_end(words);
+    tell_text(&t);
+    free(t.at);
+}
+
+void fail(const char *form, ...) {
+    struct text t = {0};
+    va_list words;
+    va_start(words, form);
+    put_list(&t, form, words);
+    va_end(words);
+    tell_text(&t);
+    exit(FAILED);
+}
+
+void fail_name(const char *before, const char *name, const char *form, ...) {
+    struct text t = {0};
+    va_list words;
+    put(&t, "%s", before);
+    put_escaped(&t, name);
+    va_start(words, form);
+    put_list(&t, form, words);
+    va_end(words);
+    tell_text(&t);
+    exit(FAILED);
+}

@@ -1,0 +1,41 @@
+/* Text that grows, and words on standard error. */
+#ifndef DENKUMARI_SAY_H
+#define DENKUMARI_SAY_H
+#include <stddef.h>
+#include <stdint.h>
+
+enum { DONE, REFUSED, FAILED }; /* the statuses */
+
+struct bytes {
+    const uint8_t *at;
+    size_t len;
+};
+struct text {
+    char *at;
+    size_t len, room;
+};
+
+#if defined(__GNUC__)
+#define LIKE_PRINTF(form, first) __attribute__((format(printf, form, first)))
+#define NEVER_RETURNS __attribute__((noreturn))
+#else
+#define LIKE_PRINTF(form, first)
+#define NEVER_RETURNS
+#endif
+
+extern char tool[]; /* the command's name, ahead of every line that it says */
+
+void put(struct text *t, const char *form, ...) LIKE_PRINTF(2, 3);
+void put_bytes(struct text *t, const void *from, size_t n);
+void put_escaped(struct text *t, const char *word); /* a file's name may hold any bytes */
+void put_several(struct text *t, long long count, const char *what);
+void put_both(struct text *t, long long number); /* in decimal, and from 10 on in hex */
+struct bytes bytes_of(const struct text *t);
+void empty(struct text *t);
+size_t character(const uint8_t *at, size_t n); /* the bytes of a printable character of UTF-8, 0 where none begins there */
+
+void tell(const char *form, ...) LIKE_PRINTF(1, 2);
+void tell_text(const struct text *t);
+NEVER_RETURNS void fail(const char *form, ...) LIKE_PRINTF(1, 2);
+NEVER_RETURNS void fail_name(const char *before, const char *name, const char *form, ...) LIKE_PRINTF(3, 4);
+#endif
