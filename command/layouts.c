@@ -59,8 +59,8 @@ int do_map(struct asked *asked) {
     return is_refused ? refuse(text, l, names, &r) : answer(text, asked->out);
 }
 
-/* Numbers of refusals that a layout file never has: of a conversion, of lent rooms, of parts and overlays. */
-static int is_of_layout(const struct refusal *r) { return r->number < 15 ? r->number != 14 || r->place[0] == 0 : r->number == 19; }
+/* 14 of other rooms than the image's, 15, 16 and 17 are of calls that no layout file shows: they are said in general. */
+static int is_of_layout(const struct refusal *r) { return r->number < 15 ? r->number != 14 || r->place[0] == 0 : r->number >= 18; }
 
 static int is_spelled(const char *said) {
     const char *digits = "0123456789";

@@ -1,5 +1,5 @@
 #!/usr/bin/env python3
-"""The manners of every script of tools/, oracle/, bindings/ and .ci/: scripts.py [NAME ..]
+"""The manners of every script of tools/, command/, oracle/, bindings/ and .ci/: scripts.py [NAME ..]
 
 Each prints its --help and does nothing else, also through a symlink, from another directory and with CDPATH set; refuses an option that there is not with
 status 2 and a line on standard error; has no traceback for a file that is not there, a folder in a file's place, a closed pipe or a full disk; and leaves no
@@ -19,7 +19,7 @@ from pathlib import Path
 import manners
 
 ROOT = manners.ROOT
-FOLDERS = ("tools", "oracle", "bindings", ".ci")
+FOLDERS = ("tools", "command", "oracle", "bindings", ".ci")
 SIGNALS = (signal.SIGINT, signal.SIGTERM, signal.SIGHUP)
 NOWHERE = "no such folder/no such file"
 FORM = "examples/worked.form"
@@ -73,7 +73,7 @@ tools/convert - --to 2
 tools/form -
 tools/compare examples/worked.form examples/banks.form
 tools/compare --svg examples/worked.form examples/worked.form
-tools/words examples/worked.form refused\u00a01\u00a00
+tools/words examples/clamp-mark-after.form refused\u00a012\u00a00\u00a0128
 tools/run --command LAYOUT
 oracle/model.py
 oracle/model.py --line
@@ -88,18 +88,14 @@ oracle/damage.py --requests --every 0 --random 40 --writes 40
 """
 # Calls that have a temporary folder for a while.
 LASTING = """
-tools/layout
-tools/map -
-tools/ihex -
-tools/convert - --to 2
-tools/rehex - --to hex
+tools/map --svg -
 tools/replay
 tools/citations
 tools/lint
 oracle/tools.sh
 oracle/programs.py --cases 5000 rehex
 """
-EVERY_SIGNAL = ("tools/layout", "oracle/programs.py")
+EVERY_SIGNAL = ("tools/map", "oracle/programs.py")
 
 
 def calls(text, chosen, file=""):
@@ -225,7 +221,7 @@ def with_blanks(room):
     trial = Trial(room)
     copy = trial.room / "a path with blanks"
     copy.mkdir()
-    for name in ("tools", "oracle", "bindings", "examples", "include", "docs", "crates", "crates.txt", "KIT", ".ci"):
+    for name in ("tools", "command", "portable", "oracle", "bindings", "examples", "include", "docs", "crates", "crates.txt", "KIT", ".ci"):
         source = ROOT / name
         if source.is_dir():
             shutil.copytree(source, copy / name, ignore=shutil.ignore_patterns("__pycache__", "target"))
@@ -236,7 +232,9 @@ def with_blanks(room):
             shutil.copytree(ROOT / "target" / name, copy / "target" / name)
     tried = [("tools/layout", FORM), ("tools/map", "--svg", "examples/sequencer.form"), ("tools/ihex", "examples/banks.form"), ("tools/form", FORM),
              ("tools/compare", FORM, FORM),
-             ("tools/words", FORM, "refused 5 0"), ("tools/statements",), ("oracle/check.py",), ("oracle/programs.py", "--cases", "3")]
+             ("tools/words", "examples/clamp-mark-after.form", "refused 12 0 128"), ("tools/statements",), ("oracle/check.py",), ("oracle/programs.py", "--cases", "3")]
+    # the command is compiled there by a run of its own, which may say so
+    trial.run([str(copy / "tools" / "layout"), "--help"])
     for words in tried:
         here, there = ([trial.run([*start_of(root / words[0]), *words[1:]], start=root) for root in (ROOT, copy)])
         if (here.returncode, here.stdout, here.stderr) != (there.returncode, there.stdout, there.stderr) or here.returncode:

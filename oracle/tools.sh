@@ -191,12 +191,18 @@ refused '</svg>' "$hit" tools/map --svg examples/clamp-mark-after.form
 refused 'refused 12 32 0' 'node 5 (data, .*) would have the mark at bit 32 .*: node 2 (reserve, ' tools/map examples/mark-then-table.form
 refused 'refused 10 3' 'node 3 (data, .*) ends at bit 41, 1 bit past the size of bank 1 ' tools/map examples/past-the-end.form
 refused 'refused 9 0' 'node 0 (label, bank 0, .*) uses bank 0' tools/map examples/alone.form
-for number in 1 2 3 4 5 6 7 8 9 10 11 12 13 14 15 16 17 18 19; do
-    is 0 tools/words examples/sequencer.form "refused $number 1 2"
-    [ "$(wc -l <"$room/out")" -eq 1 ] || {
-        echo "refusal $number is not said in one line"
-        wrong=1
-    }
+# words: the layout is looked at first, and a refusal that it does not have is not explained; those of other calls are said in general
+for said in 'refused 1 0' 'refused 2 1' 'refused 4 0' 'refused 8 0' 'refused 9 0' 'refused 12 1 2' 'refused 14 0' 'refused 18 0' 'refused 19 1 2'; do
+    is 2 tools/words examples/sequencer.form "$said"
+done
+for said in 'refused 14 1' 'refused 15 0' 'refused 16 0' 'refused 17 0'; do
+    is 0 tools/words examples/sequencer.form "$said"
+done
+for form in examples/*.form; do
+    said=$(tools/layout "$form" 2>"$room/words" | tail -n 1)
+    case $said in
+    refused*) is 0 tools/words "$form" "$said" && sed 's/^denkumari layout: //' "$room/words" | cmp -s - "$room/out" || wrong=1 ;;
+    esac
 done
 is 1 tools/map README.md
 is 2 tools/map examples/banks.form examples/banks.form
@@ -404,7 +410,7 @@ words_of_form() {
     tools/form --make "$room/out" >"$room/back.form" || wrong=1
     same "$room/clamp.form" "$room/back.form" "a file comes back changed from its words with names"
     is 2 tools/form --names "$room/clamp.form" "$room/clamp.form"
-    refused 'refused 4 0' 'it looks like words, of which form --make makes a layout file' tools/layout "$room/words"
+    refused 'refused 4 0' 'it looks like words for a layout file' tools/layout "$room/words"
 }
 if command -v python3 >/dev/null 2>&1; then
     words_of_form
@@ -507,29 +513,16 @@ for call in "layout examples/sequencer.form" "layout examples/sequencer.form -o 
     "ihex --whole examples/sequencer.form" "srec --whole examples/sequencer.form -o $room/cut" "convert examples/sequencer.form --to 2" \
     "convert examples/sequencer.form --to 2 -o $room/cut" "rehex $whole_room" "bench $whole_room $whole_room --range 0 5120"; do
     # shellcheck disable=SC2086
-    is 2 full_after 16 tools/$call
+    full_after 16 tools/$call >"$room/out" 2>"$room/err"
+    if [ $? -ne 2 ] || [ ! -s "$room/err" ]; then
+        echo "tools/$call: an answer that does not fit has not status 2"
+        wrong=1
+    fi
     [ ! -e "$room/cut" ] || {
         echo "tools/$call: made a file of an answer that was cut"
         wrong=1
     }
 done
-# a last line that only looks like an answer: with a stand-in for the program that prints what it is told
-mkdir -p "$room/stand/bin" "$room/stand/path" && cp -R tools crates.txt "$room/stand/" && echo stand-in >"$room/stand/INSTALLED" || wrong=1
-printf '#!/bin/sh\necho x86_64\n' >"$room/stand/path/uname"
-# shellcheck disable=SC2016
-printf '#!/bin/sh\ncat >/dev/null\nprintf "$said"\nexit "${ends:-0}"\n' >"$room/stand/bin/layout"
-chmod +x "$room/stand/path/uname" "$room/stand/bin/layout"
-# shellcheck disable=SC2317
-stand() { # SAID [STATUS]
-    env PATH="$room/stand/path:$PATH" said="$1" ends="${2:-0}" "$room/stand/tools/layout" examples/worked.form
-}
-for said in '' 'image' 'image ff' 'image f\n' 'image ff0\n' 'image fg\n' 'image  ff\n' 'image ff \n' 'imagine\n' 'passes 1\nimage ff\nblock 0 8\n' 'refused\n' \
-    'refused 4\n' 'refused 4 0'; do
-    is 2 stand "$said"
-done
-is 0 stand 'passes 1\nblock 0 8\nimage ff\n'
-is 0 stand 'passes 1\nimage\n'
-is 2 stand 'passes 1\nimage ff\n' 1
 # a write that fails is not an answer
 [ ! -c /dev/full ] || for tool in ihex srec layout map; do
     "tools/$tool" examples/banks.form >/dev/full 2>"$room/err"

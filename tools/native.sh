@@ -4,20 +4,28 @@
 # portable/ was printed from nothing is started: tools/portable --write prints it anew. As installed (tools/install) nothing is compiled.
 [ "${0##*/}" != native.sh ] || . "$(dirname "$(readlink -f -- "$0")")/start.sh"
 here=$(readlink -f -- "$0") || exit 2
-home=${here%/tools/*}
+home=${here%/*}
+while [ -n "$home" ] && [ ! -f "$home/crates.txt" ]; do
+    home=${home%/*}
+done
 
 give_up() {
     echo "${here#"$home/"}: $1" >&2
     exit 2
 }
 
-# What the command is made from, in one number.
+# What the command is made from, in one number: also the sources that portable/ is to be printed from, which is looked at where it is compiled.
 native_sum() (
-    cd "$home" && sha256sum KIT include/denkumari.h command/*.[ch] command/*.def portable/texts.[ch] | sha256sum | cut -c 1-16
+    cd "$home" && {
+        find crates -path '*/src/*' -name '*.rt' -exec sha256sum {} + | LC_ALL=C sort
+        sha256sum crates.txt KIT include/denkumari.h command/*.[ch] command/*.def portable/texts.[ch]
+    } | sha256sum | cut -c 1-16
 )
 
 # compile_native FILE: made under another name and then put in its place, so that two that start at once do no harm.
 compile_native() {
+    . "$home/tools/portable.sh"
+    { is_fresh texts.c && is_fresh texts.h; } || give_up "crates/ is not what portable/ was printed from: tools/portable --write prints it anew"
     for compiler in "${CC:-cc}" gcc clang tcc ''; do
         [ -z "$compiler" ] || ! command -v "$compiler" >/dev/null 2>&1 || break
     done
@@ -27,8 +35,8 @@ compile_native() {
     new=$1.$$
     trap 'rm -f -- "$new"' EXIT
     trap 'exit 130' HUP INT TERM
-    "$compiler" -std=c99 -O2 -DDENKUMARI_KIT="\"$(cat "$home/KIT")\"" -I"$home/include" -I"$home/portable" -o "$new" "$home"/command/*.c \
-        "$home/portable/texts.c" >&2 && mv -f -- "$new" "$1" || give_up "the command was not compiled"
+    if ! "$compiler" -std=c99 -O2 -DDENKUMARI_KIT="\"$(cat "$home/KIT")\"" -I"$home/include" -I"$home/portable" -o "$new" "$home"/command/*.c \
+        "$home/portable/texts.c" >&2 || ! mv -f -- "$new" "$1"; then give_up "the command was not compiled"; fi
     trap - EXIT HUP INT TERM
     # those of other sources
     for one in "$home"/build/denkumari-*; do
@@ -40,8 +48,6 @@ compile_native() {
 find_native() {
     native=$home/bin/denkumari
     [ ! -f "$home/INSTALLED" ] || return 0
-    . "$home/tools/portable.sh"
-    is_printed || give_up "crates/ is not what portable/ was printed from: tools/portable --write prints it anew"
     native=$home/build/denkumari-$(native_sum)
     [ -x "$native" ] || compile_native "$native"
 }
@@ -52,13 +58,24 @@ start_native() {
     exec "$native" "$@"
 }
 
-# The tools that are commands read this file and do nothing else; pictures are drawn by scripts.
-case ${here##*/} in
-layout | words | ihex | srec | rehex | bench | convert) start_native "${here##*/}" "$@" ;;
-map | compare)
+# with_pictures COMMAND ..: the command, or the script that draws what it shows.
+with_pictures() {
+    command=$1
+    shift
     for one in "$@"; do
-        [ "$one" != --svg ] || exec "$home/tools/${here##*/}_svg" "$@"
+        case $command:$one in
+        map:--svg | compare:--svg) exec "$home/tools/${command}_svg" "$@" ;;
+        esac
     done
-    start_native "${here##*/}" "$@"
+    start_native "$command" "$@"
+}
+
+# The tools that are commands read this file and do nothing else.
+case ${here##*/} in
+layout | map | compare | words | ihex | srec | rehex | bench | convert) with_pictures "${here##*/}" "$@" ;;
+denkumari)
+    [ "$#" -gt 0 ] || start_native
+    [ "$1" != form ] || { shift && exec "$home/tools/form" "$@"; }
+    with_pictures "$@"
     ;;
 esac

@@ -1,0 +1,160 @@
+#!/bin/sh
+# shellcheck disable=SC2016
+# The command denkumari where files go wrong: command/test.sh. A full disk, a closed output, a pipe, a FIFO, 5 GB, any locale, names of any bytes, modes, an
+# output that is an input, words on the command line: the right status each time, and nothing half-written. Then the words of refusals that were wrong once.
+# The command is compiled first where it is not yet.
+set -u
+. "$(dirname "$(readlink -f -- "$0")")/../tools/start.sh"
+. "$home/tools/native.sh"
+words_at_most 0 "$@"
+find_native
+make_room
+wrong=0 count=0
+fault() {
+    echo "$1"
+    wrong=1
+}
+# ends STATUS SCRIPT: what a script ends with, in a folder of its own where $D is the command; one that does not end with 0 says why in a line
+ends() {
+    count=$((count + 1))
+    timeout 20 sh -c "$2" 2>"$room/err" >"$room/out"
+    got=$?
+    [ "$got" -eq "$1" ] || fault "status $got and not $1: $2: $(head -n 2 "$room/err")"
+    case $got:$2 in
+    0:* | *'2>'*) ;;
+    *) [ "$(grep -c '^denkumari' "$room/err")" -eq 1 ] || fault "not one line is said: $2: $(head -n 3 "$room/err")" ;;
+    esac
+}
+# says PATTERN SCRIPT: the words of a refusal
+says() {
+    ends 1 "$2"
+    grep -q -- "$1" "$room/err" || fault "$2 says '$(cat "$room/err")', and not '$1'"
+}
+# holds SCRIPT: something that is so
+holds() {
+    count=$((count + 1))
+    sh -c "$1" >"$room/out" 2>&1 || fault "this is not so: $1: $(head -n 2 "$room/out")"
+}
+D=$native E=$home/examples
+export D E
+mkdir "$room/here" && cd "$room/here" || exit 2
+cp "$E/worked.form" "$E/sequencer.form" "$E/clamp-mark-after.form" . || exit 2
+"$D" ihex sequencer.form --whole >s.hex || wrong=1
+
+# answers that cannot be written
+for call in 'layout worked.form' 'map worked.form' 'map --lines worked.form' 'ihex sequencer.form --whole' 'srec sequencer.form --whole' 'rehex s.hex' \
+    'bench s.hex s.hex --range 0 4' 'convert worked.form --to 2' 'compare worked.form worked.form' 'layout clamp-mark-after.form' \
+    'words clamp-mark-after.form "refused 12 0 128"' '--help' 'layout --help' '--version'; do
+    [ ! -c /dev/full ] || ends 2 "\"\$D\" $call >/dev/full"
+    ends 2 "\"\$D\" $call >&-"
+done
+ends 0 '"$D" layout worked.form >/dev/null 2>&-'
+ends 1 '"$D" layout clamp-mark-after.form >/dev/null 2>&-'
+ends 2 'trap "" PIPE; { sleep .3; "$D" ihex sequencer.form --whole; echo $? >status; } | true; exit "$(cat status)"'
+for call in 'layout sequencer.form' 'ihex sequencer.form --whole' 'srec sequencer.form --whole' 'convert sequencer.form --to 2' 'rehex s.hex'; do
+    ends 2 "ulimit -f 4; \"\$D\" $call >big"
+    ends 2 "ulimit -f 4; \"\$D\" $call -o big2"
+    holds '[ ! -e big2 ] && [ -z "$(ls -A | grep "^\.denkumari")" ]'
+done
+# a disk that is full, where one can be made
+if mkdir small && mount -t tmpfs -o size=8k none small 2>/dev/null; then
+    ends 2 '"$D" ihex sequencer.form --whole >small/x.hex'
+    rm -f small/x.hex && echo old >small/y.hex
+    ends 2 '"$D" ihex sequencer.form --whole -o small/y.hex'
+    holds '[ "$(cat small/y.hex)" = old ] && [ "$(ls -A small)" = y.hex ]'
+    ends 0 'TMPDIR=small "$D" ihex sequencer.form --whole | cmp - s.hex'
+    umount small
+else
+    echo "left out: a full disk, since none can be mounted here; a limit on files stands for it"
+fi
+
+# -o: whole or not at all, mode kept, through links, never an input
+for mode in 600 640 444 4755; do
+    holds "rm -f m.hex; cp s.hex m.hex; chmod $mode m.hex; \"\$D\" ihex worked.form --whole -o m.hex; [ \"\$(stat -c %a m.hex)\" = $mode ] && ! cmp -s m.hex s.hex"
+done
+holds 'umask 027; "$D" layout worked.form -o new.txt; [ "$(stat -c %a new.txt)" = 640 ]'
+holds 'rm -f m.hex; cp s.hex m.hex; ln -s m.hex l.hex; "$D" ihex worked.form --whole -o l.hex; [ -L l.hex ] && "$D" ihex worked.form --whole | cmp - m.hex'
+holds 'ln -s nothere.hex d.hex; "$D" ihex worked.form --whole -o d.hex; [ -L d.hex ] && [ -s nothere.hex ]'
+ends 2 'ln -s loop1 loop2; ln -s loop2 loop1; "$D" layout worked.form -o loop1'
+cp s.hex s2.hex && ln worked.form w2.form && ln -s worked.form w3.form
+for call in 'layout worked.form -o worked.form' 'layout worked.form -o w2.form' 'layout worked.form -o ./worked.form' 'layout - -o worked.form <worked.form' \
+    'convert w3.form --to 2 -o w2.form' 'bench s.hex s2.hex -o s2.hex' 'bench s.hex s2.hex -o s.hex' 'compare worked.form sequencer.form -o sequencer.form' \
+    'rehex s.hex -o s.hex'; do
+    ends 2 "\"\$D\" $call"
+done
+holds 'cmp worked.form "$E/worked.form" && cmp sequencer.form "$E/sequencer.form" && cmp s.hex s2.hex'
+mkdir dir
+for out in dir nodir/x /dev/full /proc/x '""'; do
+    ends 2 "\"\$D\" layout worked.form -o $out"
+done
+ends 1 '"$D" ihex clamp-mark-after.form -o refused.hex'
+ends 1 'cp s.hex keep.hex; "$D" ihex clamp-mark-after.form -o keep.hex'
+holds '[ ! -e refused.hex ] && cmp s.hex keep.hex'
+
+# inputs: pipes and FIFOs are read once, and no more than the longest file and a byte
+: >empty
+for call in 'layout nothere' 'layout dir' 'layout ""' 'layout - <&-' 'bench s.hex - <&-' 'bench - -' 'compare - -' 'layout <dir' 'map'; do
+    ends 2 "\"\$D\" $call"
+done
+for call in 'layout empty' 'map empty' 'rehex empty' 'convert empty --to 2' 'bench empty s.hex' 'ihex empty'; do
+    ends 1 "\"\$D\" $call"
+done
+ends 0 'mkfifo ff; cat worked.form >ff & "$D" layout ff >a; "$D" layout worked.form | cmp - a'
+ends 0 'cat s.hex >ff & "$D" rehex ff >a; "$D" rehex s.hex | cmp - a'
+ends 1 'yes | head -c 9000000 >ff 2>/dev/null & "$D" rehex ff'
+ends 1 'yes | "$D" layout -'
+ends 1 '"$D" layout /dev/zero'
+ends 0 '{ head -c 20 worked.form; sleep .2; tail -c +21 worked.form; } | "$D" layout >a; "$D" layout worked.form | cmp - a'
+ends 0 '"$D" map - <worked.form >a'
+truncate -s 5G sparse && printf S >s5 && truncate -s 5G s5 || wrong=1
+for call in layout map ihex srec rehex 'convert --to 2' 'bench s.hex' 'rehex s5 --to'; do
+    case $call in *--to) ends 1 '"$D" rehex s5' ;; *) ends 1 "\"\$D\" $call sparse" ;; esac
+done
+rm -f sparse s5
+
+# no locale and no variable reaches an answer; any bytes of a name are shown escaped
+for locale in tr_TR.UTF-8 de_DE.UTF-8 ja_JP.SJIS C POSIX none; do
+    ends 0 "LC_ALL=$locale LANGUAGE=tr POSIXLY_CORRECT=1 TMPDIR=/nonexistent map_name=x fill=full load=7 page=3 every=1 output=zz \"\$D\" ihex sequencer.form \
+--whole | cmp - s.hex"
+    ends 1 "LC_ALL=$locale \"\$D\" layout clamp-mark-after.form >a; status=\$?; LC_ALL=C \"\$D\" layout clamp-mark-after.form >b 2>/dev/null; cmp a b && exit \$status"
+done
+odd=$(printf 'od\377d\033[31m\n\303\244.form')
+cp worked.form "$odd" && cp clamp-mark-after.form "x$odd" || wrong=1
+export odd
+ends 0 '"$D" layout "$odd" -o "$odd.out" && "$D" map "$odd" >a && LC_ALL=C grep -q "^od.xffd.x1b\[31m.x0a" a'
+ends 1 '"$D" map "x$odd" >/dev/null'
+ends 2 '"$D" layout "no$odd"'
+holds '! LC_ALL=C grep -q "[^ -~]" a || [ "$(LC_ALL=C tr -d "\303\244\n -~" <a | wc -c)" -eq 0 ]'
+holds '[ "$(LC_ALL=C tr -d "\303\244\n -~" <"'"$room"'/err" | wc -c)" -eq 0 ]'
+
+# the command line
+for call in '' foo --foo 'layout --load 3 worked.form' 'layout --fill half worked.form' 'layout --page x worked.form' 'layout --page 4294967296 worked.form' \
+    'layout a b' ihex 'ihex worked.form --load' 'ihex worked.form --whole=1' 'bench s.hex' 'bench s.hex s.hex --range 0' 'rehex s.hex --to hex --width 2' \
+    'convert worked.form' 'convert worked.form --to 3' 'layout --names nothere worked.form' 'layout -- worked.form --fill' '--version x' 'words worked.form hello'; do
+    ends 2 "\"\$D\" $call"
+done
+for call in 'ihex sequencer.form --whole --load=0x10 --fill=full' 'bench s.hex s.hex --range=0 4' 'layout -- worked.form' 'layout --nothing --help' \
+    'layout --page=8 --page 16 --fill inherited worked.form'; do
+    case $call in *--page=8*) ends 1 "\"\$D\" $call" ;; *) ends 0 "\"\$D\" $call" ;; esac
+done
+
+# words that were not so once: the kind of records by a small s too; a pipe that was read; a refusal that the layout does not have; the first unresolved node
+sed '1s/^S/s/' >lower.s37 <<RECORDS
+$("$D" rehex s.hex)
+RECORDS
+ends 0 '"$D" rehex lower.s37 | cmp - s.hex'
+sed '3s/.$/!/' s.hex >bad.hex
+says 'line 3: .* is no hex digit' 'cat bad.hex >ff & "$D" bench ff s.hex'
+says 'standard input: line 3: ' 'cat bad.hex | "$D" bench s.hex -'
+for said in 'refused 9 0' 'refused 12 0 64' 'refused 4 0' 'refused 19 5 2' 'refused 18 0'; do
+    ends 2 "\"\$D\" words clamp-mark-after.form '$said'"
+    ends 2 "\"\$D\" words worked.form '$said'"
+done
+ends 0 '"$D" words clamp-mark-after.form "refused 12 0 128" >a; "$D" layout clamp-mark-after.form 2>b >/dev/null; sed "s/^denkumari layout: //" b | cmp - a'
+ends 0 '"$D" words "$E/paged-unit.form" "refused 19 5 2" --page 128'
+ends 0 '"$D" words "$E/erased.form" "refused 18 0" --to 1'
+for said in 'refused 14 1' 'refused 15 3' 'refused 16 0' 'refused 17 0'; do
+    ends 0 "\"\$D\" words worked.form '$said'"
+done
+[ "$wrong" -eq 0 ] && echo "the command: $count cases, all as they should be"
+exit "$wrong"
