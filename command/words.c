@@ -216,7 +216,7 @@ static enum cause say_unresolved(struct said *s) {
     s->n[0] = l->passes;
     s->n[1] = l->limit;
     s->n[2] = l->rows;
-    return UNRESOLVED;
+    return l->passes < l->limit ? UNRESOLVED_AGAIN : UNRESOLVED;
 }
 
 static enum cause say_end(struct said *s) {

@@ -14,7 +14,7 @@ fault() {
     wrong=1
 }
 [ "$(uname -m)" = x86_64 ] || {
-    echo "left out: the installation, since its programs are x86-64 code"
+    echo "left out: the installation, since its archive is x86-64 code"
     exit 0
 }
 into="$room/a prefix"
@@ -49,6 +49,7 @@ as layout "$examples/clamp-mark-after.form"
 as layout --page 64 --fill full "$examples/banks.form"
 as map "$examples/banks.form"
 as map --svg "$examples/sequencer.form"
+as words "$examples/clamp-mark-after.form" 'refused 12 0 128'
 as words "$examples/worked.form" 'refused 9 1'
 as ihex "$examples/banks.form" --load 0x8000
 cp "$room/here" "$room/banks.hex"
@@ -62,17 +63,22 @@ grep -q 'line 1' "$room/err" || fault "denkumari rehex of a bad file names no li
 as bench "$room/banks.hex" "$room/bad.hex"
 as convert "$examples/banks.form" --to 2
 as layout "$room/none"
+as compare "$examples/worked.form" "$examples/banks.form"
 if command -v python3 >/dev/null 2>&1; then
-    as compare "$examples/worked.form" "$examples/banks.form"
+    as compare --svg "$examples/worked.form" "$examples/banks.form"
     as form "$examples/worked.form"
 fi
 for command in layout map words ihex srec rehex bench convert; do
-    there "$command" --help
-    grep -q 'As installed' "$room/out" || fault "denkumari $command --help does not say that nothing is built"
+    there "$command" --help || fault "denkumari $command --help: its status is not 0"
     ! grep -q 'tools/' "$room/out" || fault "denkumari $command --help speaks of tools/"
 done
 there --version
 [ "$(head -n 1 "$room/out")" = "denkumari $(sed -n 's/^#define DENKUMARI_VERSION "\(.*\)"$/\1/p' include/denkumari.h)" ] || fault "denkumari --version"
+# the command once more, from its C alone
+(cd "$into/share/denkumari/c" && "${CC:-cc}" -std=c99 -O2 -Iinclude -Iportable -o "$room/again" command/*.c portable/texts.c) >"$room/said" 2>&1 ||
+    fault "the installed C of the command: $(head -n 3 "$room/said")"
+"$room/again" layout "$examples/banks.form" >"$room/out"
+tools/layout "$examples/banks.form" | cmp -s - "$room/out" || fault "the installed C prints another layout"
 there nothing
 [ $? -eq 2 ] || fault "denkumari nothing: its status is not 2"
 there

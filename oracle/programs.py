@@ -1,9 +1,10 @@
 #!/usr/bin/env python3
 """The programs over the library beside the models: what station, rehex, bencher, converter and mapper print for good, damaged and refused files.
 
-    programs.py [--cases N] [--seed N] [NAME ..]
+    programs.py [--cases N] [--seed N] [--native] [NAME ..]
 
-NAME is one of the programs, all of them unless said; one that is not built is built first (tools/run). The models are model.py, records.py, convert.py
+With --native the command denkumari is held to the same texts (tools/denkumari): a refusal is its status 1 and words, anything else its standard output with
+status 0. NAME is one of the programs, all of them unless said; one that is not built is built first (tools/run). The models are model.py, records.py, convert.py
 and map.py; what the bench is to print is worked out here, byte by byte.
 """
 import random
@@ -180,27 +181,86 @@ def mapper_case(rng):
     return arguments, data, mapped.printed(data, model.Choices(fill=fill or 0, page=page)).encode()
 
 
+FILLS = {"0": "inherited", "1": "full"}
+
+
+def laid_out(fill, *page):
+    return ["--fill", FILLS[fill], *(["--page", *page] if page else [])]
+
+
+def native_words(name, arguments):
+    """The command's words for a program's; none for formats and fills that its options do not have."""
+    if name == "bencher":
+        return ["bench", *arguments[:2], "--load", arguments[2], *(["--range", *arguments[3:]] if len(arguments) > 3 else [])]
+    if name == "station" and arguments[0] in "024" and arguments[3] in FILLS:
+        form, load, whole, *rest = arguments
+        kind = ["ihex"] if form == "0" else ["srec", "--width", form]
+        return [*kind, "--load", load, *(["--whole"] if whole == "1" else []), *laid_out(*rest), "-"]
+    if name == "rehex" and arguments[1] in "024":
+        return ["rehex", "--load", arguments[2], *(["--to", "srec", "--width", arguments[1]] if arguments[1] != "0" else ["--to", "hex"]), "-"]
+    if name == "converter":
+        return ["convert", "--to", arguments[0], "-"]
+    if name == "mapper" and (not arguments or arguments[0] in FILLS):
+        return ["map", "--lines", *(laid_out(*arguments) if arguments else []), "-"]
+    return None
+
+
+def in_hex(told):
+    """The bench's runs as the command prints them: addresses in hex too, and no count of them."""
+    lines = [line.split(b" ") for line in told.splitlines() if not line.startswith(b"runs ")]
+    with_hex = [[*words[:2], b"0x%08x" % int(words[1]), *words[2:]] if words[0] in (b"run", b"alone") else words for words in lines]
+    return b"".join(b" ".join(words) + b"\n" for words in with_hex)
+
+
+def native_differs(name, arguments, given, told):
+    """What the command does otherwise than the text that a program is to print, or nothing; None where it is not asked."""
+    words = native_words(name, arguments)
+    if words is None or (name == "rehex" and (given[:1] in (b"S", b"s")) != (arguments[0] == "1")):
+        return None
+    done = subprocess.run([manners.ROOT / "tools" / "denkumari", *words], input=given, capture_output=True, check=False)
+    is_refused = told.startswith(b"refused ") or b"\nrefused " in told
+    wanted = (1, told if name == "mapper" else b"") if is_refused else (0, in_hex(told) if name == "bencher" else told)
+    if (done.returncode, done.stdout) == wanted and bool(done.stderr) == is_refused:
+        return ""
+    return f"denkumari {' '.join(words)} < {given.hex()}: {done.returncode}, {done.stdout!r}, {done.stderr!r} for {wanted!r}"[:900]
+
+
+def case_of(name, rng, room):
+    makers = {"station": station_case, "rehex": rehex_case, "reason": reason_case, "bencher": bencher_case, "converter": converter_case, "mapper": mapper_case}
+    return makers[name](rng, room) if name == "bencher" else makers[name](rng)
+
+
+def held(name, asked, room):
+    """How many cases of a program differ."""
+    start, rng, refused, left, wrong = None if asked.native else manners.command(name), random.Random(asked.seed), 0, 0, 0
+    for _ in range(asked.cases):
+        arguments, given, told = case_of(name, rng, room)
+        refused += told.startswith(b"refused") or b"\nrefused " in told
+        if asked.native:
+            differs = native_differs(name, arguments, given, told)
+            left += differs is None
+        else:
+            done = subprocess.run([*start, *arguments], input=given, capture_output=True, check=False)
+            differs = "" if done.stdout == told else f"{name} {' '.join(arguments)} < {given.hex()}: {done.stdout!r} for {told!r}"[:500]
+        wrong += bool(differs)
+        if differs:
+            print(differs)
+    print(f"{name}: {asked.cases} cases, {refused} of them refused" + (f", {left} that the command has no words for" if left else ""))
+    return wrong
+
+
 def main():
     parser = manners.parser(__doc__)
     parser.add_argument("names", nargs="*", metavar="NAME")
     parser.add_argument("--cases", type=manners.some, default=1000)
     parser.add_argument("--seed", type=manners.count, default=1)
+    parser.add_argument("--native", action="store_true", help="the command denkumari in the programs' place")
     asked = parser.parse_args()
-    makers = {"station": station_case, "rehex": rehex_case, "reason": reason_case, "bencher": bencher_case, "converter": converter_case, "mapper": mapper_case}
-    for name in set(asked.names) - set(makers):
-        parser.error(f"there is no program {name}: {', '.join(makers)}")
-    wrong = 0
-    with manners.room() as folder:
-        for name in asked.names or makers:
-            start, rng, refused = manners.command(name), random.Random(asked.seed), 0
-            for _ in range(asked.cases):
-                arguments, given, told = makers[name](rng, Path(folder)) if name == "bencher" else makers[name](rng)
-                done = subprocess.run([*start, *arguments], input=given, capture_output=True, check=False)
-                refused += told.startswith(b"refused") or b"\nrefused " in told
-                if done.stdout != told:
-                    wrong += 1
-                    print(f"{name} {' '.join(arguments)} < {given.hex()}: {done.stdout!r} for {told!r}"[:500])
-            print(f"{name}: {asked.cases} cases, {refused} of them refused")
+    names = ("station", "rehex", "reason", "bencher", "converter", "mapper")
+    for name in set(asked.names) - set(names):
+        parser.error(f"there is no program {name}: {', '.join(names)}")
+    with manners.room() as room:
+        wrong = sum(held(name, asked, Path(room)) for name in asked.names or names if not (asked.native and name == "reason"))
     print("no difference" if not wrong else f"{wrong} differ")
     sys.exit(wrong != 0)
 
