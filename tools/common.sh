@@ -84,8 +84,8 @@ readable() {
     [ -r "$1" ] || say "$1 cannot be read"
 }
 
-# take FILE LIMIT: the command is there, and the file, or standard input for -, is where it can be read more than once; no more of it is read than shows that it is
-# too long.
+# take FILE LIMIT: the command is there, and the file, or standard input for -, is where it can be read more than once; no more of it is read than shows that it
+# is too long.
 take() {
     from=$1
     if [ "$from" != - ]; then
