@@ -70,7 +70,7 @@ fi
 
 # -o: whole or not at all, mode kept, through links, never an input
 for mode in 600 640 444 4755; do
-    holds "rm -f m.hex; cp s.hex m.hex; chmod $mode m.hex; \"\$D\" ihex worked.form --whole -o m.hex; [ \"\$(stat -c %a m.hex)\" = $mode ] && ! cmp -s m.hex s.hex"
+    holds "rm -f m; cp s.hex m; chmod $mode m; \"\$D\" ihex worked.form --whole -o m; [ \"\$(stat -c %a m)\" = $mode ] && ! cmp -s m s.hex"
 done
 holds 'umask 027; "$D" layout worked.form -o new.txt; [ "$(stat -c %a new.txt)" = 640 ]'
 holds 'rm -f m.hex; cp s.hex m.hex; ln -s m.hex l.hex; "$D" ihex worked.form --whole -o l.hex; [ -L l.hex ] && "$D" ihex worked.form --whole | cmp - m.hex'
@@ -116,7 +116,7 @@ rm -f sparse s5
 for locale in tr_TR.UTF-8 de_DE.UTF-8 ja_JP.SJIS C POSIX none; do
     ends 0 "LC_ALL=$locale LANGUAGE=tr POSIXLY_CORRECT=1 TMPDIR=/nonexistent map_name=x fill=full load=7 page=3 every=1 output=zz \"\$D\" ihex sequencer.form \
 --whole | cmp - s.hex"
-    ends 1 "LC_ALL=$locale \"\$D\" layout clamp-mark-after.form >a; status=\$?; LC_ALL=C \"\$D\" layout clamp-mark-after.form >b 2>/dev/null; cmp a b && exit \$status"
+    ends 1 "LC_ALL=$locale \"\$D\" map clamp-mark-after.form >a; status=\$?; LC_ALL=C \"\$D\" map clamp-mark-after.form >b 2>/dev/null; cmp a b && exit \$status"
 done
 odd=$(printf 'od\377d\033[31m\n\303\244.form')
 cp worked.form "$odd" && cp clamp-mark-after.form "x$odd" || wrong=1
@@ -130,7 +130,8 @@ holds '[ "$(LC_ALL=C tr -d "\303\244\n -~" <"'"$room"'/err" | wc -c)" -eq 0 ]'
 # the command line
 for call in '' foo --foo 'layout --load 3 worked.form' 'layout --fill half worked.form' 'layout --page x worked.form' 'layout --page 4294967296 worked.form' \
     'layout a b' ihex 'ihex worked.form --load' 'ihex worked.form --whole=1' 'bench s.hex' 'bench s.hex s.hex --range 0' 'rehex s.hex --to hex --width 2' \
-    'convert worked.form' 'convert worked.form --to 3' 'layout --names nothere worked.form' 'layout -- worked.form --fill' '--version x' 'words worked.form hello'; do
+    'convert worked.form' 'convert worked.form --to 3' 'layout --names nothere worked.form' 'layout -- worked.form --fill' '--version x' \
+    'words worked.form hello'; do
     ends 2 "\"\$D\" $call"
 done
 for call in 'ihex sequencer.form --whole --load=0x10 --fill=full' 'bench s.hex s.hex --range=0 4' 'layout -- worked.form' 'layout --nothing --help' \

@@ -3,9 +3,9 @@
 
     programs.py [--cases N] [--seed N] [--native] [NAME ..]
 
-With --native the command denkumari is held to the same texts (tools/denkumari): a refusal is its status 1 and words, anything else its standard output with
-status 0. NAME is one of the programs, all of them unless said; one that is not built is built first (tools/run). The models are model.py, records.py, convert.py
-and map.py; what the bench is to print is worked out here, byte by byte.
+With --native the command denkumari is held to the same texts (tools/denkumari): a refusal is its status 1 and words, anything else its standard output
+with status 0. NAME is one of the programs, all of them unless said; one that is not built is built first (tools/run). The models are model.py, records.py,
+convert.py and map.py; what the bench is to print is worked out here, byte by byte.
 """
 import random
 import subprocess

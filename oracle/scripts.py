@@ -232,7 +232,8 @@ def with_blanks(room):
             shutil.copytree(ROOT / "target" / name, copy / "target" / name)
     tried = [("tools/layout", FORM), ("tools/map", "--svg", "examples/sequencer.form"), ("tools/ihex", "examples/banks.form"), ("tools/form", FORM),
              ("tools/compare", FORM, FORM),
-             ("tools/words", "examples/clamp-mark-after.form", "refused 12 0 128"), ("tools/statements",), ("oracle/check.py",), ("oracle/programs.py", "--cases", "3")]
+             ("tools/words", "examples/clamp-mark-after.form", "refused 12 0 128"), ("tools/statements",), ("oracle/check.py",),
+             ("oracle/programs.py", "--cases", "3")]
     # the command is compiled there by a run of its own, which may say so
     trial.run([str(copy / "tools" / "layout"), "--help"])
     for words in tried:
