@@ -23,7 +23,7 @@ import model
 import records
 
 LIST = compare.HERE / "replay" / "models.tsv"
-WORKED = manners.ROOT / "crates" / "says_convert" / "specs" / "Theorems" / "Example.antt"
+WORKED = manners.ROOT / "crates" / "meets_convert" / "specs" / "Theorems" / "Example.antt"
 EACH = 50       # cases of a model, or a few more
 LONGEST = 300   # bytes of a file
 

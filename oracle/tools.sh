@@ -158,11 +158,11 @@ is 1 tools/convert examples/erased.form --to 1 -o "$room/none-made"
 }
 tools/convert examples/banks.form --to 2 >"$room/two" && tools/convert --to 1 "$room/two" >"$room/one" || wrong=1
 same examples/banks.form "$room/one" "a file comes back changed from form 2"
-# the one-bank file of says_convert's theorems `example-to-form2` and `example-to-form1`, by the bytes that stand in their text
+# the one-bank file of meets_convert's theorems `example-to-form2` and `example-to-form1`, by the bytes that stand in their text
 worked() { # NAME
     awk -v name="$1" '$1 == name && $2 == "=" { on = 1; next }
         on && NF == 0 { exit }
-        on { gsub(/[^0-9]+/, " "); for (i = 1; i <= NF; i++) printf "\\%03o", $i }' crates/says_convert/specs/Theorems/Example.antt >"$room/octal"
+        on { gsub(/[^0-9]+/, " "); for (i = 1; i <= NF; i++) printf "\\%03o", $i }' crates/meets_convert/specs/Theorems/Example.antt >"$room/octal"
     # shellcheck disable=SC2059
     printf "$(cat "$room/octal")"
 }
