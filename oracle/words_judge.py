@@ -152,8 +152,10 @@ def meant(lines):
     of = lambda word: [line.split(" ")[1:] for line in lines if line.split(" ")[0] == word]
     form, rows = int(of("form")[0][0]) if of("form") else 1, number(of("rows")[0][0], 0, 65_535) if of("rows") else 1
     banks, bits = [bank(["bank", *words], form) for words in of("bank")], []
-    need(rows <= 65_536 and len(lines) <= 65_536)
-    nodes = [node(line, rows, bits) for line in lines if re.match("[a-z]*", line).group() in (*KINDS, "mark", "kind")]
+    nodes = [line for line in lines if re.match("[a-z]*", line).group() in (*KINDS, "mark", "kind")]
+    # rows alone are not longer than the longest file
+    need(rows * (3 + 5 * len(nodes)) <= 65_536)
+    nodes = [node(line, rows, bits) for line in nodes]
     values = bytes.fromhex("".join("".join(words) for words in of("values")))
     need(not (bits and values))
     bits = "".join(bits)
