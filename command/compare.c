@@ -358,7 +358,7 @@ static struct side read_side(const struct asked *asked, int i) {
     struct text said = {0};
     const char *slash = strrchr(asked->file[i], '/');
     s.title = slash ? slash + 1 : called(asked->file[i]);
-    s.names = find_names(asked->file[i], asked->names[i]);
+    s.names = find_names(asked->file[i], asked->names[i], file);
     s.layout = read_refused(file, c);
     if (is_refusal(last_line(text), &r)) {
         put_refusal(&said, s.layout, s.names, &r);

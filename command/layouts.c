@@ -26,11 +26,11 @@ static int refuse(struct bytes text, const struct layout *l, const struct names 
 }
 
 int do_layout(struct asked *asked) {
-    struct names *names = asked->names[0] ? find_names("", asked->names[0]) : NULL;
     struct bytes file = read_input(asked->file[0], LAYOUT_MAX), text = proved_layout(file, choices_of(asked));
+    struct names *names = asked->names[0] ? find_names(asked->file[0], asked->names[0], file) : NULL;
     struct refusal r;
     if (!is_refusal(last_line(text), &r)) return answer(text, asked->out);
-    return refuse(text, read_refused(file, choices_of(asked)), names ? names : find_names(asked->file[0], NULL), &r);
+    return refuse(text, read_refused(file, choices_of(asked)), names ? names : find_names(asked->file[0], NULL, file), &r);
 }
 
 /* The refusal of a map, or the layout's own: 14 is the layout's alone to say, since the map lends no image. */
@@ -45,8 +45,8 @@ static int map_refusal(struct layout *l, struct bytes file, struct choices c, st
 }
 
 int do_map(struct asked *asked) {
-    struct names *names = find_names(asked->file[0], asked->names[0]);
     struct bytes file = read_input(asked->file[0], LAYOUT_MAX);
+    struct names *names = find_names(asked->file[0], asked->names[0], file);
     struct layout *l = read_refused(file, choices_of(asked));
     struct refusal r;
     struct text shown = {0};
@@ -94,8 +94,8 @@ int do_words(struct asked *asked) {
     struct text text = {0};
     int is_refused;
     if (!is_spelled(asked->file[1]) || !is_refusal(said, &r)) fail("usage: denkumari words FILE 'refused NUMBER PLACE ..'");
-    struct names *names = find_names(asked->file[0], asked->names[0]);
     struct bytes file = read_input(asked->file[0], LAYOUT_MAX);
+    struct names *names = find_names(asked->file[0], asked->names[0], file);
     struct layout *l = read_refused(file, choices_of(asked));
     if (asked->given & TO_FORM) {
         struct bytes line = proved_convert(file, asked->to[0] - '0', &is_refused);
@@ -111,16 +111,29 @@ int do_words(struct asked *asked) {
     return DONE;
 }
 
+/* The names of a converted file beside it: every node moves where a switch was put ahead of all, or taken away. */
+static int convert_names(const char *out, const struct names *names, struct bytes old, struct bytes new) {
+    char *beside = names_beside(out);
+    struct text t = {0};
+    if (!beside) return DONE;
+    put_names(&t, names, read_layout(new)->nodes - read_layout(old)->nodes, new);
+    return answer(bytes_of(&t), beside);
+}
+
 int do_convert(struct asked *asked) {
     if (!asked->to) fail("--to 1 or --to 2 is missing");
     int is_refused, to = asked->to[0] - '0';
     struct bytes file = read_input(asked->file[0], LAYOUT_MAX), text = proved_convert(file, to, &is_refused);
     struct refusal r;
     struct text said = {0};
-    if (!is_refused) return answer(text, asked->out);
+    struct names *names = find_names(asked->file[0], NULL, file);
+    if (!is_refused) {
+        answer(text, asked->out);
+        return asked->out && names ? convert_names(asked->out, names, file, text) : DONE;
+    }
     is_refusal(text, &r);
     put(&said, "refused with %d: ", r.number);
-    put_conversion(&said, read_layout(file), find_names(asked->file[0], NULL), &r, to);
+    put_conversion(&said, read_layout(file), names, &r, to);
     tell_text(&said);
     return REFUSED;
 }

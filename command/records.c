@@ -68,7 +68,7 @@ static int do_records(struct asked *asked, uint8_t format) {
     struct text words = {0};
     if (!is_refusal(text, &r)) return answer(text, asked->out);
     if (says(text, "records")) put_records(&words, r.number, 0, file, 0, 0, LAYOUT_MAX);
-    else put_refusal(&words, read_refused(file, c), find_names(asked->file[0], NULL), &r);
+    else put_refusal(&words, read_refused(file, c), find_names(asked->file[0], NULL, file), &r);
     return refuse(r.number, &words);
 }
 

@@ -139,6 +139,27 @@ for call in 'ihex sequencer.form --whole --load=0x10 --fill=full' 'bench s.hex s
     case $call in *--page=8*) ends 1 "\"\$D\" $call" ;; *) ends 0 "\"\$D\" $call" ;; esac
 done
 
+# names have the sum of their layout file: stale ones are told and not used, given ones refused; a conversion writes those of its result
+printf '7\twear\tt.asm:19\n' >clamp-mark-after.names
+says '^denkumari layout: wear, t.asm:19 (node 7, ' '"$D" layout clamp-mark-after.form'
+printf 'form\t%s\n7\twear\tt.asm:19\n' "$(cksum <clamp-mark-after.form | tr ' ' '\t')" >clamp-mark-after.names
+says '^denkumari layout: wear, t.asm:19 (node 7, ' '"$D" layout clamp-mark-after.form'
+says '^denkumari ihex: refused with 12: wear, t.asm:19 (node 7, ' '"$D" ihex clamp-mark-after.form'
+cp clamp-mark-after.names worked.names
+ends 2 '"$D" layout --names worked.names worked.form'
+ends 0 '"$D" map worked.form >a 2>err; grep -q "are left out: they belong to another layout file (cksum " err && ! grep -q wear a'
+rm worked.names
+# one bank of unit 8, a label, a row, no values, limit 1
+{
+    printf '\001\000\027\000\010\000\000\000\000\000\000\000\000\000\000\000\000\000\000\000\000\000\000\000\000\000\002\000\005\002\000\000\000\000'
+    printf '\003\000\005\000\000\000\000\000\004\000\000\005\000\001\001'
+} >one.form
+printf '0\tfirst\tt.asm:1\n' >one.names
+ends 0 '"$D" convert one.form --to 2 -o two.form && [ "$(sed -n 2p two.names)" = "$(printf "1\tfirst\tt.asm:1")" ]'
+ends 0 '[ "$(sed -n 1p two.names)" = "$(printf "form\t%s" "$(cksum <two.form | tr " " "\t")")" ]'
+ends 0 '"$D" convert two.form --to 1 -o three.form && cmp one.form three.form && [ "$(sed -n 2p three.names)" = "$(cat one.names)" ]'
+rm -f ./*.names
+
 # words that were not so once: the kind of records by a small s too; a pipe that was read; a refusal that the layout does not have; the first unresolved node
 sed '1s/^S/s/' >lower.s37 <<RECORDS
 $("$D" rehex s.hex)

@@ -92,8 +92,8 @@ void put_cause(struct text *t, enum cause cause, const struct said *s) {
 
 /* What a file that is no layout file looks like, by its first line that is neither empty nor a remark. */
 static enum cause looks_like(struct bytes file) {
-    static const char *const words[] = {"form ", "bank ",    "rows ",       "limit ", "values ", "switch ",
-                                        "label", "constant", "instruction", "data",   "open",    "reserve"};
+    static const char *const words[] = {"form ", "bank ", "rows ",   "limit ", "values ", "switch ", "label", "constant", "instruction",
+                                        "data",  "open",  "reserve", "mark",   "kind ",   "align:",  "addr:", "assert",   "nothing"};
     size_t at = file.len >= 3 && memcmp(file.at, "\xef\xbb\xbf", 3) == 0 ? 3 : 0;
     for (; at < file.len; at++) {
         while (at < file.len && (file.at[at] == ' ' || file.at[at] == '\t')) at++;

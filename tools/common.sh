@@ -3,7 +3,6 @@
 # many files.
 . "$(dirname "$(readlink -f -- "$0")")/start.sh"
 . "$home/tools/native.sh"
-. "$home/tools/names.sh"
 fill='' page='' names='' output='' part='' file='' files=0
 
 # A number, decimal or in hex after 0x, as decimal.
@@ -65,7 +64,6 @@ options() {
         --fill) word "$name" "$2" 'inherited full' && fill=$value ;;
         --names)
             [ -n "$2" ] || say "the name of a file is empty"
-            find_names '' "$2"
             names=$2
             ;;
         -o)

@@ -1,17 +1,14 @@
 # Reads a names file (docs/FORMAT.md): what a node is called and where it stands in the source. `names_file` in the environment is its path, empty where there
-# is none; tools/names.sh sees to that. Run alone it prints what is wrong with the file, and nothing where nothing is. Under LC_ALL=C, so that text is bytes.
+# is none; the command has looked at it before. Under LC_ALL=C, so that text is bytes.
 BEGIN {
     bad_names = ENVIRON["names_file"] == "" ? "" : read_names(ENVIRON["names_file"])
-    if (ENVIRON["names_check"] != "") {
-        if (bad_names != "") print bad_names
-        exit
-    }
 }
 function read_names(file,   line, text, above, parts, state) {
     above = -1
     while ((state = (getline text < file)) > 0) {
         line++
         sub(/\r$/, "", text)
+        if (line == 1 && text ~ /^form\t[0-9]+\t[0-9]+$/) continue
         if (split(text, parts, "\t") != 3 || parts[1] !~ /^[0-9]+$/ || !is_plain(parts[2] parts[3]))
             return "line " line " is not a number, a name and a place with tabs between"
         if (parts[1] + 0 <= above) return "the node in line " line " is not above that of the line before"
