@@ -225,6 +225,65 @@ def native_differs(name, arguments, given, told):
     return f"denkumari {' '.join(words)} < {given.hex()}: {done.returncode}, {done.stdout!r}, {done.stderr!r} for {wanted!r}"[:900]
 
 
+class Watched(model.Pass):
+    """A pass that remembers its first unresolved node."""
+
+    first, merged = None, 0
+
+    @property
+    def state(self):
+        return self.merged
+
+    @state.setter
+    def state(self, state):
+        if state == model.UNRESOLVED:
+            self.first = len(self.seen) - 1
+        self.merged = state
+
+
+def unresolved(rng):
+    """A layout that is refused with 8, the node that its last pass leaves unresolved first, and how many passes ran."""
+    while True:
+        data = some_layout(rng)
+        try:
+            layout = model.read_form(data)
+        except model.Refused:
+            continue
+        rows = rng.choice((1, 2, 3)) if layout.rows else 0
+        if not rows or not layout.nodes or len(layout.nodes) > 60:
+            continue
+        banks, at = data.index(b"\x03" + (5 * len(layout.nodes)).to_bytes(2, "big")), 3 + 5 * len(layout.nodes)
+        chance = rng.choice((0.02, 0.1, 0.3))
+        row = lambda: b"".join(number.to_bytes(4, "big") + bytes([rng.choice((1, 2, 2)) if rng.random() < chance else 0]) for number, _ in layout.rows[-1])
+        behind = data[banks + at * len(layout.rows):]
+        data = data[:banks] + b"".join(data[banks:banks + 3] + row() for _ in range(rows)) + behind[:-1] + bytes([rng.randrange(5)])
+        watched, passes = [], []
+        make = lambda *given: watched.append(Watched(*given)) or watched[-1]
+        try:
+            layout = model.read_form(data)
+            model.check_banks(layout.banks)
+            model.check_list(layout, model.Choices())
+            model.Pass, kept = make, model.Pass
+            try:
+                model.Passes(layout)
+            finally:
+                model.Pass = kept
+        except model.Refused as refused:
+            passes = [refused.number]
+        if passes == [8]:
+            return data, watched[-1].first, len(watched)
+
+
+def unresolved_differs(rng):
+    """Whether the words of refusal 8 name another node or pass than the model's; what they say then."""
+    data, node, passes = unresolved(rng)
+    done = subprocess.run([manners.ROOT / "tools" / "denkumari", "layout", "-"], input=data, capture_output=True, check=False)
+    said = done.stderr.decode()
+    if done.returncode == 1 and f": node {node} (" in said and f": pass {passes}, " in said and "the first that is not resolved" in said:
+        return ""
+    return f"denkumari layout < {data.hex()}: {said} for node {node}, pass {passes}"[:1200]
+
+
 def case_of(name, rng, room):
     makers = {"station": station_case, "rehex": rehex_case, "reason": reason_case, "bencher": bencher_case, "converter": converter_case, "mapper": mapper_case}
     return makers[name](rng, room) if name == "bencher" else makers[name](rng)
@@ -249,6 +308,13 @@ def held(name, asked, room):
     return wrong
 
 
+def held_unresolved(asked):
+    rng = random.Random(asked.seed)
+    found = [differs for differs in (unresolved_differs(rng) for _ in range(asked.cases)) if differs]
+    print("\n".join([*found, f"words of refusal 8: {asked.cases} layouts"]))
+    return len(found)
+
+
 def main():
     parser = manners.parser(__doc__)
     parser.add_argument("names", nargs="*", metavar="NAME")
@@ -260,7 +326,8 @@ def main():
     for name in set(asked.names) - set(names):
         parser.error(f"there is no program {name}: {', '.join(names)}")
     with manners.room() as room:
-        wrong = sum(held(name, asked, Path(room)) for name in asked.names or names if not (asked.native and name == "reason"))
+        wrong = held_unresolved(asked) if asked.native and not asked.names else 0
+        wrong += sum(held(name, asked, Path(room)) for name in asked.names or names if not (asked.native and name == "reason"))
     print("no difference" if not wrong else f"{wrong} differ")
     sys.exit(wrong != 0)
 
