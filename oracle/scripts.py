@@ -19,7 +19,7 @@ from pathlib import Path
 import manners
 
 ROOT = manners.ROOT
-FOLDERS = ("tools", "command", "oracle", "bindings", ".ci")
+FOLDERS = ("tools", "command", "portable", "oracle", "bindings", ".ci")
 SIGNALS = (signal.SIGINT, signal.SIGTERM, signal.SIGHUP)
 NOWHERE = "no such folder/no such file"
 FORM = "examples/worked.form"
