@@ -254,7 +254,10 @@ def unresolved(rng):
             continue
         banks, at = data.index(b"\x03" + (5 * len(layout.nodes)).to_bytes(2, "big")), 3 + 5 * len(layout.nodes)
         chance = rng.choice((0.02, 0.1, 0.3))
-        row = lambda: b"".join(number.to_bytes(4, "big") + bytes([rng.choice((1, 2, 2)) if rng.random() < chance else 0]) for number, _ in layout.rows[-1])
+        # reserves of another size from row to row, so that labels move
+        other = lambda number, kind: number + (rng.choice((0, 8, 40)) if kind == model.RESERVE and number < 4096 else 0)
+        some_state = lambda: rng.choice((1, 2, 2)) if rng.random() < chance else 0
+        row = lambda: b"".join(other(number, node[0]).to_bytes(4, "big") + bytes([some_state()]) for (number, _), node in zip(layout.rows[-1], layout.nodes))
         behind = data[banks + at * len(layout.rows):]
         data = data[:banks] + b"".join(data[banks:banks + 3] + row() for _ in range(rows)) + behind[:-1] + bytes([rng.randrange(5)])
         watched, passes = [], []

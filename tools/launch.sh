@@ -69,31 +69,6 @@ build_program() {
     [ -f "$home/crates/$1/src/main.rt" ] || say "there is no program $1"
     build "$1" "target/bin/$1" check "the program $1"
 }
-# Several programs and the archive: where one of them is not built, what all of them stand on is proved in one go, and then the programs.
-build_all() {
-    every=
-    for one in "$@"; do
-        is_built "$one" "target/bin/$one" || every=yes
-    done
-    if [ -n "$every" ] && [ -z "$(ls "$home/target/stamp" 2>/dev/null)" ]; then
-        wants_rt
-        mkdir -p "$home/target/sum" || say "target/ cannot be written"
-        (
-            alone
-            echo "building the programs and the archive: their crates are proved first, which takes some minutes" >&2
-            cd "$home" || exit 2
-            {
-                first_build "$@" "$crate_library"
-                rt check "$@" </dev/null
-                echo "status $?"
-            } 2>&1 | progress target/sum/all.log "$@" "$crate_library"
-        ) || say "the programs were not built: target/sum/all.log has the whole account"
-    fi
-    for one in "$@"; do
-        build_program "$one"
-    done
-    build_archive
-}
 archive=target/staticlib/lib$crate_library.a
 build_archive() {
     build "$crate_library" "$archive" staticlib "the archive"
