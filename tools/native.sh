@@ -32,14 +32,14 @@ compile_native() {
     [ -n "$compiler" ] || give_up "there is no C compiler: cc, gcc, clang and tcc are not on the PATH"
     [ ! -t 2 ] || echo "${here#"$home/"}: compiling the command from portable/ and command/, which takes some seconds" >&2
     mkdir -p "$home/build" || give_up "build/ cannot be written"
-    new=$1.$$
+    new=$home/build/.denkumari.$$
     trap 'rm -f -- "$new"' EXIT
     trap 'exit 130' HUP INT TERM
     if ! "$compiler" -std=c99 -O2 -DDENKUMARI_KIT="\"$(cat "$home/KIT")\"" -I"$home/include" -I"$home/portable" -o "$new" "$home"/command/*.c \
         "$home/portable/texts.c" >&2 || ! mv -f -- "$new" "$1"; then give_up "the command was not compiled"; fi
     trap - EXIT HUP INT TERM
     # those of other sources
-    for one in "$home"/build/denkumari-*; do
+    for one in "$home"/build/denkumari-????????????????; do
         [ "$one" = "$1" ] || rm -f -- "$one"
     done
 }
