@@ -10,7 +10,7 @@ static const struct option {
     int values;
 } options[] = {
     {"--fill", FILL, 1},   {"--page", PAGE, 1}, {"--load", LOAD, 1},   {"--width", WIDTH, 1},      {"--whole", WHOLE, 0}, {"--to", TO_FORM | TO_KIND, 1},
-    {"--range", RANGE, 2}, {"-o", OUTPUT, 1},   {"--names", NAMES, 1}, {"--names", BOTH_NAMES, 2}, {"--lines", LINES, 0}, {"--json", JSON, 0},
+    {"--range", RANGE, 2}, {"-o", OUTPUT, 1},   {"--names", NAMES, 1}, {"--names", BOTH_NAMES, 2}, {"--lines", LINES, 0},
 };
 
 static uint32_t number(const char *name, const char *word) {

@@ -16,8 +16,7 @@ enum {
     OUTPUT = 256,
     NAMES = 512,
     BOTH_NAMES = 1024,
-    LINES = 2048,
-    JSON = 4096
+    LINES = 2048
 };
 
 struct asked {

@@ -364,7 +364,7 @@ static struct side read_side(const struct asked *asked, int i) {
         put_refusal(&said, s.layout, s.names, &r);
         fail_name("", called(asked->file[i]), " is refused: %s", said.at);
     }
-    take_report(s.layout, text);
+    take_text(s.layout, text);
     read_image(&s);
     gather(&s);
     return s;

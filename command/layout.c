@@ -183,7 +183,7 @@ static void take_line(struct layout *l, const uint8_t *at, const uint8_t *end) {
     } else if (is_refusal(line, &l->refusal)) l->is_refused = 1, l->verdict = line;
 }
 
-static void take_lines(struct layout *l, struct bytes text) {
+void take_text(struct layout *l, struct bytes text) {
     const uint8_t *at = text.at, *end = text.at + text.len, *next;
     for (; at < end; at = next + 1) {
         next = memchr(at, '\n', (size_t)(end - at));
@@ -191,10 +191,6 @@ static void take_lines(struct layout *l, struct bytes text) {
         take_line(l, at, next);
     }
 }
-
-void take_map(struct layout *l, struct bytes text) { take_lines(l, text); }
-
-void take_report(struct layout *l, struct bytes text) { take_lines(l, text); }
 
 /* "Pass n reads row n, or the last row if there are fewer." */
 int64_t row_of(const struct layout *l, int64_t pass) { return (pass < 1 ? 1 : pass > l->rows ? l->rows : pass) - 1; }

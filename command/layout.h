@@ -38,8 +38,7 @@ struct layout {
 };
 
 struct layout *read_layout(struct bytes file);
-void take_map(struct layout *l, struct bytes text);
-void take_report(struct layout *l, struct bytes text);
+void take_text(struct layout *l, struct bytes text); /* what the proved map or the proved layout says of it */
 int is_refusal(struct bytes text, struct refusal *r); /* whether a text is a refusal's line, alone or with others behind it */
 struct bytes last_line(struct bytes text);
 

@@ -11,7 +11,7 @@ struct choices choices_of(const struct asked *asked) {
 
 struct layout *read_refused(struct bytes file, struct choices c) {
     struct layout *l = read_layout(file);
-    take_map(l, proved_map(file, c));
+    take_text(l, proved_map(file, c));
     l->is_full = c.fill;
     return l;
 }
@@ -38,7 +38,7 @@ static int map_refusal(struct layout *l, struct bytes file, struct choices c, st
     if (l->is_refused) *r = l->refusal;
     if (l->is_refused) return 1;
     struct bytes text = proved_layout(file, c);
-    take_report(l, text);
+    take_text(l, text);
     if (!is_refusal(last_line(text), r)) return 0;
     if (r->number != 14) fail("the map and the layout do not agree");
     return 1;

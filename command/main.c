@@ -25,6 +25,7 @@ static const char help_all[] =
     "    denkumari rehex FILE         S-records as Intel HEX, or the other way\n"
     "    denkumari bench FILE FILE    where an overlay differs from a released image\n"
     "    denkumari convert FILE       a layout file of form 1 as one of form 2, and back\n"
+    "    denkumari form FILE          a layout file in words, and one from words (a script, which needs python3)\n"
     "    denkumari --version          the version, and the kit that the code was proved with\n\n"
     "FILE may be -, standard input; --option=value is --option value; behind -- every word is a file. No environment variable and no locale is asked.\n"
     "What is printed comes from the proved functions: portable/ has them as C, printed from the very term that the proofs speak of, and its head names the\n"

@@ -57,11 +57,6 @@ struct bytes bytes_of(const struct text *t) {
     return b;
 }
 
-void empty(struct text *t) {
-    t->len = 0;
-    put_bytes(t, "", 0);
-}
-
 static int within(uint8_t c, int low, int high) { return c >= low && c <= high; }
 
 /* Control characters, those of C1 too, are not printable. */

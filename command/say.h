@@ -31,7 +31,6 @@ void put_escaped(struct text *t, const char *word); /* a file's name may hold an
 void put_several(struct text *t, long long count, const char *what);
 void put_both(struct text *t, long long number); /* in decimal, and from 10 on in hex */
 struct bytes bytes_of(const struct text *t);
-void empty(struct text *t);
 size_t character(const uint8_t *at, size_t n); /* the bytes of a printable character of UTF-8, 0 where none begins there */
 
 void tell(const char *form, ...) LIKE_PRINTF(1, 2);
