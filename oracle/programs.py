@@ -212,13 +212,19 @@ def in_hex(told):
     return b"".join(b" ".join(words) + b"\n" for words in with_hex)
 
 
+def choices_of(arguments):
+    return model.Choices(fill=int(arguments[0]) if arguments else 0, page=int(arguments[1]) if len(arguments) > 1 else None)
+
+
 def native_differs(name, arguments, given, told):
     """What the command does otherwise than the text that a program is to print, or nothing; None where it is not asked."""
     words = native_words(name, arguments)
     if words is None or (name == "rehex" and (given[:1] in (b"S", b"s")) != (arguments[0] == "1")):
         return None
     done = subprocess.run([manners.ROOT / "tools" / "denkumari", *words], input=given, capture_output=True, check=False)
-    is_refused = told.startswith(b"refused ") or b"\nrefused " in told
+    # a map whose layout has no room for its image is shown whole, with the layout's refusal
+    no_room = name == "mapper" and model.printed(given, choices_of(arguments)).startswith("refused 14 ")
+    is_refused = told.startswith(b"refused ") or b"\nrefused " in told or no_room
     wanted = (1, told if name == "mapper" else b"") if is_refused else (0, in_hex(told) if name == "bencher" else told)
     if (done.returncode, done.stdout) == wanted and bool(done.stderr) == is_refused:
         return ""
