@@ -61,12 +61,28 @@ impl Names {
         self.names.get(&node)
     }
 
-    /// Reads a names file.
+    /// The names file of this layout file: its first line has the sum and the length that `cksum` prints of it, so that a stale one is told (docs/FORMAT.md).
+    ///
+    /// ```
+    /// let mut names = denkumari::Names::new();
+    /// names.name(3, "table", "main.asm:12")?;
+    /// assert_eq!(names.of_form(b"123456789"), "form\t930766865\t9\n3\ttable\tmain.asm:12\n");
+    /// assert_eq!(denkumari::Names::read(&names.of_form(b"123456789"))?, names);
+    /// # Ok::<(), denkumari::BadNames>(())
+    /// ```
+    pub fn of_form(&self, form: &[u8]) -> String {
+        format!("form\t{}\t{}\n{self}", cksum(form), form.len())
+    }
+
+    /// Reads a names file. A first line with the sum of its layout file is passed over.
     pub fn read(text: &str) -> Result<Names, BadNames> {
         let mut names = Names::new();
         let mut above = None;
         for (line, words) in (1..).zip(text.lines()) {
             let parts: Vec<&str> = words.split('\t').collect();
+            if line == 1 && is_sum(&parts) {
+                continue;
+            }
             let (node, name, place) = match parts[..] {
                 [node, name, place] if node.bytes().all(|digit| digit.is_ascii_digit()) => (node, name, place),
                 _ => return Err(BadNames::Line { line }),
@@ -80,6 +96,21 @@ impl Names {
         }
         Ok(names)
     }
+}
+
+/// Whether a line says of which layout file the names are.
+fn is_sum(parts: &[&str]) -> bool {
+    let is_number = |text: &str| !text.is_empty() && text.bytes().all(|digit| digit.is_ascii_digit());
+    matches!(parts, ["form", sum, length] if is_number(sum) && is_number(length))
+}
+
+/// The sum of POSIX `cksum`: the bytes, then those of their number from the lowest on.
+fn cksum(bytes: &[u8]) -> u32 {
+    let next =
+        |sum: u32, byte: u8| (0..8).fold(sum ^ u32::from(byte) << 24, |sum, _| sum << 1 ^ if sum >> 31 == 1 { 0x04c1_1db7 } else { 0 });
+    let length = bytes.len().to_le_bytes();
+    let used = length.iter().rposition(|&byte| byte != 0).map_or(0, |last| last + 1);
+    !bytes.iter().chain(&length[..used]).fold(0, |sum, &byte| next(sum, byte))
 }
 
 impl fmt::Display for Names {

@@ -85,10 +85,9 @@ fn a_program_writes_the_worked_example() {
 #[test]
 fn the_dumps_in_the_documents_are_the_real_bytes() {
     let text = include_str!("../../../docs/FORMAT.md");
-    let dumps = text.lines().filter_map(|line| line.strip_prefix("    ")?.trim_start().split_once(" | "));
+    let dumps = text.lines().filter_map(|line| line.strip_prefix("    ")?.trim_start().split_once(" | ")?.0.split_once("  "));
     let (mut files, mut file) = (Vec::new(), Vec::new());
-    for (bytes, _) in dumps {
-        let (place, bytes) = bytes.split_once("  ").unwrap();
+    for (place, bytes) in dumps.filter(|(place, _)| place.parse::<usize>().is_ok()) {
         if place == "0" {
             files.push(std::mem::take(&mut file));
         }
@@ -142,7 +141,9 @@ fn the_source_in_the_documents() {
     // and the values as the document has them
     let values = [0xeb, 2, 0, 0xbe, 0xef, 0x61, 0x62, 0x63];
     assert!(recorder.to_form(Form::Two).unwrap().windows(8).any(|bytes| bytes == values));
-    assert!(text.contains("values eb0200 beef 616263"));
+    for line in ["instruction 24: eb0200: 24? 16? 16~", "data 16: beef", "open 8: 61 62 63"] {
+        assert!(text.contains(line), "{line}");
+    }
 }
 
 #[test]
