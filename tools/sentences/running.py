@@ -1,0 +1,142 @@
+"""The plans become Python, and the Python is run. Every sentence that is met is kept in a table, with the constructor and its numbers: all outcomes are found, so
+that each run also tests that there is exactly one."""
+import itertools
+import re
+import sys
+import threading
+
+from . import values
+from .arithmetic import ident
+from .modes import Modes
+from .terms import Call, Pred
+from .values import Floundered
+
+
+class Runner(Modes):
+    def __init__(self, crates, texts=None):
+        super().__init__(crates, texts)
+        self.names = dict(vars(values), itertools=itertools, build=self.run_build, NONE=values.Seq())
+        self.functions, self.tops, self.topping, self.builds, self.tables, self.why = {}, {}, [], [], {}, {}
+        self.reset()
+
+    def reset(self, relaxed=False, lenient=None):
+        self.modes, self.bad, self.done, self.rounds, self.compiled = {}, set(), [], set(), set()
+        self.relaxed, self.lenient, self.testing = relaxed, lenient, False
+
+    def function(self, p, mask):
+        return "p%d_%s" % (p.id, "".join("io"[not m] for m in mask))
+
+    def define(self, lines):
+        exec(compile("\n".join(lines), "<sentences>", "exec"), self.names)
+
+    def emit(self, steps, depth, out="return"):
+        """(lines, depth) of Python for some steps"""
+        lines = []
+        for kind, *rest in steps:
+            pad = " " * depth
+            if kind == "let":
+                lines.append("%s%s = %s" % (pad, *rest))
+            elif kind == "guard":
+                lines.append("%sif not (%s): %s" % (pad, rest[0], out))
+            elif kind == "flounder":
+                lines.append("%sraise Floundered(%r)" % (pad, rest[0]))
+            else:
+                lines.append("%sfor %s in %s:" % (pad, *rest))
+                depth, out = depth + 1, "continue"
+        return lines, depth
+
+    def compile(self, p, mask):
+        """Code for a sentence in a mode, and for all that it asks."""
+        by_name = {self.function(q, m): (q, m) for q, m in self.modes}
+        work = [(p, mask)] + [by_name[f.name] for _, facts, _ in self.builds for f in facts if f.name in by_name]
+        while work:
+            k = work.pop()
+            if k in self.compiled:
+                continue
+            self.compiled.add(k)
+            for text in self.code(*k):
+                self.define(text)
+                work += [by_name[w] for w in set(re.findall(r"\bp\d+_[io]*\b", "\n".join(text))) if w in by_name]
+
+    def code(self, p, mask):
+        name, args, calls = self.function(p, mask), [ident(v) for v, m in zip(p.args, mask) if m], []
+        for i, (c, steps, bound) in enumerate(self.modes[p, mask]):
+            lines, depth = self.emit(steps, 1)
+            found = "".join(self.py(h) + ", " for h, m in zip(c.head, mask) if not m)
+            numbers = "".join((ident(v) if v in bound else "None") + ", " for v in c.vars)
+            said = "(%s), (%s)" % (found, numbers) if not p.anon else "(%s)" % found
+            calls.append((p.clauses.index(c), "%s_%d(%s)" % (name, i, ", ".join(args))))
+            yield ["def %s_%d(%s):" % (name, i, ", ".join(args))] + lines + [" " * depth + "yield " + said]
+        yield ["def %s(%s):" % (name, ", ".join(args))] + (self.asked if p.anon else self.tabled)(p, mask, args, calls)
+
+    def asked(self, p, mask, args, calls):
+        if all(mask):
+            return [" for _ in %s: return True" % c for _, c in calls] + [" return False"]
+        return [" yield from " + c for _, c in calls] or [" return ()"]
+
+    def tabled(self, p, mask, args, calls):
+        table = "T" + self.function(p, mask)
+        self.names[table] = self.tables[p, mask] = {}
+        body = []
+        for i, c in calls:
+            body += ["if not t:", " for o, e in %s: t[o] = (%d, e); break" % (c, i)] if all(mask) else \
+                ["for o, e in %s:" % c, " if o not in t: t[o] = (%d, e)" % i]
+        if (p, mask) in self.rounds:
+            body = ["n = -1", "while len(t) > n:", " n = len(t); %s[k] = dict(t)" % table] + [" " + line for line in body]
+        return [" k = (%s)" % "".join(a + ", " for a in args), " t = %s.get(k)" % table, " if t is None:", "  %s[k] = BUSY; t = {}" % table] + \
+            ["  " + line for line in body] + ["  %s[k] = t" % table, " return t"]
+
+    def query(self, name, given):
+        """A function of so many given values that gives all outcomes that meet the sentence."""
+        d = self.find(name, given)
+        vs = [self.fresh("x") for _ in range(given + 1)]
+        goals = self.goals(self.make(d, [("var", v) for v in vs]), [])
+        if len(goals) != 1 or not isinstance(goals[0], Call):
+            raise Floundered("%s is no sentence of an outcome" % name)
+        p, args = goals[0].pred, goals[0].args
+        mask = tuple(a[1] != vs[-1] for a in args)
+        for relaxed, lenient in ((False, None), (True, None), (True, p)):
+            self.reset(relaxed, lenient)
+            if self.ok(p, mask, None):
+                break
+        else:
+            raise Floundered("%s: no order of its premises finds the outcome" % name)
+        self.compile(p, mask)
+        return Query(self, p, mask, [vs.index(a[1]) for a in args])
+
+    def clear(self):
+        for t in self.tables.values():
+            t.clear()
+        values.Rec.known.clear()
+        self.why.clear()
+
+
+class Query:
+    def __init__(self, runner, pred, mask, order):
+        self.runner, self.pred, self.mask, self.order = runner, pred, mask, order
+
+    def outcomes(self, *given):
+        found = self.runner.names[self.runner.function(self.pred, self.mask)](*[given[i] for i, m in zip(self.order, self.mask) if m])
+        return [y for y, in found]
+
+    def arguments(self, given, outcome):
+        return tuple((tuple(given) + (outcome,))[i] for i in self.order)
+
+
+def deep(work):
+    """Runs work where sentences may rest on many others."""
+    out = []
+
+    def run():
+        try:
+            out.append((work(), None))
+        except BaseException as error:
+            out.append((None, error))
+    sys.setrecursionlimit(10 ** 6)
+    threading.stack_size(1 << 29)
+    t = threading.Thread(target=run)
+    t.start()
+    t.join()
+    if out[0][1]:
+        raise out[0][1]
+    return out[0][0]

@@ -1,0 +1,219 @@
+"""The values that sentences speak of: numbers, truths, lists, pairs, records and cases; and what the code made from the sentences calls."""
+import functools
+
+
+class Floundered(Exception):
+    """No order of the premises makes every number known."""
+
+
+class Open(Exception):
+    """The sentences leave something open."""
+
+
+class Seq:
+    """A list. Its tails share its elements and their hashes, so that taking a long text apart from the front is cheap."""
+    __slots__ = ("t", "at", "n", "hashes")
+
+    def __init__(self, elements=(), at=0, hashes=None):
+        self.t, self.at, self.hashes = elements, at, [None] if hashes is None else hashes
+        self.n = len(elements) - at
+
+    def __hash__(self):
+        if self.hashes[0] is None:
+            out, h = [17], 17
+            for x in reversed(self.t):
+                h = (h * 1000003 + hash(x)) % 2305843009213693951
+                out.append(h)
+            self.hashes[0] = out
+        return self.hashes[0][self.n]
+
+    def __eq__(self, other):
+        return self is other or isinstance(other, Seq) and self.n == other.n and (self.t is other.t or self.items() == other.items())
+
+    def __len__(self):
+        return self.n
+
+    def __iter__(self):
+        return iter(self.items())
+
+    def items(self):
+        return self.t[self.at:] if self.at else self.t
+
+    def __repr__(self):
+        shown = self.items() if self.n <= 16 else self.items()[:4]
+        return "[%s%s]" % (", ".join(brief(x) for x in shown), "" if self.n <= 16 else ", .. %d in all" % self.n)
+
+
+class Rec:
+    """A record. Two that hold the same are one object, so that tables are searched by identity."""
+    __slots__ = ("d",)
+    known = {}
+
+    def __new__(cls, names, values):
+        key = names, values
+        made = cls.known.get(key)
+        if made is None:
+            made = cls.known[key] = object.__new__(cls)
+            made.d = dict(zip(names, values))
+        return made
+
+    def __repr__(self):
+        return "{%s}" % "; ".join("%s = %s" % (k, brief(v)) for k, v in self.d.items())
+
+
+def rec(**fields):
+    names = tuple(sorted(fields))
+    return Rec(names, tuple(fields[n] for n in names))
+
+
+def value(x):
+    """A Python value as the sentences have it: lists become lists, dictionaries records."""
+    if isinstance(x, (list, bytes, bytearray)):
+        return Seq(tuple(map(value, x)))
+    return rec(**{k: value(v) for k, v in x.items()}) if isinstance(x, dict) else x
+
+
+def plain(x):
+    """And back."""
+    if isinstance(x, Seq):
+        return [plain(y) for y in x]
+    if isinstance(x, Rec):
+        return {k: plain(v) for k, v in x.d.items()}
+    return tuple(map(plain, x)) if isinstance(x, tuple) else x
+
+
+def brief(v):
+    if v is True or v is False:
+        return str(v).lower()
+    if isinstance(v, tuple) and v and isinstance(v[0], str):
+        return " ".join([v[0]] + [brief(x) for x in v[1:]])
+    return "(%s)" % ", ".join(map(brief, v)) if isinstance(v, tuple) else repr(v)
+
+
+# ---- what the code calls: each as the kit's library has it on natural numbers and lists
+def getD(l, i, default):
+    return l.t[l.at + i] if i < l.n else default
+
+
+def element(l, i):
+    """The x with getD l i x = x, where there is one."""
+    if i >= l.n:
+        raise Floundered("any element past the end of a list")
+    return l.t[l.at + i]
+
+
+def tail(l):
+    return Seq(l.t, l.at + 1, l.hashes)
+
+
+def cut(l, n):
+    """The first n elements, and those behind them."""
+    return Seq(l.t[l.at:l.at + n]), Seq(l.t, l.at + min(n, l.n), l.hashes)
+
+
+def append(a, b):
+    return Seq(a.items() + b.items())
+
+
+def put(l, i, x):
+    t = l.items()
+    return Seq(t[:i] + (x,) + t[i + 1:]) if i < l.n else l
+
+
+def monus(a, b):
+    return a - b if a > b else 0
+
+
+def div(a, b):
+    return a // b if b else 0
+
+
+def mod(a, b):
+    return a % b if b else a
+
+
+def exact(t, c):
+    """The x with c * x = t, or None."""
+    if c == 0:
+        if t == 0:
+            raise Floundered("0 * x = 0")
+        return None
+    return t // c if t % c == 0 else None
+
+
+def exponent(base, v):
+    """The k with base ^ k = v, or None."""
+    if base < 2:
+        raise Floundered("power of %d" % base)
+    k, p = 0, 1
+    while p < v:
+        p *= base
+        k += 1
+    return k if p == v else None
+
+
+def multiples(low, high, c, sign, m):
+    """Each x from low to high (or on and on) with c + sign * x a multiple of m."""
+    m = abs(m)
+    if m == 0:
+        raise Floundered("multiple of 0")
+    x = max(low, 0)
+    x += (-c * sign - x) % m
+    while high is None or x <= high:
+        yield x
+        x += m
+
+
+def first(found):
+    for x in found:
+        return x
+    raise Floundered("nothing to bound by")
+
+
+def past_ends(holds, lengths):
+    """Where something holds past the ends of lists whatever the number, only the numbers below are searched."""
+    if not holds:
+        raise Floundered("past the lists it does not hold")
+    return max(lengths)
+
+
+def ranked(found, before):
+    """The members of a list, each once, in the order in which they stand."""
+    order = functools.cmp_to_key(lambda x, y: -1 if before(x, y) else 1 if before(y, x) else 0)
+    return Seq(tuple(sorted(dict.fromkeys(x for x, in found), key=order)))
+
+
+def pieces(step, known, text):
+    """Each way of reading pieces off the front: those read, and what is left."""
+    read, left = (), text
+    todo = [(read, left)]
+    while todo:
+        further = []
+        for read, left in todo:
+            yield Seq(read), left
+            for piece, rest in step(*known, left):
+                if rest.n >= left.n:
+                    raise Floundered("an empty piece")
+                further.append((read + (piece,), rest))
+        todo = further
+
+
+def elementwise(cell, known, n):
+    """Each list of n elements whose element i is one that `cell` finds."""
+    def from_here(i, done):
+        if i == n:
+            yield Seq(done)
+            return
+        for x, in set(cell(*known, i)):
+            yield from from_here(i + 1, done + (x,))
+    return from_here(0, ())
+
+
+class Busy:
+    """What a sentence that is being met has so far: to ask it is to go round in a circle."""
+    def __iter__(self):
+        raise Floundered("a sentence rests on itself")
+    __contains__ = __bool__ = __iter__
+
+
+BUSY = Busy()
