@@ -175,7 +175,7 @@ class Modes(Lists):
 
     def fork(self, st):
         """Where nothing goes on: a choice, or a sentence that does not rest on itself, put in its place, each of its constructors by itself."""
-        if len(st.unfolded) > 5:
+        if len(st.unfolded) > 1:
             return None
         for g in st.goals:
             rest = [x for x in st.goals if x is not g]
@@ -183,7 +183,7 @@ class Modes(Lists):
                 ways = [goals for _, goals in g.alts]
             elif isinstance(g, Neg) and not g.vars and not self.known(g, st.bound):
                 ways = [self.negate([], [x])[1] for x in g.goals]
-            elif isinstance(g, Call) and g.pred not in st.unfolded and len(g.pred.clauses) <= 3 and st.me and g.pred is not st.me[0]:
+            elif isinstance(g, Call) and len(g.pred.clauses) <= 3 and not any(isinstance(x, Call) and x.pred is g.pred for c in g.pred.clauses for x in c.goals):
                 ways = []
                 for c in g.pred.clauses:
                     c, m = self.renamed(c), dict(zip(g.pred.args, g.args))

@@ -67,7 +67,28 @@ class Runner(Modes):
             said = "(%s), (%s)" % (found, numbers) if not p.anon else "(%s)" % found
             calls.append((p.clauses.index(c), "%s_%d(%s)" % (name, i, ", ".join(args))))
             yield ["def %s_%d(%s):" % (name, i, ", ".join(args))] + lines + [" " * depth + "yield " + said]
+        if p.anon and all(mask) and len(calls) == 1:
+            for v in args:
+                ranges = self.ranges(name, args, v, self.modes[p, mask][0][1])
+                if ranges:
+                    yield from ranges
+                    return
         yield ["def %s(%s):" % (name, ", ".join(args))] + (self.asked if p.anon else self.tabled)(p, mask, args, calls)
+
+    def ranges(self, name, args, v, steps):
+        """A search whose only word on a number v is that it is at least something and below something: the ranges are found once, and then looked up."""
+        on_v = [s for s in steps if re.search(r"\b%s\b" % v, " ".join(s[1:]))]
+        low = [s for s in on_v if s[0] == "guard" and s[1].endswith(" <= " + v) and v not in s[1][:-len(v)]]
+        high = [s for s in on_v if s[0] == "guard" and s[1].startswith(v + " < ") and v not in s[1][len(v):]]
+        if len(on_v) != 2 or len(low) != 1 or len(high) != 1 or not any(s[0] == "for" for s in steps):
+            return None
+        given = ", ".join(a for a in args if a != v)
+        lines, depth = self.emit([s for s in steps if s not in on_v], 1)
+        table = "T" + name
+        self.names[table] = self.tables[name] = {}
+        return [["def %s_all(%s):" % (name, given)] + lines + [" " * depth + "yield %s, %s" % (low[0][1][:-len(" <= " + v)], high[0][1][len(v + " < "):])],
+                ["def %s(%s):" % (name, ", ".join(args)), " t = %s.get((%s,))" % (table, given or "0"),
+                 " if t is None: t = %s[%s,] = Ranges(%s_all(%s))" % (table, given or "0", name, given), " return t.hold(%s)" % v]]
 
     def asked(self, p, mask, args, calls):
         if all(mask):

@@ -12,8 +12,8 @@ class Clo:
 
 
 class Goal:
-    """src: the term in the file; via: the abbreviations it came through."""
-    pred, src, via = None, None, ()
+    """src: the term in the file; via: the abbreviations it came through; free: its free variables, once they were asked for."""
+    pred, src, via, free = None, None, (), None
 
     def noted(self, src, via):
         self.src, self.via = src, via
@@ -186,19 +186,20 @@ def subterms(x):
         yield from subterms(y)
 
 
-def free(x, out=None):
+def free(x):
     """Free variables, in order."""
-    out = {} if out is None else out
-    if isinstance(x, (Or, Neg)):
-        for bound, goals in x.alts if isinstance(x, Or) else [(x.vars, x.goals)]:
-            out.update((v, 1) for v in frees(goals) if v not in bound)
-    else:
-        out.update((y[1], 1) for y in subterms(x) if y[0] == "var")
-    return out
+    if isinstance(x, Goal):
+        if x.free is None:
+            if isinstance(x, (Or, Neg)):
+                x.free = {v: 1 for bound, goals in (x.alts if isinstance(x, Or) else [(x.vars, x.goals)]) for v in frees(goals) if v not in bound}
+            else:
+                x.free = {y[1]: 1 for y in subterms(x) if y[0] == "var"}
+        return x.free
+    return {x[1]: 1} if x[0] == "var" else {y[1]: 1 for y in subterms(x) if y[0] == "var"}
 
 
 def frees(goals):
     out = {}
     for g in goals:
-        free(g, out)
+        out.update(free(g))
     return out

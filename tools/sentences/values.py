@@ -1,5 +1,7 @@
 """The values that sentences speak of: numbers, truths, lists, pairs, records and cases; and what the code made from the sentences calls."""
+import bisect
 import functools
+import itertools
 
 
 class Floundered(Exception):
@@ -207,6 +209,18 @@ def elementwise(cell, known, n):
         for x, in set(cell(*known, i)):
             yield from from_here(i + 1, done + (x,))
     return from_here(0, ())
+
+
+class Ranges:
+    """Ranges of numbers, each from its first to before its end."""
+    def __init__(self, found):
+        found = sorted(set(found))
+        self.firsts = [a for a, _ in found]
+        self.ends = list(itertools.accumulate((b for _, b in found), max))
+
+    def hold(self, number):
+        i = bisect.bisect_right(self.firsts, number)
+        return i > 0 and self.ends[i - 1] > number
 
 
 class Busy:

@@ -1,0 +1,82 @@
+"""The one table of names: for each call of include/denkumari.h the sentence that is its own, and its inputs by the names that the header has for them.
+
+( .. ) is a record, its fields in the order in which the sentences declare them; { .. } one by these names; #N is case N of an enumeration; a number is itself."""
+import re
+
+from .clauses import indices_of
+from .running import Runner
+from .values import Rec, Seq, value
+
+TABLES = "(units starts bank_sizes bank_offsets aligns flags fill_bits kinds operands numbers states rows values %s fill %s)"
+LENT = "(image addresses offsets sizes)"
+CALLS = {
+    "dk_build": "BuildSays " + TABLES % ("limit", "closed") + LENT,
+    "dk_build_paged": "PagedSays " + TABLES % ("limit", "closed") + "page" + LENT,
+    "dk_profile": "ProfileSays " + TABLES % (0, 0) + "page",
+    "dk_map": "MapSays " + TABLES % ("limit", "closed") + "(banks_of positions outputs sizes)",
+    "dk_form": "FormSays file fill" + LENT,
+    "dk_form_paged": "FormPagedSays file fill page" + LENT,
+    "dk_to_form2": "ConvertSays #0 file out",
+    "dk_to_form1": "ConvertSays #1 file out",
+    "dk_blocks": "DkBlocksSay offsets sizes block_offsets block_sizes",
+    "dk_hex": "HexSays bytes bits hex",
+    "dk_part": "PartSays image offset size",
+    "dk_offer": "OfferSays (positions sizes count marks mark_count) {position size}",
+    "dk_overlay_range": "RangeSays overlay released offsets sizes first count",
+    "dk_overlay_runs": "RunsSay overlay released offsets sizes firsts counts",
+    "dk_write_hex": "HexSays (image offsets sizes load) text",
+    "dk_write_srec": "SrecSays (image offsets sizes load) text width",
+    "dk_read_records": "ReadSays format load text (bytes offsets sizes scratch)",
+    "dk_record_reason": "DkReasonSays format load text scratch",
+    "dk_record_fault": "FaultSays format load text scratch",
+}
+
+
+def parsed(text):
+    """The sentence's name, and each input: a name, or the names of a record's fields with the bracket that they stand in."""
+    name, rest = text.split(" ", 1)
+    found = re.findall(r"\(([^)]*)\)|\{([^}]*)\}|([^\s(){}]+)", rest)
+    return name, [("(", a.split()) if a else ("{", b.split()) if b else ("", c) for a, b, c in found]
+
+
+class Call:
+    """A call by its sentence: all outcomes that meet it."""
+    def __init__(self, name, crates, texts=None):
+        self.name = name
+        sentence, self.inputs = parsed(CALLS[name])
+        self.runner = Runner(crates, texts)
+        self.definition = self.runner.find(sentence, len(self.inputs))
+        d, ctx = self.definition, (self.definition.file, self.definition.blocks)
+        raw = [t for _, t, _ in d.given()] + [t for _, t in indices_of(d)]
+        self.kinds = [self.runner.kind(t, ctx) for t in raw]
+        self.query = self.runner.query(sentence, len(self.inputs))
+
+    def given(self, inputs):
+        """The sentence's arguments from the call's inputs, by their names."""
+        def one(word):
+            return value(inputs[word]) if word in inputs else int(word)
+        out = []
+        for (bracket, words), kind in zip(self.inputs, self.kinds):
+            if bracket:
+                names = words if bracket == "{" else [p[0] for p in kind[1].parts]
+                if len(names) != len(words):
+                    raise ValueError("%s: %d fields are named and %d are declared" % (self.name, len(words), len(names)))
+                fields = dict(zip(names, map(one, words)))
+                out.append(Rec(tuple(sorted(fields)), tuple(fields[n] for n in sorted(fields))))
+            else:
+                out.append((kind[1].parts[int(words[1:])][0],) if words[0] == "#" else one(words))
+        return tuple(out)
+
+    def outcomes(self, inputs):
+        self.runner.clear()
+        return self.query.outcomes(*self.given(inputs))
+
+    def parts(self, outcome, kind=None):
+        """An outcome as its answer and the lists behind it, in the order in which they are declared."""
+        kind = kind or self.kinds[-1]
+        if isinstance(outcome, tuple):
+            return [x for y in outcome for x in self.parts(y)]
+        if isinstance(outcome, Rec) and isinstance(kind, tuple) and kind[0] == "rec":
+            d = kind[1]
+            return [x for n, raw, _, _ in d.parts for x in self.parts(outcome.d[n], self.runner.kind(raw, (d.file, d.blocks)) or "none")]
+        return [outcome.d if isinstance(outcome, Rec) else list(outcome) if isinstance(outcome, Seq) else outcome]
