@@ -105,8 +105,9 @@ class Modes(Lists):
         at = st.c, st.me, args
         for i in reversed(range(len(args) - p.indices, len(args))):    # an index is rather found than given, so that its table serves every value
             if mask[i] and not p.big[i - (len(args) - p.indices)]:
-                mask[i] = False
+                mask[i], relaxed, self.relaxed = False, self.relaxed, False
                 mask[i] = not self.ok(p, tuple(mask), at)
+                self.relaxed = relaxed
         if not self.ok(p, tuple(mask), at):
             return None
         call = "%s(%s)" % (self.function(p, tuple(mask)), ", ".join(self.py(a) for a, m in zip(args, mask) if m))
@@ -126,15 +127,10 @@ class Modes(Lists):
     def ok(self, p, mask, at):
         """Whether a sentence can be met with these arguments known, finding the others; a call of itself must come down in one that is known."""
         k = p, mask
-        if k in self.bad:
+        if k in self.bad[self.relaxed] or at and at[1] and at[1][0] is p and any(mine and not m for mine, m in zip(at[1][1], mask)):
             return False
         if self.modes.get(k) == "busy":
-            if at is None or at[1] is None or at[1][0] is not p or self.smaller(at, mask):
-                return True
-            if self.relaxed and not all(mask) and all(a == h for h, a, m in zip(at[0].head, at[2], mask) if m):
-                self.rounds.add(k)                # found by rounds
-                return True
-            return False
+            return at is None or at[1] is None or at[1][0] is not p or self.smaller(at, mask)
         if k in self.modes:
             return True
         self.modes[k], mark, plans = "busy", len(self.done), []
@@ -145,7 +141,7 @@ class Modes(Lists):
                     self.modes.pop(x, None)
                 del self.done[mark:]
                 self.modes.pop(k)
-                self.bad.add(k)
+                self.bad[self.relaxed].add(k)
                 return False
             plans += r or [(c, [("flounder", "%s of %s cannot be run" % (c.name, p.name))], set(frees([Call(p, c.head)])) | set(c.vars))]
         self.modes[k] = plans

@@ -20,7 +20,7 @@ class Runner(Modes):
         self.reset()
 
     def reset(self, relaxed=False, lenient=None):
-        self.modes, self.bad, self.done, self.rounds, self.compiled = {}, set(), [], set(), set()
+        self.modes, self.bad, self.done, self.compiled = {}, {False: set(), True: set()}, [], set()
         self.relaxed, self.lenient, self.testing = relaxed, lenient, False
 
     def function(self, p, mask):
@@ -102,8 +102,6 @@ class Runner(Modes):
         for i, c in calls:
             body += ["if not t:", " for o, e in %s: t[o] = (%d, e); break" % (c, i)] if all(mask) else \
                 ["for o, e in %s:" % c, " if o not in t: t[o] = (%d, e)" % i]
-        if (p, mask) in self.rounds:
-            body = ["n = -1", "while len(t) > n:", " n = len(t); %s[k] = dict(t)" % table] + [" " + line for line in body]
         return [" k = (%s)" % "".join(a + ", " for a in args), " t = %s.get(k)" % table, " if t is None:", "  %s[k] = BUSY; t = {}" % table] + \
             ["  " + line for line in body] + ["  %s[k] = t" % table, " return t"]
 
