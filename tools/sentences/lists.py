@@ -63,7 +63,7 @@ class Lists(Arithmetic):
                     p = self.helper("piece", given + [text[1]], [x[1], rest[1]], [goal])
                     if p:
                         l, r = self.var("l", "list"), self.var("r", "list")
-                        steps = [("for", "(%s, %s)" % (ident(l[1]), ident(r[1])), "pieces(%s, (%s), %s)" % (p, "".join(ident(v) + ", " for v in given), self.py(b)))]
+                        steps = [("for", "(%s, %s)" % (ident(l[1]), ident(r[1])), "pieces(%s, (%s), %s)" % (p, "".join(ident(v) + ", " for v in given), self.py(b)), 0)]
                         return st.took(g, steps, [Rel("==", args[-1], l), Rel("==", a[2][1], r)], [l[1], r[1]])
         return False
 
@@ -204,7 +204,7 @@ class Lists(Arithmetic):
         self.builds.append((lists, facts, unread))
         self.outside(st, facts, counts)
         st.steps.append(("for", "(%s,)" % ", ".join(map(ident, lists)), "build(%d, dict(%s), [%s])" % (
-            len(self.builds) - 1, ", ".join("%s=%s" % (ident(a), ident(a)) for a in given), ", ".join(ident(counts[v][1]) for v in lists))))
+            len(self.builds) - 1, ", ".join("%s=%s" % (ident(a), ident(a)) for a in given), ", ".join(ident(counts[v][1]) for v in lists)), 0))
         st.bound.update(lists)
         return True
 

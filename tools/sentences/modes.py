@@ -26,9 +26,9 @@ class State:
         self.bound.update(found)
         return True
 
-    def search(self, v, values, met=()):
+    def search(self, v, values, met=(), cost=0):
         """Each of some values is tried."""
-        self.steps.append(("for", ident(v), values))
+        self.steps.append(("for", ident(v), values, cost))
         self.bound.add(v)
         for g in met:
             self.goals.remove(g)
@@ -50,12 +50,12 @@ class Modes(Lists):
         while st.goals or not all(v in st.bound for v in st.needed):
             if any(isinstance(g, Const) and not g.v for g in st.goals):
                 return [(st.steps + [("guard", "False")], st.bound | set(st.needed) | set(frees(st.goals)))]
-            if not (self.easy(st) or any(rule(st) for rule in self.rules())):
+            if not any(rule(st) for rule in self.rules()):
                 return self.fork(st)
         return [(st.steps, st.bound)]
 
     def rules(self):
-        return (self.record_apart, self.structured, self.digits, self.multiple, self.few, self.least, self.ends_of_range, self.endless_count, self.tails,
+        return (self.easy, self.call, self.record_apart, self.structured, self.digits, self.multiple, self.dear_call, self.few, self.least, self.ends_of_range, self.endless_count, self.tails,
                 self.by_length, self.by_pieces, self.by_members, self.build_lists, self.by_elements, self.short_list)
 
     def easy(self, st):
@@ -72,11 +72,23 @@ class Modes(Lists):
             r = self.meet(g, st)
             if r:
                 return st.took(g, *r)
+        return False
+
+    def call(self, st, most=0):
+        """Another sentence that finds something, if it does not have to try every value of a number that is only known to be so large."""
         for g in st.goals:
-            r = self.meet(g, st) if isinstance(g, (Call, Or)) and g not in known else None
-            if r:
+            r = self.meet(g, st) if isinstance(g, (Call, Or)) and not self.known(g, st.bound) else None
+            if r and sum(s[3] for s in r[0] if s[0] == "for") <= most:
                 return st.took(g, *r)
         return False
+
+    def dear_call(self, st):
+        return any(self.call(st, most) for most in (1, 2, 3, 99))
+
+    def cost(self, p, mask):
+        """How many numbers are tried with every value that they may have."""
+        plans = self.modes.get((p, mask))
+        return 0 if plans in (None, "busy") else max((sum(s[3] for s in steps if s[0] == "for") for _, steps, _ in plans), default=0)
 
     def pure(self, g, bound):
         """A goal over known numbers as one Python expression, where it needs no search."""
@@ -106,7 +118,7 @@ class Modes(Lists):
         for i in reversed(range(len(args) - p.indices, len(args))):    # an index is rather found than given, so that its table serves every value
             if mask[i] and not p.big[i - (len(args) - p.indices)]:
                 mask[i], relaxed, self.relaxed = False, self.relaxed, False
-                mask[i] = not self.ok(p, tuple(mask), at)
+                mask[i] = not self.ok(p, tuple(mask), at) or self.cost(p, tuple(mask)) > 0
                 self.relaxed = relaxed
         if not self.ok(p, tuple(mask), at):
             return None
@@ -122,7 +134,7 @@ class Modes(Lists):
             found.append(a[1] if direct else self.fresh("o"))
             names.append(ident(found[-1]))
             left += [] if direct else [Rel("==", ("var", found[-1]), a)]
-        return [("for", "(%s,)" % ", ".join(names), call)], left, found
+        return [("for", "(%s,)" % ", ".join(names), call, self.cost(p, tuple(mask)))], left, found
 
     def ok(self, p, mask, at):
         """Whether a sentence can be met with these arguments known, finding the others; a call of itself must come down in one that is known."""
@@ -269,9 +281,10 @@ class Modes(Lists):
             if t == "nat":
                 low, high, met = self.bounds(v, st.goals, st.bound)
                 if high:
+                    cost = 0 if met or not any(isinstance(g, Call) and v in free(g) for g in st.goals) else 1
                     left = [g for g in st.goals if g not in met]
                     once = v not in st.needed and v not in frees(left)     # where nothing else asks for it, the lowest will do
-                    return st.search(v, "range(%s, %s + 1)%s" % (low, high, "[:1]" if once else ""), met)
+                    return st.search(v, "range(%s, %s + 1)%s" % (low, high, "[:1]" if once else ""), met, cost)
         return False
 
     def least(self, st):

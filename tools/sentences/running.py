@@ -41,7 +41,7 @@ class Runner(Modes):
             elif kind == "flounder":
                 lines.append("%sraise Floundered(%r)" % (pad, rest[0]))
             else:
-                lines.append("%sfor %s in %s:" % (pad, *rest))
+                lines.append("%sfor %s in %s:" % (pad, *rest[:2]))
                 depth, out = depth + 1, "continue"
         return lines, depth
 
@@ -77,7 +77,7 @@ class Runner(Modes):
 
     def ranges(self, name, args, v, steps):
         """A search whose only word on a number v is that it is at least something and below something: the ranges are found once, and then looked up."""
-        on_v = [s for s in steps if re.search(r"\b%s\b" % v, " ".join(s[1:]))]
+        on_v = [s for s in steps if re.search(r"\b%s\b" % v, " ".join(s[1:3]))]
         low = [s for s in on_v if s[0] == "guard" and s[1].endswith(" <= " + v) and v not in s[1][:-len(v)]]
         high = [s for s in on_v if s[0] == "guard" and s[1].startswith(v + " < ") and v not in s[1][len(v):]]
         if len(on_v) != 2 or len(low) != 1 or len(high) != 1 or not any(s[0] == "for" for s in steps):
