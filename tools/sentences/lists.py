@@ -134,9 +134,8 @@ class Lists(Arithmetic):
     # ---- element by element
     def by_elements(self, st):
         """A list of known length, each element from all that is said of it together."""
-        for v in [v for v in st.unknown() if self.type_of.get(v) == "list" and ("elements", v) not in st.seen]:
+        for v in [v for v in st.unknown() if self.type_of.get(v) == "list"]:
             n = self.length_of(v, st)
-            st.seen.add(("elements", v))
             if not n:
                 continue
             length, i, u, goals = self.var("n", "nat"), self.var("i", "nat"), self.var("u", "list"), []
@@ -148,9 +147,9 @@ class Lists(Arithmetic):
                 if u[1] in frees(said) and all(x in st.bound or x in (i[1], u[1], length[1]) for x in frees(said)):
                     goals += self.negate([], said)[1]
             given = [x for x in frees(goals) if x in st.bound]
-            self.testing = True
+            testing, self.testing = self.testing, True
             name = goals and self.helper("element", given + [length[1], i[1]], [u[1]], goals)
-            self.testing = False
+            self.testing = testing
             if name:
                 st.steps += [("let", ident(length[1]), n), ("guard", ident(length[1]) + " >= 0")]
                 known = "".join(ident(x) + ", " for x in given + [length[1]])
@@ -314,9 +313,10 @@ class Lists(Arithmetic):
                 return
 
     def gather(self, f, known, which, cells, digits, below, why):
-        """Puts what a fact says into the cells; False where it contradicts what is there."""
-        test = f.test and eval(f.test[1], self.names)
+        """Puts what a fact says into the cells; False where it contradicts what is there, or leaves an element of its own no value."""
+        test, some = f.test and eval(f.test[1], self.names), False
         for found in self.names[f.name](*known):
+            some = True
             if f.test is None:
                 for w, i, u in zip(which, found, found[f.places:]):
                     if cells[w][i] is not None and cells[w][i] != u:
@@ -332,7 +332,8 @@ class Lists(Arithmetic):
             if v >= base or digits[w].setdefault(i, {}).setdefault((power, base), v) != v:
                 return False
             why.setdefault((w, i), []).append((f, found, power))
-        return True
+        own = folded(f.place) if isinstance(f.goal, Rel) and f.place else None
+        return some or own is None or own >= len(cells[which[0]])
 
     def number(self, digits, below, gap):
         """The number that has these digits, and whether some digit of it is left open; None where it is none."""

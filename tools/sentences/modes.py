@@ -200,7 +200,7 @@ class Modes(Lists):
                 continue
             out = []
             for goals in ways:
-                r = self.planned(st.forked(rest + goals, g.pred)) or self.tested(st.forked(rest + goals, g.pred))
+                r = self.planned(st.forked(rest + goals, g.pred)) or (None if isinstance(g, Call) else self.tested(st.forked(rest + goals, g.pred)))
                 if r is None:
                     break
                 out += r
