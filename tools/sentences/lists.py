@@ -199,7 +199,7 @@ class Lists(Arithmetic):
             st.seen.add(("built", v))
             st.steps += [("let", ident(counts[v][1]), lengths[v]), ("guard", ident(counts[v][1]) + " >= 0")]
             st.bound.add(counts[v][1])
-        given = list(dict.fromkeys(v for f in facts for v in f.given))
+        given = list(dict.fromkeys(v for f in facts for v in list(f.given) + list(f.said[1])))
         self.builds.append((lists, facts, unread))
         self.outside(st, facts, counts)
         st.steps.append(("for", "(%s,)" % ", ".join(map(ident, lists)), "build(%d, dict(%s), [%s])" % (
@@ -262,7 +262,8 @@ class Lists(Arithmetic):
             found += [v for v in vs if v not in found]
             name = self.helper("fact", given, found, where + goals)
             if name:
-                return self.made(g, name, given, len(places), which, None, vs, found, place)
+                said = [v for v in frees(where) if v in known]
+                return self.made(g, name, given, len(places), which, None, vs, found, place, (self.helper("said", said, places, where), said))
         test = self.test_of(rel, ("var", us[0])) if rel is not None and len(cells) == 1 else None
         if test is None:
             return None
@@ -271,8 +272,9 @@ class Lists(Arithmetic):
         test = test[0], "lambda %s: %s" % (", ".join(map(ident, given + found)), test[1])
         return name and self.made(g, name, given, len(places), which, test, vs, found, place)
 
-    def made(self, g, name, given, places, which, test, vs, found, place):
+    def made(self, g, name, given, places, which, test, vs, found, place, said=(None, ())):
         f = Fact(g, name, given, places, which, test, vs, found)
+        f.said = said
         f.place = place if test is None or test[0] != "below" else None
         return f
 
@@ -305,6 +307,9 @@ class Lists(Arithmetic):
                     elif cells[w][i] is None or (w, i) not in why:
                         cells[w][i], left_open = gap, True
             if left_open and unread:
+                for f in facts:
+                    if self.impossible(f, env, {x[:f.places] for each in why.values() for h, x, _ in each if h is f}):
+                        return
                 raise Open("of an element too little is understood")
             made = tuple(Seq(tuple(c)) for c in cells)
             self.why[made] = lists, why
@@ -313,10 +318,9 @@ class Lists(Arithmetic):
                 return
 
     def gather(self, f, known, which, cells, digits, below, why):
-        """Puts what a fact says into the cells; False where it contradicts what is there, or leaves an element of its own no value."""
-        test, some = f.test and eval(f.test[1], self.names), False
+        """Puts what a fact says into the cells; False where it contradicts what is there."""
+        test = f.test and eval(f.test[1], self.names)
         for found in self.names[f.name](*known):
-            some = True
             if f.test is None:
                 for w, i, u in zip(which, found, found[f.places:]):
                     if cells[w][i] is not None and cells[w][i] != u:
@@ -332,8 +336,12 @@ class Lists(Arithmetic):
             if v >= base or digits[w].setdefault(i, {}).setdefault((power, base), v) != v:
                 return False
             why.setdefault((w, i), []).append((f, found, power))
-        own = folded(f.place) if isinstance(f.goal, Rel) and f.place else None
-        return some or own is None or own >= len(cells[which[0]])
+        return True
+
+    def impossible(self, f, env, found):
+        """Whether a fact speaks of a place for which it finds no value."""
+        name, given = f.said
+        return name and any(place not in found for place in set(self.names[name](*[env[ident(v)] for v in given])))
 
     def number(self, digits, below, gap):
         """The number that has these digits, and whether some digit of it is left open; None where it is none."""

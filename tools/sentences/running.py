@@ -48,7 +48,7 @@ class Runner(Modes):
     def compile(self, p, mask):
         """Code for a sentence in a mode, and for all that it asks."""
         by_name = {self.function(q, m): (q, m) for q, m in self.modes}
-        work = [(p, mask)] + [by_name[f.name] for _, facts, _ in self.builds for f in facts if f.name in by_name]
+        work = [(p, mask)] + [by_name[n] for _, facts, _ in self.builds for f in facts for n in (f.name, f.said[0]) if n in by_name]
         while work:
             k = work.pop()
             if k in self.compiled:
