@@ -4,6 +4,8 @@
 Other scripts read it, nobody runs it."""
 from random import Random
 
+import manners
+
 TOP, NONE = 4_294_967_295, 18_446_744_073_709_551_615
 
 
@@ -237,4 +239,4 @@ def inputs(call, seed, count):
 
 
 if __name__ == "__main__":
-    raise SystemExit("oracle/sentences_inputs.py: other scripts read it, nobody runs it")
+    manners.part(__doc__)

@@ -115,4 +115,4 @@ class Library:
 
 
 if __name__ == "__main__":
-    raise SystemExit("oracle/sentences_library.py: other scripts read it, nobody runs it")
+    manners.part(__doc__)

@@ -1,0 +1,114 @@
+#!/usr/bin/env python3
+"""The sentences, run as they stand (tools/sentences), beside the library itself: drawn inputs of every call that can be run, all examples, and the recorded answers.
+
+    oracle/sentences.py [--inputs N] [--seed S] [--call NAME] [--archive ARCHIVE] [--recorded N] [--try]
+
+Each call's outcome, its answer and all that is lent, has to be the only one that meets the call's sentences. --inputs says how many are drawn for each call
+(200; of calls with long lists a tenth), --recorded how many recorded layouts of at most 400 bytes are asked (150). ARCHIVE is the proved archive
+(target/staticlib/libdenkumari.a; bindings/build.sh makes it). Status 1 says that something differs. --try reads the words and does nothing else."""
+import sys
+import time
+from collections import Counter
+from pathlib import Path
+
+sys.dont_write_bytecode = True
+ROOT = Path(__file__).resolve().parent.parent
+sys.path.insert(0, str(ROOT / "tools"))
+
+import manners  # noqa: E402
+import sentences_inputs  # noqa: E402
+import sentences_library  # noqa: E402
+import sentences_rust  # noqa: E402
+from sentences.calls import CALLS, Call  # noqa: E402
+from sentences.running import deep  # noqa: E402
+from sentences.values import Floundered, Open, Rec  # noqa: E402
+
+NOT_RUN = ("dk_record_fault",)          # "some good file begins so": no search finds that file (docs/RUNNING-SENTENCES.md)
+LONG = ("dk_map", "dk_offer")
+
+
+def told(name, parts):
+    """The sentences' outcome as the library tells its own."""
+    answer, fields = parts[0], sentences_library.STRUCTS[sentences_library.CALLS[name][0]]
+    out = {}
+    for of, word, many in fields:
+        found = answer[word]
+        out[word] = [[x.d[w] for _, w, _ in sentences_library.STRUCTS[of]] if isinstance(x, Rec) else x for x in found] if many else found
+    return [out] + parts[1:]
+
+
+class Test:
+    def __init__(self, library):
+        self.library, self.wrong, self.asked = library, 0, 0
+
+    def ask(self, call, inputs, what):
+        """One input of a call: the library's outcome is the only one that meets the sentences."""
+        want = self.library.ask(call.name, inputs)
+        try:
+            got = [told(call.name, call.parts(y)) for y in call.outcomes(inputs)]
+        except (Floundered, Open) as error:
+            got = [str(error)]
+        self.asked += 1
+        if got != [want]:
+            self.wrong += 1
+            print("differs: %s, %s\n  the library: %s\n  the sentences, %d outcomes: %s" % (call.name, what, str(want)[:300], len(got), str(got)[:300]))
+        return next(iter(want[0].values()))
+
+    def drawn(self, name, seed, count):
+        began, call, seen = time.time(), Call(name, ROOT / "crates"), Counter()
+        for i, inputs in enumerate(sentences_inputs.inputs(name, seed, count)):
+            seen[self.ask(call, inputs, "seed %s, input %d" % (seed, i))] += 1
+        print("%-17s %5d inputs, %5d accepted, %2d different answers, %.1f s" % (name, count, seen[0], len(seen), time.time() - began), flush=True)
+
+    def examples(self):
+        call, files = Call("dk_form", ROOT / "crates"), sorted((ROOT / "examples").glob("*.form"))
+        for file in files:
+            for fill in (0, 1):
+                lists = dict(image=[0] * 6000, addresses=[7] * 500, offsets=[9] * 500, sizes=[11] * 500)
+                self.ask(call, dict(lists, file=list(file.read_bytes()), fill=fill), "%s, fill %d" % (file.name, fill))
+        print("%d examples, both fills" % len(files), flush=True)
+
+    def recorded(self, most):
+        side, count = sentences_rust.Side(), 0
+        for row in (ROOT / "oracle" / "replay" / "cases.tsv").read_text().splitlines():
+            file, _, _, line = row.split("\t")
+            if count < most and len(file) <= 800 and line.startswith(("ok ", "refused ")):
+                count += 1
+                got = side.line(bytes.fromhex(file))
+                if got != line:
+                    self.wrong += 1
+                    print("differs from the record: %s\n  recorded: %s\n  the sentences: %s" % (file[:200], line, got))
+        print("%d recorded layouts" % count, flush=True)
+
+
+def run(asked):
+    with manners.room() as folder:
+        test = Test(sentences_library.Library(asked.archive, folder))
+        for name in [asked.call] if asked.call else [n for n in CALLS if n not in NOT_RUN]:
+            test.drawn(name, asked.seed, max(1, asked.inputs // 10) if name in LONG else asked.inputs)
+        if not asked.call:
+            test.examples()
+            test.recorded(asked.recorded)
+        test.library.close()
+    print("%d outcomes of %d calls: %d differ" % (test.asked, 1 if asked.call else len(CALLS) - len(NOT_RUN), test.wrong))
+    return test.wrong
+
+
+def main():
+    p = manners.parser(__doc__)
+    p.add_argument("--inputs", type=manners.some, default=200, metavar="N")
+    p.add_argument("--seed", default="1", metavar="S")
+    p.add_argument("--call", choices=[n for n in CALLS if n not in NOT_RUN], metavar="NAME")
+    p.add_argument("--archive", default=str(ROOT / "target" / "staticlib" / "libdenkumari.a"), metavar="ARCHIVE")
+    p.add_argument("--recorded", type=manners.count, default=150, metavar="N")
+    p.add_argument("--try", action="store_true", dest="only")
+    asked = p.parse_args()
+    if asked.only:
+        return
+    if not Path(asked.archive).is_file():
+        raise manners.Stop("%s is not there: bindings/build.sh makes the archive" % asked.archive)
+    sys.exit(1 if deep(lambda: run(asked)) else 0)
+
+
+if __name__ == "__main__":
+    manners.run(main)
