@@ -1,5 +1,5 @@
 #!/usr/bin/env python3
-"""The sentences, run as they stand (tools/sentences), beside the library itself: drawn inputs of every call that can be run, all examples, and the recorded answers.
+"""The sentences, run as they stand (tools/sentences), beside the library itself: drawn inputs of every call that can be run, all examples, recorded answers.
 
     oracle/sentences.py [--inputs N] [--seed S] [--call NAME] [--archive ARCHIVE] [--recorded N] [--try]
 

@@ -1,5 +1,5 @@
 #!/usr/bin/env python3
-"""The library's calls for oracle/sentences.py: a C program made from the prototypes of include/denkumari.h, linked with the proved archive, and asked in batches.
+"""The library's calls for oracle/sentences.py: a C program made from the prototypes of include/denkumari.h, linked with the proved archive.
 
 Other scripts read it, nobody runs it. Where this machine is not x86-64 the program is linked by x86_64-linux-gnu-gcc and runs under qemu-x86_64."""
 import platform

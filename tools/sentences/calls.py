@@ -1,6 +1,7 @@
 """The one table of names: for each call of include/denkumari.h the sentence that is its own, and its inputs by the names that the header has for them.
 
-( .. ) is a record, its fields in the order in which the sentences declare them; { .. } one by these names; #N is case N of an enumeration; a number is itself."""
+( .. ) is a record, its fields in the order in which the sentences declare them; { .. } one by these names; #N is case N of an enumeration; a number is
+itself."""
 import re
 
 from .clauses import indices_of

@@ -300,7 +300,8 @@ class Program:
             return show(e.body)
         if e[0] != "papp":
             return ".."
-        return " ".join([e[1].name] + [x[1].split("~")[0] if isinstance(x, tuple) and x[0] == "var" else "(%s)" % self.called(x) for x in e[2][in_modules(e[1]):]])
+        given = e[2][in_modules(e[1]):]
+        return " ".join([e[1].name] + [x[1].split("~")[0] if isinstance(x, tuple) and x[0] == "var" else "(%s)" % self.called(x) for x in given])
 
     def clauses(self, d, env, names, indices):
         ctx, head = (d.file, d.blocks), [("var", v) for v in names]

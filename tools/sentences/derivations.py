@@ -1,5 +1,5 @@
-"""Why an outcome meets the sentences: which constructor was used, with which numbers, and the words above it; down to comparisons of numbers. A tree, printed as
-text or as a page with parts that fold."""
+"""Why an outcome meets the sentences: which constructor was used, with which numbers, and the words above it; down to comparisons of numbers. A tree, printed
+as text or as a page with parts that fold."""
 import html
 import itertools
 import textwrap
@@ -61,7 +61,8 @@ class Why:
         if isinstance(g, Rel):
             return "%s %s %s" % (self.term(g.a, env), SIGNS.get(g.op, g.op), self.term(g.b, env))
         if isinstance(g, Call):
-            return " ".join([self.label(g.pred)] + [self.term(a, env) for a in g.args[g.pred.captured:] if not isinstance(self.value(a, env), Rec) and a[0] != "rec"])
+            shown = [a for a in g.args[g.pred.captured:] if not isinstance(self.value(a, env), Rec) and a[0] != "rec"]
+            return " ".join([self.label(g.pred)] + [self.term(a, env) for a in shown])
         if isinstance(g, Or):
             return " or ".join("(%s)" % ", ".join(self.goal(x, env) for x in gs) for _, gs in g.alts)
         if isinstance(g, Const):
@@ -100,7 +101,8 @@ class Why:
         c = p.clauses[made[0]]
         env = dict(zip(p.args, args))
         env.update((v, x) for v, x in zip(c.vars, made[1]) if x is not None)
-        head = " ".join([self.label(p)] + ["(%s)" % brief(x) if isinstance(x, tuple) else brief(x) for x in args[p.captured:] if small(x) and not isinstance(x, Rec)])
+        shown = [x for x in args[p.captured:] if small(x) and not isinstance(x, Rec)]
+        head = " ".join([self.label(p)] + ["(%s)" % brief(x) if isinstance(x, tuple) else brief(x) for x in shown])
         given = {(v.split("~")[0], x) for v, x in zip(p.args, args)}
         numbers = [(v.split("~")[0], env[v]) for v in c.vars if v in env and small(env[v]) and not isinstance(env[v], Rec)]
         self.numbers += numbers if depth > 0 else []
@@ -171,9 +173,10 @@ class Why:
             found = list(itertools.islice(self.runner.names[name](*[env[v] for v in given]), 1000))
         except (Floundered, StopIteration):
             return
-        yield "searched %s: %s" % ("1000 cases and more" if len(found) == 1000 else "%d case%s" % (len(found), "" if len(found) == 1 else "s"),
-                                   "; ".join(" ".join("%s = %s%s" % (v.split("~")[0], brief(x), self.named(v.split("~")[0], x)) for v, x in zip(asked, each) if small(x))
-                                             for each in found[:most]) + ("; .." if len(found) > most else "") if found else "none there")
+        names = [v.split("~")[0] for v in asked]
+        cases = [" ".join("%s = %s%s" % (n, brief(x), self.named(n, x)) for n, x in zip(names, each) if small(x)) for each in found[:most]]
+        count = "1000 cases and more" if len(found) == 1000 else "%d case%s" % (len(found), "" if len(found) == 1 else "s")
+        yield "searched %s: %s" % (count, "; ".join(cases) + ("; .." if len(found) > most else "") if found else "none there")
 
     def bit(self, place, which=0):
         """Of a list that was made from what is said of its elements: what made this bit of it, the top bit of each byte first."""

@@ -1,6 +1,6 @@
 """Lists that are not known, found from what is said of them: of each element, of its members and their order, of what it adds up to."""
 from .arithmetic import Arithmetic, ident
-from .terms import NIL, Call, Clause, Neg, Pred, Rel, folded, free, frees, replace, subst, subterms
+from .terms import NIL, Clause, Neg, Pred, Rel, fn, folded, free, frees, replace, subst, subterms
 from .values import Open, Seq
 
 
@@ -58,13 +58,13 @@ class Lists(Arithmetic):
                         continue
                     x, rest, text = self.var(piece[0], "list"), self.var("rest", "list"), self.var("text", "list")
                     given = list(frees([Rel("==", y, NIL) for y in args[:-1]]))
-                    goal = Rel("==", text, ("fn", "++", (subst(piece[1], {piece[0]: x}), rest)))
-                    goal = replace(goal, ("none",), NIL)
+                    goal = Rel("==", text, fn("++", (subst(piece[1], {piece[0]: x}), rest)))
                     p = self.helper("piece", given + [text[1]], [x[1], rest[1]], [goal])
                     if p:
-                        l, r = self.var("l", "list"), self.var("r", "list")
-                        steps = [("for", "(%s, %s)" % (ident(l[1]), ident(r[1])), "pieces(%s, (%s), %s)" % (p, "".join(ident(v) + ", " for v in given), self.py(b)), 0)]
-                        return st.took(g, steps, [Rel("==", args[-1], l), Rel("==", a[2][1], r)], [l[1], r[1]])
+                        front, r = self.var("l", "list"), self.var("r", "list")
+                        known = "".join(ident(v) + ", " for v in given)
+                        steps = [("for", "(%s, %s)" % (ident(front[1]), ident(r[1])), "pieces(%s, (%s), %s)" % (p, known, self.py(b)), 0)]
+                        return st.took(g, steps, [Rel("==", args[-1], front), Rel("==", a[2][1], r)], [front[1], r[1]])
         return False
 
     def piece_of(self, d, args):

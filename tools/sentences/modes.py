@@ -55,7 +55,8 @@ class Modes(Lists):
         return [(st.steps, st.bound)]
 
     def rules(self):
-        return (self.easy, self.call, self.record_apart, self.structured, self.digits, self.multiple, self.dear_call, self.few, self.least, self.ends_of_range, self.endless_count, self.tails,
+        return (self.easy, self.call, self.record_apart, self.structured, self.digits, self.multiple, self.dear_call, self.few, self.least,
+                self.ends_of_range, self.endless_count, self.tails,
                 self.by_length, self.by_pieces, self.by_members, self.build_lists, self.by_elements, self.short_list)
 
     def easy(self, st):
@@ -191,11 +192,12 @@ class Modes(Lists):
                 ways = [goals for _, goals in g.alts]
             elif isinstance(g, Neg) and not g.vars and not self.known(g, st.bound):
                 ways = [self.negate([], [x])[1] for x in g.goals]
-            elif isinstance(g, Call) and len(g.pred.clauses) <= 3 and not any(isinstance(x, Call) and x.pred is g.pred for c in g.pred.clauses for x in c.goals):
+            elif isinstance(g, Call) and len(g.pred.clauses) <= 3 and g.pred not in [x.pred for c in g.pred.clauses for x in c.goals if isinstance(x, Call)]:
                 ways = []
                 for c in g.pred.clauses:
                     c, m = self.renamed(c), dict(zip(g.pred.args, g.args))
-                    ways.append([Rel("==", a, h) for a, h, v in zip(g.args, [subst(h, m) for h in c.head], g.pred.args) if h != a] + [subst(x, m) for x in c.goals])
+                    heads = [subst(h, m) for h in c.head]
+                    ways.append([Rel("==", a, h) for a, h in zip(g.args, heads) if h != a] + [subst(x, m) for x in c.goals])
             else:
                 continue
             out = []
@@ -234,7 +236,8 @@ class Modes(Lists):
         for g in st.goals:
             if isinstance(g, Rel) and g.op == "==" and id(g) not in st.seen:
                 for a, b in ((g.a, g.b), (g.b, g.a)):
-                    if a[0] == "var" and a[1] not in st.bound and (b[0] in ("rec", "pair", "con") or b[0] == "fn" and b[1] in ("∷", "[]")) and a[1] not in free(b):
+                    written = b[0] in ("rec", "pair", "con") or b[0] == "fn" and b[1] in ("∷", "[]")
+                    if written and a[0] == "var" and a[1] not in st.bound and a[1] not in free(b):
                         return st.put(a[1], b, g)
         return False
 
@@ -308,7 +311,8 @@ class Modes(Lists):
             if not self.ok(p, mask, None):
                 continue
             new = {v: self.var(v, "nat") for v in out}
-            st.steps.append(("let", "(%s,)" % ", ".join(ident(new[v][1]) for v in out), "first(%s(%s))" % (self.function(p, mask), ", ".join(map(ident, given)))))
+            found = "(%s,)" % ", ".join(ident(new[v][1]) for v in out)
+            st.steps.append(("let", found, "first(%s(%s))" % (self.function(p, mask), ", ".join(map(ident, given)))))
             st.bound |= {new[v][1] for v in out}
             st.goals.append(subst(conclusion[0], new))
             return True

@@ -1,5 +1,5 @@
-"""The plans become Python, and the Python is run. Every sentence that is met is kept in a table, with the constructor and its numbers: all outcomes are found, so
-that each run also tests that there is exactly one."""
+"""The plans become Python, and the Python is run. Every sentence that is met is kept in a table, with the constructor and its numbers: all outcomes are found,
+so that each run also tests that there is exactly one."""
 import itertools
 import re
 import sys
@@ -8,7 +8,7 @@ import threading
 from . import values
 from .arithmetic import ident
 from .modes import Modes
-from .terms import Call, Pred
+from .terms import Call
 from .values import Floundered
 
 

@@ -1,7 +1,7 @@
 """Terms and goals: what a sentence becomes before it is run.
 
-A term is a tuple: var num lit fn con rec pair proj ufn (a definition by cases), and before it is a goal: rel sig pi sum bot top call abbr; papp, bif, ty and Clo
-(a λ) wait for arguments. A goal is a comparison, a call of another sentence, a choice, a search that must find nothing, or a truth."""
+A term is a tuple: var num lit fn con rec pair proj ufn (a definition by cases), and before it is a goal: rel sig pi sum bot top call abbr; papp, bif, ty and
+Clo (a λ) wait for arguments. A goal is a comparison, a call of another sentence, a choice, a search that must find nothing, or a truth."""
 LEAVES = ("num", "lit", "ty", "bot", "top")
 NIL = ("fn", "[]", ())
 

@@ -93,33 +93,33 @@ def brief(v):
 
 
 # ---- what the code calls: each as the kit's library has it on natural numbers and lists
-def getD(l, i, default):
-    return l.t[l.at + i] if i < l.n else default
+def getD(xs, i, default):
+    return xs.t[xs.at + i] if i < xs.n else default
 
 
-def element(l, i):
-    """The x with getD l i x = x, where there is one."""
-    if i >= l.n:
+def element(xs, i):
+    """The x with getD xs i x = x, where there is one."""
+    if i >= xs.n:
         raise Floundered("any element past the end of a list")
-    return l.t[l.at + i]
+    return xs.t[xs.at + i]
 
 
-def tail(l):
-    return Seq(l.t, l.at + 1, l.hashes)
+def tail(xs):
+    return Seq(xs.t, xs.at + 1, xs.hashes)
 
 
-def cut(l, n):
+def cut(xs, n):
     """The first n elements, and those behind them."""
-    return Seq(l.t[l.at:l.at + n]), Seq(l.t, l.at + min(n, l.n), l.hashes)
+    return Seq(xs.t[xs.at:xs.at + n]), Seq(xs.t, xs.at + min(n, xs.n), xs.hashes)
 
 
 def append(a, b):
     return Seq(a.items() + b.items())
 
 
-def put(l, i, x):
-    t = l.items()
-    return Seq(t[:i] + (x,) + t[i + 1:]) if i < l.n else l
+def put(xs, i, x):
+    t = xs.items()
+    return Seq(t[:i] + (x,) + t[i + 1:]) if i < xs.n else xs
 
 
 def monus(a, b):
