@@ -4,7 +4,8 @@
     oracle/sentences_changes.py CALL FILE [--inputs N] [--seed S] [--most N] [--try]
 
 CALL is a call of include/denkumari.h, FILE the name of a file of sentences (Part.antt). Prints a row for each change: what it was, and whether an outcome of
-the pool changed, the sentences then left none or several, or could not be run. Rows that say `same` are to be read. Nothing is written. --try reads the words only."""
+the pool changed, or the sentences then left none or several, or could not be run. Rows that say `same` are to be read. Nothing is written. --try reads the
+words only."""
 import re
 import sys
 from pathlib import Path

@@ -7,6 +7,7 @@ from random import Random
 import manners
 
 TOP, NONE = 4_294_967_295, 18_446_744_073_709_551_615
+BANK = ("units", "starts", "bank_sizes", "bank_offsets", "aligns", "flags", "fill_bits")
 
 
 def bank(rng, at, plain):
@@ -75,8 +76,9 @@ def big(n, width):
 def encoded(t, form):
     """A layout file of tables."""
     out = field(16, [2]) if form == 2 else []
-    for unit, start, size, offset, align, flags, fill in zip(*(t[n] for n in ("units", "starts", "bank_sizes", "bank_offsets", "aligns", "flags", "fill_bits"))):
-        out += field(17 if form == 2 else 1, big(unit, 2) + big(start, 8) + big(size, 4) + big(offset, 4) + big(align, 4) + [flags] + ([fill] if form == 2 else []))
+    for unit, start, size, offset, align, flags, fill in zip(*(t[n] for n in BANK)):
+        record_ = big(unit, 2) + big(start, 8) + big(size, 4) + big(offset, 4) + big(align, 4) + [flags]
+        out += field(17, record_ + [fill]) if form == 2 else field(1, record_)
     for kind, operand in zip(t["kinds"], t["operands"]):
         out += field(2, [kind] + big(operand, 4))
     n = len(t["kinds"])
@@ -120,6 +122,10 @@ def record(kind, address, data):
     return kind + bytes(body + [255 - sum(body) % 256]).hex().upper()
 
 
+AMISS = ["", ":", "S", ":00000001", "S9030000", "S101FE", "S5", record(4, 0, [0, 1]), record(4, 1, [0, 0]), record(2, 0, [0, 0]), record(1, 0, [])]
+AMISS += [record("S5", 3, []), record("S9", 0, []), record("S1", 20, [1]), record(0, 20, [1]), record("S3", 20, [1, 2])]
+
+
 def text(rng):
     """(format, load, text): a file of records, most with one thing amiss."""
     kind = rng.choice((0, 0, 1, 1, 1))
@@ -137,8 +143,7 @@ def text(rng):
         at = max(0, at + len(data) + rng.choice((0, 0, 0, 1, 2, -2, -4)))
     lines.append(record(1, 0, []) if kind == 0 else record("S9" if narrow else "S7", rng.choice((0, 0, 5)), []))
     if rng.random() < 0.25:
-        lines.insert(rng.randrange(len(lines) + 1), rng.choice(("", ":", "S", record(4, 0, [0, 1]), record(4, 1, [0, 0]), record(2, 0, [0, 0]), record(1, 0, []),
-            record("S5", 3, []), record("S9", 0, []), record("S1", 20, [1]), record(0, 20, [1]), ":00000001", "S9030000", record("S3", 20, [1, 2]), "S101FE", "S5")))
+        lines.insert(rng.randrange(len(lines) + 1), rng.choice(AMISS))
     elif rng.random() < 0.1:
         del lines[rng.randrange(len(lines))]
     ends = rng.choice(("\n", "\n", "\r\n", "\n"))
@@ -148,7 +153,8 @@ def text(rng):
     if out and rng.random() < 0.35:
         at = rng.randrange(len(out))
         out[at:at + rng.choice((0, 1, 1))] = rng.choice(([], [48], [65], [10], [13], [71], [rng.randrange(256)], [58], [102]))
-    return dict(format=kind if rng.random() < 0.97 else rng.choice((1 - kind, 2, 200)), load=load, text=out, scratch=[rng.choice((0, 0, 7))] * rng.choice((0, 0, 3)))
+    scratch = [rng.choice((0, 0, 7))] * rng.choice((0, 0, 3))
+    return dict(format=kind if rng.random() < 0.97 else rng.choice((1 - kind, 2, 200)), load=load, text=out, scratch=scratch)
 
 
 def blocks(rng, most, edges=True):
@@ -184,15 +190,17 @@ def store(rng):
     fill = [8 * i for i in range(512)] if full else None
     if rng.random() < 0.01:
         count, mark_count = rng.choice(((513, 0), (0, 513), (NONE, 0)))
-    return dict(positions=fill or (positions + some(rng, 512 - len(positions), 50)), sizes=[4] * 512 if full else sizes + some(rng, 512 - len(sizes), 50), count=count,
-                marks=marks + some(rng, 512 - len(marks), 50), mark_count=mark_count,
-                position=rng.choice((rng.randrange(max(1, at + 3)), at, 0, 8_589_934_590 + rng.randrange(3))), size=rng.choice((0, 0, 1, 2, 4, 9, TOP, TOP + 1)))
+    positions, sizes = fill or positions + some(rng, 512 - len(positions), 50), [4] * 512 if full else sizes + some(rng, 512 - len(sizes), 50)
+    position = rng.choice((rng.randrange(max(1, at + 3)), at, 0, 8_589_934_590 + rng.randrange(3)))
+    return dict(positions=positions, sizes=sizes, count=count, marks=marks + some(rng, 512 - len(marks), 50), mark_count=mark_count,
+                position=position, size=rng.choice((0, 0, 1, 2, 4, 9, TOP, TOP + 1)))
 
 
 def writing(rng):
     image = some(rng, rng.choice((4, 8, 20, 40)))
     offsets, sizes = blocks(rng, 8 * len(image))
-    return dict(image=image, offsets=offsets, sizes=sizes, load=rng.choice((0, 0, 0xFFF8, 0xFFFF, 0x1FFFD, TOP - 3, TOP, rng.randrange(TOP))), text=some(rng, rng.choice((0, 12, 300, 300, 300))))
+    load = rng.choice((0, 0, 0xFFF8, 0xFFFF, 0x1FFFD, TOP - 3, TOP, rng.randrange(TOP)))
+    return dict(image=image, offsets=offsets, sizes=sizes, load=load, text=some(rng, rng.choice((0, 12, 300, 300, 300))))
 
 
 def overlay(rng):
@@ -204,10 +212,26 @@ def overlay(rng):
 def spans(rng):
     n = rng.choice((0, 1, 2, 3, 5, 8))
     many = rng.random() < 0.003
-    offsets = [rng.choice((NONE, rng.randrange(24), rng.randrange(24), 8 * rng.randrange(4))) if rng.random() < 0.99 else 8_589_934_590 + rng.randrange(3) for _ in range(n)]
+    near = [rng.choice((NONE, rng.randrange(24), rng.randrange(24), 8 * rng.randrange(4))) for _ in range(n)]
+    offsets = [x if rng.random() < 0.99 else 8_589_934_590 + rng.randrange(3) for x in near]
     sizes = [rng.choice((0, 0, 4, 8, 8, 3)) if rng.random() < 0.99 else TOP + rng.randrange(2) for _ in range(n + (rng.random() < 0.02))]
     m = rng.choice((0, 1, 2, 9, 9, 9))
-    return dict(offsets=[0] * 4097 if many else offsets, sizes=[0] * 4097 if many else sizes, block_offsets=some(rng, m), block_sizes=some(rng, m + (rng.random() < 0.1)))
+    return dict(offsets=[0] * 4097 if many else offsets, sizes=[0] * 4097 if many else sizes, block_offsets=some(rng, m),
+                block_sizes=some(rng, m + (rng.random() < 0.1)))
+
+
+def digits(rng):
+    n = rng.randrange(8)
+    return dict(bytes=some(rng, n), bits=rng.choice((8 * n, 8 * n + 1, rng.randrange(8 * n + 1), NONE)), hex=some(rng, rng.choice((0, 2 * n, 2 * n, 20))))
+
+
+def part(rng):
+    return dict(image=some(rng, rng.randrange(9)), offset=rng.choice((0, 8, 16, 24, 48, 3, rng.randrange(80), NONE)),
+                size=rng.choice((0, 8, 16, 24, 5, rng.randrange(80), NONE)))
+
+
+def reading(rng):
+    return dict(text(rng), bytes=some(rng, rng.choice((0, 4, 40, 40))), offsets=some(rng, rng.choice((0, 1, 5, 5))), sizes=some(rng, rng.choice((1, 5, 5))))
 
 
 MAKE = {
@@ -220,14 +244,14 @@ MAKE = {
     "dk_to_form2": lambda r: dict(file=file(r), out=some(r, r.choice((0, 100, 400, 400, 400)))),
     "dk_to_form1": lambda r: dict(file=file(r), out=some(r, r.choice((0, 100, 400, 400, 400)))),
     "dk_blocks": spans,
-    "dk_hex": lambda r: (lambda n: dict(bytes=some(r, n), bits=r.choice((8 * n, 8 * n + 1, r.randrange(8 * n + 1), NONE)), hex=some(r, r.choice((0, 2 * n, 2 * n, 20)))))(r.randrange(8)),
-    "dk_part": lambda r: dict(image=some(r, r.randrange(9)), offset=r.choice((0, 8, 16, 24, 3, r.randrange(80), NONE)), size=r.choice((0, 8, 16, 24, 5, r.randrange(80), NONE))),
+    "dk_hex": digits,
+    "dk_part": part,
     "dk_offer": store,
     "dk_overlay_range": lambda r: dict(overlay(r), first=r.choice((0, 1, 2, 5, NONE)), count=r.choice((0, 1, 2, 3, 4, NONE))),
     "dk_overlay_runs": lambda r: (lambda n: dict(overlay(r), firsts=some(r, n), counts=some(r, n + (r.random() < 0.1))))(r.choice((0, 1, 4, 4))),
     "dk_write_hex": writing,
     "dk_write_srec": lambda r: dict(writing(r), width=r.choice((2, 4, 4, 2, 3, 0))),
-    "dk_read_records": lambda r: dict(text(r), bytes=some(r, r.choice((0, 4, 40, 40))), offsets=some(r, r.choice((0, 1, 5, 5))), sizes=some(r, r.choice((1, 5, 5)))),
+    "dk_read_records": reading,
     "dk_record_reason": text,
     "dk_record_fault": text,
 }
