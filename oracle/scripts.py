@@ -110,7 +110,9 @@ def calls(text, chosen, file=""):
 def scripts():
     for folder in FOLDERS:
         for path in sorted((ROOT / folder).rglob("*")):
-            if path.is_file() and "rust" not in path.parts and "__pycache__" not in path.parts:
+            # a module of a package cannot be started
+            is_module = (path.parent / "__init__.py").exists()
+            if path.is_file() and not is_module and "rust" not in path.parts and "__pycache__" not in path.parts:
                 head = path.read_bytes()[:40].split(b"\n")[0]
                 if path.suffix in (".sh", ".py") or head in (b"#!/bin/sh", b"#!/usr/bin/env python3"):
                     yield path
