@@ -3,9 +3,9 @@
 
     oracle/sentence_edits.py [--inputs N]
 
-An edit of must-fail/ is refused by the check of its own crate, and crates/says has no theorem: there the sentences stand alone. So what a wrong sentence would say
-is seen by running it (tools/sentences) on inputs from a seed, N of them at most, until its outcomes differ from those of the sentence as it stands: another
-outcome, none, or more than one. Ends with 1 where a change is not seen, or where its text does not stand in its file once."""
+An edit of must-fail/ is refused by the check of its own crate, and crates/says has no theorem: there the sentences stand alone. So what a wrong sentence would
+say is seen by running it (tools/sentences) on inputs from a seed, N of them at most, until its outcomes differ from those of the sentence as it stands:
+another outcome, none, or more than one. Ends with 1 where a change is not seen, or where its text does not stand in its file once."""
 import sys
 
 import manners
@@ -22,7 +22,8 @@ EDITS = [
      "((getD offsets i 0 ≡ getD offsets j 0) × (i < j))", "((getD offsets i 0 ≡ getD offsets j 0) × (j < i))"),
     ("found blocks are told with a refusal's number", "dk_blocks", "Blocks", "record { refusal = 0; place = 0; count = length b }",
      "record { refusal = 1; place = 0; count = length b }"),
-    ("two sized banks that share one bit are apart", "dk_build", "Banks", "Size′ n → p < o + m → o < p + n → Meet", "Size′ n → p + 1 < o + m → o < p + n → Meet"),
+    ("two sized banks that share one bit are apart", "dk_build", "Banks",
+     "Size′ n → p < o + m → o < p + n → Meet", "Size′ n → p + 1 < o + m → o < p + n → Meet"),
     ("hex in upper case", "dk_hex", "Hex", "char ≡ 97 + i", "char ≡ 65 + i"),
     ("a part told one byte on", "dk_part", "Part", "located : {first count : ℕ} → offset ≡ 8 * first", "located : {first count : ℕ} → offset + 8 ≡ 8 * first"),
     ("a reserve may end past its bank's size", "dk_build", "Build", "Placed i = (i < nodes) × ((kind i ≡ 2) ⊎ ((4 ≤ kind i) × (kind i ≤ 7)))",
@@ -30,14 +31,17 @@ EDITS = [
     ("sixteen banks are refused", "dk_build", "Build", "too-many : 16 < banks", "too-many : 15 < banks"),
     ("the states of reserves, aligns, addrs and asserts are not read", "dk_build", "Build", "by-state : {i r : ℕ} → i < nodes → 3 ≤ kind i",
      "by-state : {i r : ℕ} → i < nodes → kind i ≤ 6"),
-    ("a skip's whole units are rounded up", "dk_build", "Build", "(at .lost .units + d / unit b)", "(at .lost .units + (d + unit b - 1) / unit b)"),
+    ("a skip's whole units are rounded up", "dk_build", "Build",
+     "(at .lost .units + d / unit b)", "(at .lost .units + (d + unit b - 1) / unit b)"),
     ("on the way back a bank loses its flags with its fill bit", "dk_to_form1", "Convert", "EachBank (take 23) h d", "EachBank (take 22) h d"),
-    ("bank 0 of a converted one-bank file keeps the first byte of its size", "dk_to_form2", "Convert", "(take 10 (getD (h .banks) 0 []) ++ replicate 14 0)",
-     "(take 11 (getD (h .banks) 0 []) ++ replicate 13 0)"),
+    ("bank 0 of a converted one-bank file keeps the first byte of its size", "dk_to_form2", "Convert",
+     "(take 10 (getD (h .banks) 0 []) ++ replicate 14 0)", "(take 11 (getD (h .banks) 0 []) ++ replicate 13 0)"),
     ("a form 2 file may use bank 0 where it is alone", "dk_form", "Form", "closes form-2 = 1", "closes form-2 = 0"),
-    ("a broken file is told with place 0, whichever its field", "dk_form_paged", "FormPaged", "Is (brokenAt file fill old i) y", "Is (brokenAt file fill old 0) y"),
+    ("a broken file is told with place 0, whichever its field", "dk_form_paged", "FormPaged",
+     "Is (brokenAt file fill old i) y", "Is (brokenAt file fill old 0) y"),
     ("5 shows the node at fault too, which sees no position", "dk_map", "Map", "before : UpTo i 5 i", "before : UpTo i 5 (suc i)"),
-    ("the node at fault of 9 to 13 is not told", "dk_map", "Map", "Shows n r (suc i) number place second i y", "Shows n r (suc i) number place second noNode y"),
+    ("the node at fault of 9 to 13 is not told", "dk_map", "Map",
+     "Shows n r (suc i) number place second i y", "Shows n r (suc i) number place second noNode y"),
     ("a list that has room for just the runs is too short", "dk_overlay_runs", "Overlay", "TooShort fs ns = (length firsts₀ < length fs)",
      "TooShort fs ns = (length firsts₀ ≤ length fs)"),
     ("a byte counts as covered when seven of its bits are", "dk_overlay_range", "Overlay", "CoveredByte b = (k : ℕ) → 8 * b ≤ k → k < 8 * b + 8",

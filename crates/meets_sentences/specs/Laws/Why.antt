@@ -47,9 +47,6 @@ module _ (g : Given) where
   pub refuses-11 : {r i : ℕ} → Eleven g r i → Why g r i 11 i 0
   refuses-11 t = b.no-output (t .0) (t .1) (t .2 .1) (t .2 .2)
 
-  pub refuses-12 : {r i : ℕ} (w : ℕ × ℕ) → Twelve g r i w → Why g r i 12 (w .0) (w .1)
-  refuses-12 w t = b.overlaps (t .2) (t .3)
-
   pub refuses-13 : {r i : ℕ} → Thirteen g r i → Why g r i 13 i 0
   refuses-13 t = b.full (t .4) (t .5) (t .6)
 
