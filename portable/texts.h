@@ -2,9 +2,9 @@
  * speak of; not to be edited. What follows this comment has the sum `text`, and what it was printed from has the sum
  * `sources` (sha256; tools/portable.sh says of what).
  *
- * sources: e452515799c10b1f8fd66ebebf29eecacd3129699b6ad60a4fa5fdcf64187c7d
+ * sources: 597ae8250e0bd712b6f82c6a7c518f335d66d3b6ab5b9d7aeaf1b30b753f5ee1
  * text: 8299c523dc51a60ba62af61ced096498d59144d729fd8cc6ce478a80aa7c7438
- * kit: rattle-kit-5b-plain logic 097e4c862dff5811
+ * kit: rattle-kit-5b logic 064da1ca440f63e7
  */
 #ifndef DENKUMARI_TEXTS_H
 #define DENKUMARI_TEXTS_H
