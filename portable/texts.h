@@ -4,7 +4,7 @@
  *
  * sources: 597ae8250e0bd712b6f82c6a7c518f335d66d3b6ab5b9d7aeaf1b30b753f5ee1
  * text: 8299c523dc51a60ba62af61ced096498d59144d729fd8cc6ce478a80aa7c7438
- * kit: rattle-kit-5b logic 064da1ca440f63e7
+ * kit: rattle-kit-5b-plain logic 097e4c862dff5811
  */
 #ifndef DENKUMARI_TEXTS_H
 #define DENKUMARI_TEXTS_H
