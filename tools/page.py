@@ -492,10 +492,9 @@ def documents():
                     continue  # a placeholder: crates/NAME/must-fail/LABEL.edit
                 if not glob.glob(os.path.join(ROOT, path)) and not glob.glob(os.path.join(ROOT, path + '.antt')):
                     fault(f'{here}:{n}: there is no {path}')
-            if here != 'docs/CHANGES.md':
-                for crate, kind, rest in CITED.findall(line):
-                    if os.path.isdir(os.path.join(ROOT, 'crates', crate)):
-                        is_there(kind, crate, rest, f'{here}:{n}')
+            for crate, kind, rest in CITED.findall(line):
+                if os.path.isdir(os.path.join(ROOT, 'crates', crate)):
+                    is_there(kind, crate, rest, f'{here}:{n}')
     header = read('include/denkumari.h')
     for n, line in enumerate(header.split('\n'), 1):
         for crate, kind, rest in CITED.findall(line):
