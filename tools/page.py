@@ -474,27 +474,44 @@ def fill(write):
             fault(f'{here}: a quote or a figure is not what the sources make: run tools/page and read what changed')
 
 
-TOPS = ('crates', 'docs', 'tools', 'oracle', 'bindings', 'examples', 'include', '.ci')
+TOPS = ('crates', 'docs', 'tools', 'oracle', 'bindings', 'examples', 'include', 'portable', 'command', '.ci')
 PATH = re.compile(r'(?<![\w/.\-])((?:' + '|'.join(map(re.escape, TOPS)) + r')/[\w./*\-]*[\w*/])')
+# a row of a table that has laws: their file, and their names
+LAWS = re.compile(r'^\| `([a-z_0-9]+)/([A-Z]\w*)` \| (`[^|]*`) \|')
 
 
-def documents():
-    """Paths and names of the repository that documents cite, the versions, and lines of the crates that are too long."""
-    texts = sorted(glob.glob(os.path.join(ROOT, 'docs/*.md'))) + [os.path.join(ROOT, n) for n in ('README.md', 'NOTICE')]
-    for file in texts:
-        here = os.path.relpath(file, ROOT)
-        if not os.path.isfile(file) or here == PAGE:
-            continue
-        for n, line in enumerate(open(file, encoding='utf-8').read().split('\n'), 1):
-            for path in PATH.findall(line):
-                path = path.rstrip('.')
-                if re.search(r'(^|/)[A-Z]{2,}(/|\.edit|$)', path) and not os.path.exists(os.path.join(ROOT, path)):
-                    continue  # a placeholder: crates/NAME/must-fail/LABEL.edit
-                if not glob.glob(os.path.join(ROOT, path)) and not glob.glob(os.path.join(ROOT, path + '.antt')):
-                    fault(f'{here}:{n}: there is no {path}')
-            for crate, kind, rest in CITED.findall(line):
-                if os.path.isdir(os.path.join(ROOT, 'crates', crate)):
-                    is_there(kind, crate, rest, f'{here}:{n}')
+def every_file(*patterns):
+    return sorted(os.path.relpath(p, ROOT) for pattern in patterns for p in glob.glob(os.path.join(ROOT, pattern), recursive=True))
+
+
+def check_path(path, where):
+    path = path.rstrip('.')
+    if re.search(r'(^|/)[A-Z]{2,}(/|\.edit|$)', path) and not os.path.exists(os.path.join(ROOT, path)):
+        return  # a placeholder: crates/NAME/must-fail/LABEL.edit
+    if not glob.glob(os.path.join(ROOT, path)) and not glob.glob(os.path.join(ROOT, path + '.antt')):
+        fault(f'{where}: there is no {path}')
+
+
+def check_laws(line, where):
+    m = LAWS.match(line)
+    for name in re.findall(r'`([^`]+)`', m.group(3)) if m else []:
+        if not any(name in names_of(path) for path in places(m.group(1), m.group(2))):
+            fault(f'{where}: {m.group(1)}/{m.group(2)} has no {name}')
+
+
+def check_document(here):
+    """Paths and names of the repository that a document cites."""
+    for n, line in enumerate(read(here).split('\n'), 1):
+        for path in PATH.findall(line):
+            check_path(path, f'{here}:{n}')
+        for crate, kind, rest in CITED.findall(line):
+            if os.path.isdir(os.path.join(ROOT, 'crates', crate)):
+                is_there(kind, crate, rest, f'{here}:{n}')
+        check_laws(line, f'{here}:{n}')
+
+
+def check_header():
+    """Names that the header cites, and that it names each call's sentence."""
     header = read('include/denkumari.h')
     for n, line in enumerate(header.split('\n'), 1):
         for crate, kind, rest in CITED.findall(line):
@@ -502,24 +519,63 @@ def documents():
     for call in sorted(set(re.findall(r'^struct \w+ (dk_\w+)\(', header, re.M))):
         if not re.search(rf'^ \* {call} +(the same )?sentence', header, re.M):
             fault(f'include/denkumari.h: its statements do not name the sentence of {call}')
-    said = {}
-    m = re.search(r'DENKUMARI_VERSION "([^"]+)"', read('include/denkumari.h'))
-    said['include/denkumari.h'] = m.group(1) if m else 'none'
-    m = re.search(r'^version = "([^"]+)"', read('bindings/rust/Cargo.toml'), re.M)
-    said['bindings/rust/Cargo.toml'] = m.group(1) if m else 'none'
-    m = re.search(r'name = "denkumari"\nversion = "([^"]+)"', read('bindings/rust/Cargo.lock'))
-    said['bindings/rust/Cargo.lock'] = m.group(1) if m else 'none'
-    for file in texts:
-        here = os.path.relpath(file, ROOT)
-        for m in re.finditer(r'\bDenkumari (\d+\.\d+\.\d+)', read(here) if os.path.isfile(file) else ''):
-            said[here] = m.group(1)
-    for file in sorted(glob.glob(os.path.join(ROOT, 'crates/**/*.antt'), recursive=True) + glob.glob(os.path.join(ROOT, 'crates/**/*.rt'), recursive=True)):
-        here = os.path.relpath(file, ROOT)
+
+
+def check_comments():
+    """Comments of the crates and of the edits: paths and names that they cite, and no line of the crates too long."""
+    for here in every_file('crates/**/*.antt', 'crates/**/*.rt'):
         for n, line in enumerate(read(here).split('\n'), 1):
             if len(line) > 160:
                 fault(f'{here}:{n}: longer than 160 characters')
+            mark = '--' if here.endswith('.antt') else '//'
+            if mark in line:
+                check_comment(line.split(mark, 1)[1], f'{here}:{n}')
+
+
+def check_comment(text, where):
+    for path in PATH.findall(text):
+        check_path(path, where)
+    for crate, kind, rest in CITED.findall(text):
+        if kind != '/' or re.match(r'[A-Z][A-Za-z0-9]*(\.|$)', rest):
+            is_there(kind, crate, rest, where)
+
+
+def check_versions(texts):
+    said = {}
+    for here, pattern in (('include/denkumari.h', r'DENKUMARI_VERSION "([^"]+)"'), ('bindings/rust/Cargo.toml', r'^version = "([^"]+)"'),
+                          ('bindings/rust/Cargo.lock', r'name = "denkumari"\nversion = "([^"]+)"')):
+        m = re.search(pattern, read(here), re.M)
+        said[here] = m.group(1) if m else 'none'
+    for here in texts:
+        for m in re.finditer(r'\bDenkumari (\d+\.\d+\.\d+)', read(here)):
+            said[here] = m.group(1)
     if len(set(said.values())) > 1:
         fault('the versions differ: ' + ', '.join(f'{k} {v}' for k, v in sorted(said.items())))
+
+
+def check_lists():
+    """Lists that a page has to have whole: the crates on docs/ARCHITECTURE.md, the functions of docs/REQUIRES.txt in the table of docs/DECISIONS.md."""
+    named = set(re.findall(r'`([a-z_0-9]+)`', read('docs/ARCHITECTURE.md')))
+    for crate in sorted(os.path.basename(os.path.dirname(p)) for p in every_file('crates/*/src')):
+        if crate not in named:
+            fault(f'docs/ARCHITECTURE.md does not name the crate {crate}')
+    asked = {'::'.join(line.split()) for line in read('docs/REQUIRES.txt').splitlines() if line.strip()}
+    table = read('docs/DECISIONS.md').split('## Functions that ask something of their caller')[-1].split('\n## ')[0]
+    rows = {name for line in table.split('\n') if line.startswith('| `') for name in re.findall(r'`([a-z_0-9]+::\w+)`', line.split('|')[1])}
+    for name in sorted(asked ^ rows):
+        there = ('lists', 'has it not') if name in asked else ('does not list', 'has it')
+        fault(f'docs/REQUIRES.txt {there[0]} {name}, and the table of docs/DECISIONS.md {there[1]}')
+
+
+def documents():
+    """Paths and names of the repository that documents, header and comments cite, the versions, and lists that have to be whole."""
+    texts = [here for here in every_file('docs/*.md', 'README.md', 'NOTICE', 'oracle/README.md', 'examples/README.md') if here != PAGE]
+    for here in texts:
+        check_document(here)
+    check_header()
+    check_comments()
+    check_versions(texts)
+    check_lists()
 
 
 def rename(old, new):
