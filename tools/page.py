@@ -433,12 +433,14 @@ def pages():
 
 
 QUOTE = re.compile(r'<!-- quote ([^>]*?) -->\n(?:```\n.*?```\n)*', re.S)
-FIGURE = re.compile(r'<!-- (lines|files|edits) ?(\S*) -->[^<]*<!-- / -->')
+EXPORTED = re.compile(r'^struct \w+ (dk_\w+)\(', re.M)
+FIGURE = re.compile(r'<!-- (lines|files|edits|exports) ?(\S*) -->[^<]*<!-- / -->')
 
 
 def filled(text, where):
     """A document with what its marks ask for: `<!-- quote crate/File.name crate::function -->` a quote behind it, `<!-- lines NAME -->N<!-- / -->` how many
-    lines of it must be believed (`files`: in how many files), by tools/believed; `<!-- edits -->` how many edits there are."""
+    lines of it must be believed (`files`: in how many files), by tools/believed; `<!-- edits -->`, `<!-- exports -->` how many edits and exported functions
+    there are."""
     def quoted(m):
         names = m.group(1).split()
         for name in names:
@@ -453,6 +455,8 @@ def filled(text, where):
     def figure(m):
         if m.group(1) == 'edits':
             n = len(glob.glob(os.path.join(ROOT, 'crates/*/must-fail/*.edit')))
+        elif m.group(1) == 'exports':
+            n = len(EXPORTED.findall(read('include/denkumari.h')))
         else:
             n = believed.figures(m.group(2))[0 if m.group(1) == 'lines' else 2]
         return f'<!-- {m.group(1)}{" " * bool(m.group(2))}{m.group(2)} -->{n:,}<!-- / -->'
@@ -516,7 +520,7 @@ def check_header():
     for n, line in enumerate(header.split('\n'), 1):
         for crate, kind, rest in CITED.findall(line):
             is_there(kind, crate, rest, f'include/denkumari.h:{n}')
-    for call in sorted(set(re.findall(r'^struct \w+ (dk_\w+)\(', header, re.M))):
+    for call in sorted(set(EXPORTED.findall(header))):
         if not re.search(rf'^ \* {call} +(the same )?sentence', header, re.M):
             fault(f'include/denkumari.h: its statements do not name the sentence of {call}')
 
