@@ -3,8 +3,9 @@
 
     differences.py [--judge COMMAND] [--other COMMAND]
 
-For each the file in hexadecimal, what the Rust does where nothing stops it (`judge --raw`), and what document 01 says.
-With --other, a side of the comparison, each is asked of it too, and status 1 says that one answer is not document 01's."""
+For each the file in hexadecimal, what the Rust does where nothing stops it (`judge --raw`), and what document 01 says; neighbours in
+which the two agree are among them, and the last line counts both. With --other, a side of the comparison, each is asked of it too,
+and status 1 says that one answer is not document 01's."""
 
 import shlex
 import subprocess
@@ -15,7 +16,7 @@ import examples
 import manners
 import model
 from examples import MARK_AFTER, MARK_BEFORE
-from form1 import ADDR, ALIGN, CONSTANT, INSTRUCTION, LABEL, RESERVE, Bank, encode
+from form1 import ADDR, ALIGN, CONSTANT, INSTRUCTION, LABEL, NOTHING, RESERVE, Bank, encode
 from generate import laid
 
 
@@ -85,6 +86,14 @@ DEPARTURES = [
      laid([Bank(size=131_073, offset=0, fill=True)], [], b"", 1)),
     ("full", "513 reservations of one bit, side by side",
      laid([Bank(offset=0)], [(RESERVE, 0, 1)] * 513, b"", 1)),
+    ("full-marks", "513 empty reservations at one place",
+     laid([Bank(offset=0)], [(RESERVE, 0, 0)] * 513, b"", 1)),
+    ("banks-17", "17 banks",
+     laid([Bank() for _ in range(17)], [], b"", 1)),
+    ("nodes-4097", "4,097 nodes that do nothing",
+     laid([Bank()], [(NOTHING, 0, 0)] * 4_097, b"", 1)),
+    ("start-past", "a start of 2^40 + 1",
+     laid([Bank(start=2 ** 40 + 1, offset=0)], [(LABEL, 1, 0)], b"", 1)),
 ]
 
 
@@ -98,19 +107,22 @@ def main():
     parser.add_argument("--judge", default=shlex.quote(str(compare.FOLDER / "judge")))
     parser.add_argument("--other")
     asked = parser.parse_args()
-    apart = 0
+    depart = apart = 0
     for name, words, layout in DEPARTURES:
         file = encode(layout)
         print(f"{name}: {words}")
         print(f"  file     {file.hex() if len(file) < 400 else f'{len(file)} bytes'}")
-        print(f"  Rust     {raw(asked.judge, file)}")
+        rust = raw(asked.judge, file)
+        print(f"  Rust     {rust}")
         print(f"  document {model.line(file)}")
+        depart += rust != model.line(file)
         if asked.other:
             here = compare.answers(asked.other, [file])[0]
             print(f"  here     {here}")
             apart += here != model.line(file)
+    print(f"{len(DEPARTURES)} cases: {depart} in which the Rust departs, {len(DEPARTURES) - depart} in which it does not")
     if asked.other:
-        print(f"{len(DEPARTURES)} departures, {apart} in which this side is not document 01's")
+        print(f"{apart} in which this side is not document 01's")
         sys.exit(apart != 0)
 
 

@@ -84,7 +84,7 @@ pub fn read(bytes: &[u8]) -> Option<File> {
 
 impl Bank {
     pub fn is_within_limits(&self) -> bool {
-        self.unit != 0 && self.start.unsigned_abs() <= MAX_START as u64
+        self.start.unsigned_abs() <= MAX_START as u64
     }
 
     pub fn is_empty_fill(&self) -> bool {
@@ -93,10 +93,12 @@ impl Bank {
 }
 
 impl File {
+    pub fn is_within_counts(&self) -> bool {
+        self.nodes.len() <= 4_096 && self.rows.len() <= 16
+    }
+
     pub fn has_sound_lists(&self) -> bool {
-        self.nodes.len() <= 4_096
-            && (1..=16).contains(&self.rows.len())
-            && (0..self.nodes.len()).all(|node| self.is_sound_node(node))
+        !self.rows.is_empty() && (0..self.nodes.len()).all(|node| self.is_sound_node(node))
     }
 
     pub fn is_sound_node(&self, node: usize) -> bool {

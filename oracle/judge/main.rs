@@ -82,10 +82,10 @@ pub fn blocks(output: &util::BitVec) -> String {
 pub fn answer(bytes: &[u8], raw: bool) -> String {
     let Some(file) = form::read(bytes) else { return "nosay 4".to_string() };
 
-    if !(1..=16).contains(&file.banks.len()) {
+    if file.banks.is_empty() || (!raw && file.banks.len() > 16) {
         return "nosay 1".to_string();
     }
-    if !file.banks.iter().all(|bank| bank.is_within_limits() && (raw || !bank.is_empty_fill())) {
+    if !file.banks.iter().all(|bank| bank.unit != 0 && (raw || (bank.is_within_limits() && !bank.is_empty_fill()))) {
         return "nosay 2".to_string();
     }
 
@@ -94,7 +94,7 @@ pub fn answer(bytes: &[u8], raw: bool) -> String {
         return case.overlapping_banks();
     }
 
-    if !file.has_sound_lists() {
+    if !file.has_sound_lists() || !(raw || file.is_within_counts()) {
         return "nosay 4".to_string();
     }
 
