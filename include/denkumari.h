@@ -381,7 +381,8 @@ enum dk_format { DK_INTEL_HEX = 0, DK_S_RECORDS = 1 };
 /* Reads a file of records: the byte at address a goes to bytes[a - load], and every other byte stays as it was. Data records may stand in any order, in Intel
  * HEX each under the type 04 record that makes its address; type 04 and S0 records stand anywhere before the end record. Block i is the sizes[i] bits from bit
  * offsets[i] on, ascending, touching ones joined; `count` is how many there are. S-records may have either width. Refused 4 (place 0) where the format is
- * neither of the two or the file bad: a line, a byte given twice or below `load`; then 14 where `bytes` (place 0) or a list (place 2) is too short.
+ * neither of the two or the file bad: a line, a byte given twice or below `load`; then 14 where `bytes` (place 0) or a list (place 2) is too short. Of `bytes`
+ * those up to the end of the last block matter, (offsets[count - 1] + sizes[count - 1]) / 8 of them, none where count is 0.
  * The call answers the same whatever `scratch` is, and leaves it as it was; it may be empty. Time grows with the text where records ascend, descend or stand in
  * a few blocks in any order. Where many records jump it grows with the text too if `scratch` is all zeros and has a byte for every 8 addresses from the lowest
  * that is given to the highest. With less, the text is read again for each 8 * scratch_len of those addresses that has a byte. With none, with more than 2^29

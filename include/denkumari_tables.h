@@ -1,6 +1,6 @@
 /* Denkumari's calls over two structs: the tables of a layout, each list under its name, and what is lent to the call. denkumari.h's own calls take the same
- * lists as up to 36 parameters, among them several pointers of one type, which a compiler lets be exchanged unseen; here every list is assigned by name, a
- * bank is a record, and no length is given twice. For C from C99 on and C++ from C++11 on; nothing here is linked, and nothing is proved beyond the calls
+ * lists as up to 37 parameters, among them several pointers of one type, and no compiler sees two of them exchanged; here every list is assigned by name, a
+ * bank is a record, and no length is given twice. Behind them stand the bench, whose two images must not be exchanged, and files of records. For C from C99 on and C++ from C++11 on; nothing here is linked, and nothing is proved beyond the calls
  * below it: the inline functions put the fields in the places of the parameters, and bindings/c/structs.c tests that.
  *
  *     struct dk_bank banks[] = {dk_bank_of(8), dk_bank_of(10)};
@@ -208,6 +208,94 @@ static inline struct dk_count dk_write_srec_of(const struct dk_room *room, const
                                                uint8_t *text, size_t text_len)
 {
     return dk_write_srec(room->image, room->image_len, blocks->offsets, blocks->count, blocks->sizes, blocks->count, load, width, text, text_len);
+}
+
+/* On the bench: the released image, the overlay of curves under trial at the same offsets, and the overlay's blocks, of which `count` are read. */
+struct dk_bench {
+    const uint8_t *overlay;
+    size_t overlay_len;  /* in bytes */
+    const uint8_t *released;
+    size_t released_len; /* in bytes */
+    const struct dk_block_list *blocks;
+};
+
+/* Runs of bytes: run i is the counts[i] bytes from byte firsts[i] on; `count` of them, in lists of `room` elements. */
+struct dk_run_list {
+    uint64_t *firsts;
+    uint64_t *counts;
+    size_t room;
+    size_t count;
+};
+
+/* dk_overlay_range: which image the `count` bytes from byte `first` on come from. */
+static inline struct dk_overlay dk_overlay_range_of(const struct dk_bench *bench, uint64_t first, uint64_t count)
+{
+    return dk_overlay_range(bench->overlay, bench->overlay_len, bench->released, bench->released_len, bench->blocks->offsets, bench->blocks->count,
+                            bench->blocks->sizes, bench->blocks->count, first, count);
+}
+
+/* The bytes themselves of such an answer, from the image that it names; NULL where it was refused. */
+static inline const uint8_t *dk_overlay_bytes(const struct dk_bench *bench, const struct dk_overlay *range)
+{
+    if (range->refusal != DK_ACCEPTED)
+        return NULL;
+    return (range->image == DK_OVERLAY ? bench->overlay : bench->released) + range->start;
+}
+
+/* dk_overlay_runs: where the two images differ; accepted, it sets the list's count. */
+static inline struct dk_count dk_overlay_runs_into(const struct dk_bench *bench, struct dk_run_list *runs)
+{
+    struct dk_count r = dk_overlay_runs(bench->overlay, bench->overlay_len, bench->released, bench->released_len, bench->blocks->offsets,
+                                        bench->blocks->count, bench->blocks->sizes, bench->blocks->count, runs->firsts, runs->room, runs->counts,
+                                        runs->room);
+    if (r.refusal == DK_ACCEPTED)
+        runs->count = (size_t)r.count;
+    return r;
+}
+
+/* A file of records to be read, and what it is read into. `scratch` is for speed alone, is as it was behind the call and may be empty; no two calls share it. */
+struct dk_reading {
+    const uint8_t *text;
+    size_t text_len;
+    uint8_t *bytes;     /* the byte at address a goes to bytes[a - load] */
+    size_t bytes_len;
+    uint8_t *scratch;
+    size_t scratch_len;
+    uint32_t load;
+    uint8_t format;     /* enum dk_format */
+};
+
+static inline struct dk_reading dk_no_reading(void)
+{
+    struct dk_reading reading = {NULL, 0, NULL, 0, NULL, 0, 0, 0};
+    return reading;
+}
+
+/* dk_read_records; accepted, it sets the list's count. */
+static inline struct dk_count dk_read_records_into(const struct dk_reading *reading, struct dk_block_list *blocks)
+{
+    struct dk_count r = dk_read_records(reading->format, reading->text, reading->text_len, reading->load, reading->bytes, reading->bytes_len,
+                                        blocks->offsets, blocks->room, blocks->sizes, blocks->room, reading->scratch, reading->scratch_len);
+    if (r.refusal == DK_ACCEPTED)
+        blocks->count = (size_t)r.count;
+    return r;
+}
+
+/* How many of the bytes that were read into matter: up to the end of the last block. */
+static inline uint64_t dk_bytes_read(const struct dk_block_list *blocks)
+{
+    return blocks->count == 0 ? 0 : (blocks->offsets[blocks->count - 1] + blocks->sizes[blocks->count - 1]) / 8;
+}
+
+/* dk_record_fault and dk_record_reason of the same file. */
+static inline struct dk_fault dk_record_fault_of(const struct dk_reading *reading)
+{
+    return dk_record_fault(reading->format, reading->text, reading->text_len, reading->load, reading->scratch, reading->scratch_len);
+}
+
+static inline struct dk_reason dk_record_reason_of(const struct dk_reading *reading)
+{
+    return dk_record_reason(reading->format, reading->text, reading->text_len, reading->load, reading->scratch, reading->scratch_len);
 }
 
 #endif

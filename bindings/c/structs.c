@@ -1,5 +1,5 @@
 /* The structs of denkumari_tables.h, in C and, compiled as it is, in C++: document 01's worked example, a byte from tables to Intel HEX, what is refused before
- * a list is read, and the answers that have their call's name. That each field stands in its place is tested on random layouts by `batch --structs`; here, of
+ * a list is read, the bench, a file of records, and the answers that have their call's name. That each field stands in its place is tested on random layouts by `batch --structs`; here, of
  * every struct that denkumari.h declares, by calls whose fields differ from each other: a field that had another offset in C than in the archive would have
  * another's number. Prints what is wrong; the last line says how many tests there were. */
 #include <stdio.h>
@@ -254,8 +254,62 @@ static void fields_of_others(void)
     expect(w.reason == DK_LINE_LENGTH && w.line == 2 && w.first == 10 && w.second == 11, "the fields of a reason");
 }
 
+/* Four bytes in either image, the middle two under trial. The call reads no byte: what an exchange of the images would change is the bytes handed back. */
+static void bench_by_name(void)
+{
+    static const uint8_t curves[] = {1, 2, 3, 4, 5}, released[] = {9, 2, 8, 7};
+    static uint64_t firsts[2], counts_of[2];
+    struct dk_block_list blocks = {block_offsets, block_sizes, 4, 1};
+    struct dk_bench bench = {curves, sizeof curves, released, sizeof released, &blocks};
+    struct dk_run_list runs = {firsts, counts_of, 2, 0};
+    block_offsets[0] = 8;
+    block_sizes[0] = 16;
+    struct dk_overlay r = dk_overlay_range_of(&bench, 1, 2);
+    expect(r.refusal == 0 && r.image == DK_OVERLAY && r.length == 2 && dk_overlay_bytes(&bench, &r) == curves + 1, "bytes of the overlay");
+    r = dk_overlay_range_of(&bench, 3, 1);
+    expect(r.refusal == 0 && r.image == DK_RELEASED && r.length == 1 && dk_overlay_bytes(&bench, &r) == released + 3, "bytes of the released image");
+    r = dk_overlay_range_of(&bench, 2, 2);
+    expect(r.refusal == DK_PARTLY_COVERED && dk_overlay_bytes(&bench, &r) == NULL, "a range that is covered in part");
+    expect(dk_overlay_range_of(&bench, 4, 1).refusal == DK_BAD_PART, "a range outside the released image");
+    struct dk_count n = dk_overlay_runs_into(&bench, &runs);
+    expect(n.refusal == 0 && runs.count == 1 && firsts[0] == 2 && counts_of[0] == 1, "where they differ");
+    runs.room = 0;
+    n = dk_overlay_runs_into(&bench, &runs);
+    expect(n.refusal == DK_TOO_SHORT && n.place == 2 && runs.count == 1, "no room for the runs");
+}
+
+static void records_by_name(void)
+{
+    static const char text[] = ":018002002A53\n:018000002B54\n:00000001FF\n", bad[] = ":018000002B55\n:00000001FF\n";
+    static uint8_t bytes[4] = {0xff, 0xff, 0xff, 0xff}, scratch[1];
+    struct dk_block_list blocks = {block_offsets, block_sizes, 4, 0};
+    struct dk_reading reading = dk_no_reading();
+    reading.text = (const uint8_t *)text;
+    reading.text_len = sizeof text - 1;
+    reading.load = 0x8000;
+    reading.bytes = bytes;
+    reading.bytes_len = sizeof bytes;
+    reading.scratch = scratch;
+    reading.scratch_len = sizeof scratch;
+    expect(dk_bytes_read(&blocks) == 0, "nothing is read yet");
+    struct dk_count n = dk_read_records_into(&reading, &blocks);
+    expect(n.refusal == 0 && blocks.count == 2 && block_offsets[1] == 16 && block_sizes[1] == 8, "the blocks of a file");
+    expect(dk_bytes_read(&blocks) == 3 && bytes[0] == 0x2b && bytes[1] == 0xff && bytes[2] == 0x2a && bytes[3] == 0xff, "its bytes");
+    expect(dk_record_fault_of(&reading).fault == 0 && dk_record_reason_of(&reading).reason == DK_GOOD_FILE, "nothing is wrong with it");
+    reading.text = (const uint8_t *)bad;
+    reading.text_len = sizeof bad - 1;
+    n = dk_read_records_into(&reading, &blocks);
+    expect(n.refusal == DK_MALFORMED && blocks.count == 2 && bytes[0] == 0x2b, "a bad file leaves everything");
+    struct dk_reason why = dk_record_reason_of(&reading);
+    expect(dk_record_fault_of(&reading).line == 0 && why.reason == DK_CHECKSUM && why.first == 0x55 && why.second == 0x54, "where and why");
+    reading.format = DK_S_RECORDS;
+    expect(dk_record_reason_of(&reading).reason == DK_NO_START, "the same as S-records");
+}
+
 int main(void)
 {
+    bench_by_name();
+    records_by_name();
     worked_example();
     to_records();
     counts();
