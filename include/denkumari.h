@@ -509,13 +509,14 @@ static inline const char *dk_words(uint64_t refusal)
 /* Statements. What a call promises is a sentence over its own parameters, before and after, written from the documents and in their numerals: it is the
  * function's `ensures` in crates/denkumari/src, and each function is proved to keep it. Proved besides are that the sentence leaves one outcome, everything
  * lent included (`.. decides`), and from it what people look for. crate/File.name is a name of a file in crates/crate/specs; docs/STATEMENTS.md has each beside
- * the document's words, and docs/READING.md says how to read them. Those that join reading, faults and reasons speak of the formats 0 and 1 (`format < 2`).
+ * the document's words, and docs/READING.md says how to read them. In brackets stands what a theorem asks besides its calls being accepted. Those that join
+ * reading, faults and reasons speak of the formats 0 and 1 (`format < 2`).
  *
  * dk_build          sentence `says/Build.BuildSays`; `meets_sentences/Decides.build-decides`. Refused, nothing has changed:
  *                   `meets_sentences/Outcomes.refused-changes-nothing`. No shared bit: `meets_sentences/Image.accepted-offers-apart`; the item's own bit:
  *                   `meets_sentences/Image.item-own-bit`; every other: `meets_sentences/Image.other-bit-fill`, `meets_sentences/Image.other-bit-zero`.
  *                   Padding: `meets_sentences/Padding.padding-is-the-sum`, `meets_sentences/Padding.units-within-bits`. A raised limit:
- *                   `meets_build/RaisedLimit.raised-limit-is-harmless`
+ *                   `meets_build/RaisedLimit.raised-limit-is-harmless` (K below the limit)
  * dk_form           sentence `says/Form.FormSays`; `meets_form/FormDecides.form-decides`. A broken file: `meets_form/Forms.broken-file`; bank 0:
  *                   `meets_form/Forms.form-2-closes-bank-0`, `meets_form/Forms.form-1-opens-bank-0`
  * dk_profile        sentence `says/Profile.ProfileSays`; `meets_profile/Decides.profile-decides`. Yes and 19: `meets_profile/Ticket9.yes-exactly`,
@@ -525,23 +526,25 @@ static inline const char *dk_words(uint64_t refusal)
  * dk_form_paged     sentence `says/FormPaged.FormPagedSays`; `meets_form_paged/Decides.form-paged-decides`
  * dk_map            sentence `says/Map.MapSays`; `meets_map/Decides.map-decides`. Refused as the build is but for 14:
  *                   `build_map/AsBuilt.refused-exactly-as-built`; the node at fault: `build_map/AsBuilt.fault-is-where-refused`
- * dk_to_form2       sentence `says/Convert.ConvertSays`; `meets_convert/Decides.to-form2-decides`. There and back: `meets_convert/Trips.form-1-and-back`;
- *                   the same build: `meets_convert/SameBuild.other-banks-same-build`, `meets_convert/SameBuild.one-bank-same-build`
- * dk_to_form1       the same sentence; `meets_convert/Decides.to-form1-decides`. And again: `meets_convert/Trips.form-2-and-again`; the same build:
- *                   `meets_convert/SameBuild.plain-same-build`, `meets_convert/SameBuild.shape-same-build`
+ * dk_to_form2       sentence `says/Convert.ConvertSays`; `meets_convert/Decides.to-form2-decides`. There and back: `meets_convert/Trips.form-1-and-back`
+ *                   (not already the shape of a converted one-bank file); the same build: `meets_convert/SameBuild.other-banks-same-build` (not one bank),
+ *                   `meets_convert/SameBuild.one-bank-same-build` (one bank: places rise by one)
+ * dk_to_form1       the same sentence; `meets_convert/Decides.to-form1-decides`. And again: `meets_convert/Trips.form-2-and-again` (not one bank); the same
+ *                   build: `meets_convert/SameBuild.plain-same-build` (neither one bank nor the shape), `meets_convert/SameBuild.shape-same-build` (the shape)
  * dk_blocks         sentence `says/Blocks.DkBlocksSay`; `meets_bits/Blocks.dk-blocks-decides`
  * dk_hex            sentence `says/Hex.HexSays`; `meets_bits/Hex.hex-decides`
  * dk_offer          sentence `says/Store.OfferSays`; `meets_store/Decides.offer-decides`. Calls one after the other, from an empty store:
  *                   `meets_store/Demand3.stored-exactly`, `meets_store/Demand3.marked-exactly`; in any order: `meets_store/Order.reordered-accepted`
+ *                   (offers within the limits)
  * dk_part           sentence `says/Part.PartSays`; `meets_bits/Part.part-decides`
  * dk_overlay_range  sentence `says/Overlay.RangeSays`; `meets_overlay/Range.range-decides`
  * dk_overlay_runs   sentence `says/Overlay.RunsSay`; `meets_overlay/Runs.runs-decide`
- * dk_write_hex      sentence `says/Write.HexSays`; `meets_records/WriteDecides.write-hex-decides`. Read back: `meets_records/ReadBack.hex-comes-back`;
- *                   every line sums to zero: `meets_records/Checksums.hex-written-sums`
- * dk_write_srec     sentence `says/Write.SrecSays`; `meets_records/WriteDecides.write-srec-decides`. Read back: `meets_records/ReadBack.srec-comes-back`;
- *                   checksums: `meets_records/Checksums.srec-written-sums`
- * dk_read_records   sentence `says/Read.ReadSays`; `meets_records/ReadDecides.read-decides`. Records in any order: `meets_records/SameReading.order-free`;
- *                   LF or CR LF: `meets_records/SameReading.cr-lf-free`
+ * dk_write_hex      sentence `says/Write.HexSays`; `meets_records/WriteDecides.write-hex-decides`. Read back: `meets_records/ReadBack.hex-comes-back`
+ *                   (`Room` for the blocks); every line sums to zero: `meets_records/Checksums.hex-written-sums`
+ * dk_write_srec     sentence `says/Write.SrecSays`; `meets_records/WriteDecides.write-srec-decides`. Read back: `meets_records/ReadBack.srec-comes-back`
+ *                   (`Room`); checksums: `meets_records/Checksums.srec-written-sums`
+ * dk_read_records   sentence `says/Read.ReadSays`; `meets_records/ReadDecides.read-decides`. Records in any order: `meets_records/SameReading.order-free`
+ *                   (the same data records with the same whole addresses); LF or CR LF: `meets_records/SameReading.cr-lf-free`
  * dk_record_fault   sentence `says/Read.FaultSays`; `meets_records/FaultDecides.fault-decides`
  * dk_record_reason  sentence `says/Reason.DkReasonSays`; `meets_reason/Decides.dk-reason-decides`. A reason exactly where dk_read_records refuses 4:
  *                   `meets_reason/Told.refused-4-exactly`; dk_record_fault's line: `meets_reason/Told.line-is-faults`
