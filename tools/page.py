@@ -503,9 +503,12 @@ def check_laws(line, where):
             fault(f'{where}: {m.group(1)}/{m.group(2)} has no {name}')
 
 
-def check_document(here):
-    """Paths and names of the repository that a document cites."""
+def check_document(here, declared):
+    """Paths and names of the repository that a document cites; names of C have to be among those declared."""
     for n, line in enumerate(read(here).split('\n'), 1):
+        for name in re.findall(r'\b(?:dk|DK)_\w*\w\b(?![*.])', line):
+            if name not in declared:
+                fault(f'{here}:{n}: no header has {name}')
         for path in PATH.findall(line):
             check_path(path, f'{here}:{n}')
         for crate, kind, rest in CITED.findall(line):
@@ -574,8 +577,9 @@ def check_lists():
 def documents():
     """Paths and names of the repository that documents, header and comments cite, the versions, and lists that have to be whole."""
     texts = [here for here in every_file('docs/*.md', 'README.md', 'NOTICE', 'oracle/README.md', 'examples/README.md') if here != PAGE]
+    declared = set(re.findall(r'\b(?:dk|DK)_\w+', ''.join(read(here) for here in every_file('include/*.h'))))
     for here in texts:
-        check_document(here)
+        check_document(here, declared)
     check_header()
     check_comments()
     check_versions(texts)
