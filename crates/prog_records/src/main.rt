@@ -6,26 +6,14 @@
 // whole image with its fill. FILL is the fill's choice, and PAGE the page size in bits of a device with pages. It writes nothing where an argument is no
 // number or there are more or fewer. A refusal is one line on standard output, `refused` with its number and place, and a line `records` behind it
 // where the layout was accepted and its blocks were not written.
-use blocks::Blocks;
-use output::Build;
+use print_records::Wanted;
 use prog_asked::choice;
-use record_write::Written;
 use refusal::Opt;
-use refusal::Refusal;
-ghost use mathlib.Core.Path.{_≡_};
-ghost use mathlib.Core.Bool.{true};
-ghost use Prim.Native.Nat.{_*_, _≤_, min};
-ghost use lib.ListN.{length};
-ghost use Rattle.refusal.specs.Limits.{maxNodes};
-ghost use Rattle.blocks.specs.Spans.{spansOf, acceptable};
-ghost use Rattle.blocks.specs.Walk.{blocksOf};
-ghost use Rattle.record_write.specs.Cut.{blocksIn};
-ghost use Rattle.print_report.specs.Report.{spanRoom};
-ghost use Rattle.print_answer.specs.Answer.{imageRoom};
-ghost use Rattle.print_answer.specs.Answer.{Fitting};
-ghost use Rattle.prog_args.specs.Text.{Stands, Shows};
-ghost use Rattle.prog_records.specs.Program.{refusedText, recordsOf, wholeBlocks, doneText, recordsText, Recorded};
-ghost use Rattle.prog_records.specs.Steps.{textRoom, answered};
+ghost use Prim.Native.Nat.{_≤_};
+ghost use lib.ListN.{length, take};
+ghost use Rattle.print_records.specs.Steps.{textRoom};
+ghost use Rattle.says.specs.Lines.{Shows};
+ghost use Rattle.says.specs.RecordsText.{RecordsSay};
 
 // Room for the longest file and a byte more, so that none is cut to a sound one.
 const FILE: usize = 65_537;
@@ -33,230 +21,44 @@ const FILE: usize = 65_537;
 // Room for the image as records, a short one in each block.
 const TEXT: usize = 131_072;
 
-// What is asked for on the command line.
-pub struct Wanted {
-    format: u8,
-    load: u32,
-    whole: bool,
+// How many bytes were read, and how many handed on.
+pub struct Ran {
+    read: usize,
+    shown: usize,
 }
 
-// The refusal of blocks whose layout was accepted.
-fn put_refused(why: Refusal, out: &mut [u8]) -> usize
-    requires { ⌜ textRoom ≤ length (now out) ⌝ }
-    ensures { λ r. ⌜ Stands (refusedText why) (now (out .entry)) r (now (out .exit)) ⌝ }
-{
-    let at = prog_args::put_refusal(why, out);
-    print_text::write_word(out, at, b"records\n")
-}
-
-// The text of blocks: their records, or why not. There is room for every file, so that 14 is not given.
-fn put_records(
-    format: u8,
-    load: u32,
-    image: &[u8],
-    offsets: &[u64],
-    sizes: &[u64],
-    out: &mut [u8],
-) -> usize
-    requires { ⌜ length (now image) ≤ imageRoom ⌝ }
-    requires { ⌜ length (now offsets) ≤ spanRoom ⌝ }
-    requires { ⌜ length (now offsets) ≡ length (now sizes) ⌝ }
+// The text of a file, put at the front of `out`: how many bytes it is.
+pub fn put_file(wanted: Wanted, file: &[u8], fill: u8, page: Opt, out: &mut [u8]) -> usize
     requires { ⌜ textRoom ≤ length (now out) ⌝ }
     ensures { λ r. ⌜
-        Stands (recordsOf format load (now (image .entry)) (blocksIn (now (offsets .entry)) (now (sizes .entry)))) (now (out .entry)) r (now (out .exit))
+        Shows (RecordsSay (wanted .format) (wanted .load) (wanted .whole) (now (file .entry)) fill page) r (now (out .exit))
         ⌝ }
 {
-    let written = record_write::write(format, image, offsets, sizes, load, out);
-    match written {
-        Written::Refused(why) => put_refused(why, out),
-        Written::Length(length) => length as usize,
-    }
+    print_records::put_file(wanted, file, fill, page, out)
 }
 
-// One block where there are bits, else none.
-fn block_count(bits: u64) -> usize
-    ensures { λ r. ⌜ r ≡ min bits 1 ⌝ }
-{
-    if bits == 0 { 0 } else { 1 }
-}
-
-// The text of the whole image as one block. The last byte's unused bits are zero in the image.
-fn put_whole(format: u8, load: u32, bits: u64, image: &[u8], out: &mut [u8]) -> usize
-    requires { ⌜ length (now image) ≤ imageRoom ⌝ }
-    requires { ⌜ bits ≤ 8 * imageRoom ⌝ }
-    requires { ⌜ textRoom ≤ length (now out) ⌝ }
-    ensures { λ r. ⌜ Stands (recordsOf format load (now (image .entry)) (wholeBlocks bits)) (now (out .entry)) r (now (out .exit)) ⌝ }
-{
-    let offsets = [0u64];
-    let sizes = [8 * ((bits + 7) / 8)];
-    let n = block_count(bits);
-    put_records(format, load, image, &offsets[..n], &sizes[..n], out)
-}
-
-// The text of the blocks of spans, with room for every block.
-fn put_blocks(
-    format: u8,
-    load: u32,
-    image: &[u8],
-    offsets: &[u64],
-    sizes: &[u64],
-    block_offsets: &mut [u64],
-    block_sizes: &mut [u64],
-    out: &mut [u8],
-) -> usize
-    requires { ⌜ length (now image) ≤ imageRoom ⌝ }
-    requires { ⌜ acceptable (now offsets) (now sizes) ≡ true ⌝ }
-    requires { ⌜ length (now «block_offsets») ≡ maxNodes ⌝ }
-    requires { ⌜ length (now «block_sizes») ≡ maxNodes ⌝ }
-    requires { ⌜ textRoom ≤ length (now out) ⌝ }
-    ensures { λ r. ⌜
-        Stands (recordsOf format load (now (image .entry)) (blocksOf (spansOf (now (offsets .entry)) (now (sizes .entry)))))
-        (now (out .entry)) r (now (out .exit))
-        ⌝ }
-{
-    let found = blocks::get_blocks(offsets, sizes, block_offsets, block_sizes);
-    match found {
-        Blocks::Refused(why) => prog_args::put_refusal(why, out),
-        Blocks::Found(count) => {
-            let n = count as usize;
-            put_records(
-                format,
-                load,
-                image,
-                &block_offsets[..n],
-                &block_sizes[..n],
-                out,
-            )
-        }
-    }
-}
-
-// The text of an accepted build. Lends room for the blocks.
-fn put_done(
-    wanted: Wanted,
-    bits: u64,
-    image: &[u8],
-    offsets: &[u64],
-    sizes: &[u64],
-    out: &mut [u8],
-) -> usize
-    requires { ⌜ length (now image) ≤ imageRoom ⌝ }
-    requires { ⌜ bits ≤ 8 * imageRoom ⌝ }
-    requires { ⌜ acceptable (now offsets) (now sizes) ≡ true ⌝ }
-    requires { ⌜ textRoom ≤ length (now out) ⌝ }
-    ensures { λ r. ⌜
-        Stands (doneText wanted bits (now (offsets .entry)) (now (sizes .entry)) (now (image .entry))) (now (out .entry)) r (now (out .exit))
-        ⌝ }
-{
-    if wanted.whole {
-        return put_whole(wanted.format, wanted.load, bits, image, out);
-    }
-    let mut block_offsets = [0u64; 4096];
-    let mut block_sizes = [0u64; 4096];
-    put_blocks(
-        wanted.format,
-        wanted.load,
-        image,
-        offsets,
-        sizes,
-        &mut block_offsets,
-        &mut block_sizes,
-        out,
-    )
-}
-
-// The text of a build's answer, whose image and spans stand in what is lent.
-fn put_answer(
-    wanted: Wanted,
-    build: Build,
-    image: &[u8],
-    offsets: &[u64],
-    sizes: &[u64],
-    out: &mut [u8],
-) -> usize
-    requires { ⌜ Fitting build (now image) (now offsets) (now sizes) ⌝ }
-    requires { ⌜ length (now image) ≤ imageRoom ⌝ }
-    requires { ⌜ textRoom ≤ length (now out) ⌝ }
-    ensures { λ r. ⌜
-        Stands (answered wanted build (now (image .entry)) (now (offsets .entry)) (now (sizes .entry))) (now (out .entry)) r (now (out .exit))
-        ⌝ }
-{
-    match build {
-        Build::Refused(why) => prog_args::put_refusal(why, out),
-        Build::Done {
-            k: _,
-            length,
-            spans,
-        } => {
-            let n = spans as usize;
-            put_done(wanted, length, image, &offsets[..n], &sizes[..n], out)
-        }
-    }
-}
-
-// Builds the file's layout in what is lent, and puts its text.
-fn put_build(
-    wanted: Wanted,
-    file: &[u8],
-    fill: u8,
-    page: Opt,
-    image: &mut [u8],
-    addresses: &mut [i64],
-    offsets: &mut [u64],
-    sizes: &mut [u64],
-    out: &mut [u8],
-) -> usize
-    requires { ⌜ length (now image) ≡ imageRoom ⌝ }
-    requires { ⌜ length (now addresses) ≡ spanRoom ⌝ }
-    requires { ⌜ length (now offsets) ≡ spanRoom ⌝ }
-    requires { ⌜ length (now sizes) ≡ spanRoom ⌝ }
-    requires { ⌜ textRoom ≤ length (now out) ⌝ }
-    ensures { λ r. ⌜ Stands (recordsText wanted (now (file .entry)) fill page) (now (out .entry)) r (now (out .exit)) ⌝ }
-{
-    let answer = form_build::build_file(file, fill, page, image, addresses, offsets, sizes);
-    let build = answer.build;
-    put_answer(wanted, build, image, offsets, sizes, out)
-}
-
-// Puts the text of a file. Lends room for the image and the spans.
-fn put_file(wanted: Wanted, file: &[u8], fill: u8, page: Opt, out: &mut [u8]) -> usize
-    requires { ⌜ textRoom ≤ length (now out) ⌝ }
-    ensures { λ r. ⌜ Stands (recordsText wanted (now (file .entry)) fill page) (now (out .entry)) r (now (out .exit)) ⌝ }
-{
-    let mut image = [0u8; 16384];
-    let mut addresses = [0i64; 4096];
-    let mut offsets = [0u64; 4096];
-    let mut sizes = [0u64; 4096];
-    put_build(
-        wanted,
-        file,
-        fill,
-        page,
-        &mut image,
-        &mut addresses,
-        &mut offsets,
-        &mut sizes,
-        out,
-    )
-}
-
-// The text of a file, handed to standard output from the front of `out`: how many bytes it is.
+// The same, handed to standard output.
 fn write(wanted: Wanted, file: &[u8], fill: u8, page: Opt, out: &mut [u8]) -> usize
     requires { ⌜ textRoom ≤ length (now out) ⌝ }
-    ensures { λ r. ⌜ Shows (recordsText wanted (now (file .entry)) fill page) r (now (out .exit)) ⌝ }
+    ensures { λ r. ⌜
+        Shows (RecordsSay (wanted .format) (wanted .load) (wanted .whole) (now (file .entry)) fill page) r (now (out .exit))
+        ⌝ }
 {
     let count = put_file(wanted, file, fill, page, out);
     prog_args::print(out, count as u64)
 }
 
-// Reads a file and hands its text to standard output: how many bytes that is.
-fn run(wanted: Wanted, fill: u8, page: Opt) -> usize
-    ensures { λ r. ⌜ Recorded wanted fill page r ⌝ }
+// Reads a file into the room lent for it and hands the text of these bytes to standard output.
+fn run(wanted: Wanted, fill: u8, page: Opt, file: &mut [u8], out: &mut [u8]) -> Ran
+    requires { ⌜ textRoom ≤ length (now out) ⌝ }
+    ensures { λ r. ⌜
+        Shows (RecordsSay (wanted .format) (wanted .load) (wanted .whole) (take (r .read) (now (file .exit))) fill page)
+        (r .shown) (now (out .exit))
+        ⌝ }
 {
-    let mut file = [0u8; FILE];
-    let n = io::read_full(0, &mut file);
-    let mut text = [0u8; TEXT];
-    write(wanted, &file[..n], fill, page, &mut text)
+    let read = io::read_full(0, file);
+    let shown = write(wanted, &file[..read], fill, page, out);
+    Ran { read, shown }
 }
 
 fn main() {
@@ -284,12 +86,14 @@ fn main() {
         load,
         whole: whole == 1,
     };
+    let mut file = [0u8; FILE];
+    let mut text = [0u8; TEXT];
     if count < 6 {
-        run(wanted, choice(fill), Opt::None);
+        run(wanted, choice(fill), Opt::None, &mut file, &mut text);
         return;
     }
     let page = prog_args::number_at(5);
     if let Opt::Some(_) = page {
-        run(wanted, choice(fill), page);
+        run(wanted, choice(fill), page, &mut file, &mut text);
     }
 }

@@ -87,7 +87,7 @@ module _ (offsets lengths : List ℕ) where
 -- ---- the contract says them
 
 module _ (offsets lengths : List ℕ) where
-  walk : (o n : ℕ) (l : List ℕ) → Walks offsets lengths o n l (runs offsets lengths o n l)
+  pub walk : (o n : ℕ) (l : List ℕ) → Walks offsets lengths o n l (runs offsets lengths o n l)
   unfolding blocksFrom
   walk o zero [] = says.ends-empty
   walk o (suc n) [] = rw (ne-eqb (suc n) 0 (λ e. omega arith)) (says.ends {m = suc n} (omega arith))

@@ -46,7 +46,7 @@ module _ (bytes : List ℕ) (bits : ℕ) where
       digit-one (8 * a + 4 * b + 2 * c + d) x y t (subst (λ (v : ℕ). Digit v y)
       (omega (arith, bit-one (4 * k) a e p p′, bit-one (4 * k + 1) b f q q′, bit-one (4 * k + 2) c g r r′, bit-one (4 * k + 3) d h s s′)) u)
 
-  text-one : OneOnly (Text bytes bits)
+  pub text-one : OneOnly (Text bytes bits)
   text-one t u f g =
       let long : length t ≡ length u = omega (arith, f .enough, f .no-more, g .enough, g .no-more) in
       ext-getD 0 t u long (λ k h. prints-one k (getD t k 0) (getD u k 0) (f .each k h) (g .each k (omega arith)))
@@ -92,7 +92,7 @@ module _ (bytes : List ℕ) (bits : ℕ) where
   prints-meets k h = rw (hexOf-digit bytes bits k h) (says.prints (bit-meets (4 * k)) (bit-meets (4 * k + 1)) (bit-meets (4 * k + 2)) (bit-meets (4 * k + 3))
       (rw (← (value-is k)) (digit-meets (digitValue bytes bits k) (digitValue-lt bytes bits k))))
 
-  text-meets : Text bytes bits (hexOf bytes bits)
+  pub text-meets : Text bytes bits (hexOf bytes bits)
   text-meets = record {
     enough = omega (arith, length-hexOf bytes bits);
     no-more = omega (arith, length-hexOf bytes bits);
