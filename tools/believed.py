@@ -2,7 +2,8 @@
 
 From a statement to what its words name, from there to what those name, and so on: types and definitions of the repository, each once. Theorems and proofs are
 not followed. Names of the kit's library are counted apart. An exported call rests on its own `ensures`, which is counted, and on the sentence of crates/says
-that it names. What a contract of another function promises is not taken for true: it is proved."""
+that it names. So does a program: on the contracts of those of its own functions that `main` calls. What a contract of another function promises is not taken
+for true: it is proved."""
 import difflib
 import os
 import re
@@ -54,6 +55,23 @@ def clause(d):
     """The lines of a contract from its `requires` or `ensures` on: what is read of an exported function beside its parameters."""
     first = next((n for n, ln in enumerate(d.whole) if re.match(r'\s*(requires|ensures)\b', ln)), len(d.whole))
     return d.whole[first:]
+
+
+def is_program(name):
+    return os.path.isfile(os.path.join(ROOT, f'crates/{name}/src/main.rt'))
+
+
+def promised(name):
+    """What a program promises: the contracts of its own functions that `main` calls."""
+    body = read(f'crates/{name}/src/main.rt').partition('\nfn main() {')[2]
+    called = {t for t, _ in tokens(body.split('\n'))}
+    return [contract(name, f) for f, (_, _, head) in functions_of(name).items() if f in called and any('ensures' in ln for ln in head)]
+
+
+def said_by(name):
+    """The sentences of crates/says that a program's contracts name, without the word that says where a text stands."""
+    found = [uses_of(d.path).names.get(t) for d in promised(name) for t, _ in tokens(clause(d))]
+    return sorted({short(*u) for u in found if u and u[0].startswith('Rattle.says.') and u[1] != 'Shows'})
 
 
 def sentence(name):
@@ -127,24 +145,27 @@ def starts_of(name):
         return [contract(*name.split('::', 1))]
     if '/' in name:
         return [declared(name)]
-    if os.path.isfile(os.path.join(ROOT, f'crates/{name}/src/main.rt')):
-        return [contract(name, f) for f, (path, _, head) in functions_of(name).items() if any('ensures' in ln for ln in head)]
+    if is_program(name):
+        return promised(name)
     stop(f'{name} is no exported call, program, function or name of specs/: --help says how to call it')
 
 
+def own_lines(name, starts):
+    return sum(len(clause(d)) for d in starts) if is_export(name) or is_program(name) else 0
+
+
 def figures(name):
-    """Lines, declarations, files, names of the library; of an exported call the lines of its `ensures` too."""
+    """Lines, declarations, files, names of the library; of an exported call and of a program the lines of its own contracts too."""
     starts = starts_of(name)
     found, library = surface(starts)
-    own = len(clause(starts[0])) if is_export(name) else 0
-    return own + sum(d.lines() for d in found), len(found), len({d.path for d in found}), len(library)
+    return own_lines(name, starts) + sum(d.lines() for d in found), len(found), len({d.path for d in found}), len(library)
 
 
 def show(name, quiet):
     starts = starts_of(name)
     found, library = surface(starts)
     lines, count, files, names = figures(name)
-    own = f', {len(clause(starts[0]))} of them its own `ensures`' if is_export(name) else ''
+    own = f', {own_lines(name, starts)} of them its own contract' if own_lines(name, starts) else ''
     print(f'{name}: {lines} lines{own}; {count} declarations in {files} files; {names} names of the kit\'s library')
     if is_export(name):
         said, one = sentence(name)
@@ -207,12 +228,14 @@ def table():
         lines, count, files, _ = figures(name)
         own = len(clause(contract(EXPORTS, name)))
         out.append(f'| `{name}` | {lines} | {own} | {count} | {files} | `{sentence(name)[0]}` |')
-    out += ['', '## Programs', '', 'By the contracts of their own functions; one that promises nothing of its own has 0.', '',
-            '| Program | Lines | Declarations | Files |', '|---|---|---|---|']
+    out += ['', '## Programs', '', 'By the contracts of their own functions that `main` calls, which are counted; one that promises nothing of its own has 0. '
+            'Where what is printed has sentences, they are what a contract names; elsewhere it names the definition of the text.', '',
+            '| Program | Lines | of them its contracts | Declarations | Files | Sentence |', '|---|---|---|---|---|---|']
     for path in sorted(os.listdir(os.path.join(ROOT, 'crates'))):
-        if os.path.isfile(os.path.join(ROOT, 'crates', path, 'src/main.rt')):
+        if is_program(path):
             lines, count, files, _ = figures(path)
-            out.append(f'| `{path}` | {lines} | {count} | {files} |')
+            said = ', '.join(f'`{x}`' for x in said_by(path)) or 'none'
+            out.append(f'| `{path}` | {lines} | {own_lines(path, promised(path))} | {count} | {files} | {said} |')
     out += ['', '## Theorems', '', 'The first that each row of the demands and tickets names (docs/STATEMENTS.md), but for the `meets` of the calls '
             'above: those speak of the model of the calls, which need not be believed.', '',
             '| Theorem | Lines | Declarations | Files |', '|---|---|---|---|']

@@ -25,7 +25,7 @@ use Rattle.c_answers.specs.Told.{buildTold}
 use Rattle.c_answers.specs.declared.DkLayout.{DkLayout}
 use Rattle.print_text.specs.Ascii.{ascii}
 use Rattle.print_text.specs.Lines.{placeNumbers, refusalText}
-use Rattle.print_answer.specs.Answer.{answered}
+use Rattle.print_answer.specs.Answer.{doneText, answered}
 use Rattle.says.specs.Words.{Not}
 use Rattle.says.specs.Blocks.{Block as Run, Walks}
 use Rattle.says.specs.Build.{Lent, Outcome}
@@ -103,10 +103,15 @@ module _ (y : Outcome) (same : length (y .lent .offsets) ≡ length (y .lent .si
 -- ---- the text, where the spans' lists are of one length
 
 module _ (passes : ℕ) (padding : List Lost) where
-  pub shown : (q : Build) (l : Lent) → length (l .offsets) ≡ length (l .sizes)
-      → Reports (record { answer = buildTold q passes padding; lent = l }) (answered q (l .image) (l .offsets) (l .sizes))
-  shown (Refused why) l same = report.refused (refusal-meets passes padding why)
-  shown (Done k bits n) l same =
+  done-shown : (k bits n : ℕ) (l : Lent) → length (l .offsets) ≡ length (l .sizes)
+      → Reports (record { answer = buildTold (Done k bits n) passes padding; lent = l })
+      (doneText k bits (take n (l .offsets)) (take n (l .sizes)) (l .image))
+  done-shown k bits n l same =
       let y : Outcome = record { answer = buildTold (Done k bits n) passes padding; lent = l } in
       report.accepted refl (line-meets (ascii "passes") (k ∷ [])) (blocks-of-meet y same)
       (blocks-meet (blocksOf (spansOf (take n (l .offsets)) (take n (l .sizes))))) (image-meets (l .image) bits)
+
+  pub shown : (q : Build) (l : Lent) → length (l .offsets) ≡ length (l .sizes)
+      → Reports (record { answer = buildTold q passes padding; lent = l }) (answered q (l .image) (l .offsets) (l .sizes))
+  shown (Refused why) l same = report.refused (refusal-meets passes padding why)
+  shown (Done k bits n) l same = done-shown k bits n l same
