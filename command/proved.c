@@ -35,9 +35,7 @@ int proved_number(struct bytes word, uint32_t *n) {
 
 struct bytes proved_layout(struct bytes file, struct choices c) {
     mut_u8 out = {report, sizeof report};
-    print_text__Written w = print_report__report(lent(file), c.fill, page_of(c), out);
-    if (w.tag != print_text__Written_To) fail("the layout's text does not fit its room");
-    return first_of(report, w.u.To.f0);
+    return first_of(report, layout__put_file(lent(file), c.fill, page_of(c), out));
 }
 
 struct bytes proved_map(struct bytes file, struct choices c) {
@@ -45,7 +43,7 @@ struct bytes proved_map(struct bytes file, struct choices c) {
 }
 
 struct bytes proved_records(struct bytes file, struct choices c, uint8_t format, uint32_t load, int is_whole) {
-    prog_records__Wanted wanted = {format, load, is_whole != 0};
+    print_records__Wanted wanted = {format, load, is_whole != 0};
     mut_u8 out = {records, sizeof records};
     return first_of(records, prog_records__put_file(wanted, lent(file), c.fill, page_of(c), out));
 }
