@@ -43,6 +43,7 @@ oracle/edit.py FILE FILE
 oracle/build.sh --edit FILE
 oracle/mutants.py FILE
 bindings/test.sh FILE
+bindings/python/test.sh FILE
 oracle/models.sh FILE
 """
 # Calls that read standard input, which is a folder, or closed.
@@ -111,7 +112,7 @@ def scripts():
     for folder in FOLDERS:
         for path in sorted((ROOT / folder).rglob("*")):
             # a module of a package cannot be started
-            is_module = (path.parent / "__init__.py").exists()
+            is_module = (path.parent / "__init__.py").exists() or path.name == "setup.py"  # that one is setuptools' own
             if path.is_file() and not is_module and "rust" not in path.parts and "__pycache__" not in path.parts:
                 head = path.read_bytes()[:40].split(b"\n")[0]
                 if path.suffix in (".sh", ".py") or head in (b"#!/bin/sh", b"#!/usr/bin/env python3"):

@@ -1,7 +1,7 @@
 #!/bin/sh
-# Compiles the shared library that the Python package loads in a checkout: build/python/library-SUM.so, from portable/denkumari.c and the inline functions of the
-# header, by CC or the first of cc, gcc and clang. SUM is that of the sources, so that what lies there is never another's; where it is there already nothing is
-# done. An installed package has its own (setup.py).
+# Compiles the shared library that the Python package loads in a checkout: build/python/library-SUM.so, from portable/denkumari.c and the inline functions of
+# the header, by CC or the first of cc, gcc and clang. SUM is that of the sources, so that what lies there is never another's; where it is there already
+# nothing is done. An installed package has its own (setup.py).
 set -eu
 . "$(dirname "$(readlink -f -- "$0")")/../../tools/start.sh"
 words_at_most 0 "$@"

@@ -1,5 +1,6 @@
-"""Installs the package denkumari: the shared library is compiled by the machine's own C compiler from portable/denkumari.c. It is loaded by ctypes, so it is tied
-to no version of Python. What stands elsewhere in the repository is copied when it is needed, and into c/ of a source distribution. It wants setuptools alone."""
+"""Installs the package denkumari: the shared library is compiled by the machine's own C compiler from portable/denkumari.c. It is loaded by ctypes, so it is
+tied to no version of Python. What stands elsewhere in the repository is copied when it is needed, and into c/ of a source distribution. It wants
+setuptools alone."""
 import base64
 import hashlib
 import os
@@ -47,17 +48,17 @@ class Library(build_ext):
 
 
 class Modules(build_py):
-    """The modules, and the table of words beside them."""
+    """The modules, and beside them the table of words and the licence."""
+
+    beside = ("refusals.def", "NOTICE")
 
     def run(self):
         super().run()
-        self.copy_file(str(source("refusals.def")), self._table())
-
-    def _table(self):
-        return os.path.join(self.build_lib, "denkumari", "refusals.def")
+        for name in self.beside:
+            self.copy_file(str(source(name)), os.path.join(self.build_lib, "denkumari", name))
 
     def get_outputs(self, include_bytecode=1):
-        return [*super().get_outputs(include_bytecode), self._table()]
+        return [*super().get_outputs(include_bytecode), *(os.path.join(self.build_lib, "denkumari", name) for name in self.beside)]
 
 
 class Distribution(sdist):

@@ -3,8 +3,8 @@ from __future__ import annotations
 
 from typing import Any, Iterable, List, NamedTuple, Optional, Tuple
 
-from ._c import MOST, NONE, U8, U64, lend, lib, number, room
-from ._records import Records, Run, block_lists, records_of
+from ._c import NONE, U8, U64, lend, lib, number, room
+from ._records import ROOM, Records, Run, block_lists, pair, records_of
 from ._types import Refused, accepted
 from ._words import say
 
@@ -21,7 +21,7 @@ class Overlay:
     """
 
     def __init__(self, overlay: Any, released: Any, blocks: Iterable[Any]):
-        self._overlay, self._released, self._blocks = overlay, released, [tuple(block) for block in blocks]
+        self._overlay, self._released, self._blocks = overlay, released, [pair(block) for block in blocks]
         self._lent()
 
     def _lent(self) -> List[Any]:
@@ -52,17 +52,20 @@ def bench(released: Any, overlay: Any, window: Optional[Tuple[int, int]] = None)
     """
     under, above = records_of(released), records_of(overlay)
     base = min([each.load for each in (under, above) if each.blocks], default=0)
-    top, bottom = (bytearray(sum(each.blocks[-1]) - base if each.blocks else 0) for each in (above, under))
-    for run in above.blocks:  # where the released file gives no byte none differs
+    if window is None:
+        return [Run(base + run.first, run.length) for run in _overlay(under, above, base).runs()]
+    return _source(under, above, *pair(window, "a window is an address and a count"), base)
+
+
+def _overlay(under: Records, above: Records, base: int) -> Overlay:
+    """Two files as images from one address on, each up to its last byte. Where the released file gives no byte none differs."""
+    top, bottom = (bytearray(max(sum(each.blocks[-1]) - base, 0) if each.blocks else 0) for each in (above, under))
+    for run in above.blocks:
         top[run.first - base:sum(run) - base] = above.data[run.first - above.load:sum(run) - above.load]
     bottom[:len(top)] = top[:len(bottom)]
     for run in under.blocks:
         bottom[run.first - base:sum(run) - base] = under.data[run.first - under.load:sum(run) - under.load]
-    both = Overlay(top, bottom, [(8 * (run.first - base), 8 * run.length) for run in above.blocks])
-    if window is None:
-        return [Run(base + run.first, run.length) for run in both.runs()]
-    address, count = (number(what, value, 0, MOST) for what, value in zip(("the address", "the count"), window))
-    return _source(both, under, above, (address, count), base, base + len(bottom))
+    return Overlay(top, bottom, [(8 * (run.first - base), 8 * run.length) for run in above.blocks])
 
 
 def _first_free(file: Records, address: int) -> int:
@@ -70,15 +73,16 @@ def _first_free(file: Records, address: int) -> int:
     return next((sum(run) for run in file.blocks if run.first <= address < sum(run)), address)
 
 
-def _source(both: Overlay, under: Records, above: Records, window: Tuple[int, int], base: int, behind: int) -> str:
+def _source(under: Records, above: Records, address: int, count: int, base: int) -> str:
     """Which file a range comes from, or Refused with the file that does not give all of it, and the first address."""
-    address, count = window
-    free, lack = _first_free(under, address), _first_free(above, address)
     if count == 0:
         raise Refused(16, 0, words=say("BENCH_EMPTY"))
-    name, at = ("overlay", lack) if address >= base and address + count <= behind else ("released", free)
+    free, lack = _first_free(under, address), _first_free(above, address)
+    is_in_released = bool(under.blocks) and address + count <= sum(under.blocks[-1])
+    name, at = ("overlay", lack) if is_in_released else ("released", free)
+    low = max(min(base, address), base - ROOM)
     try:
-        source = both.image_of(address - base, count) if address >= base else ""
+        source = _overlay(under, above, low).image_of(address - low, count) if address >= low else ""
     except Refused as refused:
         cause = "BENCH_PARTLY" if refused.number == 17 else "BENCH_OUTSIDE"
         raise Refused(refused.number, 0, words=say(cause, note=f"{name} gives no byte at {at} (0x{at:08x})")) from None

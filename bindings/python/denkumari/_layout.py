@@ -2,13 +2,14 @@
 from __future__ import annotations
 
 import os
+import warnings
 from pathlib import Path
 from typing import Any, Dict, List, Optional, Sequence, Tuple, Union
 
 from ._c import I64, MOST, NONE, U8, U16, U32, U64, front, given, lend, lib, number, room_for_bytes, view
 from ._form import Parts, read_form, write_form
-from ._names import BadNames, checked, read_names, write_names
-from ._records import RoomFor, write_hex, write_srec
+from ._names import BadNames, checked, names_file, read_names, write_names
+from ._records import RoomFor, pair, write_hex, write_srec
 from ._types import Bank, Block, Kind, Map, Names, Node, Padding, Placed, Refused, Span, accepted
 from ._words import layout_words
 
@@ -67,6 +68,9 @@ class Built:
     def __bytes__(self) -> bytes:
         return self.image.tobytes()
 
+    def __repr__(self) -> str:
+        return f"<Built: {self.length} bits, {len(self.spans)} spans, {len(self.blocks)} blocks>"
+
     def span(self, node: int) -> Span:
         """The span of a label or a written item; KeyError of any other node."""
         return self._span_of[node]
@@ -79,8 +83,7 @@ class Built:
 
     def part(self, block: Block) -> memoryview:
         """The bytes of a block, in the image's own memory; refused 16 where it is not on byte edges."""
-        offset, bits = (number(what, value, 0, NONE) for what, value in zip(("the offset", "the bits"), block))
-        part = accepted(lib.dk_part(*lend("the image", self._memory()), offset, bits))
+        part = accepted(lib.dk_part(*lend("the image", self._memory()), *pair(block)))
         return self.image[part.start:part.start + part.length]
 
     def to_hex(self, load: int = 0, whole: bool = False) -> str:
@@ -126,10 +129,15 @@ class Layout:
 
     def __init__(self, limit: int = 10, rows: int = 1, closed: bool = True, bank0: Bank = Bank()):
         self.limit, self.rows, self.closed = number("limit", limit, 0, 255), number("rows", rows, 0, 65535), bool(closed)
+        if not isinstance(bank0, Bank):
+            raise TypeError(f"bank0 has to be a Bank, not {type(bank0).__name__}")
         self.banks: List[Bank] = [bank0.checked()]
         self.nodes: List[Node] = []
         self.names: Names = {}
         self._values = Values()
+
+    def __repr__(self) -> str:
+        return f"<Layout: {len(self.banks)} banks, {len(self.nodes)} nodes, {self.rows} rows>"
 
     # -- files --
 
@@ -145,17 +153,19 @@ class Layout:
 
     @classmethod
     def from_file(cls, path: Union[str, "os.PathLike[str]"], names: Union[None, str, "os.PathLike[str]"] = None) -> "Layout":
-        """The layout of a file. Names come from the file `names`, else from NAME.names beside NAME.form where it is there and belongs to it."""
-        with open(path, "rb") as opened:
+        """The layout of a file. Names come from the file `names`, else from NAME.names beside NAME.form where it is there and belongs to it: one that does not
+        is left out, with a warning."""
+        form = Path(os.fspath(path))
+        with form.open("rb") as opened:
             file = opened.read(65537)
-        layout, beside = cls.from_form(file), Path(path).with_suffix(".names")
+        layout, beside = cls.from_form(file), form.with_suffix(".names") if form.name else form
         if names is not None:
-            layout.names = read_names(Path(names).read_bytes().decode("utf-8"), file)
-        elif Path(path).suffix == ".form" and beside.is_file():
+            layout.names = names_file(Path(os.fspath(names)), file)
+        elif form.suffix == ".form" and beside.is_file():
             try:
-                layout.names = read_names(beside.read_bytes().decode("utf-8"), file)
-            except (BadNames, OSError, UnicodeDecodeError):
-                pass  # names that only lie there change nothing
+                layout.names = names_file(beside, file)
+            except (BadNames, OSError) as why:  # names that only lie there change nothing
+                warnings.warn(f"the names of {beside} are left out: {why}", stacklevel=2)
         return layout
 
     def to_form(self, form: int = 2) -> bytes:

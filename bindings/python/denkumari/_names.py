@@ -2,6 +2,7 @@
 from __future__ import annotations
 
 import re
+from pathlib import Path
 from typing import List, Optional, Tuple
 
 from ._types import Names
@@ -73,6 +74,15 @@ def read_names(text: str, file: Optional[bytes] = None) -> Names:
         if found.group(2) or found.group(3):
             names[node] = (found.group(2), found.group(3))
     return names
+
+
+def names_file(path: Path, file: bytes) -> Names:
+    """The names of a file that belongs to a layout file."""
+    try:
+        text = path.read_bytes().decode("utf-8")
+    except UnicodeDecodeError:
+        raise BadNames("it is not UTF-8") from None
+    return read_names(text, file)
 
 
 def write_names(names: Names, file: bytes) -> str:

@@ -47,21 +47,24 @@ class BadRecords(Refused):
         self.args = (reason, line, first, more, words)
 
 
+def pair(block: Any, what: str = "a block is an offset and a number of bits") -> Tuple[int, int]:
+    """A block's offset and its bits, or two other numbers."""
+    try:
+        first, second = block
+    except (TypeError, ValueError, NotImplementedError):
+        raise TypeError(f"{what}, not {type(block).__name__}") from None
+    return number(f"{what}: the first", first, 0, NONE), number(f"{what}: the second", second, 0, NONE)
+
+
 def block_lists(blocks: Iterable[Any]) -> List[Any]:
     """Blocks as two lists that are lent: offsets and sizes, in bits."""
-    pairs = []
-    for each in blocks:
-        try:
-            offset, bits = each
-        except (TypeError, ValueError):
-            raise TypeError(f"a block is an offset and a number of bits, not {type(each).__name__}") from None
-        pairs.append((number("a block's offset", offset, 0, NONE), number("a block's bits", bits, 0, NONE)))
+    pairs = [pair(each) for each in blocks]
     return [*given(U64, (offset for offset, _ in pairs)), *given(U64, (bits for _, bits in pairs))]
 
 
 def _written(call: Any, image: Any, blocks: Optional[Iterable[Any]], *choices: int) -> str:
     lent = lend("the image", image)
-    listed = ([Block(0, 8 * lent[1])] if lent[1] else []) if blocks is None else list(blocks)
+    listed = ([(0, 8 * lent[1])] if lent[1] else []) if blocks is None else [pair(each) for each in blocks]
     most = lib.dk_py_record_room(lent[1], len(listed))
     held, text = room_for_bytes(most)
     answer = call(*lent, *block_lists(listed), *choices, text, most)
@@ -115,6 +118,9 @@ class Records:
     def __init__(self, load: int, data: memoryview, blocks: List[Run]):
         self.load, self.data, self.blocks = load, data, blocks
         self._firsts = [run.first for run in blocks]
+
+    def __repr__(self) -> str:
+        return f"<Records: {sum(run.length for run in self.blocks)} bytes in {len(self.blocks)} blocks from {self.load:#x} on>"
 
     def byte(self, address: int) -> Optional[int]:
         """The byte at an address, None where the file gives none."""

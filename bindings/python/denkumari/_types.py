@@ -4,7 +4,8 @@ from __future__ import annotations
 from enum import IntEnum
 from typing import Any, Dict, Iterator, List, NamedTuple, Optional, Tuple
 
-from ._c import MOST, lib, number
+from ._c import MOST, lib
+from ._c import number as exactly
 
 
 class Kind(IntEnum):
@@ -97,9 +98,9 @@ class Bank(NamedTuple):
 
     def checked(self) -> "Bank":
         """The same with every number in its type."""
-        size, offset, align = (None if value is None else number(f"a bank's {what}", value, 0, MOST)
+        size, offset, align = (None if value is None else exactly(f"a bank's {what}", value, 0, MOST)
                                for what, value in (("size", self.size), ("offset", self.offset), ("align", self.align)))
-        return Bank(number("a bank's unit", self.unit, 0, 65535), number("a bank's start", self.start, -(2**63), 2**63 - 1), size, offset, align,
+        return Bank(exactly("a bank's unit", self.unit, 0, 65535), exactly("a bank's start", self.start, -(2**63), 2**63 - 1), size, offset, align,
                     bool(self.fill), bool(self.ones))
 
     @property
@@ -166,8 +167,10 @@ class Refused(Exception):
     """
 
     def __init__(self, number: int, place: int = 0, second: int = 0, node: Optional[int] = None, name: str = "", words: str = ""):
-        self.number, self.place, self.second, self.node, self.name = int(number), int(place), int(second), node, name
-        self.words = words or lib.dk_py_words(number).decode("ascii")
+        self.number, self.place, self.second = (exactly(what, value, 0, 2**64 - 1) for what, value in
+                                                (("the number", number), ("the place", place), ("the second place", second)))
+        self.node, self.name = node, name
+        self.words = words or lib.dk_py_words(self.number).decode("ascii")
         super().__init__(number, place, second, node, name, words)
 
     def __str__(self) -> str:

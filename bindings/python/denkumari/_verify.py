@@ -165,9 +165,13 @@ def _runs(image: Any, blocks: Sequence[Block], data: Any, given: Sequence[Block]
     """First byte, count and kind of each longest run of bytes that are not given, or not the same."""
     if not HAS_VERIFY:
         return _runs_in_python(image, blocks, data, given)
-    most = len(image)
-    firsts, counts, kinds = room(U64, most), room(U64, most), room(U8, most)
-    answer = lib.dk_verify(*lend("the image", image), *block_lists(blocks), *lend("the dump", data), *block_lists(given), *firsts, *counts, *kinds)
+    lent, most = [*lend("the image", image), *block_lists(blocks), *lend("the dump", data), *block_lists(given)], min(len(image), 4096)
+    while True:
+        firsts, counts, kinds = room(U64, most), room(U64, most), room(U8, most)
+        answer = lib.dk_verify(*lent, *firsts, *counts, *kinds)
+        if answer.refusal != 14 or most >= len(image):
+            break
+        most = min(16 * most, len(image))
     if answer.refusal:
         raise Refused(answer.refusal, answer.place)
     return list(zip(firsts[0][:answer.count], counts[0][:answer.count], kinds[0][:answer.count]))

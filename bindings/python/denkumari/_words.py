@@ -50,7 +50,7 @@ def say(cause: str, numbers: Tuple[int, ...] = (), **texts: str) -> str:
 
     row = TABLE[cause]
     words = re.sub(r"\{([a-z0-9]+(?::\w+)?)\}", blank, row.words) + (f". {row.remedy}" if row.remedy else "")
-    return re.sub(r"--(load|width) ", r"\1=", words).replace("--whole", "whole=True")
+    return re.sub(r"--(load|width) ", r"\1=", words).replace("--whole", "whole=True").replace("--help has the limits", "Give a larger room")
 
 
 class Said:
@@ -85,13 +85,8 @@ class Said:
         return said if at.output is None else said + ("" if at.kind.placed else ",") + f" at output bit {at.output}"
 
     def numbers(self, node: int) -> str:
-        kind = self.layout.nodes[node].kind
-        row = self.row_of(self.map.passes) if self.map else 0
-        now = self.number_at(node, row)
-        said = f", {'to ' if kind >= Kind.ALIGN else ''}{now}"
-        if not self.map and kind != Kind.DATA:
-            said += "".join(f", then {self.number_at(node, r)}" for r in range(1, self.layout.rows) if self.number_at(node, r) != now)
-        return said + ("" if kind >= Kind.ALIGN else " bit" if now == 1 else " bits")
+        now = self.number_at(node, self.row_of(self.map.passes) if self.map else 0)
+        return f", to {now}" if self.layout.nodes[node].kind >= Kind.ALIGN else f", {several(now, 'bit')}"
 
     def node(self, at: int) -> str:
         called = self.layout.called(at)

@@ -1,0 +1,275 @@
+"""Layouts beside the C calls, the command and document 01's worked example."""
+import tempfile
+import unittest
+from pathlib import Path
+
+from .common import EXAMPLES, HOW_MANY, ROOT, answers, batched, command, draw, drawn_files, paged_files, refusal, some_layout
+from denkumari import BadNames, Bank, Kind, Layout, Misuse, Recorder, Refused, State, cksum, convert, read_names
+
+FILLS = ("inherited", "full")
+
+
+def listed(parts):
+    return ",".join("-" if part is None else str(part) for part in parts) or "-"
+
+
+def line_of(file, fill="inherited", page=None):
+    """The line of oracle/README.md that a file's answer makes, without the passes of a refusal."""
+    try:
+        layout = Layout.from_form(file)
+        built = layout.build(fill, page, room=16384)
+    except Refused as refused:
+        return str(refused).split(":")[0]
+    spans = listed(f"{span.address}:{'-' if span.offset is None else span.offset}:{span.bits}" for span in built.spans)
+    said = f"ok {built.k} {built.passes} {built.length} {built.digits() or '-'} | spans {spans} | blocks {listed(f'{o}:{b}' for o, b in built.blocks)}"
+    said += f" | padding {listed(p.bits for p in built.padding)} | units {listed(p.units for p in built.padding)}"
+    return said if page is None else said + f" | pages {listed(layout.profile(page, fill))}"
+
+
+class BesideC(unittest.TestCase):
+    def hold(self, files, *words, **choices):
+        files = list(files)
+        said = answers("batch", "--padding", *words, given=batched(files))
+        self.assertEqual(len(said), len(files))
+        seen = set()
+        for file, want in zip(files, said):
+            self.assertEqual(line_of(file, **choices), want.split(" passes ")[0], file.hex())
+            seen.add(want.split()[0] if want[0] == "o" else want.split()[1])
+        return seen
+
+    def test_files(self):
+        seen = self.hold(drawn_files(HOW_MANY))
+        self.assertLessEqual({"ok", "2", "3", "4", "5", "7", "8", "9", "10", "11", "12"} if HOW_MANY >= 400 else set(), seen)
+
+    def test_full_fill(self):
+        self.hold(drawn_files(HOW_MANY // 4), "--fill", "1", fill="full")
+
+    def test_profile(self):
+        self.assertLessEqual({"ok", "19"}, self.hold(paged_files(HOW_MANY // 2), "--page", "16", page=16))
+
+    def test_from_python(self):
+        rng, made = draw("layouts"), []
+        for _ in range(HOW_MANY):
+            made.append((some_layout(rng), rng.choice(FILLS)))
+        for fill in FILLS:
+            files = [layout.to_form(2) for (layout, _), chosen in made if chosen == fill]
+            self.hold(files, "--fill", str(FILLS.index(fill)), fill=fill)
+        checked = sum(self.values(layout, told, fill) for (layout, told), fill in made)
+        self.assertGreater(checked, HOW_MANY // 2)
+
+    def values(self, layout, told, fill):
+        """Every item's bits in the image are the value that it was given."""
+        if refusal(layout.build, fill):
+            return 0
+        built = layout.build(fill)
+        whole, bits = int.from_bytes(built.image, "big"), 8 * built.image.nbytes
+        for node, value in told.items():
+            span = built.span(node)
+            self.assertEqual(whole >> (bits - span.offset - span.bits) & ((1 << span.bits) - 1), value)
+        return len(told)
+
+    def test_conversion(self):
+        files = list(drawn_files(HOW_MANY // 2))
+        for form in (1, 2):
+            for file, want in zip(files, answers("batch", "--to", str(form), "--room", "65536", given=batched(files))):
+                refused = refusal(convert, file, form)
+                got = str(refused).split(":")[0] if refused else f"ok {convert(file, form).hex()}"
+                self.assertEqual(got, want, file.hex())
+
+    def test_there_and_back(self):
+        for file in drawn_files(HOW_MANY // 2):
+            if refusal(Layout.from_form, file) or not Layout.from_form(file).banks:
+                continue
+            again = Layout.from_form(file).to_form(2 if file[:1] == b"\x10" else 1)
+            self.assertEqual(line_of(again), line_of(file))
+
+
+class BesideCommand(unittest.TestCase):
+    @classmethod
+    def setUpClass(cls):
+        cls.room = tempfile.TemporaryDirectory()
+        cls.form = Path(cls.room.name) / "a file.form"
+
+    @classmethod
+    def tearDownClass(cls):
+        cls.room.cleanup()
+
+    def hold(self, file, fill, page=None):
+        """The refusal's words, letter by letter; of a broken file the field and the byte."""
+        self.form.write_bytes(file)
+        status, _, words = command("layout", "--fill", fill, *(["--page", page] if page else []), self.form)
+        refused = refusal(lambda: Layout.from_file(self.form).build(fill, page, room=16384))
+        self.assertEqual(status, 1 if refused else 0, words)
+        if not refused:
+            return 0
+        words = words.replace("denkumari layout: ", "", 1).rstrip("\n")
+        if refused.number == 14:
+            return self.assertIn("16384 bytes", refused.words)
+        if " at byte " in words:
+            self.assertEqual(refused.words.split(", is ")[0], words.split(", is ")[0].split(", has ")[0])
+        else:
+            self.assertEqual(refused.words, words, file.hex())
+        return refused.number
+
+    def test_words(self):
+        seen = set()
+        for file in drawn_files(HOW_MANY // 2):
+            seen.add(self.hold(file, FILLS[len(file) % 2]))
+        for file in paged_files(HOW_MANY // 4):
+            seen.add(self.hold(file, "inherited", 16))
+        self.assertLessEqual({2, 3, 4, 5, 7, 8, 9, 10, 11, 12, 19} if HOW_MANY >= 400 else set(), seen)
+
+    def test_words_of_python(self):
+        rng = draw("words")
+        for _ in range(HOW_MANY // 2):
+            layout, _ = some_layout(rng)
+            Path(str(self.form).replace(".form", ".names")).write_text(layout.to_names(), "utf-8")
+            self.hold(layout.to_form(), "inherited")
+
+    def test_conversion_words(self):
+        files = [*drawn_files(HOW_MANY // 4), Layout().to_form(), Layout(rows=17).to_form(), b"", b":00000001FF\n"]
+        ones = Layout()
+        ones.bank(size=8, offset=0, fill=True, ones=True)
+        for i, file in enumerate([*files, ones.to_form()]):
+            self.form.write_bytes(file)
+            status, _, words = command("convert", self.form, "--to", 1 + i % 2)
+            refused = refusal(convert, file, 1 + i % 2)
+            self.assertEqual(status, 1 if refused else 0)
+            if refused and " at byte " not in words:
+                self.assertEqual(f"denkumari convert: refused with {refused.number}: {refused.words}\n", words)
+
+    def test_examples(self):
+        self.assertGreater(len(EXAMPLES), 15)
+        for path in EXAMPLES:
+            for fill in FILLS:
+                said = command("layout", "--fill", fill, path)[1]
+                refused = refusal(lambda: Layout.from_file(path).build(fill))
+                if refused:
+                    self.assertEqual(str(refused).split(":")[0] + "\n", said)
+                    continue
+                built = Layout.from_file(path).build(fill)
+                blocks = "".join(f"block {block.offset} {block.bits}\n" for block in built.blocks)
+                self.assertEqual(f"passes {built.k}\n{blocks}image {built.digits()}".rstrip() + "\n", said)
+
+    def test_map(self):
+        for path in EXAMPLES:
+            layout = Layout.from_file(path)
+            lines = [line.split() for line in command("map", "--lines", path)[1].splitlines()]
+            mapped = layout.map()
+            nodes = [[int(word) if word != "-" else None for word in line[1:]] for line in lines if line[0] == "node"]
+            self.assertEqual(nodes, [[p.node, p.kind, p.bank, p.position, p.address, p.output, p.bits] for p in mapped], path)
+            fault = [int(line[1]) for line in lines if line[0] == "fault"]
+            self.assertEqual(fault, [] if mapped.node is None else [mapped.node])
+
+    def test_march(self):
+        refused = refusal(Layout.from_file(ROOT / "examples" / "clamp-mark-after.form").build)
+        self.assertEqual((refused.number, refused.place, refused.second, refused.node, refused.name), (12, 0, 128, 7, ""))
+        self.assertIn(": node 2 (data, bank 1", refused.words)
+
+
+class Made(unittest.TestCase):
+    def worked(self):
+        layout = Layout()
+        layout.switch(layout.bank(unit=10, start=64, size=40, offset=0, fill=True))
+        layout.label("table")
+        layout.data(10, 0x3ff)
+        layout.reserve(10)
+        layout.item(bits=10, value=0x0aa)
+        return layout
+
+    def test_worked_example(self):
+        built = self.worked().build()
+        self.assertEqual((built.k, built.digits(), built.blocks), (1, "ffc002a800", [(0, 10), (20, 10)]))
+        self.assertEqual(built.image, bytes.fromhex("ffc002a800"))
+        self.assertEqual(bytes(built), bytes.fromhex("ffc002a800"))
+        self.assertEqual([(span.address, span.offset, span.bits) for span in built.spans], [(64, 0, 0), (64, 0, 10), (66, 20, 10)])
+
+    def test_rows(self):
+        """The jump of docs/FORMAT.md, by rows and by passes."""
+        layout, recorder = Layout(rows=3), Recorder()
+        for each in (layout, recorder):
+            each.bank(size=512, offset=0)
+        layout.switch(1)
+        layout.item([24, 16, 16], 0xeb02, states=[2, 2, 1])
+        layout.data(value=b"\xbe\xef")
+        nodes = [recorder.node(Kind.SWITCH, 1), recorder.node(Kind.INSTRUCTION, name="jmp"), recorder.node(Kind.DATA)]
+        for bits, state in ((24, State.UNRESOLVED), (16, State.UNRESOLVED), (16, State.STABLE), (16, State.STABLE)):
+            recorder.begin_pass()
+            recorder.tell(nodes[1], bits, state)
+            recorder.tell(nodes[2], 16)
+        recorder.value(nodes[1], 0xeb02, 16)
+        recorder.value(nodes[2], b"\xbe\xef")
+        for each in (layout, recorder):
+            self.assertEqual((each.build().digits(), each.build().k), ("eb02beef", 3))
+        self.assertEqual(layout.to_form(), recorder.layout().to_form())
+
+    def test_recorder_turns_away(self):
+        recorder = Recorder()
+        with self.assertRaisesRegex(Misuse, "no pass has begun"):
+            recorder.layout()
+        with self.assertRaisesRegex(Misuse, "there is no bank 1"):
+            recorder.node(Kind.SWITCH, 1)
+        item, data, label = recorder.node(Kind.INSTRUCTION, name="jmp"), recorder.node(Kind.DATA), recorder.node(Kind.LABEL)
+        with self.assertRaisesRegex(Misuse, "no pass has begun"):
+            recorder.tell(item, 8)
+        recorder.begin_pass()
+        recorder.tell(data, 8)
+        for call, words in ((lambda: recorder.tell(data, 8), "pass 1 tells node 1 twice"), (recorder.begin_pass, "pass 1 leaves out jmp .instruction."),
+                            (lambda: recorder.value(label, 1, 1), "is not written"), (lambda: recorder.tell(9, 1), "there is no node 9"),
+                            (recorder.bank, "before the first pass"), (lambda: recorder.node(Kind.LABEL), "before the first pass")):
+            with self.assertRaisesRegex(Misuse, words):
+                call()
+        recorder.tell(item, 8)
+        with self.assertRaisesRegex(Misuse, "jmp has 8 bits in the last pass, and its value 0"):
+            recorder.build()
+        recorder.begin_pass()
+        with self.assertRaisesRegex(Misuse, "8 bits in pass 1, and 9 in pass 2"):
+            recorder.tell(data, 9)
+
+    def test_refused_with_its_name(self):
+        layout = self.worked()
+        layout.item(bits=24, value=7, name="too long", place="main.asm:7")
+        refused = refusal(layout.build)
+        self.assertEqual((refused.number, refused.node, refused.name), (10, 5, "too long"))
+        self.assertTrue(refused.words.startswith("too long, main.asm:7 (node 5, instruction, bank 1, position 30, address 67 = 0x43, 24 bits"), refused.words)
+        self.assertEqual(str(refused), f"refused 10 5: {refused.words}")
+
+    def test_room(self):
+        layout = Layout()
+        layout.switch(layout.bank(size=1 << 20, offset=0, fill=True))
+        layout.data(value=b"x")
+        self.assertEqual(layout.build(fill="full").image.nbytes, 1 << 17)
+        refused = refusal(layout.build, fill="full", room=1000)
+        self.assertEqual((refused.number, refused.words), (14, "the room for the image, 1000 bytes, is too short. Lend more."))
+
+    def test_bank_0(self):
+        """Bank 0 alone: closed in form 2, open in form 1."""
+        for closed in (True, False):
+            layout = Layout(closed=closed, bank0=Bank(offset=0))
+            layout.data(value=b"x")
+            self.assertEqual(refusal(layout.build) is not None, closed)
+            with self.assertRaises(ValueError):
+                layout.to_form(1 if closed else 2)
+
+    def test_names(self):
+        layout = self.worked()
+        layout.names[2] = ("force", "a.asm:1")
+        file, text = layout.to_form(), layout.to_names()
+        self.assertEqual(Layout.from_form(file, text).names, {1: ("table", ""), 2: ("force", "a.asm:1")})
+        for wrong in ("1\tx\n", "a\tb\tc\n", "2\ta\tb\n2\ta\tb\n", f"form\t{cksum(file) ^ 1}\t{len(file)}\n", "1\ta\x1b\tb\n"):
+            with self.assertRaises(BadNames):
+                Layout.from_form(file, wrong)
+        self.assertEqual(read_names("1\ta\tb\r\n7\t\tc"), {1: ("a", "b"), 7: ("", "c")})
+        with tempfile.TemporaryDirectory() as room:
+            form = Path(room) / "x.form"
+            form.write_bytes(file)
+            form.with_suffix(".names").write_text(text, "utf-8")
+            self.assertEqual(Layout.from_file(form).name(2), "force")
+            form.with_suffix(".names").write_text("no names", "utf-8")
+            with self.assertWarnsRegex(UserWarning, "are left out: line 1 is not a number"):
+                self.assertEqual(Layout.from_file(str(form)).names, {})
+            form.with_suffix(".names").write_bytes(b"1\t\xff\t\n")
+            with self.assertWarnsRegex(UserWarning, "are left out: it is not UTF-8"):
+                self.assertEqual(Layout.from_file(str(form)).names, {})
+            with self.assertRaises(BadNames):
+                Layout.from_file(form, names=form.with_suffix(".names"))
