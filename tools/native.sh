@@ -64,7 +64,7 @@ with_pictures() {
     shift
     for one in "$@"; do
         case $command:$one in
-        map:--svg | compare:--svg) exec "$home/tools/${command}_svg" "$@" ;;
+        map:--svg | compare:--svg | map:--html) exec "$home/tools/${command}_${one#--}" "$@" ;;
         esac
     done
     start_native "$command" "$@"
