@@ -49,6 +49,7 @@ as layout "$examples/clamp-mark-after.form"
 as layout --page 64 --fill full "$examples/banks.form"
 as map "$examples/banks.form"
 as map --svg "$examples/sequencer.form"
+as map --html "$examples/sequencer.form"
 as words "$examples/clamp-mark-after.form" 'refused 12 0 128'
 as words "$examples/worked.form" 'refused 9 1'
 as ihex "$examples/banks.form" --load 0x8000

@@ -1,5 +1,5 @@
 #!/usr/bin/env python3
-"""The manners of every script of tools/, command/, oracle/, bindings/ and .ci/: scripts.py [NAME ..]
+"""The manners of every script of tools/, command/, oracle/, bindings/, web/ and .ci/: scripts.py [NAME ..]
 
 Each prints its --help and does nothing else, also through a symlink, from another directory and with CDPATH set; refuses an option that there is not with
 status 2 and a line on standard error; has no traceback for a file that is not there, a folder in a file's place, a closed pipe or a full disk; and leaves no
@@ -19,7 +19,7 @@ from pathlib import Path
 import manners
 
 ROOT = manners.ROOT
-FOLDERS = ("tools", "command", "portable", "oracle", "bindings", ".ci")
+FOLDERS = ("tools", "command", "portable", "oracle", "bindings", "web", ".ci")
 SIGNALS = (signal.SIGINT, signal.SIGTERM, signal.SIGHUP)
 NOWHERE = "no such folder/no such file"
 FORM = "examples/worked.form"
@@ -28,6 +28,7 @@ FORM = "examples/worked.form"
 FILES = """
 tools/layout FILE
 tools/map FILE
+tools/map --html FILE
 tools/ihex FILE
 tools/srec FILE
 tools/convert FILE --to 2
@@ -68,6 +69,7 @@ ANSWERS = """
 tools/layout
 tools/map -
 tools/map --svg -
+tools/map --html -
 tools/ihex examples/banks.form
 tools/srec examples/banks.form
 tools/convert - --to 2
@@ -90,6 +92,7 @@ oracle/damage.py --requests --every 0 --random 40 --writes 40
 # Calls that have a temporary folder for a while.
 LASTING = """
 tools/map --svg -
+tools/map --html -
 tools/replay
 tools/citations
 tools/lint
@@ -224,7 +227,7 @@ def with_blanks(room):
     trial = Trial(room)
     copy = trial.room / "a path with blanks"
     copy.mkdir()
-    for name in ("tools", "command", "portable", "oracle", "bindings", "examples", "include", "docs", "crates", "crates.txt", "KIT", ".ci"):
+    for name in ("tools", "command", "portable", "oracle", "bindings", "examples", "include", "docs", "crates", "crates.txt", "KIT", "web", ".ci"):
         source = ROOT / name
         if source.is_dir():
             shutil.copytree(source, copy / name, ignore=shutil.ignore_patterns("__pycache__", "target"))
@@ -233,7 +236,8 @@ def with_blanks(room):
     for name in ("bin", "sum", "staticlib"):
         if (ROOT / "target" / name).is_dir():
             shutil.copytree(ROOT / "target" / name, copy / "target" / name)
-    tried = [("tools/layout", FORM), ("tools/map", "--svg", "examples/sequencer.form"), ("tools/ihex", "examples/banks.form"), ("tools/form", FORM),
+    tried = [("tools/layout", FORM), ("tools/map", "--svg", "examples/sequencer.form"),
+             ("tools/map", "--html", "examples/sequencer.form"), ("tools/ihex", "examples/banks.form"), ("tools/form", FORM),
              ("tools/compare", FORM, FORM),
              ("tools/words", "examples/clamp-mark-after.form", "refused 12 0 128"), ("tools/statements",), ("oracle/check.py",),
              ("oracle/programs.py", "--cases", "3")]

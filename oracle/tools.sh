@@ -188,6 +188,7 @@ refused 'refused 12 0 128' "$hit" tools/layout examples/clamp-mark-after.form
 refused 'refused 12 0 128' "$hit" tools/map examples/clamp-mark-after.form
 has "$room/out" ' *7  data  .*  at fault' 'tools/map examples/clamp-mark-after.form'
 refused '</svg>' "$hit" tools/map --svg examples/clamp-mark-after.form
+refused '</html>' "$hit" tools/map --html examples/clamp-mark-after.form
 refused 'refused 12 32 0' 'node 5 (data, .*) would have the mark at bit 32 .*: node 2 (reserve, ' tools/map examples/mark-then-table.form
 refused 'refused 10 3' 'node 3 (data, .*) ends at bit 41, 1 bit past the size of bank 1 ' tools/map examples/past-the-end.form
 refused 'refused 9 0' 'node 0 (label, bank 0, .*) uses bank 0' tools/map examples/alone.form
@@ -218,6 +219,19 @@ has "$room/out" ' *21  instruction *1 *64 *264 *0x108  64..87 *8..10 *24' 'tools
 has "$room/out" ' *3  320..335 *40..41 *16' 'tools/map examples/banks.form'
 tools/map --svg examples/sequencer.form >"$room/drawn" || wrong=1
 same docs/sequencer.svg "$room/drawn" "docs/sequencer.svg is not what tools/map --svg draws of examples/sequencer.form"
+# the page with the layout in it: the built page but for that line, whole, and never over an input
+tools/map --html -o "$room/page" --fill full examples/sequencer.form || wrong=1
+grep -v 'id="given"' "$room/page" >"$room/drawn_too"
+grep -v 'id="given"' web/denkumari.html >"$room/plain"
+same "$room/plain" "$room/drawn_too" "tools/map --html writes another page than web/denkumari.html"
+sed -n 's/.*id="given">.*"form":"\([^"]*\)","names":"","fill":"full","page":"".*/\1/p' "$room/page" | base64 -d >"$room/within"
+same examples/sequencer.form "$room/within" "tools/map --html has another layout in its page"
+refused '' 'field 0, at byte 0, ' tools/map --html README.md
+cp examples/banks.form "$room/over.form"
+is 2 tools/map --html "$room/over.form" -o "$room/over.form"
+same examples/banks.form "$room/over.form" "tools/map --html wrote over its input"
+is 2 tools/map --html --svg examples/banks.form
+is 2 tools/map --html --lines examples/banks.form
 # names, given and beside the file, in the words of each tool; a names file that is none
 cp examples/clamp-mark-after.form "$room/clamp.form"
 printf '2\tclamp_force\ttables.asm:12\n4\ta|b\t\n7\t<wear>\ttables.asm:19\n4096\tnothing\t\n' >"$room/given.names"
@@ -509,8 +523,8 @@ full_after() { # BLOCKS COMMAND ..
     return "$(cat "$room/status")"
 }
 whole_room=$room/whole.hex
-for call in "layout examples/sequencer.form -o $room/cut" "map --svg examples/sequencer.form" "srec --whole examples/sequencer.form -o $room/cut" \
-    "convert examples/sequencer.form --to 2 -o $room/cut"; do
+for call in "layout examples/sequencer.form -o $room/cut" "map --svg examples/sequencer.form" "map --html examples/sequencer.form" \
+    "srec --whole examples/sequencer.form -o $room/cut" "convert examples/sequencer.form --to 2 -o $room/cut"; do
     # shellcheck disable=SC2086
     is 2 full_after 16 tools/$call
     [ ! -e "$room/cut" ] || {

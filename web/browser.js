@@ -32,7 +32,7 @@ class Browser {
             else asked.done(result);
         } else if (method === "Network.requestWillBeSent") this.requests.push(params.request.url);
         else if (method === "Runtime.exceptionThrown") this.errors.push(JSON.stringify(params.exceptionDetails).slice(0, 400));
-        else if (method === "Log.entryAdded") this.errors.push(params.entry.text);
+        else if (method === "Log.entryAdded" && params.entry.level === "error") this.errors.push(params.entry.text);
     }
 
     send(method, params = {}, session = this.session) {

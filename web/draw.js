@@ -299,18 +299,20 @@ class Pane {
             if (point.what === "mark") paintMark(g, x, at.y + one.box, point.isFault ? FAULT : colour || "#111");
             else {
                 paintFlag(g, x, at.y, colour || "#17552a");
-                busy = this.paintName(g, point, x + 7, at.y - 4, busy, one.scale);
+                busy = this.paintName(g, point, x + 7, at, busy, one.scale, points[i + 1]);
             }
         }
     }
 
-    paintName(g, point, x, y, busy, scale) {
+    // A symbol's name, where neither the one before it nor the flag behind it is in its way.
+    paintName(g, point, x, at, busy, scale, next) {
         const text = nameOf(this.said, point.node) || (scale > 1.4 ? point.what + " " + point.node : "");
         g.font = "11px " + SANS;
         g.textAlign = "left";
-        if (!text || x < busy) return busy;
-        g.fillText(text, x, y);
-        return x + 6 + g.measureText(text).width;
+        const end = x + 3 + g.measureText(text).width, isInTheWay = next && next.what !== "mark" && next.at > point.at && at.x(next.at) < end;
+        if (!text || x < busy || isInTheWay) return busy;
+        g.fillText(text, x, at.y - 4);
+        return end + 3;
     }
 
     // The node at fault, what it meets, and the chosen one, over all lines that it stands on.

@@ -173,7 +173,8 @@ function showSaid() {
 }
 
 function comparedWords() {
-    if (!state.isCompared) return [element("strong", "", "Not compared"), ": " + state.moved.replace(/^(old|new)\//, "")];
+    const isRefused = state.said.some((said) => said.refusal !== null);
+    if (!state.isCompared) return [element("strong", "", "Not compared"), ": " + (isRefused ? "a layout is refused" : state.moved) + "."];
     const [first, ...rest] = state.moved.trimEnd().split("\n"), banks = rest.filter((line) => /^(bank|passes|blocks|image| {2}\d| {2}bytes)/.test(line));
     const words = first.slice(first.lastIndexOf(": ") + 2);
     return [element("strong", "", words), ". " + banks.map((line) => line.trim()).join("; ").slice(0, 600)];
