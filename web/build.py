@@ -1,8 +1,8 @@
 #!/usr/bin/env python3
 """The page: web/build.py holds web/denkumari.html to what the sources make, web/build.py --write makes it.
 
-One HTML file: page.html with core.js and view.js in it, and with the command denkumari (command/, and the proved functions as C, portable/texts.c) compiled to
-WebAssembly by clang and wasm-ld (Debian: clang, lld). The head of the page has a sum of everything that it was made from, and the compiler's version. Where
+One HTML file: page.html with core.js, draw.js and view.js in it, and with the command denkumari (command/, and the proved functions as C, portable/texts.c and
+portable/denkumari.c, as far as the command calls them) compiled to WebAssembly by clang and wasm-ld (Debian: clang, lld). The head of the page has a sum of everything that it was made from, and the compiler's version. Where
 clang is not there, or is another version, the WebAssembly is taken from the page as it stands, the sums of its sources are held all the same, and a line
 `left out:` says so. Status 1 where the page is not what the sources make."""
 
@@ -27,6 +27,7 @@ PARTS = ("page.html", "core.js", "draw.js", "view.js", "build.py")
 FLAGS = ("--target=wasm32", "-Oz", "-std=c99", "-ffreestanding", "-nostdlib", "-mbulk-memory", "-fvisibility=hidden", "-Wall", "-Wextra", "-Werror",
          "-Dmain=main_of_command")
 LINKED = ("--no-entry", "--gc-sections", "--strip-all", "-z", "stack-size=1048576")
+PROVED = (ROOT / "portable" / "texts.c", ROOT / "portable" / "denkumari.c")
 # the command's own, in whose place the page has others: web/system.c, and web/pairs.c, which reads compare.c
 REPLACED = ("system.c", "compare.c")
 
@@ -34,13 +35,13 @@ REPLACED = ("system.c", "compare.c")
 def compiled_files():
     """The files of C that are compiled."""
     own = sorted(file for file in (ROOT / "command").glob("*.c") if file.name not in REPLACED)
-    return own + [ROOT / "portable" / "texts.c", *sorted(HERE.glob("*.c"))]
+    return own + [*PROVED, *sorted(HERE.glob("*.c"))]
 
 
 def wasm_sources():
     """Everything that the WebAssembly is made from."""
     read = [*(ROOT / "command").glob("*.[ch]"), *(ROOT / "command").glob("*.def"), *HERE.glob("*.c"), *(HERE / "libc").glob("*.h")]
-    read += [ROOT / "portable" / "texts.c", ROOT / "portable" / "texts.h", ROOT / "include" / "denkumari.h", ROOT / "KIT"]
+    read += [*PROVED, ROOT / "portable" / "texts.h", ROOT / "include" / "denkumari.h", ROOT / "KIT"]
     return sorted(set(read) - {ROOT / "command" / "system.c"})
 
 
@@ -63,11 +64,12 @@ def compiled():
     """The command as WebAssembly."""
     with manners.room() as room:
         objects = []
-        kit = f'-DDENKUMARI_KIT="{(ROOT / "KIT").read_text().strip()}"'
+        printed = [re.search(r"^ \* sources: (\S+)$", file.read_text(), re.MULTILINE)[1] for file in PROVED]
+        told = [f'-DDENKUMARI_KIT="{(ROOT / "KIT").read_text().strip()}"', f'-DDENKUMARI_SOURCES="{" ".join(printed)}"']
         found = [f"-isystem{HERE / 'libc'}", f"-I{ROOT / 'include'}", f"-I{ROOT / 'portable'}", f"-I{ROOT / 'command'}"]
         for file in compiled_files():
             objects.append(str(room / f"{file.parent.name}-{file.stem}.o"))
-            subprocess.run(["clang", *FLAGS, kit, *found, "-c", str(file), "-o", objects[-1]], check=True)
+            subprocess.run(["clang", *FLAGS, *told, *found, "-c", str(file), "-o", objects[-1]], check=True)
         subprocess.run(["wasm-ld", *LINKED, *objects, "-o", str(room / "page.wasm")], check=True)
         return (room / "page.wasm").read_bytes()
 

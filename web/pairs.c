@@ -3,7 +3,7 @@
 #include "../command/compare.c"
 #include "../command/system.h"
 
-static const struct command pairs = {"pairs", FILL | BOTH_NAMES, 2, 2, NULL, NULL};
+static const struct command pairs = {.name = "pairs", .takes = FILL | BOTH_NAMES, .least = 2, .most = 2};
 
 static void put_line(struct text *t, const struct side *a, const struct one *x, const struct side *b, const struct one *y) {
     if (x) put(t, "%lld ", (long long)x->number);

@@ -9,6 +9,7 @@ void *memchr(const void *at, int value, size_t count);
 int memcmp(const void *a, const void *b, size_t count);
 size_t strlen(const char *text);
 size_t strspn(const char *text, const char *set);
+size_t strcspn(const char *text, const char *set);
 char *strchr(const char *text, int c);
 char *strrchr(const char *text, int c);
 char *strcpy(char *to, const char *from);
