@@ -84,8 +84,8 @@ function openGiven() {
     if (!given) return undefined;
     $("fill").value = given.fill;
     $("page").value = given.page;
-    const names = given.names ? unbase(given.names) : null;
-    return show([null, { name: text(given.name), form: unbase(given.form), names, namesName: names ? "names" : null }]);
+    const name = text(given.name), names = given.names ? unbase(given.names) : null;
+    return show([null, { name, form: unbase(given.form), names, namesName: names ? name + ".names" : null }]);
 }
 
 // ---- showing ----
