@@ -182,6 +182,26 @@ function takeLayout(said, text) {
     }
 }
 
+// An image that is larger than what layout lends, where more room was asked for: its bytes by ihex --whole, its blocks by the map.
+async function takeLarger(command, said, name) {
+    const chosen = [...choiceWords(said.choices), ...roomWords(said.choices), "--", name], files = new Map([[name, said.doc.form]]);
+    const records = await command.run(["ihex", "--whole", ...chosen], files), map = textOf((await command.run(["map", ...chosen], files)).out);
+    const [, table] = /\nblock  .*\n([^]*?)\n\n/.exec(map) || ["", ""], rows = table.split("\n").filter((row) => row).map((row) => row.trim().split(/\s+/));
+    said.refusal = null;
+    said.image = imageOf(textOf(records.out));
+    said.blocks = rows.map((row) => ({ from: parseInt(row[1], 10), size: Number(row.at(-1)) }));
+}
+
+// The bytes of Intel HEX that has every one from address 0 on.
+function imageOf(text) {
+    const parts = [];
+    for (const line of text.split("\n")) {
+        const record = bytesOf(line.slice(1).trim());
+        if (record.length > 4 && record[3] === 0) parts.push(record.subarray(4, 4 + record[0]));
+    }
+    return joined(parts);
+}
+
 const bytesOf = (digits) => Uint8Array.from({ length: Math.ceil(digits.length / 2) }, (_, i) => parseInt((digits + "0").slice(2 * i, 2 * i + 2), 16));
 
 // ---- what is drawn of it ----
@@ -272,12 +292,15 @@ function choiceWords(choices) {
     return [...(choices.fill ? ["--fill", choices.fill] : []), ...(choices.page ? ["--page", choices.page] : [])];
 }
 
+// Commands that take a room for the image, where the command has that choice.
+const roomWords = (choices) => (choices.room ? ["--room", choices.room] : []);
+
 // The name that the command knows a file by; it says it in its words.
 const formName = (doc) => (doc.name === "" || doc.name === "-" ? "layout.form" : doc.name);
 
 // The map of a layout with its names, or without where they are none or another file's: what the command says of them goes into `told`.
 async function mapped(command, doc, choices, files, told) {
-    const words = ["map", "--lines", ...choiceWords(choices)], name = formName(doc);
+    const words = ["map", "--lines", ...choiceWords(choices), ...roomWords(choices)], name = formName(doc);
     if (doc.names) {
         const found = await command.run([...words, "--names", doc.namesName, "--", name], files);
         if (found.status < 2) return { found, names: readNames(doc.names) };
@@ -297,6 +320,7 @@ async function study(command, doc, choices) {
     if (said.isFailed) return said;
     takeLayout(said, textOf((await command.run(["layout", ...choiceWords(choices), "--", name], new Map([[name, doc.form]]))).out));
     if (said.isBroken) return said;
+    if (found.status === 0 && said.refusal !== null) await takeLarger(command, said, name);
     const file = readFields(doc.form), row = file.rows[Math.min(Math.max(said.passes, 1), file.rows.length) - 1] || [];
     Object.assign(said, { operands: file.operands, values: file.values });
     const isRight = walk(said, row), isSummed = said.banks.map((bank) => sumUp(bank, bank.no > 15)).every((is) => is);

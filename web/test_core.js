@@ -90,6 +90,21 @@ async function two(command, [old, now], should) {
     same(`${old.doc.name} ${now.doc.name}: pairs`, Object.entries(counts).map(([change, count]) => `${count} ${change}`).sort(), summed);
 }
 
+// An image beyond what layout lends, where the command can be asked for more room.
+async function larger(command) {
+    const [help] = nativeSays([["map", "--help"]]), name = "larger.form", form = new Uint8Array(fs.readFileSync(path.join(folder, "example-banks.form")));
+    if (!help.out.includes("--room")) return;
+    const at = 29 + 14 - 3; // bank 1's offset: 3 of its head, 14 of its payload, behind bank 0's 26
+    form.set([0, 3, 0, 0], at);
+    fs.writeFileSync(path.join(folder, name), form);
+    const said = await globalThis.core.study(command, { name, form, names: null, namesName: null }, { fill: "", page: "", room: "65536" });
+    const [map, small] = nativeSays([["map", "--room", "65536", name], ["map", name]]);
+    same("a larger room", [map.status, small.status, said.refusal, said.told], [0, 1, null, []]);
+    same("a larger image", [`image of ${said.length} bits, ${said.image.length} bytes`], [/^image of .*/m.exec(map.out)[0]]);
+    same("its blocks", said.blocks.length, map.out.split("\nblock ")[1].split("\n\n")[0].split("\n").length - 1);
+    fs.rmSync(path.join(folder, name));
+}
+
 // Names: taken, another layout file's, damaged, none at all.
 async function names(command) {
     const { study, search } = globalThis.core, name = "example-banks.form", form = new Uint8Array(fs.readFileSync(path.join(folder, name)));
@@ -119,6 +134,7 @@ async function main() {
     const moved = nativeSays(pairs.map(compareWords));
     for (const [i, pair] of pairs.entries()) await two(command, pair, moved[i]);
     await names(command);
+    await larger(command);
     for (const words of [["nix"], ["map", "--help"], ["--version"], ["map"]])
         same(words.join(" "), await pageSays(command, words, new Map()), nativeSays([words])[0]);
     const kinds = Object.entries(seen).map(([number, count]) => `${number}: ${count}`).join(", ");

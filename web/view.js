@@ -90,8 +90,8 @@ function openGiven() {
 
 // ---- showing ----
 
-// A comparison has no page size.
-const choicesOf = (docs) => ({ fill: $("fill").value, page: docs[OLD] ? "" : $("page").value.trim() });
+// A comparison has no page size and no room.
+const choicesOf = (docs) => ({ fill: $("fill").value, page: docs[OLD] ? "" : $("page").value.trim(), room: docs[OLD] ? "" : $("room").value.trim() });
 
 // Studies and shows one layout, or two. One that is asked for later takes the place of one that is not done.
 async function show(docs) {
@@ -128,7 +128,7 @@ function showPanes() {
     $("text").disabled = state.said[NOW].isBroken;
     $("print").disabled = $("against").disabled = false;
     $("swap").disabled = $("single").disabled = !isTwo();
-    $("page").disabled = isTwo();
+    $("page").disabled = $("room").disabled = isTwo();
 }
 
 // A link to a node, of the new layout.
@@ -312,7 +312,7 @@ async function save(words, ending) {
     const doc = state.docs[NOW], name = formName(doc), said = state.said[NOW], files = new Map([[name, doc.form]]);
     const names = said.names.size > 0 && words[0] === "map" ? ["--names", doc.namesName] : [];
     if (names.length) files.set(doc.namesName, doc.names);
-    const found = await state.command.run([...words, ...choiceWords(said.choices), ...names, "--", name], files);
+    const found = await state.command.run([...words, ...choiceWords(said.choices), ...roomWords(said.choices), ...names, "--", name], files);
     const isRefused = found.status > 1 || (found.status === 1 && words[0] !== "map");
     if (isRefused) return tell("Not saved: " + saidOf(found.err).join(" ").replace("--whole", "“whole image”"), true);
     return saveAs(doc.name.replace(/\.form$/i, "") + ending, found.out);
@@ -410,7 +410,7 @@ function listenToButtons() {
         hex: () => held(save)(["ihex", ...recordWords()], ".hex"), srec: () => held(save)(["srec", ...recordWords()], ".srec"),
         text: () => held(save)(["map"], ".map.txt") };
     for (const id in does) $(id).addEventListener("click", does[id]);
-    for (const id of ["fill", "page"]) $(id).addEventListener("change", again);
+    for (const id of ["fill", "page", "room"]) $(id).addEventListener("change", again);
     $("search").addEventListener("input", searched);
     $("search").addEventListener("keydown", searched);
     addEventListener("keydown", key);
@@ -424,6 +424,8 @@ function listenToButtons() {
 
 async function start() {
     state.command = await Command.load(unbase($("wasm").textContent));
+    const help = await state.command.run(["map", "--help"], new Map());
+    $("roomed").hidden = !textOf(help.out).includes("--room");
     for (const name in EXAMPLES) $("example").add(new Option(name + ".form", name));
     panes.forEach(listenToPane);
     listenToFiles();
