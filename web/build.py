@@ -2,9 +2,9 @@
 """The page: web/build.py holds web/denkumari.html to what the sources make, web/build.py --write makes it.
 
 One HTML file: page.html with core.js, draw.js and view.js in it, and with the command denkumari (command/, and the proved functions as C, portable/texts.c and
-portable/denkumari.c, as far as the command calls them) compiled to WebAssembly by clang and wasm-ld (Debian: clang, lld). The head of the page has a sum of everything that it was made from, and the compiler's version. Where
-clang is not there, or is another version, the WebAssembly is taken from the page as it stands, the sums of its sources are held all the same, and a line
-`left out:` says so. Status 1 where the page is not what the sources make."""
+portable/denkumari.c, as far as the command calls them) compiled to WebAssembly by clang and wasm-ld (Debian: clang, lld). The head of the page has a sum of
+everything that it was made from, and the compiler's version. Where clang is not there, or is another version, the WebAssembly is taken from the page as it
+stands, the sums of its sources are held all the same, and a line `left out:` says so. Status 1 where the page is not what the sources make."""
 
 import base64
 import hashlib

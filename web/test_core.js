@@ -94,8 +94,7 @@ async function two(command, [old, now], should) {
 async function larger(command) {
     const [help] = nativeSays([["map", "--help"]]), name = "larger.form", form = new Uint8Array(fs.readFileSync(path.join(folder, "example-banks.form")));
     if (!help.out.includes("--room")) return;
-    const at = 29 + 14 - 3; // bank 1's offset: 3 of its head, 14 of its payload, behind bank 0's 26
-    form.set([0, 3, 0, 0], at);
+    form.set([0, 3, 0, 0], 26 + 3 + 14); // bank 1's offset: behind bank 0, its own head and 14 bytes
     fs.writeFileSync(path.join(folder, name), form);
     const said = await globalThis.core.study(command, { name, form, names: null, namesName: null }, { fill: "", page: "", room: "65536" });
     const [map, small] = nativeSays([["map", "--room", "65536", name], ["map", name]]);
