@@ -22,7 +22,7 @@ DAMAGES = [
     ("docs/PROVING.md", "`first-passes`", "`first-passed`"),
     ("docs/PROVING.md", "`sort/Sorted`", "`sort/Sorting`"),
     ("docs/DECISIONS.md", "`resolver/RaisedLimit.edge-moves`", "`resolver/RaisedLimit.edge-move`"),
-    ("docs/DECISIONS.md", "| `iter::distance_in_bits`, `iter::in_units` |", "| `iter::distance_in_bits` |"),
+    ("docs/DECISIONS.md", "| `overlap_checker::hit_before` |", "| the hit before |"),
     ("docs/DECISIONS.md", "| `prog_args::put_refusal` |", "| `prog_args::print` |"),
     ("docs/REQUIRES.txt", "overlap_checker offer\n", ""),
     ("docs/ARCHITECTURE.md", "`thm_worked`", "thm_worked"),
