@@ -51,7 +51,7 @@ struct bytes proved_records(struct bytes file, struct choices c, uint8_t format,
 struct bytes proved_rehex(struct bytes file, uint8_t kind, uint8_t format, uint32_t load) {
     mut_u8 image = {bytes, sizeof bytes}, out = {rehexed, sizeof rehexed};
     mut_u64 starts = {offsets, COUNT(offsets)}, lengths = {sizes, COUNT(sizes)};
-    return first_of(rehexed, prog_rehex__put_file(kind, format, load, lent(file), image, starts, lengths, out));
+    return first_of(rehexed, print_rehex__put_file(kind, format, load, lent(file), image, starts, lengths, out));
 }
 
 /* Rooms for both files' bytes begin as erased flash reads. */

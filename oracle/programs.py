@@ -21,7 +21,7 @@ import model
 import reasons
 import records
 
-REACH, BENCH_REACH, BLOCKS, IMAGE = 1_048_576, 524_288, 4_096, 16_384
+REACH, BENCH_REACH, BLOCKS, IMAGE, LONGEST = 1_048_576, 524_288, 4_096, 16_384, 3_276_800
 
 
 def written(kind, width, image, blocks, load):
@@ -85,9 +85,17 @@ def rehex_case(rng):
     return [str(int(kind == "srec")), str(width), str(load)], text, told
 
 
+def too_long(kind, text):
+    """A good file behind so many lines that give no byte that it is longer than the longest."""
+    line = b"S0030000FC\n" if kind == "srec" else b":0000000000\n"
+    return line * (LONGEST // len(line) + 1) + text
+
+
 def reason_case(rng):
     """A file of records, good or damaged, and why it is bad."""
     kind, load, text = damage.random_good(rng)[:3]
+    if rng.randrange(250) == 0:
+        return [str(int(kind == "srec")), str(load)], too_long(kind, text), b"refused 4 0\n"
     text, load = damaged(rng, text), rng.choice((load, load, load + 1, 0))
     why, *rest = reasons.reason(kind, text, load)
     told = f"reason {why} {rest[0]} {rest[1]} {rest[2]}\n"

@@ -2,8 +2,8 @@
  * speak of; not to be edited. What follows this comment has the sum `text`, and what it was printed from has the sum
  * `sources` (sha256; tools/portable.sh says of what).
  *
- * sources: 597ae8250e0bd712b6f82c6a7c518f335d66d3b6ab5b9d7aeaf1b30b753f5ee1
- * text: 8299c523dc51a60ba62af61ced096498d59144d729fd8cc6ce478a80aa7c7438
+ * sources: 426520d3091ba838a12b5557f0da1306b57aa6744530aee2902539f8ce97e120
+ * text: 2f20e1c234ae26482da94b34bd05810f9154fc958eadf15e0df5de779a82023b
  * kit: rattle-kit-5b-plain logic 097e4c862dff5811
  */
 #ifndef DENKUMARI_TEXTS_H
@@ -134,8 +134,8 @@ uint64_t print_map__files__write_map(slice_u8 file, uint8_t fill, refusal__Opt p
 uint64_t prog_records__put_file(prog_records__Wanted wanted, slice_u8 file, uint8_t fill, refusal__Opt page,
         mut_u8 out);
 
-/* prog_rehex::put_file: The text of a file: its records, or why not. */
-uint64_t prog_rehex__put_file(uint8_t kind, uint8_t format, uint32_t load, slice_u8 source, mut_u8 bytes,
+/* print_rehex::put_file: The text of a file: its records, or why not. */
+uint64_t print_rehex__put_file(uint8_t kind, uint8_t format, uint32_t load, slice_u8 source, mut_u8 bytes,
         mut_u64 offsets, mut_u64 sizes, mut_u8 out);
 
 /* record_reason::reason_of:

@@ -7,13 +7,22 @@ use form_convert::Conversion;
 use refusal::Opt;
 ghost use mathlib.Core.Path.{_≡_};
 ghost use Prim.Native.Nat.{_≤_};
-ghost use lib.ListN.{length};
-ghost use Rattle.prog_args.specs.Text.{Shows};
-ghost use Rattle.prog_convert.specs.Program.{fileRoom, form1Text, form2Text, convertText, Handed, Converted};
+ghost use lib.ListN.{length, take};
+ghost use Rattle.prog_args.specs.Text.{Shows as Holds};
+ghost use Rattle.meets_texts.specs.Printed.{fileRoom, form1Text, form2Text};
+ghost use Rattle.says.specs.Lines.{Shows};
+ghost use Rattle.says.specs.Texts.{ConvertText};
+ghost use Rattle.prog_convert.specs.Program.{Handed};
 ghost use Rattle.prog_convert.specs.Room.{Held};
 
 // Room for the longest file and a byte more, so that none is cut to a sound one.
 const FILE: usize = 65_537;
+
+// How many bytes were read, and how many handed on.
+pub struct Ran {
+    read: usize,
+    shown: usize,
+}
 
 // Hands an answer on: the file that stands in the front of the buffer, or the refusal's line. How many bytes that is.
 fn hand(answer: Conversion, out: &mut [u8]) -> usize
@@ -32,7 +41,7 @@ fn hand(answer: Conversion, out: &mut [u8]) -> usize
 // The file in form 1, handed to standard output from the front of `out`, or the line of a refusal: how many bytes. The buffer is never too short.
 fn write_form1(file: &[u8], out: &mut [u8]) -> usize
     requires { ⌜ length (now out) ≡ fileRoom ⌝ }
-    ensures { λ r. ⌜ Shows (form1Text (now (file .entry))) r (now (out .exit)) ⌝ }
+    ensures { λ r. ⌜ Holds (form1Text (now (file .entry))) r (now (out .exit)) ⌝ }
 {
     let answer = form_convert::to_form1(file, out);
     hand(answer, out)
@@ -41,7 +50,7 @@ fn write_form1(file: &[u8], out: &mut [u8]) -> usize
 // The same in form 2.
 fn write_form2(file: &[u8], out: &mut [u8]) -> usize
     requires { ⌜ length (now out) ≡ fileRoom ⌝ }
-    ensures { λ r. ⌜ Shows (form2Text (now (file .entry))) r (now (out .exit)) ⌝ }
+    ensures { λ r. ⌜ Holds (form2Text (now (file .entry))) r (now (out .exit)) ⌝ }
 {
     let answer = form_convert::to_form2(file, out);
     hand(answer, out)
@@ -49,7 +58,7 @@ fn write_form2(file: &[u8], out: &mut [u8]) -> usize
 
 fn write(form: u32, file: &[u8], out: &mut [u8]) -> usize
     requires { ⌜ length (now out) ≡ fileRoom ⌝ }
-    ensures { λ r. ⌜ Shows (convertText form (now (file .entry))) r (now (out .exit)) ⌝ }
+    ensures { λ r. ⌜ Shows (ConvertText form (now (file .entry))) r (now (out .exit)) ⌝ }
 {
     if form == 1 {
         return write_form1(file, out);
@@ -57,14 +66,21 @@ fn write(form: u32, file: &[u8], out: &mut [u8]) -> usize
     write_form2(file, out)
 }
 
-// Reads a file and hands it on in the form that is asked: how many bytes that is.
-fn run(form: u32) -> usize
-    ensures { λ r. ⌜ Converted form r ⌝ }
+// Reads a file and hands it on in the form that is asked.
+fn run(form: u32, file: &mut [u8], out: &mut [u8]) -> Ran
+    requires { ⌜ length (now out) ≡ fileRoom ⌝ }
+    ensures { λ r. ⌜ Shows (ConvertText form (take (r .read) (now (file .exit)))) (r .shown) (now (out .exit)) ⌝ }
 {
-    let mut file = [0u8; FILE];
-    let n = io::read_full(0, &mut file);
-    let mut out = [0u8; FILE];
-    write(form, &file[..n], &mut out)
+    let read = io::read_full(0, file);
+    let shown = write(form, &file[..read], out);
+    Ran { read, shown }
+}
+
+// The arrays go by reference, with their lengths, and are not looked at one by one.
+fn start(form: u32, file: &mut [u8; FILE], out: &mut [u8; FILE]) -> Ran
+    ensures { λ r. ⌜ Shows (ConvertText form (take (r .read) (now (file .exit)))) (r .shown) (now (out .exit)) ⌝ }
+{
+    run(form, file, out)
 }
 
 fn main() {
@@ -77,5 +93,7 @@ fn main() {
     if form > 2 {
         return;
     }
-    run(form);
+    let mut file = [0u8; FILE];
+    let mut out = [0u8; FILE];
+    start(form, &mut file, &mut out);
 }

@@ -3,7 +3,7 @@ use native.Mathlib.Omega.{arith}
 use Rattle.form_fields.specs.Kind.{form1, form2, is1}
 use Rattle.form_rewrite.specs.Turning.{toForm1, dropsBit}
 use Rattle.prog_convert.specs.Laws.Program.{handed-shows}
-use Rattle.prog_convert.specs.Program.{form1Text}
+use Rattle.meets_texts.specs.Printed.{form1Text}
 use borrow.Author.Needs.{needs}
 use Rattle.prog_convert.proofs.write_form1.Statement.{statement}
 use Rattle.prog_convert.proofs.write_form1.Tie as tie

@@ -4,7 +4,7 @@ use Rattle.form_fields.specs.Kind.{form1, form2, is2}
 use Rattle.form_rewrite.specs.Turning.{toForm2}
 use Rattle.form_convert.specs.Convert.{dropsNone}
 use Rattle.prog_convert.specs.Laws.Program.{handed-shows}
-use Rattle.prog_convert.specs.Program.{form2Text}
+use Rattle.meets_texts.specs.Printed.{form2Text}
 use borrow.Author.Needs.{needs}
 use Rattle.prog_convert.proofs.write_form2.Statement.{statement}
 use Rattle.prog_convert.proofs.write_form2.Tie as tie

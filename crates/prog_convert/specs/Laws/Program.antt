@@ -23,7 +23,8 @@ use Rattle.form_convert.specs.declared.Conversion.{Conversion}
 use Rattle.form_convert.specs.declared.Conversion.the-variants.{Converted, Refused}
 use Rattle.print_text.specs.Puts.{Writes}
 use Rattle.prog_args.specs.Text.{Shows}
-use Rattle.prog_convert.specs.Program.{fileRoom, printed, wayText, Handed}
+use Rattle.meets_texts.specs.Printed.{fileRoom, printed, wayText}
+use Rattle.prog_convert.specs.Program.{Handed}
 use Rattle.prog_convert.specs.Room.{Held}
 use Rattle.prog_convert.specs.Theorems.Room.{conversion-held}
 

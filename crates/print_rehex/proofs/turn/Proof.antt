@@ -8,11 +8,11 @@ use Rattle.blocks.specs.declared.Blocks.the-variants.{Found}
 use Rattle.record_read.specs.Outcome.{Lent, lent}
 use Rattle.print_text.specs.Lines.{refusalText}
 use Rattle.thm_record_room.specs.Laws.Records.{puts-records}
-use Rattle.prog_rehex.specs.Program.{blocksRoom}
-use Rattle.prog_rehex.specs.Laws.Turned.{unread, few, first-long, second-long, turns}
+use Rattle.print_rehex.specs.Rehex.{blocksRoom}
+use Rattle.print_rehex.specs.Laws.Turned.{unread, few, first-long, second-long, turns}
 use borrow.Author.Needs.{needs}
-use Rattle.prog_rehex.proofs.turn.Statement.{statement}
-use Rattle.prog_rehex.proofs.turn.Tie as tie
+use Rattle.print_rehex.proofs.turn.Statement.{statement}
+use Rattle.print_rehex.proofs.turn.Tie as tie
 
 abbrev begin : tie.After-read → tie.Start
 begin d = d .before .before .before .before .before .before .before .before .before .before

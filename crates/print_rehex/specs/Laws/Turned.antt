@@ -32,8 +32,8 @@ use Rattle.record_write.specs.declared.Written.the-variants.{Length, Refused}
 use Rattle.thm_record_room.specs.Records.{formatOk, recordsOr}
 use Rattle.thm_records.specs.Laws.Copied.{columns}
 use Rattle.thm_records.specs.Theorems.Copied.{read-parts, read-placed}
-use Rattle.prog_rehex.specs.Program.{longest, bytesRoom, blocksRoom, faultText, turned, turnedText}
-use Rattle.prog_rehex.specs.Steps.{recordsOf, Records, Turns}
+use Rattle.print_rehex.specs.Rehex.{longest, bytesRoom, blocksRoom, faultText, turned, turnedText}
+use Rattle.print_rehex.specs.Steps.{recordsOf, Records, Turns}
 
 -- ---- a file that is not read
 

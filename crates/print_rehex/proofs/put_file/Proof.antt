@@ -1,9 +1,9 @@
 -- `put_file` meets its contract: a file that is too long is refused at once, and every other one is read and written.
 use native.Mathlib.Omega.{arith}
-use Rattle.prog_rehex.specs.Laws.Turned.{too-long, not-long}
+use Rattle.print_rehex.specs.Laws.Turned.{too-long, not-long}
 use borrow.Author.Needs.{needs}
-use Rattle.prog_rehex.proofs.put_file.Statement.{statement}
-use Rattle.prog_rehex.proofs.put_file.Tie as tie
+use Rattle.print_rehex.proofs.put_file.Statement.{statement}
+use Rattle.print_rehex.proofs.put_file.Tie as tie
 
 returns : tie.Need-returns
 returns c =

@@ -1,4 +1,4 @@
-pub mod Program
+pub mod Rehex
 pub mod Steps
 pub mod Theorems
 pub mod Laws

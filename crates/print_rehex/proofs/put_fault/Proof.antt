@@ -9,10 +9,10 @@ use Rattle.print_text.specs.Lines.{line, refusalText}
 use Rattle.prog_args.specs.Laws.Text.{to-same, then-ends, then-stands}
 use Rattle.prog_args.specs.Theorems.Text.{line-words}
 use Rattle.record_fault.specs.Reading.{readText}
-use Rattle.prog_rehex.specs.Laws.Turned.{good-behind, fault-behind}
+use Rattle.print_rehex.specs.Laws.Turned.{good-behind, fault-behind}
 use borrow.Author.Needs.{needs}
-use Rattle.prog_rehex.proofs.put_fault.Statement.{statement}
-use Rattle.prog_rehex.proofs.put_fault.Tie as tie
+use Rattle.print_rehex.proofs.put_fault.Statement.{statement}
+use Rattle.print_rehex.proofs.put_fault.Tie as tie
 
 returns : tie.Need-returns
 returns c =

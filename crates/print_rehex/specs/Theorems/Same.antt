@@ -17,9 +17,9 @@ use Rattle.record_read.specs.Theorems.GivenLaws.{filled-long}
 use Rattle.record_write.specs.Cut.{piecesOf}
 use Rattle.record_write.specs.Text.{textOf}
 use Rattle.thm_records.specs.Theorems.Copied.{copied}
-use Rattle.prog_rehex.specs.Laws.Turned.{not-long}
+use Rattle.print_rehex.specs.Laws.Turned.{not-long}
 use Rattle.thm_record_room.specs.Records.{formatOk}
-use Rattle.prog_rehex.specs.Program.{longest, bytesRoom, blocksRoom, faultText, turned, turnedText}
+use Rattle.print_rehex.specs.Rehex.{longest, bytesRoom, blocksRoom, faultText, turned, turnedText}
 
 module _ (kind format load : ℕ) (old source : List ℕ) (short : length source ≤ longest) where
   -- A file that is at fault is refused with 4, and its line is named.

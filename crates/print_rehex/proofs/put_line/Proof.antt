@@ -8,8 +8,8 @@ use Rattle.print_text.specs.Laws.Ends.{puts-writes}
 use Rattle.print_text.specs.Lines.{line}
 use Rattle.prog_args.specs.Theorems.Text.{line-words}
 use borrow.Author.Needs.{needs}
-use Rattle.prog_rehex.proofs.put_line.Statement.{statement}
-use Rattle.prog_rehex.proofs.put_line.Tie as tie
+use Rattle.print_rehex.proofs.put_line.Statement.{statement}
+use Rattle.print_rehex.proofs.put_line.Tie as tie
 
 roomy : (s : tie.Start) → s .args .at + length (line (ascii "line") (s .args .line ∷ [])) ≤ length (s .args .out .now)
 roomy s = omega (arith, line-words (ascii "line") (s .args .line ∷ []) (search needs, tt), s .pre .0, s .pre .1)

@@ -1,8 +1,7 @@
--- What the program hands to standard output for the bytes of a file of records: the same bytes at the same addresses as records of the kind that is asked
+-- What is printed for the bytes of a file of records: the same bytes at the same addresses as records of the kind that is asked
 -- for, or why not.
 use mathlib.Core.List.{List, [], _∷_, _++_}
-use mathlib.Core.Path.{_≡_}
-use Prim.Native.Nat.{ℕ, _≤_}
+use Prim.Native.Nat.{ℕ}
 use lib.Dec.{leb}
 use lib.ListN.{length}
 use Rattle.refusal.specs.Pick.{pick}
@@ -42,11 +41,7 @@ module _ (format load : ℕ) (old : List ℕ) where
       (refusalText (TooShort 2)))
       (refusalText (TooShort 0))
 
--- The program's whole output for a file, read as Intel HEX where the kind is 0, else as S-records.
+-- The whole output for a file, read as Intel HEX where the kind is 0, else as S-records.
 unfoldable pub turnedText : ℕ → ℕ → ℕ → List ℕ → List ℕ → List ℕ
 turnedText kind format load old source =
     pick (leb (length source) longest) (turned format load old (readText kind load source)) (refusalText (Malformed 0))
-
--- So many bytes as are printed for some file of at most 3,276,801 bytes. That the file is the one that was read no contract can say.
-abbrev pub Turned : ℕ → ℕ → ℕ → ℕ → Type 0
-Turned kind format load count = (old : List ℕ) × (source : List ℕ) × (length source ≤ 3276801) × (count ≡ length (turnedText kind format load old source))

@@ -9,7 +9,7 @@ use Rattle.record_fault.specs.Reading.{Read}
 use Rattle.record_write.specs.declared.Written.{Written}
 use Rattle.record_write.specs.declared.Written.the-variants.{Length, Refused}
 use Rattle.thm_record_room.specs.Records.{recordsOr, PutsOr}
-use Rattle.prog_rehex.specs.Program.{faultText, turned}
+use Rattle.print_rehex.specs.Rehex.{faultText, turned}
 
 -- The room that the program lends for its text.
 abbrev pub textRoom : ℕ

@@ -1,0 +1,4 @@
+pub mod AnyRoom
+pub mod Bytes
+pub mod Lines
+pub mod Shown
