@@ -66,7 +66,7 @@ fn touches(offset: u64, size: u64, next: u64) -> bool
 }
 
 // Whether the blocks are as they should be: a size for each offset, none empty, ascending, no bit shared.
-fn in_order(offsets: &[u64], sizes: &[u64]) -> bool
+pub fn in_order(offsets: &[u64], sizes: &[u64]) -> bool
     ensures { λ r. ⌜ r ≡ inOrder 0 (now (offsets .entry)) (now (sizes .entry)) ⌝ }
 {
     if offsets.len() != sizes.len() {

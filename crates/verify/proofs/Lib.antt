@@ -1,0 +1,4 @@
+pub mod Cursors
+pub mod Filling
+pub mod Walking
+pub mod Room

@@ -1,0 +1,5 @@
+pub mod Whole
+pub mod Runs
+pub mod Put
+pub mod List
+pub mod Laws
