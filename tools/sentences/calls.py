@@ -25,6 +25,7 @@ CALLS = {
     "dk_offer": "OfferSays (positions sizes count marks mark_count) {position size}",
     "dk_overlay_range": "RangeSays overlay released offsets sizes first count",
     "dk_overlay_runs": "RunsSay overlay released offsets sizes firsts counts",
+    "dk_verify": "VerifySays image offsets sizes bytes given_offsets given_sizes firsts counts kinds",
     "dk_write_hex": "HexSays (image offsets sizes load) text",
     "dk_write_srec": "SrecSays (image offsets sizes load) text width",
     "dk_read_records": "ReadSays format load text (bytes offsets sizes scratch)",

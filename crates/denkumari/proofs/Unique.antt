@@ -15,6 +15,7 @@ use Rattle.says.specs.Map as map
 use Rattle.says.specs.Overlay as overlay
 use Rattle.says.specs.Read as read
 use Rattle.says.specs.Store as store
+use Rattle.says.specs.Verify as verify
 use Rattle.says.specs.Write as write
 use Rattle.meets_bits.specs.Theorems.Blocks.{dk-blocks-decides}
 use Rattle.meets_bits.specs.Theorems.Hex.{hex-decides}
@@ -32,6 +33,7 @@ use Rattle.meets_records.specs.Theorems.ReadDecides.{read-decides}
 use Rattle.meets_records.specs.Theorems.WriteDecides.{write-hex-decides, write-srec-decides}
 use Rattle.meets_sentences.specs.Theorems.Decides.{build-decides}
 use Rattle.meets_store.specs.Theorems.Decides.{offer-decides}
+use Rattle.meets_verify.specs.Theorems.Verify.{verify-decides}
 use Rattle.denkumari.proofs.builds.dk_build.Kinds as build-kinds
 use Rattle.denkumari.proofs.builds.dk_build.Reads as build-reads
 use Rattle.denkumari.proofs.profiles.dk_build_paged.Kinds as build-paged-kinds
@@ -60,6 +62,8 @@ use Rattle.denkumari.proofs.overlays.dk_overlay_range.Kinds as overlay-
 use Rattle.denkumari.proofs.overlays.dk_overlay_range.Reads as overlay-range-reads
 use Rattle.denkumari.proofs.overlays.dk_overlay_runs.Kinds as overlay-runs-kinds
 use Rattle.denkumari.proofs.overlays.dk_overlay_runs.Reads as overlay-runs-reads
+use Rattle.denkumari.proofs.readbacks.dk_verify.Kinds as verify-kinds
+use Rattle.denkumari.proofs.readbacks.dk_verify.Reads as verify-reads
 use Rattle.denkumari.proofs.record_files.dk_write_hex.Kinds as write-hex-kinds
 use Rattle.denkumari.proofs.record_files.dk_write_hex.Reads as write-hex-reads
 use Rattle.denkumari.proofs.record_files.dk_write_srec.Kinds as write-srec-kinds
@@ -127,6 +131,11 @@ dk-overlay-range-unique κs a x y e f p q = range-decides _ _ _ _ _ _ x y p q
 pub dk-overlay-runs-unique : OneView 6 overlay-runs-kinds.ps overlay-runs-kinds.r overlay-runs-reads.Learnt (DkCount × List ℕ × List ℕ)
     (λ κs x e. (x, e .1 .1 .1 .1 .0 .now, e .1 .1 .1 .1 .1 .0 .now))
 dk-overlay-runs-unique κs a x y e f p q = ap (λ (o : overlay.Outcome _ _ _ _). (o .answer, o .firsts, o .counts)) (runs-decide _ _ _ _ _ _ _ _ p q)
+
+pub dk-verify-unique : OneView 9 verify-kinds.ps verify-kinds.r verify-reads.Learnt (DkCount × List ℕ × List ℕ × List ℕ)
+    (λ κs x e. (x, e .1 .1 .1 .1 .1 .1 .0 .now, e .1 .1 .1 .1 .1 .1 .1 .0 .now, e .1 .1 .1 .1 .1 .1 .1 .1 .0 .now))
+dk-verify-unique κs a x y e f p q =
+    ap (λ (o : verify.Outcome _ _ _ _ _ _). (o .answer, o .firsts, o .counts, o .kinds)) (verify-decides _ _ _ _ _ _ _ _ _ _ _ p q)
 
 pub dk-write-hex-unique : OneView 4 write-hex-kinds.ps write-hex-kinds.r write-hex-reads.Learnt write.Outcome
     (λ κs x e. record { answer = x; text = e .1 .1 .1 .1 .0 .now })

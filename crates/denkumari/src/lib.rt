@@ -8,6 +8,7 @@ mod maps;
 mod overlays;
 mod parts;
 mod profiles;
+mod readbacks;
 mod reasons;
 mod record_files;
 mod stores;

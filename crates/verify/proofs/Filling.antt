@@ -51,9 +51,11 @@ put-then xs ys {n} {fs₀ = fs₀} {cs₀ = cs₀} {ks₀ = ks₀} p q =
 
 pub put-long : {xs : List Run} {n m : ℕ} {fs cs ks fs′ cs′ ks′ : List ℕ} → Put xs n fs cs ks m fs′ cs′ ks′
     → (length fs′ ≡ length fs) × (length cs′ ≡ length cs) × (length ks′ ≡ length ks)
-put-long {xs} {n} {fs = fs} {cs = cs} {ks = ks} p =
-    (ap length (p .first) ∙ length-sets fs n (firsts xs), ap length (p .second) ∙ length-sets cs n (counts xs),
-    ap length (p .third) ∙ length-sets ks n (kinds xs))
+put-long {xs} {n} {fs = fs} {cs = cs} {ks = ks} p = (
+  ap length (p .first) ∙ length-sets fs n (firsts xs),
+  ap length (p .second) ∙ length-sets cs n (counts xs),
+  ap length (p .third) ∙ length-sets ks n (kinds xs),
+)
 
 -- Of `all`, which are to be written from the front on, `rest` are left.
 pub record Filling (all rest : List Run) (at : ℕ) (fs₀ cs₀ ks₀ fs cs ks : List ℕ) : Type 0 where

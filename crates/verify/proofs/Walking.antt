@@ -84,5 +84,5 @@ module _ (t : Readback) (fs₀ cs₀ ks₀ : List ℕ) where
       let e : length (t .image) - b ≡ 0 = omega arith in
       let f : b ≡ length (t .image) = omega arith in
       let last : left kind first b ≡ closed kind first (length (t .image)) = ap (runsFrom (kindOf t) kind first b) e ∙ runs-last (kindOf t) kind first b
-          ∙ ap (closed kind first) f in
+      ∙ ap (closed kind first) f in
       filling-ends (closed kind first (length (t .image))) (subst (λ (l : List Run). Filling (runsOf t) l n fs₀ cs₀ ks₀ fs cs ks) last (w .filling)) p

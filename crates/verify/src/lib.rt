@@ -16,6 +16,7 @@ const BUFFER: u64 = 2;
 
 // The kinds of a listed byte: it is asked for and not given; it is given with another value.
 const MISSING: u8 = 1;
+
 const DIFFERENT: u8 = 2;
 
 // Whether a block is on byte edges and inside so many bytes. Its end is reckoned in bytes, since it may pass 64 bits.
@@ -81,11 +82,7 @@ fn move_on(offsets: &[u64], sizes: &[u64], at: usize, b: usize) -> usize
 fn byte_at(bytes: &[u8], b: usize) -> u8
     ensures { λ r. ⌜ r ≡ getD (now (bytes .entry)) b 0 ⌝ }
 {
-    if b < bytes.len() {
-        bytes[b]
-    } else {
-        0
-    }
+    if b < bytes.len() { bytes[b] } else { 0 }
 }
 
 // What is to be said of a byte: nothing (0), that it is missing, or that it is different.

@@ -21,9 +21,11 @@ same-length-3 c = put-long (c .before .before .before .before .before .before .p
 
 returns-2 : tie.Need-returns-2
 returns-2 c =
-    let a = c .before .before .before .before .before .before .before .before .before .before .before .before .before .before .args in (
-      close-some (a .kind) (a .first) (a .b) (a .n) (a .firsts .now) (a .counts .now) (a .kinds .now) (a .next) (c .before .before .before .before .before .before .before .before .before .before .if1 .left) (c .before .before .before .before .before .before .push .ensures .0),
-      c .before .before .before .before .before .before .push .ensures .1,
+    let p = c .before .before .before .before .before .before in
+    let e = p .before .before .before .before in
+    let a = e .before .before .before .before .args in (
+      close-some (a .kind) (a .first) (a .b) (a .n) (a .firsts .now) (a .counts .now) (a .kinds .now) (a .next) (e .if1 .left) (p .push .ensures .0),
+      p .push .ensures .1,
     )
 
 pub close-spec : {M : Type 1} → statement M

@@ -14,7 +14,11 @@ has-at-requires-2 c κs = let p = c .before .before .before .before .before .bef
 
 returns : tie.Need-returns
 unfolding kindOf
-returns c = c .kind-by .ensures ∙ kind-same (c .before .before .before .before .has-at .ensures) (c .before .before .before .has-at2 .ensures) (c .before .before .byte-at .ensures) (c .before .byte-at2 .ensures)
+returns c =
+    let value = c .before .before in
+    let given = value .before in
+    c .kind-by .ensures
+    ∙ kind-same (given .before .has-at .ensures) (given .has-at2 .ensures) (value .byte-at .ensures) (c .before .byte-at2 .ensures)
 
 pub kind-of-spec : {M : Type 1} → statement M
 kind-of-spec =

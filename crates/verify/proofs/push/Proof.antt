@@ -12,9 +12,13 @@ returns c =
 
 returns-2 : tie.Need-returns-2
 returns-2 c =
-    let a = c .before .before .before .before .before .before .before .before .before .before .before .before .before .before .before .before .args in (
-      push-some (a .kind) (a .first) (a .end) (a .n) (a .firsts .now) (a .counts .now) (a .kinds .now) (c .before .before .before .before .before .before .before .before .before .before .before .before .if1 .left)
-          (c .before .before .before .before .before .before .before .before .before .before .put .ensures) (c .before .before .before .before .before .before .put2 .ensures) (c .before .before .put-kind .ensures),
+    let third = c .before .before in
+    let second = third .before .before .before .before in
+    let first = second .before .before .before .before in
+    let e = first .before .before in
+    let a = e .before .before .before .before .args in (
+      push-some (a .kind) (a .first) (a .end) (a .n) (a .firsts .now) (a .counts .now) (a .kinds .now) (e .if1 .left) (first .put .ensures)
+          (second .put2 .ensures) (third .put-kind .ensures),
       omega arith,
     )
 

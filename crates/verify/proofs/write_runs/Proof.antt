@@ -28,17 +28,21 @@ returns-2 c =
 
 returns-3 : tie.Need-returns-3
 returns-3 c =
-    let w = c .before .before .before .before .before .before .before .before .before in
+    let e = c .before .before in
+    let w = e .before .before .before .before .before .before .before in
     let s = start w in
-    short-third (runs s) (s .args .firsts .now) (s .args .counts .now) (s .args .kinds .now) (w .walk .ensures) (c .before .before .if1 .left) (c .before .if2 .left)
+    short-third (runs s) (s .args .firsts .now) (s .args .counts .now) (s .args .kinds .now) (w .walk .ensures) (e .if1 .left) (c .before .if2 .left)
     (c .if3 .taken)
 
 returns-4 : tie.Need-returns-4
 returns-4 c =
-    let w = c .before .before .before .before .before .before .before .before .before .before .before .before .before .before .before .before .before .before .before in
+    let v = c .before .before .before .before .before .before in
+    let e = v .before .before .before .before in
+    let f = e .before .before in
+    let w = f .before .before .before .before .before .before .before in
     let s = start w in
-    enough (runs s) (s .args .firsts .now) (s .args .counts .now) (s .args .kinds .now) (w .walk .ensures) (c .before .before .before .before .before .before .before .before .before .before .before .before .if1 .left) (c .before .before .before .before .before .before .before .before .before .before .before .if2 .left)
-    (c .before .before .before .before .before .before .before .before .before .before .if3 .left) (c .before .before .before .before .before .before .walk2 .ensures)
+    enough (runs s) (s .args .firsts .now) (s .args .counts .now) (s .args .kinds .now) (w .walk .ensures) (f .if1 .left) (e .before .if2 .left) (e .if3 .left)
+    (v .walk2 .ensures)
 
 pub write-runs-spec : {M : Type 1} → statement M
 write-runs-spec =

@@ -31,7 +31,7 @@ pub sound-from : (bytes : ℕ) (os ss : List ℕ) → inOrder 0 os ss ≡ true �
 sound-from bytes os ss e f =
     let r = row 0 os ss e in
     let fit : (i : ℕ) → i < length os → (getD os i 0 % 8 ≡ 0) × (getD ss i 0 % 8 ≡ 0) × (getD os i 0 + getD ss i 0 ≤ 8 * bytes) = λ i h. whole-means bytes
-        (getD os i 0) (getD ss i 0) (each-whole bytes os ss (r .paired) f i h) in
+    (getD os i 0) (getD ss i 0) (each-whole bytes os ss (r .paired) f i h) in
     record {
       paired = r .paired;
       some = r .some;
