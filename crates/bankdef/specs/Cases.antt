@@ -1,6 +1,6 @@
 -- The cases of document 01 that speak of banks and are marked P, as one statement.
 use mathlib.Core.Bool.{Bool, true, false}
-use mathlib.Core.List.{List, _∷_}
+use mathlib.Core.List.{_∷_}
 use Prim.Native.Nat.{ℕ}
 use lib.IntN.{pos}
 use lib.ListN.{replicate}
@@ -27,16 +27,3 @@ two o m p n = checkOf (table (bank (Some o) m false) (bank (Some p) n false))
 -- the fill's length where one bank is filled, from offset 0
 abbrev pub alone : ℕ → ℕ
 alone size = fillLength (banksOf (table (bank (Some 0) (Some size) true) (bank None None false)))
-
--- a bank of eight-bit units with neither size nor offset, by its fill and its fill bit
-abbrev pub bitBank : Bool → ℕ → Bankdef
-bitBank fill bit = record { unit = 8; start = pos 0; size = None; offset = None; align = None; fill = fill; «fill_bit» = bit }
-
--- the verdict on a table of two
-abbrev pub pair : Bankdef → Bankdef → Verdict
-pair a b = checkOf (record { defs = a ∷ b ∷ replicate 14 noBank; len = 2 })
-
--- Ticket 8: "A one-bit lock bank at offset 8 after a filled byte is missing from the image, because the inherited rule does nothing when the
--- length equals the bank's last bit." Inherited fill gives 8 bits, full fill 9.
-abbrev pub lockBank : List Bankdef
-lockBank = banksOf (table (bank (Some 0) (Some 8) true) (bank (Some 8) (Some 1) true))

@@ -2,12 +2,9 @@
 -- too. With fill, size and offset, let h = offset + size - 1; if the image length is below h, it becomes h + 1."
 use mathlib.Core.Path.{_≡_}
 use mathlib.Core.Bool.{true}
-use mathlib.Core.List.{List}
 use Prim.Native.Nat.{ℕ, _+_, _-_, _≤_, _<_}
-use lib.ListN.{length, getD}
 use Rattle.refusal.specs.declared.Opt.the-variants.{Some}
 use Rattle.bankdef.specs.declared.Bankdef.{Bankdef}
-use Rattle.bankdef.specs.Check.{noBank}
 use Rattle.bankdef.specs.Fill.{filledBy}
 
 -- "With fill, size and offset", the bank's last bit is h
@@ -28,7 +25,3 @@ pub data Filled (b : Bankdef) (n : ℕ) : ℕ → Type 0 where
   raises : (h : ℕ) → Fills b h → n < h → Filled b n (h + 1)
   enough : (h : ℕ) → Fills b h → h ≤ n → Filled b n n
   without : ((h : ℕ) → Fills b h → ⊥) → Filled b n n
-
--- a length that a bank of the list gives: one past its last bit
-abbrev pub EndOf : List Bankdef → ℕ → Type 0
-EndOf l m = (k : ℕ) × (h : ℕ) × (k < length l) × Fills (getD l k noBank) h × (m ≡ h + 1)

@@ -6,8 +6,6 @@ use mathlib.Core.List.{List}
 use Prim.Native.Nat.{ℕ, _≤_, _<_}
 use lib.ListN.{length, getD}
 use Rattle.refusal.specs.Limits.{maxBanks}
-use Rattle.refusal.specs.Refusals.{numberOf}
-use Rattle.refusal.specs.declared.Refusal.{Refusal}
 use Rattle.refusal.specs.declared.Refusal.the-variants.{BankCount, BankNumber, BanksOverlap}
 use Rattle.refusal.specs.declared.Verdict.{Verdict}
 use Rattle.refusal.specs.declared.Verdict.the-variants.{Accepted, Refused}
@@ -32,10 +30,6 @@ pub data Decided (t : Bankdefs) : Verdict → Type 0 where
   number : {i : ℕ} → countSound (t .len) ≡ true → FirstFault (banksOf t) i → Decided t (Refused (BankNumber i))
   pair : {i j : ℕ} → countSound (t .len) ≡ true → NoFault (banksOf t) → FirstOverlap (banksOf t) i j → Decided t (Refused (BanksOverlap i j))
   sound : countSound (t .len) ≡ true → NoFault (banksOf t) → ((i j : ℕ) → OverlapAt (banksOf t) i j → ⊥) → Decided t Accepted
-
--- a verdict refuses by the number n
-abbrev pub RefusedBy : ℕ → Verdict → Type 0
-RefusedBy n v = (r : Refusal) × (v ≡ Refused r) × (numberOf r ≡ n)
 
 -- What a caller learns of an accepted table: it has 1 to 16 banks, the numbers of each are sound, and no two overlap.
 pub record SoundTable (t : Bankdefs) : Type 0 where

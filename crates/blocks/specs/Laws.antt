@@ -10,4 +10,3 @@ pub mod Put
 pub mod Rising
 pub mod Room
 pub mod Row
-pub mod Taken

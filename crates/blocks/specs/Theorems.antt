@@ -1,6 +1,5 @@
 pub mod Acceptable
 pub mod Bits
-pub mod Cases
 pub mod Count
 pub mod Exactly
 pub mod Measure

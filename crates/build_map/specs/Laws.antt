@@ -2,5 +2,4 @@ pub mod AsBuilt
 pub mod Calls
 pub mod Entries
 pub mod Reached
-pub mod Shown
 pub mod TracedLaws

@@ -54,13 +54,6 @@ offerOf v = offerAt (v .node) (v .out)
 abbrev pub offersOf : List Visit → List Entry
 offersOf vs = each offerOf vs
 
--- the reserves that have a place in the output
-abbrev pub reserveOf : Visit → List Entry
-reserveOf v = pick (isReserve (v .node)) (bitsAt (v .out) (v .node)) []
-
-abbrev pub reservesOf : List Visit → List Entry
-reservesOf vs = each reserveOf vs
-
 -- ---- 9, 10 and 11
 
 -- "9: bank 0 is used while other banks exist": bank 0 is closed then, to labels, written items and reserves. "Refused even when it is alone"

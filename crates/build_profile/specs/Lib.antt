@@ -1,4 +1,3 @@
-pub mod Cases
 pub mod Keeping
 pub mod Kept
 pub mod OneBit

@@ -1,5 +1,3 @@
-pub mod Cases
-pub mod Exactly
 pub mod Keeping
 pub mod Kept
 pub mod OneBit

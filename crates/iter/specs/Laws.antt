@@ -1,7 +1,6 @@
 pub mod Advanced
 pub mod Advance
 pub mod AdvanceFacts
-pub mod Agrees
 pub mod Aligned
 pub mod Cases
 pub mod Crossing

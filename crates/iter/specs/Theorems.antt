@@ -1,6 +1,5 @@
 pub mod Advance
 pub mod AdvanceFacts
-pub mod Agrees
 pub mod Aligned
 pub mod Cases
 pub mod Crossing

@@ -7,11 +7,10 @@ use lib.ListN.{length}
 use Rattle.lists.specs.Lists.{Row}
 use Rattle.resolver.specs.Once.{Program}
 use Rattle.resolver.specs.Passes.{program, rowOfPass}
-use Rattle.overlap_checker.specs.declared.Entry.{Entry}
 use Rattle.overlap_checker.specs.State.{State}
 use Rattle.build_sights.specs.Visits.{visitAt, visitsTo}
 use Rattle.build_sights.specs.Items.{Item, itemsOf, lengthOf}
-use Rattle.build_plan.specs.Placing.{reservesOf, holds, placedAll}
+use Rattle.build_plan.specs.Placing.{holds, placedAll}
 use Rattle.build_sights.specs.Spans.{Span, spansOf}
 use Rattle.output.specs.Output.{Input, closedOf, Lent, Room}
 use Rattle.output.specs.Output.{Builds}
@@ -53,9 +52,6 @@ visitsIn c = visitsBefore c (nodesIn c)
 
 abbrev pub itemsIn : Call → List Item
 itemsIn c = itemsOf (visitsIn c)
-
-abbrev pub reservesIn : Call → List Entry
-reservesIn c = reservesOf (visitsIn c)
 
 abbrev pub spansIn : Call → List Span
 spansIn c = spansOf (visitsIn c)

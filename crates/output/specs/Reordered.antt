@@ -8,10 +8,6 @@ use Rattle.refusal.specs.declared.Verdict.the-variants.{Accepted as Yes}
 use Rattle.bitvec.specs.Written.{Writes}
 use Rattle.build_sights.specs.Items.{Item}
 
--- That they share no bit is needed: of two items at one bit the later one stays. Value byte 80, its bits 0 and 1 written at bit 0.
-abbrev pub bitFrom : ℕ → Item
-bitFrom start = record { at = 0; size = 1; from = start }
-
 -- ---- calls that write items one after another
 
 -- Calls that were all accepted, by the contract of the call that writes one item: the image before, the items in turn, the image afterwards.

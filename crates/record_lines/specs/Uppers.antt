@@ -18,12 +18,3 @@ Uppers (c ∷ l) = Upper c × Uppers l
 unfoldable pub ended : List (List ℕ) → List ℕ
 ended [] = []
 ended (l ∷ ls) = l ++ (10 ∷ ended ls)
-
--- Every character of a text of such lines is one of them, or an LF.
-pub data Written : ℕ → Type 0 where
-  upper : {c : ℕ} → Upper c → Written c
-  lf : Written 10
-
-abbrev pub AllWritten : List ℕ → Type 0
-AllWritten [] = Unit {0}
-AllWritten (c ∷ l) = Written c × AllWritten l

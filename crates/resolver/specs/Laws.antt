@@ -1,7 +1,6 @@
 pub mod Answer
 pub mod Ends
 pub mod FirstRow
-pub mod KnownInPass
 pub mod LabelStates
 pub mod Labels
 pub mod LayoutPadding

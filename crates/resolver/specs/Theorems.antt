@@ -1,7 +1,5 @@
-pub mod Cases
 pub mod Chosen
 pub mod FirstRow
-pub mod KnownInPass
 pub mod LabelStates
 pub mod Labels
 pub mod LastPass

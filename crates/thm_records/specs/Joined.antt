@@ -1,5 +1,4 @@
 -- "touching blocks joined": a block that ends where the next one begins is one with it.
-use mathlib.Core.Path.{_≡_}
 use mathlib.Core.List.{List, [], _∷_, List·Memᴰ}
 use Prim.Native.Nat.{ℕ, _+_, _/_, _≤_, _<_}
 use lib.Dec.{eqb}
@@ -16,14 +15,6 @@ joined [] = []
 joined (b ∷ l) = before b (joined l)
 
 -- ---- blocks of which none touches the next stay as they are
-
-abbrev pub ApartFrom : Block → List Block → Type 0
-ApartFrom b [] = Unit {0}
-ApartFrom b (c ∷ l) = endOf b ≡ c .origin → ⊥
-
-abbrev pub NoneTouches : List Block → Type 0
-NoneTouches [] = Unit {0}
-NoneTouches (b ∷ l) = ApartFrom b l × NoneTouches l
 
 -- Byte x of the image lies in a block.
 abbrev pub InSome : List Block → ℕ → Type 0

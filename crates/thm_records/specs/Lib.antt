@@ -1,4 +1,3 @@
-pub mod AsBlocks
 pub mod Joined
 pub mod Trip
 pub mod Theorems

@@ -1,6 +1,2 @@
-pub mod AsBlocks
 pub mod Back
 pub mod Copied
-pub mod Files
-pub mod Joined
-pub mod Trip

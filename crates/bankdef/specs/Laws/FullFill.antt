@@ -1,18 +1,16 @@
 -- Laws that Theorems/FullFill rests on.
 use mathlib.Core.Path.{_≡_, refl, sym}
 use mathlib.Core.Bool.{Bool, true, false}
-use mathlib.Core.List.{List, [], _∷_}
-use Prim.Native.Nat.{ℕ, _+_, _-_, _≤_, _<_, max}
+use mathlib.Core.List.{List, _∷_}
+use Prim.Native.Nat.{ℕ, _+_, _-_, _<_}
 use native.Mathlib.Omega.{arith}
-use lib.Dec.{ltb}
-use borrow.Author.Tests.{ltb-true, le-ltb}
-use Rattle.refusal.specs.Laws.Bools.{either}
+use borrow.Author.Tests.{le-ltb}
 use Rattle.refusal.specs.Laws.Pick.{pick-false}
 use Rattle.refusal.specs.declared.Opt.{Opt}
 use Rattle.refusal.specs.declared.Opt.the-variants.{None, Some}
 use Rattle.bankdef.specs.declared.Bankdef.{Bankdef}
-use Rattle.bankdef.specs.Fill.{raisedTo, filledBy, endBy, fillEnd, fillFrom, fullLength}
-use Rattle.bankdef.specs.FillFacts.{Fills, afterBank}
+use Rattle.bankdef.specs.Fill.{raisedTo, filledBy, endBy, fillEnd}
+use Rattle.bankdef.specs.FillFacts.{Fills}
 use Rattle.bankdef.specs.FullFill.{FullEnd}
 
 -- a bank with fill, size and offset ends at offset + size,
@@ -45,17 +43,3 @@ filled-by-end true (Some size) (Some offset) n = refl
 filled-by-end true (Some size) None n = sym (pick-false _ _ (le-ltb n 0 (omega arith)))
 filled-by-end true None offset n = sym (pick-false _ _ (le-ltb n 0 (omega arith)))
 filled-by-end false size offset n = sym (pick-false _ _ (le-ltb n 0 (omega arith)))
-
-raised-within : (e n : ℕ) → raisedTo (e - 1) n ≤ max n e
-raised-within e n =
-    either (ltb n (e - 1))
-    (λ t. let past = ltb-true n (e - 1) t in rw t (omega arith))
-    (λ t. rw t (omega arith))
-
-filled-within : (b : Bankdef) (n : ℕ) → afterBank b n ≤ max n (fillEnd b)
-filled-within b n = rw (filled-by-end (b .fill) (b .size) (b .offset) n) (raised-within (fillEnd b) n)
-
-pub from-within : (n : ℕ) (l : List Bankdef) → fillFrom n l ≤ max n (fullLength l)
-unfolding fillFrom fullLength
-from-within n [] = omega arith
-from-within n (b ∷ l) = omega (arith, from-within (afterBank b n) l, filled-within b n)

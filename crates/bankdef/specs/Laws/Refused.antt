@@ -6,9 +6,7 @@ use Prim.Native.Nat.{ℕ, zero, suc, _≤_, _<_}
 use native.Mathlib.Omega.{arith}
 use borrow.Author.Tests.{lt-ltb, eqb-true, ne-eqb}
 use lib.ListN.{length, getD}
-use Rattle.refusal.specs.declared.Refusal.{Refusal}
 use Rattle.refusal.specs.declared.Verdict.{Verdict}
-use Rattle.refusal.specs.declared.Verdict.the-variants.{Refused}
 use Rattle.bankdef.specs.declared.Bankdef.{Bankdef}
 use Rattle.bankdef.specs.declared.Bankdefs.{Bankdefs}
 use Rattle.refusal.specs.Laws.Bools.{either, clash}
@@ -48,6 +46,3 @@ module _ (l : List Bankdef) where
 pub concluded : {t : Bankdefs} {v : Verdict} → countSound (t .len) ≡ true → NoFault (banksOf t) → Pairs (banksOf t) v → Decided t v
 concluded n f (apart g) = sound n f g
 concluded n f (joint g) = pair n f g
-
-pub refusal-is : {r s : Refusal} → Refused r ≡ Refused s → r ≡ s
-refusal-is e = cc

@@ -1,14 +1,13 @@
 -- Theorems about what Cases defines.
 use mathlib.Core.Path.{_≡_, refl}
-use mathlib.Core.Bool.{true, false}
 use Rattle.refusal.specs.Refusals.{numberOf}
 use Rattle.refusal.specs.declared.Opt.the-variants.{None, Some}
-use Rattle.refusal.specs.declared.Refusal.the-variants.{BankNumber, BanksOverlap}
+use Rattle.refusal.specs.declared.Refusal.the-variants.{BanksOverlap}
 use Rattle.refusal.specs.declared.Verdict.the-variants.{Accepted, Refused}
 use Rattle.bankdef.specs.Search.{firstWhere}
 use Rattle.bankdef.specs.Check.{firstPair}
-use Rattle.bankdef.specs.Fill.{fillFrom, fullLength, fillBy}
-use Rattle.bankdef.specs.Cases.{alone, bitBank, lockBank, pair, two}
+use Rattle.bankdef.specs.Fill.{fillFrom}
+use Rattle.bankdef.specs.Cases.{alone, two}
 
 -- "banks (offset 0, size 8), (8, 8): apart." "(0, 9), (8, 8): 3." "(8, 8), (0, no size): 3." "(0, 8), (8, no size): apart." "fill alone,
 -- offset 0: size 1 gives length 0, size 2 gives 2."
@@ -16,15 +15,3 @@ pub bank-cases : (two 0 (Some 8) 8 (Some 8) ≡ Accepted) × (two 0 (Some 9) 8 (
     (BanksOverlap 1 2)) × (two 0 (Some 8) 8 None ≡ Accepted) × (numberOf (BanksOverlap 1 2) ≡ 3) × (alone 1 ≡ 0) × (alone 2 ≡ 2)
 unfolding firstWhere firstPair fillFrom
 bank-cases = (refl, refl, refl, refl, refl, refl, refl)
-
--- Ticket 6: "2 also for bank 0 with fill bit one, filled or not". In another bank a fill bit of one is sound, without fill, size and
--- offset too; a fill bit of two is refused in each.
-pub fill-bit-cases : (pair (bitBank true 1) (bitBank true 0) ≡ Refused (BankNumber 0)) × (pair (bitBank false 1) (bitBank true 0) ≡ Refused (BankNumber 0)) ×
-    (pair (bitBank true 0) (bitBank false 1) ≡ Accepted) × (pair (bitBank true 0) (bitBank false 2) ≡ Refused (BankNumber 1)) ×
-    (pair (bitBank false 2) (bitBank false 2) ≡ Refused (BankNumber 0))
-unfolding firstWhere firstPair
-fill-bit-cases = (refl, refl, refl, refl, refl)
-
-pub lock-bank : (fillBy 0 lockBank ≡ 8) × (fillBy 1 lockBank ≡ 9)
-unfolding fillFrom fullLength
-lock-bank = (refl, refl)

@@ -1,8 +1,8 @@
 -- Theorems about what HexDigits defines.
 use mathlib.Core.Path.{_≡_, refl, sym, ap, subst, _∙_}
 use mathlib.Core.Bool.{Bool, true, false}
-use mathlib.Core.List.{List, [], _∷_, _++_}
-use Prim.Native.Nat.{ℕ, _+_, _-_, _*_, _/_, _%_, _≤_, _<_}
+use mathlib.Core.List.{List, _++_}
+use Prim.Native.Nat.{ℕ, _+_, _-_, _*_, _≤_, _<_}
 use native.Mathlib.Omega.{arith}
 use lib.Dec.{leb, ltb}
 use lib.ListN.{length, getD, drop}
@@ -13,14 +13,12 @@ use Rattle.refusal.specs.declared.Refusal.the-variants.{Malformed, TooShort}
 use Rattle.bitvec.specs.declared.Hex.{Hex}
 use Rattle.bitvec.specs.declared.Hex.the-variants.{Digits, Refused}
 use Rattle.bitvec.specs.Within.{endsWithin}
-use Rattle.bitvec.specs.Lists.{listOf}
 use Rattle.bitvec.specs.Laws.Lists.{length-listOf, getD-listOf}
-use Rattle.bitvec.specs.Numeral.{bitOf, Bits}
-use Rattle.bitvec.specs.Laws.Numeral.{pick-lt, numeral-lt, bitOf-numeral}
+use Rattle.bitvec.specs.Numeral.{Bits}
+use Rattle.bitvec.specs.Laws.Numeral.{pick-lt, numeral-lt}
 use Rattle.bitvec.specs.Bits.{bitAt}
 use Rattle.bitvec.specs.Laws.Bits.{bitAt-lt}
 use Rattle.bitvec.specs.HexDigits.{HexTold, digitAt, digitCount, digitOf, digitValue, hexAnswer, hexOf, paddedBit, past, printed, short, toldHex}
-use Rattle.bitvec.specs.Laws.HexDigits.{digitOf-one}
 
 module _ (bytes : List ℕ) (bits : ℕ) (hex : List ℕ) where
   by-tests : (p r : Bool) → endsWithin (length bytes) 0 bits ≡ p → leb (digitCount bits) (length hex) ≡ r
@@ -60,18 +58,6 @@ module _ (bytes : List ℕ) (bits : ℕ) where
   unfolding digitValue
   digitValue-lt k = numeral-lt 4 (λ b. paddedBit bytes bits (4 * k + b)) (λ b. paddedBit-lt (4 * k + b))
 
-  -- .. which has the four bits from 4 * k on, the first of them the most significant: the bytes' own bits ..
-  pub digitValue-bit : (k b : ℕ) → b < 4 → bitOf 4 (digitValue bytes bits k) b ≡ paddedBit bytes bits (4 * k + b)
-  unfolding digitValue
-  digitValue-bit k b h = bitOf-numeral 4 (λ i. paddedBit bytes bits (4 * k + i)) (λ i. paddedBit-lt (4 * k + i)) b h
-
-  pub digit-own : (k b : ℕ) → b < 4 → 4 * k + b < bits → bitOf 4 (digitValue bytes bits k) b ≡ bitAt bytes (4 * k + b)
-  digit-own k b h l = digitValue-bit k b h ∙ paddedBit-own (4 * k + b) l
-
-  -- .. and zero bits from the bit length on, whatever the bytes hold there.
-  pub digit-padding : (k b : ℕ) → b < 4 → bits ≤ 4 * k + b → bitOf 4 (digitValue bytes bits k) b ≡ 0
-  digit-padding k b h l = digitValue-bit k b h ∙ paddedBit-past (4 * k + b) l
-
   -- The lent hex keeps what it held past the digits.
   pub hex-kept : (hex : List ℕ) (k : ℕ) → digitCount bits ≤ k → getD (hexOf bytes bits ++ drop (digitCount bits) hex) k 0 ≡ getD hex k 0
   hex-kept hex k h =
@@ -80,18 +66,3 @@ module _ (bytes : List ℕ) (bits : ℕ) where
       ap (λ (i : ℕ). getD (hexOf bytes bits ++ drop (digitCount bits) hex) i 0) past
       ∙ getD-append-add (hexOf bytes bits) (drop (digitCount bits) hex) (k - digitCount bits) 0
       ∙ getD-drop (digitCount bits) hex (k - digitCount bits) 0 ∙ ap (λ (i : ℕ). getD hex i 0) back
-
--- "lower case": the sixteen letters are `0123456789abcdef`.
-pub letters : listOf 16 digitOf ≡ 48 ∷ 49 ∷ 50 ∷ 51 ∷ 52 ∷ 53 ∷ 54 ∷ 55 ∷ 56 ∷ 57 ∷ 97 ∷ 98 ∷ 99 ∷ 100 ∷ 101 ∷ 102 ∷ []
-unfolding listOf
-letters = refl
-
--- Nothing is lost in print: bytes that print the same have the same bits.
-pub hexOf-bits : (a b : List ℕ) (bits : ℕ) → hexOf a bits ≡ hexOf b bits → (k : ℕ) → k < bits → bitAt a k ≡ bitAt b k
-hexOf-bits a b bits e k h =
-    let same : digitValue a bits (k / 4) ≡ digitValue b bits (k / 4) =
-    digitOf-one (digitValue a bits (k / 4)) (digitValue b bits (k / 4)) (digitValue-lt a bits (k / 4)) (digitValue-lt b bits (k / 4))
-    (sym (hexOf-digit a bits (k / 4) (omega arith)) ∙ ap (λ (l : List ℕ). getD l (k / 4) 0) e ∙ hexOf-digit b bits (k / 4) (omega arith)) in
-    let here : 4 * (k / 4) + k % 4 ≡ k = omega arith in
-    rw here at (sym (digit-own a bits (k / 4) (k % 4) (omega arith) (omega arith)) ∙ ap (λ (x : ℕ). bitOf 4 x (k % 4)) same
-    ∙ digit-own b bits (k / 4) (k % 4) (omega arith) (omega arith))

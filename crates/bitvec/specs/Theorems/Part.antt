@@ -17,7 +17,6 @@ use Rattle.refusal.specs.declared.Refusal.the-variants.{BadPart}
 use Rattle.refusal.specs.declared.Verdict.{Verdict}
 use Rattle.refusal.specs.declared.Verdict.the-variants.{Accepted, Refused}
 use Rattle.bitvec.specs.Within.{endsWithin}
-use Rattle.bitvec.specs.Bits.{bitAt}
 use Rattle.bitvec.specs.Laws.Part.{fit-not}
 use Rattle.bitvec.specs.Part.{IsPart, Judges, PartTold, Unfit, empty, fit, isPart, outside, partOf, partVerdict, ragged-end, ragged-start, unfit}
 
@@ -91,19 +90,6 @@ module _ (image : List ℕ) (offset size : ℕ) (ok : isPart (length image) offs
       let p = isPart-true (length image) offset size ok in
       rw (ok, length-take, length-drop) (min-eq-left (omega arith))
 
-  pub part-some : 0 < length (partOf image offset size)
-  part-some = let p = isPart-true (length image) offset size ok in omega (arith, part-length)
-
   -- Byte k of it is the image's byte k of the block,
   pub part-byte : (k : ℕ) → k < size / 8 → getD (partOf image offset size) k 0 ≡ getD image (offset / 8 + k) 0
   part-byte k h = rw (ok, getD-take (size / 8) (drop (offset / 8) image) k 0 h) (getD-drop (offset / 8) image k 0)
-
-  -- and its bits are the block's bits in the image.
-  pub part-bit : (k : ℕ) → k < size → bitAt (partOf image offset size) k ≡ bitAt image (offset + k)
-  unfolding bitAt
-  part-bit k h =
-      let p = isPart-true (length image) offset size ok in
-      let below : k / 8 < size / 8 = omega arith in
-      let byte : offset / 8 + k / 8 ≡ (offset + k) / 8 = omega arith in
-      let bit : (offset + k) % 8 ≡ k % 8 = omega arith in
-      rw (ok, getD-take, getD-drop, byte, bit)

@@ -7,19 +7,13 @@ use native.Mathlib.Omega.{arith}
 use lib.ListN.{getD}
 use Rattle.refusal.specs.Limits.{maxNodes}
 use Rattle.blocks.specs.Offsets.{wordOf}
-use Rattle.iter.specs.declared.Moved.{Moved}
-use Rattle.iter.specs.declared.Moved.the-variants.{To}
-use Rattle.iter.specs.declared.Pos.{Pos}
 use Rattle.resolver.specs.Padding.{sizeBy}
-use Rattle.resolver.specs.Laws.Padding.{Walks}
-use Rattle.resolver.specs.Passes.{rowOfPass}
 use Rattle.lists.specs.Theorems.Sound.{accepted-lists}
 use Rattle.output.specs.Output.{passesOf}
-use Rattle.build_sights.specs.Visits.{seenPos}
 use Rattle.build_map.specs.Calls.{Call, programIn, rowIn, nodesIn, visitIn}
-use Rattle.build_map.specs.Theorems.Calls.{passes-are, reach-is}
+use Rattle.build_map.specs.Theorems.Calls.{reach-is}
 use Rattle.build_map.specs.Map.{Lent, bankShown, positionShown, outputShown, sizeShown}
-use Rattle.build_map.specs.Theorems.Reached.{Seen, ran-checked, none-run, shown-sees}
+use Rattle.build_map.specs.Theorems.Reached.{ran-checked, none-run, shown-sees}
 use Rattle.build_map.specs.declared.Reach.{Reach}
 use Rattle.build_map.specs.Laws.Entries.{shown-at, shown-past}
 
@@ -29,20 +23,6 @@ module _ (c : Call) where
   entry-is-bank i h =
       ap (λ (l : Lent). getD (l .banks) i 0) (c .meets .left)
       ∙ shown-at (c .answer .nodes) (bankShown (programIn c) (rowIn c)) (c .old .banks) i h
-
-  -- each sees a position in the row of the last pass
-  pub entry-sees : (i : ℕ) → i < c .answer .nodes → (at : Pos) × (visitIn c i .seen ≡ To at)
-  entry-sees i h =
-      let seen : Seen (c .given) (c .answer .nodes) =
-      subst (λ (r : Reach). Seen (c .given) (r .nodes)) (sym (reach-is c)) (shown-sees (c .given)) in
-      subst (λ (n : ℕ). Walks (programIn c) (rowOfPass (c .given .lists) n) (c .answer .nodes)) (sym (passes-are c)) (seen .walks) i h
-
-  -- and that is its entry
-  pub entry-is-position : (i : ℕ) → i < c .answer .nodes → (at : Pos) → visitIn c i .seen ≡ To at → getD (c .new .positions) i 0 ≡ at .position
-  entry-is-position i h at sees =
-      ap (λ (l : Lent). getD (l .positions) i 0) (c .meets .left)
-      ∙ shown-at (c .answer .nodes) (positionShown (programIn c) (rowIn c)) (c .old .positions) i h
-      ∙ ap (λ (m : Moved). seenPos m .position) sees
 
   -- "offset plus position", or the word for none
   pub entry-is-output : (i : ℕ) → i < c .answer .nodes → getD (c .new .outputs) i 0 ≡ wordOf (visitIn c i .out)

@@ -1,14 +1,13 @@
 -- Theorems about what Pages defines.
-use Prim.Native.Nat.{ℕ, _+_, _-_, _*_, _/_, _%_, _<_, _≤_}
-use mathlib.Core.Path.{_≡_, refl, sym, ap, subst, _∙_}
+use Prim.Native.Nat.{ℕ, _+_, _-_, _*_, _%_, _<_, _≤_}
+use mathlib.Core.Path.{_≡_, refl, sym, ap, _∙_}
 use mathlib.Core.Bool.{true, false}
 use mathlib.Core.List.{List·Memᴰ}
 use mathlib.Core.Logic.{_⊎_, inl, inr, ⊎-elim}
-use native.Mathlib.Nat.{div-add-mod', mod-lt, div-lt-iff-lt-mul, add-mod, zero-mod}
+use native.Mathlib.Nat.{add-mod, zero-mod}
 use native.Mathlib.Omega.{arith}
 use lib.ListN.{getD}
 use borrow.Author.Tests.{ltb-false}
-use Rattle.refusal.specs.Laws.Bools.{clash}
 use Rattle.refusal.specs.declared.Opt.{Opt}
 use Rattle.refusal.specs.declared.Opt.the-variants.{Some}
 use Rattle.bankdef.specs.Check.{noBank, banksOf}
@@ -20,17 +19,13 @@ use Rattle.resolver.specs.Once.{bankRecord}
 use Rattle.output.specs.Calls.{Accepted, nodesIn, visitIn, visitsIn, itemsIn, programIn, rowIn, closedIn}
 use Rattle.output.specs.Theorems.Calls.{fine}
 use Rattle.output.specs.Theorems.Fills.{full-fills-all}
-use Rattle.output.specs.ItemBits.{itemFor}
 use Rattle.output.specs.Theorems.ItemBits.{item-has-written-node, length-not-below-fill, length-is-fill-or-end}
-use Rattle.build_sights.specs.Items.{Item, endOf, InItem}
+use Rattle.build_sights.specs.Items.{Item, endOf}
 use Rattle.build_plan.specs.Placing.{endsPast}
 use Rattle.build_plan.specs.Laws.PlacingLaws.{each-accepted}
 use Rattle.build_sights.specs.Laws.VisitLaws.{visit-member}
 use Rattle.build_sights.specs.Visits.{positionOf}
 use Rattle.build_profile.specs.Kept.{InProfile}
-use Rattle.build_profile.specs.OneBit.{ExactlyOne}
-use Rattle.build_profile.specs.Theorems.OneBit.{one-bit-exactly, zero-has-none}
-use Rattle.build_profile.specs.Theorems.PageFacts.{pages-of-size}
 use Rattle.build_profile.specs.Pages.{noPages, pagesOf}
 use Rattle.build_paged.specs.Laws.Pages.{fits, has-record, listed-by}
 use Rattle.build_paged.specs.Pages.{Within, banksIn}
@@ -61,10 +56,6 @@ module _ (a : Accepted) (page : ℕ) (keeps : InProfile (a .call .given .banks) 
         to = omega (arith, low);
       }
 
-  some-bits : 0 < page
-  some-bits =
-      let some : page ≡ 0 → ⊥ = λ z. clash (one-bit-exactly 0 .1 (subst ExactlyOne z (keeps .page-size))) zero-has-none in omega arith
-
   -- A bit stands in one of a bank's pages.
   pub record InPage (bank bit : ℕ) : Type 0 where
     pub offset : ℕ
@@ -73,45 +64,6 @@ module _ (a : Accepted) (page : ℕ) (keeps : InProfile (a .call .given .banks) 
     pub one : number < getD (pagesOf page (banksIn a)) bank noPages
     pub from : offset + number * page ≤ bit
     pub to : bit < offset + (number + 1) * page
-
-  page-of : (offset pages bit : ℕ) → offset ≤ bit → bit < offset + pages * page
-      → ((bit - offset) / page < pages) × (offset + (bit - offset) / page * page ≤ bit)
-      × (bit < offset + ((bit - offset) / page + 1) * page)
-  page-of offset pages bit low high =
-      let q = (bit - offset) / page in
-      let d = div-add-mod' (bit - offset) page in
-      let m = mod-lt (bit - offset) some-bits in
-      let more : (q + 1) * page ≡ q * page + page = omega arith in
-      (div-lt-iff-lt-mul some-bits .1 (omega arith), omega (arith, d), omega (arith, d, m, more))
-
-  -- Every written bit of the image stands in one of the pages of its bank.
-  pub written-bit-in-page : (x : Item) → List·Memᴰ x (itemsIn (a .call)) → (bit : ℕ) → InItem bit x
-      → (n : ℕ) × (n < nodesIn (a .call)) × (offset : ℕ) × (x ≡ itemFor (visitIn (a .call) n) offset) × InPage (visitIn (a .call) n .bank) bit
-  written-bit-in-page x m bit h =
-      let w = within-bank x m in
-      let k = visitIn (a .call) (w .node) .bank in
-      let listed = listed-by (banksIn a) k (has-record (banksIn a) k (w .offset) (w .placed)) in
-      let s = keeps .sizes k listed (w .offset) (w .placed) in
-      let same : s .0 ≡ w .size = sizes (sym (s .1) ∙ w .sized) in
-      let whole = div-add-mod' (s .0) page in
-      let whole-size : s .0 / page * page ≡ w .size = omega (arith, whole, s .2, same) in
-      let p = page-of (w .offset) (s .0 / page) bit (omega (arith, w .from, h .0)) (omega (arith, w .to, h .1, whole-size)) in (
-        w .node,
-        w .listed,
-        w .offset,
-        w .is,
-        record {
-          offset = w .offset;
-          placed = w .placed;
-          number = (bit - w .offset) / page;
-          one = rw (pages-of-size (banksIn a) page k (w .offset) (s .0) (w .placed) (s .1)) (p .0);
-          from = p .1;
-          to = p .2;
-        },
-      )
-    where
-      sizes : {x y : ℕ} → Some x ≡ Some y → x ≡ y
-      sizes e = cc
 
   -- ---- the image's length
 

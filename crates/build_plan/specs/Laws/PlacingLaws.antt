@@ -270,21 +270,3 @@ each-apart f In one within (v ∷ vs) n =
     (λ bit a b ma ia mb ib.
     let r = each-from f vs mb in
     n .0 bit (within bit v a ma ia) (r .0, r .1, within bit (r .0) b (r .2) ib))
-
--- two visits that offer one bit are one
-pub same-visit : (vs : List Visit) → NoSharedBit OfferedBit vs → (bit : ℕ) {v w : Visit} → List·Memᴰ v vs → List·Memᴰ w vs
-    → OfferedBit bit v → OfferedBit bit w → v ≡ w
-same-visit [] n bit mv mw ov ow = absurd (List·Memᴰ·not-nil mv)
-same-visit (u ∷ vs) n bit {v} {w} mv mw ov ow =
-    ⊎-elim
-    (λ (a : v ≡ u).
-    ⊎-elim
-    (λ (b : w ≡ u). a ∙ sym b)
-    (λ (b : List·Memᴰ w vs). absurd (n .0 bit (subst (λ (x : Visit). OfferedBit bit x) a ov) (w, b, ow)))
-    (List·Memᴰ·cases-cons mw))
-    (λ (a : List·Memᴰ v vs).
-    ⊎-elim
-    (λ (b : w ≡ u). absurd (n .0 bit (subst (λ (x : Visit). OfferedBit bit x) b ow) (v, a, ov)))
-    (λ (b : List·Memᴰ w vs). same-visit vs (n .1) bit a b ov ow)
-    (List·Memᴰ·cases-cons mw))
-    (List·Memᴰ·cases-cons mv)

@@ -22,9 +22,6 @@ module _ (n : Node) where
     λ h. rw (le-leb 4 (n .kind) (h .0), le-leb (n .kind) 6 (h .1)),
   )
 
-  pub reserve-exactly : (isReserve n ≡ true) ↔ (n .kind ≡ 7)
-  reserve-exactly = (eqb-true (n .kind) 7, eq-eqb (n .kind) 7)
-
   -- "Written items, and reserves in banks with an offset, are offered": kinds 4 to 7
   pub offered-exactly : (isOffered n ≡ true) ↔ ((4 ≤ n .kind) × (n .kind ≤ 7))
   offered-exactly = (

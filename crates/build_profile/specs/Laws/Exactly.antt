@@ -2,14 +2,10 @@
 use Prim.Native.Nat.{ℕ, _<_}
 use mathlib.Core.Path.{_≡_, refl}
 use mathlib.Core.Bool.{Bool, true, false}
-use mathlib.Core.List.{List}
 use lib.ListN.{length}
 use native.Mathlib.Omega.{arith}
-use Rattle.refusal.specs.Laws.Bools.{unlike}
 use Rattle.refusal.specs.Pick.{pick}
 use Rattle.refusal.specs.Refusals.{numberOf}
-use Rattle.refusal.specs.Told.{Told, gives, refuses}
-use Rattle.refusal.specs.declared.Place.{Place}
 use Rattle.refusal.specs.declared.Refusal.the-variants.{Malformed}
 use Rattle.refusal.specs.declared.Verdict.{Verdict}
 use Rattle.refusal.specs.declared.Verdict.the-variants.{Accepted, Refused}
@@ -18,12 +14,6 @@ use Rattle.bankdef.specs.Refused.{Decided}
 use Rattle.bankdef.specs.declared.Bankdefs.{Bankdefs}
 use Rattle.lists.specs.Lists.{Lists, knownFill, nodeCountSound, rowCountSound, nodesTo, listsOf}
 use Rattle.lists.specs.Theorems.Sound.{lowest-node}
-
-pub number-same : {m n : ℕ} {p q : Place} → _≡_ {A = Told (List ℕ)} (refuses m p) (refuses n q) → m ≡ n
-number-same e = cc
-
-pub never : {pages : List ℕ} {n : ℕ} {p : Place} → gives pages ≡ refuses n p → ⊥
-never e = unlike cc
 
 -- ---- the refusals that come before are other numbers
 

@@ -5,7 +5,6 @@ use mathlib.Core.Bool.{Bool, true, false, not}
 use mathlib.Core.Logic.{_↔_}
 use native.Mathlib.Omega.{arith}
 use borrow.Author.Tests.{le-leb, lt-leb, leb-true, leb-false, not-true, not-false}
-use Rattle.refusal.specs.declared.Refusal.{Refusal}
 use Rattle.refusal.specs.declared.Refusal.the-variants.{OffProfile}
 use Rattle.refusal.specs.declared.Verdict.{Verdict}
 use Rattle.refusal.specs.declared.Verdict.the-variants.{Accepted, Refused}
@@ -60,12 +59,6 @@ module _ (keeps : ℕ → Bool) where
       }
 
 -- ---- the earlier of two verdicts
-
-pub earlier-refused : {v : Verdict} {why : Refusal} (w : Verdict) → v ≡ Refused why → firstOf v w ≡ Refused why
-earlier-refused w e = rw e
-
-pub earlier-kept : {v w x : Verdict} → v ≡ Accepted → w ≡ x → firstOf v w ≡ x
-earlier-kept e f = rw (e, f)
 
 pub both-kept : (v w : Verdict) → firstOf v w ≡ Accepted → (v ≡ Accepted) × (w ≡ Accepted)
 both-kept Accepted w e = (refl, e)

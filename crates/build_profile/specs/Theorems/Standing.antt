@@ -9,8 +9,8 @@ use Rattle.bankdef.specs.declared.Bankdefs.{Bankdefs}
 use Rattle.iter.specs.Step.{bankAfter}
 use Rattle.resolver.specs.Theorems.LabelStates.{switchedTo, bank-by-switches}
 use Rattle.lists.specs.Lists.{Lists, Row}
-use Rattle.resolver.specs.NodeOrder.{defAt, GoesPast}
-use Rattle.resolver.specs.Once.{bankRecord, node, walkTo}
+use Rattle.resolver.specs.NodeOrder.{GoesPast}
+use Rattle.resolver.specs.Once.{node, walkTo}
 use Rattle.resolver.specs.Passes.{program}
 use Rattle.build_profile.specs.Standing.{bankBefore, bankOfNode}
 
@@ -26,7 +26,3 @@ module _ (banks : Bankdefs) (l : Lists) where
     unfolding bankBefore
     walk-stands =
         ap (λ (b : ℕ). bankAfter b (node (program banks l) row i)) (bank-by-switches (program banks l) row isLast i past ∙ same-switches i)
-
-    -- and has its record.
-    pub walk-record : defAt (program banks l) row i ≡ bankRecord banks (bankOfNode (l .kinds) (l .operands) i)
-    walk-record = ap (bankRecord banks) walk-stands

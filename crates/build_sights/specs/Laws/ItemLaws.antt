@@ -31,12 +31,6 @@ end-within fill {x = x} (List·Memᴰ·head {x = y} {xs = l} e) =
     subst (λ (z : Item). endOf z ≤ lengthOf (max fill (endOf y)) l) (sym e) (omega (arith, fill-within (max fill (endOf y)) l))
 end-within fill (List·Memᴰ·tail {x = y} m) = end-within (max fill (endOf y)) m
 
--- a longer fill gives no shorter length
-pub length-grows : {fill more : ℕ} (l : List Item) → fill ≤ more → lengthOf fill l ≤ lengthOf more l
-unfolding lengthOf
-length-grows [] h = h
-length-grows {fill} {more} (x ∷ l) h = length-grows l (omega arith)
-
 -- ---- the image
 
 module _ (values : List ℕ) where

@@ -12,7 +12,7 @@ use Rattle.form_fields.specs.Fields.{soundAt, run}
 use Rattle.form_fields.specs.Theorems.Fields.{run-stop}
 use Rattle.form_fields.specs.Kind.{Known, is1, is2, begins2, headed}
 use Rattle.form_fields.specs.Laws.Kind.{known-apart}
-use Rattle.form_fields.specs.Shape.{bankCountIn, nodesStartIn, nodeCountIn, rowsStartIn, rowCountIn, valuesStartIn, fieldsBeforeIn}
+use Rattle.form_fields.specs.Shape.{bankCountIn, nodesStartIn, nodeCountIn, rowsStartIn, rowCountIn, valuesStartIn}
 use Rattle.form_fields.specs.Contents.{bytes16, field, flat, Contents, headBytes, Long, BankFits}
 use Rattle.form_fields.specs.Has.{Has}
 use Rattle.form_fields.specs.Theorems.Has.{has-left, has-right, has-byte, field-payload, field-there}
@@ -66,9 +66,6 @@ module _ (k : Kind) (c : Contents) where
 
   abbrev pub valuesAt : ℕ
   valuesAt = rowsAt + length (c .rows) * (3 + 5 * length (c .nodes))
-
-  abbrev pub fieldsAt : ℕ
-  fieldsAt = k .heads + length (c .banks) + length (c .nodes) + length (c .rows)
 
 pub head-length : {k : Kind} → Known k → length (headBytes k) ≡ k .heads * 4
 unfolding field bytes16
@@ -156,7 +153,3 @@ module _ {k : Kind} (known : Known k) (file : List ℕ) (c : Contents) (rest : L
     values-start =
         ap₂ (λ (a r : ℕ). a + r * (3 + 5 * nodeCountIn k file)) rows-start rows-are
         ∙ ap (λ (n : ℕ). rowsAt k c + length (c .rows) * (3 + 5 * n)) nodes-are
-
-    pub before-is : fieldsBeforeIn k file ≡ fieldsAt k c
-    unfolding fieldsBeforeIn
-    before-is = omega (arith, banks-are, nodes-are, rows-are)

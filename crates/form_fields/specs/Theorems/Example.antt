@@ -1,9 +1,6 @@
 -- Theorems about what Example defines.
-use mathlib.Core.List.{_++_}
 use mathlib.Core.Path.{_≡_, refl}
-use lib.ListN.{take, drop, set}
-use Rattle.refusal.specs.declared.Refusal.the-variants.{Malformed}
-use Rattle.form_fields.specs.declared.Form.the-variants.{Sound, Broken}
+use Rattle.form_fields.specs.declared.Form.the-variants.{Sound}
 use Rattle.form_fields.specs.Words.{word16}
 use Rattle.form_fields.specs.Fields.{fieldAt, soundAt, runIn, run}
 use Rattle.form_fields.specs.Kind.{form1, begins2, kindOf}
@@ -31,18 +28,3 @@ pub example2-sound : formOf exampleFile2 ≡ Sound (record { form = 2; banks = 2
 unfolding exampleFile exampleFile2 begins2 kindOf formIn shapeIn bankCountIn nodesStartIn nodeCountIn rowsStartIn rowCountIn valuesStartIn valuesSizeIn
     limitStartIn fieldsBeforeIn run runIn soundAt fieldAt word16
 example2-sound = refl
-
--- Broken: another value than 2; the head alone; a fill bit of 2; flags 16; a bank of form 1 behind the head; the head once more behind the banks; a
--- bank of form 2 in a file of form 1; and the whole file to a reader of form 1.
-pub example2-broken :
-    (formOf (set exampleFile2 3 1) ≡ Broken (Malformed 0))
-    × (formOf (take 4 exampleFile2) ≡ Broken (Malformed 1))
-    × (formOf (set exampleFile2 30 2) ≡ Broken (Malformed 1))
-    × (formOf (set exampleFile2 56 16) ≡ Broken (Malformed 2))
-    × (formOf (take 4 exampleFile2 ++ exampleFile) ≡ Broken (Malformed 1))
-    × (formOf (take 58 exampleFile2 ++ exampleFile2) ≡ Broken (Malformed 3))
-    × (formOf (take 26 exampleFile ++ drop 31 exampleFile2) ≡ Broken (Malformed 1))
-    × (formIn form1 exampleFile2 ≡ Broken (Malformed 0))
-unfolding exampleFile exampleFile2 begins2 kindOf formIn shapeIn bankCountIn nodesStartIn nodeCountIn rowsStartIn rowCountIn valuesStartIn valuesSizeIn
-    limitStartIn fieldsBeforeIn run runIn soundAt fieldAt word16
-example2-broken = (refl, refl, refl, refl, refl, refl, refl, refl)

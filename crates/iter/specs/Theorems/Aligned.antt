@@ -1,5 +1,5 @@
 -- Theorems about what Aligned defines.
-use Prim.Native.Nat.{ℕ, suc, _+_, _-_, _*_, _/_, _%_, _≤_, _<_}
+use Prim.Native.Nat.{ℕ, suc, _+_, _-_, _*_, _/_, _%_, _<_}
 use mathlib.Core.Path.{_≡_, refl, sym, ap, subst, _∙_}
 use mathlib.Core.Bool.{true, false}
 use native.Mathlib.Nat.{mod-lt, mod-self, mod-eq-of-lt, div-add-mod', suc-mul}
@@ -9,7 +9,6 @@ use lib.IntN.{ℤ, pos, negsuc, negℤ, subℕ, _+ℤ_}
 use borrow.Author.Tests.{eqb-true, eqb-false, ne-eqb}
 use Rattle.refusal.specs.Laws.Bools.{either}
 use Rattle.refusal.specs.Laws.Pick.{pick-true, pick-false}
-use Rattle.refusal.specs.declared.Refusal.{Refusal}
 use Rattle.refusal.specs.declared.Refusal.the-variants.{Malformed}
 use Rattle.bankdef.specs.declared.Bankdef.{Bankdef}
 use Rattle.iter.specs.Distance.{tellable, addressInBits, gap, remainder, distanceTo, skipsOf, noSkip, distanceOf}
@@ -39,17 +38,6 @@ gap-back s a h =
 pub distance-aligns : (z : ℤ) (a : ℕ) → 0 < a → Aligns z a (distanceTo z a)
 distance-aligns (pos n) a h = rw (nonzero a h) (above n a h (eqb (n % a) 0) refl)
 distance-aligns (negsuc n) a h = rw (nonzero a h, gap-back (suc n % a) a (mod-lt (suc n) h)) (below-zero n a h)
-
--- "The distance to alignment A is 0 for A = 0."
-pub distance-of-none : (z : ℤ) → distanceTo z 0 ≡ 0
-distance-of-none z = refl
-
--- One number alone aligns.
-pub one-distance : (z : ℤ) (a d e : ℕ) → Aligns z a d → Aligns z a e → d ≡ e
-one-distance z a d e p q =
-    let l : d ≤ e = p .least e (q .times) (q .multiple) in
-    let g : e ≤ d = q .least d (p .times) (p .multiple) in
-    omega arith
 
 -- "the remainder from 0 to alignment - 1"
 pub remainder-remains : (z : ℤ) (a : ℕ) → 0 < a → Remains z a (remainder z a)
@@ -97,9 +85,6 @@ module _ (def : Bankdef) (position a node : ℕ) where
 
   pub to-some : tellable def ≡ true → (a ≡ 0 → ⊥) → distanceOf def position a node ≡ Skips (skipsOf def (gap (remainder (addressInBits def position) a) a))
   to-some e n = told-when e ∙ ap (λ (d : ℕ). Skips (skipsOf def d)) (pick-false _ _ (ne-eqb a 0 n))
-
-  pub four-only : (why : Refusal) → distanceOf def position a node ≡ Refused why → tellable def ≡ false
-  four-only why e = either (tellable def) (λ t. absurd (never why _ (sym e ∙ told-when t))) (λ t. t)
 
   -- A distance that is told is the one that aligns.
   pub told-aligns : (s : Skipped) → 0 < a → distanceOf def position a node ≡ Skips s → Aligns (addressInBits def position) a (s .bits)

@@ -22,7 +22,7 @@ use Rattle.form_rewrite.specs.Theorems.Fitting.{lengthened-fits, lengthened-lon
 use Rattle.thm_conversions.specs.Laws.ThereAndBack.{first-within}
 use Rattle.form_rewrite.specs.Turning.{strays, turned, zeros, lengthened, widened, alone, shaped, shortened, narrowed, toForm2, toForm1, dropsBit}
 use Rattle.thm_conversions.specs.Theorems.Conversions.{turned-file}
-use Rattle.thm_conversions.specs.Theorems.Exceptions.{one-bank-comes-back-as-shape, full-one-bank-not-again, shape-comes-back-as-one-bank}
+use Rattle.thm_conversions.specs.Theorems.Exceptions.{one-bank-comes-back-as-shape, full-one-bank-not-again}
 use Rattle.thm_conversions.specs.Theorems.RoundTrips.{narrowed-back}
 use Rattle.thm_conversions.specs.Theorems.ThereAndBack.{to-form2-and-back, to-form1-and-again}
 use Rattle.thm_conversions.specs.Laws.ThereAndBack.{Fine, makes2, second-call, stray-none}

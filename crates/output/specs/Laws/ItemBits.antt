@@ -1,26 +1,20 @@
 -- Laws that Theorems/ItemBits rests on.
 use mathlib.Core.Path.{_≡_, refl, sym, subst}
-use mathlib.Core.Bool.{Bool, true, false, _&&_}
+use mathlib.Core.Bool.{Bool, true, false}
 use mathlib.Core.List.{List, [], List·Memᴰ, List·Memᴰ·head, List·Memᴰ·not-nil, List·Memᴰ·eq-of-singleton}
-use Prim.Native.Nat.{ℕ, _≤_}
-use native.Mathlib.Omega.{arith}
-use borrow.Author.Tests.{leb-true, eqb-true}
-use lib.Dec.{leb}
+use Prim.Native.Nat.{ℕ}
 use Rattle.refusal.specs.Laws.Bools.{or-left, or-right}
 use Rattle.refusal.specs.Pick.{pick}
 use Rattle.refusal.specs.Laws.Pick.{pick-true}
-use Rattle.refusal.specs.declared.Opt.{Opt}
-use Rattle.refusal.specs.declared.Opt.the-variants.{None, Some}
 use Rattle.refusal.specs.declared.Offset.{Offset}
 use Rattle.refusal.specs.declared.Offset.the-variants.{None as Nowhere, At as Out}
-use Rattle.iter.specs.Address.{outAt}
 use Rattle.lists.specs.declared.Node.{Node}
 use Rattle.blocks.specs.Bits.{NoSharedBit}
 use Rattle.overlap_checker.specs.declared.Entry.{Entry}
 use Rattle.overlap_checker.specs.Interval.{Covers}
 use Rattle.build_sights.specs.declared.Visit.{Visit}
 use Rattle.build_sights.specs.Items.{Item, InItem, isWritten, standing, itemOf}
-use Rattle.build_plan.specs.Placing.{isOffered, isReserve, lacksOutput, bitsAt, offerOf}
+use Rattle.build_plan.specs.Placing.{isOffered, isReserve, bitsAt, offerOf}
 use Rattle.build_plan.specs.Laws.PlacingLaws.{picked-some, apart-one}
 use Rattle.build_plan.specs.PlacingLaws.{OfferedBit}
 
@@ -47,19 +41,3 @@ one-item v = go (v .out) (isWritten (v .node))
     go Nowhere true = tt
     go Nowhere false = tt
     go (Out o) b = apart-one InItem b _
-
--- a written node is no reserve
-pub written-or-reserve : (n : Node) → isWritten n ≡ true → isReserve n ≡ true → ⊥
-written-or-reserve n w r =
-    let low : n .kind ≤ 6 = leb-true (n .kind) 6 (second (leb 4 (n .kind)) (leb (n .kind) 6) w) in
-    let same = eqb-true (n .kind) 7 r in
-    omega arith
-  where
-    second : (a b : Bool) → (a && b) ≡ true → b ≡ true
-    second true b h = h
-    second false b h = absurd (mathlib.Core.Bool.true≢false (sym h))
-
--- an output position, by the bank's offset
-pub stands-at : (o : Opt) (position : ℕ) → lacksOutput (outAt o position) ≡ false → (f : ℕ) × (o ≡ Some f)
-stands-at None position e = absurd (mathlib.Core.Bool.true≢false e)
-stands-at (Some f) position e = (f, refl)

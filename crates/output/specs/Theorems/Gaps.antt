@@ -14,14 +14,12 @@ use Rattle.bankdef.specs.Theorems.FillBits.{none-zero, takes-fill-bit}
 use Rattle.bankdef.specs.Numbers.{fillBit}
 use Rattle.bankdef.specs.declared.Bankdef.{Bankdef}
 use Rattle.bitvec.specs.Bits.{bitAt}
-use Rattle.overlap_checker.specs.declared.Entry.{Entry}
-use Rattle.overlap_checker.specs.Interval.{Covers}
 use Rattle.build_sights.specs.Items.{Item, InItem}
 use Rattle.build_write.specs.Laws.Blank.{blank-bit, blank-zeros}
 use Rattle.build_sights.specs.Laws.ItemLaws.{zeros-bit}
-use Rattle.output.specs.Theorems.ItemBits.{rest-blank, item-off-reserves, length-fits}
+use Rattle.output.specs.Theorems.ItemBits.{rest-blank, length-fits}
 use Rattle.output.specs.Output.{filled}
-use Rattle.output.specs.Calls.{Accepted, itemsIn, reservesIn, visitsIn, valuesIn}
+use Rattle.output.specs.Calls.{Accepted, itemsIn, visitsIn, valuesIn}
 use Rattle.output.specs.Theorems.Calls.{left-is}
 use Rattle.output.specs.Laws.Calls.{banks-sound}
 use Rattle.output.specs.Gaps.{AllClear}
@@ -44,12 +42,6 @@ module _ (b : Accepted) where
   gap-takes-fill-bit bit none inside k other listed fills =
       rest-is-fill-bit bit none ∙ pick-true _ _ (lt-ltb bit (b .bits) inside)
       ∙ takes-fill-bit (b .call .given .banks) (banks-sound b) k bit other listed fills
-
-  -- "reserved bits too"
-  pub reserved-bit-takes-fill-bit : (e : Entry) → List·Memᴰ e (reservesIn (b .call)) → (bit : ℕ) → Covers e bit → bit < b .bits
-      → (k : ℕ) → 0 < k → k < length banksIn → FillsBit (getD banksIn k noBank) bit
-      → bitAt (b .call .new .image) bit ≡ fillBit (getD banksIn k noBank)
-  reserved-bit-takes-fill-bit e reserve bit covered = gap-takes-fill-bit bit (λ x m i. item-off-reserves b x m e reserve bit i covered)
 
   -- "zero elsewhere": past the image length,
   pub rest-zero-past-length : (bit : ℕ) → InNoItem bit → b .bits ≤ bit → bitAt (b .call .new .image) bit ≡ 0

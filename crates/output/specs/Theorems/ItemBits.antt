@@ -1,64 +1,34 @@
 -- Theorems about what ItemBits defines.
-use mathlib.Core.Path.{_≡_, refl, sym, ap, subst, _∙_}
+use mathlib.Core.Path.{_≡_, refl, ap, subst, _∙_}
 use mathlib.Core.Bool.{true}
-use mathlib.Core.List.{List, [], List·Memᴰ, List·Memᴰ·head, List·Memᴰ·not-nil, List·Memᴰ·eq-of-singleton}
+use mathlib.Core.List.{List, List·Memᴰ, List·Memᴰ·not-nil, List·Memᴰ·eq-of-singleton}
 use mathlib.Core.Logic.{_⊎_, inl, inr, ⊎-elim}
 use Prim.Native.Nat.{ℕ, _+_, _*_, _≤_, _<_}
 use native.Mathlib.Nat.{le-trans}
 use lib.ListN.{length}
-use Rattle.refusal.specs.Laws.Bools.{or-right}
-use Rattle.refusal.specs.Laws.Pick.{pick-true}
 use Rattle.refusal.specs.declared.Opt.{Opt}
 use Rattle.refusal.specs.declared.Opt.the-variants.{None, Some}
-use Rattle.refusal.specs.declared.Offset.{Offset}
-use Rattle.refusal.specs.declared.Offset.the-variants.{At as Out}
 use Rattle.bankdef.specs.Check.{banksOf}
 use Rattle.iter.specs.Address.{outAt}
 use Rattle.lists.specs.declared.Node.{Node}
 use Rattle.bitvec.specs.Bits.{bitAt}
 use Rattle.blocks.specs.Bits.{NoSharedBit}
-use Rattle.overlap_checker.specs.declared.Entry.{Entry}
-use Rattle.overlap_checker.specs.Interval.{Covers}
 use Rattle.build_sights.specs.declared.Visit.{Visit}
 use Rattle.build_sights.specs.Visits.{positionOf}
-use Rattle.build_sights.specs.Laws.VisitLaws.{visit-member, member-visit, each-member, each-from}
+use Rattle.build_sights.specs.Laws.VisitLaws.{member-visit, each-from}
 use Rattle.build_sights.specs.Items.{Item, endOf, InItem, isWritten, standing, itemOf, imageOf}
 use Rattle.build_sights.specs.Laws.ItemLaws.{fill-within, end-within, bit-of-none, bit-of-item}
 use Rattle.build_sights.specs.Theorems.ItemLaws.{length-is-one}
 use Rattle.build_write.specs.Laws.Blank.{blank-length}
-use Rattle.build_plan.specs.Placing.{isReserve, bitsAt, reserveOf}
-use Rattle.build_plan.specs.Laws.PlacingLaws.{picked-some, holds-apart, each-apart, same-visit, each-accepted}
+use Rattle.build_plan.specs.Laws.PlacingLaws.{picked-some, holds-apart, each-apart}
 use Rattle.build_plan.specs.PlacingLaws.{OfferedBit}
-use Rattle.build_plan.specs.Theorems.PlacingLaws.{written-stands}
 use Rattle.output.specs.Output.{Lent}
-use Rattle.output.specs.Calls.{Accepted, nodesIn, visitIn, visitsIn, itemsIn, reservesIn, valuesIn, programIn, rowIn, closedIn}
+use Rattle.output.specs.Calls.{Accepted, nodesIn, visitIn, visitsIn, itemsIn, valuesIn, programIn, rowIn, closedIn}
 use Rattle.output.specs.Theorems.Calls.{fine, blankIn, left-is}
 use Rattle.output.specs.ItemBits.{fillIn, itemFor}
-use Rattle.output.specs.Laws.ItemBits.{item-offered, offered, one-item, stands-at, written-or-reserve}
-
-reserve-offered : (bit : ℕ) (v : Visit) (e : Entry) → List·Memᴰ e (reserveOf v) → Covers e bit → OfferedBit bit v
-reserve-offered bit v e m c =
-    let w = picked-some (isReserve (v .node)) (bitsAt (v .out) (v .node)) m in
-    (e, offered v (or-right (isWritten (v .node)) (isReserve (v .node)) (w .0)) (w .1), c)
+use Rattle.output.specs.Laws.ItemBits.{item-offered, offered, one-item}
 
 module _ (b : Accepted) where
-  -- Every written node has an item: it stands in a bank with an offset, at "offset plus position".
-  pub written-node-has-item : (n : ℕ) → n < nodesIn (b .call) → isWritten (visitIn (b .call) n .node) ≡ true
-      → (offset : ℕ) × (visitIn (b .call) n .def .offset ≡ Some offset) × List·Memᴰ (itemFor (visitIn (b .call) n) offset) (itemsIn (b .call))
-  written-node-has-item n h w =
-      let v = visitIn (b .call) n in
-      let member = visit-member (programIn (b .call)) (rowIn (b .call)) (nodesIn (b .call)) n h in
-      let acc = each-accepted (closedIn (b .call)) _ (fine b .state) (visitsIn (b .call)) (fine b .placed) member in
-      let (f, e) = stands-at (v .def .offset) (positionOf v) (written-stands (closedIn (b .call)) (acc .0) v (acc .1) w) in
-      (f, e, each-member itemOf member (own f e))
-    where
-      own : (f : ℕ) → visitIn (b .call) n .def .offset ≡ Some f → List·Memᴰ (itemFor (visitIn (b .call) n) f) (itemOf (visitIn (b .call) n))
-      own f e =
-          let v = visitIn (b .call) n in
-          let placed : v .out ≡ Out (f + positionOf v) = ap (λ (o : Opt). outAt o (positionOf v)) e in
-          subst (λ (l : List Item). List·Memᴰ (itemFor v f) l)
-          (sym (pick-true (standing (v .out) (v .node)) [] w ∙ ap (λ (o : Offset). standing o (v .node)) placed)) (List·Memᴰ·head refl)
-
   -- And every item is a written node's.
   pub item-has-written-node : (x : Item) → List·Memᴰ x (itemsIn (b .call))
       → (n : ℕ) × (n < nodesIn (b .call)) × (isWritten (visitIn (b .call) n .node) ≡ true)
@@ -82,17 +52,6 @@ module _ (b : Accepted) where
   -- No two written items share a bit.
   pub items-share-no-bit : NoSharedBit InItem (itemsIn (b .call))
   items-share-no-bit = each-apart itemOf InItem one-item item-offered (visitsIn (b .call)) visits-apart
-
-  -- An item keeps off the bits of every reserve that has a place in the output.
-  pub item-off-reserves : (x : Item) → List·Memᴰ x (itemsIn (b .call)) → (e : Entry) → List·Memᴰ e (reservesIn (b .call))
-      → (bit : ℕ) → InItem bit x → Covers e bit → ⊥
-  item-off-reserves x mx e me bit i c =
-      let (v, mv, ox) = each-from itemOf (visitsIn (b .call)) mx in
-      let (w, mw, oe) = each-from reserveOf (visitsIn (b .call)) me in
-      let same = same-visit (visitsIn (b .call)) visits-apart bit mv mw (item-offered bit v x ox i) (reserve-offered bit w e oe c) in
-      let written = picked-some (isWritten (v .node)) (standing (v .out) (v .node)) ox .0 in
-      let reserve = picked-some (isReserve (w .node)) (bitsAt (w .out) (w .node)) oe .0 in
-      written-or-reserve (v .node) written (subst (λ (u : Visit). isReserve (u .node) ≡ true) (sym same) reserve)
 
   -- "Image length is the larger of the fill's and the furthest end of a written item": no less than either,
   pub length-not-below-fill : fillIn (b .call) ≤ b .bits

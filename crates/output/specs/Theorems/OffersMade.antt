@@ -1,78 +1,30 @@
 -- Theorems about what OffersMade defines.
-use mathlib.Core.Path.{_≡_, refl, sym, ap, subst, _∙_}
+use mathlib.Core.Path.{_≡_, refl, sym, ap, _∙_}
 use mathlib.Core.Bool.{Bool, true, false}
-use mathlib.Core.List.{List, [], _∷_, List·Memᴰ, List·Memᴰ·head}
 use mathlib.Core.Logic.{_⊎_, inl, inr}
-use Prim.Native.Nat.{ℕ, zero, suc, _+_, _*_, _≤_, _<_}
+use Prim.Native.Nat.{ℕ, zero, suc, _*_, _≤_}
 use native.Mathlib.Omega.{arith}
-use borrow.Author.Tests.{eq-eqb}
 use lib.Dec.{ltb}
 use lib.ListN.{length}
 use Rattle.refusal.specs.Laws.Bools.{unlike}
 use Rattle.refusal.specs.Pick.{pick}
-use Rattle.refusal.specs.Laws.Pick.{pick-true}
 use Rattle.refusal.specs.declared.Refusal.{Refusal}
 use Rattle.refusal.specs.declared.Refusal.the-variants.{TooShort}
 use Rattle.refusal.specs.declared.Verdict.{Verdict}
 use Rattle.refusal.specs.declared.Verdict.the-variants.{Accepted, Refused as TurnedAway}
-use Rattle.refusal.specs.declared.Opt.{Opt}
-use Rattle.refusal.specs.declared.Opt.the-variants.{None, Some}
-use Rattle.iter.specs.Address.{outAt}
 use Rattle.resolver.specs.declared.Settled.the-variants.{At}
-use Rattle.overlap_checker.specs.declared.Entry.{Entry}
-use Rattle.overlap_checker.specs.Interval.{interval}
 use Rattle.overlap_checker.specs.State.{State, emptyState}
 use Rattle.output.specs.declared.Build.the-variants.{Done, Refused}
-use Rattle.build_sights.specs.Visits.{positionOf}
-use Rattle.build_sights.specs.Laws.VisitLaws.{visits-none, visits-next, visit-member, each-member}
+use Rattle.build_sights.specs.Laws.VisitLaws.{visits-none, visits-next}
 use Rattle.build_sights.specs.Items.{itemsOf, lengthOf}
-use Rattle.build_plan.specs.Theorems.Kinds.{offered-exactly}
 use Rattle.build_sights.specs.Spans.{spansOf}
-use Rattle.build_plan.specs.Placing.{isOffered, bitsAt, offerOf, reserveOf, verdictOn}
+use Rattle.build_plan.specs.Placing.{verdictOn}
 use Rattle.build_plan.specs.Placing.{Placed, holds, stops, placedIf, placedNext, placedFrom, placedAll}
 use Rattle.build_plan.specs.Laws.PlacingLaws.{placed-last}
 use Rattle.output.specs.Output.{roomOf, placedBuild, settledBuild, settledOf, fillOf}
-use Rattle.output.specs.Calls.{Call, nodesIn, closedIn, programIn, rowIn, visitIn, visitsIn, visitsBefore, reservesIn}
+use Rattle.output.specs.Calls.{Call, nodesIn, closedIn, programIn, rowIn, visitIn, visitsIn, visitsBefore}
 use Rattle.output.specs.Laws.Calls.{build-is}
 use Rattle.output.specs.OffersMade.{FirstRefused}
-
-module _ (c : Call) (n : ℕ) where
-  bits-at : (offset : ℕ) → visitIn c n .def .offset ≡ Some offset
-      → bitsAt (visitIn c n .out) (visitIn c n .node) ≡ interval (offset + positionOf (visitIn c n)) (visitIn c n .node .number) ∷ []
-  bits-at offset e = ap (λ (o : Opt). bitsAt (outAt o (positionOf (visitIn c n))) (visitIn c n .node)) e
-
-  -- Kinds 4 to 7 in a bank with an offset offer their bits.
-  pub offer-made : (4 ≤ visitIn c n .node .kind) × (visitIn c n .node .kind ≤ 7) → (offset : ℕ) → visitIn c n .def .offset ≡ Some offset
-      → offerOf (visitIn c n) ≡ interval (offset + positionOf (visitIn c n)) (visitIn c n .node .number) ∷ []
-  offer-made kind offset e =
-      pick-true (bitsAt (visitIn c n .out) (visitIn c n .node)) [] (offered-exactly (visitIn c n .node) .1 kind) ∙ bits-at offset e
-
-  -- A node of a bank without offset offers nothing,
-  pub offer-none-nowhere : visitIn c n .def .offset ≡ None → offerOf (visitIn c n) ≡ []
-  offer-none-nowhere e =
-      ap (λ (o : Opt). pick (isOffered (visitIn c n .node)) (bitsAt (outAt o (positionOf (visitIn c n))) (visitIn c n .node)) []) e
-      ∙ nothing (isOffered (visitIn c n .node))
-    where
-      nothing : (b : Bool) → _≡_ {A = List Entry} (pick b [] []) []
-      nothing true = refl
-      nothing false = refl
-
-  -- and neither does one of another kind.
-  pub offer-none-other : ((4 ≤ visitIn c n .node .kind) × (visitIn c n .node .kind ≤ 7) → ⊥) → offerOf (visitIn c n) ≡ []
-  offer-none-other other = go (isOffered (visitIn c n .node)) refl
-    where
-      go : (b : Bool) → isOffered (visitIn c n .node) ≡ b → pick b (bitsAt (visitIn c n .out) (visitIn c n .node)) [] ≡ []
-      go true e = absurd (other (offered-exactly (visitIn c n .node) .0 e))
-      go false e = refl
-
-  -- Every reserve in a bank with an offset is among the reserves that an item keeps off.
-  pub reserve-node-has-bits : n < nodesIn c → visitIn c n .node .kind ≡ 7 → (offset : ℕ) → visitIn c n .def .offset ≡ Some offset
-      → List·Memᴰ (interval (offset + positionOf (visitIn c n)) (visitIn c n .node .number)) (reservesIn c)
-  reserve-node-has-bits h kind offset e =
-      each-member reserveOf (visit-member (programIn c) (rowIn c) (nodesIn c) n h)
-      (subst (λ (l : List Entry). List·Memᴰ (interval (offset + positionOf (visitIn c n)) (visitIn c n .node .number)) l)
-      (sym (pick-true (bitsAt (visitIn c n .out) (visitIn c n .node)) [] (eq-eqb (visitIn c n .node .kind) 7 kind) ∙ bits-at offset e))
-      (List·Memᴰ·head refl))
 
 module _ (c : Call) where
   stopped : (v : Verdict) (s : State) (why : Refusal) → placedIf v s ≡ stops why → v ≡ TurnedAway why

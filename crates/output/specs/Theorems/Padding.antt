@@ -4,10 +4,9 @@ use mathlib.Core.List.{List}
 use Prim.Native.Nat.{ℕ, _+_, _*_, _<_}
 use native.Mathlib.Omega.{arith}
 use borrow.Author.Tests.{le-ltb}
-use lib.ListN.{getD, replicate}
+use lib.ListN.{getD}
 use Rattle.refusal.specs.Limits.{maxBanks}
 use Rattle.refusal.specs.Laws.Pick.{pick-false}
-use Rattle.refusal.specs.declared.Refusal.{Refusal}
 use Rattle.bankdef.specs.Check.{firstPair}
 use Rattle.bankdef.specs.Fill.{fillFrom}
 use Rattle.bankdef.specs.Search.{firstWhere}
@@ -31,10 +30,10 @@ use Rattle.build_plan.specs.Laws.PlacingLaws.{each-accepted, seen-placing}
 use Rattle.output.specs.Output.{Lent, Room, roomOf, roomFor, paddingBy, buildOf, Builds}
 use Rattle.build_plan.specs.Plan.{paddingsOf}
 use Rattle.build_plan.specs.Laws.Plan.{getD-of-banks}
-use Rattle.output.specs.Calls.{Call, Accepted, programIn, rowIn, nodesIn, visitIn, visitsIn, closedIn}
+use Rattle.output.specs.Calls.{Accepted, programIn, rowIn, nodesIn, visitIn, visitsIn, closedIn}
 use Rattle.output.specs.Theorems.Calls.{fine}
 use Rattle.output.specs.Laws.Calls.{padding-is}
-use Rattle.output.specs.declared.Build.the-variants.{Done, Refused}
+use Rattle.output.specs.declared.Build.the-variants.{Done}
 use Rattle.output.specs.declared.Output.{Output}
 use Rattle.output.specs.Padding.{reserveThenAlign, sevenBits}
 
@@ -66,10 +65,6 @@ module _ (a : Accepted) where
   bank-ends-at-sizes-and-padding bank low none =
       ends-at-sizes-and-padding (programIn (a .call)) (rowIn (a .call)) (nodesIn (a .call)) bank walks none
       ∙ ap (λ (l : Lost). sizesTo (programIn (a .call)) (rowIn (a .call)) bank (nodesIn (a .call)) + l .bits) (sym (padding-is-lost-bits bank low))
-
--- A refused build answers zeros.
-pub padding-refused-zeros : (c : Call) (why : Refusal) → c .answer .build ≡ Refused why → c .answer .padding ≡ replicate maxBanks noLost
-padding-refused-zeros c why e = padding-is c ∙ ap (paddingBy (paddingsOf (programIn c) (rowIn c))) e
 
 module _ (room : Room) where
   enough : roomFor room 1 0 0 ≡ Done 1 0 0

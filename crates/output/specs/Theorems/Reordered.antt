@@ -1,17 +1,12 @@
 -- Theorems about what Reordered defines.
 use mathlib.Core.Path.{_≡_, refl, sym, ap, _∙_}
-use mathlib.Core.List.{List, [], _∷_, List·Memᴰ·head}
+use mathlib.Core.List.{List, List·Memᴰ·head}
 use mathlib.Core.List.{List·Permᴰ, List·Permᴰ·nil, List·Permᴰ·cons, List·Permᴰ·swap, List·Permᴰ·trans}
 use Prim.Native.Nat.{ℕ, max}
 use lib.ListN.{length}
 use Rattle.bankdef.specs.Check.{banksOf}
 use Rattle.bankdef.specs.Fill.{fillBy}
 use Rattle.bankdef.specs.declared.Bankdefs.{Bankdefs}
-use Rattle.bitvec.specs.Lists.{listOf}
-use Rattle.bitvec.specs.Numeral.{numeral}
-use Rattle.bitvec.specs.Within.{covers}
-use Rattle.bitvec.specs.Bits.{bitAt, ofBits}
-use Rattle.bitvec.specs.Written.{written, writtenBit}
 use Rattle.bitvec.specs.Theorems.Written.{accepted-written}
 use Rattle.blocks.specs.Bits.{NoSharedBit}
 use Rattle.build_sights.specs.Items.{Item, endOf, InItem, lengthOf, imageOf}
@@ -22,7 +17,7 @@ use Rattle.output.specs.Calls.{Accepted, itemsIn, valuesIn}
 use Rattle.output.specs.Theorems.Calls.{fine, blankIn, left-is}
 use Rattle.output.specs.ItemBits.{fillIn}
 use Rattle.output.specs.Theorems.ItemBits.{items-share-no-bit}
-use Rattle.output.specs.Reordered.{WrittenInTurn, bitFrom, none-left, one-then}
+use Rattle.output.specs.Reordered.{WrittenInTurn, none-left, one-then}
 
 -- ---- lists of items
 
@@ -51,11 +46,6 @@ reordered-items-same-image values blank (List·Permᴰ·swap {a = a} {b = b} {a�
     ∙ ap (λ (z : Item). imageOf values (put values (put values blank c) z) l) e
 reordered-items-same-image values blank (List·Permᴰ·trans p q) apart =
     reordered-items-same-image values blank p apart ∙ reordered-items-same-image values blank q (apart-reordered InItem p apart)
-
-pub sharing-items-order-counts : (imageOf (128 ∷ []) (0 ∷ []) (bitFrom 0 ∷ bitFrom 1 ∷ []) ≡ 0 ∷ [])
-    × (imageOf (128 ∷ []) (0 ∷ []) (bitFrom 1 ∷ bitFrom 0 ∷ []) ≡ 128 ∷ [])
-unfolding imageOf written ofBits writtenBit bitAt covers listOf numeral
-sharing-items-order-counts = (refl, refl)
 
 -- They leave the image of these items.
 pub writes-leave-image : {values image last : List ℕ} {items : List Item} → WrittenInTurn values image items last → last ≡ imageOf values image items

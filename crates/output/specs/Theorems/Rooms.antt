@@ -4,21 +4,19 @@ use mathlib.Core.Bool.{Bool, true, false}
 use mathlib.Core.Logic.{_↔_}
 use Prim.Native.Nat.{ℕ, _*_, _<_}
 use native.Mathlib.Omega.{arith}
-use borrow.Author.Tests.{ltb-true, ltb-false, lt-ltb, le-ltb}
+use borrow.Author.Tests.{ltb-false, le-ltb}
 use lib.Dec.{ltb}
 use lib.ListN.{length}
 use Rattle.refusal.specs.Laws.Bools.{unlike}
 use Rattle.refusal.specs.Pick.{pick}
-use Rattle.refusal.specs.Laws.Pick.{pick-true, pick-false}
+use Rattle.refusal.specs.Laws.Pick.{pick-false}
 use Rattle.refusal.specs.Told.{Told, gives, refuses}
 use Rattle.refusal.specs.declared.Place.{Place}
 use Rattle.refusal.specs.declared.Place.the-variants.{One}
-use Rattle.refusal.specs.declared.Refusal.{Refusal}
 use Rattle.build_sights.specs.Items.{lengthOf}
 use Rattle.build_plan.specs.Placing.{placedAll}
-use Rattle.output.specs.Output.{roomOf, fillOf, Figures, toldBuild, roomTold, placedTold, settledTold, leftBy, visitsOf}
-use Rattle.output.specs.declared.Build.the-variants.{Refused}
-use Rattle.output.specs.Calls.{Call, closedIn, visitsIn, valuesIn}
+use Rattle.output.specs.Output.{roomOf, fillOf, Figures, toldBuild, roomTold, placedTold, settledTold, visitsOf}
+use Rattle.output.specs.Calls.{Call, closedIn}
 use Rattle.output.specs.Laws.Calls.{passes-are}
 use Rattle.output.specs.Rooms.{AllPlaced, ImageShort, SpansShort, lengthIn, spanCount}
 
@@ -35,12 +33,6 @@ module _ (c : Call) (all : AllPlaced c) where
       (sym (passes-are c))
       ∙ ap (placedTold (roomOf (c .old)) (all .k) (lengthIn c) (spanCount c)) (all .placed)
 
-  different : {a b : ℕ} {p q : Place} → _≡_ {A = Told Figures} (refuses a p) (refuses b q) → p ≡ q
-  different e = cc
-
-  zero-one : One 0 ≡ One 1 → ⊥
-  zero-one e = unlike cc
-
   gave : {x : Figures} {a : ℕ} {p : Place} → _≡_ {A = Told Figures} (gives x) (refuses a p) → ⊥
   gave e = unlike cc
 
@@ -56,40 +48,6 @@ module _ (c : Call) (all : AllPlaced c) where
   -- what is told, by the two tests
   abbrev toldBy : Bool → Bool → Told Figures
   toldBy a b = pick a (refuses 14 (One 0)) (pick b (refuses 14 (One 1)) done)
-
-  -- 14 with place 0: exactly when the image is too short,
-  pub refused-14-image-exactly : (toldBuild (c .answer .build) ≡ refuses 14 (One 0)) ↔ ImageShort c
-  refused-14-image-exactly = (
-    λ t. go short few refl refl (sym figures ∙ t),
-    λ h. figures ∙ pick-true _ _ (lt-ltb (8 * length (c .old .image)) (lengthIn c) h),
-  )
-    where
-      go : (a b : Bool) → ltb (8 * length (c .old .image)) (lengthIn c) ≡ a → ltb (roomOf (c .old) .spans) (spanCount c) ≡ b
-          → toldBy a b ≡ refuses 14 (One 0)
-          → ImageShort c
-      go true b ea eb t = ltb-true (8 * length (c .old .image)) (lengthIn c) ea
-      go false true ea eb t = absurd (zero-one (sym (different t)))
-      go false false ea eb t = absurd (gave t)
-
-  -- with place 1: exactly when it is not, and a list of spans is.
-  pub refused-14-spans-exactly : (toldBuild (c .answer .build) ≡ refuses 14 (One 1)) ↔ ((ImageShort c → ⊥) × SpansShort c)
-  refused-14-spans-exactly = (
-    λ t. go short few refl refl (sym figures ∙ t),
-    λ h.
-        let long : 8 * length (c .old .image) < lengthIn c → ⊥ = h .0 in
-        figures
-        ∙ pick-false _ _ (le-ltb (8 * length (c .old .image)) (lengthIn c) (omega (arith, long)))
-        ∙ pick-true _ _ (lt-ltb (roomOf (c .old) .spans) (spanCount c) (h .1)),
-  )
-    where
-      go : (a b : Bool) → ltb (8 * length (c .old .image)) (lengthIn c) ≡ a → ltb (roomOf (c .old) .spans) (spanCount c) ≡ b
-          → toldBy a b ≡ refuses 14 (One 1)
-          → (ImageShort c → ⊥) × SpansShort c
-      go true b ea eb t = absurd (zero-one (different t))
-      go false true ea eb t =
-          let enough = ltb-false (8 * length (c .old .image)) (lengthIn c) ea in
-          (λ h. omega (arith, enough), ltb-true (roomOf (c .old) .spans) (spanCount c) eb)
-      go false false ea eb t = absurd (gave t)
 
   -- Otherwise the build is accepted: with K, that length and so many spans.
   pub accepted-exactly : (toldBuild (c .answer .build) ≡ gives (record { k = all .k; length = lengthIn c; spans = spanCount c }))
@@ -114,7 +72,3 @@ module _ (c : Call) (all : AllPlaced c) where
           let enough = ltb-false (8 * length (c .old .image)) (lengthIn c) ea in
           let places = ltb-false (roomOf (c .old) .spans) (spanCount c) eb in
           (λ h. omega (arith, enough), λ h. omega (arith, places))
-
--- "Each refusal .. changes nothing lent."
-pub refused-keeps : (c : Call) (why : Refusal) → c .answer .build ≡ Refused why → c .new ≡ c .old
-refused-keeps c why e = c .meets .left ∙ ap (leftBy (c .given .banks) (visitsIn c) (valuesIn c) (c .old)) e

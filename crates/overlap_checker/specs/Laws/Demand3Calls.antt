@@ -3,8 +3,8 @@ use mathlib.Core.Path.{_≡_, refl, sym, ap, ap₂, _∙_, subst}
 use mathlib.Core.List.{List, [], _∷_, _++_, List·Memᴰ·head, List·Memᴰ·tail}
 use Prim.Native.Nat.{ℕ, _+_, _-_, _≤_}
 use native.Mathlib.Omega.{arith}
-use lib.ListN.{length, drop, getD}
-use lib.Seq.{drop-append-add, drop-drop, getD-drop}
+use lib.ListN.{length, drop}
+use lib.Seq.{drop-append-add, drop-drop}
 use Rattle.refusal.specs.declared.Verdict.{Verdict}
 use Rattle.overlap_checker.specs.declared.Entry.{Entry}
 use Rattle.overlap_checker.specs.State.{State, after}
@@ -39,17 +39,6 @@ laid-into-over a s t g =
     (λ (m : List ℕ). lent (laid (starts (t .intervals)) (a .positions)) (laid (lengths (t .intervals)) (a .sizes)) (length (t .intervals)) m
     (length (t .marks)))
     (laid-over (s .marks) (t .marks) (a .marks) (g .marks))
-
--- entries past what was laid stay
-pub laid-past : (f list : List ℕ) (i : ℕ) → length f ≤ i → getD (laid f list) i 0 ≡ getD list i 0
-laid-past f list i h =
-    let k = i - length f in
-    let whole : i ≡ length f + k = omega arith in
-    ap (λ (n : ℕ). getD (laid f list) n 0) whole
-    ∙ sym (getD-drop (length f) (laid f list) k 0)
-    ∙ ap (λ (l : List ℕ). getD l k 0) (lib.Seq.drop-append-seam f (drop (length f) list))
-    ∙ getD-drop (length f) list k 0
-    ∙ sym (ap (λ (n : ℕ). getD list n 0) whole)
 
 -- ---- calls in turn are the fold
 

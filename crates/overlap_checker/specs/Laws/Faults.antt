@@ -14,14 +14,12 @@ use Rattle.overlap_checker.specs.Interval.{end, ShareBit}
 use Rattle.overlap_checker.specs.Stored.{atFault, firstFault, Proper}
 use Rattle.overlap_checker.specs.Marks.{markAtFault, firstMarkFault, ProperMarks}
 use Rattle.overlap_checker.specs.Laws.MarkLaws.{Resting, lies, no-mark-fault, resting-proper, proper-resting}
-use Rattle.overlap_checker.specs.State.{figures}
-use Rattle.overlap_checker.specs.Lent.{Lent, stateIn}
+use Rattle.overlap_checker.specs.Lent.{Lent}
 use Rattle.overlap_checker.specs.Folds.{RefusedBy}
 use Rattle.overlap_checker.specs.Laws.Ascending.{told, lt-or-le, sits-at}
 use Rattle.overlap_checker.specs.Ascending.{Ascending}
 use Rattle.overlap_checker.specs.Theorems.Ascending.{no-fault, sits}
 use Rattle.overlap_checker.specs.Laws.Ascending.{ends-before}
-use Rattle.overlap_checker.specs.Theorems.Answers.{three-ways, tries-overlaps, tries-full, tries-passes}
 
 -- ---- ascending is proper
 
@@ -104,12 +102,3 @@ numberIn (refuses n p) = n
 -- what is refused, by its figures
 pub same-number : {t : Told Nothing} {n : ℕ} (v : Verdict) → toldVerdict v ≡ t → RefusedBy n v → numberIn t ≡ n
 same-number v is r = sym (ap numberIn is) ∙ ap numberIn (r .1)
-
--- the figures of an answer are those of 12, of 13 or of none
-module _ (a : Lent) (e : Entry) where
-  pub answer-numbers : {Y : Type 0} → (numberIn (figures (stateIn a) e 0) ≡ 12 → Y) → (numberIn (figures (stateIn a) e 0) ≡ 13 → Y)
-      → (numberIn (figures (stateIn a) e 0) ≡ 0 → Y) → Y
-  answer-numbers over full none =
-      three-ways (stateIn a) e (λ h. over (ap numberIn (tries-overlaps (stateIn a) e _ _ _ h)))
-      (λ h l. full (ap numberIn (tries-full (stateIn a) e _ _ _ h l)))
-      (λ h l. none (ap numberIn (tries-passes (stateIn a) e _ _ _ h l)))

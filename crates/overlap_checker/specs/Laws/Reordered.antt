@@ -1,24 +1,18 @@
 -- Laws that Theorems/Reordered rests on.
 use mathlib.Core.Path.{_≡_, refl, sym, ap, _∙_, subst}
 use mathlib.Core.Logic.{⊎-elim}
-use mathlib.Core.List.{List, [], _∷_, List·Memᴰ·head, List·Memᴰ·tail, List·Memᴰ·cases-cons, List·Permᴰ, List·Permᴰ·nil, List·Permᴰ·cons}
+use mathlib.Core.List.{List, _∷_, List·Memᴰ·head, List·Memᴰ·tail, List·Memᴰ·cases-cons, List·Permᴰ, List·Permᴰ·nil, List·Permᴰ·cons}
 use mathlib.Core.List.{List·Permᴰ·swap, List·Permᴰ·trans}
 use Rattle.refusal.specs.declared.Verdict.{Verdict}
 use Rattle.refusal.specs.declared.Verdict.the-variants.{Accepted}
 use Rattle.overlap_checker.specs.declared.Entry.{Entry}
 use Rattle.overlap_checker.specs.State.{State, emptyState, answer, after}
 use Rattle.overlap_checker.specs.Lent.{Lent, stateIn, laidInto}
-use Rattle.overlap_checker.specs.Folds.{stateAfter, answers, acceptedBy, accepted, AllWithin, CallsInTurn}
+use Rattle.overlap_checker.specs.Folds.{stateAfter, answers, AllWithin, CallsInTurn}
 use Rattle.overlap_checker.specs.Laws.Going.{Fits, fits-after}
 use Rattle.overlap_checker.specs.Laws.Exchange.{either-order}
 use Rattle.overlap_checker.specs.Theorems.Demand3Calls as calls
 use Rattle.overlap_checker.specs.Reordered.{AllAccepted, HoldsNothing}
-
--- then the accepted ones are all of them
-pub whole-is-accepted : (s : State) (es : List Entry) → AllAccepted (answers s es) → accepted s es ≡ es
-unfolding answers acceptedBy
-whole-is-accepted s [] whole = refl
-whole-is-accepted s (e ∷ es) whole = rw (whole .0) (ap (λ (l : List Entry). e ∷ l) (whole-is-accepted (after s e) es (whole .1)))
 
 -- a reordering of offers within the limits is within the limits
 pub reordered-within : {xs ys : List Entry} → List·Permᴰ xs ys → AllWithin xs → AllWithin ys

@@ -12,7 +12,7 @@ use Rattle.overlap_checker.specs.Entries.{entryAt}
 use Rattle.overlap_checker.specs.Interval.{interval, clashes}
 use Rattle.overlap_checker.specs.Naming.{IsNamed}
 use Rattle.overlap_checker.specs.Offers.{placeFor, clashesAny, named}
-use Rattle.overlap_checker.specs.Laws.Ascending.{told, lt-or-le, sits-at, ends-before}
+use Rattle.overlap_checker.specs.Laws.Ascending.{told, lt-or-le, ends-before}
 use Rattle.overlap_checker.specs.Ascending.{Ascending}
 use Rattle.overlap_checker.specs.Laws.Bits.{any-of}
 use Rattle.overlap_checker.specs.Laws.Neighbours.{place-le, starts-below, starts-above, empty-apart, before-is, clear-above, free}
@@ -109,23 +109,6 @@ module _ (l : List Entry) (a : Ascending 0 l) (e : Entry) (k : ℕ) (at : k ≡ 
       (told (clashes e (entryAt l k))))
 
 -- ---- the rule names one
-
--- of ascending entries no two have one start
-pub same-start : (l : List Entry) → Ascending 0 l → (f g : Entry) → List·Memᴰ f l → List·Memᴰ g l → f .position ≡ g .position → f ≡ g
-same-start l a f g m n same =
-    let (i, inside, is) = index-of f l m in
-    let (j, within, are) = index-of g l n in
-    let start : entryAt l i .position ≡ entryAt l j .position =
-    ap (λ (e : Entry). e .position) is ∙ same ∙ sym (ap (λ (e : Entry). e .position) are) in
-    let one : i ≡ j =
-    ⊎-elim
-    (λ less. absurd (omega (arith, ends-before 0 l a i j less within, sits-at 0 l a i inside .nonempty, start)))
-    (λ more. ⊎-elim
-    (λ less. absurd (omega (arith, ends-before 0 l a j i less inside, sits-at 0 l a j within .nonempty, start)))
-    (λ less. omega arith)
-    (lt-or-le j i))
-    (lt-or-le i j) in
-    sym is ∙ ap (entryAt l) one ∙ are
 
 -- ---- marks
 

@@ -215,11 +215,3 @@ module _ (es : List Entry) where
         → RefusedBy 13 (answer (stateAfter emptyState es) e node)
         ↔ ((length (stateAfter emptyState es .marks) ≡ maxStored) × (InsideOf (e .position) (stateAfter emptyState es .intervals) → ⊥))
     mark-full-exactly z = mark-full-offered now e node marks-few z
-
-    -- 12 names the lowest stored start at or above the offer if those two clash, otherwise the one below; where no interval is to be named, the lowest
-    -- mark strictly inside the offer, with size 0.
-    pub overlap-names-rule : AllWithin es → RefusedBy 12 (answer (stateAfter emptyState es) e node)
-        → (f : Entry)
-        × (toldVerdict (answer (stateAfter emptyState es) e node) ≡ refuses 12 (Two (f .position) (f .size)))
-        × Named (stateAfter emptyState es) e f
-    overlap-names-rule all r = overlap-names now e node (fits-folded emptyState es all fits-empty) r

@@ -3,28 +3,24 @@
 use mathlib.Core.Path.{_≡_, ap, _∙_}
 use mathlib.Core.Logic.{_↔_, _⊎_}
 use mathlib.Core.List.{List, List·Permᴰ}
-use Prim.Native.Nat.{ℕ, _≤_, _<_}
-use native.Mathlib.Omega.{arith}
-use lib.ListN.{length, getD}
+use Prim.Native.Nat.{ℕ, _<_}
+use lib.ListN.{length}
 use Rattle.refusal.specs.Limits.{maxStored}
-use Rattle.refusal.specs.Told.{refuses, toldVerdict}
-use Rattle.refusal.specs.declared.Place.the-variants.{Two}
 use Rattle.refusal.specs.declared.Verdict.{Verdict}
 use Rattle.overlap_checker.specs.declared.Entry.{Entry}
 use Rattle.overlap_checker.specs.Interval.{Within}
 use Rattle.overlap_checker.specs.Stored.{Proper}
-use Rattle.overlap_checker.specs.Naming.{Named}
 use Rattle.overlap_checker.specs.Marks.{ProperMarks}
 use Rattle.overlap_checker.specs.State.{State, emptyState, answer}
-use Rattle.overlap_checker.specs.Lent.{Lent, held, heldMarks, stateIn, Sound, starts, lengths, laidInto, Calls}
-use Rattle.overlap_checker.specs.Folds.{stateAfter, answers, acceptedBy, nonzero, empties, AllWithin, SharesBitWith, CoversMark, InsideOf, RefusedBy}
+use Rattle.overlap_checker.specs.Lent.{Lent, held, heldMarks, stateIn, Sound, laidInto, Calls}
+use Rattle.overlap_checker.specs.Folds.{stateAfter, answers, acceptedBy, empties, AllWithin, SharesBitWith, CoversMark, InsideOf, RefusedBy}
 use Rattle.overlap_checker.specs.Folds.{CallsInTurn}
-use Rattle.overlap_checker.specs.Laws.Laid.{starts-length, lengths-length, state-laid}
+use Rattle.overlap_checker.specs.Laws.Laid.{state-laid}
 use Rattle.overlap_checker.specs.Laws.Going.{state-none}
 use Rattle.overlap_checker.specs.Theorems.Going.{sound-none}
 use Rattle.overlap_checker.specs.Theorems.Checks.{calls-offers}
 use Rattle.overlap_checker.specs.Theorems.Demand3 as fold
-use Rattle.overlap_checker.specs.Laws.Demand3Calls.{Turned, laid-past, turned}
+use Rattle.overlap_checker.specs.Laws.Demand3Calls.{Turned, turned}
 
 -- ---- demand 3
 
@@ -54,11 +50,6 @@ module _ (a : Lent) (wide : length (a .positions) ≡ maxStored) (long : length 
   pub sound-in-turn : Sound b
   sound-in-turn = went .sound
 
-  -- What is stored is the accepted offers of nonzero size, in some order, ascending and no two sharing a bit; the marks are the positions of those of
-  -- size 0, each, in order, none strictly inside a stored interval.
-  pub stored-is-accepted : List·Permᴰ (held b) (nonzero (acceptedBy es vs))
-  stored-is-accepted = rw (held-is, answers-are) (fold.stored-is-accepted es)
-
   pub stored-proper : Proper (held b)
   stored-proper = rw held-is (fold.stored-proper es all)
 
@@ -67,21 +58,6 @@ module _ (a : Lent) (wide : length (a .positions) ≡ maxStored) (long : length 
 
   pub marks-proper : ProperMarks (held b) (heldMarks b)
   marks-proper = rw (held-is, marks-is) (fold.marks-proper es all)
-
-  -- Entries past the count stay, and marks past theirs.
-  pub past-count-stays : (i : ℕ) → b .count ≤ i
-      → (getD (b .positions) i 0 ≡ getD (a .positions) i 0) × (getD (b .sizes) i 0 ≡ getD (a .sizes) i 0)
-  past-count-stays i h =
-      let l = stateAfter emptyState es .intervals in
-      let past : length l ≤ i = rw (ap (λ (x : Lent). x .count) lent-is) at h in (
-        ap (λ (x : Lent). getD (x .positions) i 0) lent-is ∙ laid-past (starts l) (a .positions) i (omega (arith, starts-length l)),
-        ap (λ (x : Lent). getD (x .sizes) i 0) lent-is ∙ laid-past (lengths l) (a .sizes) i (omega (arith, lengths-length l)),
-      )
-
-  pub past-marks-stay : (i : ℕ) → b .markCount ≤ i → getD (b .marks) i 0 ≡ getD (a .marks) i 0
-  past-marks-stay i h =
-      let past : length (stateAfter emptyState es .marks) ≤ i = rw (ap (λ (x : Lent). x .markCount) lent-is) at h in
-      ap (λ (x : Lent). getD (x .marks) i 0) lent-is ∙ laid-past (stateAfter emptyState es .marks) (a .marks) i past
 
   -- a further call
   module _ (e : Entry) (within : Within e) (v : Verdict) (c : Lent) (call : Calls b e v c) where
@@ -108,9 +84,3 @@ module _ (a : Lent) (wide : length (a .positions) ≡ maxStored) (long : length 
     -- No other number comes.
     pub only-two : (number : ℕ) → 0 < number → RefusedBy number v → (number ≡ 12) ⊎ (number ≡ 13)
     only-two number some r = fold.only-two (stateAfter emptyState es) e 0 number some (rw verdict-is at r)
-
-    -- 12 names the lowest stored start at or above the offer if those two clash, otherwise the one below; where no interval is to be named, the lowest
-    -- mark strictly inside the offer, with size 0.
-    pub overlap-names-rule : RefusedBy 12 v
-        → (f : Entry) × (toldVerdict v ≡ refuses 12 (Two (f .position) (f .size))) × Named (stateIn b) e f
-    overlap-names-rule r = rw (verdict-is, held-is, marks-is) (fold.overlap-names-rule es e 0 all (rw verdict-is at r))

@@ -1,15 +1,13 @@
 -- Theorems about what Reordered defines.
 use mathlib.Core.Path.{_≡_, sym, ap, _∙_, subst}
 use mathlib.Core.List.{List, List·Permᴰ}
-use Prim.Native.Nat.{ℕ}
 use Rattle.refusal.specs.declared.Verdict.{Verdict}
 use Rattle.overlap_checker.specs.declared.Entry.{Entry}
 use Rattle.overlap_checker.specs.State.{State, emptyState}
 use Rattle.overlap_checker.specs.Lent.{Lent, held, heldMarks, stateIn, laidInto}
-use Rattle.overlap_checker.specs.Folds.{stateAfter, answers, nonzero, empties, AllWithin, CallsInTurn}
+use Rattle.overlap_checker.specs.Folds.{stateAfter, answers, AllWithin, CallsInTurn}
 use Rattle.overlap_checker.specs.Laws.Going.{fits-empty}
-use Rattle.overlap_checker.specs.Laws.WhatIsStored.{stored-is-accepted, marks-are-accepted}
-use Rattle.overlap_checker.specs.Laws.Reordered.{alike, holds, left, reordered-within, said, whole-is-accepted}
+use Rattle.overlap_checker.specs.Laws.Reordered.{alike, holds, left, reordered-within, said}
 use Rattle.overlap_checker.specs.Reordered.{AllAccepted, HoldsNothing}
 
 -- ---- Ticket 11, of offers made one after another
@@ -22,25 +20,6 @@ module _ (xs ys : List Entry) (order : List·Permᴰ xs ys) (all : AllWithin xs)
 
   pub reordered-same-state : stateAfter emptyState ys ≡ stateAfter emptyState xs
   reordered-same-state = alike order emptyState all fits-empty whole .same
-
-  pub reordered-same-intervals : stateAfter emptyState ys .intervals ≡ stateAfter emptyState xs .intervals
-  reordered-same-intervals = ap (λ (s : State). s .intervals) reordered-same-state
-
-  pub reordered-same-marks : stateAfter emptyState ys .marks ≡ stateAfter emptyState xs .marks
-  reordered-same-marks = ap (λ (s : State). s .marks) reordered-same-state
-
-  -- Nothing is lost on the way: in every order, the intervals are all offers of nonzero size and the marks the positions of all of size 0.
-  pub reordered-stores-all : List·Permᴰ (stateAfter emptyState ys .intervals) (nonzero xs)
-  reordered-stores-all =
-      subst (λ (l : List Entry). List·Permᴰ l (nonzero xs)) (sym reordered-same-intervals)
-      (subst (λ (l : List Entry). List·Permᴰ (stateAfter emptyState xs .intervals) (nonzero l)) (whole-is-accepted emptyState xs whole)
-      (stored-is-accepted xs))
-
-  pub reordered-marks-all : List·Permᴰ (stateAfter emptyState ys .marks) (empties xs)
-  reordered-marks-all =
-      subst (λ (l : List ℕ). List·Permᴰ l (empties xs)) (sym reordered-same-marks)
-      (subst (λ (l : List Entry). List·Permᴰ (stateAfter emptyState xs .marks) (empties l)) (whole-is-accepted emptyState xs whole)
-      (marks-are-accepted xs))
 
 -- Calls xs from a to b, all answered yes; calls ys, a reordering, from c to d.
 module _ (xs ys : List Entry) (order : List·Permᴰ xs ys) (all : AllWithin xs)

@@ -8,7 +8,7 @@ use borrow.Author.Tests.{lt-ltb, le-ltb, ne-eqb}
 use Rattle.bitvec.specs.Bits.{Bytes}
 use Rattle.record_lines.specs.Digits.{letterOf, bytesText}
 use Rattle.record_lines.specs.Lines.{linesOf, inFront}
-use Rattle.record_lines.specs.Uppers.{AllWritten, Upper, Uppers, colon, ended, ess, figure, letter, lf, upper}
+use Rattle.record_lines.specs.Uppers.{Upper, Uppers, colon, ended, ess, figure, letter}
 
 -- lines of such characters
 abbrev pub UpperLines : List (List ℕ) → Type 0
@@ -49,12 +49,3 @@ bytes-upper [] h = tt
 bytes-upper (b ∷ l) h =
     let s : b < 256 = h 0 in
     (letter-upper (b / 16) (omega arith), (letter-upper (b % 16) (omega arith), bytes-upper l (λ k. h (suc k))))
-
-line-written : (l t : List ℕ) → Uppers l → AllWritten t → AllWritten (l ++ (10 ∷ t))
-line-written [] t h k = (lf, k)
-line-written (c ∷ l) t h k = (upper (h .0), line-written l t (h .1) k)
-
-pub ended-written : (ls : List (List ℕ)) → UpperLines ls → AllWritten (ended ls)
-unfolding ended
-ended-written [] h = tt
-ended-written (l ∷ ls) h = line-written l (ended ls) (h .0) (ended-written ls (h .1))

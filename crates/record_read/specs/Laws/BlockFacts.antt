@@ -1,18 +1,16 @@
 -- Laws that Theorems/BlockFacts rests on.
-use mathlib.Core.Path.{_≡_, refl, ap, subst}
+use mathlib.Core.Path.{_≡_, refl, subst}
 use mathlib.Core.Bool.{Bool, true, false}
-use mathlib.Core.List.{List, [], _∷_, map, List·Memᴰ, List·Memᴰ·head, List·Memᴰ·tail, List·Memᴰ·cases-cons, List·Memᴰ·not-nil}
+use mathlib.Core.List.{List, [], _∷_, map, List·Memᴰ·head, List·Memᴰ·tail, List·Memᴰ·cases-cons, List·Memᴰ·not-nil}
 use mathlib.Core.Logic.{⊎-elim}
-use Prim.Native.Nat.{ℕ, suc, _+_, _*_, _/_, _≤_, _<_}
+use Prim.Native.Nat.{ℕ, suc, _+_, _/_, _≤_, _<_}
 use native.Mathlib.Decide.{decLt}
 use native.Mathlib.Nat.{zero-add}
 use native.Mathlib.Omega.{arith}
 use Rattle.refusal.specs.Laws.Bools.{clash}
-use Rattle.sort.specs.Theorems.Order.{NoneBelow, none-below-less}
 use Rattle.blocks.specs.declared.Block.{Block}
 use Rattle.blocks.specs.Walk.{endOf}
 use Rattle.blocks.specs.Bits.{InBlock, Some}
-use Rattle.blocks.specs.Rising.{originOf}
 use Rattle.record_lines.specs.Pieces.{Piece}
 use Rattle.record_read.specs.Laws.GivenLaws.{given-above, given-below}
 use Rattle.record_read.specs.Runs.{isGiven, reach, runs, runsGiven, inBits}
@@ -33,11 +31,6 @@ module _ (load : ℕ) (l : List Piece) where
       (runs-are (isGiven load l) (reach load l) 0 (none-above (0 + reach load l) (omega arith)))
 
 -- ---- runs in bits
-
--- Each block ends before every later one starts, with at least a bit between them.
-abbrev pub Separate : List Block → Type 0
-Separate [] = Unit {0}
-Separate (b ∷ l) = NoneBelow originOf (suc (endOf b)) l × Separate l
 
 module _ (test : ℕ → Bool) where
   pub in-bits : (lo hi : ℕ) (l : List Block) → AreRuns test lo hi l → (bit : ℕ) → Some (InBlock bit) (map inBits l) → test (bit / 8) ≡ true
@@ -61,27 +54,3 @@ module _ (test : ℕ → Bool) where
           | no q ↦ let s = to-bits (endOf b) hi l (r .1) bit (omega arith) k t in (s .0, List·Memᴰ·tail (s .1), s .2)
         ]
       ]
-
-  -- runs that begin behind a place where the test fails
-  behind-gap : (lo hi : ℕ) (l : List Block) → test lo ≡ false → AreRuns test lo hi l → NoneBelow originOf (suc (8 * lo)) (map inBits l)
-  behind-gap lo hi [] f r = tt
-  behind-gap lo hi (b ∷ l) f r =
-      let other : lo ≡ b .origin → ⊥ = λ e.
-      clash (r .0 .inside lo (omega arith) (omega (arith, r .0 .some))) f in
-      let past : lo < b .origin = elim (decLt lo (b .origin)) [ yes p ↦ p | no p ↦ absurd (other (omega (arith, r .0 .from))) ] in
-      let rest = behind-gap (endOf b) hi l (r .0 .after) (r .1) in
-      (omega arith, none-below-less originOf (suc (8 * lo)) (suc (8 * endOf b)) (map inBits l) (omega arith) rest)
-
-  pub separate : (lo hi : ℕ) (l : List Block) → AreRuns test lo hi l → Separate (map inBits l)
-  separate lo hi [] r = tt
-  separate lo hi (b ∷ l) r =
-      let e : suc (8 * endOf b) ≡ suc (endOf (inBits b)) = omega arith in
-      (subst (λ (n : ℕ). NoneBelow originOf n (map inBits l)) e (behind-gap (endOf b) hi l (r .0 .after) (r .1)), separate (endOf b) hi l (r .1))
-
-  pub some-bits : (lo hi : ℕ) (l : List Block) → AreRuns test lo hi l → (b : Block) → List·Memᴰ b (map inBits l) → 0 < b .size
-  some-bits lo hi [] r b m = absurd (List·Memᴰ·not-nil m)
-  some-bits lo hi (d ∷ l) r b m =
-      ⊎-elim
-      (λ e. let s : b .size ≡ 8 * d .size = ap (λ (x : Block). x .size) e in omega (arith, r .0 .some))
-      (λ k. some-bits (endOf d) hi l (r .1) b k)
-      (List·Memᴰ·cases-cons m)

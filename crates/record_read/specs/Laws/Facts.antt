@@ -1,6 +1,6 @@
 -- Laws that Theorems/Facts rests on.
 use mathlib.Core.Path.{_≡_, refl}
-use mathlib.Core.Bool.{Bool, true, false, _&&_}
+use mathlib.Core.Bool.{Bool, true, false}
 use mathlib.Core.List.{List, [], _∷_, List·Memᴰ·head, List·Memᴰ·tail, List·Memᴰ·cases-cons, List·Memᴰ·not-nil}
 use mathlib.Core.Logic.{⊎-elim}
 use Prim.Native.Nat.{ℕ, _+_, _-_, _<_}
@@ -11,48 +11,18 @@ use lib.ListN.{length, getD}
 use Rattle.refusal.specs.Laws.Bools.{either, clash, both, unlike}
 use Rattle.refusal.specs.Pick.{pick}
 use Rattle.refusal.specs.Told.{Told, gives, refuses}
-use Rattle.refusal.specs.declared.Place.{Place}
 use Rattle.refusal.specs.declared.Place.the-variants.{One}
 use Rattle.record_lines.specs.Pieces.{Piece, endOf, GivesAt}
-use Rattle.record_fault.specs.Outcome.{faultOf}
-use Rattle.record_fault.specs.Reading.{Read, sound, faulty}
-use Rattle.record_fault.specs.declared.Fault.the-variants.{At}
 use Rattle.record_read.specs.Given.{holds, given, byteAt}
-use Rattle.record_read.specs.Outcome.{Lent}
-use Rattle.record_read.specs.Facts.{Bad}
 
 -- the answers by the tests
 abbrev pub answers : Bool → Bool → ℕ → Told ℕ
 answers b c n = pick b (pick c (gives n) (refuses 14 (One 2))) (refuses 14 (One 0))
 
-pub never-4 : (b c : Bool) (n : ℕ) → answers b c n ≡ refuses 4 (One 0) → ⊥
-never-4 true true n e = unlike cc
-never-4 true false n e = let z : _≡_ {A = ℕ} 14 4 = cc in omega arith
-never-4 false c n e = let z : _≡_ {A = ℕ} 14 4 = cc in omega arith
-
-pub is-14-0 : (b c : Bool) (n : ℕ) → answers b c n ≡ refuses 14 (One 0) → b ≡ false
-is-14-0 true true n e = unlike cc
-is-14-0 true false n e = let z : _≡_ {A = ℕ} 2 0 = cc in absurd (omega arith)
-is-14-0 false c n e = refl
-
-pub is-14-2 : (b c : Bool) (n : ℕ) → answers b c n ≡ refuses 14 (One 2) → (b ≡ true) × (c ≡ false)
-is-14-2 true true n e = unlike cc
-is-14-2 true false n e = (refl, refl)
-is-14-2 false c n e = let z : _≡_ {A = ℕ} 2 0 = cc in absurd (omega arith)
-
 pub is-found : (b c : Bool) (n m : ℕ) → answers b c n ≡ gives m → (b ≡ true) × (c ≡ true) × (m ≡ n)
 is-found true true n m e = (refl, refl, cc)
 is-found true false n m e = unlike cc
 is-found false c n m e = unlike cc
-
-pub unwritten : (b c : Bool) (n k : ℕ) (p : Place) (x y : Lent) → answers b c n ≡ refuses k p → pick (b && c) x y ≡ y
-unwritten true true n k p x y e = unlike cc
-unwritten true false n k p x y e = refl
-unwritten false c n k p x y e = refl
-
-pub at-line : (read : Read) (line : ℕ) → faultOf read ≡ At line → Bad read
-at-line (sound l) line e = unlike cc
-at-line (faulty n) line e = (n, refl)
 
 -- ---- the lent bytes
 

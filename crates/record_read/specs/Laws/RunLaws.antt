@@ -3,11 +3,10 @@ use mathlib.Core.Path.{_≡_, sym, _∙_}
 use mathlib.Core.Bool.{Bool}
 use mathlib.Core.List.{List, [], _∷_}
 use Prim.Native.Nat.{ℕ, _≤_, _<_}
-use native.Mathlib.Decide.{decLt}
 use native.Mathlib.Omega.{arith}
 use Rattle.blocks.specs.declared.Block.{Block}
 use Rattle.blocks.specs.Walk.{endOf}
-use Rattle.record_read.specs.RunLaws.{AreRuns, Clear}
+use Rattle.record_read.specs.RunLaws.{AreRuns}
 
 -- Tests that agree from `lo` on and below `hi` have the same runs there.
 pub runs-agree : (test other : ℕ → Bool) (lo hi : ℕ) (l : List Block) → ((x : ℕ) → lo ≤ x → x < hi → test x ≡ other x) → AreRuns test lo hi l
@@ -23,19 +22,4 @@ runs-agree test other lo hi (b ∷ l) same r = (
     after = sym (same (endOf b) (omega (arith, r .0 .from)) (r .0 .ends)) ∙ r .0 .after;
   },
   runs-agree test other (endOf b) hi l (λ x a u. same x (omega (arith, r .0 .from)) u) (r .1),
-)
-
--- A higher bound, where the test fails from the first one on.
-pub runs-longer : (test : ℕ → Bool) (lo hi top : ℕ) (l : List Block) → AreRuns test lo hi l → hi ≤ top → Clear test hi top → AreRuns test lo top l
-runs-longer test lo hi top [] r h c = λ x a u. elim (decLt x hi) [ yes p ↦ r x a p | no p ↦ c x (omega arith) u ]
-runs-longer test lo hi top (b ∷ l) r h c = (
-  record {
-    from = r .0 .from;
-    some = r .0 .some;
-    ends = omega (arith, r .0 .ends);
-    before = r .0 .before;
-    inside = r .0 .inside;
-    after = r .0 .after;
-  },
-  runs-longer test (endOf b) hi top l (r .1) h c,
 )

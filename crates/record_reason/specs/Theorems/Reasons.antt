@@ -1,63 +1,23 @@
 -- What a reason says, in other words: a bad file has one and a good file none; the checksum that a line should have is the byte that makes it right; the line
 -- that gave a byte first is the first that did.
-use mathlib.Core.Path.{_≡_, refl, ap}
+use mathlib.Core.Path.{_≡_, refl}
 use mathlib.Core.Bool.{Bool, true, false}
 use mathlib.Core.List.{List}
 use Prim.Native.Nat.{ℕ, zero, suc, _+_, _-_, _*_, _%_, _<_, _≤_}
 use native.Mathlib.Omega.{arith}
 use native.Mathlib.Decide.{decLt}
-use lib.Dec.{ltb, leb, eqb}
-use lib.ListN.{length}
+use lib.Dec.{eqb}
 use borrow.Author.Tests.{eq-eqb, eqb-true, eqb-false}
 use Rattle.refusal.specs.Laws.Bools.{clash}
 use Rattle.refusal.specs.Pick.{pick}
 use Rattle.record_lines.specs.Digits.{pairAt, bytesAt}
-use Rattle.record_lines.specs.Pieces.{Piece}
 use Rattle.record_lines.specs.Sums.{sumOf}
 use Rattle.record_lines.specs.Laws.Sums.{sum-list-more}
-use Rattle.record_fault.specs.Reading.{sound, faulty, newPieces, isNew, readText}
-use Rattle.record_fault.specs.Trail.{trail}
-use Rattle.record_reason.specs.Spelling.{causeOf, nothing, orElse, sumCause, ownCause, startBy, manyBy, topBy}
-use Rattle.record_reason.specs.Reasons.{lineOf, itemOf, endsBefore, giver, lowest, spanCause, causeAt, toldOf, whyOf}
-use Rattle.record_reason.specs.declared.Cause.{Cause}
+use Rattle.record_fault.specs.Reading.{newPieces, isNew}
+use Rattle.record_reason.specs.Spelling.{causeOf, nothing, sumCause}
+use Rattle.record_reason.specs.Reasons.{itemOf, giver}
 
 -- ---- a bad file has a reason
-
-pick-some : (b : Bool) (x y : Cause) → (x .reason ≡ 0 → ⊥) → (y .reason ≡ 0 → ⊥) → pick b x y .reason ≡ 0 → ⊥
-pick-some true x y p q = p
-pick-some false x y p q = q
-
-or-some : (a b : Cause) → (b .reason ≡ 0 → ⊥) → orElse a b .reason ≡ 0 → ⊥
-or-some a b h = go (eqb (a .reason) 0) refl
-  where
-    go : (t : Bool) → eqb (a .reason) 0 ≡ t → pick t b a .reason ≡ 0 → ⊥
-    go true e = h
-    go false e = λ z. clash (eq-eqb (a .reason) 0 z) e
-
-module _ (format load : ℕ) (text : List ℕ) where
-  span-some : (n start many top : ℕ) → spanCause format load text n start many top .reason ≡ 0 → ⊥
-  span-some n start many top =
-      pick-some (ltb top (start + many)) (causeOf 9 (start + many - 1) (top - 1)) _ (λ z. omega arith)
-      (pick-some (ltb start load) (causeOf 10 start (lowest format text)) _ (λ z. omega arith) (λ z. omega arith))
-
-  cause-some : (n : ℕ) → causeAt format load text n .reason ≡ 0 → ⊥
-  cause-some n =
-      let state = trail format text n .state in
-      let line = lineOf format text n in
-      pick-some (endsBefore format text n) (causeOf 12 0 0) _ (λ z. omega arith)
-      (pick-some (leb (length text) (trail format text n .at)) (causeOf 13 0 0) _ (λ z. omega arith)
-      (or-some (ownCause format state line)
-      (spanCause format load text n (startBy format state line) (manyBy format line) (topBy format line))
-      (span-some n (startBy format state line) (manyBy format line) (topBy format line))))
-
-  -- a good file has zeros
-  pub good-has-none : (ps : List Piece) → readText format load text ≡ sound ps → whyOf format load text (readText format load text) ≡ toldOf 0 nothing
-  good-has-none ps e = ap (whyOf format load text) e
-
-  -- and a bad one a reason, at the line that `line_at_fault` tells
-  pub bad-has-some : (n : ℕ) → readText format load text ≡ faulty n
-      → (whyOf format load text (readText format load text) .line ≡ n) × (whyOf format load text (readText format load text) .reason ≡ 0 → ⊥)
-  bad-has-some n e = rw e (refl, cause-some n)
 
 -- ---- the checksum
 

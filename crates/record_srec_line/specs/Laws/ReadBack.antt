@@ -3,15 +3,15 @@ use mathlib.Core.Path.{_≡_, refl, sym, ap, _∙_}
 use mathlib.Core.Bool.{true}
 use mathlib.Core.List.{List, [], _∷_, _++_}
 use mathlib.Core.Logic.{_⊎_, inl, inr}
-use Prim.Native.Nat.{ℕ, zero, suc, _+_, _*_, _/_, _%_, _^_, _<_, _≤_}
+use Prim.Native.Nat.{ℕ, zero, suc, _+_, _*_, _/_, _%_, _^_, _≤_}
 use native.Mathlib.Omega.{arith}
-use lib.ListN.{length, getD}
+use lib.ListN.{length}
 use native.Mathlib.Nat.{div-one, pow-suc, div-div-eq-div-mul, div-add-mod'}
 use Rattle.bitvec.specs.Bits.{Bytes}
 use Rattle.record_lines.specs.Digits.{bytesText}
 use Rattle.record_lines.specs.Uppers.{Upper, figure}
 use Rattle.record_lines.specs.Sums.{sumOf}
-use Rattle.record_srec_line.specs.Srec.{addressBytes, bodyOf, checksumOf, lineText, dataDigit, endDigit}
+use Rattle.record_srec_line.specs.Srec.{addressBytes, bodyOf, checksumOf, dataDigit, endDigit}
 use Rattle.record_srec_line.specs.Srec.{numberFrom, agrees, dataLine, endLine, typed}
 use Rattle.record_srec_line.specs.ReadBack.{Width, four, two}
 
@@ -69,15 +69,6 @@ typed-end four state l = refl
 pub width-few : {w : ℕ} → Width w → w ≤ 4
 width-few two = omega arith
 width-few four = omega arith
-
-pub width-some : {w : ℕ} → Width w → 0 < 256 ^ w
-width-some two = omega arith
-width-some four = omega arith
-
--- A line's type is its second character.
-pub type-digit : (t w a : ℕ) (bytes : List ℕ) → getD (lineText t w a bytes) 1 0 ≡ t
-unfolding lineText
-type-digit t w a bytes = refl
 
 -- ---- its characters
 

@@ -19,9 +19,9 @@ use Rattle.record_lines.specs.Items.{gives, ends}
 use Rattle.record_lines.specs.Sums.{sumOf}
 use Rattle.record_lines.specs.Laws.Sums.{sum-append}
 use Rattle.record_srec_line.specs.Srec.{addressBytes, bodyOf, checksumOf, lineText, dataDigit, endDigit}
-use Rattle.record_srec_line.specs.Srec.{numberFrom, countOf, addressOf, isSound, agrees, dataLine, endLine, srecItem}
+use Rattle.record_srec_line.specs.Srec.{numberFrom, countOf, isSound, agrees, dataLine, endLine, srecItem}
 use Rattle.record_srec_line.specs.Laws.ReadBack.{address-bytes, address-from, agrees-own, digit-data, digit-end, length-address}
-use Rattle.record_srec_line.specs.Laws.ReadBack.{lineOf, sum-one, typed-data, typed-end, wholeOf, width-few, width-some}
+use Rattle.record_srec_line.specs.Laws.ReadBack.{lineOf, sum-one, typed-data, typed-end, wholeOf, width-few}
 use Rattle.record_srec_line.specs.ReadBack.{Width}
 
 pub address-back : (w a : ℕ) → a < 256 ^ w → numberFrom 0 (addressBytes w a) ≡ a
@@ -132,13 +132,6 @@ data-sound {w} v a bytes good some = line-sound (dataDigit w) w a bytes good (om
 pub end-sound : {w : ℕ} → Width w → isSound (lineText (endDigit w) w 0 []) ≡ true
 unfolding lineText
 end-sound {w} v = line-sound (endDigit w) w 0 [] bytes-none (omega (arith, width-few v))
-
--- "end address 0"
-pub end-address : {w : ℕ} → Width w → addressOf w (lineText (endDigit w) w 0 []) ≡ 0
-unfolding lineText
-end-address {w} v =
-    let few : w + 0 + 1 < 256 = omega (arith, width-few v) in
-    ap (numberFrom 0) (line-address (endDigit w) w 0 [] bytes-none few) ∙ address-back w 0 (width-some v)
 
 -- "upper case": every character of a line that is written.
 pub data-upper : {w : ℕ} → Width w → (a : ℕ) (bytes : List ℕ) → Bytes bytes → length bytes ≤ 250 → Uppers (lineText (dataDigit w) w a bytes)

@@ -1,9 +1,9 @@
 -- An answer by three tests, whatever the format and the tests are.
-use mathlib.Core.Path.{_≡_, sym, subst, _∙_}
+use mathlib.Core.Path.{_≡_, sym, _∙_}
 use mathlib.Core.Bool.{Bool, true, _&&_}
 use mathlib.Core.List.{List, _++_}
 use mathlib.Core.Logic.{_↔_}
-use Prim.Native.Nat.{ℕ, _≤_}
+use Prim.Native.Nat.{ℕ}
 use borrow.Author.Tests.{le-leb, lt-leb, leb-true, leb-false}
 use lib.Dec.{leb}
 use lib.ListN.{length, drop}
@@ -53,8 +53,3 @@ module _ (parts places : Bool) {P Q : Type 0} (p : (parts ≡ true) ↔ P) (q : 
         leaves = leaves;
         front = λ m e. let l = leaves m e in rw (l .0, l .1) (take-append-seam file (drop n old));
       }
-
--- What makes a call accepted.
-pub accepted-fits : {P Q : Type 0} {file old : List ℕ} {r : Written} {new : List ℕ} → Answered P Q file old r new → (n : ℕ) → toldWritten r ≡ gives n
-    → P × Q × (length file ≤ length old)
-accepted-fits {r = r} a n e = a .given .0 (subst (λ (m : ℕ). toldWritten r ≡ gives m) (a .leaves n e .0) e)

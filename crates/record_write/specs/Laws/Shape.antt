@@ -1,30 +1,26 @@
 -- Laws that Theorems/Shape rests on.
-use mathlib.Core.Path.{_≡_, refl, sym, ap, subst, _∙_}
+use mathlib.Core.Path.{_≡_, sym, ap, subst, _∙_}
 use mathlib.Core.Bool.{Bool, true, false}
 use mathlib.Core.List.{List, [], _∷_, List·Memᴰ, List·Memᴰ·cases-cons, List·Memᴰ·not-nil}
 use mathlib.Core.Logic.{⊎-elim}
 use Prim.Native.Nat.{ℕ, zero, suc, _+_, _-_, _/_, _%_, _≤_, _<_, min}
 use native.Mathlib.Omega.{arith}
-use borrow.Author.Tests.{eqb-true, eqb-false}
 use lib.Dec.{eqb}
-use lib.ListN.{length, take, drop, getD, length-take, length-drop}
+use lib.ListN.{length, take, drop, length-take, length-drop}
 use lib.Seq.{drop-drop}
 use Rattle.refusal.specs.Pick.{pick}
 use Rattle.sort.specs.Agree.{All}
 use Rattle.record_lines.specs.Pieces.{Piece, piece}
 use Rattle.record_lines.specs.Laws.Spelled.{bytes-none}
 use Rattle.record_lines.specs.Telling.{Sits, Rises}
-use Rattle.record_ihex_line.specs.Format.{typeOf}
-use Rattle.record_ihex_line.specs.Theorems.ReadBack.{written-record-good, type-back, upper-record-word}
+use Rattle.record_ihex_line.specs.Theorems.ReadBack.{written-record-good}
 use Rattle.record_ihex_line.specs.Laws.ReadBack.{upper-bytes}
-use Rattle.record_srec_line.specs.Srec.{dataDigit, endDigit}
-use Rattle.record_srec_line.specs.ReadBack.{Width, two, four}
-use Rattle.record_srec_line.specs.Theorems.ReadBack.{data-sound, end-sound, end-address}
-use Rattle.record_srec_line.specs.Laws.ReadBack.{type-digit}
+use Rattle.record_srec_line.specs.ReadBack.{Width}
+use Rattle.record_srec_line.specs.Theorems.ReadBack.{data-sound, end-sound}
 use Rattle.record_write.specs.Cut.{pieceLength, cutIn}
 use Rattle.record_write.specs.Laws.Rising.{piece-left}
 use Rattle.record_write.specs.Laws.Said.{upperLine, dataLine, hexLines, srecLines}
-use Rattle.record_write.specs.Shape.{Good, HexFile, PieceOf, Plain, Sound, SrecFile, last, more, nine, one, other, same, seven, three}
+use Rattle.record_write.specs.Shape.{Good, PieceOf, Sound}
 
 module _ (p : Piece) (from : ℕ) (s : Sits 4294967296 from p) where
   abbrev half : ℕ
@@ -36,19 +32,6 @@ module _ (p : Piece) (from : ℕ) (s : Sits 4294967296 from p) where
   few : length (p .bytes) < 256
   few = omega (arith, s .few)
 
-  data-type : typeOf (dataLine p) ≡ 0
-  data-type = type-back 0 (p .address % 65536) (p .bytes) (omega arith) (omega arith) (s .bytes) few
-
-  upper-type : typeOf (upperLine half) ≡ 4
-  upper-type = type-back 4 0 (half / 256 ∷ half % 256 ∷ []) (omega arith) (omega arith) (upper-bytes half half-low) (omega arith)
-
-  piece-shape : (state : ℕ) (rest : List (List ℕ)) (l : List Piece) → HexFile half l rest → (t : Bool) → eqb half state ≡ t → HexFile state (p ∷ l)
-      (pick t (dataLine p ∷ rest) (upperLine half ∷ dataLine p ∷ rest))
-  piece-shape state rest l r true e =
-      let is : half ≡ state = eqb-true half state e in
-      same data-type is (subst (λ (u : ℕ). HexFile u l rest) is r)
-  piece-shape state rest l r false e = other upper-type (upper-record-word half half-low) (eqb-false half state e) data-type r
-
   data-good : Good (dataLine p)
   data-good = written-record-good 0 (p .address % 65536) (p .bytes) (omega arith) (omega arith) (s .bytes) few
 
@@ -59,13 +42,6 @@ module _ (p : Piece) (from : ℕ) (s : Sits 4294967296 from p) where
   piece-good rest r true = (data-good, r)
   piece-good rest r false = (upper-good, (data-good, r))
 
-pub hex-file : (from state : ℕ) (l : List Piece) → Rises 4294967296 from l → HexFile state l (hexLines state l)
-unfolding hexLines
-hex-file from state [] r = last (type-back 1 0 [] (omega arith) (omega arith) bytes-none (omega arith))
-hex-file from state (p ∷ l) r =
-    piece-shape p from (r .0) state (hexLines (p .address / 65536) l) l (hex-file (p .address + length (p .bytes)) (p .address / 65536) l (r .1))
-    (eqb (p .address / 65536) state) refl
-
 pub hex-lines-good : (from state : ℕ) (l : List Piece) → Rises 4294967296 from l → All Good (hexLines state l)
 unfolding hexLines
 hex-lines-good from state [] r = (written-record-good 1 0 [] (omega arith) (omega arith) bytes-none (omega arith), tt)
@@ -73,29 +49,12 @@ hex-lines-good from state (p ∷ l) r =
     piece-good p from (r .0) (hexLines (p .address / 65536) l) (hex-lines-good (p .address + length (p .bytes)) (p .address / 65536) l (r .1))
     (eqb (p .address / 65536) state)
 
-pub srec-file : {w : ℕ} → Width w → (l : List Piece) → SrecFile w l (srecLines w l)
-unfolding srecLines
-srec-file {w} v [] = last (type-digit (endDigit w) w 0 []) (end-address v)
-srec-file {w} v (p ∷ l) = more (type-digit (dataDigit w) w (p .address) (p .bytes)) (srec-file v l)
-
 pub srec-lines-sound : {w : ℕ} → Width w → (top from : ℕ) (l : List Piece) → Rises top from l → All Sound (srecLines w l)
 unfolding srecLines
 srec-lines-sound v top from [] r = (end-sound v, tt)
 srec-lines-sound v top from (p ∷ l) r =
     let few = r .0 .few in
     (data-sound v (p .address) (p .bytes) (r .0 .bytes) (omega arith), srec-lines-sound v top (p .address + length (p .bytes)) l (r .1))
-
-data-plain : {w : ℕ} → Width w → Plain (dataDigit w)
-data-plain two = one
-data-plain four = three
-
-end-plain : {w : ℕ} → Width w → Plain (endDigit w)
-end-plain two = nine
-end-plain four = seven
-
-pub types-written : {w : ℕ} {l : List Piece} {lines : List (List ℕ)} → Width w → SrecFile w l lines → All (λ line. Plain (getD line 1 0)) lines
-types-written v (last e a) = (subst Plain (sym e) (end-plain v), tt)
-types-written v (more e f) = (subst Plain (sym e) (data-plain v), types-written v f)
 
 first-piece : (a : ℕ) (x : List ℕ) → 0 < length x → PieceOf a x (piece a (take (pieceLength a (length x)) x))
 first-piece a x h =

@@ -9,17 +9,17 @@ use native.Mathlib.Omega.{arith}
 use borrow.Author.Tests.{leb-true, le-leb, eqb-true, eq-eqb}
 use lib.Dec.{leb, eqb}
 use lib.ListN.{length, getD}
-use Rattle.refusal.specs.Laws.Bools.{both, either}
+use Rattle.refusal.specs.Laws.Bools.{both}
 use Rattle.refusal.specs.Pick.{pick}
 use Rattle.refusal.specs.declared.Refusal.the-variants.{Malformed, TooShort, BadPart}
 use Rattle.blocks.specs.declared.Block.{Block}
 use Rattle.blocks.specs.Walk.{block, endOf}
-use Rattle.record_write.specs.Checks.{allParts, startsBehind, placed, allPlaced, allShort}
+use Rattle.record_write.specs.Checks.{allParts, startsBehind, placed, allPlaced}
 use Rattle.record_write.specs.Cut.{blocksIn}
-use Rattle.record_write.specs.Outcome.{Input, answerOf, toldWritten}
+use Rattle.record_write.specs.Outcome.{toldWritten}
 use Rattle.record_write.specs.declared.Written.the-variants.{Length, Refused}
 use Rattle.record_write.specs.Exactly.{AllParts, WellPlaced, answers, behindLast}
-use Rattle.record_write.specs.Laws.Exactly.{each-parts, parts-each, short-each}
+use Rattle.record_write.specs.Laws.Exactly.{each-parts, parts-each}
 
 pub parts-exactly : (len : ℕ) (offsets sizes : List ℕ) → (allParts len (blocksIn offsets sizes) ≡ true) ↔ AllParts len offsets sizes
 parts-exactly len offsets sizes = (parts-each len offsets sizes, each-parts len offsets sizes)
@@ -99,15 +99,6 @@ module _ (load : ℕ) where
         record { paired = n; apart = placed-apart offsets sizes n all; low = placed-low offsets sizes n all },
     λ w. rw (eq-eqb (length offsets) (length sizes) (w .paired)) (placed-all offsets sizes w),
   )
-
--- Ticket 12: "4 also for an address that doesn't fit the width". A block that ends past 16 bits is refused in format 2, whoever calls.
-pub past-16-bits-refused : (i : Input) (old : List ℕ) → i .format ≡ 2 → AllParts (length (i .image)) (i .offsets) (i .sizes) → (k : ℕ)
-    → k < length (i .offsets) → k < length (i .sizes) → 65536 < behindLast (i .load) (i .offsets) (i .sizes) k → answerOf i old ≡ Refused (Malformed 0)
-past-16-bits-refused i old e parts k h g past =
-    let p = parts-exactly (length (i .image)) (i .offsets) (i .sizes) .1 parts in
-    either (allShort (i .load) (blocksIn (i .offsets) (i .sizes)))
-    (λ t. let low = short-each (i .load) (i .offsets) (i .sizes) t k h g in absurd (omega arith))
-    (λ f. rw (p, e, f))
 
 -- What a call answers, in these figures.
 pub told-answers : (a b c : Bool) (n : ℕ)

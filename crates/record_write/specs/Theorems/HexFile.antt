@@ -1,5 +1,5 @@
 -- The file that `write_ihex` leaves: what it says when it is read, and what it looks like.
-use mathlib.Core.Path.{_≡_, sym, ap, subst, _∙_}
+use mathlib.Core.Path.{_≡_, sym, subst}
 use mathlib.Core.Bool.{true}
 use mathlib.Core.List.{List}
 use Prim.Native.Nat.{ℕ}
@@ -10,18 +10,16 @@ use Rattle.blocks.specs.declared.Block.{Block}
 use Rattle.record_lines.specs.Lines.{linesOf}
 use Rattle.record_lines.specs.Pieces.{Piece}
 use Rattle.record_lines.specs.Telling.{Tells, Rises}
-use Rattle.record_lines.specs.Uppers.{ended, AllWritten}
-use Rattle.record_lines.specs.Laws.Uppers.{ended-written}
 use Rattle.record_ihex_line.specs.Format.{hexItem}
 use Rattle.record_write.specs.Checks.{allParts, allPlaced}
 use Rattle.record_write.specs.Cut.{blocksIn, piecesOf}
 use Rattle.record_write.specs.Exactly.{AllParts, WellPlaced}
 use Rattle.record_write.specs.Theorems.Exactly.{parts-exactly, placed-all}
 use Rattle.record_write.specs.Theorems.Rising.{file-rises}
-use Rattle.record_write.specs.Laws.Said.{hexLines, hex-text-lines, hex-lines-upper}
+use Rattle.record_write.specs.Laws.Said.{hexLines}
 use Rattle.record_write.specs.Theorems.Said.{hex-lines-cut, hex-tells}
-use Rattle.record_write.specs.Shape.{HexFile, Good}
-use Rattle.record_write.specs.Laws.Shape.{hex-file, hex-lines-good}
+use Rattle.record_write.specs.Shape.{Good}
+use Rattle.record_write.specs.Laws.Shape.{hex-lines-good}
 use Rattle.record_write.specs.Hex.{hexOf}
 
 module _ (image offsets sizes : List ℕ) (load : ℕ) (good : Bytes image) (parts : AllParts (length image) offsets sizes)
@@ -48,18 +46,6 @@ module _ (image offsets sizes : List ℕ) (load : ℕ) (good : Bytes image) (par
   pub file-tells : Tells hexItem 0 (linesOf (hexOf image offsets sizes load)) (piecesOf load image (blocksIn offsets sizes))
   file-tells = hex-tells load image blocks good all-parts all-placed
 
-  -- A data record for each piece, a type 04 record before one whose upper half differs from that in force, one end record and that last.
-  pub file-shape : HexFile 0 (piecesOf load image (blocksIn offsets sizes)) (linesOf (hexOf image offsets sizes load))
-  file-shape = subst (HexFile 0 pieces) (sym cut-lines) (hex-file load 0 pieces rises)
-
   -- Every record is good by the reader's own rule.
   pub file-good : All Good (linesOf (hexOf image offsets sizes load))
   file-good = subst (All Good) (sym cut-lines) (hex-lines-good load 0 pieces rises)
-
-  -- "LF ends": the text is its lines, each with an LF behind it.
-  pub file-ended : hexOf image offsets sizes load ≡ ended (linesOf (hexOf image offsets sizes load))
-  file-ended = hex-text-lines 0 pieces ∙ ap ended (sym cut-lines)
-
-  -- "upper case": each character is 0 to 9, A to F, a colon, an S or an LF.
-  pub file-upper : AllWritten (hexOf image offsets sizes load)
-  file-upper = subst AllWritten (sym (hex-text-lines 0 pieces)) (ended-written (hexLines 0 pieces) (hex-lines-upper load 0 pieces rises))

@@ -6,15 +6,13 @@ use Prim.Native.Nat.{ℕ}
 use lib.ListN.{length}
 use Rattle.refusal.specs.Laws.Pick.{determined}
 use Rattle.record_write.specs.declared.Written.{Written}
-use Rattle.record_write.specs.Exactly.{AllParts, WellPlaced, FitsWidth, Answered}
+use Rattle.record_write.specs.Exactly.{AllParts, WellPlaced, Answered}
 use Rattle.record_write.specs.Theorems.Exactly.{parts-exactly, placed-exactly}
 use Rattle.record_write.specs.Laws.Answered.{answered}
 use Rattle.record_write.specs.Outcome.{partsOk}
 use Rattle.record_write.specs.Hex.{hexOf, WritesHex}
 use Rattle.record_write.specs.Hex as hex
-use Rattle.record_write.specs.Srec.{srecOf, WritesSrec}
-use Rattle.record_write.specs.Srec as srec
-use Rattle.record_write.specs.Theorems.Width.{places-exactly}
+use Rattle.record_write.specs.Srec.{WritesSrec}
 
 module _ {image offsets sizes : List ℕ} {load : ℕ} {old : List ℕ} where
   -- One answer, and one text.
@@ -34,11 +32,3 @@ module _ (image offsets sizes : List ℕ) (load : ℕ) (old : List ℕ) (r : Wri
   hex-answered w =
       answered (partsOk image offsets sizes) (hex.placesOk offsets sizes load) (parts-exactly (length image) offsets sizes) (placed-exactly load offsets sizes)
       (hexOf image offsets sizes load) old r new (w .told) (w .writes .lent)
-
-  -- "Refusals: as in Ticket 1; 4 also for an address that doesn't fit the width", or for none of the two widths.
-  pub srec-answered : (width : ℕ) → WritesSrec image offsets sizes load width old r new
-      → Answered (AllParts (length image) offsets sizes) (FitsWidth width load offsets sizes × WellPlaced load offsets sizes)
-      (srecOf image offsets sizes load width) old r new
-  srec-answered width w =
-      answered (partsOk image offsets sizes) (srec.placesOk offsets sizes load width) (parts-exactly (length image) offsets sizes)
-      (places-exactly width load offsets sizes) (srecOf image offsets sizes load width) old r new (w .told) (w .lent)

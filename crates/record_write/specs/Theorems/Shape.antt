@@ -2,14 +2,13 @@
 use mathlib.Core.Path.{refl}
 use mathlib.Core.List.{List, [], _∷_, List·Memᴰ, List·Memᴰ·head, List·Memᴰ·tail, List·Memᴰ·not-nil, List·Memᴰ·append-cases}
 use mathlib.Core.Logic.{⊎-elim}
-use Prim.Native.Nat.{ℕ, _+_, _/_, _%_, _≤_}
-use native.Mathlib.Omega.{arith}
+use Prim.Native.Nat.{ℕ, _+_, _/_}
 use lib.ListN.{length}
 use Rattle.blocks.specs.declared.Block.{Block}
 use Rattle.record_lines.specs.Pieces.{Piece, piece}
 use Rattle.record_write.specs.Cut.{cut, bytesIn, piecesOf}
 use Rattle.record_write.specs.Laws.Shape.{cut-in-pieces}
-use Rattle.record_write.specs.Shape.{BlockPiece, PieceOf}
+use Rattle.record_write.specs.Shape.{BlockPiece}
 
 pub pieces-long : (load : ℕ) (image : List ℕ) (blocks : List Block) (p : Piece) → List·Memᴰ p (piecesOf load image blocks) → BlockPiece load image blocks p
 unfolding piecesOf
@@ -22,7 +21,3 @@ pieces-long load image (b ∷ l) p m =
     let q = pieces-long load image l p k in
     record { of = q .of; among = List·Memᴰ·tail (q .among); piece = q .piece })
     (List·Memᴰ·append-cases (cut (load + b .origin / 8) bytes) m)
-
--- No record crosses a 64 KiB line.
-pub line-kept : {address : ℕ} {bytes : List ℕ} {p : Piece} → PieceOf address bytes p → p .address % 65536 + length (p .bytes) ≤ 65536
-line-kept q = omega (arith, q .long)

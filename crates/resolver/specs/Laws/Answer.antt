@@ -1,5 +1,5 @@
 -- What a layout's answer tells, K and passes run, with the refusals before any pass.
-use Prim.Native.Nat.{ℕ, _≤_, max}
+use Prim.Native.Nat.{ℕ}
 use mathlib.Core.Path.{_≡_, refl}
 use native.Mathlib.Omega.{arith}
 use Rattle.refusal.specs.declared.Verdict.{Verdict}
@@ -9,7 +9,7 @@ use Rattle.bankdef.specs.declared.Bankdefs.{Bankdefs}
 use Rattle.resolver.specs.Layout.{unless, layoutOf}
 use Rattle.lists.specs.Lists.{Lists, listsOf}
 use Rattle.resolver.specs.Passes.{passAt, resolutionOf}
-use Rattle.resolver.specs.Theorems.Run.{Counted, accepted-passes, passes-bounded}
+use Rattle.resolver.specs.Theorems.Run.{Counted, accepted-passes}
 use Rattle.resolver.specs.declared.Choices.{Choices}
 use Rattle.resolver.specs.declared.Settled.the-variants.{At}
 use Rattle.resolver.specs.declared.Resolution.{Resolution}
@@ -22,10 +22,6 @@ unless-told (TurnedAway why) r e = cc
 unless-accepts : (v : Verdict) (r : Resolution) {k : ℕ} → unless v r .settled ≡ At k → v ≡ Accepted
 unless-accepts Accepted r e = refl
 unless-accepts (TurnedAway why) r e = absurd (let z : _≡_ {A = ℕ} 0 1 = cc in let b : ⊥ = omega arith in b)
-
-unless-runs : (v : Verdict) (r : Resolution) (n : ℕ) → r .passes ≤ n → unless v r .passes ≤ n
-unless-runs Accepted r n h = h
-unless-runs (TurnedAway why) r n h = omega arith
 
 -- The same of the layout's answer, whose passes are those of its rows.
 module _ (banks : Bankdefs) (l : Lists) (choices : Choices) where
@@ -51,10 +47,3 @@ module _ (banks : Bankdefs) (l : Lists) (choices : Choices) where
       let f : unless (listsOf (banks .len) l (choices .fill)) (resolutionOf banks l (choices .limit)) .settled ≡ At k = rw c at e in
       let d = unless-accepts (listsOf (banks .len) l (choices .fill)) (resolutionOf banks l (choices .limit)) f in
       rw (c, same, d)
-
-  pub layout-bounded : layoutOf banks l choices .passes ≤ max 1 (choices .limit)
-  unfolding layoutOf
-  layout-bounded =
-      unless-runs (checkOf banks) (unless (listsOf (banks .len) l (choices .fill)) (resolutionOf banks l (choices .limit))) (max 1 (choices .limit))
-      (unless-runs (listsOf (banks .len) l (choices .fill)) (resolutionOf banks l (choices .limit)) (max 1 (choices .limit))
-      (passes-bounded (passAt banks l) (choices .limit) .1))

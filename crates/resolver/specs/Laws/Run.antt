@@ -1,21 +1,16 @@
 -- Laws that Theorems/Run rests on.
 use Prim.Native.Nat.{ℕ, _+_}
-use mathlib.Core.Path.{_≡_, refl, _∙_}
-use mathlib.Core.Logic.{_⊎_, inl, inr}
+use mathlib.Core.Path.{_≡_, refl}
 use mathlib.Core.Bool.{Bool, true, false}
 use native.Mathlib.Omega.{arith}
 use lib.Dec.{eqb}
 use Rattle.refusal.specs.Pick.{pick}
-use Rattle.refusal.specs.declared.Refusal.{Refusal}
 use Rattle.refusal.specs.declared.Refusal.the-variants.{Unresolved}
 use Rattle.resolver.specs.Passes.{unresolved, lastOf, afterK}
 use Rattle.resolver.specs.declared.Pass.{Pass}
 use Rattle.resolver.specs.declared.Pass.the-variants.{State, Refused as Failed}
 use Rattle.resolver.specs.declared.Settled.the-variants.{At, Refused}
 use Rattle.resolver.specs.Run.{Settles}
-
-pub settles-not : {x : Pass} → Settles x → unresolved x ≡ false
-settles-not h = rw (h .1) (h .2)
 
 -- a last pass that settles is not unresolved
 kept-at : (k : ℕ) (t : Bool) {j : ℕ} → pick t (Refused Unresolved) (At k) ≡ At j → (j ≡ k) × (t ≡ false)
@@ -30,20 +25,3 @@ pub after-at : (pass : ℕ → Bool → Pass) (k : ℕ) (x : Pass) {j : ℕ} →
     → (j ≡ k) × (afterK pass k x .passes ≡ k + 1) × Settles (pass (k + 1) true) × Settles x
 after-at pass k (State s) n e = let h = last-at k (pass (k + 1) true) e in (h .0, refl, h .1, (s, refl, n))
 after-at pass k (Failed why) n e = absurd (let z : _≡_ {A = ℕ} 0 1 = cc in let b : ⊥ = omega arith in b)
-
--- what a refused last pass is refused for: what it met, or that it "ended unresolved"
-abbrev pub Blamed : Pass → Refusal → Type 0
-Blamed x why = (x ≡ Failed why) ⊎ ((why ≡ Unresolved) × (unresolved x ≡ true))
-
-kept-out : (k : ℕ) (t : Bool) {why : Refusal} → pick t (Refused Unresolved) (At k) ≡ Refused why → (why ≡ Unresolved) × (t ≡ true)
-kept-out k true e = (cc, refl)
-kept-out k false e = (cc, cc)
-
-pub last-blamed : (k : ℕ) (x : Pass) {why : Refusal} → lastOf k x ≡ Refused why → Blamed x why
-last-blamed k (State s) e = inr (kept-out k (eqb s 2) e)
-last-blamed k (Failed w) e = inl (cc)
-
-pub after-blamed : (pass : ℕ → Bool → Pass) (k : ℕ) (x : Pass) {why : Refusal} → pass k false ≡ x → afterK pass k x .settled ≡ Refused why
-    → (isLast : Bool) × Blamed (pass (afterK pass k x .passes) isLast) why
-after-blamed pass k (State s) e f = (true, last-blamed k (pass (k + 1) true) f)
-after-blamed pass k (Failed w) e f = (false, inl (e ∙ cc))

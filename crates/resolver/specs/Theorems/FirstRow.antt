@@ -1,5 +1,5 @@
 -- What a pass reads of the lists: the row of its number or the last row; a node's number and state there, and for kind 5 the number in the first row.
-use Prim.Native.Nat.{ℕ, _+_, _-_, _*_, _<_, _≤_, min}
+use Prim.Native.Nat.{ℕ, _+_, _*_, _<_}
 use mathlib.Core.Path.{_≡_, ap, _∙_}
 use native.Mathlib.Omega.{arith}
 use lib.ListN.{getD, length}
@@ -7,16 +7,8 @@ use borrow.Author.Tests.{eq-eqb, ne-eqb}
 use Rattle.bankdef.specs.declared.Bankdefs.{Bankdefs}
 use Rattle.lists.specs.Lists.{Lists, rowAt}
 use Rattle.resolver.specs.Once.{node}
-use Rattle.resolver.specs.Passes.{program, rowOfPass}
+use Rattle.resolver.specs.Passes.{program}
 use Rattle.resolver.specs.Laws.FirstRow.{cell}
-
--- "Pass n reads row n": rows are counted from 0 in the lists
-pub pass-reads-its-row : (l : Lists) (n : ℕ) → 1 ≤ n → n ≤ l .rows → rowOfPass l n ≡ rowAt l (n - 1)
-pass-reads-its-row l n low high = let e : min n (l .rows) ≡ n = omega arith in rw e
-
--- "or the last row if there are fewer"
-pub pass-reads-last-row : (l : Lists) (n : ℕ) → l .rows ≤ n → rowOfPass l n ≡ rowAt l (l .rows - 1)
-pass-reads-last-row l n h = let e : min n (l .rows) ≡ l .rows = omega arith in rw e
 
 module _ (banks : Bankdefs) (l : Lists) (r i : ℕ) (listed : i < length (l .kinds)) where
   -- "A row gives each node a number and a state"

@@ -24,7 +24,7 @@ use Rattle.lists.specs.Lists.{Lists, Row}
 use Rattle.resolver.specs.NodeOrder.{defAt, GoesPast}
 use Rattle.resolver.specs.Theorems.NodeOrder.{ran-to-end}
 use Rattle.resolver.specs.Laws.NodeOrder.{seen-apart}
-use Rattle.resolver.specs.Once.{Program, node, bankRecord, sameAddress, labelState, stateOf, walkTo}
+use Rattle.resolver.specs.Once.{Program, node, sameAddress, labelState, stateOf, walkTo}
 use Rattle.resolver.specs.Laws.PassStates.{seenIn, defIn, stateIn}
 use Rattle.resolver.specs.PassStates.{nodeIn}
 use Rattle.resolver.specs.Passes.{program, rowOfPass, passAt, unresolved}
@@ -117,13 +117,3 @@ module _ (banks : Bankdefs) (l : Lists) (m n : ℕ) (isLast : Bool) (later : 2 �
           let q : n - 1 ≡ k = omega arith in rw q (ended-so k (s .settles .0) (s .settles .1))
       from true (atLimit e u) = open-before (u (n - 1) (omega arith) (omega arith))
       from false r = open-before (r .unsettled (n - 1) (omega arith) (omega arith))
-
-  -- "that of the pass before" is told in the same bank: node i stands in one bank in both, with one record.
-  pub same-bank-before : Runs (passAt banks l) m n isLast → (i : ℕ) → i < length (l .kinds)
-      → ((j : ℕ) → j < i → GoesPast (program banks l) (rowOfPass l n) isLast j) →
-      defIn banks l (n - 1) i ≡ defIn banks l n i
-  same-bank-before r i h all =
-      let p = program banks l in
-      let was = bank-by-switches p (rowOfPass l (n - 1)) false i (λ j g. before-ran r j (omega arith)) in
-      let is = bank-by-switches p (rowOfPass l n) isLast i all in
-      ap (λ (b : ℕ). bankRecord banks (bankAfter b (nodeIn banks l n i))) (was ∙ sym is)

@@ -1,26 +1,22 @@
 -- Theorems about what LayoutPadding defines.
-use Prim.Native.Nat.{ℕ, _+_, _*_, _/_, _<_, _≤_}
-use mathlib.Core.Path.{_≡_, refl, ap, _∙_}
-use mathlib.Core.Bool.{false}
-use native.Mathlib.Nat.{zero-div}
+use Prim.Native.Nat.{ℕ, _+_, _*_, _<_, _≤_}
+use mathlib.Core.Path.{_≡_, refl, ap}
 use native.Mathlib.Omega.{arith}
 use lib.ListN.{getD, length}
-use borrow.Author.Tests.{ne-eqb}
 use Rattle.refusal.specs.Limits.{maxNodes, maxPosition}
 use Rattle.bankdef.specs.declared.Bankdefs.{Bankdefs}
 use Rattle.iter.specs.Distance.{distanceOf}
-use Rattle.iter.specs.Padding.{Part, the-bits, the-units, lostPart}
-use Rattle.iter.specs.Step.{origin, noLost, startOf, outermostSymbol, seenOf, movedOn, advancedOf, seenSkips, advanceSkips, stepOf}
+use Rattle.iter.specs.Padding.{Part, lostPart}
+use Rattle.iter.specs.Step.{origin, noLost, startOf, seenOf, movedOn, advancedOf, seenSkips, advanceSkips, stepOf}
 use Rattle.resolver.specs.Cases.{oneBank}
 use Rattle.resolver.specs.KnownInPass.{bankAt}
 use Rattle.resolver.specs.LastPass.{lastRow}
-use Rattle.resolver.specs.NodeOrder.{defAt}
 use Rattle.resolver.specs.Theorems.LastPass.{accepted-checked, sees-in-last}
 use Rattle.resolver.specs.Layout.{withLimit, layoutOf}
 use Rattle.lists.specs.Lists.{Lists, Row, lists}
-use Rattle.resolver.specs.Once.{Program, node, walkTo}
-use Rattle.resolver.specs.Padding.{lostAt, sumIn, paddingOf}
-use Rattle.resolver.specs.Laws.Padding.{partAt, sizesTo}
+use Rattle.resolver.specs.Once.{Program, walkTo}
+use Rattle.resolver.specs.Padding.{sumIn, paddingOf}
+use Rattle.resolver.specs.Laws.Padding.{sizesTo}
 use Rattle.resolver.specs.Theorems.Padding.{padding-bounded, walk-carries-padding, ends-at-sizes-and-padding}
 use Rattle.resolver.specs.Passes.{program, rowOfPass}
 use Rattle.resolver.specs.Theorems.RaisedLimit.{same-row-above}
@@ -65,20 +61,6 @@ module _ (banks : Bankdefs) (l : Lists) (choices : Choices) (k : ℕ) (accepted 
       ap (λ (row : Row). paddingOf (program banks l) row bank) (same-row-above banks l choices k accepted below n more)
 
 -- ---- what counts
-
-module _ (p : Program) (row : Row) (i : ℕ) where
-  -- where no bits are lost, no units are
-  none-at : lostAt p row i ≡ 0 → (part : Part) → partAt p row part i ≡ 0
-  none-at e the-bits = e
-  none-at e the-units = ap (λ (b : ℕ). b / defAt p row i .unit) e ∙ zero-div (defAt p row i .unit)
-
-  -- "An `addr` that moves the position is not padding."
-  pub addr-is-no-padding : getD (p .kinds) i 0 ≡ 9 → (part : Part) → partAt p row part i ≡ 0
-  addr-is-no-padding k = none-at (rw k)
-
-  -- Nor is any other node that is no `align` and no symbol of depth 0.
-  pub others-are-no-padding : (getD (p .kinds) i 0 ≡ 8 → ⊥) → outermostSymbol (node p row i) ≡ false → (part : Part) → partAt p row part i ≡ 0
-  others-are-no-padding k t = none-at (rw (ne-eqb (getD (p .kinds) i 0) 8 k, t))
 
 pub back-again-case : paddingOf (program oneBank backAgain) (rowOfPass backAgain 1) 0 ≡ record { bits = 8589934588; units = 1073741822 }
 unfolding walkTo sumIn startOf seenOf movedOn advancedOf seenSkips advanceSkips stepOf distanceOf

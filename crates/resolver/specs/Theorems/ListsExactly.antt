@@ -7,19 +7,12 @@ use lib.ListN.{length}
 use borrow.Author.Tests.{leb-true, leb-false, le-leb, lt-leb}
 use Rattle.refusal.specs.Pick.{pick}
 use Rattle.refusal.specs.Refusals.{placeOf}
-use Rattle.refusal.specs.Told.{refuses}
 use Rattle.refusal.specs.declared.Place.the-variants.{One}
 use Rattle.refusal.specs.declared.Refusal.{Refusal}
 use Rattle.refusal.specs.declared.Refusal.the-variants.{Malformed}
-use Rattle.refusal.specs.declared.Verdict.the-variants.{Accepted, Refused}
-use Rattle.bankdef.specs.Check.{checkOf}
-use Rattle.bankdef.specs.declared.Bankdefs.{Bankdefs}
-use Rattle.resolver.specs.Layout.{layoutOf}
+use Rattle.refusal.specs.declared.Verdict.the-variants.{Refused}
 use Rattle.lists.specs.Lists.{Lists, nodeCountSound, rowCountSound, knownFill, nodesTo, listsOf}
-use Rattle.resolver.specs.Theorems.RefusedExactly.{four-exactly}
 use Rattle.lists.specs.Theorems.Sound.{lowest-node, lowest-refused}
-use Rattle.resolver.specs.Told.{toldSettled}
-use Rattle.resolver.specs.declared.Choices.{Choices}
 use Rattle.resolver.specs.ListsExactly.{MalformedAt, choice, node, nodeCount, rowCount}
 
 module _ (banks : ℕ) (l : Lists) (fill : ℕ) where
@@ -70,14 +63,3 @@ module _ (banks : ℕ) (l : Lists) (fill : ℕ) where
   -- The lists are refused 4 at a place exactly when they are malformed there.
   pub malformed-exactly : (i : ℕ) → (listsOf banks l fill ≡ Refused (Malformed i)) ↔ MalformedAt banks l fill i
   malformed-exactly i = (to-place i, at-place i)
-
--- A layout is refused 4 at a place exactly when its table is sound and its lists, or its choice, are malformed there.
-pub layout-malformed-exactly : (banks : Bankdefs) (l : Lists) (choices : Choices) → banks .len ≤ length (banks .defs) → (i : ℕ) →
-    (toldSettled (layoutOf banks l choices .settled) ≡ refuses 4 (One i)) ↔
-    ((checkOf banks ≡ Accepted) × MalformedAt (banks .len) l (choices .fill) i)
-layout-malformed-exactly banks l choices whole i =
-    let four = four-exactly banks l choices whole i in
-    let lists = malformed-exactly (banks .len) l (choices .fill) i in (
-      λ e. let h = four .0 e in (h .0, lists .0 (h .1)),
-      λ h. four .1 (h .0, lists .1 (h .1)),
-    )

@@ -79,35 +79,3 @@ module _ (banks : Bankdefs) (l : Lists) (fill : ℕ) (sound : listsOf (banks .le
           one,
       λ w. let h = most (w .0) (w .1) in let e = w .2 in let t = two-at-most in omega arith,
     )
-
-    -- "stable if any is 1": and none is 2
-    pub stable-exactly : (s ≡ 1) ↔ (((i : ℕ) × (i < length (l .kinds)) × (stateIn banks l n i ≡ 1)) ×
-        ((i : ℕ) → i < length (l .kinds) → stateIn banks l n i ≡ 2 → ⊥))
-    stable-exactly = (
-      λ e. (
-        ⊎-elim (λ (z : s ≡ 0). absurd (let b : ⊥ = omega arith in b))
-            (λ (w : (i : ℕ) × (i < length (l .kinds)) × (stateIn banks l n i ≡ s)). (w .0, w .1, w .2 ∙ e))
-            one,
-        λ i h f. let g = most i h in omega arith,
-      ),
-      λ w.
-          ⊎-elim (λ (z : s ≡ 0). let h = most (w .0 .0) (w .0 .1) in let e = w .0 .2 in omega arith)
-          (λ (v : (i : ℕ) × (i < length (l .kinds)) × (stateIn banks l n i ≡ s)).
-          let h = most (w .0 .0) (w .0 .1) in
-          let e = w .0 .2 in
-          let t = two-at-most in
-          let f = v .2 in
-          let no : s ≡ 2 → ⊥ = λ q. w .1 (v .0) (v .1) (v .2 ∙ q) in
-          omega arith)
-          one,
-    )
-
-    -- "otherwise resolved"
-    pub resolved-exactly : (s ≡ 0) ↔ ((i : ℕ) → i < length (l .kinds) → stateIn banks l n i ≡ 0)
-    resolved-exactly = (
-      λ e i h. let g = most i h in omega arith,
-      λ all.
-          ⊎-elim (λ (z : s ≡ 0). z)
-          (λ (w : (i : ℕ) × (i < length (l .kinds)) × (stateIn banks l n i ≡ s)). let e = all (w .0) (w .1) in let f = w .2 in omega arith)
-          one,
-    )

@@ -2,29 +2,25 @@
 use Prim.Native.Nat.{ℕ, zero, suc, _<_, _≤_}
 use mathlib.Core.Path.{_≡_}
 use mathlib.Core.Bool.{Bool, true, false, _&&_}
-use mathlib.Core.List.{[]}
 use mathlib.Core.Logic.{_↔_}
 use native.Mathlib.Omega.{arith}
 use lib.Dec.{eqb, leb, ltb}
 use lib.ListN.{getD, length}
 use borrow.Author.Tests.{eq-eqb, leb-false, lt-leb, eqb-true, le-ltb, leb-true}
-use Rattle.refusal.specs.Limits.{maxBanks, maxPosition}
+use Rattle.refusal.specs.Limits.{maxBanks}
 use Rattle.refusal.specs.declared.Refusal.the-variants.{PositionPast}
 use Rattle.refusal.specs.Laws.Bools.{either, neither}
-use Rattle.bankdef.specs.Check.{noBank}
 use Rattle.bankdef.specs.Theorems.Refused.{accepted}
 use Rattle.bankdef.specs.declared.Bankdefs.{Bankdefs}
 use Rattle.iter.specs.Laws.Advance.{outside}
 use Rattle.iter.specs.Step.{badState, bankAfter, malformed}
-use Rattle.iter.specs.WithinLimit.{AllSmall}
-use Rattle.iter.specs.Theorems.WithinLimit.{never-past, step-within}
 use Rattle.iter.specs.declared.Moved.the-variants.{Refused as Stopped}
 use Rattle.lists.specs.declared.Node.{Node}
 use Rattle.resolver.specs.Theorems.LabelStates.{switchedTo, bank-by-switches}
 use Rattle.resolver.specs.Layout.{Checked}
-use Rattle.lists.specs.Lists.{Lists, Row, nodeOf, headFault, anyRowFault}
+use Rattle.lists.specs.Lists.{Lists, nodeOf, headFault, anyRowFault}
 use Rattle.resolver.specs.NodeOrder.{seenAt, defAt, GoesPast}
-use Rattle.resolver.specs.Once.{Program, node, walkTo}
+use Rattle.resolver.specs.Once.{walkTo}
 use Rattle.resolver.specs.PassStates.{nodeIn}
 use Rattle.resolver.specs.Theorems.PassStates.{sound-state-of-row}
 use Rattle.resolver.specs.Passes.{program, rowOfPass}
@@ -81,9 +77,3 @@ module _ (banks : Bankdefs) (l : Lists) {fill : ℕ} (c : Checked banks l fill) 
     )
 
 -- ---- no position is past the limit
-
--- Where the row's numbers are within their type, no position of the row's walk ever passes the limit, whatever refuses the pass.
-pub walk-within : (p : Program) (row : Row) → ((i : ℕ) → node p row i .number ≤ maxPosition) → (i : ℕ) → AllSmall (walkTo p row i)
-unfolding walkTo
-walk-within p row small zero = never-past (λ k. noBank) [] tt
-walk-within p row small (suc i) = step-within (defAt p row i) (walkTo p row i) (node p row i) (small i) (walk-within p row small i)

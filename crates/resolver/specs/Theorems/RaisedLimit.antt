@@ -1,5 +1,5 @@
 -- Theorems about what RaisedLimit defines.
-use Prim.Native.Nat.{ℕ, _<_, _≤_, max}
+use Prim.Native.Nat.{ℕ, _<_}
 use mathlib.Core.Path.{_≡_, refl, sym, ap, _∙_}
 use mathlib.Core.List.{[], _∷_}
 use Rattle.refusal.specs.declared.Refusal.the-variants.{Unresolved}
@@ -7,7 +7,7 @@ use Rattle.bankdef.specs.Check.{firstPair}
 use Rattle.bankdef.specs.Search.{firstWhere}
 use Rattle.bankdef.specs.declared.Bankdefs.{Bankdefs}
 use Rattle.iter.specs.Step.{startOf, seenOf, movedOn, advancedOf, stepOf}
-use Rattle.resolver.specs.Laws.Answer.{accepted-layout, layout-bounded, layout-passes}
+use Rattle.resolver.specs.Laws.Answer.{accepted-layout, layout-passes}
 use Rattle.resolver.specs.Cases.{oneBank, settledAt}
 use Rattle.resolver.specs.Laws.Ends.{settled-below}
 use Rattle.resolver.specs.Layout.{byDefault, withLimit, layoutOf}
@@ -40,10 +40,6 @@ module _
   -- So the last pass reads the same row.
   pub same-row-above : (n : ℕ) → k < n → rowOfPass l (layoutOf banks l (withLimit choices n) .passes) ≡ rowOfPass l (layoutOf banks l choices .passes)
   same-row-above n more = ap (λ (r : Resolution). rowOfPass l (r .passes)) (same-for-limits-above n more)
-
--- "passes run never exceed the larger of 1 and the limit, refused builds included"
-pub passes-within-limit : (banks : Bankdefs) (l : Lists) (choices : Choices) → layoutOf banks l choices .passes ≤ max 1 (choices .limit)
-passes-within-limit = layout-bounded
 
 pub edge-moves :
     (layoutOf oneBank edge (byDefault 1) ≡ settledAt 1 1)

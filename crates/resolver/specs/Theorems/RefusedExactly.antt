@@ -8,7 +8,7 @@ use mathlib.Core.Logic.{_⊎_, inl, inr, ⊎-elim, _↔_}
 use native.Mathlib.Omega.{arith}
 use lib.Dec.{eqb}
 use lib.ListN.{length}
-use borrow.Author.Tests.{eqb-true, eqb-false, ne-eqb, eq-eqb, lt-ltb}
+use borrow.Author.Tests.{eqb-true, eqb-false, lt-ltb}
 use Rattle.refusal.specs.Laws.Bools.{unlike}
 use Rattle.refusal.specs.Pick.{pick}
 use Rattle.refusal.specs.Refusals.{numberOf, placeOf}
@@ -25,7 +25,7 @@ use Rattle.bankdef.specs.Refused.{count}
 use Rattle.bankdef.specs.Theorems.Refused.{decided}
 use Rattle.bankdef.specs.declared.Bankdefs.{Bankdefs}
 use Rattle.iter.specs.declared.Moved.the-variants.{Refused as Stopped}
-use Rattle.resolver.specs.Ends.{Runs, RunsLast, SettlesBelow, atLimit}
+use Rattle.resolver.specs.Ends.{Runs, RunsLast, SettlesBelow}
 use Rattle.resolver.specs.Laws.Ends.{Ending, early}
 use Rattle.resolver.specs.Laws.Ends.{last, ends, last-decides, refused-before, settled-below, settled-limit}
 use Rattle.resolver.specs.Laws.Answer.{accepted-layout}
@@ -50,10 +50,6 @@ use Rattle.resolver.specs.declared.Settled.the-variants.{At, Refused}
 use Rattle.resolver.specs.declared.Resolution.{Resolution}
 use Rattle.resolver.specs.Laws.RefusedExactly.{StopsFirst, below-five, lists-four, one-same, refusable-number, refusable-place}
 use Rattle.resolver.specs.Laws.RefusedExactly.{settled-same, table-number}
-
-two-of : (x : Pass) → unresolved x ≡ true → x ≡ State 2
-two-of (State s) e = ap State (eqb-true s 2 e)
-two-of (Failed why) e = absurd (let z : _≡_ {A = ℕ} 0 1 = cc in let b : ⊥ = omega arith in b)
 
 refused-last : (k : ℕ) (x : Pass) {why : Refusal} → lastOf k x ≡ Refused why → (x ≡ Failed why) ⊎ ((why ≡ Unresolved) × (x ≡ State 2))
 refused-last k (State s) {why} e = go (eqb s 2) refl e
@@ -253,20 +249,6 @@ module _ (banks : Bankdefs) (l : Lists) (choices : Choices) where
   -- "and 8 at its end": such a pass has gone past every node, so that 5 and 7 come before 8.
   pub eight-at-end : (u : LastUnresolved banks l choices) (i : ℕ) → i < length (l .kinds) → GoesPast (program banks l) (rowOfPass l (u .pass)) true i
   eight-at-end u = ran-to-end (program banks l) (rowOfPass l (u .pass)) (rowOfPass l (u .pass - 1)) (eqb (u .pass) 1) true 2 (u .ends)
-
-  -- "If none is found, 8": where each of the passes 1 to M is unresolved, pass M was the last, and M passes were run.
-  pub none-found : Checked banks l (choices .fill) → 0 < choices .limit →
-      ((p : ℕ) → 1 ≤ p → p ≤ choices .limit → unresolved (passAt banks l p (eqb p (choices .limit))) ≡ true) →
-      layoutOf banks l choices ≡ record { settled = Refused Unresolved; passes = choices .limit }
-  none-found c some none =
-      ending-decides
-      (record {
-        checked = c;
-        pass = choices .limit;
-        runs = atLimit (omega arith) (λ p. λ low. λ high. rw (ne-eqb p (choices .limit) (λ q. omega arith)) at (none p low (omega arith)));
-        ends = two-of (passAt banks l (choices .limit) true)
-            (rw (eq-eqb (choices .limit) (choices .limit) refl) at (none (choices .limit) (omega arith) (omega arith)));
-      })
 
   -- ---- the checks before any pass, and 4
 

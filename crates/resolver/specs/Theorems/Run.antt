@@ -5,32 +5,14 @@ use mathlib.Core.Bool.{Bool, true, false}
 use native.Mathlib.Omega.{arith}
 use lib.Dec.{eqb, ltb}
 use borrow.Author.Tests.{eq-eqb, ne-eqb, lt-ltb, le-ltb, eqb-true, eqb-false, ltb-true, ltb-false}
-use Rattle.refusal.specs.declared.Refusal.{Refusal}
 use Rattle.resolver.specs.Theorems.Least.{before-K, K-settles, K-counts}
 use Rattle.resolver.specs.Passes.{unresolved, passK, lastOf, afterK, settledBy}
 use Rattle.resolver.specs.declared.Pass.{Pass}
 use Rattle.resolver.specs.declared.Pass.the-variants.{State, Refused as Failed}
-use Rattle.resolver.specs.declared.Settled.the-variants.{At, Refused}
+use Rattle.resolver.specs.declared.Settled.the-variants.{At}
 use Rattle.resolver.specs.declared.Resolution.{Resolution}
-use Rattle.resolver.specs.Laws.Run.{Blamed, after-at, after-blamed, last-at, last-blamed, settles-not}
+use Rattle.resolver.specs.Laws.Run.{after-at, last-at}
 use Rattle.resolver.specs.Run.{IsK, Settles, runOf}
-
--- There is one such k: a K that is made up is none.
-pub one-K : (pass : ℕ → Bool → Pass) (m : ℕ) {j k : ℕ} → IsK pass m j → IsK pass m k → j ≡ k
-one-K pass m {j} {k} a b =
-    let no-less : j < k → ⊥ = λ g. not-before pass m j k a b g in
-    let no-more : k < j → ⊥ = λ g. not-before pass m k j b a g in
-    omega arith
-  where
-    not-before : (pass : ℕ → Bool → Pass) (m j k : ℕ) → IsK pass m j → IsK pass m k → j < k → ⊥
-    not-before pass m j k a b g =
-        let w = b .within in
-        let some : 0 < m = omega arith in
-        let other : eqb j m ≡ false = ne-eqb j m (λ q. omega arith) in
-        let yes-unresolved = b .before j (a .counted some) g in
-        let not-unresolved : unresolved (pass j false) ≡ false = rw other at (settles-not (a .settled some)) in
-        let z : _≡_ {A = ℕ} 0 1 = cc in
-        omega arith
 
 after-runs : (pass : ℕ → Bool → Pass) (k : ℕ) (x : Pass) → (k ≤ afterK pass k x .passes) × (afterK pass k x .passes ≤ k + 1)
 after-runs pass k (State s) = (omega arith, omega arith)
@@ -139,11 +121,3 @@ module _ (pass : ℕ → Bool → Pass) (m : ℕ) where
       by-ways (λ r. (1 ≤ r .passes) × (r .passes ≤ max 1 m)) (λ z. (omega arith, omega arith))
       (λ some. λ less. let h = after-runs pass (passK pass m) (pass (passK pass m) false) in let c = K-counts pass m in (omega arith, omega arith))
       (λ some. λ least. (omega arith, omega arith))
-
-  -- A refused layout: the last of the passes run is the one that refuses, "a refusing pass included"; it met the refusal, or it ended unresolved.
-  pub refused-passes : (why : Refusal) → settledBy pass m .settled ≡ Refused why → (isLast : Bool) × Blamed (pass (settledBy pass m .passes) isLast) why
-  refused-passes =
-      by-ways (λ r. (why : Refusal) → r .settled ≡ Refused why → (isLast : Bool) × Blamed (pass (r .passes) isLast) why)
-      (λ z. λ why. λ e. (true, last-blamed 0 (pass 1 true) e))
-      (λ some. λ less. λ why. λ e. after-blamed pass (passK pass m) (pass (passK pass m) false) refl e)
-      (λ some. λ least. λ why. λ e. (true, last-blamed m (pass m true) e))

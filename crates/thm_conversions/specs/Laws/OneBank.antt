@@ -19,7 +19,7 @@ use Rattle.bankdef.specs.Search.{firstWhere}
 use Rattle.bankdef.specs.declared.Bankdef.{Bankdef}
 use Rattle.bankdef.specs.declared.Bankdefs.{Bankdefs}
 use Rattle.lists.specs.Lists.{Lists, lists}
-use Rattle.output.specs.Output.{Input, input, Lent, Room, roomOf, visitsOf, buildOf, leftBy, Builds}
+use Rattle.output.specs.Output.{Input, input, Lent, roomOf, visitsOf, buildOf, leftBy, Builds}
 use Rattle.output.specs.Output.{toldBuild}
 use Rattle.output.specs.declared.Output.{Output}
 use Rattle.form_fields.specs.Words.{byte, word16, word32, word64}
@@ -31,7 +31,7 @@ use Rattle.form_fields.specs.Contents.{flat, Contents, written, Each, Long, Ban
 use Rattle.form_fields.specs.Has.{Has}
 use Rattle.form_fields.specs.Laws.Parts.{Any, each-any}
 use Rattle.form_fields.specs.Laws.Written.{flat-length}
-use Rattle.form_build.specs.Filed.{fileOutput, FileBuilt}
+use Rattle.form_build.specs.Filed.{FileBuilt}
 use Rattle.form_build.specs.Paged.{BuiltIn}
 use Rattle.form_rewrite.specs.Turning.{switchTo, isSwitch, namesBank, strays, turned, zeros, widened}
 use Rattle.form_rewrite.specs.Theorems.Fitting.{widened-fits}
@@ -45,7 +45,7 @@ use Rattle.thm_conversions.specs.Theorems.DefaultBankSame.{same-answer, 
 use Rattle.thm_conversions.specs.Says.{kindOn, operandOn, numbersOn, statesOn, tableFor, listsFor, inputFor}
 use Rattle.thm_conversions.specs.Laws.Says.{word16-in, word64-in}
 use Rattle.thm_conversions.specs.Laws.Says.{ReadsIn, byte-reads, word32-reads, column-in}
-use Rattle.thm_conversions.specs.Theorems.Says.{written-output, from-written, to-written}
+use Rattle.thm_conversions.specs.Theorems.Says.{from-written, to-written}
 use Rattle.thm_conversions.specs.Laws.OtherBanks.{map-over, bank-lengthened}
 use Rattle.thm_conversions.specs.OneBank.{holding}
 
@@ -228,14 +228,6 @@ module _ (b : List ℕ) (nodes rows : List (List ℕ)) (values : List ℕ) (limi
         }
 
     module _ (short : length (written form1 c) ≤ form1 .longest) (short2 : length (written form2 (widened c)) ≤ form2 .longest) where
-      pub answer-raised : (room : Room)
-          → fileOutput (written form2 (widened c)) fill None room ≡ raisedOutput (inputFor form1 c fill) (fileOutput (written form1 c) fill None room)
-      answer-raised room =
-          written-output is2 (widened c) (widened-fits c fits refl) short2 fill None room
-          ∙ ap (λ (x : Input). buildOf x room) (same-input fill)
-          ∙ same-answer (inputFor form1 c fill) table one (two fill) room
-          ∙ ap (raisedOutput (inputFor form1 c fill)) (sym (written-output is1 c fits short fill None room))
-
       pub build-raised : {old new : Lent} {r : Output} → FileBuilt (written form1 c) fill None old r new
           → FileBuilt (written form2 (widened c)) fill None old (raisedOutput (inputFor form1 c fill) r) new
       build-raised {old} {new} {r} p =
@@ -281,12 +273,3 @@ pub record Single (c : Contents) : Type 0 where
   pub none : length (c .nodes) ≤ firstWhere (strays 0) (c .nodes)
   pub short : length (written form1 c) ≤ form1 .longest
   pub short2 : length (written form2 (widened c)) ≤ form2 .longest
-
-abbrev pub AnswerRaised : Contents → ℕ → Room → Type 0
-AnswerRaised c fill room =
-    Single c → fileOutput (written form2 (widened c)) fill None room ≡ raisedOutput (inputFor form1 c fill) (fileOutput (written form1 c) fill None room)
-
-abbrev pub BuildRaised : Contents → ℕ → Lent → Output → Lent → Type 0
-BuildRaised c fill old r new =
-    Single c → FileBuilt (written form1 c) fill None old r new
-    → FileBuilt (written form2 (widened c)) fill None old (raisedOutput (inputFor form1 c fill) r) new

@@ -2,43 +2,28 @@
 -- back as one bank, and a one-bank form 2 file, which comes back as the shape." Besides, a one-bank form 2 file of 4,096 nodes goes back and does not come
 -- again, and a form 1 file whose banks need more bytes than form 2 may have does not go at all.
 use mathlib.Core.Bool.{true, false}
-use mathlib.Core.List.{List, _++_}
-use mathlib.Core.Path.{_≡_, refl, sym, ap, _∙_}
-use Prim.Native.Nat.{ℕ, _+_, _≤_, _<_, max}
+use mathlib.Core.List.{List}
+use mathlib.Core.Path.{_≡_, refl, ap, _∙_}
+use Prim.Native.Nat.{ℕ, _≤_, _<_, max}
 use native.Mathlib.Omega.{arith}
 use borrow.Author.Tests.{eqb-true, ne-eqb}
 use lib.Dec.{eqb}
 use lib.ListN.{length, take, length-map}
-use Rattle.refusal.specs.Limits.{maxNodes, maxRows}
+use Rattle.refusal.specs.Limits.{maxNodes}
 use Rattle.refusal.specs.declared.Refusal.the-variants.{Malformed}
-use Rattle.form_fields.specs.declared.Form.{Form}
-use Rattle.form_fields.specs.declared.Form.the-variants.{Sound}
-use Rattle.form_fields.specs.declared.Shape.{Shape}
 use Rattle.form_fields.specs.Kind.{form1, form2, is1}
 use Rattle.form_fields.specs.Contents.{Contents, written, Fits}
-use Rattle.form_fields.specs.Shape.{formIn}
-use Rattle.form_fields.specs.Whole.{contentsIn, Bytes}
-use Rattle.form_fields.specs.Laws.Whole.{contents-fit, file-is-written}
+use Rattle.form_fields.specs.Whole.{contentsIn}
 use Rattle.form_convert.specs.declared.Conversion.{Conversion}
 use Rattle.form_convert.specs.declared.Conversion.the-variants.{Refused}
-use Rattle.form_rewrite.specs.Turning.{turned, zeros, lengthened, widened, alone, shaped, shortened, narrowed}
+use Rattle.form_rewrite.specs.Turning.{turned, widened, alone, shaped, shortened}
 use Rattle.form_convert.specs.Convert.{dropsNone}
 use Rattle.form_rewrite.specs.Turning.{toForm2, toForm1}
-use Rattle.form_convert.specs.Convert.{stray, answerFor, answerBy, outAfter, ToForm2}
-use Rattle.form_rewrite.specs.Laws.Fitting.{shortened-fits, shape-two}
-use Rattle.form_rewrite.specs.Theorems.Fitting.{lengthened-long}
+use Rattle.form_convert.specs.Convert.{stray, outAfter, ToForm2}
+use Rattle.form_rewrite.specs.Laws.Fitting.{shortened-fits}
 use Rattle.thm_conversions.specs.Theorems.RoundTrips.{widened-shaped}
-use Rattle.thm_conversions.specs.Laws.ThereAndBack.{call-said, stray-none}
-use Rattle.thm_conversions.specs.Laws.Exceptions.{too-long, too-many}
-
--- "a two-bank form 1 file that already has the shape, which comes back as one bank"
-pub shape-comes-back-as-one-bank : (c : Contents) → shaped (lengthened c) ≡ true → length (toForm1 (toForm2 c) .banks) ≡ 1
-shape-comes-back-as-one-bank c shape =
-    let two : length (c .banks) ≡ 2 = sym (length-map (c .banks) (λ (b : List ℕ). b ++ zeros 1)) ∙ shape-two (lengthened c) shape in
-    let more = ne-eqb (length (c .banks)) 1 (λ e. omega (arith, e, two)) in
-    let there : toForm2 c ≡ lengthened c = rw more refl in
-    let back : toForm1 (lengthened c) ≡ narrowed (lengthened c) = rw shape refl in
-    ap (λ (d : Contents). length (d .banks)) (ap toForm1 there ∙ back)
+use Rattle.thm_conversions.specs.Laws.ThereAndBack.{call-said}
+use Rattle.thm_conversions.specs.Laws.Exceptions.{too-many}
 
 module _ (d : Contents) (fits : Fits form2 d) (one : alone d ≡ true) where
   still : alone (shortened d) ≡ true
@@ -69,21 +54,3 @@ module _ (d : Contents) (fits : Fits form2 d) (one : alone d ≡ true) where
       ∙ too-many (max (length (c .nodes)) (length (widened c .nodes))) (length (c .rows)) (stray c) (length (c .nodes)) (length (written form2 (widened c)))
       (form2 .longest) false (length old) more in
       (done, here .out ∙ ap (λ (a : Conversion). outAfter a (written form2 (toForm2 (contentsIn form1 (written form1 c)))) old) done)
-
--- A form 1 file that does not have one bank becomes longer by four bytes and one for each bank; where that is past 65,536 it is refused 4. (A sound file
--- of 65,000 bytes with 533 banks would have 65,537.)
-pub too-long-for-form2 : (file : List ℕ) → Bytes file → (s : Shape) → formIn form1 file ≡ Sound s → length (contentsIn form1 file .nodes) ≤ maxNodes
-    → length (contentsIn form1 file .rows) ≤ maxRows → alone (contentsIn form1 file) ≡ false
-    → form2 .longest < length file + 4 + length (contentsIn form1 file .banks) → (old new : List ℕ) (answer : Conversion) → ToForm2 file old answer new
-    → (answer ≡ Refused (Malformed 0)) × (new ≡ old)
-too-long-for-form2 file bytes s sound few rows other long old new answer call =
-    let c = contentsIn form1 file in
-    let fits = contents-fit file bytes is1 s sound in
-    let becomes : toForm2 c ≡ lengthened c = rw other refl in
-    let same : length (written form1 c) ≡ length file = ap length (file-is-written file bytes is1 s sound) in
-    let past : form2 .longest < length (written form2 (lengthened c)) = omega (arith, long, same, lengthened-long c fits) in
-    let done = call .is ∙ ap (λ (f : Form). answerBy form2 f c (toForm2 c) false (length old)) sound
-    ∙ ap (λ (d : Contents). answerFor form2 c d false (length old)) becomes
-    ∙ too-long (max (length (c .nodes)) (length (c .nodes))) (length (c .rows)) (stray c) (length (c .nodes)) (length (written form2 (lengthened c)))
-    (form2 .longest) false (length old) (omega (arith, few)) rows (stray-none c other) past in
-    (done, call .out ∙ ap (λ (a : Conversion). outAfter a (written form2 (toForm2 c)) old) done)

@@ -6,9 +6,8 @@ use native.Mathlib.Omega.{arith}
 use borrow.Author.Tests.{eq-eqb}
 use lib.ListN.{length, getD, take, length-map}
 use Rattle.refusal.specs.declared.Opt.{Opt}
-use Rattle.refusal.specs.declared.Opt.the-variants.{None}
 use Rattle.bankdef.specs.Search.{firstWhere}
-use Rattle.output.specs.Output.{Lent, Room}
+use Rattle.output.specs.Output.{Lent}
 use Rattle.output.specs.declared.Output.{Output}
 use Rattle.form_fields.specs.Kind.{form1, form2, is1}
 use Rattle.form_fields.specs.Contents.{Contents, written}
@@ -17,26 +16,11 @@ use Rattle.form_build.specs.Filed.{FileBuilt}
 use Rattle.form_convert.specs.declared.Conversion.the-variants.{Converted}
 use Rattle.form_rewrite.specs.Turning.{strays, turned, widened, toForm2}
 use Rattle.form_convert.specs.Convert.{dropsNone, ToForm2}
-use Rattle.thm_conversions.specs.Widened.{raisedOutput}
 use Rattle.thm_conversions.specs.Says.{inputFor}
 use Rattle.thm_conversions.specs.Theorems.Conversions.{turned-file}
-use Rattle.thm_conversions.specs.Laws.OneBank.{AnswerRaised, BuildRaised, Single, answer-raised, build-raised, build-raised-in, is-single}
+use Rattle.thm_conversions.specs.Laws.OneBank.{Single, build-raised-in, is-single}
 use Rattle.thm_conversions.specs.OneBank.{holding}
 use Rattle.thm_conversions.specs.PagedPlaces.{raisedIn}
-
--- "The converted file gives the same image and blocks; node numbers in places rise by one." The answer:
-pub widened-raised-answer : (c : Contents) (fill : ℕ) (room : Room) → AnswerRaised c fill room
-widened-raised-answer c fill room s =
-    subst (λ (d : Contents). AnswerRaised d fill room) (is-single c (s .one))
-    (λ (t : Single (holding (getD (c .banks) 0 []) (c .nodes) (c .rows) (c .values) (c .limit))).
-    answer-raised (getD (c .banks) 0 []) (c .nodes) (c .rows) (c .values) (c .limit) (t .fits) (t .few) (t .none) fill (t .short) (t .short2) room) s
-
--- and everything lent, which is the same afterwards: image and spans.
-pub widened-same-build : (c : Contents) (fill : ℕ) {old new : Lent} {r : Output} → BuildRaised c fill old r new
-widened-same-build c fill {old} {new} {r} s =
-    subst (λ (d : Contents). BuildRaised d fill old r new) (is-single c (s .one))
-    (λ (t : Single (holding (getD (c .banks) 0 []) (c .nodes) (c .rows) (c .values) (c .limit))).
-    build-raised (getD (c .banks) 0 []) (c .nodes) (c .rows) (c .values) (c .limit) (t .fits) (t .few) (t .none) fill (t .short) (t .short2)) s
 
 -- So it is with a page size, where 19 comes too.
 pub widened-same-build-in : (c : Contents) (fill : ℕ) (page : Opt) {old new : Lent} {r : Output} → Single c → FileBuilt (written form1 c) fill page old r new
@@ -65,13 +49,3 @@ converted-single file out n new bytes call one =
     let ok : Single c =
     record { fits = t .fits; one = one; few = omega (arith, nodes, t .answer .few); none = stays; short = t .short; short2 = short2 } in
     (ok, sym (t .is), t .made ∙ ap (written form2) becomes)
-
--- A one-bank file that was converted to form 2: the build of what was written leaves everything lent the same, and answers as before, places raised.
-pub form2-one-bank-same-build : (file out : List ℕ) (n : ℕ) (new : List ℕ) → Bytes file → ToForm2 file out (Converted n) new
-    → length (contentsIn form1 file .banks) ≡ 1 → (fill : ℕ) {old left : Lent} {r : Output}
-    → FileBuilt file fill None old r left → FileBuilt (take n new) fill None old (raisedOutput (inputFor form1 (contentsIn form1 file) fill) r) left
-form2-one-bank-same-build file out n new bytes call one fill {old} {left} {r} p =
-    let c = contentsIn form1 file in
-    let (ok, is, made) = converted-single file out n new bytes call one in
-    subst (λ (f : List ℕ). FileBuilt f fill None old (raisedOutput (inputFor form1 c fill) r) left) (sym made)
-    (widened-same-build c fill ok (subst (λ (f : List ℕ). FileBuilt f fill None old r left) is p))

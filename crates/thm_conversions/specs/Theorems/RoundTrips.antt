@@ -9,18 +9,13 @@ use lib.ListN.{length, getD, take, drop, length-map}
 use borrow.Author.Tests.{eq-eqb, eqb-true, not-false}
 use Rattle.refusal.specs.Laws.Bools.{either, both}
 use Rattle.bankdef.specs.Search.{firstWhere}
-use Rattle.form_fields.specs.declared.Form.the-variants.{Sound}
 use Rattle.form_fields.specs.declared.Shape.{Shape}
-use Rattle.form_fields.specs.Kind.{form1, form2, is1, is2}
-use Rattle.form_fields.specs.Contents.{Contents, written, Long, BankFits, Fits}
-use Rattle.form_fields.specs.Shape.{formIn}
-use Rattle.form_fields.specs.Whole.{Bytes, contentsIn}
-use Rattle.form_fields.specs.Laws.Whole.{contents-fit, file-is-written}
-use Rattle.form_fields.specs.Theorems.Whole.{contents-back}
+use Rattle.form_fields.specs.Kind.{form1, form2}
+use Rattle.form_fields.specs.Contents.{Contents, Long, BankFits, Fits}
+use Rattle.form_fields.specs.Whole.{Bytes}
 use Rattle.form_rewrite.specs.Turning.{isSwitch, strays, turned, zeros, lengthened, widened, alone, toForm2, shortened, narrowed}
 use Rattle.form_rewrite.specs.Turning.{toForm1}
 use Rattle.form_rewrite.specs.Turning.{allOf, allZero, same, bare, startsZero, shaped, bitClear, dropsBit}
-use Rattle.form_rewrite.specs.Theorems.Fitting.{form2-fits, form1-fits}
 use Rattle.form_rewrite.specs.Laws.Fitting.{shape-two, shape-some}
 use Rattle.thm_conversions.specs.Laws.RoundTrips.{all-made, bare-again, both-fit, each-fails, each-holds, each-two, first-of}
 use Rattle.thm_conversions.specs.Laws.RoundTrips.{last-byte, longer-back, map-back, nodes-again, none-made, one-only, row-again}
@@ -110,23 +105,3 @@ back-and-there d fits none more =
     rw e (rw still (lengthened-again d fits none)))
 
 -- ---- the same of bytes
-
-module _ (file : List ℕ) (bytes : Bytes file) (s : Shape) where
-  -- The converted file, read as form 2 and converted back, is the file.
-  pub form1-again : formIn form1 file ≡ Sound s
-      → (alone (contentsIn form1 file) ≡ true → firstWhere (strays 0) (contentsIn form1 file .nodes) ≡ length (contentsIn form1 file .nodes))
-      → (alone (contentsIn form1 file) ≡ false → shaped (lengthened (contentsIn form1 file)) ≡ false)
-      → written form1 (toForm1 (contentsIn form2 (written form2 (toForm2 (contentsIn form1 file))))) ≡ file
-  form1-again sound none other =
-      let c = contentsIn form1 file in
-      let fits = contents-fit file bytes is1 s sound in
-      ap (λ (d : Contents). written form1 (toForm1 d)) (contents-back is2 (toForm2 c) (form2-fits c fits))
-      ∙ ap (written form1) (there-and-back c fits none other) ∙ file-is-written file bytes is1 s sound
-
-  pub form2-again : formIn form2 file ≡ Sound s → dropsBit (contentsIn form2 file) ≡ false → alone (contentsIn form2 file) ≡ false
-      → written form2 (toForm2 (contentsIn form1 (written form1 (toForm1 (contentsIn form2 file))))) ≡ file
-  form2-again sound none more =
-      let d = contentsIn form2 file in
-      let fits = contents-fit file bytes is2 s sound in
-      ap (λ (e : Contents). written form2 (toForm2 e)) (contents-back is1 (toForm1 d) (form1-fits d fits))
-      ∙ ap (written form2) (back-and-there d fits none more) ∙ file-is-written file bytes is2 s sound

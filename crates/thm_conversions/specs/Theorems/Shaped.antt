@@ -7,23 +7,16 @@ use Prim.Native.Nat.{ℕ, _≤_}
 use native.Mathlib.Omega.{arith}
 use lib.ListN.{length, take, drop}
 use Rattle.refusal.specs.Limits.{maxNodes}
-use Rattle.refusal.specs.declared.Opt.the-variants.{None}
-use Rattle.output.specs.Output.{Lent}
-use Rattle.output.specs.declared.Output.{Output}
 use Rattle.form_fields.specs.Kind.{form1, form2, is2}
 use Rattle.form_fields.specs.Contents.{Contents, written, Fits}
 use Rattle.form_fields.specs.Whole.{contentsIn, Bytes}
-use Rattle.form_build.specs.Filed.{FileBuilt}
 use Rattle.form_convert.specs.declared.Conversion.the-variants.{Converted}
 use Rattle.form_rewrite.specs.Turning.{shaped, narrowed, widened, dropsBit, toForm1}
 use Rattle.form_convert.specs.Convert.{ToForm1}
 use Rattle.form_rewrite.specs.Laws.Fitting.{narrowed-fits, rest-long, shape-two, shape-some}
 use Rattle.thm_conversions.specs.Theorems.RoundTrips.{widened-again}
-use Rattle.thm_conversions.specs.Widened.{raisedOutput}
-use Rattle.thm_conversions.specs.Says.{inputFor}
 use Rattle.thm_conversions.specs.Theorems.Conversions.{turned-file}
 use Rattle.thm_conversions.specs.Laws.OneBank.{Single}
-use Rattle.thm_conversions.specs.Theorems.OneBank.{widened-same-build}
 use Rattle.thm_conversions.specs.Laws.Shaped.{none-stray}
 
 module _ (d : Contents) (fits : Fits form2 d) (shape : shaped d ≡ true) (few : length (d .nodes) ≤ maxNodes)
@@ -41,12 +34,6 @@ module _ (d : Contents) (fits : Fits form2 d) (shape : shaped d ≡ true) (few :
         short2 = subst (λ (e : Contents). length (written form2 e) ≤ form2 .longest) (sym (widened-again d fits shape)) short;
       }
 
-  pub narrowed-same-build : (fill : ℕ) {old new : Lent} {r : Output} → FileBuilt (written form1 (narrowed d)) fill None old r new
-      → FileBuilt (written form2 d) fill None old (raisedOutput (inputFor form1 (narrowed d) fill) r) new
-  narrowed-same-build fill {old} {new} {r} p =
-      subst (λ (e : Contents). FileBuilt (written form2 e) fill None old (raisedOutput (inputFor form1 (narrowed d) fill) r) new)
-      (widened-again d fits shape) (widened-same-build (narrowed d) fill narrowed-single p)
-
 -- What is known of a file with the shape that was converted back: what was written is the file of contents with one bank, and the file given is that of what
 -- they become.
 pub converted-back-single : (file out : List ℕ) (n : ℕ) (new : List ℕ) → Bytes file → ToForm1 file out (Converted n) new
@@ -62,18 +49,3 @@ converted-back-single file out n new bytes call shape =
       t .made ∙ ap (written form1) becomes,
       sym (t .is) ∙ ap (written form2) (sym (widened-again d (t .fits) shape)),
     )
-
--- The call: what was written is the one-bank file, and the file given is built as it is, places raised.
-pub form1-shape-same-build : (file out : List ℕ) (n : ℕ) (new : List ℕ) → Bytes file → ToForm1 file out (Converted n) new
-    → shaped (contentsIn form2 file) ≡ true → (fill : ℕ) {old left : Lent} {r : Output}
-    → FileBuilt (take n new) fill None old r left
-    → FileBuilt file fill None old (raisedOutput (inputFor form1 (narrowed (contentsIn form2 file)) fill) r) left
-form1-shape-same-build file out n new bytes call shape fill {old} {left} {r} p =
-    let d = contentsIn form2 file in
-    let t = turned-file is2 toForm1 dropsBit file out n new bytes call in
-    let becomes : toForm1 d ≡ narrowed d = rw shape refl in
-    let made = t .made ∙ ap (written form1) becomes in
-    let short1 : length (written form1 (narrowed d)) ≤ form1 .longest = rw becomes at (t .answer .short) in
-    subst (λ (f : List ℕ). FileBuilt f fill None old (raisedOutput (inputFor form1 (narrowed d) fill) r) left) (t .is)
-    (narrowed-same-build d (t .fits) shape (omega (arith, t .answer .few)) (t .short) short1 fill
-    (subst (λ (f : List ℕ). FileBuilt f fill None old r left) made p))

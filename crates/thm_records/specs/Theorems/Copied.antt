@@ -1,20 +1,18 @@
 -- What was read from a file is accepted for writing, and a file of it gives the same bytes at the same addresses. Document 02, Ticket 12: "A file read from
 -- S-records and written as Intel HEX gives the same bytes at the same addresses."
-use mathlib.Core.Path.{_≡_, refl, sym, ap, ap₂, subst, _∙_}
+use mathlib.Core.Path.{_≡_, refl, sym, ap, subst, _∙_}
 use mathlib.Core.Bool.{true}
 use mathlib.Core.List.{List}
 use mathlib.Core.Logic.{_↔_}
 use Prim.Native.Nat.{ℕ, suc, _+_, _-_, _*_, _/_, _≤_}
 use native.Mathlib.Omega.{arith}
-use borrow.Author.Tests.{eq-eqb}
-use lib.ListN.{length, getD, take, drop, length-map}
-use lib.Seq.{take-at}
+use lib.ListN.{length, getD, take}
 use Rattle.refusal.specs.Told.{gives}
 use Rattle.bitvec.specs.Bits.{Bytes}
 use Rattle.blocks.specs.declared.Block.{Block}
 use Rattle.blocks.specs.declared.Blocks.{Blocks}
 use Rattle.blocks.specs.Bits.{InBlock}
-use Rattle.blocks.specs.Outcome.{origins, sizes, toldBy}
+use Rattle.blocks.specs.Outcome.{sizes, toldBy}
 use Rattle.record_lines.specs.Pieces.{Piece, GivesAt}
 use Rattle.record_fault.specs.Reading.{sound, readText}
 use Rattle.record_fault.specs.Sound.{Fine}
@@ -33,15 +31,12 @@ use Rattle.record_read.specs.Outcome.{Lent, taken, Reads}
 use Rattle.record_write.specs.Bytes.{BlockByte}
 use Rattle.record_write.specs.Theorems.Bytes.{pieces-give-exactly}
 use Rattle.record_write.specs.Checks.{allParts, allPlaced}
-use Rattle.record_write.specs.Cut.{blocksIn, piecesOf}
-use Rattle.record_write.specs.Exactly.{AllParts, WellPlaced}
-use Rattle.record_write.specs.Theorems.Exactly.{parts-exactly, placed-exactly}
+use Rattle.record_write.specs.Cut.{piecesOf}
 use Rattle.record_write.specs.Outcome.{toldWritten}
 use Rattle.record_write.specs.declared.Written.{Written}
 use Rattle.record_write.specs.Hex.{WritesHex}
 use Rattle.thm_records.specs.Laws.Trip.{highest-within, part-of}
-use Rattle.thm_records.specs.Theorems.Files.{hex-gives}
-use Rattle.thm_records.specs.Laws.Copied.{and-true, columns, fine-within, runs-parts, runs-placed}
+use Rattle.thm_records.specs.Laws.Copied.{fine-within, runs-parts, runs-placed}
 
 -- ---- what was read
 
@@ -130,24 +125,6 @@ module _ (format load : ℕ) (text : List ℕ) (old : Lent) (r : Blocks) (new : 
       let g = found-good load old (readText format load text) r new c n found in
       found-after load old (readText format load text) r new c given′ good-file (g .2 .0) (g .2 .1)
 
-  counted : n ≡ length (blocksGiven load given′)
-  counted = found-good load old (readText format load text) r new c n found .2 .2
-
-  first : take n (new .offsets) ≡ origins (blocksGiven load given′)
-  first =
-      ap (λ (x : Lent). take n (x .offsets)) after
-      ∙ take-at (origins (blocksGiven load given′)) (drop (length (origins (blocksGiven load given′))) (old .offsets)) n
-      (length-map (blocksGiven load given′) (λ b. b .origin) ∙ sym counted)
-
-  second : take n (new .sizes) ≡ sizes (blocksGiven load given′)
-  second =
-      ap (λ (x : Lent). take n (x .sizes)) after
-      ∙ take-at (sizes (blocksGiven load given′)) (drop (length (sizes (blocksGiven load given′))) (old .sizes)) n
-      (length-map (blocksGiven load given′) (λ b. b .size) ∙ sym counted)
-
-  same-list : blocksIn (take n (new .offsets)) (take n (new .sizes)) ≡ blocksGiven load given′
-  same-list = ap₂ blocksIn first second ∙ columns (blocksGiven load given′)
-
   bytes-are : new .bytes ≡ filled load given′ (old .bytes)
   bytes-are = ap (λ (x : Lent). x .bytes) after
 
@@ -156,44 +133,3 @@ module _ (format load : ℕ) (text : List ℕ) (old : Lent) (r : Blocks) (new : 
 
   room : reach load given′ ≤ length (old .bytes)
   room = found-good load old (readText format load text) r new c n found .2 .0
-
-  -- What was read is never refused with 16 or 4 when it is written as Intel HEX.
-  pub recoded-accepted : AllParts (length (new .bytes)) (take n (new .offsets)) (take n (new .sizes))
-      × WellPlaced load (take n (new .offsets)) (take n (new .sizes))
-  recoded-accepted = (
-    parts-exactly (length (new .bytes)) (take n (new .offsets)) (take n (new .sizes)) .0
-        (subst (λ (b : List Block). allParts (length (new .bytes)) b ≡ true) (sym same-list)
-        (read-parts format load text given′ good-file (old .bytes) (new .bytes) bytes-are room long)),
-    placed-exactly load (take n (new .offsets)) (take n (new .sizes)) .0
-        (and-true (eq-eqb (length (take n (new .offsets))) (length (take n (new .sizes))) pairs)
-        (subst (λ (b : List Block). allPlaced load b ≡ true) (sym same-list)
-        (read-placed format load text given′ good-file (old .bytes) (new .bytes) bytes-are room long))),
-  )
-    where
-      pairs : length (take n (new .offsets)) ≡ length (take n (new .sizes))
-      pairs =
-          ap length first ∙ length-map (blocksGiven load given′) (λ b. b .origin) ∙ sym (length-map (blocksGiven load given′) (λ b. b .size))
-          ∙ sym (ap length second)
-
-  -- "gives the same bytes at the same addresses": the file that is left is good, and whatever one of the two gives, the other gives at the same address.
-  module _ (good : Bytes (new .bytes)) (text₀ : List ℕ) (w : Written) (text₁ : List ℕ)
-      (written : WritesHex (new .bytes) (take n (new .offsets)) (take n (new .sizes)) load text₀ w text₁) (m : ℕ) (accepted : toldWritten w ≡ gives m) where
-    pub recoded-same : (l : List Piece) → readText format load text ≡ sound l → (k : List Piece) → readText 0 load (take m text₁) ≡ sound k → (a b : ℕ)
-        → GivesAt k a b ↔ GivesAt l a b
-    recoded-same l e k f a b =
-        let left = one-sound (sym f ∙ hex-gives (new .bytes) (take n (new .offsets)) (take n (new .sizes)) load good text₀ w text₁ written m accepted) in
-        let both-same = copied format load text given′ good-file (old .bytes) (new .bytes) bytes-are room long a b in
-        let mine : given′ ≡ l = one-sound (sym good-file ∙ e) in
-        let theirs : k ≡ piecesOf load (new .bytes) (blocksGiven load given′) = left ∙ ap (piecesOf load (new .bytes)) same-list in (
-          λ g. subst (λ (x : List Piece). GivesAt x a b) mine (both-same .0 (subst (λ (x : List Piece). GivesAt x a b) theirs g)),
-          λ g. subst (λ (x : List Piece). GivesAt x a b) (sym theirs) (both-same .1 (subst (λ (x : List Piece). GivesAt x a b) (sym mine) g)),
-        )
-      where
-        one-sound : {x y : List Piece} → sound x ≡ sound y → x ≡ y
-        one-sound q = cc
-
-    pub recoded-good : (k : List Piece) × (readText 0 load (take m text₁) ≡ sound k)
-    recoded-good = (
-      piecesOf load (new .bytes) (blocksIn (take n (new .offsets)) (take n (new .sizes))),
-      hex-gives (new .bytes) (take n (new .offsets)) (take n (new .sizes)) load good text₀ w text₁ written m accepted,
-    )
