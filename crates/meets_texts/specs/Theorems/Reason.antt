@@ -7,12 +7,14 @@ use native.Mathlib.Omega.{arith}
 use lib.Dec.{leb}
 use lib.ListN.{length}
 use borrow.Author.Tests.{leb-true, leb-false}
-use Rattle.refusal.specs.Laws.Bools.{either}
 use Rattle.refusal.specs.Pick.{pick}
+use Rattle.refusal.specs.declared.Refusal.the-variants.{Malformed}
 use Rattle.print_rehex.specs.Rehex.{longest}
 use Rattle.print_text.specs.Ascii.{ascii}
+use Rattle.print_text.specs.Lines.{refusalText}
 use Rattle.record_fault.specs.Reading.{readText}
 use Rattle.record_reason.specs.Reasons.{whyOf}
+use Rattle.record_reason.specs.declared.Why.{Why}
 use Rattle.c_answers.specs.Parts.{reasonTold}
 use Rattle.c_answers.specs.declared.DkReason.{DkReason}
 use Rattle.meets.specs.Laws.Words.{OneOnly}
@@ -21,17 +23,21 @@ use Rattle.says.specs.Texts.{ReasonText, too-long, told}
 use Rattle.meets_reason.specs.Theorems.Meets.{reason-meets}
 use Rattle.meets_reason.specs.Theorems.Decides.{dk-reason-decides}
 use Rattle.meets_texts.specs.Laws.Lines.{line-one, line-meets}
-use Rattle.meets_texts.specs.Printed.{whyNumbers, reasonText}
+use Rattle.meets_texts.specs.Printed.{whyNumbers, whyText, reasonText}
 
 module _ (format load : ℕ) (source : List ℕ) where
+  abbrev why : Why
+  why = whyOf format load source (readText format load source)
+
+  by-length : (t : Bool) → leb (length source) longest ≡ t → ReasonText format load source (pick t (whyText why) (refusalText (Malformed 0)))
+  by-length true t =
+      told (leb-true (length source) longest t) (reason-meets format load source [] (reasonTold why) [] refl refl)
+      (line-meets (ascii "reason") (whyNumbers why))
+  by-length false f = too-long (leb-false (length source) longest f) (line-meets (ascii "refused") (4 ∷ 0 ∷ []))
+
   pub reason-text-meets : ReasonText format load source (reasonText format load source)
   unfolding reasonText
-  reason-text-meets =
-      let w = whyOf format load source (readText format load source) in
-      either (leb (length source) longest)
-      (λ t. rw t (told (leb-true (length source) longest t) (reason-meets format load source [] (reasonTold w) [] refl refl)
-      (line-meets (ascii "reason") (whyNumbers w))))
-      (λ f. rw f (too-long (leb-false (length source) longest f) (line-meets (ascii "refused") (4 ∷ 0 ∷ []))))
+  reason-text-meets = by-length (leb (length source) longest) refl
 
   abbrev numbers : DkReason → List ℕ
   numbers w = w .reason ∷ w .line ∷ w .first ∷ w .second ∷ []
