@@ -44,7 +44,7 @@ pub data ImageLine (bytes : List ℕ) (bits : ℕ) : List ℕ → Type 0 where
   empty : bits ≡ 0 → ImageLine bytes bits (ascii "image\n")
   digits : {d : List ℕ} → 0 < bits → Text bytes bits d → ImageLine bytes bits (ascii "image " ++ d ++ ascii "\n")
 
--- The text of an outcome: the refusal with its place; or, where it is accepted, three things. "The first line is K."
+-- The text of an outcome: the refusal with its place; or, where it is accepted, K ("The first line is K."), the blocks and the image.
 pub data Reports (y : Outcome) : List ℕ → Type 0 where
   refused : {t : List ℕ} → RefusalLine (y .answer) t → Reports y t
   accepted : {k t i : List ℕ} {b : List Block} → y .answer .refusal ≡ 0 → Line (ascii "passes") (y .answer .k ∷ []) k → BlocksOf y b → BlockLines b t
