@@ -233,7 +233,8 @@ module _ (k format load : ℕ) (known : k < 2) (source : List ℕ) where
             lends .text,
           )
 
-      found-turns : Turns format load (lineTold (faultOf said)) out (record { answer = blocksCount (Found n); lent = left }) (turned format load (old .bytes) said)
+      found-turns : Turns format load (lineTold (faultOf said)) out (record { answer = blocksCount (Found n); lent = left })
+          (turned format load (old .bytes) said)
       found-turns =
           let d = done g good (firsts ∙ sym seconds) out fits format in
           subst (Turns format load (lineTold (faultOf said)) out (record { answer = blocksCount (Found n); lent = left }))

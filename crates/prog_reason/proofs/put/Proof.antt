@@ -48,7 +48,8 @@ fits d =
 returns : tie.Need-returns
 returns c =
     let a = c .before .before .before .before .before .before .before .args in
-    rw (too-long (a .kind) (a .load) (a .source .now) (omega (arith, c .before .before .before .before .if1 .taken))) (c .before .before .put-refusal .ensures .0)
+    rw (too-long (a .kind) (a .load) (a .source .now) (omega (arith, c .before .before .before .before .if1 .taken)))
+    (c .before .before .put-refusal .ensures .0)
 
 returns-2 : tie.Need-returns-2
 returns-2 c =
