@@ -1,5 +1,5 @@
--- Refusals 1, 2 and 3 of a table, each exactly when document 01 gives it, with its place. `decided` says it whole; what is asked for most,
--- the overlap, stands by itself in `refused-3` and `named`, and what a caller learns of an accepted table in `accepted`.
+-- Refusals 1, 2 and 3 of a table, each exactly when document 01 gives it, with its place: `decided`. What a caller learns of an accepted
+-- table is `accepted`.
 use mathlib.Core.Path.{_≡_}
 use mathlib.Core.Bool.{true, false}
 use mathlib.Core.List.{List}

@@ -16,3 +16,7 @@ InPlace (Some o) m bit = InRange o m bit
 
 abbrev pub InBank : Bankdef → ℕ → Type 0
 InBank b bit = InPlace (b .offset) (b .size) bit
+
+-- some bit belongs to both
+abbrev pub InBoth : (ℕ → Type 0) → (ℕ → Type 0) → Type 0
+InBoth A B = (bit : ℕ) × A bit × B bit

@@ -5,4 +5,5 @@ pub mod FullFill
 pub mod Numbers
 pub mod Pairs
 pub mod Refused
+pub mod SharedBit
 pub mod Told

@@ -1,3 +1,4 @@
+pub mod Exactly
 pub mod Keeping
 pub mod Kept
 pub mod OneBit

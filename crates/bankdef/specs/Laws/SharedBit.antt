@@ -1,14 +1,35 @@
 -- Laws that Theorems/SharedBit rests on.
 use mathlib.Core.Path.{_≡_, refl}
-use mathlib.Core.Bool.{true}
-use Prim.Native.Nat.{ℕ, _+_}
+use mathlib.Core.Bool.{true, false}
+use Prim.Native.Nat.{ℕ, _+_, _-_}
 use native.Mathlib.Omega.{arith}
-use borrow.Author.Tests.{lt-ltb}
+use borrow.Author.Tests.{ltb-true, lt-ltb, eqb-false}
+use lib.Dec.{ltb}
 use Rattle.refusal.specs.declared.Opt.{Opt}
 use Rattle.refusal.specs.declared.Opt.the-variants.{None, Some}
 use Rattle.bankdef.specs.declared.Bankdef.{Bankdef}
+use Rattle.refusal.specs.Laws.Bools.{both}
+use Rattle.bankdef.specs.Numbers.{isZero}
 use Rattle.bankdef.specs.Overlap.{rangesOverlap}
-use Rattle.bankdef.specs.SharedBit.{InBank, InPlace, InRange}
+use Rattle.bankdef.specs.SharedBit.{InBank, InBoth, InPlace, InRange}
+
+-- the later of two offsets
+abbrev later : ℕ → ℕ → ℕ
+later o p = o + (p - o)
+
+pub common : (o : ℕ) (m : Opt) (p : ℕ) (n : Opt) → isZero m ≡ false → isZero n ≡ false → rangesOverlap o m p n ≡ true → InBoth (InRange o m) (InRange p n)
+common o None p None h k e = (later o p, omega arith, omega arith)
+common o None p (Some n) h k e =
+    let past = ltb-true o (p + n) e in
+    (later o p, omega arith, omega (arith, eqb-false n 0 k))
+common o (Some m) p None h k e =
+    let past = ltb-true p (o + m) e in
+    (later o p, omega (arith, eqb-false m 0 h), omega arith)
+common o (Some m) p (Some n) h k e =
+    let t = both (ltb p (o + m)) (ltb o (p + n)) e in
+    let first = ltb-true p (o + m) (t .0) in
+    let second = ltb-true o (p + n) (t .1) in
+    (later o p, omega (arith, eqb-false m 0 h), omega (arith, eqb-false n 0 k))
 
 pub overlapping : (o : ℕ) (m : Opt) (p : ℕ) (n : Opt) (bit : ℕ) → InRange o m bit → InRange p n bit → rangesOverlap o m p n ≡ true
 overlapping o None p None bit a b = refl
