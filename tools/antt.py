@@ -380,7 +380,7 @@ def functions_of(crate):
         for path in sorted(glob.glob(os.path.join(ROOT, f'crates/{crate}/src/**/*.rt'), recursive=True)):
             lines = open(path, encoding='utf-8').read().split('\n')
             for i, line in enumerate(lines):
-                m = re.match(r'^\s*(?:#\[[^]]*\]\s*)?(pub )?(?:extern "C" )?fn ([A-Za-z0-9_]+)', line)
+                m = re.match(r'^\s*(?:#\[[^]]*\]\s*)?(pub )?(?:pub\(crate\) )?(?:extern "C" )?fn ([A-Za-z0-9_]+)', line)
                 if not m:
                     continue
                 head = []

@@ -5,7 +5,7 @@ from term import manners
 
 KEYWORDS = set('''auto break case char const continue default do double else enum extern float for goto if inline int long register restrict return short
     signed sizeof static struct switch typedef union unsigned void volatile while bool true false result tag u ptr len each answer r'''.split())
-FUNCTION = re.compile(r'((?:^ *//[^\n]*\n)*)(?:^ *#\[[^\n]*\n)*^( *)(?:pub )?(?:extern "C" )?fn (\w+)(?:<[^>]*>)?\s*\(([^)]*)\)', re.M)
+FUNCTION = re.compile(r'((?:^ *//[^\n]*\n)*)(?:^ *#\[[^\n]*\n)*^( *)(?:pub(?:\(crate\))? )?(?:extern "C" )?fn (\w+)(?:<[^>]*>)?\s*\(([^)]*)\)', re.M)
 BINDING = re.compile(r'\blet (?:mut )?(\w+)(?:: [^=;]*)? = (?:([\w:]+)\()?|\blet [\w:]+\(([^)]*)\) =|\bfor (\w+) in'
                      r'|(?:^|\|)\s*[\w:]+::\w+\(([^)]*)\) (?:=>|$)|^\s*([a-z]\w*) =>', re.M)
 

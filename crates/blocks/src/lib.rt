@@ -35,7 +35,7 @@ const MAX_SPANS: usize = 4_096;
 const BUFFER: u64 = 2;
 
 // The word that stands for no offset.
-const NO_OFFSET: u64 = 18_446_744_073_709_551_615;
+pub const NO_OFFSET: u64 = 18_446_744_073_709_551_615;
 
 // A span's offset, from the word that it is lent as.
 pub fn offset_of(word: u64) -> Offset

@@ -41,7 +41,7 @@ fn size_of(node: Node) -> u32
 }
 
 // The entries of the first `nodes` nodes of a row; the lists keep their old contents past them. Answers what the walk lost in each bank.
-pub fn write_entries(
+pub(crate) fn write_entries(
     banks: Bankdefs,
     kinds: &[u8],
     operands: &[u32],

@@ -37,7 +37,7 @@ fn stopped(verdict: Verdict, i: u64) -> Reach
 }
 
 // How far the nodes of a row can be placed one after another. `closed` says whether bank 0 is.
-pub fn trace_row(
+pub(crate) fn trace_row(
     banks: Bankdefs,
     kinds: &[u8],
     operands: &[u32],

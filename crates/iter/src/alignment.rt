@@ -68,7 +68,7 @@ fn gap_to(r: u32, alignment: u32) -> u32
 }
 
 // "the count of whole address units it skips (distance over unit, rounded down)"
-pub fn in_units(def: Bankdef, bits: u32) -> Skipped
+pub(crate) fn in_units(def: Bankdef, bits: u32) -> Skipped
     requires { ⌜ tellable def ≡ true ⌝ }
     ensures { λ r. ⌜ r ≡ skipsOf def bits ⌝ }
 {
@@ -79,7 +79,7 @@ pub fn in_units(def: Bankdef, bits: u32) -> Skipped
 }
 
 // "The distance to alignment A is 0 for A = 0. Otherwise, with r the remainder .. by A, it is 0 for r = 0 and A - r for others.", in bits.
-pub fn distance_in_bits(def: Bankdef, position: u32, alignment: u32) -> u32
+pub(crate) fn distance_in_bits(def: Bankdef, position: u32, alignment: u32) -> u32
     requires { ⌜ tellable def ≡ true ⌝ }
     ensures { λ r. ⌜ r ≡ distanceTo (addressInBits def position) alignment ⌝ }
 {

@@ -6,6 +6,7 @@ mod places;
 mod steps;
 
 pub use alignment::bits_until_alignment;
+pub use paces::MADE;
 pub use paces::is_bad_state;
 pub use paces::pace;
 pub use paces::pace_of_parts;

@@ -33,7 +33,7 @@ ghost use Rattle.iter.specs.Pace.{Paces, Still, bankRead, nodeWith, made
 ghost use Rattle.iter.specs.Step.{outermostSymbol, badState};
 
 // A step is made, or is refused for one of two of document 01's numbers.
-const MADE: u8 = 0;
+pub const MADE: u8 = 0;
 
 const MALFORMED: u8 = 4;
 

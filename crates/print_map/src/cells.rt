@@ -56,7 +56,13 @@ fn write_cells(out: &mut [u8], at: usize, marks: &[u8], numbers: &[u64]) -> usiz
     end
 }
 
-pub fn write_line(out: &mut [u8], at: usize, word: &[u8], marks: &[u8], numbers: &[u64]) -> usize
+pub(crate) fn write_line(
+    out: &mut [u8],
+    at: usize,
+    word: &[u8],
+    marks: &[u8],
+    numbers: &[u64],
+) -> usize
     requires { ⌜ length (now marks) ≡ length (now numbers) ⌝ }
     requires { ⌜ at + length (now word) + 22 * length (now numbers) + 1 ≤ length (now out) ⌝ }
     ensures { λ r. ⌜

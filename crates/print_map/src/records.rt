@@ -2,6 +2,7 @@
 use crate::cells::write_line;
 use bankdef::Bankdef;
 use bankdef::Bankdefs;
+use blocks::NO_OFFSET;
 use build_map::Fault;
 use iter::Address;
 use iter::Lost;
@@ -21,8 +22,6 @@ ghost use Rattle.print_text.specs.Puts.{Writes};
 ghost use Rattle.print_map.specs.Marks.{signOf, markOf, valueOf, addressMark, addressValue, bitOf};
 ghost use Rattle.print_map.specs.Steps.{nodesHeld};
 ghost use Rattle.print_map.specs.Text.{bankLine, banksText, nodeLine, faultText, refusedText, verdictText};
-
-const NO_OFFSET: u64 = 18_446_744_073_709_551_615;
 
 fn sign_of(x: i64) -> u8
     ensures { λ r. ⌜ r ≡ signOf x ⌝ }
@@ -116,7 +115,7 @@ fn write_bank(out: &mut [u8], at: usize, i: u64, def: Bankdef, padding: Lost) ->
 }
 
 // Every bank of the table, with what it has lost.
-pub fn write_banks(out: &mut [u8], at: usize, banks: Bankdefs, padding: [Lost; 16]) -> usize
+pub(crate) fn write_banks(out: &mut [u8], at: usize, banks: Bankdefs, padding: [Lost; 16]) -> usize
     requires { ⌜ at + 3680 ≤ length (now out) ⌝ }
     ensures { λ r. ⌜ Writes (banksText banks padding (min (banks .len) maxBanks)) (now (out .entry)) at r (now (out .exit)) ⌝ }
     ensures { λ r. ⌜ r ≤ at + 3680 ⌝ }
@@ -161,7 +160,7 @@ fn write_node(
 }
 
 // The first `nodes` nodes, from the lists that the map has filled.
-pub fn write_nodes(
+pub(crate) fn write_nodes(
     out: &mut [u8],
     at: usize,
     banks: Bankdefs,
@@ -201,7 +200,7 @@ pub fn write_nodes(
     end
 }
 
-pub fn write_fault(out: &mut [u8], at: usize, fault: Fault) -> usize
+pub(crate) fn write_fault(out: &mut [u8], at: usize, fault: Fault) -> usize
     requires { ⌜ at + 28 ≤ length (now out) ⌝ }
     ensures { λ r. ⌜ Writes (faultText fault) (now (out .entry)) at r (now (out .exit)) ⌝ }
     ensures { λ r. ⌜ r ≤ at + 28 ⌝ }
@@ -216,7 +215,7 @@ pub fn write_fault(out: &mut [u8], at: usize, fault: Fault) -> usize
     }
 }
 
-pub fn write_refused(out: &mut [u8], at: usize, why: Refusal) -> usize
+pub(crate) fn write_refused(out: &mut [u8], at: usize, why: Refusal) -> usize
     requires { ⌜ at + 80 ≤ length (now out) ⌝ }
     ensures { λ r. ⌜ Writes (refusedText why) (now (out .entry)) at r (now (out .exit)) ⌝ }
     ensures { λ r. ⌜ r ≤ at + 80 ⌝ }
@@ -236,7 +235,7 @@ pub fn write_refused(out: &mut [u8], at: usize, why: Refusal) -> usize
     }
 }
 
-pub fn write_verdict(out: &mut [u8], at: usize, verdict: Verdict) -> usize
+pub(crate) fn write_verdict(out: &mut [u8], at: usize, verdict: Verdict) -> usize
     requires { ⌜ at + 80 ≤ length (now out) ⌝ }
     ensures { λ r. ⌜ Writes (verdictText verdict) (now (out .entry)) at r (now (out .exit)) ⌝ }
     ensures { λ r. ⌜ r ≤ at + 80 ⌝ }

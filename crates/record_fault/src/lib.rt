@@ -145,7 +145,7 @@ pub fn search_line(format: u8, text: &[u8], t: &[u8; 256], at: usize, state: u16
 }
 
 // The line that begins at a place. A good one ends where its count says, so that its end is searched for only where that is none, or the line bad.
-pub fn take_line(format: u8, text: &[u8], t: &[u8; 256], at: usize, state: u16) -> Step
+fn take_line(format: u8, text: &[u8], t: &[u8; 256], at: usize, state: u16) -> Step
     requires { ⌜ Spells (now t) ⌝ }
     requires { ⌜ at ≤ length (now text) ⌝ }
     ensures { λ r. ⌜ Stepped format (now (text .entry)) at state r ⌝ }

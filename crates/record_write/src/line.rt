@@ -194,7 +194,7 @@ fn put_long(out: &mut [u8], digit: u8, address: u32, bytes: &[u8]) -> usize
 // ---- in a format
 
 // The lines of a piece.
-pub fn put_piece(format: u8, out: &mut [u8], state: u16, address: u32, bytes: &[u8]) -> usize
+pub(crate) fn put_piece(format: u8, out: &mut [u8], state: u16, address: u32, bytes: &[u8]) -> usize
     requires { ⌜ (length (now bytes) ≤ 16) × (length (textBy format state (piece address (now bytes))) ≤ length (now out)) ⌝ }
     ensures { λ r. ⌜ Puts (textBy format state (piece address (now (bytes .entry)))) (now (out .entry)) r (now (out .exit)) ⌝ }
 {
@@ -208,7 +208,7 @@ pub fn put_piece(format: u8, out: &mut [u8], state: u16, address: u32, bytes: &[
 }
 
 // The end record's line.
-pub fn put_end(format: u8, out: &mut [u8]) -> usize
+pub(crate) fn put_end(format: u8, out: &mut [u8]) -> usize
     requires { ⌜ length (endBy format) ≤ length (now out) ⌝ }
     ensures { λ r. ⌜ Puts (endBy format) (now (out .entry)) r (now (out .exit)) ⌝ }
 {

@@ -4,6 +4,7 @@ use crate::Passed;
 use crate::TwoWalks;
 use bankdef::Bankdef;
 use bankdef::Bankdefs;
+use iter::MADE;
 use iter::Paced;
 use iter::Pos;
 use iter::bank_after;
@@ -34,9 +35,6 @@ ghost use Rattle.resolver.specs.Passes.{HasRow, rowAgainst, passOver};
 ghost use Rattle.resolver.specs.Stands.{bothStart};
 ghost use Rattle.resolver.specs.declared.Pass.the-variants.{State};
 ghost use Rattle.resolver.specs.Switches.{Switches};
-
-// A step that is made: `Paced`'s number of no refusal.
-const MADE: u8 = 0;
 
 // The record of a bank that the table does not list: its unit is 0, and no address of it can be told.
 fn no_record() -> Bankdef
@@ -228,7 +226,7 @@ fn row_against(row: u64, alone: bool) -> u64
 
 // A pass over row `row`, held against the row that the pass before read: its own (`alone`), as pass 1 is, which has none before it; or the one ahead of it.
 // What the loop reads is cut to the number of nodes, so that it need not be asked at each of them whether it ends there.
-pub fn resolve_once(
+pub(crate) fn resolve_once(
     banks: Bankdefs,
     kinds: &[u8],
     operands: &[u32],
