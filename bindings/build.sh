@@ -31,7 +31,7 @@ if ! command -v "$cc" >/dev/null; then
     echo "$skipped: the Rust programs, for want of a C compiler for x86-64 ($cc), which links them"
     exit 0
 fi
-for program in batch test store overlays stack records reasons maps calls_time orders_time; do
+for program in batch test store overlays readback stack records reasons maps calls_time orders_time; do
     "$cc" -std=c11 -O2 -Wall -Wextra -Werror -static -pthread -o "$out/$program" "bindings/c/$program.c" "$out/libdenkumari.a"
 done
 "$cc" -std=c99 -O2 -Wall -Wextra -Wshadow -Wpedantic -Werror -static -o "$out/structs" bindings/c/structs.c "$out/libdenkumari.a"
@@ -59,7 +59,7 @@ for program in batch worked; do
     rust --extern "denkumari=$out/libdenkumari.rlib" -o "$out/${program}_rust" "bindings/rust/examples/$program.rs"
 done
 rust --extern "denkumari=$out/libdenkumari.rlib" -o "$out/recorder_example" bindings/rust/examples/recorder.rs
-for tests in calls store overlays recorder reasons; do
+for tests in calls store overlays readback recorder reasons; do
     rust --test --extern "denkumari=$out/libdenkumari.rlib" -o "$out/${tests}_rust" "bindings/rust/tests/$tests.rs"
 done
 # the loader and the libraries that these programs want, for where they run under an emulator

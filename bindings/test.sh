@@ -33,6 +33,7 @@ tested C "$out/test" examples/worked.form
 tested "C, the store" "$out/store"
 tested "C, stack" "$out/stack"
 tested "C, overlays" "$out/overlays"
+tested "C, read-back" "$out/readback"
 tested "C, reasons" "$out/reasons"
 tested "C, maps" "$out/maps"
 tested "C, structs" "$out/structs"
@@ -96,6 +97,17 @@ models() {
     fi
     echo "C, the bench: $(wc -l <"$out/answers_cases") cases, each answer the model's"
 
+    # read-backs, on cases of their own
+    python3 oracle/readback.py --generate "$seed" "$layouts" >"$out/cases"
+    python3 oracle/readback.py --expected <"$out/cases" >"$out/expected_cases"
+    launch_file "$out/readback" --batch <"$out/cases" >"$out/answers_cases"
+    if ! cmp -s "$out/expected_cases" "$out/answers_cases"; then
+        echo "read-backs: an answer differs from the model's:"
+        diff "$out/expected_cases" "$out/answers_cases" | head -4
+        exit 1
+    fi
+    echo "C, read-backs: $(wc -l <"$out/answers_cases") cases, each answer the model's"
+
     # files of records, whole and damaged, and calls that write them
     python3 oracle/damage.py "tools/run --file $out/records" --every 0 --random "$layouts" --writes "$layouts" --seed "$seed" >"$out/said" || {
         cat "$out/said"
@@ -124,7 +136,7 @@ fi
 started "$out/worked_rust" >"$out/answers"
 printf 'passes 1\nblock 0 10\nblock 20 10\nimage ffc002a800\n' | cmp - "$out/answers"
 echo "Rust: the worked example"
-for tests in calls store overlays recorder reasons; do
+for tests in calls store overlays readback recorder reasons; do
     started "$out/${tests}_rust" -q >"$out/answers" || {
         cat "$out/answers"
         exit 1

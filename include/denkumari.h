@@ -357,6 +357,26 @@ struct dk_count dk_overlay_runs(const uint8_t *overlay, size_t overlay_len,
                                 uint64_t *firsts, size_t firsts_len,
                                 uint64_t *counts, size_t counts_len);
 
+/* What the bytes of a run of a read-back are: not given, or given with another value. */
+enum dk_unlike { DK_MISSING = 1, DK_DIFFERENT = 2 };
+
+/* What was flashed, read back and held against the image. Block i of the image is sizes[i] bits from bit offsets[i] on; the whole image is one block, from
+ * bit 0 on of 8 bits for each byte. `bytes` is what was read back, from the same address on, with the blocks that are given there, as dk_read_records leaves
+ * them. A byte is asked for where a block of the image has it, and given where a given block has it. Lists, ascending, each longest run of bytes of one kind:
+ * counts[i] bytes from byte firsts[i] on are asked for and not given where kinds[i] is DK_MISSING, and given with another value where it is DK_DIFFERENT.
+ * `count` is how many runs there are: 0 where, and only where, every byte that is asked for is given with its value. What is given and not asked for is not
+ * looked at. Never more runs than bytes of the image. Refused 4 (place 0) where blocks of either list are not as above, 16 (place 0) where one is not on byte
+ * edges or outside its bytes, then 14 (place 2) where one of the three lists is too short. It needs less than 1 KiB of stack. */
+struct dk_count dk_verify(const uint8_t *image, size_t image_len,
+                          const uint64_t *offsets, size_t offsets_len,
+                          const uint64_t *sizes, size_t sizes_len,
+                          const uint8_t *bytes, size_t bytes_len,
+                          const uint64_t *given_offsets, size_t given_offsets_len,
+                          const uint64_t *given_sizes, size_t given_sizes_len,
+                          uint64_t *firsts, size_t firsts_len,
+                          uint64_t *counts, size_t counts_len,
+                          uint8_t *kinds, size_t kinds_len);
+
 /* Files of records. `load` is the address of the image's first byte.
  *
  * Writes the blocks of an image, block i being sizes[i] bits from bit offsets[i] on, as Intel HEX: data records of at most 16 bytes that stay within a block
@@ -539,6 +559,8 @@ static inline const char *dk_words(uint64_t refusal)
  * dk_part           sentence `says/Part.PartSays`; `meets_bits/Part.part-decides`
  * dk_overlay_range  sentence `says/Overlay.RangeSays`; `meets_overlay/Range.range-decides`
  * dk_overlay_runs   sentence `says/Overlay.RunsSay`; `meets_overlay/Runs.runs-decide`
+ * dk_verify         sentence `says/Verify.VerifySays`; `meets_verify/Verify.verify-decides`. Count 0 exactly where all is given as it should be:
+ *                   `meets_verify/Same.same-exactly`
  * dk_write_hex      sentence `says/Write.HexSays`; `meets_records/WriteDecides.write-hex-decides`. Read back: `meets_records/ReadBack.hex-comes-back`
  *                   (`Room` for the blocks); every line sums to zero: `meets_records/Checksums.hex-written-sums`
  * dk_write_srec     sentence `says/Write.SrecSays`; `meets_records/WriteDecides.write-srec-decides`. Read back: `meets_records/ReadBack.srec-comes-back`

@@ -209,6 +209,30 @@ def overlay(rng):
     return dict(overlay=some(rng, n, 2), released=some(rng, max(0, n + rng.choice((0, 0, -1, 1))), 2), offsets=offsets, sizes=sizes)
 
 
+def readback(rng):
+    """An image and what was read back of it: blocks of whole bytes mostly, a byte that differs here and there."""
+    n = rng.choice((0, 3, 5, 8))
+    image = some(rng, n, 2)
+    found = [x if rng.random() < 0.7 else 1 - x for x in image][:max(0, n - (rng.random() < 0.2))] + [0] * (rng.random() < 0.2)
+    (offsets, sizes), (given_offsets, given_sizes) = (whole_blocks(rng, len(x)) for x in (image, found))
+    m = rng.choice((0, 1, 3, 6, 6))
+    return dict(image=image, offsets=offsets, sizes=sizes, bytes=found, given_offsets=given_offsets, given_sizes=given_sizes, firsts=some(rng, m),
+                counts=some(rng, m + (rng.random() < 0.1)), kinds=some(rng, m + (rng.random() < 0.1)))
+
+
+def whole_blocks(rng, room):
+    """Blocks of whole bytes within so many, some touching; or such as have to be refused."""
+    if rng.random() < 0.15:
+        return blocks(rng, 8 * room + 8, rng.random() < 0.5)
+    offsets, sizes, at = [], [], rng.choice((0, 0, 1))
+    while at < room and rng.random() < 0.9:
+        count = rng.randrange(1, room - at + 1)
+        offsets.append(8 * at)
+        sizes.append(8 * count)
+        at += count + rng.choice((0, 0, 1))
+    return offsets, sizes
+
+
 def spans(rng):
     n = rng.choice((0, 1, 2, 3, 5, 8))
     many = rng.random() < 0.003
@@ -249,6 +273,7 @@ MAKE = {
     "dk_offer": store,
     "dk_overlay_range": lambda r: dict(overlay(r), first=r.choice((0, 1, 2, 5, NONE)), count=r.choice((0, 1, 2, 3, 4, NONE))),
     "dk_overlay_runs": lambda r: (lambda n: dict(overlay(r), firsts=some(r, n), counts=some(r, n + (r.random() < 0.1))))(r.choice((0, 1, 4, 4))),
+    "dk_verify": readback,
     "dk_write_hex": writing,
     "dk_write_srec": lambda r: dict(writing(r), width=r.choice((2, 4, 4, 2, 3, 0))),
     "dk_read_records": reading,

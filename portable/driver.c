@@ -224,6 +224,7 @@ static const struct {
     {"dk_part", N(0) | N(16)},
     {"dk_overlay_range", N(0) | N(4) | N(16) | N(17)},
     {"dk_overlay_runs", N(0) | N(4) | N(14)},
+    {"dk_verify", N(0) | N(4) | N(14) | N(16)},
     {"dk_write_hex", N(0) | N(4) | N(14) | N(16)},
     {"dk_write_srec", N(0) | N(4) | N(14) | N(16)},
     {"dk_read_records", N(0) | N(4) | N(14)},
@@ -231,6 +232,7 @@ static const struct {
     {"dk_record_reason", N(14) - 1},
     {"rules of the profile", N(1) | N(2) | N(3) | N(4) | N(5) | N(6)},
     {"images of a range", N(1) | N(2)},
+    {"kinds of a run", N(1) | N(2)},
     {"places of 14, tables", N(0) | N(1)},
     {"places of 14, records", N(0) | N(2)},
     {"forms built", N(1) | N(2)},
@@ -316,7 +318,8 @@ static int say_all(int whole)
 int driver_run(uint64_t calls, uint64_t seed, int whole)
 {
     static void (*const rounds[])(void) = {round_of_tables, round_of_tables, round_of_tables, round_of_tables, round_of_files, round_of_files, round_of_files,
-                                           round_of_records, round_of_records, round_of_records, round_of_overlays, round_of_offers, round_of_spans};
+                                           round_of_records, round_of_records, round_of_records, round_of_overlays, round_of_readbacks, round_of_offers,
+                                           round_of_spans};
     state = seed * 2 + 1;
     while (all_calls < calls) {
         lend_anew();

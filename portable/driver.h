@@ -6,11 +6,11 @@
 
 #include "../include/denkumari.h"
 
-/* The calls, and behind them what is counted beside them: the profile's rules, the images that a range comes from, reasons, places of 14, forms accepted. */
+/* The calls, and behind them what is counted beside them: the profile's rules, the images that a range comes from, the kinds of a run, reasons, places of 14, forms accepted. */
 enum call {
-    BUILD, BUILD_PAGED, PROFILE, MAP, FORM, FORM_PAGED, TO_FORM2, TO_FORM1, BLOCKS, HEX, OFFER, PART, OVERLAY_RANGE, OVERLAY_RUNS, WRITE_HEX, WRITE_SREC,
-    READ_RECORDS, RECORD_FAULT, RECORD_REASON, CALLS,
-    RULES = CALLS, IMAGES, SHORT_PLACES, SHORT_FORMS, FORMS_BUILT, STOPPED, FORMATS_READ, OFFERS_KEPT, COUNTED
+    BUILD, BUILD_PAGED, PROFILE, MAP, FORM, FORM_PAGED, TO_FORM2, TO_FORM1, BLOCKS, HEX, OFFER, PART, OVERLAY_RANGE, OVERLAY_RUNS, VERIFY, WRITE_HEX,
+    WRITE_SREC, READ_RECORDS, RECORD_FAULT, RECORD_REASON, CALLS,
+    RULES = CALLS, IMAGES, KINDS, SHORT_PLACES, SHORT_FORMS, FORMS_BUILT, STOPPED, FORMATS_READ, OFFERS_KEPT, COUNTED
 };
 
 /* Random numbers. No expression has two of them in an order that C leaves open: they would be others under another compiler. */
@@ -33,6 +33,7 @@ void round_of_tables(void);
 void round_of_files(void);
 void round_of_records(void);
 void round_of_overlays(void);
+void round_of_readbacks(void);
 void round_of_offers(void);
 void round_of_spans(void);
 

@@ -1,4 +1,4 @@
-/* Stores, spans and overlays for the driver. */
+/* Stores, spans, overlays and read-backs for the driver. */
 #include "driver.h"
 
 enum { STORED = DK_MAX_STORED, SPANS_MOST = 4100, IMAGE = 400, BLOCKS_MOST = 40, LIST = 60 };
@@ -177,4 +177,68 @@ void round_of_overlays(void)
     o.firsts = (uint64_t *)lend(o.firsts_count, 8);
     o.counts = (uint64_t *)lend(o.counts_count, 8);
     called(OVERLAY_RUNS, make_runs, FIELDS(runs));
+}
+
+/* ---- read-backs ---- */
+
+static struct {
+    const uint8_t *image, *bytes;
+    const uint64_t *offsets, *sizes, *given_offsets, *given_sizes;
+    uint64_t *firsts, *counts;
+    uint8_t *kinds;
+    size_t image_count, bytes_count, blocks, blocks_too, given, given_too, firsts_count, counts_count, kinds_count;
+} v;
+static struct dk_count unlike;
+
+static void make_verify(void)
+{
+    unlike = dk_verify(v.image, v.image_count, v.offsets, v.blocks, v.sizes, v.blocks_too, v.bytes, v.bytes_count, v.given_offsets, v.given, v.given_sizes,
+                       v.given_too, v.firsts, v.firsts_count, v.counts, v.counts_count, v.kinds, v.kinds_count);
+}
+
+/* Blocks of whole bytes within `room` of them, some touching; a few that are not, and a few lists that are broken. How many, and how many sizes. */
+static size_t draw_whole_blocks(size_t room, const uint64_t **offsets_lent, const uint64_t **sizes_lent, size_t *sizes_count)
+{
+    static uint64_t starts[BLOCKS_MOST], lengths[BLOCKS_MOST];
+    uint64_t at = one_in(2) ? 0 : below(4), many, odd, *spoilt = one_in(2) ? starts : lengths;
+    size_t n = 0, most = (size_t)(one_in(3) ? below(BLOCKS_MOST) : below(5));
+    while (n < most && at < room) {
+        many = one_in(4) ? room - at : 1 + below(room - at < 12 ? room - at : 12);
+        starts[n] = 8 * at;
+        lengths[n++] = 8 * many;
+        at += many;
+        at += one_in(2) ? 0 : below(6);
+    }
+    odd = one_in(2) ? edge() : below(300);
+    if (n > 0 && one_in(12))
+        spoilt[below(n)] = odd;
+    *sizes_count = n - (n > 0 && one_in(60));
+    *offsets_lent = (const uint64_t *)lend_copy(starts, n, 8);
+    *sizes_lent = (const uint64_t *)lend_copy(lengths, *sizes_count, 8);
+    return n;
+}
+
+void round_of_readbacks(void)
+{
+    static uint8_t image[IMAGE];
+    size_t i;
+    for (i = 0; i < IMAGE; i++)
+        image[i] = (uint8_t)drawn();
+    v.image_count = (size_t)below(IMAGE);
+    v.image = (const uint8_t *)lend_copy(image, v.image_count, 1);
+    for (i = 0; i < IMAGE; i++)
+        image[i] ^= (uint8_t)(one_in(9) ? drawn() : 0);
+    v.bytes_count = one_in(3) ? (size_t)below(IMAGE) : v.image_count;
+    v.bytes = (const uint8_t *)lend_copy(image, v.bytes_count, 1);
+    v.blocks = draw_whole_blocks(v.image_count, &v.offsets, &v.sizes, &v.blocks_too);
+    v.given = draw_whole_blocks(v.bytes_count, &v.given_offsets, &v.given_sizes, &v.given_too);
+    v.firsts_count = one_in(6) ? (size_t)below(4) : LIST;
+    v.counts_count = one_in(6) ? (size_t)below(4) : LIST;
+    v.kinds_count = one_in(6) ? (size_t)below(4) : LIST;
+    v.firsts = (uint64_t *)lend(v.firsts_count, 8);
+    v.counts = (uint64_t *)lend(v.counts_count, 8);
+    v.kinds = (uint8_t *)lend(v.kinds_count, 1);
+    called(VERIFY, make_verify, FIELDS(unlike));
+    for (i = 0; unlike.refusal == 0 && i < unlike.count; i++)
+        counted(KINDS, v.kinds[i]);
 }

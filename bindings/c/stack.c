@@ -179,6 +179,13 @@ static void runs(void)
     refusal = dk_overlay_runs(image, sizeof image, values, sizeof values, block_offsets, NODES, block_sizes, NODES, offsets, NODES, sizes, NODES).refusal;
 }
 
+static uint8_t run_kinds[NODES];
+static void verify(void)
+{
+    refusal = dk_verify(image, sizeof image, block_offsets, NODES, block_sizes, NODES, hex, sizeof hex, block_offsets, NODES, block_sizes, NODES,
+                        offsets, NODES, sizes, NODES, run_kinds, NODES).refusal;
+}
+
 /* The call to be made, and how much it took. */
 static void (*call)(void);
 static size_t most;
@@ -320,6 +327,7 @@ int main(void)
     fill_overlay();
     bad |= measure("dk_overlay_range", range, 1024);
     bad |= measure("dk_overlay_runs", runs, 1024);
+    bad |= measure("dk_verify", verify, 1024);
     bad |= measure("dk_write_hex", write_hex, 1024);
     bad |= measure("dk_read_records, Intel HEX", read_hex, 2048);
     bad |= measure("dk_write_srec", write_srec, 1024);

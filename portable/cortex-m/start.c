@@ -16,7 +16,7 @@ static const uint8_t kib_of[CALLS] = {
     [WRITE_SREC] = LOADER, [READ_RECORDS] = LOADER, [RECORD_FAULT] = LOADER, [RECORD_REASON] = LOADER};
 static const char *const name_of[CALLS] = {
     "dk_build", "dk_build_paged", "dk_profile", "dk_map", "dk_form", "dk_form_paged", "dk_to_form2", "dk_to_form1", "dk_blocks", "dk_hex", "dk_offer", "dk_part",
-    "dk_overlay_range", "dk_overlay_runs", "dk_write_hex", "dk_write_srec", "dk_read_records", "dk_record_fault", "dk_record_reason"};
+    "dk_overlay_range", "dk_overlay_runs", "dk_verify", "dk_write_hex", "dk_write_srec", "dk_read_records", "dk_record_fault", "dk_record_reason"};
 
 extern uint32_t data_load[], data_start[], data_end[], bss_start[], bss_end[], main_top[];
 static uint32_t stacks[STACKS / 4] __attribute__((aligned(PAGE)));

@@ -1,6 +1,7 @@
 //! The archive's functions (include/denkumari.h), called with slices. Everything `unsafe` is here: each call passes the pointers and lengths of
 //! slices that live as long as the call, those that are written behind `&mut`, so that none overlaps another.
 
+use crate::readback::Given;
 use crate::{Banks, Choices, Nodes, Padding, Spans};
 
 #[repr(C)]
@@ -159,6 +160,11 @@ extern "C" {
         overlay: *const u8, overlay_len: usize, released: *const u8, released_len: usize,
         offsets: *const u64, offsets_len: usize, sizes: *const u64, sizes_len: usize,
         firsts: *mut u64, firsts_len: usize, counts: *mut u64, counts_len: usize,
+    ) -> DkCount;
+    fn dk_verify(
+        image: *const u8, image_len: usize, offsets: *const u64, offsets_len: usize, sizes: *const u64, sizes_len: usize,
+        bytes: *const u8, bytes_len: usize, given_offsets: *const u64, given_offsets_len: usize, given_sizes: *const u64, given_sizes_len: usize,
+        firsts: *mut u64, firsts_len: usize, counts: *mut u64, counts_len: usize, kinds: *mut u8, kinds_len: usize,
     ) -> DkCount;
 }
 
@@ -362,6 +368,18 @@ pub fn overlay_runs(
         dk_overlay_runs(
             overlay.as_ptr(), overlay.len(), released.as_ptr(), released.len(), offsets.as_ptr(), offsets.len(), sizes.as_ptr(), sizes.len(),
             firsts.as_mut_ptr(), firsts.len(), counts.as_mut_ptr(), counts.len(),
+        )
+    }
+}
+
+#[rustfmt::skip]
+pub fn verify(image: Given<'_>, bytes: Given<'_>, firsts: &mut [u64], counts: &mut [u64], kinds: &mut [u8]) -> DkCount {
+    // SAFETY: see the module
+    unsafe {
+        dk_verify(
+            image.bytes.as_ptr(), image.bytes.len(), image.offsets.as_ptr(), image.offsets.len(), image.sizes.as_ptr(), image.sizes.len(),
+            bytes.bytes.as_ptr(), bytes.bytes.len(), bytes.offsets.as_ptr(), bytes.offsets.len(), bytes.sizes.as_ptr(), bytes.sizes.len(),
+            firsts.as_mut_ptr(), firsts.len(), counts.as_mut_ptr(), counts.len(), kinds.as_mut_ptr(), kinds.len(),
         )
     }
 }

@@ -42,6 +42,7 @@ mod misuse;
 mod names;
 pub mod overlays;
 mod owned;
+pub mod readback;
 mod reasons;
 mod recorder;
 pub mod records;

@@ -15,7 +15,7 @@ use Rattle.says.specs.Map as map
 use Rattle.says.specs.Overlay as overlay
 use Rattle.says.specs.Read as read
 use Rattle.says.specs.Store as store
-use Rattle.says.specs.Verify as verify
+use Rattle.says.specs.Verify as its
 use Rattle.says.specs.Write as write
 use Rattle.meets_bits.specs.Theorems.Blocks.{dk-blocks-decides}
 use Rattle.meets_bits.specs.Theorems.Hex.{hex-decides}
@@ -134,8 +134,7 @@ dk-overlay-runs-unique κs a x y e f p q = ap (λ (o : overlay.Outcome _ _ _ _).
 
 pub dk-verify-unique : OneView 9 verify-kinds.ps verify-kinds.r verify-reads.Learnt (DkCount × List ℕ × List ℕ × List ℕ)
     (λ κs x e. (x, e .1 .1 .1 .1 .1 .1 .0 .now, e .1 .1 .1 .1 .1 .1 .1 .0 .now, e .1 .1 .1 .1 .1 .1 .1 .1 .0 .now))
-dk-verify-unique κs a x y e f p q =
-    ap (λ (o : verify.Outcome _ _ _ _ _ _). (o .answer, o .firsts, o .counts, o .kinds)) (verify-decides _ _ _ _ _ _ _ _ _ _ _ p q)
+dk-verify-unique κs a x y e f p q = ap (λ (o : its.Outcome _ _ _ _ _ _). (o .answer, o .firsts, o .counts, o .kinds)) (verify-decides _ _ _ _ _ _ _ _ _ _ _ p q)
 
 pub dk-write-hex-unique : OneView 4 write-hex-kinds.ps write-hex-kinds.r write-hex-reads.Learnt write.Outcome
     (λ κs x e. record { answer = x; text = e .1 .1 .1 .1 .0 .now })
