@@ -2,8 +2,8 @@
  * speak of; not to be edited. What follows this comment has the sum `text`, and what it was printed from has the sum
  * `sources` (sha256; tools/portable.sh says of what).
  *
- * sources: 158635573de11ec8bd03d4be1f4045d5ce1cf7ae9badd6ec330a7fb71a9c7497
- * text: 1888e1063a98b99ac3cf11b580a2ec6c9f1609c9a3e7008a390870a9851b4941
+ * sources: 605d8b137ffe800b4fb90cef7d13d8819fb418ef52b239c900e43c1f8f8e2fdc
+ * text: 8299c523dc51a60ba62af61ced096498d59144d729fd8cc6ce478a80aa7c7438
  * kit: rattle-kit-5b-plain logic 097e4c862dff5811
  */
 #ifndef DENKUMARI_TEXTS_H
@@ -24,11 +24,21 @@ typedef struct {
     } u;
 } refusal__Opt;
 typedef struct { uint8_t *ptr; size_t len; } mut_u8;
+enum {
+    print_text__Written_To = 0,
+    print_text__Written_TooShort = 1
+};
+typedef struct {
+    uint8_t tag;
+    union {
+        struct { uint64_t f0; } To;
+    } u;
+} print_text__Written;
 typedef struct {
     uint8_t format;
     uint32_t load;
     bool whole;
-} print_records__Wanted;
+} prog_records__Wanted;
 typedef struct { uint64_t *ptr; size_t len; } mut_u64;
 typedef struct {
     uint64_t reason;
@@ -108,11 +118,11 @@ typedef struct {
     } u;
 } form_convert__Conversion;
 
-/* layout::put_file:
- * The report of a file, put at the front of `text`: how many bytes it is. There is room, so that the text is never
- * too short.
+/* print_report::report:
+ * What the program prints for a file's bytes, a fill's choice and a page size, if there is one, put at the front of
+ * `out`. Lends room for the image and the spans.
  */
-uint64_t layout__put_file(slice_u8 file, uint8_t fill, refusal__Opt page, mut_u8 text);
+print_text__Written print_report__report(slice_u8 file, uint8_t fill, refusal__Opt page, mut_u8 out);
 
 /* print_map::files::write_map:
  * The map's text of a file of either form, a fill's choice and a page size, if there is one, at the front of `out`,
@@ -120,8 +130,8 @@ uint64_t layout__put_file(slice_u8 file, uint8_t fill, refusal__Opt page, mut_u8
  */
 uint64_t print_map__files__write_map(slice_u8 file, uint8_t fill, refusal__Opt page, uint8_t *out);
 
-/* prog_records::put_file: The text of a file, put at the front of `out`: how many bytes it is. */
-uint64_t prog_records__put_file(print_records__Wanted wanted, slice_u8 file, uint8_t fill, refusal__Opt page,
+/* prog_records::put_file: Puts the text of a file. Lends room for the image and the spans. */
+uint64_t prog_records__put_file(prog_records__Wanted wanted, slice_u8 file, uint8_t fill, refusal__Opt page,
         mut_u8 out);
 
 /* prog_rehex::put_file: The text of a file: its records, or why not. */
