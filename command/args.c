@@ -4,13 +4,9 @@
 #include "say.h"
 #include <string.h>
 
-static const struct option {
-    const char *name;
-    unsigned what;
-    int values;
-} options[] = {
-    {"--fill", FILL, 1},   {"--page", PAGE, 1}, {"--load", LOAD, 1},   {"--width", WIDTH, 1},      {"--whole", WHOLE, 0}, {"--to", TO_FORM | TO_KIND, 1},
-    {"--range", RANGE, 2}, {"-o", OUTPUT, 1},   {"--names", NAMES, 1}, {"--names", BOTH_NAMES, 2}, {"--lines", LINES, 0},
+const struct option options[OPTIONS] = {
+#define OPTION(what, name, values, words) {name, values, words},
+#include "help.def"
 };
 
 static uint32_t number(const char *name, const char *word) {
@@ -20,10 +16,13 @@ static uint32_t number(const char *name, const char *word) {
     return n;
 }
 
-/* Whether it is the second of two words. */
-static int second_of(const char *name, const char *word, const char *a, const char *b) {
-    if (strcmp(word, a) != 0 && strcmp(word, b) != 0) fail_name("", name, " takes %s or %s, not '%s'", a, b, word);
-    return strcmp(word, b) == 0;
+/* Whether it is the second of the two words that an option takes, a bar between them. */
+static int is_second(const struct option *o, const char *word) {
+    const char *bar = strchr(o->values, '|');
+    size_t first = (size_t)(bar - o->values);
+    int is_first = strlen(word) == first && memcmp(word, o->values, first) == 0;
+    if (!is_first && strcmp(word, bar + 1) != 0) fail_name("", o->name, " takes %.*s or %s, not '%s'", (int)first, o->values, bar + 1, word);
+    return !is_first;
 }
 
 static const char *file_name(const char *word) {
@@ -31,44 +30,50 @@ static const char *file_name(const char *word) {
     return word;
 }
 
-static void take(struct asked *asked, const struct option *o, unsigned takes, const char *value, const char *next) {
-    unsigned what = o->what & takes;
-    asked->given |= what;
-    if (what == FILL) asked->fill = (uint8_t)second_of(o->name, value, "inherited", "full");
-    if (what == PAGE) asked->page = number(o->name, value);
-    if (what == LOAD) asked->load = number(o->name, value);
-    if (what == WIDTH) asked->width = second_of(o->name, value, "2", "4") ? 4 : 2;
-    if (what == TO_FORM) second_of(o->name, value, "1", "2");
-    if (what == TO_KIND) second_of(o->name, value, "hex", "srec");
-    if (what == TO_FORM || what == TO_KIND) asked->to = value;
-    if (what == OUTPUT) asked->out = file_name(value);
-    if (what == NAMES || what == BOTH_NAMES) asked->names[0] = file_name(value);
-    if (what == BOTH_NAMES) asked->names[1] = file_name(next);
-    if (what == RANGE) {
+static void take(struct asked *asked, int at, const char *value, const char *next) {
+    const struct option *o = &options[at];
+    asked->given |= 1u << at;
+    int is_other = strchr(o->values, '|') ? is_second(o, value) : 0;
+    switch (1 << at) {
+    case FILL: asked->fill = (uint8_t)is_other; break;
+    case PAGE: asked->page = number(o->name, value); break;
+    case LOAD:
+    case LOWEST: asked->load = number(o->name, value); break;
+    case WIDTH: asked->width = is_other ? 4 : 2; break;
+    case TO_FORM:
+    case INTO_FORM:
+    case TO_KIND: asked->to = value; break;
+    case OUTPUT: asked->out = file_name(value); break;
+    case BOTH_NAMES: asked->names[1] = file_name(next); /* falls through */
+    case NAMES: asked->names[0] = file_name(value); break;
+    case RANGE:
         asked->address = number(o->name, value);
         asked->count = number(o->name, next);
+        break;
+    default: break;
     }
 }
 
-static const struct option *find_option(const char *word, size_t n, unsigned takes) {
-    for (size_t k = 0; k < sizeof options / sizeof *options; k++)
-        if (strlen(options[k].name) == n && memcmp(options[k].name, word, n) == 0 && (options[k].what & takes)) return &options[k];
+static int find_option(const char *word, size_t n, unsigned takes) {
+    for (int i = 0; i < OPTIONS; i++)
+        if (strlen(options[i].name) == n && memcmp(options[i].name, word, n) == 0 && (takes >> i & 1)) return i;
     fail_name("there is no option ", word, " (--help lists them)");
 }
 
 /* An option and its values: the place of the last word that it takes. */
 static int take_option(struct asked *asked, unsigned takes, int argc, char **argv, int i) {
     char *word = argv[i], *equals = strncmp(word, "--", 2) == 0 ? strchr(word, '=') : NULL;
-    const struct option *o = find_option(word, equals ? (size_t)(equals - word) : strlen(word), takes);
+    int at = find_option(word, equals ? (size_t)(equals - word) : strlen(word), takes), have = 0;
+    const struct option *o = &options[at];
+    int wanted = !*o->values ? 0 : strchr(o->values, ' ') ? 2 : 1;
     const char *value[2] = {"", ""};
-    int have = 0;
-    if (equals && o->values == 0) fail("%s takes no value", o->name);
+    if (equals && wanted == 0) fail("%s takes no value", o->name);
     if (equals) value[have++] = equals + 1;
-    for (; have < o->values; have++) {
-        if (++i >= argc) fail("%s takes %s", o->name, o->values == 1 ? "a value" : o->what == RANGE ? "an address and a count" : "two files");
+    for (; have < wanted; have++) {
+        if (++i >= argc) fail("%s takes %s: %s %s", o->name, wanted == 1 ? "a value" : "two values", o->name, o->values);
         value[have] = argv[i];
     }
-    take(asked, o, takes, value[0], value[1]);
+    take(asked, at, value[0], value[1]);
     return i;
 }
 

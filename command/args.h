@@ -1,23 +1,23 @@
-/* The command line. */
+/* The command line. help.def has the commands and their options. */
 #ifndef DENKUMARI_ARGS_H
 #define DENKUMARI_ARGS_H
 #include <stdint.h>
 
+enum {
+#define OPTION(what, name, values, words) what##_AT,
+#include "help.def"
+    OPTIONS
+};
 /* What a command takes, one bit each. */
 enum {
-    FILL = 1,
-    PAGE = 2,
-    LOAD = 4,
-    WIDTH = 8,
-    WHOLE = 16,
-    TO_FORM = 32,
-    TO_KIND = 64,
-    RANGE = 128,
-    OUTPUT = 256,
-    NAMES = 512,
-    BOTH_NAMES = 1024,
-    LINES = 2048
+#define OPTION(what, name, values, words) what = 1 << what##_AT,
+#include "help.def"
+    NO_OPTION = 0
 };
+struct option {
+    const char *name, *values, *words;
+};
+extern const struct option options[OPTIONS];
 
 struct asked {
     unsigned given;
@@ -28,11 +28,11 @@ struct asked {
 };
 
 struct command {
-    const char *name;
-    unsigned takes;
+    const char *name, *files;
     int least, most; /* files, or a file and a refusal */
+    unsigned takes;
     int (*run)(struct asked *);
-    const char *help;
+    const char *line, *text;
 };
 
 struct asked read_words(const struct command *command, int argc, char **argv);

@@ -96,8 +96,7 @@ static void read_fields(struct layout *l) {
 }
 
 struct layout *read_layout(struct bytes file) {
-    struct layout *l = calloc(1, sizeof *l);
-    if (!l) fail("there is no memory left");
+    struct layout *l = memory(1, sizeof *l);
     l->file = file;
     l->form = file.len > 0 && file.at[0] == 16 ? 2 : 1;
     l->fault = l->broken = NONE;
@@ -129,10 +128,8 @@ int is_refusal(struct bytes text, struct refusal *r) {
     if (!begins(at, end, "refused ")) return 0;
     at += 8;
     r->number = (int)next_number(&at, end);
-    for (int i = 0; i < 2; i++) {
-        r->place[i] = 0;
-        if (at < end && *at == ' ') r->place[i] = next_number(&at, end);
-    }
+    r->place[0] = r->place[1] = 0;
+    for (r->places = 0; r->places < 2 && at < end && *at == ' '; r->places++) r->place[r->places] = next_number(&at, end);
     return 1;
 }
 

@@ -15,7 +15,7 @@ struct node {
     int64_t operand, bank, position, address, output, bits; /* from `bank` on as the map has it */
 };
 struct refusal {
-    int number;
+    int number, places;
     int64_t place[2];
 };
 struct block {

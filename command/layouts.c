@@ -1,6 +1,7 @@
 /* What is asked of a layout file: its layout, its map, a refusal of it in words, its other form. */
 #include "commands.h"
 #include "files.h"
+#include "json.h"
 #include "words.h"
 #include <string.h>
 
@@ -16,21 +17,41 @@ struct layout *read_refused(struct bytes file, struct choices c) {
     return l;
 }
 
-/* A refused layout's text goes to standard output too, and never into a file of its own. */
-static int refuse(struct bytes text, const struct layout *l, const struct names *names, const struct refusal *r) {
-    struct text said = {0};
+int finish(const struct asked *asked, struct bytes text, const struct text *refused) {
+    if (refused->len == 0) return answer(text, asked->out);
     print_answer(text);
-    put_refusal(&said, l, names, r);
-    tell_text(&said);
+    tell_text(refused);
     return REFUSED;
+}
+
+/* What the layout's text says, as JSON. */
+static void put_layout_json(struct text *t, const struct asked *asked, struct layout *l, struct bytes text, const struct text *refused) {
+    struct refusal r;
+    struct bytes image = {NULL, 0};
+    int is_refused = is_refusal(last_line(text), &r);
+    take_text(l, text);
+    image.at = (const uint8_t *)l->image;
+    image.len = (size_t)l->digits;
+    json_open(t, NULL, "{");
+    json_name(t, "file", asked->file[0]);
+    if (!is_refused) {
+        json_numbers(t, "passes", (const int64_t[]){l->passes_to});
+        json_blocks(t, "blocks", l);
+        json_text(t, "image", image);
+    }
+    json_refusal(t, is_refused ? &r : NULL, refused);
+    put(t, "}\n");
 }
 
 int do_layout(struct asked *asked) {
     struct bytes file = read_input(asked->file[0], LAYOUT_MAX), text = proved_layout(file, choices_of(asked));
     struct names *names = asked->names[0] ? find_names(asked->file[0], asked->names[0], file) : NULL;
     struct refusal r;
-    if (!is_refusal(last_line(text), &r)) return answer(text, asked->out);
-    return refuse(text, read_refused(file, choices_of(asked)), names ? names : find_names(asked->file[0], NULL, file), &r);
+    struct text refused = {0}, shown = {0};
+    if (is_refusal(last_line(text), &r))
+        put_refusal(&refused, read_refused(file, choices_of(asked)), names ? names : find_names(asked->file[0], NULL, file), &r);
+    if (asked->given & JSON) put_layout_json(&shown, asked, read_layout(file), text, &refused);
+    return finish(asked, asked->given & JSON ? bytes_of(&shown) : text, &refused);
 }
 
 /* The refusal of a map, or the layout's own: 14 is the layout's alone to say, since the map lends no image. */
@@ -45,18 +66,17 @@ static int map_refusal(struct layout *l, struct bytes file, struct choices c, st
 }
 
 int do_map(struct asked *asked) {
+    if ((asked->given & LINES) && (asked->given & JSON)) fail("--lines and --json are two ways to print a map: take one");
     struct bytes file = read_input(asked->file[0], LAYOUT_MAX);
     struct names *names = find_names(asked->file[0], asked->names[0], file);
     struct layout *l = read_refused(file, choices_of(asked));
     struct refusal r;
-    struct text shown = {0};
+    struct text shown = {0}, refused = {0};
     int is_refused = map_refusal(l, file, choices_of(asked), &r);
-    struct bytes text = proved_map(file, choices_of(asked));
-    if (!(asked->given & LINES)) {
-        if (l->has_map) put_table(&shown, called(asked->file[0]), l, names);
-        text = bytes_of(&shown);
-    }
-    return is_refused ? refuse(text, l, names, &r) : answer(text, asked->out);
+    if (is_refused) put_refusal(&refused, l, names, &r);
+    if (asked->given & JSON) put_map_json(&shown, asked->file[0], l, names, is_refused ? &r : NULL, &refused);
+    else if (!(asked->given & LINES) && l->has_map) put_table(&shown, called(asked->file[0]), l, names);
+    return finish(asked, asked->given & LINES ? proved_map(file, choices_of(asked)) : bytes_of(&shown), &refused);
 }
 
 /* 14 of other rooms than the image's, 15, 16 and 17 are of calls that no layout file shows: they are said in general. */
@@ -76,7 +96,7 @@ static int is_spelled(const char *said) {
 
 /* Whether the layout, or its conversion, is refused so; what it says instead goes to standard error. */
 static int is_so(const struct refusal *r, struct bytes line, const char *file) {
-    struct refusal found = {0, {0, 0}};
+    struct refusal found = {0, 0, {0, 0}};
     struct text said = {0};
     int is_refused = is_refusal(line, &found);
     if (is_refused && found.number == r->number && found.place[0] == r->place[0] && found.place[1] == r->place[1]) return 1;
@@ -97,7 +117,7 @@ int do_words(struct asked *asked) {
     struct bytes file = read_input(asked->file[0], LAYOUT_MAX);
     struct names *names = find_names(asked->file[0], asked->names[0], file);
     struct layout *l = read_refused(file, choices_of(asked));
-    if (asked->given & TO_FORM) {
+    if (asked->to) {
         struct bytes line = proved_convert(file, asked->to[0] - '0', &is_refused);
         if (!is_refused) line.len = 0;
         if (!is_so(&r, line, asked->file[0])) return FAILED;

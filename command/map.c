@@ -1,5 +1,6 @@
 /* The map of a layout as tables: banks, nodes, blocks. What is reckoned here beyond the proved map is held against its sums. */
 #include "commands.h"
+#include "json.h"
 #include <stdlib.h>
 #include <string.h>
 
@@ -82,10 +83,9 @@ static struct figures reckon(const struct layout *l) {
     struct figures f;
     size_t nodes = (size_t)l->shown + 1;
     memset(&f, 0, sizeof f);
-    f.box = calloc(2 * nodes, sizeof *f.box);
-    f.before = calloc(nodes, sizeof *f.before);
-    f.advance = calloc(nodes, sizeof *f.advance);
-    if (!f.box || !f.before || !f.advance) fail("there is no memory left");
+    f.box = memory(2 * nodes, sizeof *f.box);
+    f.before = memory(nodes, sizeof *f.before);
+    f.advance = memory(nodes, sizeof *f.advance);
     int is_right = walk(&f, l);
     qsort(f.box, (size_t)f.boxes, sizeof *f.box, by_from);
     for (int64_t i = 0; i < l->banks && i < 16; i++) {
@@ -200,6 +200,8 @@ static void address_cells(struct table *t, const struct bank *b) {
     else put(cell(t), "0x%llx..0x%llx", (unsigned long long)first, (unsigned long long)last);
 }
 
+static const char *filled_with(const struct bank *b) { return !b->fill ? NULL : !is_filled(b) ? "idle" : b->bit ? "ones" : "zeros"; }
+
 static void put_banks(struct text *text, const struct layout *l, const struct figures *f) {
     struct table t = open_table("bank|unit|addresses|in hex|output bits|bytes|size|used|padding|in units|free|fill", 0x83c);
     for (int64_t i = 0; i < l->banks; i++) {
@@ -219,7 +221,7 @@ static void put_banks(struct text *text, const struct layout *l, const struct fi
         if (i < 16) number_cell(&t, b->units);
         else open_cell(&t);
         number_cell(&t, i < 16 ? f->unused[i] : b->size);
-        put(cell(&t), "%s", !b->fill ? "-" : !is_filled(b) ? "idle" : b->bit ? "ones" : "zeros");
+        put(cell(&t), "%s", b->fill ? filled_with(b) : "-");
     }
     put_rows(text, &t);
 }
@@ -303,9 +305,56 @@ void put_table(struct text *t, const char *name, const struct layout *l, const s
     put_several(t, l->nodes, "node");
     put(t, ", ");
     put_several(t, l->rows, "row");
-    put(t, ", pass limit %d, %d %s run%s\n\n", l->limit, l->passes, l->passes == 1 ? "pass" : "passes", l->is_full ? ", full fill" : "");
+    put(t, ", pass limit %d, %d %s run%s", l->limit, l->passes, l->passes == 1 ? "pass" : "passes", l->is_full ? ", full fill" : "");
+    if (l->passes_to > 0 && l->passes_to < l->passes) put(t, " (layout's `passes %d`; pass %d confirmed it)", l->passes_to, l->passes);
+    put(t, "\n\n");
     if (l->banks > 0) put_banks(t, l, &f);
     if (l->shown > 0) put_nodes(t, l, names, &f);
     if (l->blocks > 0) put_blocks(t, l);
     put_end(t, l, names, &f);
+}
+
+static void json_banks(struct text *t, const struct layout *l, const struct figures *f) {
+    json_open(t, "banks", "[");
+    for (int64_t i = 0; i < l->banks && i < 16; i++) {
+        const struct bank *b = &l->bank[i];
+        json_open(t, NULL, "{");
+        json_numbers(t, "bank unit start size? offset? align? used padding padding_units free?",
+                     (const int64_t[]){i, b->unit, b->start, b->size, b->offset, b->align, f->used[i], b->padding, b->units, f->unused[i]});
+        json_word(t, "fill", filled_with(b));
+        put(t, "}");
+    }
+    put(t, "]");
+}
+
+static void json_nodes(struct text *t, const struct layout *l, const struct names *names, const struct figures *f) {
+    json_open(t, "nodes", "[");
+    for (int64_t i = 0; i < l->shown; i++) {
+        const struct node *n = &l->node[i];
+        if (!is_listed(l, i)) continue;
+        json_open(t, NULL, "{");
+        json_node(t, l, names, i);
+        int64_t size = is_placed(l, i) || n->kind == ALIGN ? f->advance[i] : NONE, to = n->kind == ADDR ? number_at(l, i, row_of(l, l->passes)) : NONE;
+        json_numbers(t, "size? padding_before to?", (const int64_t[]){size, f->before[i], to});
+        put(t, "}");
+    }
+    put(t, "]");
+}
+
+static void json_map(struct text *t, const struct layout *l, const struct names *names) {
+    struct figures f = reckon(l);
+    json_numbers(t, "form node_count rows pass_limit passes_run passes? image_bits? fault?",
+                 (const int64_t[]){l->form, l->nodes, l->rows, l->limit, l->passes, l->image ? l->passes_to : NONE, l->image ? f.bits : NONE, l->fault});
+    json_word(t, "fill", l->is_full ? "full" : "inherited");
+    json_banks(t, l, &f);
+    json_nodes(t, l, names, &f);
+    json_blocks(t, "blocks", l);
+}
+
+void put_map_json(struct text *t, const char *name, const struct layout *l, const struct names *names, const struct refusal *r, const struct text *words) {
+    json_open(t, NULL, "{");
+    json_name(t, "file", name);
+    if (l->has_map) json_map(t, l, names);
+    json_refusal(t, r, words);
+    put(t, "}\n");
 }

@@ -65,6 +65,8 @@ static int is_first_line(const uint8_t *at, const uint8_t *end, struct text *bel
 static int read_names(struct names *names, struct bytes file, struct text *fault, struct text *belongs) {
     const uint8_t *at = file.at, *end = file.at + file.len, *next;
     int64_t above = -1;
+    if (file.len >= 3 && memcmp(file.at, "\xef\xbb\xbf", 3) == 0) put(fault, "it begins with a byte order mark (EF BB BF)");
+    if (fault->len > 0) return 0;
     for (long line = 1; at < end; at = next + 1, line++) {
         next = memchr(at, '\n', (size_t)(end - at));
         if (!next) next = end;
@@ -81,8 +83,7 @@ static int read_names(struct names *names, struct bytes file, struct text *fault
 char *names_beside(const char *form) {
     size_t n = strlen(form);
     if (n < 5 || strcmp(form + n - 5, ".form") != 0) return NULL;
-    char *name = malloc(n + 2);
-    if (!name) fail("there is no memory left");
+    char *name = memory(n + 2, 1);
     memcpy(name, form, n - 5);
     strcpy(name + n - 5, ".names");
     return name;
@@ -108,8 +109,7 @@ struct names *find_names(const char *form, const char *given, struct bytes file)
     struct bytes text = {NULL, 0};
     struct text fault = {0}, belongs = {0}, has = {0};
     if (!name || (!given && !is_regular(name))) return NULL;
-    struct names *names = calloc(1, sizeof *names);
-    if (!names) fail("there is no memory left");
+    struct names *names = memory(1, sizeof *names);
     const char *unread = read_beside(name, NAMES_MAX, &text);
     if (!unread && read_names(names, text, &fault, &belongs)) {
         put(&has, "%lu %llu", (unsigned long)cksum(file), (unsigned long long)file.len);

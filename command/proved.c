@@ -1,5 +1,6 @@
 /* The proved functions, each with the room that its contract asks for. */
 #include "proved.h"
+#include "denkumari.h"
 #include "texts.h"
 #include <string.h>
 
@@ -93,6 +94,10 @@ struct bytes proved_convert(struct bytes file, int form, int *is_refused) {
     form_convert__Conversion c = form == 1 ? form_convert__to_form1(lent(file), out) : form_convert__to_form2(lent(file), out);
     *is_refused = c.tag != form_convert__Conversion_Converted;
     return first_of(converted, *is_refused ? print_text__write_refusal(out, 0, &c.u.Refused.f0) : c.u.Converted.f0);
+}
+
+int proved_reads(struct bytes file, uint8_t kind, uint32_t load, size_t reach) {
+    return dk_read_records(kind, file.at, file.len, load, bytes, reach, offsets, COUNT(offsets), sizes, COUNT(sizes), scratch, sizeof scratch).refusal == 0;
 }
 
 struct reason proved_reason(struct bytes file, uint8_t kind, uint32_t load) {

@@ -20,5 +20,6 @@ struct bytes proved_rehex(struct bytes file, uint8_t kind, uint8_t format, uint3
 struct bytes proved_bench(struct bytes released, struct bytes overlay, uint32_t load);
 struct bytes proved_bench_range(struct bytes released, struct bytes overlay, uint32_t load, uint32_t address, uint32_t count);
 struct bytes proved_convert(struct bytes file, int form, int *is_refused); /* the file, or the refusal's line */
+int proved_reads(struct bytes file, uint8_t kind, uint32_t load, size_t reach); /* whether it is read so, its bytes that near to the load address */
 struct reason proved_reason(struct bytes file, uint8_t kind, uint32_t load);
 #endif

@@ -8,16 +8,22 @@
 
 char tool[40] = "denkumari";
 
+static NEVER_RETURNS void fail_memory(void) {
+    write_all(2, "denkumari: there is no memory left\n", 35);
+    exit(FAILED);
+}
+
+void *memory(size_t count, size_t size) {
+    void *at = calloc(count, size);
+    if (!at) fail_memory();
+    return at;
+}
+
 static void make_room(struct text *t, size_t more) {
     if (t->room - t->len > more) return;
-    size_t room = 2 * (t->len + more) + 256;
-    char *at = realloc(t->at, room);
-    if (!at) {
-        write_all(2, "denkumari: there is no memory left\n", 35);
-        exit(FAILED);
-    }
-    t->at = at;
-    t->room = room;
+    t->room = 2 * (t->len + more) + 256;
+    t->at = realloc(t->at, t->room);
+    if (!t->at) fail_memory();
 }
 
 void put_bytes(struct text *t, const void *from, size_t n) {
@@ -95,34 +101,28 @@ void tell_text(const struct text *t) {
     free(line.at);
 }
 
-void tell(const char *form, ...) {
+/* A name where there is one, between what stands ahead of it and the rest. */
+static void say_list(const char *before, const char *name, const char *form, va_list words) {
     struct text t = {0};
-    va_list words;
-    va_start(words, form);
+    put(&t, "%s", before);
+    if (name) put_escaped(&t, name);
     put_list(&t, form, words);
-    va_end(words);
     tell_text(&t);
     free(t.at);
 }
 
 void fail(const char *form, ...) {
-    struct text t = {0};
     va_list words;
     va_start(words, form);
-    put_list(&t, form, words);
+    say_list("", NULL, form, words);
     va_end(words);
-    tell_text(&t);
     exit(FAILED);
 }
 
 void fail_name(const char *before, const char *name, const char *form, ...) {
-    struct text t = {0};
     va_list words;
-    put(&t, "%s", before);
-    put_escaped(&t, name);
     va_start(words, form);
-    put_list(&t, form, words);
+    say_list(before, name, form, words);
     va_end(words);
-    tell_text(&t);
     exit(FAILED);
 }

@@ -25,6 +25,7 @@ struct text {
 
 extern char tool[]; /* the command's name, ahead of every line that it says */
 
+void *memory(size_t count, size_t size); /* of zeros; where there is none left the command ends */
 void put(struct text *t, const char *form, ...) LIKE_PRINTF(2, 3);
 void put_bytes(struct text *t, const void *from, size_t n);
 void put_escaped(struct text *t, const char *word); /* a file's name may hold any bytes */
@@ -33,7 +34,6 @@ void put_both(struct text *t, long long number); /* in decimal, and from 10 on i
 struct bytes bytes_of(const struct text *t);
 size_t character(const uint8_t *at, size_t n); /* the bytes of a printable character of UTF-8, 0 where none begins there */
 
-void tell(const char *form, ...) LIKE_PRINTF(1, 2);
 void tell_text(const struct text *t);
 NEVER_RETURNS void fail(const char *form, ...) LIKE_PRINTF(1, 2);
 NEVER_RETURNS void fail_name(const char *before, const char *name, const char *form, ...) LIKE_PRINTF(3, 4);

@@ -178,5 +178,59 @@ ends 0 '"$D" words "$E/erased.form" "refused 18 0" --to 1'
 for said in 'refused 14 1' 'refused 15 3' 'refused 16 0' 'refused 17 0'; do
     ends 0 "\"\$D\" words worked.form '$said'"
 done
+# the manual page and the completion are those of help.def: every option of every command is in both
+if "${CC:-cc}" -std=c99 -o "$room/pages" "$home/command/pages/pages.c" -I"$home/command"; then
+    ends 0 '"'"$room"'/pages" | cmp - "'"$home"'/docs/denkumari.1"'
+    ends 0 '"'"$room"'/pages" bash | cmp - "'"$home"'/command/denkumari.bash"'
+    [ ! -c /dev/full ] || ends 2 '"'"$room"'/pages" >/dev/full 2>&1'
+else
+    fault "command/pages/pages.c is not compiled"
+fi
+if command -v bash >/dev/null 2>&1; then
+    completed() {
+        # shellcheck disable=SC2016
+        bash -c '. "$1"; shift; COMP_WORDS=("$@"); COMP_CWORD=$(($# - 1)); _denkumari; echo "${COMPREPLY[*]}"' bash "$home/command/denkumari.bash" "$@"
+    }
+    holds '[ "'"$(completed denkumari la)"'" = layout ]'
+    holds '[ "'"$(completed denkumari ihex --w)"'" = --whole ]'
+    holds '[ "'"$(completed denkumari rehex --to '')"'" = "hex srec" ]'
+    holds '[ -z "'"$(completed denkumari layout wor)"'" ]'
+else
+    echo "skipped: the completion for bash, for want of bash"
+fi
+# --json has the text's numbers, in any locale; what cannot be written is status 2 there too
+if command -v python3 >/dev/null 2>&1; then
+    python3 "$home/command/test_json.py" "$D" || wrong=1
+else
+    echo "skipped: --json beside the text, for want of python3"
+fi
+for call in 'layout worked.form' 'map worked.form' 'compare worked.form worked.form' 'bench s.hex s.hex' 'layout clamp-mark-after.form'; do
+    [ ! -c /dev/full ] || ends 2 "\"\$D\" $call --json >/dev/full"
+done
+ends 1 '"$D" layout clamp-mark-after.form --json -o j'
+holds '[ ! -e j ]'
+ends 0 '"$D" layout worked.form --json -o j && LC_ALL=tr_TR.UTF-8 "$D" layout worked.form --json | cmp - j'
+ends 2 '"$D" map worked.form --json --lines'
+# bench's status with --check, and what its refusals name
+"$D" ihex "$E/banks.form" --load 0x8000 >b.hex && "$D" ihex "$E/banks.form" >b0.hex && "$D" srec "$E/banks.form" >b.s37 || wrong=1
+ends 0 '"$D" bench b.hex b.hex --check'
+ends 1 '"$D" bench b.hex b0.hex --check 2>/dev/null'
+ends 0 '"$D" bench b.hex b0.hex'
+ends 2 '"$D" bench b.hex b0.hex --check --range 0 1'
+says 'looks like S-records: .* denkumari rehex makes Intel HEX' '"$D" bench b.hex b.s37'
+{ printf '\357\273\277' && cat b.hex; } >bom.hex
+says 'line 1: the file begins with a byte order mark (EF BB BF)' '"$D" bench b.hex bom.hex'
+says 'the file begins with a byte order mark' '"$D" rehex bom.hex'
+says 'it begins with a byte order mark' '"$D" layout bom.hex'
+printf '\357\273\2770\ta\tb\n' >bom.names
+ends 0 '! "$D" layout --names bom.names worked.form 2>err && grep -q "names file: it begins with a byte order mark" err'
+printf ':020000040010EA\n:0100000000FF\n:00000001FF\n' >far.hex
+says 'lowest address is 0x100000, and --load 0x100000 would do' '"$D" bench far.hex far.hex'
+says 'docs/RECIPES.md' 'printf ":020000021000EC\n:00000001FF\n" >seg.hex; "$D" rehex seg.hex'
+# refusal 16 names the block; words that differ are shown with their addresses, old and new
+says '16: block 0 (output bits 0..9, from node 2 on) does not begin and end on a whole byte' '"$D" ihex worked.form'
+{ head -c 123 worked.form && printf '\377\200' && tail -c +126 worked.form; } >other.form
+ends 0 '"$D" compare worked.form other.form >a; [ $? -eq 1 ] && grep -qx "  word 0x40: 3ff -> 3fe" a && grep -qx "  1 byte differs: 1" a'
+ends 0 '"$D" map "$E/banks.form" | grep -q "2 passes run (layout.s .passes 1.; pass 2 confirmed it)$"'
 [ "$wrong" -eq 0 ] && echo "the command: $count cases, all as they should be"
 exit "$wrong"

@@ -80,21 +80,31 @@ static void put_blank(struct text *t, const char *blank, size_t n, const struct 
     else put_several(t, s->n[what[0] - '0'], what + 2);
 }
 
-void put_cause(struct text *t, enum cause cause, const struct said *s) {
+void put_words(struct text *t, enum cause cause, const struct said *s) {
     for (const char *w = table[cause].words; *w; w++) {
         const char *end = *w == '{' ? strchr(w, '}') : NULL;
         if (end) put_blank(t, w + 1, (size_t)(end - w) - 1, s);
         else put_bytes(t, w, 1);
         if (end) w = end;
     }
+}
+
+void put_remedy(struct text *t, enum cause cause) {
     if (*table[cause].remedy) put(t, ". %s", table[cause].remedy);
 }
+
+void put_cause(struct text *t, enum cause cause, const struct said *s) {
+    put_words(t, cause, s);
+    put_remedy(t, cause);
+}
+
+int has_mark(struct bytes file) { return file.len >= 3 && memcmp(file.at, "\xef\xbb\xbf", 3) == 0; }
 
 /* What a file that is no layout file looks like, by its first line that is neither empty nor a remark. */
 static enum cause looks_like(struct bytes file) {
     static const char *const words[] = {"form ", "bank ", "rows ",   "limit ", "values ", "switch ", "label", "constant", "instruction",
                                         "data",  "open",  "reserve", "mark",   "kind ",   "align:",  "addr:", "assert",   "nothing"};
-    size_t at = file.len >= 3 && memcmp(file.at, "\xef\xbb\xbf", 3) == 0 ? 3 : 0;
+    size_t at = has_mark(file) ? 3 : 0;
     for (; at < file.len; at++) {
         while (at < file.len && (file.at[at] == ' ' || file.at[at] == '\t')) at++;
         if (at < file.len && file.at[at] == '#')
@@ -111,6 +121,7 @@ static enum cause looks_like(struct bytes file) {
 
 static enum cause say_broken(struct said *s) {
     put_bytes(&s->note, s->layout->why.at, s->layout->why.len);
+    if (has_mark(s->layout->file)) put(&s->note, "; it begins with a byte order mark (EF BB BF)");
     return looks_like(s->layout->file);
 }
 

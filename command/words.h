@@ -19,6 +19,9 @@ struct said {
     struct text note;
 };
 
+int has_mark(struct bytes file); /* whether a file begins with a byte order mark, EF BB BF */
+void put_words(struct text *t, enum cause cause, const struct said *s);
+void put_remedy(struct text *t, enum cause cause);
 void put_cause(struct text *t, enum cause cause, const struct said *s);
 void put_refusal(struct text *t, const struct layout *l, const struct names *names, const struct refusal *r);
 void put_conversion(struct text *t, const struct layout *l, const struct names *names, const struct refusal *r, int to);

@@ -1,6 +1,6 @@
 # shellcheck shell=sh
 # Starts the command denkumari (command/) for the tools that are its commands; they read it, nobody runs it. The command is compiled once into build/, by any
-# C compiler, from command/ and from portable/texts.c, the proved functions as C. That takes some seconds and needs no kit. Where crates/ is no longer what
+# C compiler, from command/ and from portable/, the proved functions as C. That takes some seconds and needs no kit. Where crates/ is no longer what
 # portable/ was printed from nothing is started: tools/portable --write prints it anew. As installed (tools/install) nothing is compiled.
 [ "${0##*/}" != native.sh ] || . "$(dirname "$(readlink -f -- "$0")")/start.sh"
 here=$(readlink -f -- "$0") || exit 2
@@ -18,14 +18,16 @@ give_up() {
 native_sum() (
     cd "$home" && {
         find crates -path '*/src/*' -name '*.rt' -exec sha256sum {} + | LC_ALL=C sort
-        sha256sum crates.txt KIT include/denkumari.h command/*.[ch] command/*.def portable/texts.[ch]
+        sha256sum crates.txt KIT include/denkumari.h command/*.[ch] command/*.def portable/texts.[ch] portable/denkumari.c
     } | sha256sum | cut -c 1-16
 )
 
-# compile_native FILE: made under another name and then put in its place, so that two that start at once do no harm.
+# compile_native FILE [COMMIT]: made under another name and then put in its place, so that two that start at once do no harm. --version says the commit; of what
+# is built in a checkout it says none, since it stays good over commits that change none of its sources.
 compile_native() {
     . "$home/tools/portable.sh"
-    { is_fresh texts.c && is_fresh texts.h; } || give_up "crates/ is not what portable/ was printed from: tools/portable --write prints it anew"
+    { is_fresh texts.c && is_fresh texts.h && is_fresh denkumari.c; } ||
+        give_up "crates/ is not what portable/ was printed from: tools/portable --write prints it anew"
     for compiler in "${CC:-cc}" gcc clang tcc ''; do
         [ -z "$compiler" ] || ! command -v "$compiler" >/dev/null 2>&1 || break
     done
@@ -35,8 +37,10 @@ compile_native() {
     new=$home/build/.denkumari.$$
     trap 'rm -f -- "$new"' EXIT
     trap 'exit 130' HUP INT TERM
-    if ! "$compiler" -std=c99 -O2 -DDENKUMARI_KIT="\"$(cat "$home/KIT")\"" -I"$home/include" -I"$home/portable" -o "$new" "$home"/command/*.c \
-        "$home/portable/texts.c" >&2 || ! mv -f -- "$new" "$1"; then give_up "the command was not compiled"; fi
+    sources=$(sed -n 's/^ \* sources: //p' "$home/portable/texts.c" "$home/portable/denkumari.c" | paste -sd ' ' -)
+    if ! "$compiler" -std=c99 -O2 -DDENKUMARI_KIT="\"$(cat "$home/KIT")\"" -DDENKUMARI_SOURCES="\"$sources\"" ${2:+-DDENKUMARI_COMMIT="\"$2\""} \
+        -I"$home/include" -I"$home/portable" -o "$new" "$home"/command/*.c "$home/portable/texts.c" "$home/portable/denkumari.c" >&2 ||
+        ! mv -f -- "$new" "$1"; then give_up "the command was not compiled"; fi
     trap - EXIT HUP INT TERM
     # those of other sources
     for one in "$home"/build/denkumari-????????????????; do
