@@ -43,6 +43,10 @@ static void take(struct asked *asked, int at, const char *value, const char *nex
     case TO_FORM:
     case INTO_FORM:
     case TO_KIND: asked->to = value; break;
+    case ROOM:
+        asked->room = number(o->name, value);
+        if (asked->room > ROOM_MAX) fail("--room takes at most %u bytes", ROOM_MAX);
+        break;
     case OUTPUT: asked->out = file_name(value); break;
     case BOTH_NAMES: asked->names[1] = file_name(next); /* falls through */
     case NAMES: asked->names[0] = file_name(value); break;
@@ -81,6 +85,7 @@ struct asked read_words(const struct command *command, int argc, char **argv) {
     struct asked asked;
     int only_files = 0;
     memset(&asked, 0, sizeof asked);
+    asked.room = ROOM_USUAL;
     for (int i = 2; i < argc; i++) {
         char *word = argv[i];
         if (!only_files && strcmp(word, "--") == 0) only_files = 1;

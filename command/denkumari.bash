@@ -18,11 +18,11 @@ _denkumari() {
         rehex:--to) words="hex srec" ;;
         convert:--to) words="1 2" ;;
         layout:*) [ "${word#-}" = "$word" ] || words="--fill --page --names --json -o --help" ;;
-        map:*) [ "${word#-}" = "$word" ] || words="--svg --lines --fill --page --names --json -o --help" ;;
+        map:*) [ "${word#-}" = "$word" ] || words="--svg --lines --fill --page --room --names --json -o --help" ;;
         compare:*) [ "${word#-}" = "$word" ] || words="--svg --fill --names --json -o --help" ;;
         words:*) [ "${word#-}" = "$word" ] || words="--to --fill --page --names --help" ;;
-        ihex:*) [ "${word#-}" = "$word" ] || words="--load --whole --fill --page -o --help" ;;
-        srec:*) [ "${word#-}" = "$word" ] || words="--load --whole --width --fill --page -o --help" ;;
+        ihex:*) [ "${word#-}" = "$word" ] || words="--load --whole --fill --page --room -o --help" ;;
+        srec:*) [ "${word#-}" = "$word" ] || words="--load --whole --width --fill --page --room -o --help" ;;
         rehex:*) [ "${word#-}" = "$word" ] || words="--load --width --to -o --help" ;;
         bench:*) [ "${word#-}" = "$word" ] || words="--load --range --check --json -o --help" ;;
         convert:*) [ "${word#-}" = "$word" ] || words="--to -o --help" ;;

@@ -100,6 +100,7 @@ struct layout *read_layout(struct bytes file) {
     l->file = file;
     l->form = file.len > 0 && file.at[0] == 16 ? 2 : 1;
     l->fault = l->broken = NONE;
+    l->room = ROOM_USUAL;
     if ((int64_t)file.len <= longest(l)) read_fields(l);
     else {
         l->broken = 0;
@@ -187,6 +188,21 @@ void take_text(struct layout *l, struct bytes text) {
         if (!next) next = end;
         take_line(l, at, next);
     }
+}
+
+void take_built(struct layout *l, const struct built *b) {
+    struct text line = {0};
+    l->blocks = (int64_t)b->blocks;
+    for (int64_t i = 0; i < l->blocks; i++) {
+        l->block[i].start = (int64_t)b->offsets[i];
+        l->block[i].size = (int64_t)b->sizes[i];
+    }
+    l->passes_to = (int)b->passes;
+    l->digits = (b->bits + 3) / 4;
+    l->image = b->refusal.number ? NULL : "";
+    put(&line, "refused %d %lld", b->refusal.number, (long long)b->refusal.place[0]);
+    if (b->refusal.places > 1) put(&line, " %lld", (long long)b->refusal.place[1]);
+    if (b->refusal.number) l->verdict = bytes_of(&line);
 }
 
 /* "Pass n reads row n, or the last row if there are fewer." */

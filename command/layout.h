@@ -14,17 +14,13 @@ struct node {
     int kind;
     int64_t operand, bank, position, address, output, bits; /* from `bank` on as the map has it */
 };
-struct refusal {
-    int number, places;
-    int64_t place[2];
-};
 struct block {
     int64_t start, size;
 };
 struct layout {
     struct bytes file;
     int form, limit, passes, passes_to, has_map, is_refused, is_full; /* passes that were run, and K of `passes K` */
-    int64_t banks, nodes, rows, values, shown, fault, blocks, digits;
+    int64_t banks, nodes, rows, values, shown, fault, blocks, digits, room;
     int64_t broken; /* the first field at which no good file goes on, NONE where there is none */
     struct text why; /* what is wrong there */
     struct refusal refusal;
@@ -39,6 +35,7 @@ struct layout {
 
 struct layout *read_layout(struct bytes file);
 void take_text(struct layout *l, struct bytes text); /* what the proved map or the proved layout says of it */
+void take_built(struct layout *l, const struct built *b);
 int is_refusal(struct bytes text, struct refusal *r); /* whether a text is a refusal's line, alone or with others behind it */
 struct bytes last_line(struct bytes text);
 

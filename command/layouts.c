@@ -6,7 +6,7 @@
 #include <string.h>
 
 struct choices choices_of(const struct asked *asked) {
-    struct choices c = {asked->fill, (asked->given & PAGE) != 0, asked->page};
+    struct choices c = {asked->fill, (asked->given & PAGE) != 0, asked->page, asked->room};
     return c;
 }
 
@@ -14,6 +14,7 @@ struct layout *read_refused(struct bytes file, struct choices c) {
     struct layout *l = read_layout(file);
     take_text(l, proved_map(file, c));
     l->is_full = c.fill;
+    l->room = c.room;
     return l;
 }
 
@@ -58,11 +59,11 @@ int do_layout(struct asked *asked) {
 static int map_refusal(struct layout *l, struct bytes file, struct choices c, struct refusal *r) {
     if (l->is_refused) *r = l->refusal;
     if (l->is_refused) return 1;
-    struct bytes text = proved_layout(file, c);
-    take_text(l, text);
-    if (!is_refusal(last_line(text), r)) return 0;
-    if (r->number != 14) fail("the map and the layout do not agree");
-    return 1;
+    struct built b = proved_build(file, c);
+    take_built(l, &b);
+    *r = b.refusal;
+    if (r->number != 0 && r->number != 14) fail("the map and the layout do not agree");
+    return r->number != 0;
 }
 
 int do_map(struct asked *asked) {

@@ -96,6 +96,38 @@ struct bytes proved_convert(struct bytes file, int form, int *is_refused) {
     return first_of(converted, *is_refused ? print_text__write_refusal(out, 0, &c.u.Refused.f0) : c.u.Converted.f0);
 }
 
+struct built proved_build(struct bytes file, struct choices c) {
+    static int64_t addresses[4096];
+    struct built b = {{0, 1, {0, 0}}, memory(c.room + 1, 1), 0, 0, 0, more_offsets, more_sizes};
+    struct dk_layout r = c.has_page ? dk_form_paged(file.at, file.len, c.fill, c.page, b.image, c.room, addresses, COUNT(addresses), offsets, COUNT(offsets),
+                                                    sizes, COUNT(sizes))
+                                    : dk_form(file.at, file.len, c.fill, b.image, c.room, addresses, COUNT(addresses), offsets, COUNT(offsets), sizes,
+                                              COUNT(sizes));
+    struct dk_count n = {0, 0, 0};
+    b.refusal.number = (int)r.refusal;
+    b.refusal.places = r.refusal == DK_BANKS_OVERLAP || r.refusal == DK_OVERLAP || r.refusal == DK_OFF_PROFILE ? 2 : 1;
+    b.refusal.place[0] = (int64_t)r.place;
+    b.refusal.place[1] = (int64_t)r.second;
+    b.passes = (int64_t)r.k;
+    b.bits = (int64_t)r.length;
+    if (r.refusal == 0) n = dk_blocks(offsets, (size_t)r.spans, sizes, (size_t)r.spans, more_offsets, COUNT(more_offsets), more_sizes, COUNT(more_sizes));
+    if (n.refusal != 0) fail("the layout's blocks do not fit their room");
+    b.blocks = n.count;
+    return b;
+}
+
+struct bytes proved_write(const struct built *b, uint8_t format, uint32_t load, int is_whole, struct refusal *r) {
+    uint64_t whole_offset = 0, bytes_long = (uint64_t)(b->bits + 7) / 8, whole_size = 8 * bytes_long;
+    const uint64_t *starts = is_whole ? &whole_offset : b->offsets, *lengths = is_whole ? &whole_size : b->sizes;
+    size_t n = is_whole ? bytes_long > 0 : (size_t)b->blocks, room = (size_t)dk_record_room(bytes_long, n);
+    uint8_t *text = memory(room + 1, 1);
+    struct dk_count w = format == 0 ? dk_write_hex(b->image, (size_t)bytes_long, starts, n, lengths, n, load, text, room)
+                                    : dk_write_srec(b->image, (size_t)bytes_long, starts, n, lengths, n, load, format, text, room);
+    if (w.refusal == DK_TOO_SHORT) fail("the records do not fit their room");
+    r->number = (int)w.refusal;
+    return first_of(text, w.count);
+}
+
 int proved_reads(struct bytes file, uint8_t kind, uint32_t load, size_t reach) {
     return dk_read_records(kind, file.at, file.len, load, bytes, reach, offsets, COUNT(offsets), sizes, COUNT(sizes), scratch, sizeof scratch).refusal == 0;
 }

@@ -3,10 +3,23 @@
 #define DENKUMARI_PROVED_H
 #include "say.h"
 
+#define ROOM_USUAL 16384u /* bytes of an image: what layout lends */
+#define ROOM_MAX 16777216u
+
 struct choices {
     uint8_t fill; /* 0 inherited, 1 full */
     int has_page;
-    uint32_t page;
+    uint32_t page, room;
+};
+struct refusal {
+    int number, places;
+    int64_t place[2];
+};
+struct built { /* a layout in as much room as was asked for; the lists are of its blocks */
+    struct refusal refusal; /* 0 where there is none */
+    uint8_t *image;
+    int64_t bits, passes;
+    uint64_t blocks, *offsets, *sizes;
 };
 struct reason { /* why a file of records is bad: include/denkumari.h has the numbers */
     uint64_t reason, line, first, second;
@@ -20,6 +33,8 @@ struct bytes proved_rehex(struct bytes file, uint8_t kind, uint8_t format, uint3
 struct bytes proved_bench(struct bytes released, struct bytes overlay, uint32_t load);
 struct bytes proved_bench_range(struct bytes released, struct bytes overlay, uint32_t load, uint32_t address, uint32_t count);
 struct bytes proved_convert(struct bytes file, int form, int *is_refused); /* the file, or the refusal's line */
+struct built proved_build(struct bytes file, struct choices c);
+struct bytes proved_write(const struct built *b, uint8_t format, uint32_t load, int is_whole, struct refusal *r); /* records; r->number is 0, 4 or 16 */
 int proved_reads(struct bytes file, uint8_t kind, uint32_t load, size_t reach); /* whether it is read so, its bytes that near to the load address */
 struct reason proved_reason(struct bytes file, uint8_t kind, uint32_t load);
 #endif

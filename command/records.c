@@ -88,18 +88,36 @@ static void put_ragged(struct text *t, struct layout *l, const struct names *nam
     put(t, node < l->shown ? " on)" : ")");
 }
 
+/* The records of a layout: by the proved text function, or, where more room is asked for than it lends, by the proved calls one after the other. */
+static struct bytes written(const struct asked *asked, struct bytes file, uint8_t format, struct refusal *r, int *of_records) {
+    int is_whole = (asked->given & WHOLE) != 0;
+    if (!(asked->given & ROOM)) {
+        struct bytes text = proved_records(file, choices_of(asked), format, asked->load, is_whole);
+        *of_records = says(text, "records");
+        if (!is_refusal(text, r)) r->number = 0;
+        return text;
+    }
+    struct built b = proved_build(file, choices_of(asked));
+    *r = b.refusal;
+    *of_records = r->number == 0;
+    return r->number == 0 ? proved_write(&b, format, asked->load, is_whole, r) : file;
+}
+
 static int do_records(struct asked *asked, uint8_t format) {
     struct choices c = choices_of(asked);
-    struct bytes file = read_input(asked->file[0], LAYOUT_MAX), text = proved_records(file, c, format, asked->load, (asked->given & WHOLE) != 0);
+    struct bytes file = read_input(asked->file[0], LAYOUT_MAX);
     struct refusal r;
+    int of_records;
+    struct bytes text = written(asked, file, format, &r, &of_records);
     struct text words = {0};
-    if (!is_refusal(text, &r)) return answer(text, asked->out);
+    if (r.number == 0) return answer(text, asked->out);
     struct names *names = find_names(asked->file[0], NULL, file);
     struct layout *l = read_refused(file, c);
     struct said s = {l, names, 0, 0, 0, {0, 0, 0}, {NULL, 0, 0}};
-    if (!says(text, "records")) put_refusal(&words, l, names, &r);
+    if (!of_records) put_refusal(&words, l, names, &r);
     else if (r.number == 16) {
-        take_text(l, proved_layout(file, c));
+        struct built b = proved_build(file, c);
+        take_built(l, &b);
         put_ragged(&s.note, l, names);
         put_cause(&words, RECORDS_EDGES, &s);
     } else put_cause(&words, RECORDS_ADDRESS, &s);

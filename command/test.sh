@@ -232,5 +232,26 @@ says '16: block 0 (output bits 0..9, from node 2 on) does not begin and end on a
 { head -c 123 worked.form && printf '\377\200' && tail -c +126 worked.form; } >other.form
 ends 0 '"$D" compare worked.form other.form >a; [ $? -eq 1 ] && grep -qx "  word 0x40: 3ff -> 3fe" a && grep -qx "  1 byte differs: 1" a'
 ends 0 '"$D" map "$E/banks.form" | grep -q "2 passes run (layout.s .passes 1.; pass 2 confirmed it)$"'
+# --room: the same records where the usual room does, and larger images where it does not
+for call in 'ihex worked.form' 'ihex worked.form --whole --load 0x12345' 'srec sequencer.form --whole --width 2' 'srec "$E/banks.form" --width 2 --load 0xfff0' \
+    'ihex "$E/paged.form" --page 128' 'ihex "$E/paged-unit.form" --page 128' 'srec clamp-mark-after.form --whole' 'ihex sequencer.form' 'ihex s.hex' \
+    'map sequencer.form' 'map clamp-mark-after.form' 'map --json sequencer.form --fill full'; do
+    holds "\"\$D\" $call >a 2>b; s=\$?; \"\$D\" $call --room 16384 >c 2>d; [ \$? -eq \$s ] && cmp a c && cmp b d"
+done
+for call in 'ihex worked.form --room 16777217' 'layout worked.form --room 1' 'ihex worked.form --room x' 'ihex worked.form --room'; do
+    ends 2 "\"\$D\" $call"
+done
+says 'does not fit its room, 4 bytes or 32 bits: bank 1 (' '"$D" ihex worked.form --whole --room 4'
+ends 0 '"$D" ihex worked.form --whole --room 5'
+if command -v python3 >/dev/null 2>&1; then
+    printf 'form 2\nbank unit 8\nbank unit 8 size 134217728 offset 0 fill\nswitch 1\ndata 8: 11\naddr: 8000000\ndata 8: 22\nlimit 1\n' >large.words
+    ends 0 '"'"$home"'/tools/form" --make large.words >large.form'
+    says 'does not fit its room, 16384 bytes .*--room BYTES' '"$D" ihex large.form'
+    says 'does not fit its room' '"$D" map large.form'
+    ends 0 '"$D" ihex large.form --room 16777216 >a && [ "$(cat a)" = "$(printf ":0100000011EE\n:02000004000FEB\n:01424000225B\n:00000001FF")" ]'
+    ends 0 '"$D" map large.form --room 16777216 | grep -q "^image of 134217728 bits, 16777216 bytes$"'
+    ends 0 '"$D" srec large.form --whole --room 16777216 >a && [ "$(wc -l <a)" -gt 500000 ]'
+    rm -f a large.*
+fi
 [ "$wrong" -eq 0 ] && echo "the command: $count cases, all as they should be"
 exit "$wrong"

@@ -259,18 +259,20 @@ static enum cause say_room(struct said *s, int64_t place) {
     if (place > 0) put(&s->note, "%s", rooms[place < 4 ? place : 3]);
     if (place > 0) return OTHER_ROOM;
     for (int64_t i = 0; i < l->shown && s->note.len == 0; i++) {
-        if (!is_written(l, i) || l->node[i].output + l->node[i].bits <= 131072) continue;
+        if (!is_written(l, i) || l->node[i].output + l->node[i].bits <= 8 * l->room) continue;
         put(&s->note, ": ");
         put_node(&s->note, l, s->names, i);
         put(&s->note, " ends at bit %lld", (long long)(l->node[i].output + l->node[i].bits));
     }
     for (int64_t i = 0; i < l->banks && s->note.len == 0; i++) {
         const struct bank *b = &l->bank[i];
-        if (!b->fill || b->size == NONE || b->offset == NONE || b->offset + b->size <= 131072) continue;
+        if (!b->fill || b->size == NONE || b->offset == NONE || b->offset + b->size <= 8 * l->room) continue;
         put(&s->note, ": ");
         put_bank(&s->note, l, i);
         put(&s->note, " is filled to bit %lld", (long long)(b->offset + b->size));
     }
+    s->n[0] = l->room;
+    s->n[1] = 8 * l->room;
     return IMAGE_ROOM;
 }
 
