@@ -22,8 +22,8 @@ tools/layout --help >/dev/null
 make_room
 rm -rf build/python/programs
 cd bindings/python
-PYTHONDONTWRITEBYTECODE=1 DENKUMARI_CASES=$cases DENKUMARI_SEED=$seed held "$python" -m unittest -v tests.test_layouts tests.test_records tests.test_verify \
-    tests.test_manners >"$room/said" 2>&1 || {
+held env PYTHONDONTWRITEBYTECODE=1 DENKUMARI_CASES="$cases" DENKUMARI_SEED="$seed" "$python" -m unittest -v tests.test_layouts tests.test_records \
+    tests.test_verify tests.test_manners >"$room/said" 2>&1 || {
     cat "$room/said"
     exit 1
 }
@@ -52,7 +52,7 @@ there="$room/an environment/bin/python"
 }
 # installed FOLDER: from there, without the network, and asked for the worked example
 installed() {
-    held "$there" -m pip install --quiet --disable-pip-version-check --no-index --no-build-isolation --force-reinstall "$1" >"$room/said" 2>&1 || {
+    held "$there" -m pip install --quiet --disable-pip-version-check --no-cache-dir --no-index --no-build-isolation --force-reinstall "$1" >"$room/said" 2>&1 || {
         cat "$room/said"
         exit 1
     }

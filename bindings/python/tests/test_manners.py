@@ -5,8 +5,10 @@ import ctypes as c
 import doctest
 import itertools
 import mmap
+import os
 import pickle
 import re
+import tempfile
 import threading
 import unittest
 
@@ -228,6 +230,18 @@ class Documents(unittest.TestCase):
         result = doctest.testfile(str(PACKAGE / "README.md"), module_relative=False, globs={"ROOT": ROOT}, verbose=False)
         self.assertEqual(result.failed, 0)
         self.assertGreater(result.attempted, 20)
+
+    def test_using(self):
+        """What docs/USING.md shows of Python."""
+        with tempfile.TemporaryDirectory() as room:
+            os.chdir(room)
+            try:
+                for name in ("examples", "include"):
+                    os.symlink(ROOT / name, name)
+                result = doctest.testfile(str(ROOT / "docs" / "USING.md"), module_relative=False, verbose=False)
+            finally:
+                os.chdir(PACKAGE)
+        self.assertEqual(result.failed, 0)
 
     def test_documented(self):
         for name in denkumari.__all__:
