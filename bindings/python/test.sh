@@ -16,6 +16,14 @@ command -v "$python" >/dev/null 2>&1 || {
     echo "skipped: the Python package: $python is not installed"
     exit 0
 }
+compiler=
+for one in "${CC:-cc}" gcc clang; do
+    [ -n "$compiler" ] || ! command -v "$one" >/dev/null 2>&1 || compiler=$one
+done
+[ -n "$compiler" ] || {
+    echo "skipped: the Python package: there is no C compiler"
+    exit 0
+}
 bindings/python/build.sh
 # the command that the words are held to
 tools/layout --help >/dev/null
@@ -52,7 +60,8 @@ there="$room/an environment/bin/python"
 }
 # installed FOLDER: from there, without the network, and asked for the worked example
 installed() {
-    held "$there" -m pip install --quiet --disable-pip-version-check --no-cache-dir --no-index --no-build-isolation --force-reinstall "$1" >"$room/said" 2>&1 || {
+    # without optimisation it is compiled in less time
+    held env CFLAGS=-O0 "$there" -m pip install --quiet --disable-pip-version-check --no-cache-dir --no-index --no-build-isolation --force-reinstall "$1" >"$room/said" 2>&1 || {
         cat "$room/said"
         exit 1
     }

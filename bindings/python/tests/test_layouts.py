@@ -152,14 +152,19 @@ class BesideCommand(unittest.TestCase):
                 self.assertEqual(f"passes {built.k}\n{blocks}image {built.digits()}".rstrip() + "\n", said)
 
     def test_map(self):
-        for path in EXAMPLES:
-            layout = Layout.from_file(path)
-            lines = [line.split() for line in command("map", "--lines", path)[1].splitlines()]
-            mapped = layout.map()
+        """Nodes, padding and the node at fault, of accepted layouts and of refused ones."""
+        for file in [*(path.read_bytes() for path in EXAMPLES), *drawn_files(HOW_MANY // 8)]:
+            self.form.write_bytes(file)
+            lines = [line.split() for line in command("map", "--lines", self.form)[1].splitlines()]
+            if refusal(lambda: Layout.from_form(file).map()):
+                self.assertEqual(lines[-1], str(refusal(lambda: Layout.from_form(file).map())).split(":")[0].split())
+                continue
+            mapped = Layout.from_form(file).map()
             nodes = [[int(word) if word != "-" else None for word in line[1:]] for line in lines if line[0] == "node"]
-            self.assertEqual(nodes, [[p.node, p.kind, p.bank, p.position, p.address, p.output, p.bits] for p in mapped], path)
-            fault = [int(line[1]) for line in lines if line[0] == "fault"]
-            self.assertEqual(fault, [] if mapped.node is None else [mapped.node])
+            self.assertEqual(nodes, [[p.node, p.kind, p.bank, p.position, p.address, p.output, p.bits] for p in mapped], file.hex())
+            self.assertEqual([int(line[1]) for line in lines if line[0] == "fault"], [] if mapped.node is None else [mapped.node])
+            self.assertEqual([(int(line[-2]), int(line[-1])) for line in lines if line[0] == "bank"], mapped.padding)
+            self.assertEqual(lines[-1][:2] if lines[-1][0] == "refused" else None, ["refused", str(mapped.stopped)] if mapped.stopped else None)
 
     def test_march(self):
         refused = refusal(Layout.from_file(ROOT / "examples" / "clamp-mark-after.form").build)
