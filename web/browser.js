@@ -8,7 +8,8 @@ const sleep = (ms) => new Promise((done) => setTimeout(done, ms));
 
 class Browser {
     constructor(program, room) {
-        Object.assign(this, { room, sent: 0, text: "", waiting: new Map(), requests: [], errors: [], downloads: path.join(room, "downloads") });
+        Object.assign(this, { room, sent: 0, text: "", waiting: new Map(), requests: [], errors: [], begun: new Map(), done: new Set(),
+            downloads: path.join(room, "downloads") });
         fs.mkdirSync(this.downloads);
         const words = ["--headless=new", "--no-sandbox", "--disable-gpu", "--disable-dev-shm-usage", "--no-first-run", "--disable-extensions",
             "--remote-debugging-pipe", "--window-size=1500,950", "--user-data-dir=" + path.join(room, "profile"), "about:blank"];
@@ -31,6 +32,8 @@ class Browser {
             if (error) asked.failed(new Error(JSON.stringify(error)));
             else asked.done(result);
         } else if (method === "Network.requestWillBeSent") this.requests.push(params.request.url);
+        else if (method === "Browser.downloadWillBegin") this.begun.set(params.guid, params.suggestedFilename);
+        else if (method === "Browser.downloadProgress" && params.state === "completed") this.done.add(this.begun.get(params.guid));
         else if (method === "Runtime.exceptionThrown") this.errors.push(JSON.stringify(params.exceptionDetails).slice(0, 400));
         else if (method === "Log.entryAdded" && params.entry.level === "error") this.errors.push(params.entry.text);
     }
@@ -45,13 +48,14 @@ class Browser {
     async open(address) {
         if (!this.session) {
             const { targetInfos } = await this.send("Target.getTargets"), { targetId } = targetInfos.find((one) => one.type === "page");
-            await this.send("Browser.setDownloadBehavior", { behavior: "allow", downloadPath: this.downloads });
+            await this.send("Browser.setDownloadBehavior", { behavior: "allow", downloadPath: this.downloads, eventsEnabled: true });
             this.session = (await this.send("Target.attachToTarget", { targetId, flatten: true })).sessionId;
             for (const domain of ["Page", "Runtime", "Network", "Log"]) await this.send(domain + ".enable");
             await this.send("Emulation.setDeviceMetricsOverride", { width: 1500, height: 950, deviceScaleFactor: 1, mobile: false });
         }
+        await this.ask("window.isLeft = true");
         await this.send("Page.navigate", { url: address });
-        await this.until("typeof state === 'object' && state.command !== null");
+        await this.until("!window.isLeft && typeof state === 'object' && state.isReady");
     }
 
     async ask(expression) {
@@ -107,8 +111,8 @@ class Browser {
     // What was saved under a name, and takes it away.
     async saved(name) {
         const file = path.join(this.downloads, name);
-        for (let i = 0; i < 200 && !fs.existsSync(file); i++) await sleep(20);
-        const text = fs.existsSync(file) ? fs.readFileSync(file, "utf8") : "nothing was saved";
+        for (let i = 0; i < 500 && !this.done.has(name); i++) await sleep(20);
+        const text = this.done.delete(name) ? fs.readFileSync(file, "utf8") : "nothing was saved";
         fs.rmSync(file, { force: true });
         return text;
     }

@@ -63,8 +63,13 @@ def native():
     return found[0]
 
 
+def starts(name):
+    """Whether a browser is there and can be started at all."""
+    return shutil.which(name) and subprocess.run([name, "--version"], stdout=subprocess.DEVNULL, stderr=subprocess.DEVNULL, check=False).returncode == 0
+
+
 def chromium():
-    return next((name for name in ("chromium", "chromium-browser", "google-chrome") if shutil.which(name)), None)
+    return next((name for name in ("chromium", "chromium-browser", "google-chrome") if starts(name)), None)
 
 
 def held(*words):
@@ -84,11 +89,12 @@ def main():
     with manners.room() as room:
         (room / "files").mkdir()
         put_files(room / "files", asked.files)
-        held("node", HERE / "test_core.js", PAGE, native(), room / "files")
+        command = native()
+        held("node", HERE / "test_core.js", PAGE, command, room / "files")
         if not chromium():
             print("left out: the page in a browser: Chromium is not installed (Debian: chromium)")
             return
-        held("node", HERE / "test_browser.js", chromium(), ROOT, room, *([asked.pictures] if asked.pictures else []))
+        held("node", HERE / "test_browser.js", chromium(), ROOT, command, room, *([asked.pictures] if asked.pictures else []))
 
 
 if __name__ == "__main__":

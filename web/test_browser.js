@@ -1,12 +1,12 @@
 "use strict";
-// The page in Chromium: node test_browser.js CHROMIUM CHECKOUT ROOM [PICTURES]. Files are dropped on it, found, compared, saved and printed, by pointer and by
-// keys; what it says is held against the native command. Prints how many checks were made; status 1 where one failed.
+// The page in Chromium: node test_browser.js CHROMIUM CHECKOUT NATIVE ROOM [PICTURES]. Files are dropped on it, found, compared, saved and printed, by pointer
+// and by keys; what it says is held against the native command. Prints how many checks were made; status 1 where one failed.
 const child = require("child_process");
 const fs = require("fs");
 const path = require("path");
 const { Browser } = require("./browser.js");
 
-const [program, root, room, pictures] = process.argv.slice(2);
+const [program, root, native, room, pictures] = process.argv.slice(2);
 const EXAMPLES = path.join(root, "examples"), PAGE = "file://" + path.join(root, "web", "denkumari.html");
 const example = (name) => path.join(EXAMPLES, name + ".form");
 let checks = 0, wrong = 0;
@@ -18,7 +18,7 @@ function same(what, is, should) {
     console.log(`different: ${what}\n  is      ${JSON.stringify(is).slice(0, 400)}\n  should  ${JSON.stringify(should).slice(0, 400)}`);
 }
 
-const tool = (...words) => child.spawnSync(path.join(root, "tools", words[0]), words.slice(1), { encoding: "utf8" });
+const tool = (...words) => child.spawnSync(native, words, { encoding: "utf8" });
 const saidBy = (browser) => browser.ask(`$("said").textContent`);
 const picture = (browser, name) => (pictures ? browser.picture(path.join(pictures, name + ".png")) : undefined);
 // where the page's parts stand: nothing may move while people point, search and choose
@@ -42,7 +42,9 @@ async function save(browser, button, name) {
 
 // Every example, dropped as a file: the verdict, and its records and its map as they are saved.
 async function examples(browser) {
-    for (const name of fs.readdirSync(EXAMPLES).filter((file) => file.endsWith(".form")).map((file) => file.slice(0, -5))) {
+    const names = fs.readdirSync(EXAMPLES).filter((file) => file.endsWith(".form")).map((file) => file.slice(0, -5));
+    for (const [at, name] of names.entries()) {
+        if (at % 3 === 0) await browser.open(PAGE); // Chromium asks before it saves more than ten files of one page
         await browser.drop(example(name));
         const said = await saidBy(browser), layout = tool("layout", example(name)), head = /Refused ([\d ]+):/.exec(said);
         same(`${name}: verdict`, head ? `refused ${head[1]}\n` : "", layout.status ? layout.stdout : "");
@@ -169,9 +171,9 @@ async function given(browser) {
     const form = path.join(room, "given <b>&.form"), out = path.join(room, "given.html"), names = path.join(room, "given.names");
     fs.copyFileSync(example("sequencer"), form);
     fs.writeFileSync(names, "24\t<script>alert(1)</script>\tödp.asm:3\n");
-    same("map --html", tool("map", "--html", "--fill", "full", "--names", names, "-o", out, form).status, 0);
+    const made = child.spawnSync(path.join(root, "tools", "map"), ["--html", "--fill", "full", "--names", names, "-o", out, form], { encoding: "utf8" });
+    same("map --html", [made.status, made.stdout, made.stderr], [0, "", ""]);
     await browser.open("file://" + out);
-    await browser.until("state.done > 0");
     same("what it shows", await browser.ask("[state.docs[NOW].name, state.said[NOW].choices.fill, nameOf(state.said[NOW], 24)]"),
         ["given <b>&.form", "full", "<script>alert(1)</script>"]);
     const pdf = Buffer.from((await browser.send("Page.printToPDF", { preferCSSPageSize: true, printBackground: true })).data, "base64");

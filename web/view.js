@@ -8,7 +8,7 @@ const panes = ["old", "now"].map((side) => {
     return new Pane(pane.querySelector(".scroll"), pane.querySelector(".overview"));
 });
 const [OLD, NOW] = [0, 1];
-const state = { command: null, docs: [null, null], said: [null, null], pairs: [], rows: [], moved: "", isCompared: false, turn: 0, done: 0 };
+const state = { command: null, docs: [null, null], said: [null, null], pairs: [], rows: [], moved: "", isCompared: false, isReady: false, turn: 0, done: 0 };
 
 // ---- words into the document ----
 
@@ -302,8 +302,13 @@ function saveAs(name, bytes) {
     const link = element("a", "");
     link.href = URL.createObjectURL(new Blob([bytes], { type: "text/plain" }));
     link.download = name;
+    link.hidden = true;
+    document.body.append(link);
     link.click();
-    setTimeout(() => URL.revokeObjectURL(link.href), 10000);
+    setTimeout(() => {
+        URL.revokeObjectURL(link.href);
+        link.remove();
+    }, 10000);
     tell(`${name}: ${several(bytes.length, "byte")} saved.`);
 }
 
@@ -432,6 +437,7 @@ async function start() {
     listenToButtons();
     showFacts();
     await openGiven();
+    state.isReady = true;
 }
 
 start().catch((fault) => tell("The page could not start: " + (fault.message || fault), true));
