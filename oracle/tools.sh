@@ -230,6 +230,11 @@ refused '' 'field 0, at byte 0, ' tools/map --html README.md
 cp examples/banks.form "$room/over.form"
 is 2 tools/map --html "$room/over.form" -o "$room/over.form"
 same examples/banks.form "$room/over.form" "tools/map --html wrote over its input"
+printf '1\treset\tmain.asm:4\n' >"$room/over.names"
+cp "$room/over.names" "$room/over.kept"
+is 2 tools/map --html "$room/over.form" -o "$room/over.names"
+is 2 tools/map --svg "$room/over.form" --names "$room/over.names" -o "$room/over.names"
+same "$room/over.kept" "$room/over.names" "tools/map wrote over its names"
 is 2 tools/map --html --svg examples/banks.form
 is 2 tools/map --html --lines examples/banks.form
 # names, given and beside the file, in the words of each tool; a names file that is none

@@ -111,7 +111,9 @@ leave() {
 deliver() {
     [ ! -e "$1" ] || [ -f "$1" ] || say "$1 is not a regular file"
     place=$(readlink -f -- "$1") || say "there is no folder for $1"
-    [ "$place" != "$(readlink -f -- "$file")" ] || say "$1 is an input, and is not written over"
+    for one in "$file" "${names_file:-$file}"; do
+        [ "$place" != "$(readlink -f -- "$one")" ] || say "$1 is an input, and is not written over"
+    done
     mode=$(printf '%o' "$((0666 & ~$(umask)))")
     [ ! -e "$place" ] || mode=$(stat -c %a -- "$place") || say "$1 could not be written"
     part=$(mktemp "${place%/*}/.part.XXXXXX" 2>/dev/null) || say "no file can be made beside $1"
