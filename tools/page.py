@@ -478,7 +478,7 @@ def fill(write):
             fault(f'{here}: a quote or a figure is not what the sources make: run tools/page and read what changed')
 
 
-TOPS = ('crates', 'docs', 'tools', 'oracle', 'bindings', 'examples', 'include', 'portable', 'command', '.ci')
+TOPS = ('crates', 'docs', 'tools', 'oracle', 'bindings', 'examples', 'include', 'portable', 'command', 'web', '.ci')
 PATH = re.compile(r'(?<![\w/.\-])((?:' + '|'.join(map(re.escape, TOPS)) + r')/[\w./*\-]*[\w*/])')
 # a row of a table that has laws: their file, and their names
 LAWS = re.compile(r'^\| `([a-z_0-9]+)/([A-Z]\w*)` \| (`[^|]*`) \|')
