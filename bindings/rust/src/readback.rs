@@ -23,12 +23,6 @@ pub const DIFFERENT: u8 = 2;
 /// image ask for and that are not given ([`MISSING`]) or given with another value ([`DIFFERENT`]), ascending, as its first byte, its count of bytes and its
 /// kind. Answers how many there are: 0 where, and only where, every byte that is asked for is given with its value. Refused 4 and 16 for the blocks, then 14
 /// where a list is too short.
-pub fn verify(
-    image: Given<'_>,
-    found: Given<'_>,
-    firsts: &mut [u64],
-    counts: &mut [u64],
-    kinds: &mut [u8],
-) -> Result<usize, Refusal> {
+pub fn verify(image: Given<'_>, found: Given<'_>, firsts: &mut [u64], counts: &mut [u64], kinds: &mut [u8]) -> Result<usize, Refusal> {
     count_of(ffi::verify(image, found, firsts, counts, kinds))
 }

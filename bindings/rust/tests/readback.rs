@@ -7,7 +7,9 @@ const IMAGE: Given<'static> = Given { bytes: &[1, 2, 3, 4, 5, 6], offsets: &[8, 
 fn told(found: Given<'_>) -> Result<Vec<(u64, u64, u8)>, Refusal> {
     let (mut firsts, mut counts, mut kinds) = ([70; 6], [80; 6], [90; 6]);
     let count = verify(IMAGE, found, &mut firsts, &mut counts, &mut kinds)?;
-    assert!(firsts[count..].iter().all(|&x| x == 70) && counts[count..].iter().all(|&x| x == 80) && kinds[count..].iter().all(|&x| x == 90));
+    assert!(
+        firsts[count..].iter().all(|&x| x == 70) && counts[count..].iter().all(|&x| x == 80) && kinds[count..].iter().all(|&x| x == 90)
+    );
     Ok((0..count).map(|i| (firsts[i], counts[i], kinds[i])).collect())
 }
 
