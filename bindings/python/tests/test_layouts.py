@@ -26,6 +26,15 @@ def line_of(file, fill="inherited", page=None):
     return said if page is None else said + f" | pages {listed(layout.profile(page, fill))}"
 
 
+def fields(file):
+    """The fields of a layout file, each with its head."""
+    out, at = [], 0
+    while at < len(file):
+        out.append(file[at:at + 3 + int.from_bytes(file[at + 1:at + 3], "big")])
+        at += len(out[-1])
+    return out
+
+
 class BesideC(unittest.TestCase):
     def hold(self, files, *words, **choices):
         files = list(files)
@@ -40,6 +49,21 @@ class BesideC(unittest.TestCase):
     def test_files(self):
         seen = self.hold(drawn_files(HOW_MANY))
         self.assertLessEqual({"ok", "2", "3", "4", "5", "7", "8", "9", "10", "11", "12"} if HOW_MANY >= 400 else set(), seen)
+
+    def test_broken_files(self):
+        """Fields left out, doubled, exchanged, cut, with other tags and lengths: broken for the package exactly where the C call says so."""
+        for form in (1, 2):
+            file = (ROOT / "examples" / "worked.form").read_bytes()
+            parts = fields(file if form == 1 else convert(file, 2))
+            broken = [parts[:i] + parts[i + 1:] for i in range(len(parts))] + [parts[:i] + [part] + parts[i:] for i, part in enumerate(parts)]
+            broken += [parts[:i] + [parts[j]] + parts[i + 1:j] + [parts[i]] + parts[j + 1:] for i in range(len(parts)) for j in range(i + 1, len(parts))]
+            broken += [parts[:i] + [bytes([tag]) + part[1:]] + parts[i + 1:] for i, part in enumerate(parts) for tag in range(20)]
+            broken += [parts[:i] + [part[:2] + bytes([length]) + part[3:]] + parts[i + 1:] for i, part in enumerate(parts) for length in range(30)]
+            broken += [parts[:i] + [part[:at] + bytes([value]) + part[at + 1:]] + parts[i + 1:] for i, part in enumerate(parts) if len(part) > 25
+                       for at in (25, 26)[:form] for value in range(20)]
+            whole = b"".join(parts)
+            cut = [whole[:i] for i in range(len(whole))] + [whole + b"x", b"\x10", b"\x10\0\1\1" + whole[4:]]
+            self.assertLessEqual({"ok", "4"}, self.hold([*map(b"".join, broken), *cut]))
 
     def test_full_fill(self):
         self.hold(drawn_files(HOW_MANY // 4), "--fill", "1", fill="full")
@@ -125,6 +149,29 @@ class BesideCommand(unittest.TestCase):
             layout, _ = some_layout(rng)
             Path(str(self.form).replace(".form", ".names")).write_text(layout.to_names(), "utf-8")
             self.hold(layout.to_form(), "inherited")
+
+    def test_words_of_passes(self):
+        """8, 7 and 5 in passes that differ: which node, and what moved."""
+        for sizes, behind, words in (([8, 16], 0, "is the first that is not resolved: it has moved since pass 1"), ([8, 8], 2, ": node 3 (constant, bank 1")):
+            layout = Layout(limit=2, rows=2)
+            layout.switch(layout.bank(offset=0))
+            layout.item(sizes, 0, states=1)
+            layout.label()
+            layout.constant(states=behind)
+            self.assertEqual(self.hold(layout.to_form(), "inherited"), 8)
+            self.assertIn(words, refusal(layout.build).words)
+        rng, seen = draw("passes"), []
+        for _ in range(HOW_MANY):
+            layout = Layout(limit=rng.choice([1, 2, 2, 3, 4]), rows=rng.choice([1, 2, 3]))
+            layout.switch(layout.bank(unit=rng.choice([1, 8]), start=rng.choice([0, -3]), offset=0, align=rng.choice([None, 16])))
+            told = lambda most, low=0: [rng.choice([low, most]) for _ in range(layout.rows)]
+            for _ in range(rng.randint(1, 5)):
+                rng.choice([lambda: layout.label(depth=rng.randint(0, 1)), lambda: layout.item(told(16, 8), 0, states=told(rng.choice([0, 1, 2]))),
+                            lambda: layout.node(Kind.ALIGN, 0, told(24, 8), told(rng.choice([0, 1, 2]))), lambda: layout.constant(states=told(2)),
+                            lambda: layout.node(Kind.RESERVE, 0, told(rng.choice([8, 2**32 - 1])), told(1)),
+                            lambda: layout.node(Kind.ADDR, 0, told(40, 32), told(rng.choice([0, 1])))])()
+            seen.append(self.hold(layout.to_form(), "inherited"))
+        self.assertGreater(seen.count(8), HOW_MANY // 20)
 
     def test_conversion_words(self):
         files = [*drawn_files(HOW_MANY // 4), Layout().to_form(), Layout(rows=17).to_form(), b"", b":00000001FF\n"]
