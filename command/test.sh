@@ -233,8 +233,8 @@ says '16: block 0 (output bits 0..9, from node 2 on) does not begin and end on a
 ends 0 '"$D" compare worked.form other.form >a; [ $? -eq 1 ] && grep -qx "  word 0x40: 3ff -> 3fe" a && grep -qx "  1 byte differs: 1" a'
 ends 0 '"$D" map "$E/banks.form" | grep -q "2 passes run (layout.s .passes 1.; pass 2 confirmed it)$"'
 # --room: the same records where the usual room does, and larger images where it does not
-for call in 'ihex worked.form' 'ihex worked.form --whole --load 0x12345' 'srec sequencer.form --whole --width 2' 'srec "$E/banks.form" --width 2 --load 0xfff0' \
-    'ihex "$E/paged.form" --page 128' 'ihex "$E/paged-unit.form" --page 128' 'srec clamp-mark-after.form --whole' 'ihex sequencer.form' 'ihex s.hex' \
+for call in 'ihex worked.form' 'ihex worked.form --whole --load 0x12345' 'srec sequencer.form --whole --width 2' \
+    'srec "$E/banks.form" --width 2 --load 0xfff0' 'ihex "$E/paged.form" --page 128' 'ihex "$E/paged-unit.form" --page 128' 'srec clamp-mark-after.form --whole' 'ihex sequencer.form' 'ihex s.hex' \
     'map sequencer.form' 'map clamp-mark-after.form' 'map --json sequencer.form --fill full'; do
     holds "\"\$D\" $call >a 2>b; s=\$?; \"\$D\" $call --room 16384 >c 2>d; [ \$? -eq \$s ] && cmp a c && cmp b d"
 done

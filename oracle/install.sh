@@ -1,7 +1,8 @@
 #!/bin/sh
 # The installation as one without the kit and without the checkout has it: oracle/install.sh. Installs into a folder whose path has blanks, runs every command
 # there with nothing on the PATH but the system's own, and holds the answers against the checkout's; compiles and runs a program in C, C++ and, where cargo is,
-# Rust over the installed library; takes the installation away, after which nothing is left; and makes the tar file of tools/release, unpacks it and checks it.
+# Rust over the installed library; takes the installation away, after which nothing is left; makes the packages of tools/release, and checks them: the tar file
+# unpacked and taken away by its own list, the package for Debian installed into a folder and purged, and what is in the zip file for Windows.
 set -u
 . "$(dirname "$(readlink -f -- "$0")")/../tools/start.sh"
 . "$home/tools/launch.sh"
@@ -47,6 +48,7 @@ examples=$home/examples
 as layout "$examples/worked.form"
 as layout "$examples/clamp-mark-after.form"
 as layout --page 64 --fill full "$examples/banks.form"
+tools/layout "$examples/banks.form" >"$room/banks.layout"
 as map "$examples/banks.form"
 as map --svg "$examples/sequencer.form"
 as map --html "$examples/sequencer.form"
@@ -69,14 +71,24 @@ if command -v python3 >/dev/null 2>&1; then
     as compare --svg "$examples/worked.form" "$examples/banks.form"
     as form "$examples/worked.form"
 fi
-for command in layout map words ihex srec rehex bench convert; do
+for command in layout map compare words ihex srec rehex bench convert; do
     there "$command" --help || fault "denkumari $command --help: its status is not 0"
     ! grep -q 'tools/' "$room/out" || fault "denkumari $command --help speaks of tools/"
 done
 there --version
 [ "$(head -n 1 "$room/out")" = "denkumari $(sed -n 's/^#define DENKUMARI_VERSION "\(.*\)"$/\1/p' include/denkumari.h)" ] || fault "denkumari --version"
+grep -qx "commit $(git -c safe.directory='*' rev-parse HEAD 2>/dev/null || echo 'not recorded').*" "$room/out" || fault "denkumari --version has another commit"
+grep -qx "sources $(sed -n 's/^ \* sources: //p' portable/texts.c portable/denkumari.c | paste -sd ' ' -)" "$room/out" ||
+    fault "denkumari --version has other sources"
+# texts name the command as it is called there, and the completion is the table's
+if grep -rnE 'tools/(layout|map|compare|words|ihex|srec|rehex|bench|verify|convert|form|denkumari)\b' "$into/share/doc/denkumari" --include=*.md \
+    >"$room/said"; then
+    fault "an installed text names a tool of the checkout: $(head -n 1 "$room/said")"
+fi
+cmp -s command/denkumari.bash "$into/share/bash-completion/completions/denkumari" || fault "the completion for bash is not installed"
 # the command once more, from its C alone
-(cd "$into/share/denkumari/c" && "${CC:-cc}" -std=c99 -O2 -Iinclude -Iportable -o "$room/again" command/*.c portable/texts.c) >"$room/said" 2>&1 ||
+(cd "$into/share/denkumari/c" && "${CC:-cc}" -std=c99 -O2 -Iinclude -Iportable -o "$room/again" command/*.c portable/texts.c portable/denkumari.c) \
+    >"$room/said" 2>&1 ||
     fault "the installed C of the command: $(head -n 3 "$room/said")"
 "$room/again" layout "$examples/banks.form" >"$room/out"
 tools/layout "$examples/banks.form" | cmp -s - "$room/out" || fault "the installed C prints another layout"
@@ -143,5 +155,53 @@ cmp -s KIT "$room/unpacked/KIT" || fault "KIT in the tar file"
 sed '1,5d' "$room/unpacked/CONTENTS" | cut -f 2 | LC_ALL=C sort | cmp -s - "$room/files" || fault "CONTENTS is not what is inside"
 into=$room/unpacked
 as layout "$examples/worked.form"
+: >"$into/share/of another"
+(cd / && PATH=/usr/bin:/bin "$into/lib/denkumari/tools/uninstall") >"$room/said" 2>&1 || fault "the tar file's uninstall: $(cat "$room/said")"
+[ "$(cd "$into" && find . -type f -o -type l)" = "./share/of another" ] || fault "the tar file's list leaves behind: $(find "$into" -type f | head -n 3)"
+
+# The package for Debian, installed into an empty root, whose dpkg knows nothing, and purged: its own files, and then none.
+into_root() {
+    dpkg --root="$room/root" --log=/dev/null --force-not-root --force-script-chrootless --force-depends "$@" >"$room/said" 2>&1 ||
+        fault "dpkg $1: $(tail -n 3 "$room/said")"
+}
+debian() {
+    dpkg-deb -f "$1" Package Version Architecture Depends >"$room/control" || fault "the package for Debian has no control file"
+    grep -qx 'Architecture: amd64' "$room/control" || fault "the package for Debian is for another machine: $(cat "$room/control")"
+    mkdir -p "$room/root/var/lib/dpkg/info" "$room/root/var/lib/dpkg/updates" "$room/root/var/lib/dpkg/triggers" && : >"$room/root/var/lib/dpkg/status"
+    into_root -i "$1"
+    into=$room/root/usr
+    as layout "$examples/banks.form"
+    as ihex "$examples/banks.form" --load 0x8000
+    # as root runs it: python3 keeps compiled scripts
+    ! command -v python3 >/dev/null 2>&1 || as form "$examples/worked.form"
+    [ -f "$into/share/man/man1/denkumari.1.gz" ] || fault "the package for Debian has no manual page"
+    [ -f "$into/share/bash-completion/completions/denkumari" ] || fault "the package for Debian has no completion"
+    into_root -P denkumari
+    [ -z "$(find "$room/root" ! -type d ! -path "$room/root/var/lib/dpkg/*")" ] ||
+        fault "the package for Debian leaves files: $(find "$into" -type f | head -n 3)"
+    [ ! -e "$room/root/usr/lib/denkumari" ] || fault "the package for Debian leaves a folder"
+    echo "installed: the package for Debian, and purged without a trace"
+}
+if command -v dpkg >/dev/null 2>&1 && command -v dpkg-deb >/dev/null 2>&1; then
+    debian "$room"/release/denkumari_*_amd64.deb
+else
+    echo "left out: the package for Debian: dpkg is not installed"
+fi
+
+# the zip file for Windows: whole, with the command; nothing here can run it unless wine is there
+if [ -f "$(find "$room/release" -name '*-windows.zip')" ]; then
+    mkdir "$room/windows"
+    python3 -m zipfile -e "$room"/release/*-windows.zip "$room/windows" || fault "the zip file for Windows cannot be unpacked"
+    (cd "$room"/windows/* && sha256sum -c --quiet SHA256SUMS) || fault "the checksums in the zip file for Windows"
+    [ "$(head -c 2 "$room"/windows/*/denkumari.exe)" = MZ ] || fault "the command for Windows is no program of Windows"
+    if command -v wine >/dev/null 2>&1; then
+        wine "$room"/windows/*/denkumari.exe layout "$examples/banks.form" 2>/dev/null | cmp -s - "$room/banks.layout" ||
+            fault "the command for Windows prints another layout"
+    else
+        echo "left out: a run of the command for Windows: wine is not installed"
+    fi
+else
+    echo "left out: the zip file for Windows: x86_64-w64-mingw32-gcc is not installed (Debian: gcc-mingw-w64-x86-64)"
+fi
 [ "$wrong" -eq 0 ] && echo "installation: all as it should be"
 exit "$wrong"

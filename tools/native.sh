@@ -34,15 +34,18 @@ compile_native() {
     [ -n "$compiler" ] || give_up "there is no C compiler: cc, gcc, clang and tcc are not on the PATH"
     [ ! -t 2 ] || echo "${here#"$home/"}: compiling the command from portable/ and command/, which takes some seconds" >&2
     mkdir -p "$home/build" || give_up "build/ cannot be written"
-    new=$home/build/.denkumari.$$
-    trap 'rm -f -- "$new"' EXIT
-    trap 'exit 130' HUP INT TERM
     sources=$(sed -n 's/^ \* sources: //p' "$home/portable/texts.c" "$home/portable/denkumari.c" | paste -sd ' ' -)
-    if ! "$compiler" -std=c99 -O2 -DDENKUMARI_KIT="\"$(cat "$home/KIT")\"" -DDENKUMARI_SOURCES="\"$sources\"" ${2:+-DDENKUMARI_COMMIT="\"$2\""} \
-        -I"$home/include" -I"$home/portable" -o "$new" "$home"/command/*.c "$home/portable/texts.c" "$home/portable/denkumari.c" >&2 ||
-        ! mv -f -- "$new" "$1"; then give_up "the command was not compiled"; fi
-    trap - EXIT HUP INT TERM
+    # in a shell of its own, with which its traps end
+    (
+        new=$home/build/.denkumari.$$
+        trap 'rm -f -- "$new"' EXIT
+        trap 'exit 130' HUP INT TERM
+        if ! "$compiler" -std=c99 -O2 -DDENKUMARI_KIT="\"$(cat "$home/KIT")\"" -DDENKUMARI_SOURCES="\"$sources\"" ${2:+-DDENKUMARI_COMMIT="\"$2\""} \
+            -I"$home/include" -I"$home/portable" -o "$new" "$home"/command/*.c "$home/portable/texts.c" "$home/portable/denkumari.c" >&2 ||
+            ! mv -f -- "$new" "$1"; then give_up "the command was not compiled"; fi
+    ) || exit
     # those of other sources
+    [ "${1%/*}" = "$home/build" ] || return 0
     for one in "$home"/build/denkumari-????????????????; do
         [ "$one" = "$1" ] || rm -f -- "$one"
     done
