@@ -243,7 +243,7 @@ static void put_contents(struct text *t, struct text *json, const struct side *a
         put_value(&old, a->image, w.output + moved, w.bits);
         put_value(&new, b->image, w.output, w.bits);
         if (count < WORDS_SHOWN) {
-            put(t, "  ");
+            put(t, "  word ");
             put_word(t, w);
             put(t, ": %s -> %s\n", old.at, new.at);
         }

@@ -3,7 +3,7 @@ _denkumari() {
     local word=${COMP_WORDS[COMP_CWORD]} before=${COMP_WORDS[COMP_CWORD-1]} words=
     COMPREPLY=()
     if [ "$COMP_CWORD" -eq 1 ]; then
-        words="layout map compare words ihex srec rehex bench convert form --help --version"
+        words="layout map compare words ihex srec rehex bench verify convert form --help --version"
     else
         case ${COMP_WORDS[1]}:$before in
         layout:--fill) words="inherited full" ;;
@@ -16,6 +16,7 @@ _denkumari() {
         srec:--fill) words="inherited full" ;;
         rehex:--width) words="2 4" ;;
         rehex:--to) words="hex srec" ;;
+        verify:--fill) words="inherited full" ;;
         convert:--to) words="1 2" ;;
         layout:*) [ "${word#-}" = "$word" ] || words="--fill --page --names --json -o --help" ;;
         map:*) [ "${word#-}" = "$word" ] || words="--svg --lines --fill --page --room --names --json -o --help" ;;
@@ -25,6 +26,7 @@ _denkumari() {
         srec:*) [ "${word#-}" = "$word" ] || words="--load --whole --width --fill --page --room -o --help" ;;
         rehex:*) [ "${word#-}" = "$word" ] || words="--load --width --to -o --help" ;;
         bench:*) [ "${word#-}" = "$word" ] || words="--load --range --check --json -o --help" ;;
+        verify:*) [ "${word#-}" = "$word" ] || words="--load --whole --fill --page --room --names --json -o --help" ;;
         convert:*) [ "${word#-}" = "$word" ] || words="--to -o --help" ;;
         form:*) [ "${word#-}" = "$word" ] || words="--make --names -o --help" ;;
         esac

@@ -7,6 +7,7 @@
 #define LAYOUT_MAX 65536u
 #define RECORDS_MAX 3276800u
 #define BENCH_MAX 1048576u
+#define DUMP_MAX 50331648u
 #define NAMES_MAX 4194304u
 
 struct bytes read_input(const char *name, size_t limit); /* at most `limit` bytes and one more, of - standard input; fails by itself */

@@ -128,6 +128,39 @@ struct bytes proved_write(const struct built *b, uint8_t format, uint32_t load, 
     return first_of(text, w.count);
 }
 
+/* Blocks from `base` on as blocks from `load` on: what is ahead of it is left out. */
+static size_t from_load(uint64_t shift, size_t n) {
+    size_t kept = 0;
+    for (size_t i = 0; i < n; i++) {
+        uint64_t end = offsets[i] + sizes[i], start = offsets[i] < 8 * shift ? 8 * shift : offsets[i];
+        if (end <= start) continue;
+        offsets[kept] = start - 8 * shift;
+        sizes[kept++] = end - start;
+    }
+    return kept;
+}
+
+struct verified proved_verify(const struct built *b, struct bytes dump, uint8_t kind, uint32_t base, uint32_t load, int is_whole, struct refusal *r) {
+    size_t image = (size_t)(b->bits + 7) / 8, shift = load - base < ROOM_MAX ? load - base : ROOM_MAX, spare = ROOM_MAX / 8;
+    uint64_t whole_offset = 0, whole_size = 8 * (uint64_t)image, *first = memory(image + 1, sizeof *first), *count = memory(image + 1, sizeof *count);
+    const uint64_t *starts = is_whole ? &whole_offset : b->offsets, *lengths = is_whole ? &whole_size : b->sizes;
+    size_t n = is_whole ? image > 0 : (size_t)b->blocks, given;
+    uint8_t *all = memory(ROOM_MAX + image + 1, 1), *zeros = memory(spare, 1), *kinds = memory(image + 1, 1);
+    struct verified v = {memory(image + 1, sizeof *v.run), 0, 0, all + shift};
+    struct dk_count read = dk_read_records(kind, dump.at, dump.len, base, all, ROOM_MAX, offsets, COUNT(offsets), sizes, COUNT(sizes), zeros, spare), held;
+    r->number = (int)read.refusal;
+    if (read.refusal) return v;
+    given = from_load(load - base, (size_t)read.count);
+    held = dk_verify(b->image, image, starts, n, lengths, n, v.bytes, ROOM_MAX - shift, offsets, given, sizes, given, first, image, count, image, kinds, image);
+    r->number = (int)held.refusal;
+    for (size_t i = 0; i < n; i++) v.asked += (int64_t)lengths[i] / 8;
+    for (; v.runs < held.count; v.runs++) {
+        struct run one = {first[v.runs], count[v.runs], kinds[v.runs]};
+        v.run[v.runs] = one;
+    }
+    return v;
+}
+
 int proved_reads(struct bytes file, uint8_t kind, uint32_t load, size_t reach) {
     return dk_read_records(kind, file.at, file.len, load, bytes, reach, offsets, COUNT(offsets), sizes, COUNT(sizes), scratch, sizeof scratch).refusal == 0;
 }

@@ -35,6 +35,18 @@ struct bytes proved_bench_range(struct bytes released, struct bytes overlay, uin
 struct bytes proved_convert(struct bytes file, int form, int *is_refused); /* the file, or the refusal's line */
 struct built proved_build(struct bytes file, struct choices c);
 struct bytes proved_write(const struct built *b, uint8_t format, uint32_t load, int is_whole, struct refusal *r); /* records; r->number is 0, 4 or 16 */
+struct run { /* bytes that are not given or differ (enum dk_unlike), from the image's first on */
+    uint64_t first, count;
+    int kind;
+};
+struct verified {
+    struct run *run;
+    size_t runs;
+    int64_t asked; /* how many bytes were held against the image's */
+    uint8_t *bytes; /* what was read back, from the load address on */
+};
+/* A dump whose lowest address, or a lower one, is `base`. */
+struct verified proved_verify(const struct built *b, struct bytes dump, uint8_t kind, uint32_t base, uint32_t load, int is_whole, struct refusal *r);
 int proved_reads(struct bytes file, uint8_t kind, uint32_t load, size_t reach); /* whether it is read so, its bytes that near to the load address */
 struct reason proved_reason(struct bytes file, uint8_t kind, uint32_t load);
 #endif

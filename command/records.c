@@ -53,8 +53,8 @@ static void put_reason(struct text *t, const struct source *f) {
     if (!is_blank) put_remedy(t, cause);
 }
 
-/* The lowest address that a good file gives a byte at: read from the last address on it is refused with it. A bad file is refused by any. */
-static uint32_t lowest(struct bytes file, uint8_t kind) {
+/* Read from the last address on a good file is refused with its lowest. A bad file is refused by any. */
+uint32_t lowest(struct bytes file, uint8_t kind) {
     struct reason r = proved_reason(file, kind, UINT32_MAX);
     return r.reason == 10 ? (uint32_t)r.second : r.reason == 0 ? UINT32_MAX : 0;
 }
@@ -76,8 +76,7 @@ int says(struct bytes text, const char *begin) {
     return left >= strlen(begin) && memcmp(line + 1, begin, strlen(begin)) == 0;
 }
 
-/* The first block that is not of whole bytes, and the item that it begins with. */
-static void put_ragged(struct text *t, struct layout *l, const struct names *names) {
+void put_ragged(struct text *t, const struct layout *l, const struct names *names) {
     int64_t at = 0, node = 0;
     while (at < l->blocks && l->block[at].start % 8 == 0 && l->block[at].size % 8 == 0) at++;
     if (at >= l->blocks) return;

@@ -253,5 +253,40 @@ if command -v python3 >/dev/null 2>&1; then
     ends 0 '"$D" srec large.form --whole --room 16777216 >a && [ "$(wc -l <a)" -gt 500000 ]'
     rm -f a large.*
 fi
+# read-back: the same, not the same, not at all
+if command -v python3 >/dev/null 2>&1; then
+    python3 "$home/command/test_verify.py" "$D" || wrong=1
+else
+    echo "skipped: verify beside a model, for want of python3"
+fi
+ends 0 '"$D" verify "$E/banks.form" b.hex --load 0x8000 >a && [ "$(cat a)" = "b.hex: the same, 16 bytes" ]'
+ends 0 '"$D" verify "$E/banks.form" b.s37 && "$D" verify sequencer.form s.hex --whole && tr A-F a-f <s.hex | "$D" verify sequencer.form - --whole'
+ends 1 '"$D" verify "$E/banks.form" b.hex >a 2>/dev/null'
+holds 'head -n 1 a | grep -qx "b.hex: 16 bytes are not given, of 16 bytes"'
+sed 's/^:1000100000\(.*\)1D$/:1000100055\1C8/' s.hex >turned.hex
+ends 1 '"$D" verify sequencer.form turned.hex --whole >a 2>/dev/null'
+holds 'grep -q "^node [0-9]*, word 0x[0-9a-f]*: [0-9a-f]\{3\}, should be [0-9a-f]\{3\} (0x00000010" a'
+printf '1\tfirst\tt.asm:1\n2\tcurve\tt.asm:3\n' >banks.names
+sed '1s/1234E7$/1235E6/' b.hex >turned.hex
+ends 1 '"$D" verify "$E/banks.form" turned.hex --load 0x8000 >a 2>/dev/null'
+holds 'grep -qx "node 3, word 0x104: 35, should be 34 (0x00008004)" a'
+sed '1s/0E00401234E7$/0F00401234E6/' b.hex >turned.hex
+ends 1 '"$D" verify "$E/banks.form" turned.hex --load 0x8000 --names banks.names -o a 2>/dev/null'
+holds 'grep -qx "curve, t.asm:3 (node 2), word 0x100: 0f, should be 0e (0x00008000)" a'
+says 'verify: refused with 16: block 0 .*--whole' '"$D" verify worked.form s.hex'
+says 'verify: refused with 12: ' '"$D" verify clamp-mark-after.form s.hex'
+says 'verify: refused with 4: bad.hex: line 3: ' '"$D" verify worked.form bad.hex --whole'
+says 'begins with a byte order mark' '"$D" verify worked.form bom.hex --whole'
+says 'verify: refused with 14: the image does not fit its room, 4 bytes' '"$D" verify worked.form s.hex --whole --room 4'
+says 'longer than 50331648 bytes' 'truncate -s 5G big5; "$D" verify worked.form big5 --whole'
+rm -f big5 banks.names
+for call in 'verify worked.form' 'verify - -' 'verify worked.form nothere' 'verify nothere s.hex' 'verify worked.form s.hex --load x' 'verify worked.form dir' \
+    'verify sequencer.form s.hex --whole -o s.hex' 'verify sequencer.form s.hex --whole >&-' 'verify sequencer.form s.hex --whole --json >&-'; do
+    ends 2 "\"\$D\" $call"
+done
+[ ! -c /dev/full ] || ends 2 '"$D" verify sequencer.form s.hex --whole >/dev/full'
+ends 0 'cat s.hex >ff & "$D" verify sequencer.form ff --whole'
+ends 1 '"$D" verify clamp-mark-after.form s.hex --json -o j2'
+holds '[ ! -e j2 ] && cmp s.hex s2.hex'
 [ "$wrong" -eq 0 ] && echo "the command: $count cases, all as they should be"
 exit "$wrong"

@@ -27,8 +27,8 @@ struct word word_at(const struct layout *l, int64_t node, int64_t done) {
 }
 
 void put_word(struct text *t, struct word w) {
-    if (w.address < 0) put(t, "word %lld", (long long)w.address);
-    else put(t, "word 0x%llx", (unsigned long long)w.address);
+    if (w.address < 0) put(t, "%lld", (long long)w.address);
+    else put(t, "0x%llx", (unsigned long long)w.address);
     if (w.past > 0) put(t, "+%lld", (long long)w.past);
 }
 

@@ -16,6 +16,6 @@ struct image read_image(const struct layout *l); /* of the digits that the prove
 int same_bits(struct image a, int64_t from, struct image b, int64_t other, int64_t bits);
 int bit_at(struct image image, int64_t at); /* 0 past its end */
 struct word word_at(const struct layout *l, int64_t node, int64_t done); /* the one that begins so many bits behind the item's first */
-void put_word(struct text *t, struct word w); /* "word 0x820", or "word 0x820+3" */
+void put_word(struct text *t, struct word w); /* its address, "0x820", or "0x820+3" */
 void put_value(struct text *t, struct image image, int64_t from, int64_t bits); /* in hex, as one number */
 #endif

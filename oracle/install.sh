@@ -59,6 +59,8 @@ cp "$room/here" "$room/banks.hex"
 as srec "$examples/banks.form" --width 2
 as rehex "$room/banks.hex" --to srec
 as bench "$room/banks.hex" "$room/banks.hex"
+as verify "$examples/banks.form" "$room/banks.hex" --load 0x8000
+as verify "$examples/banks.form" "$room/banks.hex"
 # a bad file is explained there too
 sed '1s/.$/!/' "$room/banks.hex" >"$room/bad.hex"
 as rehex "$room/bad.hex"
@@ -71,7 +73,7 @@ if command -v python3 >/dev/null 2>&1; then
     as compare --svg "$examples/worked.form" "$examples/banks.form"
     as form "$examples/worked.form"
 fi
-for command in layout map compare words ihex srec rehex bench convert; do
+for command in layout map compare words ihex srec rehex bench verify convert; do
     there "$command" --help || fault "denkumari $command --help: its status is not 0"
     ! grep -q 'tools/' "$room/out" || fault "denkumari $command --help speaks of tools/"
 done

@@ -79,7 +79,7 @@ with_pictures() {
 
 # The tools that are commands read this file and do nothing else.
 case ${here##*/} in
-layout | map | compare | words | ihex | srec | rehex | bench | convert) with_pictures "${here##*/}" "$@" ;;
+layout | map | compare | words | ihex | srec | rehex | bench | convert | verify) with_pictures "${here##*/}" "$@" ;;
 denkumari)
     [ "$#" -gt 0 ] || start_native
     [ "$1" != form ] || { shift && exec "$home/tools/form" "$@"; }
