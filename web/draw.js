@@ -2,6 +2,7 @@
 // The picture: a pane draws the banks of one layout on lines of equal length, to scale. Only what can be seen is drawn, whatever a bank's size.
 
 const LEFT = 96, RIGHT = 88, HEAD = 48, LANE = 16, GAP = 8;
+const MOST_SHEETS = 24; // of paper, for a bank
 const BITS_FROM = 7; // pixels to a bit, from which on single bits are shown
 const MOST_LINES = 20000; // of a bank: a browser's pages are not endless
 const PAINT = { instruction: ["#6f9bd1", "#8cb2dd"], data: ["#efc36a", "#f5d48f"] };
@@ -404,12 +405,15 @@ class Pane {
     // For paper: a canvas for each bank, or for so many of its lines as go on a page.
     prints(into, width, most) {
         for (const one of this.sections) {
-            const lines = Math.max(1, Math.floor((most - HEAD) / one.line)), pieces = Math.min(200, Math.ceil(one.lines / lines));
+            const lines = Math.max(1, Math.floor((most - HEAD) / one.line)), pieces = Math.min(MOST_SHEETS, Math.ceil(one.lines / lines));
             const lineAt = (i) => one.y + HEAD + i * lines * one.line;
             Array.from({ length: pieces }).forEach((_, i) => {
                 const top = i ? lineAt(i) : one.y, bottom = Math.min(one.y + one.height, lineAt(i + 1));
                 this.paint(into.appendChild(document.createElement("canvas")), top, width, bottom - top, 2);
             });
+            const left = one.lines - pieces * lines, note = document.createElement("p");
+            note.textContent = `Bank ${one.bank.no} has ${several(left, "line")} more; zoom out to print them.`;
+            if (left > 0) into.append(note);
         }
     }
 }

@@ -189,12 +189,12 @@ async function given(browser) {
 
 // Random and damaged files, one or two of them: whatever is shown, nothing fails.
 async function many(browser) {
-    const folder = path.join(room, "files"), files = fs.existsSync(folder) ? fs.readdirSync(folder).filter((_, i) => i % 8 === 0) : [];
+    const folder = path.join(room, "files"), files = fs.existsSync(folder) ? fs.readdirSync(folder).filter((_, i) => i % 16 === 0) : [];
     const doc = (name) => `{ name: "${name}", form: unbase("${fs.readFileSync(path.join(folder, name)).toString("base64")}"), names: null, namesName: null }`;
     let bad = 0;
     for (const [i, name] of files.entries()) {
         const docs = i % 3 ? `[null, ${doc(name)}]` : `[${doc(files[Math.max(0, i - 1)])}, ${doc(name)}]`;
-        const told = await browser.ask(`show(${docs}).then(() => { step(1); zoom(0.25); printOut(true); printOut(false);
+        const told = await browser.ask(`show(${docs}).then(() => { step(1); zoom(0.25); zoom(4); printOut(true); printOut(false);
             return [...state.said[NOW].told, $("status").textContent, $("said").textContent ? "" : "nothing is said"].join(""); })`);
         if (told) console.log(`${name}: ${told}`);
         bad += told ? 1 : 0;
