@@ -19,7 +19,7 @@ _denkumari() {
         verify:--fill) words="inherited full" ;;
         convert:--to) words="1 2" ;;
         layout:*) [ "${word#-}" = "$word" ] || words="--fill --page --names --json -o --help" ;;
-        map:*) [ "${word#-}" = "$word" ] || words="--svg --lines --fill --page --room --names --json -o --help" ;;
+        map:*) [ "${word#-}" = "$word" ] || words="--svg --html --lines --fill --page --room --names --json -o --help" ;;
         compare:*) [ "${word#-}" = "$word" ] || words="--svg --fill --names --json -o --help" ;;
         words:*) [ "${word#-}" = "$word" ] || words="--to --fill --page --names --help" ;;
         ihex:*) [ "${word#-}" = "$word" ] || words="--load --whole --fill --page --room -o --help" ;;

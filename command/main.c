@@ -75,6 +75,6 @@ int main(int argc, char **argv) {
     for (int i = 2; i < argc && strcmp(argv[i], "--") != 0; i++)
         if (strcmp(argv[i], "--help") == 0) return print_usage(command);
     struct asked asked = read_words(command, argc, argv);
-    if (asked.given & SVG) fail("--svg is drawn by a script, which this installation does not have");
+    if (asked.given & (SVG | HTML)) fail("a script does that, which this installation does not have");
     return command->run(&asked);
 }
