@@ -8,7 +8,7 @@ from typing import Any, Dict, List, Optional, Sequence, Tuple, Union
 
 from ._c import I64, MOST, NONE, U8, U16, U32, U64, front, given, lend, lib, number, room_for_bytes, view
 from ._form import Parts, read_form, write_form
-from ._names import BadNames, checked, names_file, read_names, write_names
+from ._names import BadNames, called, checked, names_file, read_names, write_names
 from ._records import RoomFor, pair, write_hex, write_srec
 from ._types import Bank, Block, Kind, Map, Names, Node, Padding, Placed, Refused, Span, accepted
 from ._words import layout_words
@@ -60,8 +60,8 @@ class Built:
     unresolved.
     """
 
-    def __init__(self, image: memoryview, answer: Any, spans: List[Span], blocks: List[Block], padding: List[Padding]):
-        self.image, self.spans, self.blocks, self.padding = image, spans, blocks, padding
+    def __init__(self, image: memoryview, answer: Any, spans: List[Span], blocks: List[Block], padding: List[Padding], names: Names):
+        self._names, self.image, self.spans, self.blocks, self.padding = names, image, spans, blocks, padding
         self.length, self.passes, self.k = int(answer.length), int(answer.passes), int(answer.k)
         self._span_of: Dict[int, Span] = {span.node: span for span in spans}
 
@@ -88,17 +88,22 @@ class Built:
 
     def to_hex(self, load: int = 0, whole: bool = False) -> str:
         """Intel HEX of the blocks, or of the whole image, whose first byte is at address `load`. Refused 16 where a block is not on byte edges."""
-        return write_hex(self._memory(), load, None if whole else self.blocks)
+        return write_hex(self._memory(), load, None if whole else self.blocks, called=self._called)
 
     def to_srec(self, load: int = 0, width: int = 4, whole: bool = False) -> str:
         """The same as S-records with addresses of `width` bytes, 2 or 4."""
-        return write_srec(self._memory(), load, width, None if whole else self.blocks)
+        return write_srec(self._memory(), load, width, None if whole else self.blocks, called=self._called)
 
     def to_intelhex(self, load: int = 0, whole: bool = False) -> Any:
         """The same as an `IntelHex` object, where that package is installed."""
         from ._records import read_records
 
         return read_records(self.to_hex(load, whole), load).to_intelhex()
+
+    def _called(self, offset: int) -> str:
+        """The item that begins at a bit of the image, by its name and place or its number."""
+        nodes = [span.node for span in self.spans if span.offset == offset and span.bits]
+        return called(self._names, nodes[0]) if nodes else ""
 
     def _memory(self) -> Any:
         """What can be lent without a copy: the memory that the view is of, where that is all of it."""
@@ -265,7 +270,7 @@ class Layout:
 
     def called(self, node: int) -> str:
         """What a node is called, with its place in the source, else its number."""
-        return ", ".join(word for word in self.names.get(node, ("", "")) if word) or f"node {node}"
+        return called(self.names, node)
 
     def name(self, node: int) -> str:
         """A node's name, or nothing."""
@@ -359,7 +364,7 @@ class Layout:
         nodes = [i for i, node in enumerate(self.nodes) if node.kind == Kind.LABEL or Kind.INSTRUCTION <= node.kind <= Kind.OPEN_DATA]
         listed = [Span(node, self.name(node), address, None if offset == NONE else offset, size)
                   for node, address, offset, size in zip(nodes, spans.addresses[:count], spans.offsets[:count], spans.sizes[:count])]
-        return Built(memoryview(held).toreadonly(), answer, listed, spans.blocks(count), self._padding(answer))
+        return Built(memoryview(held).toreadonly(), answer, listed, spans.blocks(count), self._padding(answer), dict(self.names))
 
     def profile(self, page: int, fill: str = "inherited") -> List[Optional[int]]:
         """The pages of each bank, None where it has no offset, for a device with pages of so many bits; Refused 19 where the layout breaks a rule of it.

@@ -50,6 +50,11 @@ def checked(node: int, name: str, place: str) -> Tuple[str, str]:
     return name, place
 
 
+def called(names: Names, node: int) -> str:
+    """What a node is called, with its place in the source, else its number."""
+    return ", ".join(word for word in names.get(node, ("", "")) if word) or f"node {node}"
+
+
 def read_names(text: str, file: Optional[bytes] = None) -> Names:
     """The names of a names file. BadNames where it is none, or where its first line names another layout file than `file`.
 
@@ -57,6 +62,8 @@ def read_names(text: str, file: Optional[bytes] = None) -> Names:
     {3: ('table', 'main.asm:12')}
     """
     names, above = {}, -1
+    if text[:1] == "\ufeff":
+        raise BadNames("it begins with a byte order mark (EF BB BF)")
     lines = text.split("\n")
     for i, line in enumerate(lines[:-1] if lines[-1] == "" else lines):
         head = _SUM.match(line) if i == 0 else None

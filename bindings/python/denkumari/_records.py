@@ -4,11 +4,11 @@ from __future__ import annotations
 import os
 from bisect import bisect_right
 from pathlib import Path
-from typing import Any, Iterable, List, NamedTuple, Optional, Tuple, Union
+from typing import Any, Callable, Iterable, List, NamedTuple, Optional, Tuple, Union
 
 from ._c import I64, MOST, NONE, U8, U64, Reason, front, given, lend, lib, number, room, room_for_bytes, view
 from ._types import Block, Refused, accepted
-from ._words import reason_words, say
+from ._words import TABLE, reason_words, say
 
 ROOM = 1 << 26  # bytes from the load address on, unless said
 Text = Union[str, bytes, bytearray, memoryview]
@@ -62,23 +62,26 @@ def block_lists(blocks: Iterable[Any]) -> List[Any]:
     return [*given(U64, (offset for offset, _ in pairs)), *given(U64, (bits for _, bits in pairs))]
 
 
-def _written(call: Any, image: Any, blocks: Optional[Iterable[Any]], *choices: int) -> str:
+def _written(call: Any, image: Any, blocks: Optional[Iterable[Any]], *choices: int, called: Optional[Callable[[int], str]] = None) -> str:
     lent = lend("the image", image)
     listed = ([(0, 8 * lent[1])] if lent[1] else []) if blocks is None else [pair(each) for each in blocks]
     most = lib.dk_py_record_room(lent[1], len(listed))
     held, text = room_for_bytes(most)
     answer = call(*lent, *block_lists(listed), *choices, text, most)
     if answer.refusal in (4, 16):
-        raise Refused(answer.refusal, answer.place, words=_not_written(answer.refusal, listed, lent[1], choices))
+        raise Refused(answer.refusal, answer.place, words=not_written(answer.refusal, listed, lent[1], choices, called))
     return front(held, accepted(answer).count).tobytes().decode("ascii")
 
 
-def _not_written(refusal: int, blocks: List[Any], length: int, choices: Tuple[int, ...]) -> str:
+def not_written(refusal: int, blocks: List[Any], length: int, choices: Tuple[int, ...], called: Optional[Callable[[int], str]] = None) -> str:
+    """Why blocks make no records; `called` names the item that begins at a bit."""
     bad = [i for i, (offset, bits) in enumerate(blocks) if offset % 8 or bits % 8 or bits == 0 or offset + bits > 8 * length]
     if refusal == 16 and bad:
         offset, bits = blocks[bad[0]]
         cause = "RECORDS_EDGES" if offset % 8 or bits % 8 else "BAD_PART"
-        return f"{say(cause)} It is block {bad[0]}: {bits} bits from bit {offset} on, of an image of {length} bytes."
+        name = called(offset) if called else ""
+        block = f"block {bad[0]} (output bits {offset}..{offset + bits - 1}" + (f", from {name} on)" if name else ")")
+        return say(cause, note=block) if "{note}" in TABLE[cause].words else f"{say(cause)} It is {block}."
     behind = 0
     for offset, bits in blocks:
         if offset < behind:
@@ -87,22 +90,24 @@ def _not_written(refusal: int, blocks: List[Any], length: int, choices: Tuple[in
     return say("RECORDS_ADDRESS") if len(choices) < 2 or choices[1] in (2, 4) else "the width of an address is 2 or 4 bytes"
 
 
-def write_hex(image: Any, load: int = 0, blocks: Optional[Iterable[Any]] = None) -> str:
-    r"""Intel HEX of an image whose first byte is at address `load`: of these blocks (offset and bits), of all of it where none are given.
+def write_hex(image: Any, load: int = 0, blocks: Optional[Iterable[Any]] = None, *, called: Optional[Callable[[int], str]] = None) -> str:
+    r"""Intel HEX of an image whose first byte is at address `load`: of these blocks (offset and bits), of all of it where none are given. `called` names what
+    begins at a bit, for a refusal's words.
 
     >>> write_hex(b"\xeb\x02", load=0x8000)
     ':02800000EB0291\n:00000001FF\n'
     """
-    return _written(lib.dk_write_hex, image, blocks, number("load", load, 0, MOST))
+    return _written(lib.dk_write_hex, image, blocks, number("load", load, 0, MOST), called=called)
 
 
-def write_srec(image: Any, load: int = 0, width: int = 4, blocks: Optional[Iterable[Any]] = None) -> str:
+def write_srec(image: Any, load: int = 0, width: int = 4, blocks: Optional[Iterable[Any]] = None, *,
+               called: Optional[Callable[[int], str]] = None) -> str:
     r"""The same as S-records with addresses of `width` bytes, 2 or 4.
 
     >>> write_srec(b"\xeb\x02", load=0x8000, width=2)
     'S1058000EB028D\nS9030000FC\n'
     """
-    return _written(lib.dk_write_srec, image, blocks, number("load", load, 0, MOST), number("width", width, 0, 255))
+    return _written(lib.dk_write_srec, image, blocks, number("load", load, 0, MOST), number("width", width, 0, 255), called=called)
 
 
 class Records:
@@ -168,7 +173,7 @@ class Records:
         load = runs[0].first if runs else 0
         length = sum(runs[-1]) - load if runs else 0
         if length > number("room", room, 0, 1 << 33):
-            raise Refused(14, 0, words=say("RECORDS_ROOM"))
+            raise Refused(14, 0, words=say("RECORDS_ROOM", (0, room, load)))
         held = bytearray(length)
         for run in runs:
             held[run.first - load:sum(run) - load] = given_by.gets(run.first, run.length)
@@ -225,7 +230,7 @@ def _read(is_srec: int, lent: Tuple[Any, int], start: int, most: int, scratch: T
             break
         size = min(8 * size, most)
     if answer.refusal:
-        raise Refused(answer.refusal, answer.place, words=say("RECORDS_ROOM"))
+        raise Refused(answer.refusal, answer.place, words=say("RECORDS_ROOM", (0, most, start)))
     runs = [Run(start + offset // 8, bits // 8) for offset, bits in zip(offsets[0][:answer.count], sizes[0][:answer.count])]
     del held[sum(runs[-1]) - start if runs else 0:]
     return Records(start if runs or not is_lowest else 0, memoryview(held).toreadonly(), runs)

@@ -8,7 +8,7 @@ from typing import Any, Iterator, List, NamedTuple, Optional, Sequence, Tuple, U
 
 from ._c import HAS_VERIFY, U8, U64, lend, lib, number, room
 from ._layout import Built, Layout
-from ._records import Records, Run, _not_written, block_lists, records_of
+from ._records import Records, Run, block_lists, not_written, records_of
 from ._types import Block, Kind, Refused
 
 MISSING, DIFFERENT = 1, 2
@@ -219,5 +219,5 @@ def _asked(built: Built, whole: bool) -> List[Block]:
     if whole:
         return [Block(0, 8 * built.image.nbytes)] if built.image.nbytes else []
     if any(block.offset % 8 or block.bits % 8 for block in built.blocks):
-        raise Refused(16, 0, words=_not_written(16, list(built.blocks), built.image.nbytes, ()))
+        raise Refused(16, 0, words=not_written(16, list(built.blocks), built.image.nbytes, (), built._called))
     return built.blocks

@@ -39,7 +39,7 @@ def both(value: int) -> str:
 
 
 def say(cause: str, numbers: Tuple[int, ...] = (), **texts: str) -> str:
-    """A row's words with its places filled, and its remedy behind them; options of the command are those of Python here."""
+    """A row's words with its places filled, what `behind` says, and its remedy; options of the command are those of Python here."""
 
     def blank(found: "re.Match[str]") -> str:
         what, _, shape = found.group(1).partition(":")
@@ -49,7 +49,7 @@ def say(cause: str, numbers: Tuple[int, ...] = (), **texts: str) -> str:
         return str(value) if not shape else f"{value:0{shape[0]}X}" if shape.endswith("X") else several(value, shape)
 
     row = TABLE[cause]
-    words = re.sub(r"\{([a-z0-9]+(?::\w+)?)\}", blank, row.words) + (f". {row.remedy}" if row.remedy else "")
+    words = re.sub(r"\{([a-z0-9]+(?::\w+)?)\}", blank, row.words) + texts.get("behind", "") + (f". {row.remedy}" if row.remedy else "")
     return re.sub(r"--(load|width) ", r"\1=", words).replace("--whole", "whole=True").replace("--help has the limits", "Give a larger room")
 
 
@@ -314,5 +314,7 @@ def reason_words(reason: Any, text: bytes, is_srec: bool) -> str:
     if reason.reason == 6:
         kind = f"S{chr(first) if 32 <= first < 127 else '?'}" if is_srec else f"{first:02X}"
         note = kind + (" (there are S0, S1 with S9, and S3 with S7)" if is_srec else " (there are 00, 01 and 04)")
-    words = "a blank line" if reason.reason == 1 and not shown else say(f"REASON_{reason.reason}", (first, reason.second, 0), note=note)
-    return f"line {reason.line + 1}: {words}" + (f': "{shown}"' if shown and reason.reason < 13 else "")
+    behind = f': "{shown}"' if shown and reason.reason < 13 else ""
+    cause = "RECORDS_MARK" if text[:3] == b"\xef\xbb\xbf" and "RECORDS_MARK" in TABLE else f"REASON_{reason.reason}"
+    words = "a blank line" if cause == "REASON_1" and not shown else say(cause, (first, reason.second, 0), note=note, behind=behind)
+    return f"line {reason.line + 1}: {words}"

@@ -134,7 +134,7 @@ class Read(unittest.TestCase):
                     self.assertEqual(status, 1 if refused else 0)
                     if refused:
                         self.assertIn(refused.words.split(". ")[0], words)
-                        self.assertIn("It is block ", refused.words)
+                        self.assertRegex(refused.words, r"block \d+ \(output bits ")
                     else:
                         self.assertEqual(text(0x8000, bool(whole)), said)
 

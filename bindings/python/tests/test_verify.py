@@ -110,7 +110,7 @@ class Verify(unittest.TestCase):
         layout = Layout.from_file(ROOT / "examples" / "worked.form")
         refused = refusal(verify, layout, ":00000001FF\n")
         self.assertEqual((refused.number, refused.place), (16, 0))
-        self.assertIn("It is block 0: 10 bits from bit 0 on", refused.words)
+        self.assertIn("block 0 (output bits 0..9, from node 2 on)", refused.words)
         whole = layout.build().to_hex(0x8000, True)
         self.assertTrue(verify(layout, whole, 0x8000, True).same)
         self.assertEqual(verify(layout, ":00000001FF\n", 0x8000, True).runs, [(0x8000, 5, "missing")])
