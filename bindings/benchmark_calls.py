@@ -55,7 +55,8 @@ ROWS = (
     + [Row("dk_overlay_range", "64 bytes, 256 blocks"),
        Row("dk_overlay_runs:last", "1 MiB covered, the last byte differs", "", "memcmp of 1 MiB", "memcmp"),
        Row("dk_overlay_runs:every", "1 MiB covered, each 4,096th byte differs", "", "memcmp of 1 MiB", "memcmp"),
-       Row("dk_overlay_runs:sixteenth", "64 KiB of 1 MiB covered, none differs", "", "memcmp of 1 MiB", "memcmp")]
+       Row("dk_overlay_runs:sixteenth", "64 KiB of 1 MiB covered, none differs", "", "memcmp of 1 MiB", "memcmp"),
+       Row("dk_verify", "1 MiB in 256 blocks, the last byte differs", "", "memcmp of 1 MiB", "memcmp")]
     + [Row(call, given, "", tool, "", tool) for call, given, tools in (
         ("dk_write_hex", "64 KiB", ("objcopy", "srec_cat")), ("dk_write_srec", "64 KiB", ("objcopy", "srec_cat")),
         ("dk_read_records:hex", "64 KiB, Intel HEX", ("objcopy", "srec_cat")), ("dk_read_records:srec", "64 KiB, S-records", ("objcopy", "srec_cat")))

@@ -171,6 +171,7 @@ static void offer(void)
 /* On the bench: 1 MiB, 256 blocks of 4 KiB, or of a sixteenth of it, and bytes that differ: the last, or every 4,096th. */
 static uint8_t trial[BENCH], issued[BENCH], copy[BENCH];
 static uint64_t firsts[BENCH], counts[BENCH];
+static uint8_t unlike[BENCH];
 
 static void make_overlay(const char *order)
 {
@@ -188,6 +189,13 @@ static void make_overlay(const char *order)
 static void runs(void)
 {
     counted(dk_overlay_runs(trial, BENCH, issued, BENCH, block_offsets, RUNS, block_sizes, RUNS, firsts, BENCH, counts, BENCH));
+}
+
+/* The image held against what was read back, in the same blocks. */
+static void verify(void)
+{
+    counted(dk_verify(issued, BENCH, block_offsets, RUNS, block_sizes, RUNS, trial, BENCH, block_offsets, RUNS, block_sizes, RUNS, firsts, BENCH, counts, BENCH,
+                      unlike, BENCH));
 }
 
 static void range(void)
@@ -398,7 +406,7 @@ static const struct { const char *name, *order; void (*make)(const char *); void
     {"dk_offer", "rising", make_offers, offer, NULL}, {"dk_offer", "falling", make_offers, offer, NULL},
     {"dk_offer", "shuffled", make_offers, offer, NULL}, {"dk_overlay_range", "last", make_overlay, range, once_blocks_of_overlay},
     {"dk_overlay_runs", "last", make_overlay, runs, once_runs}, {"dk_overlay_runs", "every", make_overlay, runs, once_runs},
-    {"dk_overlay_runs", "sixteenth", make_overlay, runs, once_runs},
+    {"dk_overlay_runs", "sixteenth", make_overlay, runs, once_runs}, {"dk_verify", "last", make_overlay, verify, once_runs},
     {"dk_write_hex", "hex", make_text, write_hex, once_write}, {"dk_write_srec", "srec", make_text, write_srec, once_write},
     {"dk_read_records", "hex", make_text, read_hex, once_read}, {"dk_read_records", "srec", make_text, read_srec, once_read},
     {"dk_record_fault", "hex", make_text, fault_hex, once_fault}, {"dk_record_fault", "srec", make_text, fault_srec, once_fault},

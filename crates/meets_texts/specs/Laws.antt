@@ -1,4 +1,3 @@
 pub mod AnyRoom
 pub mod Bytes
-pub mod Lines
 pub mod Shown

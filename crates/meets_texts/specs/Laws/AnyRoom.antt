@@ -6,7 +6,7 @@ use Prim.Native.Nat.{ℕ, _+_, _*_, _/_, _≤_, _<_}
 use native.Mathlib.Omega.{arith}
 use borrow.Author.Tests.{leb-true}
 use lib.Dec.{leb}
-use lib.ListN.{length, getD, take, drop, length-take, length-drop}
+use lib.ListN.{replicate, length, getD, take, drop, length-take, length-drop, length-replicate}
 use lib.Seq.{ext-getD, getD-take, getD-drop}
 use Rattle.refusal.specs.Laws.Bools.{either}
 use Rattle.refusal.specs.Laws.Pick.{pick-false}
@@ -102,3 +102,7 @@ module _ (kind format load : ℕ) (source a b : List ℕ) (first : length a ≡ 
 
   pub any-room : turned format load a (readText kind load source) ≡ turned format load b (readText kind load source)
   any-room = by-read (readText kind load source) refl
+
+-- a room of some length
+pub some-list : (n : ℕ) → (l : List ℕ) × (length l ≡ n)
+some-list n = (replicate n 0, length-replicate n 0)

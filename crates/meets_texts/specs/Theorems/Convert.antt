@@ -39,7 +39,8 @@ use Rattle.says.specs.Convert.{Outcome, other, ConvertSays}
 use Rattle.says.specs.Lines.{Line}
 use Rattle.says.specs.Texts as says
 use Rattle.says.specs.Texts.{Prints, From, ConvertText}
-use Rattle.meets_texts.specs.Laws.Lines.{line-one, line-meets, some-list}
+use Rattle.meets_report.specs.Laws.Lines.{line-one, line-meets}
+use Rattle.meets_texts.specs.Laws.AnyRoom.{some-list}
 use Rattle.meets_texts.specs.Printed.{printed, form1Text, form2Text, convertText}
 
 module _ (f : Form) (file : List ℕ) where

@@ -22,7 +22,7 @@ use Rattle.says.specs.Lines.{Line}
 use Rattle.says.specs.Texts.{ReasonText, too-long, told}
 use Rattle.meets_reason.specs.Theorems.Meets.{reason-meets}
 use Rattle.meets_reason.specs.Theorems.Decides.{dk-reason-decides}
-use Rattle.meets_texts.specs.Laws.Lines.{line-one, line-meets}
+use Rattle.meets_report.specs.Laws.Lines.{line-one, line-meets}
 use Rattle.meets_texts.specs.Printed.{whyNumbers, whyText, reasonText}
 
 module _ (format load : ℕ) (source : List ℕ) where

@@ -62,7 +62,7 @@ use Rattle.says.specs.Texts as says
 use Rattle.says.specs.Texts.{Refused, Prints, ReadAs, WriteSays, taken, Fault, Turns, Lends, RehexText}
 use Rattle.meets_texts.specs.Laws.AnyRoom.{any-room}
 use Rattle.meets_texts.specs.Laws.Bytes.{filled-bytes}
-use Rattle.meets_texts.specs.Laws.Lines.{line-one, line-meets}
+use Rattle.meets_report.specs.Laws.Lines.{line-one, line-meets}
 use Rattle.meets_texts.specs.Theorems.Convert.{prints-one}
 
 -- ---- the call that writes, in a room in which every file fits
