@@ -8,7 +8,7 @@ from typing import Any, Iterator, List, NamedTuple, Optional, Sequence, Tuple, U
 
 from ._c import HAS_VERIFY, U8, U64, lend, lib, number, room
 from ._layout import Built, Layout
-from ._records import Records, Run, block_lists, not_written, records_of
+from ._records import Records, Run, block_lists, records_of
 from ._types import Block, Kind, Refused
 
 MISSING, DIFFERENT = 1, 2
@@ -127,16 +127,23 @@ def _bits(data: Any, offset: int, bits: int) -> int:
     return int.from_bytes(data[offset // 8:(behind + 7) // 8], "big") >> -behind % 8 & ((1 << bits) - 1)
 
 
-def _listed(layout: Layout, fill: str, load: int, image: memoryview, data: Any, runs: Sequence[Tuple[int, int, int]]) -> List[Difference]:
-    """The words that runs of bytes touch and whose bits are not given or differ."""
+def _within(segment: Segment, block: Block) -> Segment:
+    """What a block has of a segment: what lies beside it was not asked for."""
+    first, end = max(segment.offset, block.offset), min(segment.offset + segment.bits, sum(block))
+    return segment._replace(offset=first, bits=max(end - first, 0), position=segment.position + first - segment.offset)
+
+
+def _listed(layout: Layout, fill: str, load: int, image: memoryview, data: Any, blocks: Sequence[Block],
+            runs: Sequence[Tuple[int, int, int]]) -> List[Difference]:
+    """The words that runs of bytes touch and whose bits, as far as blocks ask for them, are not given or differ."""
     segments = _segments(layout, fill, 8 * image.nbytes) if runs else []
     starts, found, behind = [segment.offset for segment in segments], [], 0
     missing = [(8 * first, 8 * (first + count)) for first, count, kind in runs if kind == MISSING]
-    ends = [end for _, end in missing]
+    ends, asked = [end for _, end in missing], [block.offset for block in blocks]
     for first, count, _ in runs:
         low, high = max(8 * first, behind), 8 * (first + count)
         for segment in segments[max(bisect_right(starts, low) - 1, 0):bisect_right(starts, high)]:
-            for word in _words(layout, segment, load, low, high):
+            for word in _words(layout, _within(segment, blocks[bisect_right(asked, 8 * first) - 1]), load, low, high):
                 if word.offset + word.bits <= low:
                     continue
                 behind = word.offset + word.bits
@@ -191,9 +198,9 @@ def _window(dump: Records, load: int, length: int) -> Tuple[Any, List[Block]]:
 
 
 def verify(layout: Union[Layout, "os.PathLike[str]"], dump: Any, load: int = 0, whole: bool = False, fill: str = "inherited") -> Verified:
-    """Holds what was read back against a layout whose image begins at address `load`: what items write, or with `whole` every byte of the image. `dump`
-    is the text of Intel HEX or S-records, a pathlib.Path of such a file, `Records`, or an `IntelHex` object. What it gives outside the image is not
-    looked at.
+    """Holds what was read back against a layout whose image begins at address `load`: every byte that an item has a bit of, or with `whole` every byte of
+    the image. `dump` is the text of Intel HEX or S-records, a pathlib.Path of such a file, `Records`, or an `IntelHex` object. What it gives outside the
+    image is not looked at.
 
     >>> curves = Layout()
     >>> flash = curves.bank(unit=10, start=0x820, size=40, offset=0)
@@ -210,14 +217,20 @@ def verify(layout: Union[Layout, "os.PathLike[str]"], dump: Any, load: int = 0, 
     blocks = _asked(built, whole)
     data, given = _window(records_of(dump), start, built.image.nbytes)
     runs = _runs(built.image, blocks, data, given)
-    listed = _listed(made, fill, start, built.image, data, runs)
+    listed = _listed(made, fill, start, built.image, data, blocks, runs)
     return Verified([Differing(start + first, count, ("", "missing", "different")[kind]) for first, count, kind in runs], listed)
 
 
 def _asked(built: Built, whole: bool) -> List[Block]:
-    """The blocks that have to be there. Refused 16 where one is not on byte edges."""
+    """The bytes that have to be there, as blocks: all of them, or each that an item has a bit of. Blocks off byte edges, of 10-bit words say, are widened, and
+    joined where they meet then."""
     if whole:
         return [Block(0, 8 * built.image.nbytes)] if built.image.nbytes else []
-    if any(block.offset % 8 or block.bits % 8 for block in built.blocks):
-        raise Refused(16, 0, words=not_written(16, list(built.blocks), built.image.nbytes, (), built._called))
-    return built.blocks
+    out: List[Block] = []
+    for offset, bits in built.blocks:
+        first, end = offset // 8 * 8, (offset + bits + 7) // 8 * 8
+        if out and first <= sum(out[-1]):
+            out[-1] = Block(out[-1].offset, end - out[-1].offset)
+        else:
+            out.append(Block(first, end - first))
+    return out

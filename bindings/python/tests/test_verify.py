@@ -35,6 +35,24 @@ class Verify(unittest.TestCase):
             found += 1
         self.assertGreater(found, HOW_MANY // 5)
 
+    def test_blocks(self):
+        """Without `whole` a turned bit is told exactly where its byte has a bit of an item."""
+        rng, seen = draw("blocks"), set()
+        for _ in range(HOW_MANY):
+            layout, _ = some_layout(rng)
+            if refusal(layout.build) or not layout.build().length:
+                continue
+            built = layout.build()
+            at, wrong = rng.randrange(built.length), bytearray(built.image)
+            wrong[at >> 3] ^= 0x80 >> at % 8
+            asked = any(offset < at // 8 * 8 + 8 and at // 8 * 8 < offset + bits for offset, bits in built.blocks)
+            result = verify(layout, Records.from_bytes(wrong, 7), 7)
+            self.assertEqual((result.runs, len(result)), ([(7 + at // 8, 1, "different")], 1) if asked else ([], 0))
+            for bit in (bit for word in result for bit in range(word.offset, word.offset + word.bits)):
+                self.assertTrue(any(offset // 8 <= bit // 8 <= (offset + bits - 1) // 8 for offset, bits in built.blocks))
+            seen.add(asked)
+        self.assertEqual(seen, {True, False})
+
     def one_bit(self, rng, layout, built, fill, load):
         at, wrong = rng.randrange(built.length), bytearray(built.image)
         wrong[at >> 3] ^= 0x80 >> at % 8
@@ -108,9 +126,15 @@ class Verify(unittest.TestCase):
     def test_edges(self):
         """What is refused, what is not looked at, and that no answer is taken for yes or no by itself."""
         layout = Layout.from_file(ROOT / "examples" / "worked.form")
-        refused = refusal(verify, layout, ":00000001FF\n")
+        refused = refusal(layout.build().to_hex)
         self.assertEqual((refused.number, refused.place), (16, 0))
         self.assertIn("block 0 (output bits 0..9, from node 2 on)", refused.words)
+        self.assertEqual(verify(layout, ":00000001FF\n").runs, [(0, 4, "missing")])  # 10-bit words off byte edges: every byte that has a bit of one
+        wrong = bytearray(layout.build().image)
+        wrong[4] ^= 1
+        self.assertTrue(verify(layout, Records.from_bytes(wrong)).same)
+        wrong[3] ^= 4
+        self.assertEqual(str(verify(layout, Records.from_bytes(wrong))), "node 4, word 0x42: 0ab, should be 0aa")
         whole = layout.build().to_hex(0x8000, True)
         self.assertTrue(verify(layout, whole, 0x8000, True).same)
         self.assertEqual(verify(layout, ":00000001FF\n", 0x8000, True).runs, [(0x8000, 5, "missing")])
