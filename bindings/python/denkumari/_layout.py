@@ -43,7 +43,9 @@ def bits_of(value: Value, bits: Optional[int]) -> Tuple[int, int]:
         if bits is None:
             raise TypeError("bits is missing: a number alone does not say how many it takes")
         size = number("bits", bits, 0, MOST)
-        exact = number("value", value, 0, int(value) if value > 0 else 0)
+        exact = int.__pos__(value)
+        if exact < 0:
+            raise ValueError("value has to be 0 or more: give the bits of a number below zero as they stand, value & (1 << bits) - 1")
         if exact >> size:
             raise ValueError(f"value {exact:#x} does not fit in {size} bits" if exact < 1 << 200 else f"the value does not fit in {size} bits")
         return exact, size

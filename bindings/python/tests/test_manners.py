@@ -83,7 +83,7 @@ class Manners(unittest.TestCase):
                 (lambda: layout.bank(size=-1), ValueError, "a bank's size has to be 0 to 4294967295, and -1 is less"),
                 (lambda: layout.bank(unit="8"), TypeError, "a bank's unit has to be a whole number, not str"),
                 (lambda: layout.item(10, 0x400), ValueError, "value 0x400 does not fit in 10 bits"),
-                (lambda: layout.item(10, -1), ValueError, "value has to be 0 to 0, and -1 is less"),
+                (lambda: layout.item(10, -1), ValueError, "value has to be 0 or more"),
                 (lambda: layout.item(value=7), TypeError, "bits is missing"),
                 (lambda: layout.item(17, b"ab"), ValueError, "bits has to be 0 to 16, and 17 is more"),
                 (lambda: layout.label("a\tb"), ValueError, "has a tab, a line end or a control character"),
