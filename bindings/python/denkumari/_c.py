@@ -118,10 +118,8 @@ def beside_or(name: str, place: str) -> Path:
 
 
 lib = c.PyDLL(str(_library()))
-HAS_VERIFY = hasattr(lib, "dk_verify")  # a library of this header has it or has it not
 for _name, (_result, _parameters) in FUNCTIONS.items():
-    if _name != "dk_verify" or HAS_VERIFY:
-        getattr(lib, _name).restype, getattr(lib, _name).argtypes = _result, _parameters
+    getattr(lib, _name).restype, getattr(lib, _name).argtypes = _result, _parameters
 
 
 def number(what: str, value: Any, least: int, most: int) -> int:

@@ -2,11 +2,10 @@
 from __future__ import annotations
 
 import os
-import re
 from bisect import bisect_right
 from typing import Any, Iterator, List, NamedTuple, Optional, Sequence, Tuple, Union
 
-from ._c import HAS_VERIFY, U8, U64, lend, lib, number, room
+from ._c import U8, U64, lend, lib, number, room
 from ._layout import Built, Layout
 from ._records import Records, Run, block_lists, records_of
 from ._types import Block, Kind, Refused
@@ -155,23 +154,8 @@ def _listed(layout: Layout, fill: str, load: int, image: memoryview, data: Any, 
     return found
 
 
-def _runs_in_python(image: Any, blocks: Sequence[Block], data: Any, given: Sequence[Block]) -> List[Tuple[int, int, int]]:
-    """What dk_verify answers, for a library that does not have it: blocks on byte edges, ascending, inside their bytes."""
-    asked, kinds = bytearray(len(image)), bytearray(len(image))
-    for offset, bits in blocks:
-        asked[offset // 8:(offset + bits) // 8] = kinds[offset // 8:(offset + bits) // 8] = b"\1" * (bits // 8)
-    for offset, bits in given:
-        for at in range(offset // 8, min((offset + bits) // 8, len(image)), 4096):
-            end = min(at + 4096, (offset + bits) // 8, len(image))
-            kinds[at:end] = (bytes(end - at) if image[at:end] == data[at:end]
-                             else bytes(2 if want and a != b else 0 for want, a, b in zip(asked[at:end], image[at:end], data[at:end])))
-    return [(found.start(), found.end() - found.start(), kinds[found.start()]) for found in re.finditer(b"\1+|\2+", kinds)]
-
-
 def _runs(image: Any, blocks: Sequence[Block], data: Any, given: Sequence[Block]) -> List[Tuple[int, int, int]]:
     """First byte, count and kind of each longest run of bytes that are not given, or not the same."""
-    if not HAS_VERIFY:
-        return _runs_in_python(image, blocks, data, given)
     lent, most = [*lend("the image", image), *block_lists(blocks), *lend("the dump", data), *block_lists(given)], min(len(image), 4096)
     while True:
         firsts, counts, kinds = room(U64, most), room(U64, most), room(U8, most)

@@ -1,11 +1,12 @@
 """Read-back: every bit that is turned, and every byte that is not given, is found at its node, bank and address."""
 import io
+import re
 import tempfile
 import unittest
 from pathlib import Path
 
 from .common import EXAMPLES, HOW_MANY, ROOT, draw, refusal, some_layout
-from denkumari import Block, Layout, Records, _c, _verify, read_records, verify, write_hex
+from denkumari import Block, Layout, Records, _verify, read_records, verify, write_hex
 
 FILLS = ("inherited", "full")
 
@@ -18,6 +19,17 @@ def without(data, load, gone):
     """Intel HEX of some bytes but for those at these places."""
     blocks = [Block(8 * i, 8) for i in range(len(data)) if i not in gone]
     return write_hex(data, load, blocks)
+
+
+def runs(image, blocks, data, given):
+    """What dk_verify answers: blocks on byte edges, ascending, inside their bytes."""
+    asked, kinds = bytearray(len(image)), bytearray(len(image))
+    for offset, count in blocks:
+        asked[offset // 8:(offset + count) // 8] = kinds[offset // 8:(offset + count) // 8] = b"\1" * (count // 8)
+    for offset, count in given:
+        for at in range(offset // 8, min((offset + count) // 8, len(image))):
+            kinds[at] = 2 if asked[at] and image[at] != data[at] else 0
+    return [(found.start(), found.end() - found.start(), kinds[found.start()]) for found in re.finditer(b"\1+|\2+", kinds)]
 
 
 class Verify(unittest.TestCase):
@@ -181,12 +193,10 @@ class Verify(unittest.TestCase):
 
 class BesideC(unittest.TestCase):
     def test_runs(self):
-        """The library's own call, where it has one, beside the same written here."""
-        if not _c.HAS_VERIFY:
-            self.skipTest("dk_verify is not in portable/denkumari.c")
+        """The library's own call beside the same written here."""
         rng = draw("runs")
         for _ in range(HOW_MANY):
             image = bytes(rng.randrange(3) for _ in range(rng.randrange(40)))
             data = bytes(byte if rng.random() < .7 else 9 for byte in image)
             blocks, given = ([Block(8 * i, 8) for i in range(len(image)) if rng.random() < .8] for _ in range(2))
-            self.assertEqual(_verify._runs(image, blocks, data, given), _verify._runs_in_python(image, blocks, data, given))
+            self.assertEqual(_verify._runs(image, blocks, data, given), runs(image, blocks, data, given))
