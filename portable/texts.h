@@ -2,8 +2,8 @@
  * speak of; not to be edited. What follows this comment has the sum `text`, and what it was printed from has the sum
  * `sources` (sha256; tools/portable.sh says of what).
  *
- * sources: 605d8b137ffe800b4fb90cef7d13d8819fb418ef52b239c900e43c1f8f8e2fdc
- * text: 8299c523dc51a60ba62af61ced096498d59144d729fd8cc6ce478a80aa7c7438
+ * sources: 65057545e223d6489febd07c5dd3bdab3fe00f52477606c791d905663b64fedc
+ * text: 8d017b36da1c8ead2f83f717eb08c7da3293fbed52b16d8bb40dd1b92aaca322
  * kit: rattle-kit-5b-plain logic 097e4c862dff5811
  */
 #ifndef DENKUMARI_TEXTS_H
@@ -24,21 +24,11 @@ typedef struct {
     } u;
 } refusal__Opt;
 typedef struct { uint8_t *ptr; size_t len; } mut_u8;
-enum {
-    print_text__Written_To = 0,
-    print_text__Written_TooShort = 1
-};
-typedef struct {
-    uint8_t tag;
-    union {
-        struct { uint64_t f0; } To;
-    } u;
-} print_text__Written;
 typedef struct {
     uint8_t format;
     uint32_t load;
     bool whole;
-} prog_records__Wanted;
+} print_records__Wanted;
 typedef struct { uint64_t *ptr; size_t len; } mut_u64;
 typedef struct {
     uint64_t reason;
@@ -118,11 +108,11 @@ typedef struct {
     } u;
 } form_convert__Conversion;
 
-/* print_report::report:
- * What the program prints for a file's bytes, a fill's choice and a page size, if there is one, put at the front of
- * `out`. Lends room for the image and the spans.
+/* layout::put_file:
+ * The report of a file, put at the front of `text`: how many bytes it is. There is room, so that the text is never
+ * too short.
  */
-print_text__Written print_report__report(slice_u8 file, uint8_t fill, refusal__Opt page, mut_u8 out);
+uint64_t layout__put_file(slice_u8 file, uint8_t fill, refusal__Opt page, mut_u8 text);
 
 /* print_map::files::write_map:
  * The map's text of a file of either form, a fill's choice and a page size, if there is one, at the front of `out`,
@@ -130,12 +120,12 @@ print_text__Written print_report__report(slice_u8 file, uint8_t fill, refusal__O
  */
 uint64_t print_map__files__write_map(slice_u8 file, uint8_t fill, refusal__Opt page, uint8_t *out);
 
-/* prog_records::put_file: Puts the text of a file. Lends room for the image and the spans. */
-uint64_t prog_records__put_file(prog_records__Wanted wanted, slice_u8 file, uint8_t fill, refusal__Opt page,
+/* prog_records::put_file: The text of a file, put at the front of `out`: how many bytes it is. */
+uint64_t prog_records__put_file(print_records__Wanted wanted, slice_u8 file, uint8_t fill, refusal__Opt page,
         mut_u8 out);
 
-/* prog_rehex::put_file: The text of a file: its records, or why not. */
-uint64_t prog_rehex__put_file(uint8_t kind, uint8_t format, uint32_t load, slice_u8 source, mut_u8 bytes,
+/* print_rehex::put_file: The text of a file: its records, or why not. */
+uint64_t print_rehex__put_file(uint8_t kind, uint8_t format, uint32_t load, slice_u8 source, mut_u8 bytes,
         mut_u64 offsets, mut_u64 sizes, mut_u8 out);
 
 /* record_reason::reason_of:
