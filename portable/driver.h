@@ -6,7 +6,8 @@
 
 #include "../include/denkumari.h"
 
-/* The calls, and behind them what is counted beside them: the profile's rules, the images that a range comes from, the kinds of a run, reasons, places of 14, forms accepted. */
+/* The calls, and behind them what is counted beside them: the profile's rules, the images that a range comes from, the kinds of a run, reasons, places of 14,
+ * forms accepted. */
 enum call {
     BUILD, BUILD_PAGED, PROFILE, MAP, FORM, FORM_PAGED, TO_FORM2, TO_FORM1, BLOCKS, HEX, OFFER, PART, OVERLAY_RANGE, OVERLAY_RUNS, VERIFY, WRITE_HEX,
     WRITE_SREC, READ_RECORDS, RECORD_FAULT, RECORD_REASON, CALLS,
