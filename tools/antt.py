@@ -14,9 +14,24 @@ WORDS = set('data record deriving module where use mod pub package using open as
             'infixr elim let in do λ ∀ Type 𝕀 → : = | ↦ × _ ⌜ ⌝ ← ≡ ensures requires now rw rw⁻¹ simp search cc omega absurd tt'.split())
 
 
+REFUSED = 'docs/statements/refused.tsv'
+
+
 def read(path):
     with open(os.path.join(ROOT, path), encoding='utf-8') as f:
         return f.read()
+
+
+def edits():
+    """Every edit that must fail, as crate!label."""
+    found = glob.glob(os.path.join(ROOT, 'crates/*/must-fail/*.edit'))
+    return sorted(f'{os.path.basename(os.path.dirname(os.path.dirname(p)))}!{os.path.basename(p)[:-5]}' for p in found)
+
+
+def refused_at():
+    """edit: the file and the declaration that the check refused it at (tools/refused)."""
+    lines = (line.split('\t') for line in read(REFUSED).splitlines()) if os.path.exists(os.path.join(ROOT, REFUSED)) else ()
+    return {edit: (file, name) for edit, file, name in lines}
 
 
 def bare(line):

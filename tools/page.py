@@ -15,8 +15,7 @@ lines that are indented by four):
       not: answers that its contract rules out
       one: the theorem that its contract leaves one outcome; digits change with it and with the contract
     edit crate!label
-      changes: what it changes
-      refused: the fact at which the check refuses it
+      changes: what it changes. Where the check refuses it stands in refused.tsv, which tools/refused writes from the check's logs
     together crate
       change: what was changed in definition and code together, or why nothing was
       stopped: the theorem that no longer held, or what would stop such a change
@@ -30,7 +29,7 @@ import re
 import sys
 import textwrap
 import believed
-from antt import ROOT, functions_of, line_of, names_of, places, read, run
+from antt import REFUSED, ROOT, edits, functions_of, line_of, names_of, places, read, refused_at, run
 
 PAGE = 'docs/STATEMENTS.md'
 ROWS = 'docs/statements'
@@ -40,7 +39,7 @@ MOST_LINES = 1600
 KEYS = {
     'row': ['says', 'theorem', 'headline', 'where', 'only', 'definition', 'function', 'edit', 'note'],
     'function': ['not', 'one'],
-    'edit': ['changes', 'refused'],
+    'edit': ['changes'],
     'together': ['change', 'stopped'],
 }
 CITED = re.compile(r'`([a-z_0-9]+)(/|::|!)([^` ]+)`')
@@ -352,10 +351,20 @@ def write_block(kind, b, up):
         return write_row(b, up)
     if kind == 'function':
         return write_function(b, up)
-    first, second = ('changes', 'refused') if kind == 'edit' else ('change', 'stopped')
-    if not b[first] or not b[second]:
-        fault(f'{b.where}: {kind} {b.name} has not both of {first} and {second}')
-    return [f'| `{b.name}` | {cell(linked(b[first], b.where, up))} | {cell(linked(b[second], b.where, up))} |']
+    if kind == 'edit':
+        return [f'| `{b.name}` | {cell(linked(b["changes"], b.where, up))} | {cell(turned_away(b, up))} |']
+    if not b['change'] or not b['stopped']:
+        fault(f'{b.where}: {kind} {b.name} has not both of change and stopped')
+    return [f'| `{b.name}` | {cell(linked(b["change"], b.where, up))} | {cell(linked(b["stopped"], b.where, up))} |']
+
+
+def turned_away(b, up):
+    """Where the check refuses an edit: a link to the file, and the declaration in it."""
+    file, name = refused_at().get(b.name, ('', ''))
+    path = f'crates/{b.name.split("!")[0]}/{file}'
+    if not b['changes'] or not file or not os.path.exists(os.path.join(ROOT, path)):
+        fault(f'{b.where}: {b.name} has not both what it changes and, in {REFUSED}, a file that is there (tools/refused --write)')
+    return f'[{file}]({up}{path})' + (f', `{name}`' if name else '')
 
 
 def one_page(parts, up, seen):
@@ -396,6 +405,8 @@ def all_named(seen):
     for c in changed:
         if c not in crates:
             fault(f'together {c}: there is no such crate')
+    for edit in sorted(refused_at().keys() - set(edits())):
+        fault(f'{REFUSED}: there is no edit {edit}')
     named = {n for k, n in seen.blocks if k == 'row'}
     for pattern in ('antt', 'edit'):
         for path in sorted(glob.glob(os.path.join(ROOT, f'crates/**/*.{pattern}'), recursive=True)):
