@@ -1,23 +1,20 @@
 -- The entries of a row, written node by node.
-use mathlib.Core.Path.{_≡_, refl, sym, ap, subst, _∙_}
-use mathlib.Core.List.{List, _++_}
-use Prim.Native.Nat.{ℕ, suc, _+_, _≤_, _<_}
-use native.Mathlib.Numerals.{add-one}
+use mathlib.Core.Path.{_≡_, refl, sym, ap, _∙_}
+use mathlib.Core.List.{List}
+use Prim.Native.Nat.{ℕ, _+_, _≤_, _<_}
 use native.Mathlib.Omega.{arith}
-use lib.ListN.{length, set, drop, length-set}
-use Rattle.refusal.specs.declared.Offset.{Offset}
+use lib.ListN.{length, set, length-set}
 use Rattle.bitvec.specs.Lists.{listOf}
 use Rattle.bitvec.specs.Laws.Lists.{listOf-more}
 use Rattle.blocks.specs.Offsets.{wordOf}
-use Rattle.iter.specs.Step.{startOf}
 use Rattle.iter.specs.declared.Walk.{Walk}
 use Rattle.lists.specs.Lists.{Row}
 use Rattle.resolver.specs.Once.{Program, walkTo}
+use Rattle.resolver.specs.Walking.{Walks}
 use Rattle.resolver.specs.Padding.{sizeBy}
 use Rattle.build_sights.specs.declared.Visit.{Visit}
-use Rattle.build_sights.specs.Visits.{positionOf, visitOf, visitAt}
+use Rattle.build_sights.specs.Visits.{positionOf, visitAt}
 use Rattle.build_map.specs.Map.{bankShown, positionShown, outputShown, sizeShown, shown}
-use Rattle.build_map.proofs.TraceLaws.{next-walk, start-walk}
 
 -- a list with the first i entries in it
 pub record Filled (i : ℕ) (f : ℕ → ℕ) (old now : List ℕ) : Type 0 where
@@ -39,18 +36,18 @@ filled-next {i} {f} {old} {now} l b x e =
 pub record Writing (p : Program) (row : Row) (nodes i : ℕ) (walk : Walk)
     (banks₀ positions₀ outputs₀ sizes₀ banks positions outputs sizes : List ℕ) : Type 0 where
   pub within : i ≤ nodes
-  pub walks : walk ≡ walkTo p row i
+  pub walks : Walks p row i walk
   pub banked : Filled i (bankShown p row) banks₀ banks
   pub placed : Filled i (positionShown p row) positions₀ positions
   pub given : Filled i (outputShown p row) outputs₀ outputs
   pub sized : Filled i (sizeShown p row) sizes₀ sizes
 
-pub begins : (p : Program) (row : Row) (nodes : ℕ) {walk : Walk} → walk ≡ startOf → (banks positions outputs sizes : List ℕ)
+pub begins : (p : Program) (row : Row) (nodes : ℕ) {walk : Walk} → Walks p row 0 walk → (banks positions outputs sizes : List ℕ)
     → Writing p row nodes 0 walk banks positions outputs sizes banks positions outputs sizes
 begins p row nodes e banks positions outputs sizes =
     record {
       within = omega arith;
-      walks = e ∙ start-walk p row;
+      walks = e;
       banked = filled-none (bankShown p row) banks;
       placed = filled-none (positionShown p row) positions;
       given = filled-none (outputShown p row) outputs;
@@ -73,15 +70,14 @@ module _ {p : Program} {row : Row} {nodes i : ℕ} {walk : Walk} {banks₀ posit
   fourth-fits = omega (arith, g .sized .long, room .3)
 
   -- one node more
-  pub goes-on : {v : Visit} → v ≡ visitOf p row walk i → (position output size : ℕ) → position ≡ positionOf v → output ≡ wordOf (v .out) → size ≡ sizeBy
-      (v .node)
-      → Writing p row nodes (i + 1) (v .walk) banks₀ positions₀ outputs₀ sizes₀ (set banks i (v .bank)) (set positions i position)
+  pub goes-on : {v : Visit} → v ≡ visitAt p row i → {walk′ : Walk} → Walks p row (i + 1) walk′ → (position output size : ℕ) → position ≡ positionOf v
+      → output ≡ wordOf (v .out) → size ≡ sizeBy (v .node)
+      → Writing p row nodes (i + 1) walk′ banks₀ positions₀ outputs₀ sizes₀ (set banks i (v .bank)) (set positions i position)
       (set outputs i output) (set sizes i size)
-  goes-on {v} met position output size at out long =
-      let is : v ≡ visitAt p row i = met ∙ ap (λ (w : Walk). visitOf p row w i) (g .walks) in
+  goes-on {v} is walks position output size at out long =
       record {
         within = omega arith;
-        walks = ap (λ (w : Visit). w .walk) is ∙ next-walk p row i ∙ ap (walkTo p row) (sym (add-one i));
+        walks = walks;
         banked = filled-next (g .banked) (omega (arith, room .0)) (v .bank) (ap (λ (w : Visit). w .bank) is);
         placed = filled-next (g .placed) (omega (arith, room .1)) position (at ∙ ap positionOf is);
         given = filled-next (g .given) (omega (arith, room .2)) output (out ∙ ap (λ (w : Visit). wordOf (w .out)) is);
@@ -94,7 +90,7 @@ module _ {p : Program} {row : Row} {nodes i : ℕ} {walk : Walk} {banks₀ posit
   all = omega (arith, g .within)
 
   pub lost-at-end : walk .lost ≡ walkTo p row nodes .lost
-  lost-at-end = ap (λ (w : Walk). w .lost) (g .walks ∙ ap (walkTo p row) all)
+  lost-at-end = ap (λ (w : Walk). w .lost) (sym (g .walks .is) ∙ ap (walkTo p row) all)
 
   pub banks-at-end : banks ≡ shown nodes (bankShown p row) banks₀
   banks-at-end = g .banked .is ∙ ap (λ (k : ℕ). shown k (bankShown p row) banks₀) all

@@ -4,24 +4,25 @@ use mathlib.Core.Bool.{Bool}
 use mathlib.Core.List.{List}
 use Prim.Native.Nat.{ℕ, zero, suc, _+_, _-_, _*_, _≤_, _<_, min}
 use native.Mathlib.Omega.{arith}
-use lib.ListN.{length, getD, take, drop, replicate, length-set}
+use lib.ListN.{length, take, drop, replicate, length-set}
 use lib.Seq.{ext-getD}
 use Rattle.refusal.specs.Limits.{maxBanks, maxNodes}
 use Rattle.refusal.specs.Told.{toldVerdict}
-use Rattle.refusal.specs.declared.Refusal.{Refusal}
 use Rattle.bankdef.specs.declared.Bankdefs.{Bankdefs}
 use Rattle.bitvec.specs.Lists.{listOf}
 use Rattle.iter.specs.Step.{noLost, startOf, bankAfter}
 use Rattle.iter.specs.Laws.StepCases.{step-cases}
 use Rattle.iter.specs.declared.Lost.{Lost}
 use Rattle.iter.specs.declared.Stepped.{Stepped}
-use Rattle.resolver.specs.Layout.{layoutOf}
+use Rattle.resolver.specs.Layout.{layoutOf, Checked}
 use Rattle.lists.specs.Lists.{Lists, Row, Rows, rowWith}
 use Rattle.resolver.specs.Once.{Program, node, bankOf, walkTo, programWith}
 use Rattle.resolver.specs.Padding.{paddingTo, sumIn}
 use Rattle.resolver.specs.Laws.Padding.{Walks}
 use Rattle.resolver.specs.Theorems.Padding.{walk-carries-padding}
 use Rattle.resolver.specs.Passes.{program, rowOfPass}
+use Rattle.resolver.specs.Switches.{Switches}
+use Rattle.resolver.specs.Theorems.Switches.{accepted-switches}
 use Rattle.lists.specs.Laws.RowParts.{first-part, row-part}
 use Rattle.lists.specs.Sound.{SoundLists}
 use Rattle.lists.specs.Theorems.Sound.{accepted-lists}
@@ -31,8 +32,8 @@ use Rattle.resolver.specs.declared.Settled.{Settled}
 use Rattle.resolver.specs.declared.Settled.the-variants.{At, Refused as Unsettled}
 use Rattle.output.specs.Output.{Input, input, closedOf, visitsOf, passesOf, settledOf}
 use Rattle.build_plan.specs.Laws.Plan.{length-of-banks, getD-of-banks}
-use Rattle.build_plan.specs.Placing.{Placed, holds, stops, placedAll}
-use Rattle.build_map.specs.Map.{walkedAll, tracedBy, settledReach, reachOf, paddingsTo, mapBy, mapOf, placedTold, settledTold, Lent, lent}
+use Rattle.build_plan.specs.Placing.{Placed, holds, stops, placedAll, walkedAll}
+use Rattle.build_map.specs.Map.{tracedBy, settledReach, paddingsTo, mapBy, mapOf, placedTold, settledTold, Lent, lent}
 use Rattle.build_map.specs.Map.{bankShown, positionShown, outputShown, sizeShown, shown, leftBy, Maps}
 use Rattle.build_map.specs.Theorems.Reached.{Seen, ran-checked, none-run, shown-sees, off-listed}
 use Rattle.build_map.specs.Steps.{Few, rowReach, RowMapped, verdictOf, mapless}
@@ -146,10 +147,15 @@ module _ (banks : Bankdefs) (l : Lists) (m : Choices) (r : Resolution) (resolves
   -- ---- a pass was run
 
   module _ (some : r .passes ≡ 0 → ⊥) where
+    checked : Checked banks l (m .fill)
+    checked = ran-checked given (λ e. some (ap (λ (q : Resolution). q .passes) resolves ∙ e))
+
     sound : SoundLists (banks .len) l (m .fill)
-    sound =
-        accepted-lists (banks .len) l (m .fill)
-        (ran-checked given (λ e. some (ap (λ (q : Resolution). q .passes) resolves ∙ e)) .lists)
+    sound = accepted-lists (banks .len) l (m .fill) (checked .lists)
+
+    -- each bank switch names a bank of the table
+    pub ran-switches : Switches (banks .len) (l .kinds) (l .operands)
+    ran-switches = accepted-switches banks l (m .fill) refl (checked .table) refl (checked .lists)
 
     pub ran-rows : Rows (length (l .kinds)) (l .rows) (l .numbers) (l .states)
     ran-rows = sound .rows

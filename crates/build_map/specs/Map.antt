@@ -2,7 +2,7 @@
 -- "Then each pass in node order meets 5, 6 and 7, and 8 at its end. The build walks the nodes and tries 9, 10, 11, 12, 13 at each."
 use mathlib.Core.Path.{_≡_}
 use mathlib.Core.Bool.{Bool}
-use mathlib.Core.List.{List, [], _∷_, _++_}
+use mathlib.Core.List.{List, _++_}
 use Prim.Native.Nat.{ℕ, suc, _-_}
 use lib.Dec.{eqb}
 use lib.ListN.{length, drop}
@@ -16,7 +16,6 @@ use Rattle.refusal.specs.declared.Verdict.{Verdict}
 use Rattle.refusal.specs.declared.Verdict.the-variants.{Accepted, Refused}
 use Rattle.bitvec.specs.Lists.{listOf}
 use Rattle.blocks.specs.Offsets.{wordOf}
-use Rattle.overlap_checker.specs.State.{emptyState}
 use Rattle.iter.specs.declared.Lost.{Lost}
 use Rattle.lists.specs.Lists.{Row}
 use Rattle.resolver.specs.Once.{Program}
@@ -25,7 +24,7 @@ use Rattle.resolver.specs.Passes.{program, rowOfPass}
 use Rattle.resolver.specs.declared.Settled.{Settled}
 use Rattle.resolver.specs.declared.Settled.the-variants.{At, Refused as Unsettled}
 use Rattle.build_sights.specs.Visits.{positionOf, visitAt}
-use Rattle.build_plan.specs.Placing.{Placed, holds, stops, placedNext, placedAll}
+use Rattle.build_plan.specs.Placing.{Placed, holds, stops, placedAll, walkedAll}
 use Rattle.build_plan.specs.Plan.{ofBanks}
 use Rattle.output.specs.Output.{Input, closedOf, visitsOf, passesOf, settledOf}
 use Rattle.build_sights.specs.declared.Visit.{Visit}
@@ -42,15 +41,6 @@ wholeReach n = record { verdict = Accepted; nodes = n; fault = None }
 -- refused at the last of so many nodes
 abbrev pub stoppedReach : Verdict → ℕ → Reach
 stoppedReach verdict walked = record { verdict = verdict; nodes = walked; fault = AtNode (walked - 1) }
-
--- how many visits are met when they are placed one after another, the one that is refused among them
-unfoldable pub walkedFrom : Bool → Placed → List Visit → ℕ
-walkedFrom closed q [] = 0
-walkedFrom closed (stops why) (v ∷ l) = 0
-walkedFrom closed (holds stored) (v ∷ l) = suc (walkedFrom closed (placedNext closed v (holds stored)) l)
-
-abbrev pub walkedAll : Bool → List Visit → ℕ
-walkedAll closed vs = walkedFrom closed (holds emptyState) vs
 
 abbrev pub tracedBy : ℕ → Placed → Reach
 tracedBy walked (holds stored) = wholeReach walked

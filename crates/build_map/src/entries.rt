@@ -1,9 +1,13 @@
 // The entries of nodes: bank, position, place in the output and size, each in a lent list.
-use crate::visits::visit_node;
 use bankdef::Bankdefs;
 use iter::Lost;
-use iter::Moved;
+use iter::bank_after;
+use iter::get_output_position;
+use iter::lost_after;
+use iter::pace;
+use iter::start;
 use lists::Node;
+use lists::node_at;
 use refusal::INSTRUCTION;
 use refusal::RESERVE;
 ghost use mathlib.Core.Path.{_≡_};
@@ -12,19 +16,9 @@ ghost use lib.ListN.{length};
 ghost use Rattle.refusal.specs.Limits.{maxNodes};
 ghost use Rattle.resolver.specs.Once.{walkTo, programWith};
 ghost use Rattle.resolver.specs.Padding.{sizeBy};
+ghost use Rattle.resolver.specs.Switches.{Switches};
 ghost use Rattle.lists.specs.Lists.{rowWith};
-ghost use Rattle.build_sights.specs.Visits.{seenPos};
 ghost use Rattle.build_map.specs.Map.{shown, bankShown, positionShown, outputShown, sizeShown};
-
-// The position that a node sees, in bits. A node that stops the walk sees none, and has no entry.
-fn position_of(seen: Moved) -> u32
-    ensures { λ r. ⌜ r ≡ seenPos seen .position ⌝ }
-{
-    match seen {
-        Moved::To(at) => at.position,
-        Moved::Refused(_) => 0,
-    }
-}
 
 // The bits of an item or a reserve; any other node has none.
 fn size_of(node: Node) -> u32
@@ -40,7 +34,8 @@ fn size_of(node: Node) -> u32
     node.number
 }
 
-// The entries of the first `nodes` nodes of a row; the lists keep their old contents past them. Answers what the walk lost in each bank.
+// The entries of the first `nodes` nodes of a row, by the step that the build makes; the lists keep their old contents past them. Answers what the walk lost
+// in each bank.
 pub(crate) fn write_entries(
     banks: Bankdefs,
     kinds: &[u8],
@@ -54,7 +49,7 @@ pub(crate) fn write_entries(
     outputs: &mut [u64],
     sizes: &mut [u32],
 ) -> [Lost; 16]
-    requires { ⌜ nodes ≤ maxNodes ⌝ }
+    requires { ⌜ (nodes ≤ maxNodes) × Switches (banks .len) (now kinds) (now operands) ⌝ }
     requires { ⌜ (nodes ≤ length (now «banks_of»)) × (nodes ≤ length (now positions)) × (nodes ≤ length (now outputs)) × (nodes ≤ length (now sizes)) ⌝ }
     ensures { λ r. ⌜
         r ≡ walkTo (programWith banks (now (kinds .entry)) (now (operands .entry)) (now (first .entry)))
@@ -81,17 +76,26 @@ pub(crate) fn write_entries(
         (rowWith (now (numbers .entry)) (now (states .entry)))) (now (sizes .entry))
         ⌝ }
 {
-    let mut walk = iter::start();
+    let mut walk = start();
     for i in 0..nodes {
-        let v = visit_node(banks, kinds, operands, first, numbers, states, walk, i);
-        let node = v.node;
-        let seen = v.seen;
-        let out = v.out;
-        banks_of[i] = v.bank;
-        positions[i] = position_of(seen);
+        let node = node_at(kinds, operands, first, numbers, states, i);
+        let bank = bank_after(walk.bank, node);
+        let def = banks.defs[bank as usize];
+        let step = pace(def, walk.at[bank as usize], node);
+        let now = step.seen;
+        let out = get_output_position(def, now.position);
+        banks_of[i] = bank;
+        positions[i] = now.position;
         outputs[i] = blocks::word_of(out);
         sizes[i] = size_of(node);
-        walk = v.walk;
+        let after = step.after;
+        walk.at[bank as usize] = after;
+        walk.bank = bank;
+        if step.skipped.bits == 0 {
+            continue;
+        }
+        let lost = lost_after(walk.lost[bank as usize], step.skipped);
+        walk.lost[bank as usize] = lost;
     }
     walk.lost
 }

@@ -3,7 +3,6 @@
 mod entries;
 mod maps;
 mod tracing;
-mod visits;
 
 use iter::Lost;
 pub use maps::map_nodes;

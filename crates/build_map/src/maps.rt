@@ -15,6 +15,7 @@ ghost use mathlib.Core.Path.{_≡_};
 ghost use Prim.Native.Nat.{_≤_, _<_};
 ghost use lib.ListN.{length};
 ghost use Rattle.resolver.specs.Once.{programWith};
+ghost use Rattle.resolver.specs.Switches.{Switches};
 ghost use Rattle.refusal.specs.Limits.{maxNodes};
 ghost use Rattle.refusal.specs.Refusals.{numberOf};
 ghost use Rattle.lists.specs.Lists.{lists, rowWith};
@@ -71,7 +72,7 @@ fn reach_row(
     closed: bool,
     settled: Settled,
 ) -> Reach
-    requires { ⌜ length (now kinds) ≤ maxNodes ⌝ }
+    requires { ⌜ (length (now kinds) ≤ maxNodes) × Switches (banks .len) (now kinds) (now operands) ⌝ }
     requires { ⌜ Few settled ⌝ }
     ensures { λ r. ⌜
         r ≡ rowReach (programWith banks (now (kinds .entry)) (now (operands .entry)) (now (first .entry)))
@@ -100,7 +101,7 @@ fn map_row(
     outputs: &mut [u64],
     sizes: &mut [u32],
 ) -> Map
-    requires { ⌜ length (now kinds) ≤ maxNodes ⌝ }
+    requires { ⌜ (length (now kinds) ≤ maxNodes) × Switches (banks .len) (now kinds) (now operands) ⌝ }
     requires { ⌜ Few settled ⌝ }
     requires { ⌜
         (length (now «banks_of») ≡ maxNodes) × (length (now positions) ≡ maxNodes) × (length (now outputs) ≡ maxNodes)

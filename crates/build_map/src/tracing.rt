@@ -1,15 +1,16 @@
-// The walk that places node after node, as the build's first one does, and tells at which node it was refused.
+// How far the nodes of a row go: the build's own first walk tells it.
 use crate::Fault;
 use crate::Reach;
-use crate::visits::visit_node;
 use bankdef::Bankdefs;
-use build_plan::place;
+use build_plan::meet_row;
+use refusal::Refusal;
 use refusal::Verdict;
 ghost use mathlib.Core.Path.{_≡_};
-ghost use Prim.Native.Nat.{_+_, _≤_};
+ghost use Prim.Native.Nat.{_≤_};
 ghost use lib.ListN.{length};
 ghost use Rattle.refusal.specs.Limits.{maxNodes};
 ghost use Rattle.resolver.specs.Once.{programWith};
+ghost use Rattle.resolver.specs.Switches.{Switches};
 ghost use Rattle.lists.specs.Lists.{rowWith};
 ghost use Rattle.build_sights.specs.Visits.{visits};
 ghost use Rattle.build_map.specs.Map.{traced, wholeReach, stoppedReach};
@@ -24,15 +25,15 @@ fn whole(n: u64) -> Reach
     }
 }
 
-// A node that is refused has an entry too.
-fn stopped(verdict: Verdict, i: u64) -> Reach
-    requires { ⌜ i ≤ maxNodes ⌝ }
-    ensures { λ r. ⌜ r ≡ stoppedReach verdict (i + 1) ⌝ }
+// A node that is refused has an entry too: it is the last of those that are met.
+fn stopped(why: Refusal, met: u64) -> Reach
+    requires { ⌜ 1 ≤ met ⌝ }
+    ensures { λ r. ⌜ r ≡ stoppedReach (Verdict.Refused why) met ⌝ }
 {
     Reach {
-        verdict,
-        nodes: i + 1,
-        fault: Fault::At(i),
+        verdict: Verdict::Refused(why),
+        nodes: met,
+        fault: Fault::At(met - 1),
     }
 }
 
@@ -47,43 +48,16 @@ pub(crate) fn trace_row(
     closed: bool,
 ) -> Reach
     requires { ⌜ length (now kinds) ≤ maxNodes ⌝ }
+    requires { ⌜ Switches (banks .len) (now kinds) (now operands) ⌝ }
     ensures { λ r. ⌜
         r ≡ traced closed (visits (programWith banks (now (kinds .entry)) (now (operands .entry)) (now (first .entry)))
         (rowWith (now (numbers .entry)) (now (states .entry))))
         ⌝ }
 {
-    let mut positions = [0u64; 512];
-    let mut sizes = [0u64; 512];
-    let mut count: usize = 0;
-    let mut marks = [0u64; 512];
-    let mut mark_count: usize = 0;
-    let mut walk = iter::start();
-    for i in 0..kinds.len() {
-        let v = visit_node(banks, kinds, operands, first, numbers, states, walk, i);
-        let node = v.node;
-        let def = v.def;
-        let seen = v.seen;
-        let out = v.out;
-        let offered = place(
-            closed,
-            v.bank,
-            def,
-            node,
-            seen,
-            out,
-            &mut positions,
-            &mut sizes,
-            count,
-            &mut marks,
-            mark_count,
-        );
-        let verdict = offered.verdict;
-        if let Verdict::Refused(_) = verdict {
-            return stopped(verdict, i as u64);
-        }
-        count = offered.count;
-        mark_count = offered.marks;
-        walk = v.walk;
+    let met = meet_row(banks, kinds, operands, first, numbers, states, closed);
+    let verdict = met.verdict;
+    match verdict {
+        Verdict::Accepted => whole(met.nodes),
+        Verdict::Refused(why) => stopped(why, met.nodes),
     }
-    whole(kinds.len() as u64)
 }

@@ -25,15 +25,16 @@ use Rattle.overlap_checker.specs.Laws.Going.{state-none}
 use Rattle.overlap_checker.specs.Theorems.Going.{sound-none}
 use Rattle.overlap_checker.specs.declared.Offered.{Offered}
 use Rattle.build_sights.specs.declared.Visit.{Visit}
-use Rattle.build_sights.specs.Visits.{visitAt, visitsTo}
+use Rattle.build_sights.specs.Visits.{visitAt, visitsTo, visits}
 use Rattle.build_sights.specs.Laws.VisitLaws.{visits-none, visits-next, visits-split}
 use Rattle.build_sights.specs.Items.{itemOf, lengthOf}
 use Rattle.build_sights.specs.Spans.{isSpan, spanAt}
 use Rattle.build_sights.specs.Laws.Upto.{spansTo, lengthTo, spans-next, length-next, spans-none, items-none}
 use Rattle.build_plan.specs.declared.Plan.{Plan}
 use Rattle.build_plan.specs.declared.Sums.{Sums}
-use Rattle.build_plan.specs.Placing.{Placed, offerOf, verdictOn, holds, stops, placedIf, placedNext, placedFrom, placedAll}
+use Rattle.build_plan.specs.Placing.{Placed, offerOf, verdictOn, holds, stops, placedIf, placedNext, placedFrom, placedAll, walkedAll}
 use Rattle.build_plan.specs.Laws.PlacingLaws.{placed-append, placed-last, stops-stay}
+use Rattle.build_plan.specs.Laws.Walked.{stopped-at, all-walked}
 use Rattle.build_plan.specs.Steps.{Goes}
 use Rattle.build_plan.specs.Plan.{paddingsOf, maxEnd, planRefused, planAccepted, planBy, planOf}
 use Rattle.build_plan.proofs.Carried.{carried}
@@ -119,6 +120,14 @@ module _ {p : Program} {row : Row} {closed : Bool} {fill i : ℕ} {walk : Walk} 
         (stops-on p row closed (suc i) (length (p .kinds)) why b
         (placed-then ∙ ap (λ (x : Verdict). placedIf x (stateAfter (stateIn s) (offerOf v))) e)))
 
+    -- and is met
+    pub met-refused : (why : Refusal) → i < length (p .kinds) → r ≡ Refused why → i + 1 ≡ walkedAll closed (visits p row)
+    met-refused why b e =
+        let next : placedNext closed (visitAt p row i) (holds (stateIn s)) ≡ stops why =
+        ap (λ (w : Visit). placedNext closed w (holds (stateIn s))) (sym visited)
+        ∙ ap (λ (x : Verdict). placedIf x (stateAfter (stateIn s) (offerOf v))) (sym answer ∙ e) in
+        sym (stopped-at p row closed i (stateIn s) why b (g .placed) next .1)
+
     -- an accepted node hands on
     pub goes-on : i < length (p .kinds) → r ≡ Accepted → {walk′ : Walk} {s′ : Store} {sums′ : Sums} → Walks p row (i + 1) walk′
         → Goes s (offerOf v) r s′
@@ -163,6 +172,12 @@ module _ {p : Program} {row : Row} {closed : Bool} {fill i : ℕ} {walk : Walk} 
       ∙ ap (λ (k : ℕ). planAccepted (lengthTo p row fill n) k (walk .lost)) many
       ∙ ap (planAccepted (lengthTo p row fill n) (length (spansTo p row n))) paddings
       ∙ sym (ap (planBy (lengthTo p row fill n) (length (spansTo p row n)) (paddingsOf p row)) last)
+
+  -- and met
+  pub met-all : length (p .kinds) ≤ i → length (p .kinds) ≡ walkedAll closed (visits p row)
+  met-all b =
+      let all : i ≡ length (p .kinds) = omega (arith, g .within) in
+      sym (all-walked p row closed (stateIn s) (subst (λ (k : ℕ). placedTo p row closed k ≡ holds (stateIn s)) all (g .placed)))
 
   -- and the walk is the row's
   pub ended : length (p .kinds) ≤ i → walk ≡ walkTo p row (length (p .kinds))

@@ -1,2 +1,3 @@
 pub mod PlacingLaws
 pub mod Plan
+pub mod Walked

@@ -1,5 +1,5 @@
 -- What the build asks of each node in turn: refusals 9 to 13, and the intervals and marks stored (document 01, "Image, spans, blocks").
-use Prim.Native.Nat.{ℕ, _+_}
+use Prim.Native.Nat.{ℕ, suc, _+_}
 use mathlib.Core.Bool.{Bool, true, false, not, _&&_, _||_}
 use mathlib.Core.List.{List, [], _∷_}
 use lib.Dec.{eqb, ltb}
@@ -128,3 +128,12 @@ placedFrom closed q (v ∷ l) = placedFrom closed (placedNext closed v q) l
 
 abbrev pub placedAll : Bool → List Visit → Placed
 placedAll closed vs = placedFrom closed (holds emptyState) vs
+
+-- how many visits are met when they are placed one after another, the one that is refused among them
+unfoldable pub walkedFrom : Bool → Placed → List Visit → ℕ
+walkedFrom closed q [] = 0
+walkedFrom closed (stops why) (v ∷ l) = 0
+walkedFrom closed (holds stored) (v ∷ l) = suc (walkedFrom closed (placedNext closed v (holds stored)) l)
+
+abbrev pub walkedAll : Bool → List Visit → ℕ
+walkedAll closed vs = walkedFrom closed (holds emptyState) vs

@@ -41,7 +41,8 @@ ghost use Rattle.overlap_checker.specs.Lent.{lent as store, stateIn, Sound};
 ghost use Rattle.lists.specs.Lists.{rowWith};
 ghost use Rattle.build_sights.specs.Items.{itemAt, lengthOf};
 ghost use Rattle.build_sights.specs.Spans.{isSpan};
-ghost use Rattle.build_plan.specs.Placing.{isPlaced, offerAt, answered, verdictSeen};
+ghost use Rattle.build_sights.specs.Visits.{visits};
+ghost use Rattle.build_plan.specs.Placing.{isPlaced, offerAt, answered, verdictSeen, walkedAll};
 ghost use Rattle.build_plan.specs.Plan.{maxEnd, planRefused, planAccepted, planOf};
 ghost use Rattle.build_plan.specs.Steps.{Goes};
 
@@ -96,7 +97,7 @@ fn offer_node(
 }
 
 // The verdict on a node by the position that it sees: 5 where the walk stops there, then 9 to 13. And how many intervals and marks are stored then.
-pub fn place(
+fn place(
     closed: bool,
     bank: u64,
     def: Bankdef,
@@ -279,24 +280,30 @@ fn none_stored() -> Offered
     }
 }
 
-// The first walk over a row, and what it leaves, handed back by value.
+// The first walk over a row, how many nodes it met, one that is refused among them, and what it leaves, handed back by value.
 struct Planned {
     plan: Plan,
+    met: u64,
     walk: Walk,
 }
 
-fn stopped(why: Refusal, walk: Walk) -> Planned
+// A node is refused, behind so many.
+fn stopped(why: Refusal, before: usize, walk: Walk) -> Planned
+    requires { ⌜ before ≤ maxNodes ⌝ }
     ensures { λ r. ⌜ r .plan ≡ planRefused why ⌝ }
+    ensures { λ r. ⌜ r .met ≡ before + 1 ⌝ }
 {
     Planned {
         plan: refused_plan(why),
+        met: (before as u64) + 1,
         walk,
     }
 }
 
-// All nodes are placed.
-fn reached(sums: Sums, walk: Walk) -> Planned
+// All nodes are placed, so many.
+fn reached(sums: Sums, nodes: usize, walk: Walk) -> Planned
     ensures { λ r. ⌜ r .plan ≡ planAccepted (sums .length) (sums .spans) (walk .lost) ⌝ }
+    ensures { λ r. ⌜ r .met ≡ nodes ⌝ }
     ensures { λ r. ⌜ r .walk ≡ walk ⌝ }
 {
     let padding = walk.lost;
@@ -306,7 +313,11 @@ fn reached(sums: Sums, walk: Walk) -> Planned
         spans: sums.spans,
         padding,
     };
-    Planned { plan, walk }
+    Planned {
+        plan,
+        met: nodes as u64,
+        walk,
+    }
 }
 
 // The first walk over the row of the last pass. It decides everything and writes nothing that is lent. "bank positions, an array of 16 in the walk's state":
@@ -330,6 +341,10 @@ fn plan_walk(
         (rowWith (now (numbers .entry)) (now (states .entry))) closed fill
         ⌝ }
     ensures { λ r. ⌜ r .plan .length ≤ maxEnd ⌝ }
+    ensures { λ r. ⌜
+        r .met ≡ walkedAll closed (visits (programWith banks (now (kinds .entry)) (now (operands .entry)) (now (first .entry)))
+        (rowWith (now (numbers .entry)) (now (states .entry))))
+        ⌝ }
     ensures { λ r. ⌜ (r .plan .verdict ≡ Accepted
         → r .walk ≡ walkTo (programWith banks (now (kinds .entry)) (now (operands .entry)) (now (first .entry)))
         (rowWith (now (numbers .entry)) (now (states .entry))) (length (now (kinds .entry)))) ⌝ }
@@ -360,7 +375,7 @@ fn plan_walk(
         );
         let verdict = stored.verdict;
         if let Verdict::Refused(why) = verdict {
-            return stopped(why, walk);
+            return stopped(why, i, walk);
         }
         sums = sums_after(node, out, sums);
         let after = step.after;
@@ -372,7 +387,7 @@ fn plan_walk(
         let lost = lost_after(walk.lost[bank as usize], step.skipped);
         walk.lost[bank as usize] = lost;
     }
-    reached(sums, walk)
+    reached(sums, kinds.len(), walk)
 }
 
 // The plan of a row, whose walk begins at the start: "Each bank's position starts at 0, known .. The walk begins in bank 0."
@@ -406,4 +421,50 @@ pub fn plan_row(
         fill,
     );
     planned.plan
+}
+
+// What the first walk comes to alone: the verdict on all nodes, and how many it met, one that is refused among them.
+pub struct Met {
+    pub verdict: Verdict,
+    pub nodes: u64,
+}
+
+// How far the nodes of a row can be placed one after another, for the map. "The build walks the nodes and tries 9, 10, 11, 12, 13 at each."
+pub fn meet_row(
+    banks: Bankdefs,
+    kinds: &[u8],
+    operands: &[u32],
+    first: &[u32],
+    numbers: &[u32],
+    states: &[u8],
+    closed: bool,
+) -> Met
+    requires { ⌜ length (now kinds) ≤ maxNodes ⌝ }
+    requires { ⌜ Switches (banks .len) (now kinds) (now operands) ⌝ }
+    ensures { λ r. ⌜
+        r .verdict ≡ planOf (programWith banks (now (kinds .entry)) (now (operands .entry)) (now (first .entry)))
+        (rowWith (now (numbers .entry)) (now (states .entry))) closed 0 .verdict
+        ⌝ }
+    ensures { λ r. ⌜
+        r .nodes ≡ walkedAll closed (visits (programWith banks (now (kinds .entry)) (now (operands .entry)) (now (first .entry)))
+        (rowWith (now (numbers .entry)) (now (states .entry))))
+        ⌝ }
+{
+    let planned = plan_walk(
+        banks,
+        kinds,
+        operands,
+        first,
+        numbers,
+        states,
+        start(),
+        closed,
+        0,
+    );
+    let plan = planned.plan;
+    let verdict = plan.verdict;
+    Met {
+        verdict,
+        nodes: planned.met,
+    }
 }

@@ -1,5 +1,5 @@
 -- What a caller is told of a distance, an address and a move, in document 01's figures, and of what is skipped: a case for each sentence,
--- by plain facts. The promises of `bits_until_alignment`, `get_address`, `seen` and `advance` use them.
+-- by plain facts. The promises of `bits_until_alignment` and `get_address` use them.
 use Prim.Native.Nat.{ℕ, suc, _+_, _*_, _≤_, _<_}
 use mathlib.Core.Path.{_≡_}
 use mathlib.Core.Bool.{Bool, true, false}
@@ -19,7 +19,6 @@ use Rattle.iter.specs.declared.Address.the-variants.{At, Refused as NoAd
 use Rattle.iter.specs.declared.Distance.{Distance}
 use Rattle.iter.specs.declared.Distance.the-variants.{Skips, Refused as NoDistance}
 use Rattle.iter.specs.declared.Skipped.{Skipped}
-use Rattle.iter.specs.declared.Motion.{Motion}
 use Rattle.iter.specs.declared.Moved.{Moved}
 use Rattle.iter.specs.declared.Moved.the-variants.{To, Refused}
 use Rattle.lists.specs.declared.Node.{Node}
@@ -124,8 +123,3 @@ pub data SightSkips (def : Bankdef) (at : Pos) (node : Node) : Moved → Skipped
 pub data OwnSkips (def : Bankdef) (at : Pos) (node : Node) : Moved → Skipped → Type 0 where
   other : {m : Moved} → (node .kind ≡ 8 → ⊥) → OwnSkips def at node m noSkip
   aligns : {m : Moved} {s : Skipped} → node .kind ≡ 8 → Skipping def at (node .number) (node .index) m s → OwnSkips def at node m s
-
--- The figures of `advance_address`: of the position, and of what is skipped.
-pub record AdvanceTold (def : Bankdef) (at : Pos) (node : Node) (r : Motion) : Type 0 where
-  pub moves : Advances def at node (toldMoved (r .to))
-  pub skips : OwnSkips def at node (r .to) (r .skipped)

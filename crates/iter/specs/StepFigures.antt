@@ -1,5 +1,4 @@
--- What a caller is told of a step, in document 01's figures: what the node sees or why it is refused, what is skipped, and the walk then. The
--- promise of `step` uses it.
+-- What is told of a step, in document 01's figures: what the node sees or why it is refused, what is skipped, and the walk then.
 use Prim.Native.Nat.{ℕ, _≤_, _<_}
 use mathlib.Core.Path.{_≡_}
 use Rattle.refusal.specs.Limits.{maxBanks}

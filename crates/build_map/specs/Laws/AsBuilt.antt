@@ -13,10 +13,10 @@ use Rattle.resolver.specs.declared.Settled.{Settled}
 use Rattle.resolver.specs.declared.Settled.the-variants.{At, Refused as Unsettled}
 use Rattle.build_sights.specs.Items.{itemsOf, lengthOf}
 use Rattle.output.specs.Output.{Input, Room, closedOf, fillOf, visitsOf, placedBuild, settledBuild}
-use Rattle.build_plan.specs.Placing.{Placed, holds, stops, placedAll}
+use Rattle.build_plan.specs.Placing.{Placed, holds, stops, placedAll, walkedAll}
 use Rattle.build_sights.specs.Spans.{spansOf}
 use Rattle.output.specs.declared.Build.the-variants.{Done, Refused as TurnedAway}
-use Rattle.build_map.specs.Map.{walkedAll, tracedBy, settledReach}
+use Rattle.build_map.specs.Map.{tracedBy, settledReach}
 use Rattle.build_map.specs.AsBuilt.{Agree, accepted, refused, short}
 
 agree-placed : (room : Room) (k bits spans walked : ℕ) (q : Placed) → Agree (tracedBy walked q .verdict) (placedBuild room k bits spans q)

@@ -1,55 +1,24 @@
 -- How far visits go that are placed one after another: up to and with the first that is refused, or to the end.
-use mathlib.Core.Path.{_≡_, refl, sym, ap, ap₂, subst, _∙_}
+use mathlib.Core.Path.{_≡_, refl, sym, ap, ap₂, _∙_}
 use mathlib.Core.Bool.{Bool}
-use mathlib.Core.List.{List, [], _∷_, _++_, append-nil, append-assoc}
-use Prim.Native.Nat.{ℕ, zero, suc, _+_, _≤_, _<_}
+use mathlib.Core.List.{List}
+use Prim.Native.Nat.{ℕ, _+_, _≤_, _<_}
 use native.Mathlib.Omega.{arith}
-use lib.ListN.{length, length-append}
+use lib.ListN.{length}
+use Rattle.refusal.specs.Laws.Bools.{unlike}
 use Rattle.refusal.specs.declared.Refusal.{Refusal}
-use Rattle.refusal.specs.declared.Verdict.the-variants.{Refused}
-use Rattle.overlap_checker.specs.State.{State, emptyState}
+use Rattle.refusal.specs.declared.Verdict.{Verdict}
+use Rattle.refusal.specs.declared.Verdict.the-variants.{Accepted, Refused}
+use Rattle.iter.specs.declared.Lost.{Lost}
 use Rattle.lists.specs.Lists.{Row}
 use Rattle.resolver.specs.Once.{Program}
+use Rattle.overlap_checker.specs.State.{State, emptyState}
 use Rattle.build_sights.specs.declared.Visit.{Visit}
 use Rattle.build_sights.specs.Visits.{visitAt, visitsTo, visits}
-use Rattle.build_sights.specs.Laws.VisitLaws.{visits-none, visits-next, visits-split}
-use Rattle.build_plan.specs.Placing.{Placed, holds, stops, placedNext, placedFrom, placedAll}
-use Rattle.build_plan.specs.Laws.PlacingLaws.{placed-append, stops-stay, before-holds}
-use Rattle.build_map.specs.Map.{wholeReach, stoppedReach, walkedFrom, walkedAll, tracedBy, traced}
-
--- nothing is met past a refusal
-walked-stops : (closed : Bool) (why : Refusal) (l : List Visit) → walkedFrom closed (stops why) l ≡ 0
-unfolding walkedFrom
-walked-stops closed why [] = refl
-walked-stops closed why (v ∷ l) = refl
-
-walked-first : (closed : Bool) (s : State) (v : Visit) (l : List Visit)
-    → walkedFrom closed (holds s) (v ∷ l) ≡ suc (walkedFrom closed (placedNext closed v (holds s)) l)
-unfolding walkedFrom
-walked-first closed s v l = refl
-
-walked-none : (closed : Bool) (q : Placed) → walkedFrom closed q [] ≡ 0
-unfolding walkedFrom
-walked-none closed q = refl
-
--- visits that were all accepted are all met, and those behind them after them
-walked-append : (closed : Bool) (s t : State) (k l : List Visit) → placedFrom closed (holds s) k ≡ holds t
-    → walkedFrom closed (holds s) (k ++ l) ≡ length k + walkedFrom closed (holds t) l
-unfolding placedFrom
-walked-append closed s t [] l e = ap (λ (q : Placed). walkedFrom closed q l) e ∙ omega arith
-walked-append closed s t (v ∷ k) l e =
-    let (u, is) = before-holds closed (placedNext closed v (holds s)) t k e in
-    let on = walked-append closed u t k l (subst (λ (q : Placed). placedFrom closed q k ≡ holds t) is e) in
-    walked-first closed s v (k ++ l)
-    ∙ ap (λ (q : Placed). suc (walkedFrom closed q (k ++ l))) is
-    ∙ omega (arith, on)
-
--- no more are met than there are
-walked-few : (closed : Bool) (q : Placed) (l : List Visit) → walkedFrom closed q l ≤ length l
-unfolding walkedFrom
-walked-few closed q [] = omega arith
-walked-few closed (stops why) (v ∷ l) = omega arith
-walked-few closed (holds s) (v ∷ l) = omega (arith, walked-few closed (placedNext closed v (holds s)) l)
+use Rattle.build_plan.specs.Laws.Walked.{walked-few, refused-walked, stopped-at, all-walked}
+use Rattle.build_plan.specs.Placing.{Placed, holds, stops, placedNext, placedAll, walkedAll}
+use Rattle.build_plan.specs.Plan.{planBy}
+use Rattle.build_map.specs.Map.{wholeReach, stoppedReach, tracedBy, traced}
 
 pub traced-nodes : (closed : Bool) (vs : List Visit) → traced closed vs .nodes ≡ walkedAll closed vs
 traced-nodes closed vs = either (placedAll closed vs)
@@ -61,56 +30,48 @@ traced-nodes closed vs = either (placedAll closed vs)
 pub traced-few : (closed : Bool) (vs : List Visit) → traced closed vs .nodes ≤ length vs
 traced-few closed vs = omega (arith, traced-nodes closed vs, walked-few closed (holds emptyState) vs)
 
-module _ (p : Program) (row : Row) where
-  pub visits-long : (n : ℕ) → length (visitsTo p row n) ≡ n
-  visits-long zero = ap length (visits-none p row)
-  visits-long (suc n) =
-      ap length (visits-next p row n) ∙ omega (arith, length-append (visitsTo p row n) (visitAt p row n ∷ []), visits-long n)
+module _ (p : Program) (row : Row) (closed : Bool) where
+  pub traced-stopped : (i : ℕ) (s : State) (why : Refusal) → i < length (p .kinds) → placedAll closed (visitsTo p row i) ≡ holds s
+      → placedNext closed (visitAt p row i) (holds s) ≡ stops why
+      → traced closed (visits p row) ≡ stoppedReach (Refused why) (i + 1)
+  traced-stopped i s why b held stop = let (whole, far) = stopped-at p row closed i s why b held stop in ap₂ tracedBy far whole
 
-  module _ (closed : Bool) where
-    -- the nodes up to and with one that is refused, all before it being accepted
-    visits-around : (i : ℕ) → i < length (p .kinds) → (rest : List Visit) × (visits p row ≡ visitsTo p row i ++ visitAt p row i ∷ rest)
-    visits-around i b =
-        let (rest, split) = visits-split p row (suc i) (length (p .kinds)) b in (
-          rest,
-          split
-              ∙ ap (λ (l : List Visit). l ++ rest) (visits-next p row i)
-              ∙ append-assoc (visitsTo p row i) (visitAt p row i ∷ []) rest,
-        )
+  -- all nodes, none of which is refused
+  pub traced-whole : (s : State) → placedAll closed (visits p row) ≡ holds s → traced closed (visits p row) ≡ wholeReach (length (p .kinds))
+  traced-whole s held = ap₂ tracedBy (all-walked p row closed s held) held
 
-    pub stopped-at : (i : ℕ) (s : State) (why : Refusal) → i < length (p .kinds) → placedAll closed (visitsTo p row i) ≡ holds s
-        → placedNext closed (visitAt p row i) (holds s) ≡ stops why
-        → (placedAll closed (visits p row) ≡ stops why) × (walkedAll closed (visits p row) ≡ i + 1)
-    unfolding placedFrom
-    stopped-at i s why b held stop =
-        let (rest, around) = visits-around i b in
-        let whole : placedAll closed (visits p row) ≡ stops why =
-        ap (placedAll closed) around
-        ∙ placed-append closed (holds emptyState) (visitsTo p row i) (visitAt p row i ∷ rest)
-        ∙ ap (λ (q : Placed). placedFrom closed q (visitAt p row i ∷ rest)) held
-        ∙ ap (λ (q : Placed). placedFrom closed q rest) stop
-        ∙ stops-stay closed why rest in
-        let far =
-        ap (walkedAll closed) around
-        ∙ walked-append closed emptyState s (visitsTo p row i) (visitAt p row i ∷ rest) held in
-        let one =
-        walked-first closed s (visitAt p row i) rest
-        ∙ ap (λ (q : Placed). suc (walkedFrom closed q rest)) stop
-        ∙ ap suc (walked-stops closed why rest) in
-        (whole, omega (arith, far, one, visits-long i))
+-- ---- by a plan's verdict, and how many visits are met
 
-    pub traced-stopped : (i : ℕ) (s : State) (why : Refusal) → i < length (p .kinds) → placedAll closed (visitsTo p row i) ≡ holds s
-        → placedNext closed (visitAt p row i) (holds s) ≡ stops why
-        → traced closed (visits p row) ≡ stoppedReach (Refused why) (i + 1)
-    traced-stopped i s why b held stop = let (whole, far) = stopped-at i s why b held stop in ap₂ tracedBy far whole
+module _ (closed : Bool) (vs : List Visit) (bits spans : ℕ) (sums : List Lost) (r : Verdict)
+    (is : r ≡ planBy bits spans sums (placedAll closed vs) .verdict) where
+  pub traced-accepted : r ≡ Accepted → wholeReach (walkedAll closed vs) ≡ traced closed vs
+  traced-accepted e = by (placedAll closed vs) is
+    where
+      by : (q : Placed) → r ≡ planBy bits spans sums q .verdict → wholeReach (walkedAll closed vs) ≡ tracedBy (walkedAll closed vs) q
+      by (holds s) h = refl
+      by (stops why) h = absurd (differ (sym h ∙ e))
+        where
+          differ : Refused why ≡ Accepted → ⊥
+          differ x = unlike cc
 
-    -- all nodes, none of which is refused
-    pub all-walked : (s : State) → placedAll closed (visits p row) ≡ holds s → walkedAll closed (visits p row) ≡ length (p .kinds)
-    all-walked s held =
-        let far =
-        ap (walkedAll closed) (sym (append-nil (visits p row)))
-        ∙ walked-append closed emptyState s (visits p row) [] held in
-        omega (arith, far, walked-none closed (holds s), visits-long (length (p .kinds)))
+  pub traced-refused : (why : Refusal) → r ≡ Refused why → stoppedReach (Refused why) (walkedAll closed vs) ≡ traced closed vs
+  traced-refused why e = by (placedAll closed vs) is
+    where
+      by : (q : Placed) → r ≡ planBy bits spans sums q .verdict
+          → stoppedReach (Refused why) (walkedAll closed vs) ≡ tracedBy (walkedAll closed vs) q
+      by (holds s) h = absurd (differ (sym h ∙ e))
+        where
+          differ : Accepted ≡ Refused why → ⊥
+          differ x = unlike cc
+      by (stops w) h = ap (λ (x : Verdict). stoppedReach x (walkedAll closed vs)) (sym e ∙ h)
 
-    pub traced-whole : (s : State) → placedAll closed (visits p row) ≡ holds s → traced closed (visits p row) ≡ wholeReach (length (p .kinds))
-    traced-whole s held = ap₂ tracedBy (all-walked s held) held
+  -- one that is refused is met
+  pub some-walked : (why : Refusal) → r ≡ Refused why → 1 ≤ walkedAll closed vs
+  some-walked why e = by (placedAll closed vs) refl is
+    where
+      by : (q : Placed) → placedAll closed vs ≡ q → r ≡ planBy bits spans sums q .verdict → 1 ≤ walkedAll closed vs
+      by (holds s) f h = absurd (differ (sym h ∙ e))
+        where
+          differ : Accepted ≡ Refused why → ⊥
+          differ x = unlike cc
+      by (stops w) f h = refused-walked closed vs w f

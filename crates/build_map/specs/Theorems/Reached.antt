@@ -31,7 +31,8 @@ use Rattle.resolver.specs.declared.Settled.the-variants.{At, Refused as Unsettl
 use Rattle.output.specs.Output.{Input, closedOf, visitsOf, passesOf, settledOf}
 use Rattle.build_map.specs.Map.{nodeOf, nodesMet, settledReach, traced, reachOf}
 use Rattle.build_map.specs.Steps.{verdictOf}
-use Rattle.build_map.specs.Laws.TracedLaws.{traced-few, visits-long}
+use Rattle.build_plan.specs.Laws.Walked.{visits-long}
+use Rattle.build_map.specs.Laws.TracedLaws.{traced-few}
 use Rattle.build_map.specs.declared.Fault.the-variants.{None}
 use Rattle.build_map.specs.Laws.Reached.{eight-place, one-place, ran, told-as}
 

@@ -14,7 +14,7 @@ use Rattle.overlap_checker.specs.Lent.{lent as store}
 use Rattle.build_sights.specs.Sights.{Comes}
 use Rattle.build_sights.specs.Theorems.Sights.{in-banks, paced-is-visit, paced-next, paced-still}
 use Rattle.build_plan.specs.declared.Plan.{Plan}
-use Rattle.build_plan.proofs.PlanLaws.{Going, begins, settles, goes-on, ends, ended}
+use Rattle.build_plan.proofs.PlanLaws.{Going, begins, settles, met-refused, goes-on, ends, met-all, ended}
 use Rattle.build_plan.proofs.plan_walk.Statement.{statement}
 use Rattle.build_plan.proofs.plan_walk.Tie as tie
 
@@ -103,15 +103,26 @@ place-paced-requires c κs =
     (head (o .before .before .before .before) .loop .inv .sound, o .get-output-position .ensures .1)
 
 -- a node that the walk stops at, or that is refused its place
+stopped-requires : tie.Need-stopped-requires Inv-loop μ-loop
+stopped-requires c κs =
+    let b = banked (c .before .before .before) in
+    omega (arith, b .before .before .loop-test .taken, few (head b))
+
 returns : tie.Need-returns Inv-loop μ-loop
 returns c =
     let o = c .before .before .before .before in
     let b = banked o in
-    let why = c .before .before .verdict .given in (
-      c .stopped .ensures
-          ∙ settles (head b .loop .inv) (paced-is-visit (comes b) _ _ (paced o .pace .ensures) (placing o .get-output-position .ensures .0))
-          (o .place-paced .ensures .0) (why .0 .0) (b .before .before .loop-test .taken) (why .1),
-      (rw (c .stopped .ensures) (omega arith), λ e. absurd (never-accepted (sym (ap (λ (x : Plan). x .verdict) (c .stopped .ensures)) ∙ e))),
+    let why = c .before .before .verdict .given in
+    let visited = paced-is-visit (comes b) _ _ (paced o .pace .ensures) (placing o .get-output-position .ensures .0) in
+    let told = c .stopped .ensures in (
+      told .0 ∙ settles (head b .loop .inv) visited (o .place-paced .ensures .0) (why .0 .0) (b .before .before .loop-test .taken) (why .1),
+      (
+        rw (told .0) (omega arith),
+        (
+          told .1 ∙ met-refused (head b .loop .inv) visited (o .place-paced .ensures .0) (why .0 .0) (b .before .before .loop-test .taken) (why .1),
+          λ e. absurd (never-accepted (sym (ap (λ (x : Plan). x .verdict) (told .0)) ∙ e)),
+        ),
+      ),
     )
 
 sums-after-requires : tie.Need-sums-after-requires Inv-loop μ-loop
@@ -145,7 +156,13 @@ returns-2 : tie.Need-returns-2 Inv-loop μ-loop
 returns-2 c =
     let h = c .before .before in (
       c .reached .ensures .0 ∙ ends (h .loop .inv) (c .before .loop-test .left) (few h),
-      (rw (c .reached .ensures .0) (h .loop .inv .low), λ e. c .reached .ensures .1 ∙ ended (h .loop .inv) (c .before .loop-test .left)),
+      (
+        rw (c .reached .ensures .0) (h .loop .inv .low),
+        (
+          c .reached .ensures .1 .0 ∙ met-all (h .loop .inv) (c .before .loop-test .left),
+          λ e. c .reached .ensures .1 .1 ∙ ended (h .loop .inv) (c .before .loop-test .left),
+        ),
+      ),
     )
 
 pub plan-walk-spec : {M : Type 1} → statement M
@@ -155,7 +172,7 @@ plan-walk-spec =
     Inv-loop μ-loop (λ c κs. search needs) (λ c κs. search needs) loop-holds (λ c κs. search needs) (λ c κs. search needs)
     (λ c. omega (arith, in-banks (comes c))) (λ c. omega (arith, in-banks (comes c)))
     (λ c. omega (arith, in-banks (comes (c .before)))) (λ c. omega (arith, in-banks (comes (c .before))))
-    (λ c κs. search needs) (λ c κs. search needs) place-paced-requires (λ c. search needs) (λ c κs. search needs) returns (λ c. search needs)
+    (λ c κs. search needs) (λ c κs. search needs) place-paced-requires (λ c. search needs) stopped-requires returns (λ c. search needs)
     sums-after-requires (λ c. omega (arith, in-banks (comes (banked (c .before .before .before .before)))))
     (λ c. omega (arith, in-banks (comes (banked (c .before .before .before .before)))))
     (λ c. let b = banked (offered (c .before)) in omega (arith, b .before .before .loop-test .taken, few (head b)))

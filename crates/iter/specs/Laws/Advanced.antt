@@ -2,16 +2,13 @@
 use Prim.Native.Nat.{ℕ}
 use mathlib.Core.Path.{_≡_}
 use mathlib.Core.Bool.{Bool, true, false}
-use borrow.Author.Tests.{eq-eqb, ne-eqb}
+use borrow.Author.Tests.{eq-eqb}
 use Rattle.refusal.specs.Laws.Bools.{either}
-use Rattle.refusal.specs.declared.Refusal.{Refusal}
 use Rattle.refusal.specs.declared.Opt.the-variants.{None, Some}
 use Rattle.bankdef.specs.declared.Bankdef.{Bankdef}
 use Rattle.iter.specs.Step.{alignedTo, outermostSymbol, seenOf, advancedOf, still, alignedMotion, seenSkips, seenMotion, advanceSkips}
 use Rattle.iter.specs.Step.{advanceMotion}
-use Rattle.iter.specs.Laws.ToldFacts.{none-skipped}
-use Rattle.iter.specs.declared.Moved.{Moved}
-use Rattle.iter.specs.declared.Moved.the-variants.{To, Refused}
+use Rattle.iter.specs.declared.Moved.the-variants.{To}
 use Rattle.iter.specs.declared.Pos.{Pos}
 use Rattle.lists.specs.declared.Node.{Node}
 
@@ -31,15 +28,6 @@ module _ (def : Bankdef) (at : Pos) (node : Node) where
       → alignedMotion def at a (at .known) (node .index) ≡ seenMotion def at node
   unfolding seenOf seenSkips
   sight-aligned a t e = rw (t, e)
-
-  -- an advance that is refused, one of a kind that does not align, and one that does
-  pub advance-stopped : (why : Refusal) → advancedOf def at node ≡ Refused why → still (Refused why) ≡ advanceMotion def at node
-  unfolding advanceSkips
-  advance-stopped why e = rw e
-
-  pub advance-still : {m : Moved} → advancedOf def at node ≡ m → (node .kind ≡ 8 → ⊥) → still m ≡ advanceMotion def at node
-  unfolding advanceSkips
-  advance-still e n = rw (ne-eqb (node .kind) 8 n, none-skipped (advancedOf def at node), e)
 
   pub advance-aligned : (known : Bool) → advancedOf def at node ≡ alignedTo def at (node .number) known (node .index) → node .kind ≡ 8
       → alignedMotion def at (node .number) known (node .index) ≡ advanceMotion def at node

@@ -1,5 +1,5 @@
 -- Theorems about what Crossing defines.
-use Prim.Native.Nat.{ℕ, _+_, _^_, _≤_, _<_}
+use Prim.Native.Nat.{ℕ, _+_, _^_, _<_}
 use mathlib.Core.Path.{_≡_, refl, sym, ap, _∙_}
 use mathlib.Core.List.{List}
 use native.Mathlib.Omega.{arith}
@@ -11,7 +11,6 @@ use Rattle.refusal.specs.Laws.Bools.{either}
 use Rattle.refusal.specs.Limits.{maxBanks}
 use Rattle.refusal.specs.Pick.{pick}
 use Rattle.refusal.specs.Laws.Pick.{pick-true, pick-false}
-use Rattle.refusal.specs.declared.Refusal.{Refusal}
 use Rattle.refusal.specs.declared.Refusal.the-variants.{Malformed}
 use Rattle.bankdef.specs.declared.Bankdef.{Bankdef}
 use Rattle.iter.specs.Padding.{Fits, the-bits, the-units}
@@ -55,19 +54,9 @@ module _ (def : Bankdef) (walk : Walk) (node : Node) {bank : ℕ} (b : bank ≡ 
       ≡ pick (leb maxBanks bank) (stopped walk (Malformed (node .index))) (putIn walk bank (crossingOf def (getD (walk .at) bank origin) node))
   in-bank = rw b (step-crosses def walk node)
 
-  pub no-bank : maxBanks ≤ bank → stepOf def walk node ≡ stopped walk (Malformed (node .index))
-  no-bank h = in-bank ∙ pick-true _ _ (le-leb maxBanks bank h)
-
   module _ (inside : bank < maxBanks) {c : Crossing} (e : c ≡ crossingOf def (getD (walk .at) bank origin) node) where
     crossing-in : stepOf def walk node ≡ putIn walk bank c
     crossing-in = in-bank ∙ pick-false _ _ (lt-leb maxBanks bank inside) ∙ ap (putIn walk bank) (sym e)
-
-    pub crossing-refused : {why : Refusal} → c .seen ≡ Refused why → stepOf def walk node ≡ stopped walk why
-    crossing-refused s = crossing-in ∙ ap (putBy walk bank c) s
-
-    pub crossing-made : {p : Pos} → c .seen ≡ To p
-        → stepOf def walk node ≡ record { seen = To p; skipped = c .skipped; walk = kept walk bank (c .after) (c .skipped) }
-    crossing-made s = crossing-in ∙ ap (putBy walk bank c) s
 
     -- What the node sees is what the crossing sees.
     pub crossing-sees : stepOf def walk node .seen ≡ c .seen

@@ -16,7 +16,6 @@ use Rattle.iter.specs.declared.Moved.{Moved}
 use Rattle.iter.specs.declared.Moved.the-variants.{To, Refused}
 use Rattle.lists.specs.declared.Node.{Node}
 use Rattle.iter.specs.declared.Pos.{Pos}
-use Rattle.iter.specs.declared.Stepped.{Stepped}
 use Rattle.iter.specs.declared.Walk.{Walk}
 use Rattle.iter.specs.StepFigures.{Counts, StepTold, badly, bankOf, blind, made, nowhere, own, sight, stuck}
 
@@ -69,6 +68,3 @@ module _ (def : Bankdef) (walk : Walk) (node : Node) where
   pub step-told : (StepTold def walk node) (stepOf def walk node)
   step-told =
       either (malformed (bankOf def walk node) node) malformed-told (λ e. from-sight e (seenOf def (standing walk node) node) refl)
-
-  pub step-answers : {r : Stepped} → r ≡ stepOf def walk node → (r ≡ stepOf def walk node) × (StepTold def walk node) r
-  step-answers e = (e, subst (StepTold def walk node) (sym e) step-told)

@@ -21,13 +21,12 @@ use Rattle.iter.specs.Theorems.Aligned.{distance-aligns}
 use Rattle.iter.specs.Distance.{tellable, addressInBits, distanceTo, skipsOf, distanceOf}
 use Rattle.iter.specs.Figures as told
 use Rattle.iter.specs.Figures.{toldDistance, toldAddress, toldMoved, WholeUnits, Measures, Stands, OuterSymbol, Sees, Keeps}
-use Rattle.iter.specs.Figures.{SoundState, Advances, SightSkips, OwnSkips, AdvanceTold}
+use Rattle.iter.specs.Figures.{SoundState, Advances, SightSkips, OwnSkips}
 use Rattle.iter.specs.Known.{staysKnown}
 use Rattle.iter.specs.Step.{outermostSymbol, labelAligned, seenOf, resolved, badState, movedOn, advancedOf}
-use Rattle.iter.specs.Step.{whenMade, labelSkips, seenSkips, advanceSkips, advanceMotion}
+use Rattle.iter.specs.Step.{whenMade, labelSkips, seenSkips, advanceSkips}
 use Rattle.iter.specs.declared.Distance.{Distance}
 use Rattle.iter.specs.declared.Distance.the-variants.{Skips, Refused as NoDistance}
-use Rattle.iter.specs.declared.Motion.{Motion}
 use Rattle.iter.specs.declared.Address.{Address}
 use Rattle.iter.specs.declared.Address.the-variants.{At, Refused as NoAddress}
 use Rattle.iter.specs.declared.Moved.{Moved}
@@ -191,6 +190,3 @@ module _ (def : Bankdef) (at : Pos) (node : Node) where
       either (eqb (node .kind) 8)
       (λ e. rw e (told.aligns (eqb-true (node .kind) 8 e) (skipping-told def at (node .number) (node .index) (advancedOf def at node))))
       (λ e. rw (e, none-skipped (advancedOf def at node)) (told.other (eqb-false (node .kind) 8 e)))
-
-  pub advance-answers : {r : Motion} → r ≡ advanceMotion def at node → (r ≡ advanceMotion def at node) × AdvanceTold def at node r
-  advance-answers e = (e, subst (λ (r : Motion). AdvanceTold def at node r) (sym e) (record { moves = advance-told; skips = own-skips }))

@@ -43,21 +43,19 @@ use denote.Exit.{yes}
 use Rattle.bankdef.specs.declared.Bankdef.{Bankdef}
 use Rattle.bankdef.proofs.Bankdef as B
 use Rattle.bankdef.proofs.Bankdef.Laws as B′
-use Rattle.iter.specs.Step.{advanceMotion}
+use Rattle.iter.specs.declared.Paced.{Paced}
+use Rattle.iter.proofs.Paced as An
+use Rattle.iter.proofs.Paced.Laws as An′
 use Rattle.iter.specs.declared.Pos.{Pos}
 use Rattle.iter.proofs.Pos as P
 use Rattle.iter.proofs.Pos.Laws as P′
 use Rattle.lists.specs.declared.Node.{Node}
 use Rattle.lists.proofs.Node as N
 use Rattle.lists.proofs.Node.Laws as N′
-use Rattle.iter_lent.specs.Lent.{lentOf}
-use Rattle.iter_lent.specs.Theorems.Lent.{lent-told}
+use Rattle.iter_lent.specs.Lent.{leftBy}
 use Rattle.iter_lent.specs.declared.Left.{Left}
 use Rattle.iter_lent.proofs.Left as L
 use Rattle.iter_lent.proofs.Left.Laws as L′
-use Rattle.iter_lent.specs.declared.Lent.{Lent}
-use Rattle.iter_lent.proofs.Lent as An
-use Rattle.iter_lent.proofs.Lent.Laws as An′
 use Rattle.iter_lent.proofs.advanced as callee
 use Rattle.iter_lent.proofs.advanced.Symbol as callee-def
 use Rattle.iter_lent.proofs.advanced.Symbol.{name as #iter-lent·advanced}
@@ -80,7 +78,7 @@ node-vals = S.vals N.the-type N′.the-laws
 abbrev left-vals : Left → List Val
 left-vals = S.vals L.the-type L′.the-laws
 
-abbrev answer-vals : Lent → List Val
+abbrev answer-vals : Paced → List Val
 answer-vals = S.vals An.the-type An′.the-laws
 
 abbrev stayed : Stays (f.ended .signature .params) (f.ended .kept)
@@ -97,7 +95,7 @@ is-at r s vs e is = subst (λ (x : Left). Is L.the-row x (left-vals s)) e (subst
 record-is : (s : Left) → Is L.the-row s (left-vals s) → Is P.the-row (s .at) (pos-vals (s .at))
 record-is s is = S.owed L.the-type L′.the-laws s (left-vals s) is .0
 
-answer-is : (s : Left) → Is L.the-row s (left-vals s) → Is An.the-row (s .answer) (answer-vals (s .answer))
+answer-is : (s : Left) → Is L.the-row s (left-vals s) → Is An.the-row (s .step) (answer-vals (s .step))
 answer-is s is = S.owed L.the-type L′.the-laws s (left-vals s) is .1 .0
 
 module _ {M : Type 1} (𝓤 : URA M) (H : Heap 𝓤) (A : Atoms 𝓤) (at-mem : Memory → SProp 𝓤) (run : Routine → Fun 𝓤) where
@@ -107,15 +105,15 @@ module _ {M : Type 1} (𝓤 : URA M) (H : Heap 𝓤) (A : Atoms 𝓤) (at-mem : 
 
   -- of what the callee ensures, the clause alone: it has no `&mut`
   answered : (d : Bankdef) (h : Pos) (n : Node) (r : Left) → ent 𝓤 (ensured 𝓤 H A callee.ended (callee.clauses 𝓤 H A at-mem run) tt (d, (h, (n, tt))) tt r)
-      (fact 𝓤 (r ≡ lentOf h (advanceMotion d h n)))
-  answered d h n r = exE 𝓤 _ (λ ws. snd∗ 𝓤 (sem 𝓤 H A (lasts callee.ended tt (d, (h, (n, tt))) ws)) (fact 𝓤 (r ≡ lentOf h (advanceMotion d h n))))
+      (fact 𝓤 (r ≡ leftBy d h n))
+  answered d h n r = exE 𝓤 _ (λ ws. snd∗ 𝓤 (sem 𝓤 H A (lasts callee.ended tt (d, (h, (n, tt))) ws)) (fact 𝓤 (r ≡ leftBy d h n)))
 
 module _ {M : Type 1} (𝓤 : URA M) (H : Heap 𝓤) (A : Atoms 𝓤) (W : Given 𝓤 H A) (at-mem : Memory → SProp 𝓤) (run : Routine → Fun 𝓤) (κ : Lft) (q : Share)
     (b o : ℕ) (γ : GName)
     (d : Bankdef) (h : Pos) (n : Node) (is-d : Is B.the-row d (bank-vals d)) (is-n : Is N.the-row n (node-vals n)) where
   -- what the advance leaves
   abbrev s : Left
-  s = lentOf h (advanceMotion d h n)
+  s = leftBy d h n
 
   abbrev x : Bankdef × (RefT Pos × (Node × Unit {0}))
   x = (d, (record { ptr = (b, o); name = γ; now = h }, (n, tt)))
@@ -127,15 +125,15 @@ module _ {M : Type 1} (𝓤 : URA M) (H : Heap 𝓤) (A : Atoms 𝓤) (W : Given
   Post = walkOf 𝓤 H A f.ended stayed (f.clauses 𝓤 H A at-mem run) .post (((κ, tt), (q, tt), tt, x, at), tt)
 
   exits : Is L.the-row s (left-vals s) → ent 𝓤 (sep 𝓤 (A .obs γ (P.the-row .coded .code (s .at))) (sep 𝓤 (A .bor κ (Body (mem P.the-row) b o γ))
-      (A .lft κ q))) (Post (only (answer-vals (s .answer))))
+      (A .lft κ q))) (Post (only (answer-vals (s .step))))
   exits is =
       qed W (‵ (fobs γ (P.the-row .coded .code (s .at))) ∷ ‵ (fbor κ (Body (mem P.the-row) b o γ)) ∷ ‵ (flft κ q) ∷ []) ∵
-      suffices ! _ (ends-at 𝓤 H A f.ended stayed (f.clauses 𝓤 H A at-mem run) W (((κ, tt), (q, tt), tt, x, at), tt) (only (answer-vals (s .answer)))
-      (s .answer) (tt, (s .at, (tt, tt))) (tt, (tt, (tt, tt)))) $ says ! (record { place = refl; verdict = refl; skipped = refl; told = lent-told d h n }) $
+      suffices ! _ (ends-at 𝓤 H A f.ended stayed (f.clauses 𝓤 H A at-mem run) W (((κ, tt), (q, tt), tt, x, at), tt) (only (answer-vals (s .step)))
+      (s .step) (tt, (s .at, (tt, tt))) (tt, (tt, (tt, tt)))) $ says ! (record { place = refl; step = refl }) $
       nothing ! $ move ! (3 ∷ 0 ∷ []) $ join ! $ frame ! $ feqI ! (List Val) (vptr b o ∷ []) (vptr b o ∷ []) refl $ fjoin3 ! $
       nothing ! $ owned ! N.the-row (Is N.the-row) (S.makes N.the-type N′.the-plain 𝓤 H A) n _ is-n $ fjoin ! $ move ! (1 ∷ 0 ∷ []) $ fjoin ! $
       owned ! B.the-row (Is B.the-row) (S.makes B.the-type B′.the-plain 𝓤 H A) d _ is-d $ fjoin ! $
-      owned ! An.the-row (Is An.the-row) (S.makes An.the-type An′.the-plain 𝓤 H A) (s .answer) _ (answer-is s is) $ move ! (1 ∷ 0 ∷ []) $ done !
+      owned ! An.the-row (Is An.the-row) (S.makes An.the-type An′.the-plain 𝓤 H A) (s .step) _ (answer-is s is) $ move ! (1 ∷ 0 ∷ []) $ done !
 
   -- what the callee asks: its three arguments, which are plain data and so are owned for nothing
   abbrev to-callee : Callee 𝓤 H A at-mem run .Ghost
@@ -178,7 +176,7 @@ module _ {M : Type 1} (𝓤 : URA M) (H : Heap 𝓤) (A : Atoms 𝓤) (W : Given
         assigns ! (of-opd ! (load ! (from ! (fld ! refl (stop !))) (look-in ! 7 (sub ! 0 refl (whole !))))) (from ! (hop ! (look ! 11 refl) (stop !)))
         (store-raw ! 0 refl (S.lawful P.the-type P′.the-laws 𝓤 H A W .typed (s .at) _ (record-is s (is-at r s (v ∷ []) e is)) .0)) $
         assigns ! (of-opd ! (load ! (from ! (fld ! refl (stop !))) (look-in ! 7 (sub ! 1 refl (whole !))))) (from ! (stop !)) (init ! 15 refl
-        (S.lawful An.the-type An′.the-laws 𝓤 H A W .typed (s .answer) _ (answer-is s (is-at r s (v ∷ []) e is)) .0)) $
+        (S.lawful An.the-type An′.the-laws 𝓤 H A W .typed (s .step) _ (answer-is s (is-at r s (v ∷ []) e is)) .0)) $
         -- the borrow is closed at the new record
         move ! (1 ∷ []) $ drop ! $ owned ! P.the-row (Is P.the-row) (S.makes P.the-type P′.the-plain 𝓤 H A) (s .at) _ (record-is s (is-at r s
         (v ∷ []) e is)) $ move ! (1 ∷ 0 ∷ []) $ closes ! tt P.the-row (s .at) (pos-vals (s .at)) b o $

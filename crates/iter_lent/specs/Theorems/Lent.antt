@@ -1,47 +1,46 @@
 -- Theorems about what Lent defines.
-use mathlib.Core.Path.{_≡_, refl, sym, subst, _∙_}
+use mathlib.Core.Path.{_≡_, refl, sym, ap, _∙_}
+use mathlib.Core.Bool.{Bool, true, false}
 use Rattle.refusal.specs.Laws.Pick.{determined}
-use Rattle.refusal.specs.Told.{toldVerdict}
-use Rattle.refusal.specs.declared.Refusal.{Refusal}
-use Rattle.refusal.specs.declared.Verdict.the-variants.{Refused as No}
+use Rattle.refusal.specs.Pick.{pick}
+use Rattle.refusal.specs.declared.Refusal.the-variants.{Malformed}
 use Rattle.bankdef.specs.declared.Bankdef.{Bankdef}
-use Rattle.iter.specs.Distance.{noSkip}
-use Rattle.iter.specs.Step.{advancedOf, advanceSkips}
-use Rattle.iter.specs.Figures as figures
-use Rattle.iter.specs.Figures.{toldMoved, Advances, OwnSkips}
-use Rattle.iter.specs.Theorems.ToldFacts.{advance-told, own-skips}
-use Rattle.iter.specs.declared.Skipped.{Skipped}
-use Rattle.lists.specs.declared.Node.{Node}
-use Rattle.iter.specs.declared.Pos.{Pos}
+use Rattle.iter.specs.Crossing.{halted, crossedTo, crossedFrom, crossingOf}
+use Rattle.iter.specs.Pace.{faultIn}
+use Rattle.iter.specs.Step.{seenOf, badState, advancedOf, stepSkips}
 use Rattle.iter.specs.declared.Moved.{Moved}
 use Rattle.iter.specs.declared.Moved.the-variants.{To, Refused}
-use Rattle.iter_lent.specs.declared.Lent.{Lent as Answer}
-use Rattle.iter_lent.specs.Laws.Lent.{kept-of, same-answer}
-use Rattle.iter_lent.specs.Lent.{Advanced, Leaves, lentPos, lentVerdict, made, refused}
-
-module _ (def : Bankdef) (was : Pos) (node : Node) where
-  -- a refused advance skips nothing
-  none-of : {why : Refusal} {s : Skipped} → OwnSkips def was node (Refused why) s → s ≡ noSkip
-  none-of (figures.other n) = refl
-  none-of (figures.aligns k figures.refused) = refl
-  none-of (figures.aligns k (figures.untold why e)) = refl
-
-  lent-by : (m : Moved) (s : Skipped) → Advances def was node (toldMoved m) → OwnSkips def was node m s
-      → Leaves def was node (toldVerdict (lentVerdict m)) s (lentPos was m)
-  lent-by (To q) s h k = made h k
-  lent-by (Refused why) s h k = subst (λ (x : Skipped). Leaves def was node (toldVerdict (No why)) x was) (sym (none-of k)) (refused h)
-
-  pub lent-told : Leaves def was node (toldVerdict (lentVerdict (advancedOf def was node))) (advanceSkips def was node)
-      (lentPos was (advancedOf def was node))
-  lent-told = lent-by (advancedOf def was node) (advanceSkips def was node) (advance-told def was node) (own-skips def was node)
+use Rattle.iter.specs.declared.Paced.{Paced}
+use Rattle.iter.specs.declared.Pos.{Pos}
+use Rattle.lists.specs.declared.Node.{Node}
+use Rattle.iter_lent.specs.Lent.{Advanced}
 
 -- Two outcomes that meet the contract for the same input are equal, the record afterwards and the answer.
-pub advance-lent-unique : {def : Bankdef} {was : Pos} {node : Node} {left left′ : Pos} {answer answer′ : Answer}
+pub advance-lent-unique : {def : Bankdef} {was : Pos} {node : Node} {left left′ : Pos} {answer answer′ : Paced}
     → Advanced def was node left answer → Advanced def was node left′ answer′ → (left ≡ left′) × (answer ≡ answer′)
-advance-lent-unique p q =
-    (determined (p .place) (q .place), same-answer (determined (p .verdict) (q .verdict)) (determined (p .skipped) (q .skipped)))
+advance-lent-unique p q = (determined (p .place) (q .place), determined (p .step) (q .step))
+
+module _ (def : Bankdef) (was : Pos) (node : Node) where
+  -- a crossing that is refused leads nowhere
+  moved-or-kept : (p : Pos) (m : Moved) → (faultIn (crossedTo was p (stepSkips def was p node) m .seen) ≡ 0 → ⊥)
+      → crossedTo was p (stepSkips def was p node) m .after ≡ was
+  moved-or-kept p (To q) h = absurd (h refl)
+  moved-or-kept p (Refused why) h = refl
+
+  seen-or-kept : (m : Moved) → (faultIn (crossedFrom def was node m .seen) ≡ 0 → ⊥) → crossedFrom def was node m .after ≡ was
+  seen-or-kept (To p) h = moved-or-kept p (advancedOf def p node) h
+  seen-or-kept (Refused why) h = refl
+
+  either : (bad : Bool) → (faultIn (pick bad (halted was (Malformed (node .index))) (crossedFrom def was node (seenOf def was node)) .seen) ≡ 0 → ⊥)
+      → pick bad (halted was (Malformed (node .index))) (crossedFrom def was node (seenOf def was node)) .after ≡ was
+  either true h = refl
+  either false h = seen-or-kept (seenOf def was node) h
+
+  crossing-kept : (faultIn (crossingOf def was node .seen) ≡ 0 → ⊥) → crossingOf def was node .after ≡ was
+  unfolding crossingOf
+  crossing-kept h = either (badState node) h
 
 -- A refused call leaves the lent record as it was.
-pub refused-keeps : {def : Bankdef} {was : Pos} {node : Node} {left : Pos} {answer : Answer} (why : Refusal) → answer .verdict ≡ No why
+pub refused-keeps : {def : Bankdef} {was : Pos} {node : Node} {left : Pos} {answer : Paced} → (answer .fault ≡ 0 → ⊥)
     → Advanced def was node left answer → left ≡ was
-refused-keeps {def} {was} {node} why e p = p .place ∙ kept-of was (advancedOf def was node) why (sym e ∙ p .verdict)
+refused-keeps {def} {was} {node} h p = p .place ∙ crossing-kept def was node (λ e. h (ap (λ (x : Paced). x .fault) (p .step) ∙ e))

@@ -7,9 +7,9 @@ use Rattle.refusal.specs.Told.{toldVerdict}
 use Rattle.resolver.specs.Passes.{rowOfPass}
 use Rattle.resolver.specs.declared.Settled.{Settled}
 use Rattle.resolver.specs.declared.Settled.the-variants.{At, Refused as Unsettled}
-use Rattle.build_plan.specs.Placing.{Placed, holds, stops, placedAll}
+use Rattle.build_plan.specs.Placing.{Placed, holds, stops, placedAll, walkedAll}
 use Rattle.output.specs.Output.{Input, closedOf, visitsOf, passesOf, settledOf}
-use Rattle.build_map.specs.Map.{tracedBy, settledReach, mapOf, leftBy, walkedAll, placedTold, settledTold}
+use Rattle.build_map.specs.Map.{tracedBy, settledReach, mapOf, leftBy, placedTold, settledTold}
 use Rattle.c_answers.specs.Maps.{mapTold}
 use Rattle.c_answers.specs.declared.DkMap.{DkMap}
 use Rattle.says.specs.Build.{Given, nodes}

@@ -20,8 +20,8 @@ use Rattle.overlap_checker.specs.Offers.{placeFor, clashesAny, named, lacksRoom
 use Rattle.overlap_checker.specs.State.{meets, tries, namedIn, keeping, after}
 use Rattle.bitvec.specs.Lists.{listOf}
 use Rattle.build_sights.specs.Visits.{visitsTo}
-use Rattle.build_plan.specs.Placing.{checked, placedFrom}
-use Rattle.build_map.specs.Map.{walkedFrom, mapOf}
+use Rattle.build_plan.specs.Placing.{checked, placedFrom, walkedFrom}
+use Rattle.build_map.specs.Map.{mapOf}
 use Rattle.form_fields.specs.Banks.{bankAt}
 use Rattle.form_fields.specs.Columns.{column}
 use Rattle.form_fields.specs.Example.{exampleFile}

@@ -6,7 +6,7 @@ use lib.ListN.{length}
 use Rattle.refusal.specs.Limits.{maxNodes}
 use Rattle.lists.specs.Lists.{Lists, Rows, lists}
 use Rattle.build_map.specs.Map.{Lent, lent}
-use Rattle.build_map.proofs.MapLaws.{unrun, ran-rows, ran-few, ran-listed, reach-few, finished}
+use Rattle.build_map.proofs.MapLaws.{unrun, ran-rows, ran-few, ran-switches, ran-listed, reach-few, finished}
 use borrow.Author.Needs.{needs}
 use Rattle.build_map.proofs.maps.map_nodes.Statement.{statement}
 use Rattle.build_map.proofs.maps.map_nodes.Tie as tie
@@ -73,7 +73,7 @@ map-row-requires c κs =
     let start = at-resolve .before .before .before .before .before .before in
     let a = start .args in
     let ran = at-else1 .if1 .left in (
-      few at-else1,
+      (few at-else1, ran-switches (a .banks) (given start) (a .choices) (at-resolve .resolve .result) (at-resolve .resolve .ensures .0) ran),
       (
         ran-listed (a .banks) (given start) (a .choices) (at-resolve .resolve .result) (at-resolve .resolve .ensures .0) ran,
         (

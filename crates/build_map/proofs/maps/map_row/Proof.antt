@@ -22,7 +22,7 @@ write-entries-requires c κs =
     let start = at-reach-row .before .before .before .before .before .before .before .before .before .before in
     let few = low at-reach-row in
     let long = start .pre .1 .1 .0 in
-    (few, (omega (arith, few, long .0), omega (arith, few, long .1), omega (arith, few, long .2), omega (arith, few, long .3)))
+    ((few, start .pre .0 .1), (omega (arith, few, long .0), omega (arith, few, long .1), omega (arith, few, long .2), omega (arith, few, long .3)))
 
 returns : tie.Need-returns
 returns c =
