@@ -55,38 +55,17 @@ struct bytes proved_rehex(struct bytes file, uint8_t kind, uint8_t format, uint3
     return first_of(rehexed, print_rehex__put_file(kind, format, load, lent(file), image, starts, lengths, out));
 }
 
-/* Rooms for both files' bytes begin as erased flash reads. */
-static struct bytes bench(prog_overlay__Asked asked, struct bytes released, struct bytes overlay, uint32_t load) {
-    mut_u8 over = {bytes, 524288}, under = {more_bytes, sizeof more_bytes}, out = {benched, sizeof benched};
-    mut_u64 starts = {offsets, COUNT(offsets)}, lengths = {sizes, COUNT(sizes)}, more_starts = {more_offsets, COUNT(more_offsets)},
-            more_lengths = {more_sizes, COUNT(more_sizes)}, first = {firsts, COUNT(firsts)}, count = {counts, COUNT(counts)};
-    memset(bytes, 255, 524288);
-    memset(more_bytes, 255, sizeof more_bytes);
-    blocks__Blocks found = prog_overlay__load_file(load, lent(overlay), over, starts, lengths);
-    if (found.tag == blocks__Blocks_Refused) {
-        slice_u8 name = {(const uint8_t *)"overlay\n", 8};
-        return first_of(benched, prog_overlay__put_unread(&found.u.Refused.f0, name, load, lent(overlay), out));
-    }
-    slice_u8 read = {bytes, 524288};
-    slice_u64 read_starts = {offsets, (size_t)found.u.Found.f0}, read_lengths = {sizes, (size_t)found.u.Found.f0};
-    return first_of(benched, prog_overlay__put_released(asked, load, lent(released), under, more_starts, more_lengths, read, read_starts, read_lengths, first,
-                                                        count, out));
+static struct bytes bench(int all, uint32_t address, uint32_t count, struct bytes released, struct bytes overlay, uint32_t load) {
+    return first_of(benched, print_bench__put_bench(all != 0, address, count, load, lent(released), lent(overlay), more_bytes, more_offsets, more_sizes, bytes,
+                                                    offsets, sizes, firsts, counts, benched));
 }
 
 struct bytes proved_bench(struct bytes released, struct bytes overlay, uint32_t load) {
-    prog_overlay__Asked asked;
-    memset(&asked, 0, sizeof asked);
-    asked.tag = prog_overlay__Asked_Runs;
-    return bench(asked, released, overlay, load);
+    return bench(1, 0, 0, released, overlay, load);
 }
 
 struct bytes proved_bench_range(struct bytes released, struct bytes overlay, uint32_t load, uint32_t address, uint32_t count) {
-    prog_overlay__Asked asked;
-    memset(&asked, 0, sizeof asked);
-    asked.tag = prog_overlay__Asked_Range;
-    asked.u.Range.f0 = address;
-    asked.u.Range.f1 = count;
-    return bench(asked, released, overlay, load);
+    return bench(0, address, count, released, overlay, load);
 }
 
 struct bytes proved_convert(struct bytes file, int form, int *is_refused) {

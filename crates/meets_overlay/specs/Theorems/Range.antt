@@ -33,7 +33,7 @@ module _ (overlay released os ss : List ℕ) (first count : ℕ) where
   -- ---- they leave one outcome
 
   -- a range with a byte is not both covered and free
-  one-of-two : 0 < count → AllCovered overlay released os ss first count → NoneCovered overlay released os ss first count → ⊥
+  pub one-of-two : 0 < count → AllCovered overlay released os ss first count → NoneCovered overlay released os ss first count → ⊥
   one-of-two some w f = f (8 * first) (omega arith, omega arith) (w first (omega arith) (omega arith) (8 * first) (omega arith) (omega arith))
 
   some-byte : (BadRange overlay released os ss first count → ⊥) → 0 < count
@@ -95,13 +95,13 @@ module _ (overlay released os ss : List ℕ) (first count : ℕ) where
   good-range e (says.past-overlay h) = omega (arith, inside-true (length overlay) (length released) first count e .overlaid)
   good-range e (says.past-released h) = omega (arith, inside-true (length overlay) (length released) first count e .issued)
 
-  whole : allCovered bit first count ≡ true → AllCovered overlay released os ss first count
+  pub whole : allCovered bit first count ≡ true → AllCovered overlay released os ss first count
   whole e b l u k m v = is-covered overlay released os ss k (byte-holds bit b (all-holds bit first count e b l u) k (omega arith) (omega arith))
 
-  free : inOrder 0 os ss ≡ true → noneCovered bit first count ≡ true → NoneCovered overlay released os ss first count
+  pub free : inOrder 0 os ss ≡ true → noneCovered bit first count ≡ true → NoneCovered overlay released os ss first count
   free o e k r c = clash (covered-is overlay released os ss o k c) (none-holds bit first count e k (r .0) (r .1))
 
-  some-free : inOrder 0 os ss ≡ true → allCovered bit first count ≡ false
+  pub some-free : inOrder 0 os ss ≡ true → allCovered bit first count ≡ false
       → (l : ℕ) × InRange overlay released os ss first count l × (Covered overlay released os ss l → ⊥)
   unfolding allCovered coveredByte
   some-free o e =
@@ -113,7 +113,7 @@ module _ (overlay released os ss : List ℕ) (first count : ℕ) where
             clash (covered-is overlay released os ss o (8 * (first + a .0) + b .0) c) (b .2),
       )
 
-  some-covered : noneCovered bit first count ≡ false → (k : ℕ) × InRange overlay released os ss first count k × Covered overlay released os ss k
+  pub some-covered : noneCovered bit first count ≡ false → (k : ℕ) × InRange overlay released os ss first count k × Covered overlay released os ss k
   unfolding noneCovered
   some-covered e =
       let a = some-fails (8 * count) (λ i. not (bit (8 * first + i))) e in (

@@ -52,7 +52,7 @@ module _ (overlay released os ss : List ℕ) where
       let no-more : m < n → ⊥ = λ h. past-m (in-n (f + m) (omega arith) (omega arith)) in
       omega arith
 
-  runs-one : {at : ℕ} {fs gs ns ms : List ℕ} → IsRuns at fs ns → IsRuns at gs ms → (fs ≡ gs) × (ns ≡ ms)
+  pub runs-one : {at : ℕ} {fs gs ns ms : List ℕ} → IsRuns at fs ns → IsRuns at gs ms → (fs ≡ gs) × (ns ≡ ms)
   runs-one (says.none p) (says.none q) = (refl, refl)
   runs-one (says.none p) (says.run {f = g} {n = m} b more q in-g past-g s) = absurd (p g b (in-g g (omega arith) (omega arith)))
   runs-one (says.run {f} {n} a some p in-f past-f r) (says.none q) = absurd (q f a (in-f f (omega arith) (omega arith)))
@@ -139,7 +139,7 @@ module _ (overlay released os ss : List ℕ) where
         later b h (zero, k, p, q) = absurd (omega arith)
         later b h (suc i, k, p, q) = (i, omega arith, p, q)
 
-    runs-meets : IsRuns 0 (origins (runsOf t)) (sizes (runsOf t))
+    pub runs-meets : IsRuns 0 (origins (runsOf t)) (sizes (runsOf t))
     runs-meets = runs-of 0 (runsOf t) (record {
       from = λ i h. omega arith;
       some = λ i h. runs-maximal t i h .some;

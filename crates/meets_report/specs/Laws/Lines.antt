@@ -43,12 +43,12 @@ decimal-meets =
 
 -- ---- lines
 
-spaced-is : {ns t : List ℕ} → Spaced ns t → t ≡ spaced ns
+pub spaced-is : {ns t : List ℕ} → Spaced ns t → t ≡ spaced ns
 unfolding spaced
 spaced-is says.end = refl
 spaced-is (says.next h s) = ap₂ (λ (d t : List ℕ). ascii " " ++ d ++ t) (decimal-is h) (spaced-is s)
 
-spaced-meets : (ns : List ℕ) → Spaced ns (spaced ns)
+pub spaced-meets : (ns : List ℕ) → Spaced ns (spaced ns)
 unfolding spaced
 spaced-meets [] = says.end
 spaced-meets (n ∷ ns) = says.next (decimal-meets n) (spaced-meets ns)

@@ -50,7 +50,7 @@ module _ (kind load : ℕ) (source : List ℕ) (l : List Piece) (reads : readTex
   parts : allParts (length one) blocks ≡ true
   parts = read-parts kind load source l reads a one refl room (filled-long load l a)
 
-  byte-same : (x : ℕ) → given l (load + x) ≡ true → getD one x 0 ≡ getD two x 0
+  pub byte-same : (x : ℕ) → given l (load + x) ≡ true → getD one x 0 ≡ getD two x 0
   byte-same x e =
       let g = given-gives l (load + x) e in
       let h = given-below l (load + x) e in

@@ -136,15 +136,15 @@ module _ (g : Given) (good : Bytes (g .image)) (paired : length (g .offsets) ≡
 -- ---- the call that reads
 
 -- a refusal's place is one number
-abbrev Plain : Blocks → Type 0
+abbrev pub Plain : Blocks → Type 0
 Plain (Found n) = Unit {0}
 Plain (Unread why) = placeNumbers (placeOf why) ≡ firstOf (placeOf why) ∷ []
 
-record Placed (r : Blocks) : Type 0 where
-  is : Plain r
+pub record Placed (r : Blocks) : Type 0 where
+  pub is : Plain r
 
 module _ (load : ℕ) (l : records.Lent) where
-  plain : (x : Read) → Placed (answerOf load l x)
+  pub plain : (x : Read) → Placed (answerOf load l x)
   plain (faulty n) = record { is = refl }
   plain (sound ps) = by (bytesFit load ps l) (blocksFit load ps l)
     where
@@ -153,7 +153,7 @@ module _ (load : ℕ) (l : records.Lent) where
       by true false = record { is = refl }
       by false q = record { is = refl }
 
-  figured : (x : Read) → toldBy (answerOf load l x) ≡ toldOf load l x
+  pub figured : (x : Read) → toldBy (answerOf load l x) ≡ toldOf load l x
   figured (faulty n) = refl
   figured (sound ps) = by (bytesFit load ps l) (blocksFit load ps l)
     where
@@ -163,7 +163,7 @@ module _ (load : ℕ) (l : records.Lent) where
       by true false = refl
       by false q = refl
 
-fault-meets-text : (x : Read) → Fault (lineTold (faultOf x)) (faultText x)
+pub fault-meets-text : (x : Read) → Fault (lineTold (faultOf x)) (faultText x)
 fault-meets-text (sound ps) = says.none refl
 fault-meets-text (faulty n) = says.at-line refl (line-meets (ascii "line") (n ∷ []))
 
@@ -297,7 +297,7 @@ write-one format g old y z (says.hex e a) (says.s-records n c) = absurd (n e)
 write-one format g old y z (says.s-records n c) (says.hex e a) = absurd (n e)
 write-one format g old y z (says.s-records n a) (says.s-records m c) = write-srec-decides g old format y z a c
 
-fault-one : (f : DkFault) → OneOnly (Fault f)
+pub fault-one : (f : DkFault) → OneOnly (Fault f)
 fault-one f t u (says.none e) (says.none h) = refl
 fault-one f t u (says.none e) (says.at-line h l) = absurd (omega arith)
 fault-one f t u (says.at-line h l) (says.none e) = absurd (omega arith)
