@@ -21,7 +21,7 @@ use Rattle.c_tables.specs.Tables as tables
 use Rattle.c_tables.specs.Tables.{given, unitOf, bankIn, banksIn, countOf}
 use Rattle.print_text.specs.Ascii.{ascii}
 use Rattle.print_map.specs.Cells as made
-use Rattle.print_map.specs.Cells.{signed, optional}
+use Rattle.print_map.specs.Cells.{optional}
 use Rattle.print_map.specs.Marks.{bitOf}
 use Rattle.print_map.specs.Text.{bankLine, banksText}
 use Rattle.says.specs.Build.{Given, banks, unit, start, flag, fillBit, Size, Offset, Align}
@@ -89,7 +89,8 @@ module _ (g : Given) (counted : table g .len ≡ banks g) (small : (b : ℕ) →
         let one : unitOf (unit g b) (flag g b) ≡ unit g b = rw (le-leb (flag g b) 15 few) in
         subst (λ (d : Bankdef). BankLine g b lost (bankLine b d lost)) (sym (record-at b h))
         (says.bank (s .1) (size-column .1) (offset-column .1) (align-column .1) (f .1)
-        (record-meets (ascii "bank") _ _ (columns-same (s .0) (size-column .0) (offset-column .0) (align-column .0) one (s .2) (size-column .2) (offset-column .2) (align-column .2) (f .2))))
+        (record-meets (ascii "bank") _ _
+        (columns-same (s .0) (size-column .0) (offset-column .0) (align-column .0) one (s .2) (size-column .2) (offset-column .2) (align-column .2) (f .2))))
 
   banks-meet : (lost : List Lost) (n : ℕ) → n ≤ min (banks g) 16 → BankLines g lost n (banksText (table g) lost n)
   unfolding banksText

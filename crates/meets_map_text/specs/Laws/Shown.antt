@@ -3,14 +3,13 @@
 use mathlib.Core.Path.{_≡_, refl, sym, ap, subst, _∙_}
 use mathlib.Core.Bool.{Bool, true, false}
 use mathlib.Core.List.{List, [], _∷_, map}
-use Prim.Native.Nat.{ℕ, zero, suc, _+_, _-_, _/_, _≤_, _<_, min}
+use Prim.Native.Nat.{ℕ, zero, suc, _-_, _/_, _≤_, _<_, min}
 use native.Mathlib.Omega.{arith}
 use lib.Dec.{eqb, ltb}
 use lib.IntN.{ℤ, pos, _+ℤ_}
-use lib.ListN.{length, getD}
-use borrow.Author.Tests.{eqb-true, eqb-false, ltb-true, ltb-false}
+use lib.ListN.{length}
+use borrow.Author.Tests.{eqb-true, eqb-false}
 use Rattle.refusal.specs.Laws.Bools.{either, unlike}
-use Rattle.refusal.specs.Pick.{pick}
 use Rattle.refusal.specs.Refusals.{numberOf, placeOf}
 use Rattle.refusal.specs.Theorems.Told.{number-some}
 use Rattle.refusal.specs.declared.Place.{Place}
@@ -18,10 +17,10 @@ use Rattle.refusal.specs.declared.Place.the-variants.{One, Two}
 use Rattle.refusal.specs.declared.Refusal.{Refusal}
 use Rattle.refusal.specs.declared.Verdict.{Verdict}
 use Rattle.refusal.specs.declared.Verdict.the-variants.{Accepted, Refused}
+use Rattle.bankdef.specs.declared.Bankdef.{Bankdef}
 use Rattle.blocks.specs.Offsets.{noOffset}
 use Rattle.iter.specs.Address.{addressOf, unitsFrom}
 use Rattle.iter.specs.Theorems.ToldFacts.{address-when}
-use Rattle.iter.specs.declared.Address.{Address}
 use Rattle.iter.specs.declared.Lost.{Lost}
 use Rattle.lists.specs.Lists.{Row}
 use Rattle.lists.specs.Theorems.Sound.{accepted-lists}
@@ -39,7 +38,6 @@ use Rattle.build_map.specs.declared.Fault.{Fault}
 use Rattle.build_map.specs.declared.Fault.the-variants.{None, At as AtNode}
 use Rattle.build_map.specs.declared.Reach.{Reach}
 use Rattle.c_answers.specs.Maps.{toldBy, nodeTold}
-use Rattle.c_answers.specs.Told.{firstOf, secondOf}
 use Rattle.print_text.specs.Ascii.{ascii}
 use Rattle.print_text.specs.Lines.{placeNumbers, line}
 use Rattle.print_map.specs.Cells as made
@@ -52,7 +50,7 @@ use Rattle.says.specs.MapText as says
 use Rattle.says.specs.MapText.{Cell, Optional, Word, Whole, NodeLine, NodeLines, FaultLine, Verdict as Ends}
 use Rattle.meets_sentences.specs.Typed.{Typed}
 use Rattle.meets_build.specs.Laws.Contract.{inputOf}
-use Rattle.meets_build.specs.Laws.Shown.{Shown, Tells, listed, walked, rowNo}
+use Rattle.meets_build.specs.Laws.Shown.{Shown, Tells, listed, walked}
 use Rattle.meets_build.specs.Laws.Table.{table, shown}
 use Rattle.meets_build.specs.Laws.Walk.{Goes, in-table}
 use Rattle.meets_map.specs.Places.{Places}
@@ -71,12 +69,15 @@ word-column w =
 
 -- ---- the node at fault is one of those that are shown, or the next
 
+none-at : {i : ℕ} → None ≡ AtNode i → ⊥
+none-at e = unlike cc
+
+at-same : {i j : ℕ} → AtNode j ≡ AtNode i → j ≡ i
+at-same e = cc
+
 fault-met : (n : ℕ) (why : Refusal) (i : ℕ) → faultMet why ≡ AtNode i → i ≤ nodesMet n why
 fault-met n why i e = by (eqb (numberOf why) 5) refl (eqb (numberOf why) 7) refl
   where
-    at-same : {j : ℕ} → AtNode j ≡ AtNode i → j ≡ i
-    at-same f = cc
-
     by : (x : Bool) → eqb (numberOf why) 5 ≡ x → (z : Bool) → eqb (numberOf why) 7 ≡ z → i ≤ nodesMet n why
     by true f z h =
         let s : nodeOf why ≡ i = at-same (sym (rw f) ∙ e) in
@@ -85,19 +86,10 @@ fault-met n why i e = by (eqb (numberOf why) 5) refl (eqb (numberOf why) 7) refl
         let s : nodeOf why ≡ i = at-same (sym (rw (f, h)) ∙ e) in
         rw (f, h) (omega (arith, s))
     by false f false h = absurd (none-at (sym (rw (f, h)) ∙ e))
-      where
-        none-at : None ≡ AtNode i → ⊥
-        none-at g = unlike cc
 
 fault-traced : (walked : ℕ) (q : Placed) (i : ℕ) → tracedBy walked q .fault ≡ AtNode i → i ≤ tracedBy walked q .nodes
 fault-traced walked (holds s) i e = absurd (none-at e)
-  where
-    none-at : None ≡ AtNode i → ⊥
-    none-at g = unlike cc
 fault-traced walked (stops why) i e = let s : walked - 1 ≡ i = at-same e in omega (arith, s)
-  where
-    at-same : {j : ℕ} → AtNode j ≡ AtNode i → j ≡ i
-    at-same f = cc
 
 fault-few : (b : Input) (i : ℕ) → reachOf b .fault ≡ AtNode i → i ≤ reachOf b .nodes
 fault-few b i = by (settledOf b)
@@ -149,9 +141,6 @@ module _ (g : Given) (typed : Typed g) (old : Lent) (places : Places old) where
 
   fault-ran : (i : ℕ) → reachOf b .fault ≡ AtNode i → passesOf b ≡ 0 → ⊥
   fault-ran i f none = none-at (sym (ap (λ (x : Reach). x .fault) (none-run b none)) ∙ f)
-    where
-      none-at : None ≡ AtNode i → ⊥
-      none-at e = unlike cc
 
   -- ---- a node
 
@@ -168,26 +157,25 @@ module _ (g : Given) (typed : Typed g) (old : Lent) (places : Places old) where
     before : Goes g (table g) is ck now i
     before j l = shown-sees b .walks j (omega (arith, h))
 
-    tells : Tells g (bankShown p (rowOfPass (listed g) (passesOf b)) i) (bankRecord (table g) (bankShown p (rowOfPass (listed g) (passesOf b)) i))
-    tells =
-        is .tells (bankShown p (rowOfPass (listed g) (passesOf b)) i)
-        (in-table g (table g) is ck now i (let few = shown-sees b .few in omega (arith, h, few)) before)
+    -- its bank and its position, in the row of the last pass that ran
+    abbrev k : ℕ
+    k = bankShown p (rowOfPass (listed g) (passesOf b)) i
 
-    address-column : (c : Cell) × Whole (start g (bankShown p (rowOfPass (listed g) (passesOf b)) i)
-        +ℤ pos (positionShown p (rowOfPass (listed g) (passesOf b)) i / unit g (bankShown p (rowOfPass (listed g) (passesOf b)) i))) c
-        × (asMade c ≡ addressCell (addressOf (bankRecord (table g) (bankShown p (rowOfPass (listed g) (passesOf b)) i))
-        (positionShown p (rowOfPass (listed g) (passesOf b)) i) i))
+    abbrev q : ℕ
+    q = positionShown p (rowOfPass (listed g) (passesOf b)) i
+
+    abbrev def : Bankdef
+    def = bankRecord (table g) k
+
+    tells : Tells g k def
+    tells = is .tells k (in-table g (table g) is ck now i (let few = shown-sees b .few in omega (arith, h, few)) before)
+
+    address-column : (c : Cell) × Whole (start g k +ℤ pos (q / unit g k)) c × (asMade c ≡ addressCell (addressOf def q i))
     address-column =
-        let k = bankShown p (rowOfPass (listed g) (passesOf b)) i in
-        let q = positionShown p (rowOfPass (listed g) (passesOf b)) i in
-        let def = bankRecord (table g) k in
         let w = whole-meets (start g k +ℤ pos (q / unit g k)) in
         let there : unitsFrom def q ≡ start g k +ℤ pos (q / unit g k) =
-        ap (λ (z : ℤ). z +ℤ pos (q / def .unit)) (tells .of-start) ∙ ap (λ (u : ℕ). start g k +ℤ pos (q / u)) (tells .of-unit) in (
-          w .0,
-          w .1,
-          w .2 ∙ sym (ap addressCell (address-when def q i (tells .told)) ∙ ap signed there),
-        )
+        ap (λ (z : ℤ). z +ℤ pos (q / def .unit)) (tells .of-start) ∙ ap (λ (u : ℕ). start g k +ℤ pos (q / u)) (tells .of-unit) in
+        (w .0, w .1, w .2 ∙ sym (ap addressCell (address-when def q i (tells .told)) ∙ ap signed there))
 
   columns-same : (i k q : ℕ) {e e′ : ℕ} (a o : Cell) {a′ o′ : made.Cell} → asMade a ≡ a′ → asMade o ≡ o′ → e′ ≡ e
       → map asMade (says.number i ∷ says.number (kind g i) ∷ says.number k ∷ says.number q ∷ a ∷ o ∷ says.number e ∷ [])

@@ -1,6 +1,6 @@
 -- The sentences of what the map's program prints leave one text: the bytes leave one layout or one broken field, a layout one outcome (`map-decides`), and an
 -- outcome one text. From the sentences alone.
-use mathlib.Core.Path.{_≡_, refl, sym, ap, ap₂, subst, _∙_}
+use mathlib.Core.Path.{_≡_, refl, sym, ap₂, subst, _∙_}
 use mathlib.Core.List.{List, [], _∷_, _++_}
 use Prim.Native.Nat.{ℕ}
 use native.Mathlib.Omega.{arith}
@@ -13,7 +13,6 @@ use Rattle.c_answers.specs.declared.DkMap.{DkMap}
 use Rattle.says.specs.Build.{Given, Size, Offset, Align}
 use Rattle.says.specs.Files.{Form, Held, Sound, Broken}
 use Rattle.says.specs.Form.{Layout}
-use Rattle.says.specs.Lines.{Line}
 use Rattle.says.specs.Map.{Lent, Outcome, refusal, Mapped}
 use Rattle.says.specs.MapText as says
 use Rattle.says.specs.MapText.{Word, Fill, BankLine, BankLines, NodeLine, NodeLines, FaultLine, Verdict, Prints, LaidSays, Lends, MapText}

@@ -1,8 +1,7 @@
 -- What the map's program prints for a file, by the definitions, says the sentences: a broken file is its refusal's line; of a sound one it is the text of the
 -- outcome of `dk_map` (`map-meets`), in the profile where there is a page size, whatever the lists that are lent hold.
-use mathlib.Core.Path.{_≡_, refl, sym, ap, subst, _∙_}
+use mathlib.Core.Path.{_≡_, refl, sym, subst, _∙_}
 use mathlib.Core.List.{List, [], _∷_, _++_}
-use mathlib.Core.Logic.{_↔_}
 use Prim.Native.Nat.{ℕ, _≤_, _<_, min}
 use native.Mathlib.Omega.{arith}
 use lib.ListN.{length, getD, replicate}
@@ -32,7 +31,7 @@ use Rattle.says.specs.Files.{Form, form-1, form-2, Sound, Bank}
 use Rattle.says.specs.Lines.{Line}
 use Rattle.says.specs.Map.{Lent, Outcome, refusal, Mapped, MapSays}
 use Rattle.says.specs.MapText as says
-use Rattle.says.specs.MapText.{formNumber, BankLines, NodeLines, FaultLine, Prints, LaidSays, Lends, MapText}
+use Rattle.says.specs.MapText.{formNumber, BankLines, NodeLines, FaultLine, Prints, LaidSays, MapText}
 use Rattle.meets_sentences.specs.Typed.{Typed}
 use Rattle.meets_build.specs.Laws.Contract.{inputOf}
 use Rattle.meets_build.specs.Laws.Table.{table}
@@ -50,7 +49,6 @@ use Rattle.meets_report.specs.Laws.Shown.{numbers-meet}
 use Rattle.meets_map_text.specs.Laws.Banks.{all-banks-meet}
 use Rattle.meets_map_text.specs.Laws.Records.{numbers-meet-line}
 use Rattle.meets_map_text.specs.Laws.Shown.{refused-meets, verdict-meets, nodes-meet, fault-meets}
-use Rattle.meets_map_text.specs.Theorems.Decides.{map-text-decides}
 
 -- ---- of a layout
 
@@ -152,10 +150,3 @@ module _ (file : List ℕ) (small : Bytes file) (fill : ℕ) where
 
     pub map-text-meets : MapText file fill page (mapText file fill page)
     map-text-meets = by (file-so file small fill)
-
-    -- the text is the definition's, and nothing else
-    pub map-text-exactly : (text : List ℕ) → MapText file fill page text ↔ (text ≡ mapText file fill page)
-    map-text-exactly text = (
-      λ s. map-text-decides file fill page text (mapText file fill page) s map-text-meets,
-      λ e. subst (MapText file fill page) (sym e) map-text-meets,
-    )

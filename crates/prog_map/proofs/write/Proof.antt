@@ -1,4 +1,5 @@
--- `write` meets its contract: there is room for every map's text, what is handed on is the text, and the sentence says it (`map-text-meets`). A file holds bytes.
+-- `write` meets its contract: there is room for every map's text, what is handed on is the text, and the sentence says it (`map-text-exactly`). A file holds
+-- bytes.
 use mathlib.Core.Path.{_≡_, sym, ap, _∙_}
 use mathlib.Core.List.{List}
 use Prim.Native.Nat.{ℕ, _+_, _≤_}
@@ -7,8 +8,7 @@ use lib.ListN.{length, take, drop}
 use lib.Seq.{length-sets, sets-eq, take-at}
 use Rattle.print_text.specs.Puts.{Writes}
 use Rattle.print_map.specs.Text.{mapText}
-use Rattle.says.specs.MapText.{MapText}
-use Rattle.meets_map_text.specs.Theorems.Meets.{map-text-exactly}
+use Rattle.meets_map_text.specs.Theorems.Promised.{map-text-exactly}
 use borrow.Author.Needs.{needs}
 use Rattle.prog_map.proofs.write.Statement.{statement}
 use Rattle.prog_map.proofs.write.Tie as tie
