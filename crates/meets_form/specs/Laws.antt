@@ -1,4 +1,5 @@
 pub mod Breaks
+pub mod FileSo
 pub mod FileMeets
 pub mod FileSays
 pub mod Numbers

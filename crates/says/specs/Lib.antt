@@ -8,7 +8,7 @@
 -- a layout file holds, under Form and FormPaged (`dk_form`, `dk_form_paged`) and Convert (`dk_to_form1`, `dk_to_form2`). Records is what Intel HEX and
 -- S-records share, under Write (`dk_write_hex`, `dk_write_srec`), Read (`dk_read_records`, `dk_record_fault`) and Reason (`dk_record_reason`).
 -- What programs print is said over these: Lines is a line of text, Report what `layout` prints, RecordsText the program behind tools/ihex and tools/srec,
--- Texts what `prog_reason`, `prog_convert` and `prog_rehex` print, Bench what `prog_overlay` prints.
+-- Texts what `prog_reason`, `prog_convert` and `prog_rehex` print, MapText what `prog_map` prints, Bench what `prog_overlay` prints.
 pub mod Words
 pub mod Banks
 pub mod Build
@@ -34,3 +34,4 @@ pub mod Report
 pub mod RecordsText
 pub mod Texts
 pub mod Bench
+pub mod MapText

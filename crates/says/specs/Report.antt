@@ -22,12 +22,12 @@ abbrev pub Two : ℕ → Type 0
 Two number = (number ≡ 3) ⊎ ((number ≡ 12) ⊎ (number ≡ 19))
 
 -- "A refusal prints `refused`, number and place": the numbers of its line
-pub data Numbers (a : DkLayout) : List ℕ → Type 0 where
-  one : Not (Two (a .refusal)) → Numbers a (a .refusal ∷ a .place ∷ [])
-  two : Two (a .refusal) → Numbers a (a .refusal ∷ a .place ∷ a .second ∷ [])
+pub data Numbers (number place second : ℕ) : List ℕ → Type 0 where
+  one : Not (Two number) → Numbers number place second (number ∷ place ∷ [])
+  two : Two number → Numbers number place second (number ∷ place ∷ second ∷ [])
 
 pub data RefusalLine (a : DkLayout) (t : List ℕ) : Type 0 where
-  refuses : {ns : List ℕ} → 0 < a .refusal → Numbers a ns → Line (ascii "refused") ns t → RefusalLine a t
+  refuses : {ns : List ℕ} → 0 < a .refusal → Numbers (a .refusal) (a .place) (a .second) ns → Line (ascii "refused") ns t → RefusalLine a t
 
 -- The blocks of an accepted outcome: those of `dk_blocks` (Blocks) over the spans that the build left, taken by offset.
 pub data BlocksOf (y : Outcome) (b : List Block) : Type 0 where

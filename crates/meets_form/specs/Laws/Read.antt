@@ -239,7 +239,7 @@ module _ (f : Form) (file : List ℕ) (fill : ℕ) where
   as-long : {A : Type 0} (read : ℕ → A) (off : ℕ) → length (column read step (base + off) count) ≡ length (givenBy .units)
   as-long read off = column-length read step (base + off) count ∙ sym (column-length (word16 file) step (base + 3) count)
 
-  count-is : countOf lent ≡ count
+  pub count-is : countOf lent ≡ count
   unfolding countOf
   count-is =
       let n = length (givenBy .units) in

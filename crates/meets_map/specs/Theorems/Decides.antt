@@ -72,7 +72,7 @@ module _ (g : Given) where
     tried-one n r y z (m.placed clear s) (m.refused {i} f s′) = absurd (clear i (f .first .so))
     tried-one n r y z (m.placed clear s) (m.placed clear′ s′) = shows-one y z s s′
 
-    mapped-one : OneOnly (Mapped g old)
+    pub mapped-one : OneOnly (Mapped g old)
     mapped-one y z (m.stops {n} {i} {number} {r} {c} h l go f s q u t)
         (m.stops {n = n′} {i = i′} {number = number′} {r = r′} {c = c′} h′ l′ go′ f′ s′ q′ u′ t′) =
         let pass : n′ ≡ n = three g n n′ (λ lt. absurd (go′ n h lt .0 i (f .so))) (λ e. sym e) (λ gt. absurd (go n′ h′ gt .0 i′ (f′ .so))) in

@@ -24,7 +24,7 @@ use Rattle.meets_bits.specs.Theorems.Hex.{text-one, text-meets}
 
 -- ---- numbers
 
-decimal-is : {n : ℕ} {t : List ℕ} → Decimal n t → t ≡ decimal n
+pub decimal-is : {n : ℕ} {t : List ℕ} → Decimal n t → t ≡ decimal n
 decimal-is (says.digit {d} h) = sym (decimal-few d h)
 decimal-is (says.more {n} {d} {t} some s h) =
     let tenth : (10 * n + d) / 10 ≡ n = omega arith in
@@ -32,7 +32,7 @@ decimal-is (says.more {n} {d} {t} some s h) =
     ap (λ (l : List ℕ). l ++ ((48 + d) ∷ [])) (decimal-is s)
     ∙ sym (decimal-more (10 * n + d) (omega arith) ∙ ap₂ (λ (m e : ℕ). decimal m ++ (digit e ∷ [])) tenth last)
 
-decimal-meets : (n : ℕ) → Decimal n (decimal n)
+pub decimal-meets : (n : ℕ) → Decimal n (decimal n)
 decimal-meets =
     by-tens (λ (n : ℕ). Decimal n (decimal n))
     (λ n h. rw (decimal-few n h) (says.digit h))

@@ -21,7 +21,7 @@ use Rattle.blocks.specs.Spans.{spansOf}
 use Rattle.blocks.specs.Walk.{blocksOf}
 use Rattle.output.specs.declared.Build.{Build}
 use Rattle.output.specs.declared.Build.the-variants.{Done, Refused}
-use Rattle.c_answers.specs.Told.{buildTold}
+use Rattle.c_answers.specs.Told.{firstOf, secondOf, buildTold}
 use Rattle.c_answers.specs.declared.DkLayout.{DkLayout}
 use Rattle.print_text.specs.Ascii.{ascii}
 use Rattle.print_text.specs.Lines.{placeNumbers, refusalText}
@@ -44,37 +44,37 @@ not-two n e t =
     let b = neither (eqb n 12) (eqb n 19) (a .1) in
     ⊎-elim (eqb-false n 3 (a .0)) (⊎-elim (eqb-false n 12 (b .0)) (eqb-false n 19 (b .1))) t
 
-numbers-one : (a : DkLayout) → OneOnly (Numbers a)
-numbers-one a x y (report.one f) (report.one g) = refl
-numbers-one a x y (report.one f) (report.two t) = absurd (f t)
-numbers-one a x y (report.two t) (report.one f) = absurd (f t)
-numbers-one a x y (report.two t) (report.two s) = refl
+pub numbers-one : (number place second : ℕ) → OneOnly (Numbers number place second)
+numbers-one n p s x y (report.one f) (report.one g) = refl
+numbers-one n p s x y (report.one f) (report.two t) = absurd (f t)
+numbers-one n p s x y (report.two t) (report.one f) = absurd (f t)
+numbers-one n p s x y (report.two t) (report.two u) = refl
 
 pub refusal-one : (a : DkLayout) → OneOnly (RefusalLine a)
 refusal-one a t u (report.refuses {ns} h n l) (report.refuses {ns = ms} g m k) =
-    line-one (ascii "refused") ns t u l (rw (numbers-one a ms ns m n) at k)
+    line-one (ascii "refused") ns t u l (rw (numbers-one (a .refusal) (a .place) (a .second) ms ns m n) at k)
+
+pub numbers-meet : (why : Refusal) → Numbers (numberOf why) (firstOf (placeOf why)) (secondOf (placeOf why)) (numberOf why ∷ placeNumbers (placeOf why))
+numbers-meet BankCount = report.one (not-two 1 refl)
+numbers-meet (BankNumber b) = report.one (not-two 2 refl)
+numbers-meet (BanksOverlap a b) = report.two (inl refl)
+numbers-meet (Malformed p) = report.one (not-two 4 refl)
+numbers-meet (PositionPast p) = report.one (not-two 5 refl)
+numbers-meet (LabelOffBoundary p) = report.one (not-two 7 refl)
+numbers-meet Unresolved = report.one (not-two 8 refl)
+numbers-meet (DefaultBank p) = report.one (not-two 9 refl)
+numbers-meet (PastBank p) = report.one (not-two 10 refl)
+numbers-meet (NoOutput p) = report.one (not-two 11 refl)
+numbers-meet (Overlap a b) = report.two (inr (inl refl))
+numbers-meet (StoreFull p) = report.one (not-two 13 refl)
+numbers-meet (TooShort p) = report.one (not-two 14 refl)
+numbers-meet (BadStore p) = report.one (not-two 15 refl)
+numbers-meet BadPart = report.one (not-two 16 refl)
+numbers-meet PartlyCovered = report.one (not-two 17 refl)
+numbers-meet FillBitDropped = report.one (not-two 18 refl)
+numbers-meet (OffProfile a b) = report.two (inr (inr refl))
 
 module _ (passes : ℕ) (padding : List Lost) where
-  numbers-meet : (why : Refusal) → Numbers (buildTold (Refused why) passes padding) (numberOf why ∷ placeNumbers (placeOf why))
-  numbers-meet BankCount = report.one (not-two 1 refl)
-  numbers-meet (BankNumber b) = report.one (not-two 2 refl)
-  numbers-meet (BanksOverlap a b) = report.two (inl refl)
-  numbers-meet (Malformed p) = report.one (not-two 4 refl)
-  numbers-meet (PositionPast p) = report.one (not-two 5 refl)
-  numbers-meet (LabelOffBoundary p) = report.one (not-two 7 refl)
-  numbers-meet Unresolved = report.one (not-two 8 refl)
-  numbers-meet (DefaultBank p) = report.one (not-two 9 refl)
-  numbers-meet (PastBank p) = report.one (not-two 10 refl)
-  numbers-meet (NoOutput p) = report.one (not-two 11 refl)
-  numbers-meet (Overlap a b) = report.two (inr (inl refl))
-  numbers-meet (StoreFull p) = report.one (not-two 13 refl)
-  numbers-meet (TooShort p) = report.one (not-two 14 refl)
-  numbers-meet (BadStore p) = report.one (not-two 15 refl)
-  numbers-meet BadPart = report.one (not-two 16 refl)
-  numbers-meet PartlyCovered = report.one (not-two 17 refl)
-  numbers-meet FillBitDropped = report.one (not-two 18 refl)
-  numbers-meet (OffProfile a b) = report.two (inr (inr refl))
-
   pub refusal-meets : (why : Refusal) → RefusalLine (buildTold (Refused why) passes padding) (refusalText why)
   refusal-meets why = report.refuses (number-some why) (numbers-meet why) (line-meets (ascii "refused") (numberOf why ∷ placeNumbers (placeOf why)))
 

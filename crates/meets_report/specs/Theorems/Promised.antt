@@ -47,7 +47,7 @@ module _ (file : List ℕ) (small : Bytes file) (fill : ℕ) (page : Opt) where
       (subst (λ (z : Outcome). Reports z (reportText file fill page)) (layout-decides file fill page old (m .0) y (m .1) says) (m .2)))
 
 -- the bytes that are read
-bytes-take : (n : ℕ) (l : List ℕ) → Bytes l → Bytes (take n l)
+pub bytes-take : (n : ℕ) (l : List ℕ) → Bytes l → Bytes (take n l)
 bytes-take zero l h i = omega arith
 bytes-take (suc n) [] h i = omega arith
 bytes-take (suc n) (x ∷ l) h zero = h 0

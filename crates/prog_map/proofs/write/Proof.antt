@@ -1,4 +1,5 @@
--- `write` meets its contract: there is room for every map's text, and what is handed on is the text.
+-- `write` meets its contract: there is room for every map's text, what is handed on is the text, and the sentence says it (`map-text-exactly`). A file holds
+-- bytes.
 use mathlib.Core.Path.{_≡_, sym, ap, _∙_}
 use mathlib.Core.List.{List}
 use Prim.Native.Nat.{ℕ, _+_, _≤_}
@@ -7,6 +8,7 @@ use lib.ListN.{length, take, drop}
 use lib.Seq.{length-sets, sets-eq, take-at}
 use Rattle.print_text.specs.Puts.{Writes}
 use Rattle.print_map.specs.Text.{mapText}
+use Rattle.meets_map_text.specs.Theorems.Promised.{map-text-exactly}
 use borrow.Author.Needs.{needs}
 use Rattle.prog_map.proofs.write.Statement.{statement}
 use Rattle.prog_map.proofs.write.Tie as tie
@@ -20,14 +22,16 @@ front-is {text} {old} {new} {end} count w fits counted =
 
 returns : tie.Need-returns
 returns c =
-    let a = c .before .before .before .before .before .before .args in
+    let s = c .before .before .before .before .before .before in
+    let a = s .args in
     let written = c .before .before .before .write-map .ensures in
     let room = c .before .print-arg2 .given .0 in
     let counted : c .print .result ≡ length (mapText (a .file .now) (a .fill) (a .page)) =
     omega (arith, c .print .ensures, written .0 .place, written .1, room) in
+    let front = front-is (c .print .result) (written .0) (omega (arith, written .1, room)) counted in
     record {
-      counted = counted;
-      front = front-is (c .print .result) (written .0) (omega (arith, written .1, room)) counted;
+      within = omega (arith, c .print .ensures);
+      says = map-text-exactly (a .file .now) (λ i. c .before .before .before .before .before .shared-slice-known .given i .fits) (a .fill) (a .page) _ .1 front;
     }
 
 pub write-spec : {M : Type 1} → statement M
