@@ -61,7 +61,9 @@ ROWS = (
         ("dk_write_hex", "64 KiB", ("objcopy", "srec_cat")), ("dk_write_srec", "64 KiB", ("objcopy", "srec_cat")),
         ("dk_read_records:hex", "64 KiB, Intel HEX", ("objcopy", "srec_cat")), ("dk_read_records:srec", "64 KiB, S-records", ("objcopy", "srec_cat")))
        for tool in tools]
-    + [Row("dk_record_fault:hex", "64 KiB, Intel HEX", "", "dk_read_records", "dk_read_records:hex"),
+    + [Row("dk_record_extent:hex", "64 KiB, Intel HEX", "", "dk_record_fault", "dk_record_fault:hex"),
+       Row("dk_record_extent:srec", "64 KiB, S-records", "", "dk_record_fault", "dk_record_fault:srec"),
+       Row("dk_record_fault:hex", "64 KiB, Intel HEX", "", "dk_read_records", "dk_read_records:hex"),
        Row("dk_record_fault:srec", "64 KiB, S-records", "", "dk_read_records", "dk_read_records:srec"),
        Row("dk_record_reason:hex", "64 KiB, Intel HEX, no end record", "", "dk_record_fault", "dk_record_fault:hex"),
        Row("dk_record_reason:srec", "64 KiB, S-records, no end record", "", "dk_record_fault", "dk_record_fault:srec"),

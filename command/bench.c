@@ -84,6 +84,13 @@ static void put_refused(struct text *words, const struct asked *asked, struct by
     } else put_cause(words, r->number == 14 ? BENCH_RUNS : s.note.len == 0 ? BENCH_EMPTY : r->number == 16 ? BENCH_OUTSIDE : BENCH_PARTLY, &s);
 }
 
+/* Unless it is said, the load address is the lowest that the two files and the range have: addresses are compared and told as they are, whatever it is. */
+static uint32_t load_of(const struct asked *asked, const struct bytes *files) {
+    uint32_t released = proved_lowest(files[0], 0), overlay = proved_lowest(files[1], 0), load = released < overlay ? released : overlay;
+    if (asked->given & LOWEST) return asked->load;
+    return (asked->given & RANGE) && asked->address < load ? asked->address : load;
+}
+
 int do_bench(struct asked *asked) {
     if (strcmp(asked->file[0], "-") == 0 && strcmp(asked->file[1], "-") == 0) fail("standard input can be read once, and both files are -");
     int has_range = (asked->given & RANGE) != 0, differs = 0;
@@ -91,6 +98,7 @@ int do_bench(struct asked *asked) {
     struct bytes files[2] = {read_input(asked->file[0], BENCH_MAX), read_input(asked->file[1], BENCH_MAX)}, text;
     struct refusal r;
     struct text shown = {0}, json = {0}, words = {0};
+    asked->load = load_of(asked, files);
     text = has_range ? proved_bench_range(files[0], files[1], asked->load, asked->address, asked->count) : proved_bench(files[0], files[1], asked->load);
     int is_refused = is_refusal(text, &r);
     json_open(&json, NULL, "{");

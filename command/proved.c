@@ -150,3 +150,7 @@ struct reason proved_reason(struct bytes file, uint8_t kind, uint32_t load) {
     struct reason r = {w.reason, w.line, w.first, w.second};
     return r;
 }
+
+uint32_t proved_lowest(struct bytes file, uint8_t kind) {
+    return (uint32_t)dk_record_extent(kind, file.at, file.len, scratch, sizeof scratch).lowest;
+}

@@ -49,4 +49,5 @@ struct verified {
 struct verified proved_verify(const struct built *b, struct bytes dump, uint8_t kind, uint32_t base, uint32_t load, int is_whole, struct refusal *r);
 int proved_reads(struct bytes file, uint8_t kind, uint32_t load, size_t reach); /* whether it is read so, its bytes that near to the load address */
 struct reason proved_reason(struct bytes file, uint8_t kind, uint32_t load);
+uint32_t proved_lowest(struct bytes file, uint8_t kind); /* the lowest address that a file gives a byte to; 0 where it gives none or is bad */
 #endif

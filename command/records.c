@@ -53,19 +53,13 @@ static void put_reason(struct text *t, const struct source *f) {
     if (!is_blank) put_remedy(t, cause);
 }
 
-/* Read from the last address on a good file is refused with its lowest. A bad file is refused by any. */
-uint32_t lowest(struct bytes file, uint8_t kind) {
-    struct reason r = proved_reason(file, kind, UINT32_MAX);
-    return r.reason == 10 ? (uint32_t)r.second : r.reason == 0 ? UINT32_MAX : 0;
-}
-
 void put_unread(struct text *t, const struct source *f, int number, int has_line) {
     struct said s = {NULL, NULL, 0, 0, 0, {(int64_t)f->limit, (int64_t)f->reach, 0}, {NULL, 0, 0}};
     if (number == 4 && has_line) {
         put_reason(t, f);
         return;
     }
-    uint32_t load = number == 14 ? lowest(f->file, f->kind) : 0;
+    uint32_t load = number == 14 ? proved_lowest(f->file, f->kind) : 0;
     s.n[2] = load;
     put_cause(t, number != 14 ? RECORDS_LONG : load > f->load && proved_reads(f->file, f->kind, load, f->reach) ? RECORDS_LOW : RECORDS_ROOM, &s);
 }
@@ -135,7 +129,7 @@ int do_rehex(struct asked *asked) {
     struct refusal r;
     struct text words = {0};
     if (!to_srec && asked->width) fail_name("--width is for S-records, and ", called(asked->file[0]), " has some: Intel HEX comes out");
-    if (!(asked->given & LOWEST)) f.load = f.file.len > RECORDS_MAX ? 0 : lowest(f.file, f.kind);
+    if (!(asked->given & LOWEST)) f.load = f.file.len > RECORDS_MAX ? 0 : proved_lowest(f.file, f.kind);
     struct bytes text = proved_rehex(f.file, f.kind, !to_srec ? 0 : asked->width ? asked->width : 4, f.load);
     if (!is_refusal(text, &r)) return answer(text, asked->out);
     if (r.number == 4 && !says(text, "line ") && f.file.len <= f.limit) {

@@ -225,7 +225,15 @@ says 'it begins with a byte order mark' '"$D" layout bom.hex'
 printf '\357\273\2770\ta\tb\n' >bom.names
 ends 0 '! "$D" layout --names bom.names worked.form 2>err && grep -q "names file: it begins with a byte order mark" err'
 printf ':020000040010EA\n:0100000000FF\n:00000001FF\n' >far.hex
-says 'lowest address is 0x100000, and --load 0x100000 would do' '"$D" bench far.hex far.hex'
+says 'lowest address is 0x100000, and --load 0x100000 would do' '"$D" bench far.hex far.hex --load 0'
+# without --load: bench takes the lowest address that both files and the range have, and verify names that of a dump which gives none of the image
+ends 0 '"$D" bench far.hex far.hex --check && "$D" bench far.hex far.hex --range 0x100000 1 | grep -qx "overlay 00"'
+says 'gives no byte at 1048575 (0x000fffff)' '"$D" bench far.hex far.hex --range 0xfffff 2'
+for call in 'b.hex b0.hex' 'b.hex b.hex --range 0x7ffe 4' 'b.hex b.hex --range 0x8000 2'; do
+    holds "\"\$D\" bench $call >a 2>&1; \"\$D\" bench $call --load 0 2>&1 | cmp - a"
+done
+ends 0 '"$D" verify "$E/banks.form" b.hex >a 2>err; [ $? -eq 1 ] && grep -q "b.hex: its lowest address is 0x8000: if .* say --load 0x8000$" err'
+ends 0 '"$D" verify "$E/banks.form" b.hex --load 0x8000 2>err && [ ! -s err ]'
 says 'docs/RECIPES.md' 'printf ":020000021000EC\n:00000001FF\n" >seg.hex; "$D" rehex seg.hex'
 # refusal 16 names the block; words that differ are shown with their addresses, old and new
 says '16: block 0 (output bits 0..9, from node 2 on) does not begin and end on a whole byte' '"$D" ihex worked.form'

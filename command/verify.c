@@ -199,6 +199,18 @@ static void put_refused(struct text *t, struct both *b, const struct built *buil
     }
 }
 
+/* Where the dump gives none of the image's bytes, the lowest address that it gives: perhaps another --load was meant. It is never taken by itself, since a
+ * dump that was shifted would then be the same. */
+static void hint_load(const struct both *b, const struct verified *v, uint32_t lowest) {
+    struct text said = {0};
+    uint64_t missing = 0;
+    for (size_t i = 0; i < v->runs; i++) missing += v->run[i].kind == DK_MISSING ? v->run[i].count : 0;
+    if (missing == 0 || missing < (uint64_t)v->asked || lowest <= b->asked->load) return;
+    put_escaped(&said, called(b->asked->file[1]));
+    put(&said, ": its lowest address is 0x%lX: if the image begins there, say --load 0x%lX", (unsigned long)lowest, (unsigned long)lowest);
+    tell_text(&said);
+}
+
 int do_verify(struct asked *asked) {
     if (strcmp(asked->file[0], "-") == 0 && strcmp(asked->file[1], "-") == 0) fail("standard input can be read once, and both files are -");
     struct bytes file = read_input(asked->file[0], LAYOUT_MAX);
@@ -212,8 +224,8 @@ int do_verify(struct asked *asked) {
     take_built(b.layout, &built);
     struct refusal r = built.refusal;
     dump.kind = kind_of(dump.file);
-    dump.load = lowest(dump.file, dump.kind);
-    if (dump.load > asked->load) dump.load = asked->load;
+    uint32_t lowest = proved_lowest(dump.file, dump.kind);
+    dump.load = lowest < asked->load ? lowest : asked->load;
     if (r.number == 0) v = proved_verify(&built, dump.file, dump.kind, dump.load, asked->load, (asked->given & WHOLE) != 0, &r);
     if (r.number) put_refused(&words, &b, &built, &dump, &r);
     b.wanted.at = built.image;
@@ -225,5 +237,6 @@ int do_verify(struct asked *asked) {
     if (r.number && (asked->given & JSON)) print_answer(bytes_of(&json));
     if (r.number) return refuse(r.number, &words);
     answer(bytes_of(asked->given & JSON ? &json : &text), asked->out);
+    hint_load(&b, &v, lowest);
     return differs ? REFUSED : DONE;
 }

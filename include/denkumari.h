@@ -414,6 +414,18 @@ struct dk_count dk_read_records(uint8_t format, const uint8_t *text, size_t text
                                 uint64_t *sizes, size_t sizes_len,
                                 uint8_t *scratch, size_t scratch_len);
 
+/* Where the bytes of a file of records stand. */
+struct dk_extent {
+    uint64_t refusal; /* enum dk_refusal */
+    uint64_t lowest;  /* the lowest address that the file gives a byte to */
+    uint64_t end;     /* the address behind the highest, 2^32 at most */
+};
+
+/* The lowest address that the same file gives a byte to and the one behind the highest, in the same time, with `scratch` as above; both are 0 where it gives
+ * none, and only then is `end` 0. Refused 4 (place 0) where the format is neither of the two or the file bad, whatever the load address. dk_read_records with
+ * `load` no higher than `lowest` then needs end - load bytes, and refuses nothing but lists that are too short. It needs less than 1.5 KiB of stack. */
+struct dk_extent dk_record_extent(uint8_t format, const uint8_t *text, size_t text_len, uint8_t *scratch, size_t scratch_len);
+
 /* Where a file of records is bad. */
 struct dk_fault {
     uint64_t fault; /* 1 where it is, else 0 */
@@ -567,6 +579,8 @@ static inline const char *dk_words(uint64_t refusal)
  *                   (`Room`); checksums: `meets_records/Checksums.srec-written-sums`
  * dk_read_records   sentence `says/Read.ReadSays`; `meets_records/ReadDecides.read-decides`. Records in any order: `meets_records/SameReading.order-free`
  *                   (the same data records with the same whole addresses); LF or CR LF: `meets_records/SameReading.cr-lf-free`
+ * dk_record_extent  sentence `says/Extent.ExtentSays`; `meets_records/Extent.extent-decides`. Refused, no load address makes the file good:
+ *                   `meets_records/Extent.no-load`; accepted, every one up to the lowest address does: `meets_records/Extent.any-load`
  * dk_record_fault   sentence `says/Read.FaultSays`; `meets_records/FaultDecides.fault-decides`
  * dk_record_reason  sentence `says/Reason.DkReasonSays`; `meets_reason/Decides.dk-reason-decides`. A reason exactly where dk_read_records refuses 4:
  *                   `meets_reason/Told.refused-4-exactly`; dk_record_fault's line: `meets_reason/Told.line-is-faults`

@@ -287,7 +287,12 @@ static inline uint64_t dk_bytes_read(const struct dk_block_list *blocks)
     return blocks->count == 0 ? 0 : (blocks->offsets[blocks->count - 1] + blocks->sizes[blocks->count - 1]) / 8;
 }
 
-/* dk_record_fault and dk_record_reason of the same file. */
+/* dk_record_extent, dk_record_fault and dk_record_reason of the same file. */
+static inline struct dk_extent dk_record_extent_of(const struct dk_reading *reading)
+{
+    return dk_record_extent(reading->format, reading->text, reading->text_len, reading->scratch, reading->scratch_len);
+}
+
 static inline struct dk_fault dk_record_fault_of(const struct dk_reading *reading)
 {
     return dk_record_fault(reading->format, reading->text, reading->text_len, reading->load, reading->scratch, reading->scratch_len);

@@ -40,6 +40,7 @@ def requests_for(kind, load, text, rng=None):
     yield read_request(kind, load, text, rng)
     yield f"fault {kind} {load} {text.hex() or '-'}"
     yield f"reason {kind} {load} {text.hex() or '-'}"
+    yield f"extent {kind} {text.hex() or '-'}"
 
 
 def every_byte(files):

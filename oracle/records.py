@@ -231,6 +231,15 @@ def fault(kind, text, load):
     return None
 
 
+def extent(kind, text):
+    """The lowest address that a file gives and the one behind the highest, zeros where it gives none."""
+    try:
+        given = parse(kind, text, 0)
+    except BadLine:
+        raise Refused(4) from None
+    return (min(given), max(given) + 1) if given else (0, 0)
+
+
 # The lines of a comparison
 
 def shown(numbers):
@@ -274,6 +283,11 @@ def answer(line):
         kind, load, text = words[1:]
         line = fault(kind, octets(text), int(load))
         return "good" if line is None else f"line {line}"
+    if words[0] == "extent":
+        try:
+            return "ok %d %d" % extent(words[1], octets(words[2]))
+        except Refused as r:
+            return str(r)
     if words[0] == "reason":
         import reasons  # which stands on this module
         kind, load, text = words[1:]
@@ -334,6 +348,7 @@ def selftest_vectors():
     check("past", fault("hex", past, 0), 1)
     over = hex_record(0, 0xFFFF, b"\x01\x02").encode() + end
     check("over", parse("hex", over, 0), {0xFFFF: 1, 0x10000: 2})
+    check("extent", (extent("hex", over), extent("hex", b":00FFFF0002\n" + end)), ((0xFFFF, 0x10001), (0, 0)))
     s1, s9, s3, s7, s0 = (s_record(d, w, 0, x).encode() for d, w, x in ((1, 2, b"A"), (9, 2, b""), (3, 4, b"A"), (7, 4, b""), (0, 2, b"HDR")))
     for text, line in ((s1 + s9, None), (s3 + s7, None), (s1 + s7, 1), (s3 + s9, 1), (s1 + s3 + s7, 1), (s0 + s1 + s0 + s9, None), (s9, None),
                        (s7, None), (s1 + s9 + s0, 2), (s0, 1), (s_record(5, 2, 1, b"").encode() + s9, 0), (s_record(2, 3, 0, b"A").encode(), 0),

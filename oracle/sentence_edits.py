@@ -51,6 +51,8 @@ EDITS = [
      "(getD givenOffsets i 0 ≤ 8 * b) × (8 * b + 8 ≤ getD givenOffsets i 0", "(getD givenOffsets i 0 ≤ 8 * b) × (8 * b + 16 ≤ getD givenOffsets i 0"),
     ("19 comes after the first pass", "dk_build_paged", "Paged", "refusal g old 19 rule at 0", "refusal g old 19 rule at 1"),
     ("a bank without an offset has 0 pages", "dk_profile", "Profile", "Offset g b o → ⊥) → Pages b 18446744073709551615", "Offset g b o → ⊥) → Pages b 0"),
+    ("the highest address of a file is told as its end", "dk_record_extent", "Extent", "told 0 lowest (highest + 1)", "told 0 lowest highest"),
+    ("the lowest address of a file is any that it gives", "dk_record_extent", "Extent", "First (GivenTo ps) lowest", "GivenTo ps lowest"),
     ("a line that begins at the load address is told as below it", "dk_record_reason", "Reason", "0 < length (p .bytes) → p .address < load",
      "0 < length (p .bytes) → p .address ≤ load"),
     ("the checksum that should be there may be 256 and more", "dk_record_reason", "Reason", "hex : format ≡ 0 → c < 256", "hex : format ≡ 0 → c < 512"),

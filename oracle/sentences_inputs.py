@@ -277,6 +277,7 @@ MAKE = {
     "dk_write_hex": writing,
     "dk_write_srec": lambda r: dict(writing(r), width=r.choice((2, 4, 4, 2, 3, 0))),
     "dk_read_records": reading,
+    "dk_record_extent": text,
     "dk_record_reason": text,
     "dk_record_fault": text,
 }

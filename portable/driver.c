@@ -228,6 +228,7 @@ static const struct {
     {"dk_write_hex", N(0) | N(4) | N(14) | N(16)},
     {"dk_write_srec", N(0) | N(4) | N(14) | N(16)},
     {"dk_read_records", N(0) | N(4) | N(14)},
+    {"dk_record_extent", N(0) | N(4)},
     {"dk_record_fault", N(0) | N(1)},
     {"dk_record_reason", N(14) - 1},
     {"rules of the profile", N(1) | N(2) | N(3) | N(4) | N(5) | N(6)},

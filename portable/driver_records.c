@@ -14,6 +14,7 @@ static struct {
     uint8_t format, width;
 } r;
 static struct dk_count counts;
+static struct dk_extent extent;
 static struct dk_fault fault;
 static struct dk_reason reason;
 static struct dk_part part;
@@ -30,6 +31,7 @@ static void make_read(void)
 {
     counts = dk_read_records(READ, r.bytes, r.bytes_count, r.offsets, r.offsets_count, r.sizes, r.sizes_count, r.scratch, r.scratch_count);
 }
+static void make_extent(void) { extent = dk_record_extent(r.format, r.text, r.text_count, r.scratch, r.scratch_count); }
 static void make_fault(void) { fault = dk_record_fault(READ, r.scratch, r.scratch_count); }
 static void make_reason(void) { reason = dk_record_reason(READ, r.scratch, r.scratch_count); }
 
@@ -282,6 +284,7 @@ void round_of_records(void)
         counted(SHORT_FORMS, counts.place);
     if (counts.refusal == 0 && counts.count > 0)
         counted(FORMATS_READ, r.format);
+    called(RECORD_EXTENT, make_extent, FIELDS(extent));
     called(RECORD_FAULT, make_fault, FIELDS(fault));
     called(RECORD_REASON, make_reason, FIELDS(reason));
 }

@@ -24,8 +24,8 @@ void *memcpy(void *a, const void *b, size_t n) { char *d = a; const char *s = b;
 void *memset(void *a, int c, size_t n) { char *d = a; while (n--) *d++ = (char)c; return a; }
 void start(void) {}
 """
-LOADER = ("dk_read_records", "dk_record_fault", "dk_record_reason", "dk_blocks", "dk_offer", "dk_part", "dk_overlay_range", "dk_overlay_runs", "dk_write_hex",
-          "dk_hex")
+LOADER = ("dk_read_records", "dk_record_extent", "dk_record_fault", "dk_record_reason", "dk_blocks", "dk_offer", "dk_part", "dk_overlay_range",
+          "dk_overlay_runs", "dk_write_hex", "dk_hex")
 
 
 class TooMuch(manners.Stop):

@@ -245,6 +245,16 @@ static void read_srec(void)
     counted(dk_read_records(DK_S_RECORDS, text, text_length, 0, fetched, LOADED, offsets, SPANS, sizes, SPANS, marked, sizeof marked));
 }
 
+static void extent_hex(void)
+{
+    refusal = dk_record_extent(DK_INTEL_HEX, text, text_length, marked, sizeof marked).refusal;
+}
+
+static void extent_srec(void)
+{
+    refusal = dk_record_extent(DK_S_RECORDS, text, text_length, marked, sizeof marked).refusal;
+}
+
 static void fault_hex(void)
 {
     refusal = dk_record_fault(DK_INTEL_HEX, text, text_length, 0, marked, sizeof marked).fault;
@@ -409,6 +419,7 @@ static const struct { const char *name, *order; void (*make)(const char *); void
     {"dk_overlay_runs", "sixteenth", make_overlay, runs, once_runs}, {"dk_verify", "last", make_overlay, verify, once_runs},
     {"dk_write_hex", "hex", make_text, write_hex, once_write}, {"dk_write_srec", "srec", make_text, write_srec, once_write},
     {"dk_read_records", "hex", make_text, read_hex, once_read}, {"dk_read_records", "srec", make_text, read_srec, once_read},
+    {"dk_record_extent", "hex", make_text, extent_hex, once_fault}, {"dk_record_extent", "srec", make_text, extent_srec, once_fault},
     {"dk_record_fault", "hex", make_text, fault_hex, once_fault}, {"dk_record_fault", "srec", make_text, fault_srec, once_fault},
     {"dk_map", "", NULL, mapped, once_map}, {"dk_record_reason", "hex", make_text, reason_hex, once_fault},
     {"dk_record_reason", "srec", make_text, reason_srec, once_fault}, {"memcmp", "last", make_overlay, compare_bytes, NULL},

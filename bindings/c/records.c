@@ -116,6 +116,17 @@ static void find_fault(char **words)
         fputs("good", stdout);
 }
 
+/* extent KIND FILE */
+static void find_extent(char **words)
+{
+    size_t length = octets(words[2], text);
+    struct dk_extent r = dk_record_extent(format(words[1]), text, length, scratch, marked());
+    if (r.refusal)
+        printf("refused %" PRIu64 " 0", r.refusal);
+    else
+        printf("ok %" PRIu64 " %" PRIu64, r.lowest, r.end);
+}
+
 /* reason KIND LOAD FILE */
 static void find_reason(char **words)
 {
@@ -135,6 +146,8 @@ int main(void)
             write_records(words);
         else if (n == 6 && strcmp(words[0], "read") == 0)
             read_records(words);
+        else if (n == 3 && strcmp(words[0], "extent") == 0)
+            find_extent(words);
         else if (n == 4 && strcmp(words[0], "fault") == 0)
             find_fault(words);
         else if (n == 4 && strcmp(words[0], "reason") == 0)

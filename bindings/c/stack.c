@@ -91,6 +91,11 @@ static void read_srec(void)
     refusal = dk_read_records(DK_S_RECORDS, text, text_length, 0xfff8, image, sizeof image, offsets, NODES, sizes, NODES, marked, sizeof marked).refusal;
 }
 
+static void extent(void)
+{
+    refusal = dk_record_extent(DK_S_RECORDS, text, text_length, marked, sizeof marked).refusal;
+}
+
 static void fault(void)
 {
     refusal = dk_record_fault(DK_S_RECORDS, text, text_length, 0xfff8, marked, sizeof marked).fault;
@@ -122,6 +127,11 @@ static void read_jumps(void)
 {
     refusal = dk_read_records(DK_INTEL_HEX, (const uint8_t *)jumps, jumps_length, 0, image, sizeof image, offsets, NODES, sizes, NODES, marked,
                               sizeof marked).refusal;
+}
+
+static void extent_jumps(void)
+{
+    refusal = dk_record_extent(DK_INTEL_HEX, (const uint8_t *)jumps, jumps_length, marked, sizeof marked).refusal;
 }
 
 static void fault_jumps(void)
@@ -332,6 +342,7 @@ int main(void)
     bad |= measure("dk_read_records, Intel HEX", read_hex, 2048);
     bad |= measure("dk_write_srec", write_srec, 1024);
     bad |= measure("dk_read_records, S-records", read_srec, 2048);
+    bad |= measure("dk_record_extent", extent, 1536);
     bad |= measure("dk_record_fault", fault, 1536);
     for (unsigned i = 0; i < 97; i++) {
         unsigned at = i * 41 % 97;
@@ -339,6 +350,7 @@ int main(void)
     }
     jumps_length += (size_t)sprintf(jumps + jumps_length, ":00000001FF\n");
     bad |= measure("dk_read_records, jumps", read_jumps, 2048);
+    bad |= measure("dk_record_extent, jumps", extent_jumps, 1536);
     bad |= measure("dk_record_fault, jumps", fault_jumps, 1536);
     bad |= measure("dk_record_reason, jumps", reason_jumps, 2048);
     bad |= measure("dk_record_reason", reason, 2048);

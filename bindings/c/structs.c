@@ -295,6 +295,8 @@ static void records_by_name(void)
     struct dk_count n = dk_read_records_into(&reading, &blocks);
     expect(n.refusal == 0 && blocks.count == 2 && block_offsets[1] == 16 && block_sizes[1] == 8, "the blocks of a file");
     expect(dk_bytes_read(&blocks) == 3 && bytes[0] == 0x2b && bytes[1] == 0xff && bytes[2] == 0x2a && bytes[3] == 0xff, "its bytes");
+    struct dk_extent extent = dk_record_extent_of(&reading);
+    expect(extent.refusal == DK_ACCEPTED && extent.end - extent.lowest == dk_bytes_read(&blocks), "where its bytes stand");
     expect(dk_record_fault_of(&reading).fault == 0 && dk_record_reason_of(&reading).reason == DK_GOOD_FILE, "nothing is wrong with it");
     reading.text = (const uint8_t *)bad;
     reading.text_len = sizeof bad - 1;

@@ -177,6 +177,8 @@ static void records(void)
                "the bytes that are read back, and the gap between them");
         struct dk_fault fault = dk_record_fault((uint8_t)kind, text, r.count, 0x1fffe, NULL, 0);
         expect(fault.fault == 0 && fault.line == 0, "a good file");
+        struct dk_extent extent = dk_record_extent((uint8_t)kind, text, r.count, NULL, 0);
+        expect(extent.refusal == DK_ACCEPTED && extent.lowest == 0x1fffe && extent.end == 0x20006, "where its bytes stand");
         lent = fresh;
         n = dk_read_records((uint8_t)kind, text, r.count, 0x1ffff, lent.image, 8, lent.offsets, 4, lent.sizes, 4, NULL, 0);
         expect(n.refusal == DK_MALFORMED && n.place == 0 && n.count == 0 && untouched(), "a byte below the load address");
@@ -189,8 +191,10 @@ static void records(void)
         for (int neither = 2; neither < 256; neither++) {
             n = dk_read_records((uint8_t)neither, text, r.count, 0x1fffe, lent.image, 8, lent.offsets, 4, lent.sizes, 4, NULL, 0);
             fault = dk_record_fault((uint8_t)neither, text, r.count, 0x1fffe, NULL, 0);
+            extent = dk_record_extent((uint8_t)neither, text, r.count, NULL, 0);
             expect(n.refusal == DK_MALFORMED && n.place == 0 && n.count == 0 && untouched() && fault.fault == 1 && fault.line == 0,
                    "a format that is neither");
+            expect(extent.refusal == DK_MALFORMED && extent.lowest == 0 && extent.end == 0, "where bytes stand in such a format");
         }
     }
     memset(text, 0xa5, sizeof text);
@@ -225,6 +229,7 @@ static void jumping(void)
             memset(bytes, 0xa5, sizeof bytes);
             struct dk_fault fault = dk_record_fault(DK_INTEL_HEX, (const uint8_t *)text, length, 0, scratch, many);
             struct dk_reason reason = dk_record_reason(DK_INTEL_HEX, (const uint8_t *)text, length, 0, scratch, many);
+            struct dk_extent extent = dk_record_extent(DK_INTEL_HEX, (const uint8_t *)text, length, scratch, many);
             struct dk_count n = dk_read_records(DK_INTEL_HEX, (const uint8_t *)text, length, 0, bytes, sizeof bytes, &at, 1, &size, 1, scratch, many);
             if (twice)
                 expect(n.refusal == DK_MALFORMED && at == 0xa5 && bytes[0] == 0xa5 && fault.fault == 1 && fault.line == 1000 && reason.line == 1000
@@ -232,6 +237,7 @@ static void jumping(void)
             else
                 expect(n.refusal == DK_ACCEPTED && n.count == 1 && at == 0 && size == 8000 && bytes[0] == 65 && bytes[999] == 65 && fault.fault == 0
                            && reason.reason == DK_GOOD_FILE, "records that jump");
+            expect(extent.refusal == (twice ? DK_MALFORMED : DK_ACCEPTED) && extent.lowest == 0 && extent.end == (twice ? 0 : 1000), "where they stand");
             expect(memcmp(scratch, before, sizeof scratch) == 0, "the scratch as it was");
         }
     }

@@ -29,6 +29,7 @@ CALLS = {
     "dk_write_hex": "HexSays (image offsets sizes load) text",
     "dk_write_srec": "SrecSays (image offsets sizes load) text width",
     "dk_read_records": "ReadSays format load text (bytes offsets sizes scratch)",
+    "dk_record_extent": "ExtentSays format text scratch",
     "dk_record_reason": "DkReasonSays format load text scratch",
     "dk_record_fault": "FaultSays format load text scratch",
 }

@@ -27,13 +27,13 @@ from ._form import convert
 from ._layout import Built, Layout
 from ._names import BadNames, cksum, read_names
 from ._recorder import Misuse, Recorder
-from ._records import BadRecords, Records, Run, read_records, write_hex, write_srec
+from ._records import BadRecords, Records, Run, extent, read_records, write_hex, write_srec
 from ._types import Bank, Block, Kind, Map, Node, Padding, Placed, Refused, Span, State
 from ._verify import Difference, Differing, Verified, verify
 
 __all__ = [
     "BadNames", "BadRecords", "Bank", "Block", "Built", "Difference", "Differing", "Kept", "Kind", "Layout", "Map", "Misuse", "Node", "Overlay",
-    "Padding", "Placed", "Recorder", "Records", "Refused", "Run", "Span", "State", "Store", "Verified", "bench", "cksum", "convert",
+    "Padding", "Placed", "Recorder", "Records", "Refused", "Run", "Span", "State", "Store", "Verified", "bench", "cksum", "convert", "extent",
     "hex_digits", "read_names", "read_records", "verify", "write_hex", "write_srec"
 ]
 for _name in __all__:  # they are the package's own, for tracebacks and pickles

@@ -52,6 +52,10 @@ class Overlay(c.Structure):
     _fields_ = [(name, U64) for name in "refusal image start length".split()]
 
 
+class Extent(c.Structure):
+    _fields_ = [("refusal", U64), ("lowest", U64), ("end", U64)]
+
+
 class Fault(c.Structure):
     _fields_ = [("fault", U64), ("line", U64)]
 
@@ -88,6 +92,7 @@ FUNCTIONS = {
     "dk_write_hex": (Count, [*_BYTES, *_lists(U64, U64), U32, *_lists(U8)]),
     "dk_write_srec": (Count, [*_BYTES, *_lists(U64, U64), U32, U8, *_lists(U8)]),
     "dk_read_records": (Count, [U8, *_BYTES, U32, *_lists(U8, U64, U64, U8)]),
+    "dk_record_extent": (Extent, [U8, *_BYTES, *_lists(U8)]),
     "dk_record_fault": (Fault, [U8, *_BYTES, U32, *_lists(U8)]),
     "dk_record_reason": (Reason, [U8, *_BYTES, U32, *_lists(U8)]),
     "dk_verify": (Count, [*_BYTES, *_lists(U64, U64), *_BYTES, *_lists(U64, U64, U64, U64, U8)]),

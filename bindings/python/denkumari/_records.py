@@ -192,10 +192,33 @@ def _bad(reason: Reason, raw: bytes, is_srec: bool, is_str: bool) -> BadRecords:
     return BadRecords(reason.reason, reason.line + 1, reason.first, reason.second, words)
 
 
-def _lowest(is_srec: int, lent: Tuple[Any, int], scratch: Tuple[Any, int]) -> int:
-    """The lowest address of a good file: read from the last address on it is refused with it. A bad file is refused from any."""
-    reason = lib.dk_record_reason(is_srec, *lent, MOST, *scratch)
-    return int(reason.second) if reason.reason == 10 else MOST if reason.reason == 0 else 0
+class _File:
+    """A file's text, lent to the calls that read it, with their scratch."""
+
+    def __init__(self, text: Union[Text, "os.PathLike[str]"]):
+        raw = Path(text).read_bytes() if isinstance(text, os.PathLike) else _text_of(text)
+        self.seen, lent = view("a file of records", raw), lend("a file of records", raw)
+        scratch = (U8 * min(max(lent[1], 4096), 1 << 22))()
+        self.is_str, self.is_srec, self.lines = isinstance(text, str), int(self.seen[:1].tobytes() in (b"S", b"s")), lent[1] // 10 + 1
+        self.text, self.scratch = (self.is_srec, *lent), (scratch, len(scratch))
+
+    def good(self, load: Optional[int]) -> Tuple[int, int, int]:
+        """The address that it is read from, the lowest that it gives if none is said; that one, and the one behind the highest. A bad file is refused."""
+        found = lib.dk_record_extent(*self.text, *self.scratch)
+        start = found.lowest if load is None else load
+        if found.refusal or found.end and found.lowest < start:
+            raise _bad(lib.dk_record_reason(*self.text, start, *self.scratch), self.seen.tobytes(), bool(self.is_srec), self.is_str)
+        return start, found.lowest, found.end
+
+
+def extent(text: Union[Text, "os.PathLike[str]"]) -> Run:
+    """Where the bytes of a file of records stand: the lowest address that it gives, and how many bytes there are from it up to the highest, gaps too.
+
+    >>> extent(":02123400ABCD40\\n:0112400001AC\\n:00000001FF\\n")
+    Run(first=4660, length=13)
+    """
+    _, lowest, end = _File(text).good(None)
+    return Run(lowest, end - lowest)
 
 
 def read_records(text: Union[Text, "os.PathLike[str]"], load: Optional[int] = None, room: int = ROOM) -> Records:
@@ -207,33 +230,22 @@ def read_records(text: Union[Text, "os.PathLike[str]"], load: Optional[int] = No
     denkumari.BadRecords: refused 4 0: line 1: checksum is FD, should be FE: ":0100000001FD"
     """
     most = number("room", room, 0, 1 << 33)
-    raw = Path(text).read_bytes() if isinstance(text, os.PathLike) else _text_of(text)
-    seen, lent = view("a file of records", raw), lend("a file of records", raw)
-    is_srec = int(seen[:1].tobytes() in (b"S", b"s"))
-    scratch = (U8 * min(max(lent[1], 4096), 1 << 22))()
-    start = _lowest(is_srec, lent, (scratch, len(scratch))) if load is None else number("load", load, 0, MOST)
-    reason = lib.dk_record_reason(is_srec, *lent, start, scratch, len(scratch))
-    if reason.reason:
-        raise _bad(reason, seen.tobytes(), bool(is_srec), isinstance(text, str))
-    return _read(is_srec, lent, start, most, (scratch, len(scratch)), load is None)
+    file = _File(text)
+    start, _, end = file.good(None if load is None else number("load", load, 0, MOST))
+    size = max(end - start, 0)
+    if size > most:
+        raise Refused(14, 0, words=say("RECORDS_ROOM", (0, most, start)))
+    return _read(file, start, size)
 
 
-def _read(is_srec: int, lent: Tuple[Any, int], start: int, most: int, scratch: Tuple[Any, int], is_lowest: bool) -> Records:
-    """A good file, with more room until it fits."""
-    lists = lent[1] // 10 + 1  # the shortest line of data has more characters
-    offsets, sizes, size = room(U64, lists), room(U64, lists), min(max(lent[1], 4096), most)
-    while True:
-        held, out = room_for_bytes(size)
-        answer = lib.dk_read_records(is_srec, *lent, start, out, size, *offsets, *sizes, *scratch)
-        del out
-        if answer.refusal != 14 or answer.place != 0 or size >= most:
-            break
-        size = min(8 * size, most)
-    if answer.refusal:
-        raise Refused(answer.refusal, answer.place, words=say("RECORDS_ROOM", (0, most, start)))
-    runs = [Run(start + offset // 8, bits // 8) for offset, bits in zip(offsets[0][:answer.count], sizes[0][:answer.count])]
-    del held[sum(runs[-1]) - start if runs else 0:]
-    return Records(start if runs or not is_lowest else 0, memoryview(held).toreadonly(), runs)
+def _read(file: _File, start: int, size: int) -> Records:
+    """A good file: so many bytes from an address on. Each block has a line of data, and the shortest has 11 characters."""
+    offsets, sizes = room(U64, file.lines), room(U64, file.lines)
+    held, out = room_for_bytes(size)
+    found = accepted(lib.dk_read_records(*file.text, start, out, size, *offsets, *sizes, *file.scratch)).count
+    del out
+    runs = [Run(start + offset // 8, bits // 8) for offset, bits in zip(offsets[0][:found], sizes[0][:found])]
+    return Records(start, memoryview(held).toreadonly(), runs)
 
 
 def records_of(given_by: Any) -> Records:

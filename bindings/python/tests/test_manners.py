@@ -14,8 +14,8 @@ import unittest
 
 from .common import HOW_MANY, PACKAGE, ROOT, refusal
 import denkumari
-from denkumari import (BadRecords, Bank, Kind, Layout, Overlay, Recorder, Records, Refused, Store, _c, _words, bench, convert, hex_digits, read_names,
-                       read_records, verify, write_hex, write_srec)
+from denkumari import (BadRecords, Bank, Kind, Layout, Overlay, Recorder, Records, Refused, Store, _c, _words, bench, convert, extent, hex_digits,
+                       read_names, read_records, verify, write_hex, write_srec)
 
 
 class Evil(bytes):
@@ -46,8 +46,9 @@ def calls():
     built = some.build()
     text = built.to_hex(0x10)
     for value in JUNK:
-        yield from ((function, value) for function in (Layout.from_form, read_records, read_names, hex_digits, write_hex, write_srec, Records.from_bytes,
-                                                       some.build, some.map, some.profile, some.to_form, built.to_hex, built.to_srec, built.span))
+        yield from ((function, value) for function in (Layout.from_form, read_records, extent, read_names, hex_digits, write_hex, write_srec,
+                                                       Records.from_bytes, some.build, some.map, some.profile,
+                                                       some.to_form, built.to_hex, built.to_srec, built.span))
         yield from ((function, value) for function in (Layout().bank, Layout().item, Layout().data, Layout().reserve, Layout().switch, Layout().label,
                                                        Layout().align, Layout().addr, Layout, Recorder, Recorder().bank, Recorder().node, built.part, Refused))
         yield from ((bench, text, value), (bench, value, text), (bench, text, text, value), (convert, value, 1), (convert, some.to_form(), value))
@@ -173,7 +174,8 @@ class Header(unittest.TestCase):
     TYPES = {"uint8_t": c.c_uint8, "uint16_t": c.c_uint16, "uint32_t": c.c_uint32, "uint64_t": c.c_uint64, "int64_t": c.c_int64, "size_t": c.c_size_t}
 
     STRUCTS = {"dk_padding": _c.Padding, "dk_layout": _c.LayoutAnswer, "dk_mapped": _c.Mapped, "dk_profile": _c.Profile, "dk_count": _c.Count,
-               "dk_offer": _c.Offer, "dk_part": _c.Part, "dk_overlay": _c.Overlay, "dk_fault": _c.Fault, "dk_reason": _c.Reason}
+               "dk_offer": _c.Offer, "dk_part": _c.Part, "dk_overlay": _c.Overlay, "dk_extent": _c.Extent, "dk_fault": _c.Fault,
+               "dk_reason": _c.Reason}
 
     def setUp(self):
         self.header = re.sub(r"/\*.*?\*/", "", (ROOT / "include" / "denkumari.h").read_text("utf-8"), flags=re.S)

@@ -6,7 +6,7 @@ import unittest
 from pathlib import Path
 
 from .common import EXAMPLES, HOW_MANY, ROOT, SEED, answers, command, draw, refusal
-from denkumari import BadRecords, Block, Layout, Overlay, Records, Refused, Store, bench, hex_digits, read_records, write_hex, write_srec
+from denkumari import BadRecords, Block, Layout, Overlay, Records, Refused, Store, bench, extent, hex_digits, read_records, write_hex, write_srec
 
 
 def requests():
@@ -97,6 +97,9 @@ class Read(unittest.TestCase):
         for load in (0, 5, 0x8000, 0xFFFF, 0x20001234, 0xFFFFFFFE):
             got = read_records(write_hex(b"\1\2", load))
             self.assertEqual((got.load, got.data, got.blocks), (load, b"\1\2", [(load, 2)]))
+            self.assertEqual(extent(write_hex(b"\1\2", load)), (load, 2))
+        self.assertEqual((extent(":00000001FF\n"), extent(write_srec(b"\1", 0xFFFFFFFF))), ((0, 0), (0xFFFFFFFF, 1)))
+        self.assertEqual((refusal(extent, ":00").number, refusal(read_records, write_hex(b"\1", 4), 5).reason), (4, 10))
         self.assertEqual(read_records(write_hex(b"\1", 0xFFFFFFFF)).load, 0xFFFFFFFF)
         self.assertEqual(read_records(":00000001FF\n").blocks, [])
         far = write_hex(b"\1", 0).replace(":00000001FF\n", "") + write_hex(b"\2", 0x40000000)

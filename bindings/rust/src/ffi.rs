@@ -25,6 +25,13 @@ pub struct DkProfile {
 }
 
 #[repr(C)]
+pub struct DkExtent {
+    pub refusal: u64,
+    pub lowest: u64,
+    pub end: u64,
+}
+
+#[repr(C)]
 pub struct DkFault {
     pub fault: u64,
     pub line: u64,
@@ -140,6 +147,7 @@ extern "C" {
     ) -> DkCount;
     fn dk_to_form2(file: *const u8, file_len: usize, out: *mut u8, out_len: usize) -> DkCount;
     fn dk_to_form1(file: *const u8, file_len: usize, out: *mut u8, out_len: usize) -> DkCount;
+    fn dk_record_extent(format: u8, text: *const u8, text_len: usize, scratch: *mut u8, scratch_len: usize) -> DkExtent;
     fn dk_record_fault(format: u8, text: *const u8, text_len: usize, load: u32, scratch: *mut u8, scratch_len: usize) -> DkFault;
     fn dk_record_reason(format: u8, text: *const u8, text_len: usize, load: u32, scratch: *mut u8, scratch_len: usize) -> DkReason;
     fn dk_form(
@@ -273,6 +281,11 @@ pub fn to_form2(file: &[u8], out: &mut [u8]) -> DkCount {
 pub fn to_form1(file: &[u8], out: &mut [u8]) -> DkCount {
     // SAFETY: see the module
     unsafe { dk_to_form1(file.as_ptr(), file.len(), out.as_mut_ptr(), out.len()) }
+}
+
+pub fn record_extent(format: u8, text: &[u8], scratch: &mut [u8]) -> DkExtent {
+    // SAFETY: see the module
+    unsafe { dk_record_extent(format, text.as_ptr(), text.len(), scratch.as_mut_ptr(), scratch.len()) }
 }
 
 pub fn record_fault(format: u8, text: &[u8], load: u32, scratch: &mut [u8]) -> DkFault {

@@ -63,6 +63,21 @@ pub(crate) fn scratch_for(addresses: usize) -> Vec<u8> {
     vec![0; addresses / 8 + 1]
 }
 
+/// Where the bytes of a file stand: the addresses from the lowest that it gives a byte to up to the highest, an empty range where it gives none. Refused 4 for
+/// a file that is bad whatever the load address. [`read`] from its start needs as many bytes as it is long.
+///
+/// ```
+/// use denkumari::records::{extent, Format};
+/// assert_eq!(extent(Format::IntelHex, b":02123400ABCD40\n:00000001FF\n"), Ok(0x1234..0x1236));
+/// ```
+pub fn extent(format: Format, text: &[u8]) -> Result<std::ops::Range<u64>, Refusal> {
+    let r = ffi::record_extent(format as u8, text, &mut scratch_for(text.len()));
+    match r.refusal {
+        0 => Ok(r.lowest..r.end),
+        number => Err(Refusal::told(number, 0, 0, 0)),
+    }
+}
+
 /// The first line, from 0, at which no good file can go on; `None` of a good file.
 pub fn line_at_fault(format: Format, text: &[u8], load: u32) -> Option<u64> {
     let r = ffi::record_fault(format as u8, text, load, &mut scratch_for(text.len()));

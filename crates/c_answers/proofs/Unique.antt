@@ -27,6 +27,8 @@ use Rattle.c_answers.proofs.parts.tell_part.Kinds as part-kinds
 use Rattle.c_answers.proofs.parts.tell_part.Reads as part-reads
 use Rattle.c_answers.proofs.parts.tell_source.Kinds as source-kinds
 use Rattle.c_answers.proofs.parts.tell_source.Reads as source-reads
+use Rattle.c_answers.proofs.parts.tell_extent.Kinds as extent-kinds
+use Rattle.c_answers.proofs.parts.tell_extent.Reads as extent-reads
 use Rattle.c_answers.proofs.parts.tell_fault.Kinds as fault-kinds
 use Rattle.c_answers.proofs.parts.tell_fault.Reads as fault-reads
 use Rattle.c_answers.proofs.parts.tell_reason.Kinds as reason-kinds
@@ -72,6 +74,9 @@ tell-part-unique κs a x y e f p q = determined p q
 
 pub tell-source-unique : OneOutcome 0 source-kinds.ps source-kinds.r source-reads.Learnt
 tell-source-unique κs a x y e f p q = determined p q
+
+pub tell-extent-unique : OneOutcome 0 extent-kinds.ps extent-kinds.r extent-reads.Learnt
+tell-extent-unique κs a x y e f p q = determined p q
 
 pub tell-fault-unique : OneOutcome 0 fault-kinds.ps fault-kinds.r fault-reads.Learnt
 tell-fault-unique κs a x y e f p q = determined p q

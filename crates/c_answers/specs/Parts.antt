@@ -1,4 +1,4 @@
--- A part of an image, the image that a range comes from, the line at which a file is at fault, and why, in numbers.
+-- A part of an image, the image that a range comes from, where a file's bytes stand, the line at which it is at fault, and why, in numbers.
 use Prim.Native.Nat.{ℕ, _/_}
 use Rattle.refusal.specs.Refusals.{numberOf}
 use Rattle.refusal.specs.declared.Verdict.{Verdict}
@@ -7,7 +7,10 @@ use Rattle.overlay.specs.declared.Source.{Source}
 use Rattle.overlay.specs.declared.Source.the-variants.{Overlay, Released, Refused}
 use Rattle.record_fault.specs.declared.Fault.{Fault}
 use Rattle.record_fault.specs.declared.Fault.the-variants.{Good, At}
+use Rattle.record_extent.specs.declared.Extent.{Extent}
+use Rattle.record_extent.specs.declared.Extent.the-variants.{Spans, Refused as Untold}
 use Rattle.record_reason.specs.declared.Why.{Why}
+use Rattle.c_answers.specs.declared.DkExtent.{DkExtent}
 use Rattle.c_answers.specs.declared.DkFault.{DkFault}
 use Rattle.c_answers.specs.declared.DkOverlay.{DkOverlay}
 use Rattle.c_answers.specs.declared.DkPart.{DkPart}
@@ -23,6 +26,11 @@ abbrev pub overlayBy : ℕ → ℕ → Source → DkOverlay
 overlayBy first count Overlay = record { refusal = 0; image = 1; start = first; length = count }
 overlayBy first count Released = record { refusal = 0; image = 2; start = first; length = count }
 overlayBy first count (Refused why) = record { refusal = numberOf why; image = 0; start = 0; length = 0 }
+
+-- the lowest address that a file gives a byte to, and the first behind the highest
+abbrev pub extentTold : Extent → DkExtent
+extentTold (Spans lowest end) = record { refusal = 0; lowest = lowest; end = end }
+extentTold (Untold why) = record { refusal = numberOf why; lowest = 0; end = 0 }
 
 -- "the first line at which no good file can go on, from 0"
 abbrev pub lineTold : Fault → DkFault

@@ -20,6 +20,7 @@ pub use layouts::tell_layout;
 pub use layouts::tell_paged;
 pub use maps::tell_map;
 pub use offers::tell_offer;
+pub use parts::tell_extent;
 pub use parts::tell_fault;
 pub use parts::tell_part;
 pub use parts::tell_reason;
@@ -100,6 +101,15 @@ pub struct DkOverlay {
     pub image: u64,
     pub start: u64,
     pub length: u64,
+}
+
+// Where the bytes of a file stand: the lowest address that it gives a byte to and the first behind the highest, both 0 where it gives none; or
+// its refusal, and then both are 0 too.
+#[repr(C)]
+pub struct DkExtent {
+    pub refusal: u64,
+    pub lowest: u64,
+    pub end: u64,
 }
 
 // Where a file is at fault: `fault` is 1 and `line` the first line at which no good file can go on, from 0; or both are 0.

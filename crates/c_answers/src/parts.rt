@@ -1,14 +1,16 @@
-// A part of an image, the image that a range comes from, the line at which a file is at fault, and why.
+// A part of an image, the image that a range comes from, where a file's bytes stand, the line at which it is at fault, and why.
+use crate::DkExtent;
 use crate::DkFault;
 use crate::DkOverlay;
 use crate::DkPart;
 use crate::DkReason;
 use overlay::Source;
+use record_extent::Extent;
 use record_fault::Fault;
 use record_reason::Why;
 use refusal::Verdict;
 ghost use mathlib.Core.Path.{_≡_};
-ghost use Rattle.c_answers.specs.Parts.{partBy, overlayBy, lineTold, reasonTold};
+ghost use Rattle.c_answers.specs.Parts.{partBy, overlayBy, extentTold, lineTold, reasonTold};
 
 // The block of `size` bits from bit `offset` on, in bytes.
 pub fn tell_part(verdict: Verdict, offset: u64, size: u64) -> DkPart
@@ -50,6 +52,23 @@ pub fn tell_source(source: Source, first: u64, count: u64) -> DkOverlay
             image: 0,
             start: 0,
             length: 0,
+        },
+    }
+}
+
+pub fn tell_extent(extent: Extent) -> DkExtent
+    ensures { λ r. ⌜ r ≡ extentTold extent ⌝ }
+{
+    match extent {
+        Extent::Spans(lowest, end) => DkExtent {
+            refusal: 0,
+            lowest,
+            end,
+        },
+        Extent::Refused(why) => DkExtent {
+            refusal: refusal::number(why),
+            lowest: 0,
+            end: 0,
         },
     }
 }

@@ -7,10 +7,12 @@ use Rattle.refusal.specs.Pick.{pick}
 use Rattle.record_write.specs.declared.Written.{Written}
 use Rattle.record_fault.specs.Reading.{Read, faulty, readText}
 use Rattle.record_fault.specs.Outcome.{faultOf}
+use Rattle.record_extent.specs.Extent.{extentOf}
 use Rattle.record_read.specs.Outcome.{Lent, answerOf, lentAfter}
 use Rattle.c_answers.specs.Counts.{blocksCount, writtenCount}
-use Rattle.c_answers.specs.Parts.{lineTold}
+use Rattle.c_answers.specs.Parts.{extentTold, lineTold}
 use Rattle.c_answers.specs.declared.DkCount.{DkCount}
+use Rattle.c_answers.specs.declared.DkExtent.{DkExtent}
 use Rattle.c_answers.specs.declared.DkFault.{DkFault}
 
 -- What `dk_write_hex` and `dk_write_srec` promise: a writer's answer, told in numbers, and every character of the lent text.
@@ -30,4 +32,9 @@ pub record ReadTold (load : ℕ) (read : Read) (old : Lent) (r : DkCount) (new :
 -- What `dk_record_fault` promises: "the first line at which no good file can go on, from 0", and the lent scratch as it was.
 pub record FaultTold (read : Read) (old : List ℕ) (r : DkFault) (new : List ℕ) : Type 0 where
   pub answer : r ≡ lineTold (faultOf read)
+  pub left : new ≡ old
+
+-- What `dk_record_extent` promises: where a file's bytes stand, and the lent scratch as it was.
+pub record ExtentTold (read : Read) (old : List ℕ) (r : DkExtent) (new : List ℕ) : Type 0 where
+  pub answer : r ≡ extentTold (extentOf read)
   pub left : new ≡ old

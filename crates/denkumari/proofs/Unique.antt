@@ -5,6 +5,7 @@ use mathlib.Core.List.{List}
 use Prim.Native.Nat.{ℕ}
 use Rattle.refusal.specs.Laws.Outcome.{OneOutcome, OneView}
 use Rattle.c_answers.specs.declared.DkCount.{DkCount}
+use Rattle.c_answers.specs.declared.DkExtent.{DkExtent}
 use Rattle.c_answers.specs.declared.DkFault.{DkFault}
 use Rattle.c_answers.specs.declared.DkReason.{DkReason}
 use Rattle.says.specs.Build as build
@@ -28,6 +29,7 @@ use Rattle.meets_overlay.specs.Theorems.Range.{range-decides}
 use Rattle.meets_overlay.specs.Theorems.Runs.{runs-decide}
 use Rattle.meets_profile.specs.Theorems.Decides.{paged-decides, profile-decides}
 use Rattle.meets_reason.specs.Theorems.Decides.{dk-reason-decides}
+use Rattle.meets_records.specs.Theorems.Extent.{extent-decides}
 use Rattle.meets_records.specs.Theorems.FaultDecides.{fault-decides}
 use Rattle.meets_records.specs.Theorems.ReadDecides.{read-decides}
 use Rattle.meets_records.specs.Theorems.WriteDecides.{write-hex-decides, write-srec-decides}
@@ -70,6 +72,8 @@ use Rattle.denkumari.proofs.record_files.dk_write_srec.Kinds as write-s
 use Rattle.denkumari.proofs.record_files.dk_write_srec.Reads as write-srec-reads
 use Rattle.denkumari.proofs.record_files.dk_read_records.Kinds as read-records-kinds
 use Rattle.denkumari.proofs.record_files.dk_read_records.Reads as read-records-reads
+use Rattle.denkumari.proofs.record_files.dk_record_extent.Kinds as record-extent-kinds
+use Rattle.denkumari.proofs.record_files.dk_record_extent.Reads as record-extent-reads
 use Rattle.denkumari.proofs.record_files.dk_record_fault.Kinds as record-fault-kinds
 use Rattle.denkumari.proofs.record_files.dk_record_fault.Reads as record-fault-reads
 use Rattle.denkumari.proofs.reasons.dk_record_reason.Kinds as record-reason-kinds
@@ -148,6 +152,10 @@ pub dk-read-records-unique : OneView 5 read-records-kinds.ps read-records-kinds.
     let s = e .1 .1 .1 in
     record { answer = x; lent = record { bytes = s .0 .now; offsets = s .1 .0 .now; sizes = s .1 .1 .0 .now; scratch = s .1 .1 .1 .0 .now } })
 dk-read-records-unique κs a x y e f p q = read-decides _ _ _ _ _ _ p q
+
+pub dk-record-extent-unique : OneView 2 record-extent-kinds.ps record-extent-kinds.r record-extent-reads.Learnt (DkExtent × List ℕ)
+    (λ κs x e. (x, e .1 .1 .0 .now))
+dk-record-extent-unique κs a x y e f p q = extent-decides _ _ _ _ _ p q
 
 pub dk-record-fault-unique : OneView 2 record-fault-kinds.ps record-fault-kinds.r record-fault-reads.Learnt (DkFault × List ℕ)
     (λ κs x e. (x, e .1 .1 .1 .0 .now))

@@ -1,13 +1,17 @@
 // Files of Intel HEX and of S-records: the blocks of an image written, and a file read into bytes and blocks.
 use blocks::Blocks;
 use c_answers::DkCount;
+use c_answers::DkExtent;
 use c_answers::DkFault;
 use c_answers::tell_blocks;
+use c_answers::tell_extent;
 use c_answers::tell_fault;
 use c_answers::tell_written;
+use record_extent::Extent;
 use record_fault::Fault;
 use refusal::Refusal;
 ghost use Rattle.says.specs.Write.{HexSays, SrecSays};
+ghost use Rattle.says.specs.Extent.{ExtentSays};
 ghost use Rattle.says.specs.Read.{ReadSays, FaultSays};
 
 // Format 0 is Intel HEX, 1 S-records. There is no other.
@@ -68,6 +72,17 @@ pub extern "C" fn dk_read_records(
         return tell_blocks(Blocks::Refused(Refusal::Malformed(0)));
     }
     tell_blocks(record_read::read(format, text, load, bytes, offsets, sizes, scratch))
+}
+
+// Where a file's bytes stand: the lowest address that it gives a byte to, and the first behind the highest.
+#[no_mangle]
+pub extern "C" fn dk_record_extent(format: u8, text: &[u8], scratch: &mut [u8]) -> DkExtent
+    ensures { λ r. ⌜ ExtentSays format (now (text .entry)) (now (scratch .entry)) (r, now (scratch .exit)) ⌝ }
+{
+    if format >= FORMATS {
+        return tell_extent(Extent::Refused(Refusal::Malformed(0)));
+    }
+    tell_extent(record_extent::extent_of(format, text, scratch))
 }
 
 // The line at which a file that is read so is at fault.

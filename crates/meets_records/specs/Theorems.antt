@@ -3,6 +3,7 @@ pub mod ReadDecides
 pub mod FaultDecides
 pub mod WriteMeets
 pub mod FaultMeets
+pub mod Extent
 pub mod ReadMeets
 pub mod Checksums
 pub mod Cases

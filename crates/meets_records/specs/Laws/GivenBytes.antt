@@ -41,7 +41,7 @@ mem-of (p ∷ ps) zero q at h =
     subst (λ (y : Piece). List·Memᴰ q (newOf y ++ solid ps)) (sym (at .1)) (mem-left (newOf q) (solid ps) (new-has (q .address) (q .bytes) h))
 mem-of (p ∷ ps) (suc i) q at h = mem-right (newOf p) (solid ps) (mem-of ps i q (omega (arith, at .0), at .1) h)
 
-of-mem : (ps : List Piece) (q : Piece) → List·Memᴰ q (solid ps) → (i : ℕ) × At ps i q × (0 < length (q .bytes))
+pub of-mem : (ps : List Piece) (q : Piece) → List·Memᴰ q (solid ps) → (i : ℕ) × At ps i q × (0 < length (q .bytes))
 of-mem [] q m = absurd (List·Memᴰ·not-nil m)
 of-mem (p ∷ ps) q m = ⊎-elim
     (λ x. let k = new-only (p .address) (p .bytes) q x in
