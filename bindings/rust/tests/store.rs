@@ -124,7 +124,10 @@ fn all_or_none() {
     }
     store.sizes[2] = 0;
     assert_eq!(store.offer_all(&[], &[1]), Err(NoneStored { offer: 0, why: NotStored::BadStore { entry: 2 } }));
-    assert_eq!(NoneStored { offer: 3, why: NotStored::Full }.to_string(), "offer 3: refused 13: 512 intervals, or marks, are stored already");
+    assert_eq!(
+        NoneStored { offer: 3, why: NotStored::Full }.to_string(),
+        "offer 3: refused 13: 512 intervals, or marks, are stored already"
+    );
 }
 
 /// Drawn lists beside the single call, one after the other on a copy.
@@ -142,7 +145,11 @@ fn as_single_calls() {
         let positions: Vec<u64> = (0..count).map(|_| draw(200)).collect();
         let sizes: Vec<u64> = (0..count).map(|_| draw(7)).collect();
         let (before, mut single) = (whole(&store), store.clone());
-        let first = positions.iter().zip(&sizes).enumerate().find_map(|(i, (&p, &z))| single.offer(p, z).err().map(|why| NoneStored { offer: i as u64, why }));
+        let first = positions
+            .iter()
+            .zip(&sizes)
+            .enumerate()
+            .find_map(|(i, (&p, &z))| single.offer(p, z).err().map(|why| NoneStored { offer: i as u64, why }));
         assert_eq!(store.offer_all(&positions, &sizes).err(), first);
         assert_eq!(whole(&store), if first.is_some() { before } else { whole(&single) });
         *(if first.is_some() { &mut refused } else { &mut kept }) += 1;
