@@ -37,7 +37,7 @@ def layouts():
 
 
 # calls that read what they come to need, so that no limit is told of them
-UNBOUND = ("dk_part", "dk_offer")
+UNBOUND = ("dk_part", "dk_offer", "dk_offers")
 ORDERS = {"rising": "in order", "falling": "in reverse", "shuffled": "shuffled"}
 ROWS = (
     [Row("dk_build", name, name, "the Rust's own functions", "build") for name in ("wide", "offers", "mixed A", "mixed B")]
@@ -52,6 +52,7 @@ ROWS = (
        for order, words in {**ORDERS, "one": "all at one offset"}.items()]
     + [Row("dk_hex", "131,072 bits", "", "the Rust's LowerHex", "dk_hex"), Row("dk_part", "a block of 1 KiB")]
     + [Row(f"dk_offer:{order}", f"512 calls, {words}", "", "512 of the Rust's check_and_insert", f"dk_offer:{order}") for order, words in ORDERS.items()]
+    + [Row(f"dk_offers:{order}", f"512 offers, {words}", "", "512 of the Rust's check_and_insert", f"dk_offer:{order}") for order, words in ORDERS.items()]
     + [Row("dk_overlay_range", "64 bytes, 256 blocks"),
        Row("dk_overlay_runs:last", "1 MiB covered, the last byte differs", "", "memcmp of 1 MiB", "memcmp"),
        Row("dk_overlay_runs:every", "1 MiB covered, each 4,096th byte differs", "", "memcmp of 1 MiB", "memcmp"),

@@ -3,15 +3,15 @@
  * compile portable/denkumari.c with any C99 compiler. It calls nothing but memory functions of the C library, allocates nothing, keeps nothing between calls,
  * and may be called from any thread.
  *
- * Buffers. You own every buffer, and it is used during the call only. Each is a pointer and the number of its elements (not of its bytes), but for the arrays of
- * dk_offer (512 elements each) and the four lists of dk_map (4,096 each), which have no number. The pointers have to be good for their lengths and aligned for
- * their type; where a length is 0 any pointer will do, NULL too. A buffer that a function writes may overlap no other of the same call. `scratch` is written
- * during the call and is then as it was: it is writable memory that no two calls share. Nothing else is asked of you: every number may have any value, and what is
- * not acceptable is refused.
+ * Buffers. You own every buffer, and it is used during the call only. Each is a pointer and the number of its elements (not of its bytes), but for the store's
+ * arrays of dk_offer and dk_offers (512 elements each) and the four lists of dk_map (4,096 each), which have no number. The pointers have to be good for their
+ * lengths and aligned for their type; where a length is 0 any pointer will do, NULL too. A buffer that a function writes may overlap no other of the same
+ * call. `scratch` is written during the call and is then as it was: it is writable memory that no two calls share. Nothing else is asked of you: every number
+ * may have any value, and what is not acceptable is refused.
  *
- * Refusals. `refusal` is 0 where the call was accepted, else one of the numbers below, and `place` (and `second`) says where. An answer
- * without `place`, of dk_part and dk_overlay_range, is refused with numbers whose place is 0. A refused call leaves every buffer
- * as it was, and every other field of its answer is 0, except `passes`, dk_offer's counts, which are those given, and dk_map's `node`, which is DK_NO_NODE. An
+ * Refusals. `refusal` is 0 where the call was accepted, else one of the numbers below, and `place` (and `second`) says where. An answer without `place`, of
+ * dk_part and dk_overlay_range, is refused with numbers whose place is 0. A refused call leaves every buffer as it was, and every other field of its answer is
+ * 0, except `passes`, the counts of dk_offer and dk_offers, which are those given, the `offer` of dk_offers, and dk_map's `node`, which is DK_NO_NODE. An
  * accepted call leaves the lists that it wrote as they were past what it wrote; the rest of the image is made zero, or takes the fill bits of filled banks. A
  * text that is written has no final zero byte.
  *
@@ -158,6 +158,16 @@ struct dk_offer {
     uint64_t second;  /* of refusal 12, else 0 */
     uint64_t count;   /* how many intervals are stored afterwards; refused, the count given */
     uint64_t marks;   /* how many marks are kept afterwards; refused, the count given */
+};
+
+/* The answer to a list of offers. */
+struct dk_offered {
+    uint64_t refusal; /* as in struct dk_offer, of the offer that was refused */
+    uint64_t place;
+    uint64_t second;
+    uint64_t count;   /* how many intervals are stored afterwards; refused, the count given */
+    uint64_t marks;   /* how many marks are kept afterwards; refused, the count given */
+    uint64_t offer;   /* which offer was refused, from 0; all accepted, how many there are; 0 for DK_BAD_STORE */
 };
 
 /* Lays tables out. Bank i, from 0, has units[i] bits to an address, starts[i], and, where its flag is set, bank_sizes[i] (in bits),
@@ -322,6 +332,14 @@ struct dk_count dk_hex(const uint8_t *bytes, size_t bytes_len, uint64_t bits, ui
  * size of the lowest interval at or above the offer if those two share a bit, otherwise of the one below; where no interval is to be named, the lowest
  * mark strictly inside the offer and 0), 13 (place 0) where 512 intervals, or for a mark 512 marks, are stored. It needs less than 1 KiB of stack. */
 struct dk_offer dk_offer(uint64_t *positions, uint64_t *sizes, uint64_t count, uint64_t *marks, uint64_t mark_count, uint64_t position, uint64_t size);
+
+/* Many offers to such a store, all or none: offer i has offer_sizes[i] bits from bit offer_positions[i] on. The store is looked at once, 15 with offer 0; then
+ * the lists, 4 (place 0) where they are not equally long, with the number of the first offer that lacks a position or a size; then each offer in turn, as
+ * dk_offer does. Where all are accepted the store is what so many calls of dk_offer leave; where one is refused nothing that you lent has changed. There may be
+ * any number of offers. It needs less than 14 KiB of stack, 12 KiB of it for a copy of the store. */
+struct dk_offered dk_offers(uint64_t *positions, uint64_t *sizes, uint64_t count, uint64_t *marks, uint64_t mark_count,
+                            const uint64_t *offer_positions, size_t offer_positions_len,
+                            const uint64_t *offer_sizes, size_t offer_sizes_len);
 
 /* Where in an image the block of `size` bits from bit `offset` on stands, in bytes: image + start, length bytes. Reads nothing of the image. It
  * needs less than 1 KiB of stack (at most 128 bytes). */
@@ -568,6 +586,8 @@ static inline const char *dk_words(uint64_t refusal)
  * dk_offer          sentence `says/Store.OfferSays`; `meets_store/Decides.offer-decides`. Calls one after the other, from an empty store:
  *                   `meets_store/Demand3.stored-exactly`, `meets_store/Demand3.marked-exactly`; in any order: `meets_store/Order.reordered-accepted`
  *                   (offers within the limits)
+ * dk_offers         sentence `says/Offers.OffersSay`; `meets_store/Offers.offers-decide`. All accepted, so many calls of dk_offer:
+ *                   `meets_store/Offers.all-are-calls`; refused, nothing has changed: `meets_store/Offers.refused-changes-none`
  * dk_part           sentence `says/Part.PartSays`; `meets_bits/Part.part-decides`
  * dk_overlay_range  sentence `says/Overlay.RangeSays`; `meets_overlay/Range.range-decides`
  * dk_overlay_runs   sentence `says/Overlay.RunsSay`; `meets_overlay/Runs.runs-decide`

@@ -29,6 +29,8 @@ EXCEPT = {
     ("dk_blocks", "lengths"): ("sizes", "in the sentence `sizes` are those of the blocks"),
     ("dk_to_form2", "f"): ("form-1", "the form that the call converts from: its own name says so"),
     ("dk_to_form1", "f"): ("form-2", "the form that the call converts from: its own name says so"),
+    ("dk_offers", "starts"): ("offer_positions", "where the offers start; `positions` are those of the store"),
+    ("dk_offers", "lengths"): ("offer_sizes", "how long the offers are; `sizes` are those of the store"),
     ("dk_blocks", "starts"): ("block_offsets", "where blocks start; `offsets` are those of the spans"),
     ("dk_blocks", "sizes"): ("block_sizes", "the sizes of the blocks; `sizes` are those of the spans"),
 }

@@ -31,7 +31,7 @@ DAMAGES = [
     ("docs/SAFETY-CASE.md", "<!-- lines dk_form -->", "<!-- lines dk_form -->1"),
     ("docs/SAFETY-CASE.md", "pub item-own-bit : (i x m bit : ℕ)", "pub item-own-bit : (i x m : ℕ)"),
     ("docs/SAFETY-CASE.md", "`overlap_checker!one_neighbour`", "`overlap_checker!one_neighbor`"),
-    ("docs/SAFETY-CASE.md", "`denkumari::dk_offer`", "`denkumari::dk_offers`"),
+    ("docs/SAFETY-CASE.md", "`denkumari::dk_offer`", "`denkumari::dk_offering`"),
     ("docs/SAFETY-CASE.md", "`dk_record_fault`", "`dk_record_faults`"),
     ("README.md", "docs/USING.md", "docs/USAGE.md"),
     ("README.md", "portable/ has", "portable/missing.c has"),

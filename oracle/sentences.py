@@ -24,7 +24,7 @@ from sentences.running import deep  # noqa: E402
 from sentences.values import Floundered, Open, Rec  # noqa: E402
 
 NOT_RUN = ("dk_record_fault",)          # "some good file begins so": no search finds that file (docs/RUNNING-SENTENCES.md)
-LONG = ("dk_map", "dk_offer")
+LONG = ("dk_map", "dk_offer", "dk_offers")
 
 
 def told(name, parts):

@@ -196,6 +196,24 @@ def store(rng):
                 position=position, size=rng.choice((0, 0, 1, 2, 4, 9, TOP, TOP + 1)))
 
 
+def offers(rng):
+    """A store and a few offers to it: most behind all that is stored and apart from each other, in any order."""
+    given, at, listed = store(rng), 60, []
+    position, size = given.pop("position"), given.pop("size")
+    for _ in range(rng.choice((0, 1, 2, 3, 4))):
+        if rng.random() < 0.15:
+            listed.append((rng.choice((position, at, 61)), size))
+        else:
+            at += rng.choice((0, 0, 1, 4))
+            listed.append((at, rng.choice((0, 1, 2, 4))))
+            at += listed[-1][1]
+    rng.shuffle(listed)
+    starts, lengths = [p for p, _ in listed], [n for _, n in listed]
+    if rng.random() < 0.06:
+        rng.choice((starts, lengths)).append(200)
+    return dict(given, offer_positions=starts, offer_sizes=lengths)
+
+
 def writing(rng):
     image = some(rng, rng.choice((4, 8, 20, 40)))
     offsets, sizes = blocks(rng, 8 * len(image))
@@ -271,6 +289,7 @@ MAKE = {
     "dk_hex": digits,
     "dk_part": part,
     "dk_offer": store,
+    "dk_offers": offers,
     "dk_overlay_range": lambda r: dict(overlay(r), first=r.choice((0, 1, 2, 5, NONE)), count=r.choice((0, 1, 2, 3, 4, NONE))),
     "dk_overlay_runs": lambda r: (lambda n: dict(overlay(r), firsts=some(r, n), counts=some(r, n + (r.random() < 0.1))))(r.choice((0, 1, 4, 4))),
     "dk_verify": readback,

@@ -14,7 +14,7 @@ import manners
 
 ROOT = Path(__file__).resolve().parent.parent
 CODES = {"uint8_t": "B", "uint16_t": "H", "uint32_t": "I", "uint64_t": "Q", "int64_t": "q", "size_t": "Q"}
-FIXED = {"dk_offer": 512, "dk_map": 4096}
+FIXED = {"dk_offer": 512, "dk_offers": 512, "dk_map": 4096}
 START = """#include <stdio.h>
 #include <stdlib.h>
 #include <string.h>

@@ -221,6 +221,7 @@ static const struct {
     {"dk_blocks", N(0) | N(4) | N(14)},
     {"dk_hex", N(0) | N(4) | N(14)},
     {"dk_offer", N(0) | N(4) | N(12) | N(13) | N(15)},
+    {"dk_offers", N(0) | N(4) | N(12) | N(13) | N(15)},
     {"dk_part", N(0) | N(16)},
     {"dk_overlay_range", N(0) | N(4) | N(16) | N(17)},
     {"dk_overlay_runs", N(0) | N(4) | N(14)},

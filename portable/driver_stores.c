@@ -1,7 +1,7 @@
 /* Stores, spans, overlays and read-backs for the driver. */
 #include "driver.h"
 
-enum { STORED = DK_MAX_STORED, SPANS_MOST = 4100, IMAGE = 400, BLOCKS_MOST = 40, LIST = 60 };
+enum { STORED = DK_MAX_STORED, SPANS_MOST = 4100, IMAGE = 400, BLOCKS_MOST = 40, LIST = 60, LISTED = 7 };
 
 #define FIELDS(answer) (const uint64_t *)(const void *)&(answer), sizeof(answer) / 8
 
@@ -9,10 +9,18 @@ enum { STORED = DK_MAX_STORED, SPANS_MOST = 4100, IMAGE = 400, BLOCKS_MOST = 40,
 
 static struct {
     uint64_t *positions, *sizes, *marks, count, mark_count, position, size;
+    uint64_t *listed, *listed_sizes;
+    size_t listed_count, listed_sizes_count;
 } s;
 static struct dk_offer offer;
+static struct dk_offered offered;
 
 static void make_offer(void) { offer = dk_offer(s.positions, s.sizes, s.count, s.marks, s.mark_count, s.position, s.size); }
+
+static void make_offers(void)
+{
+    offered = dk_offers(s.positions, s.sizes, s.count, s.marks, s.mark_count, s.listed, s.listed_count, s.listed_sizes, s.listed_sizes_count);
+}
 
 /* A good store: `count` intervals of up to 6 bits, every third touching the one before, and marks between and at them. */
 static void draw_store(uint64_t count, uint64_t mark_count)
@@ -45,6 +53,37 @@ static void damage_store(void)
     }
 }
 
+/* An offer: anywhere among `most` intervals, or at an edge. */
+static void draw_offer(uint64_t most)
+{
+    s.position = one_in(8) ? edge() : below(one_in(2) ? 100 : 8 * most + 20);
+    s.size = one_in(12) ? edge() : below(7);
+}
+
+/* A few offers at once: some like single ones, the others one behind the other past all that is stored. */
+static void offer_list(uint64_t most)
+{
+    size_t i, n = (size_t)below(LISTED);
+    uint64_t often = one_in(2) ? 2 : 1000;
+    s.listed = (uint64_t *)lend(n, 8);
+    s.listed_sizes_count = one_in(16) ? (size_t)below(LISTED) : n;
+    s.listed_sizes = (uint64_t *)lend(s.listed_sizes_count, 8);
+    s.listed_count = n;
+    for (i = 0; i < n; i++) {
+        draw_offer(most);
+        if (!one_in(often)) {
+            s.position = 5000 + 8 * i;
+            s.size = below(7);
+        }
+        s.listed[i] = s.position;
+        if (i < s.listed_sizes_count)
+            s.listed_sizes[i] = s.size;
+    }
+    called(OFFERS, make_offers, FIELDS(offered));
+    s.count = offered.count;
+    s.mark_count = offered.marks;
+}
+
 void round_of_offers(void)
 {
     uint64_t turns = 1 + below(8), most = one_in(8) ? 505 + below(8) : below(20), stored = one_in(4) ? 0 : most;
@@ -54,9 +93,10 @@ void round_of_offers(void)
     draw_store(stored, one_in(3) ? most : 0);
     if (one_in(5))
         damage_store();
+    if (one_in(2))
+        offer_list(most);
     for (; turns > 0; turns--) {
-        s.position = one_in(8) ? edge() : below(one_in(2) ? 100 : 8 * most + 20);
-        s.size = one_in(12) ? edge() : below(7);
+        draw_offer(most);
         called(OFFER, make_offer, FIELDS(offer));
         if (offer.refusal != 0)
             continue;

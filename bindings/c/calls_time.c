@@ -168,6 +168,24 @@ static void offer(void)
     told = count;
 }
 
+/* The same by one call. */
+static uint64_t eights[OFFERS];
+
+static void make_lists(const char *order)
+{
+    make_offers(order);
+    for (size_t i = 0; i < OFFERS; i++)
+        eights[i] = 8;
+}
+
+static void offer_all(void)
+{
+    uint64_t positions[OFFERS], extents[OFFERS], marks[OFFERS];
+    struct dk_offered r = dk_offers(positions, extents, 0, marks, 0, offered, OFFERS, eights, OFFERS);
+    refusal = r.refusal;
+    told = r.count;
+}
+
 /* On the bench: 1 MiB, 256 blocks of 4 KiB, or of a sixteenth of it, and bytes that differ: the last, or every 4,096th. */
 static uint8_t trial[BENCH], issued[BENCH], copy[BENCH];
 static uint64_t firsts[BENCH], counts[BENCH];
@@ -414,7 +432,9 @@ static const struct { const char *name, *order; void (*make)(const char *); void
     {"dk_blocks", "shuffled", make_spans, blocks, once_blocks}, {"dk_blocks", "one", make_spans, blocks, once_blocks},
     {"dk_hex", "", make_image, digits, once_hex}, {"dk_part", "", NULL, part, NULL},
     {"dk_offer", "rising", make_offers, offer, NULL}, {"dk_offer", "falling", make_offers, offer, NULL},
-    {"dk_offer", "shuffled", make_offers, offer, NULL}, {"dk_overlay_range", "last", make_overlay, range, once_blocks_of_overlay},
+    {"dk_offer", "shuffled", make_offers, offer, NULL}, {"dk_offers", "rising", make_lists, offer_all, NULL},
+    {"dk_offers", "falling", make_lists, offer_all, NULL}, {"dk_offers", "shuffled", make_lists, offer_all, NULL},
+    {"dk_overlay_range", "last", make_overlay, range, once_blocks_of_overlay},
     {"dk_overlay_runs", "last", make_overlay, runs, once_runs}, {"dk_overlay_runs", "every", make_overlay, runs, once_runs},
     {"dk_overlay_runs", "sixteenth", make_overlay, runs, once_runs}, {"dk_verify", "last", make_overlay, verify, once_runs},
     {"dk_write_hex", "hex", make_text, write_hex, once_write}, {"dk_write_srec", "srec", make_text, write_srec, once_write},

@@ -179,6 +179,13 @@ static void offer(void)
     refusal = dk_offer(positions, extents, 511, marks, 0, 2, 2).refusal;
 }
 
+/* Ahead of the store's 511 intervals, and a mark. */
+static void offer_list(void)
+{
+    static const uint64_t at[] = {2, 0}, bits[] = {2, 0};
+    refusal = dk_offers(positions, extents, 511, marks, 0, at, 2, bits, 2).refusal;
+}
+
 static void range(void)
 {
     refusal = dk_overlay_range(image, sizeof image, image, sizeof image, block_offsets, NODES, block_sizes, NODES, 0, 1).refusal;
@@ -330,6 +337,8 @@ int main(void)
     file[57] = 0;
     bad |= measure("dk_to_form1", to_form1, 1024);
     bad |= measure("dk_to_form2", to_form2, 1024);
+    fill_store();
+    bad |= measure("dk_offers", offer_list, 14 * 1024);
     fill_store();
     bad |= measure("dk_offer", offer, 1024);
     bad |= measure("dk_hex", digits, 1024);

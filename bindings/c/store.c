@@ -1,5 +1,5 @@
 /* Offers to the store: document 01's cases, each refusal and their order, and what is left in the arrays, held against a plain scan of all that was
- * accepted. Prints what is wrong; the last line says how many offers there were. */
+ * accepted; and lists of offers, held against single ones. Prints what is wrong; the last line says how many offers there were. */
 #include <stdio.h>
 #include <string.h>
 
@@ -173,9 +173,74 @@ static void shuffled(uint64_t seed)
     }
 }
 
+/* A list of offers against single calls on a copy: all of them, or the first that is refused, and then nothing changed. */
+static void list(const uint64_t *at, size_t at_count, const uint64_t *bits, size_t bits_count, const char *what)
+{
+    static uint64_t one[3][512], old[3][512];
+    uint64_t one_count = count, one_marks = mark_count, shorter = at_count < bits_count ? at_count : bits_count, n = at_count == bits_count ? 0 : shorter;
+    struct dk_offer r = {0, 0, 0, count, mark_count}, first = dk_offer(positions, sizes, count, marks, mark_count, UINT64_MAX, 0);
+    memcpy(old[0], positions, sizeof positions);
+    memcpy(old[1], sizes, sizeof sizes);
+    memcpy(old[2], marks, sizeof marks);
+    memcpy(one, old, sizeof one);
+    if (first.refusal == DK_BAD_STORE)
+        r = first, n = 0;
+    else if (at_count != bits_count)
+        r.refusal = DK_MALFORMED;
+    else
+        for (; n < at_count && r.refusal == 0; n += r.refusal == 0) {
+            r = dk_offer(one[0], one[1], one_count, one[2], one_marks, at[n], bits[n]);
+            one_count = r.count, one_marks = r.marks;
+        }
+    if (r.refusal != 0)
+        memcpy(one, old, sizeof one), r.count = count, r.marks = mark_count;
+    struct dk_offered got = dk_offers(positions, sizes, count, marks, mark_count, at, at_count, bits, bits_count);
+    offers++;
+    if (got.refusal != r.refusal || got.place != r.place || got.second != r.second || got.count != r.count || got.marks != r.marks || got.offer != n ||
+        memcmp(positions, one[0], sizeof positions) != 0 || memcmp(sizes, one[1], sizeof sizes) != 0 || memcmp(marks, one[2], sizeof marks) != 0) {
+        faults++;
+        printf("wrong: a list of offers: %s\n", what);
+    }
+    count = got.count;
+    mark_count = got.marks;
+}
+
+static void lists(uint64_t seed)
+{
+    static uint64_t at[600], bits[600];
+    begin();
+    list(NULL, 0, NULL, 0, "none");
+    for (unsigned i = 0; i < 600; i++)
+        at[i] = 16 * i, bits[i] = 1 + i % 16;
+    list(at, 600, bits, 600, "one more than fits");
+    list(at, 512, bits, 512, "as many as fit");
+    list(at, 1, bits, 0, "no size");
+    list(at, 3, bits, 7, "no position");
+    sizes[7] = 0;
+    list(at, 1, bits, 0, "an interval of no bits, before the lists");
+    count = 513;
+    list(NULL, 0, NULL, 0, "a count of 513, and no offer");
+    for (unsigned turn = 0; turn < 4000; turn++) {
+        if (turn % 8 == 0)
+            begin();
+        size_t n = 0;
+        for (; n < 12; n++) {
+            seed = seed * 6364136223846793005u + 1442695040888963407u;
+            at[n] = (seed >> 33) % 700;
+            bits[n] = (seed >> 20) % 5;
+            if ((seed >> 60) == 0)
+                break;
+        }
+        if (turn % 50 == 3)
+            at[n / 2] = UINT64_MAX;
+        list(at, n, bits, turn % 97 == 5 ? n + 1 : n, "drawn");
+    }
+}
+
 int main(void)
 {
     cases();
+    lists(9);
     shuffled(5);
     scanned(1, 400);
     scanned(2, 5000);

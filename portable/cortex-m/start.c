@@ -12,11 +12,12 @@ enum { SAY = 0x04, COMMAND_LINE = 0x15, LEAVE = 0x20, APPLICATION_EXIT = 0x20026
 /* KiB of each call's stack. */
 static const uint8_t kib_of[CALLS] = {
     [BUILD] = 28, [BUILD_PAGED] = 28, [PROFILE] = LOADER, [MAP] = 24, [FORM] = 136, [FORM_PAGED] = 136, [TO_FORM2] = LOADER, [TO_FORM1] = LOADER,
-    [BLOCKS] = LOADER, [HEX] = LOADER, [OFFER] = LOADER, [PART] = LOADER, [OVERLAY_RANGE] = LOADER, [OVERLAY_RUNS] = LOADER, [VERIFY] = LOADER,
-    [WRITE_HEX] = LOADER, [WRITE_SREC] = LOADER, [READ_RECORDS] = LOADER, [RECORD_EXTENT] = LOADER, [RECORD_FAULT] = LOADER, [RECORD_REASON] = LOADER};
+    [BLOCKS] = LOADER, [HEX] = LOADER, [OFFER] = LOADER, [OFFERS] = 14, [PART] = LOADER, [OVERLAY_RANGE] = LOADER, [OVERLAY_RUNS] = LOADER,
+    [VERIFY] = LOADER, [WRITE_HEX] = LOADER, [WRITE_SREC] = LOADER, [READ_RECORDS] = LOADER, [RECORD_EXTENT] = LOADER, [RECORD_FAULT] = LOADER,
+    [RECORD_REASON] = LOADER};
 static const char *const name_of[CALLS] = {
     "dk_build", "dk_build_paged", "dk_profile", "dk_map", "dk_form", "dk_form_paged", "dk_to_form2", "dk_to_form1", "dk_blocks", "dk_hex", "dk_offer",
-    "dk_part", "dk_overlay_range", "dk_overlay_runs", "dk_verify", "dk_write_hex", "dk_write_srec", "dk_read_records", "dk_record_extent",
+    "dk_offers", "dk_part", "dk_overlay_range", "dk_overlay_runs", "dk_verify", "dk_write_hex", "dk_write_srec", "dk_read_records", "dk_record_extent",
     "dk_record_fault", "dk_record_reason"};
 
 extern uint32_t data_load[], data_start[], data_end[], bss_start[], bss_end[], main_top[];

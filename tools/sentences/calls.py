@@ -23,6 +23,7 @@ CALLS = {
     "dk_hex": "HexSays bytes bits hex",
     "dk_part": "PartSays image offset size",
     "dk_offer": "OfferSays (positions sizes count marks mark_count) {position size}",
+    "dk_offers": "OffersSay (positions sizes count marks mark_count) offer_positions offer_sizes",
     "dk_overlay_range": "RangeSays overlay released offsets sizes first count",
     "dk_overlay_runs": "RunsSay overlay released offsets sizes firsts counts",
     "dk_verify": "VerifySays image offsets sizes bytes given_offsets given_sizes firsts counts kinds",

@@ -122,6 +122,21 @@ class Store:
         answer = accepted(lib.dk_offer(self._positions, self._sizes, self._counts[0], self._marks, self._counts[1], *asked))
         self._counts = (answer.count, answer.marks)
 
+    def offer_all(self, placements: Iterable[Any]) -> None:
+        """Many placements, each a position and its bits, all or none: where one is refused nothing is put in, and `node` is its number, from 0. One look at
+        the store for all of them.
+
+        >>> store = Store()
+        >>> store.offer_all([(0, 8), (16, 8), (8, 0)])
+        >>> store.intervals, store.marks
+        ([Kept(position=0, bits=8), Kept(position=16, bits=8)], [8])
+        """
+        listed = [pair(each, "a placement is a position and a number of bits") for each in placements]
+        answer = lib.dk_offers(self._positions, self._sizes, self._counts[0], self._marks, self._counts[1], *block_lists(listed))
+        if answer.refusal:
+            raise Refused(answer.refusal, answer.place, answer.second, node=answer.offer)
+        self._counts = (answer.count, answer.marks)
+
     @property
     def intervals(self) -> List[Kept]:
         """What is stored, ascending."""

@@ -44,6 +44,10 @@ class Offer(c.Structure):
     _fields_ = [(name, U64) for name in "refusal place second count marks".split()]
 
 
+class Offered(c.Structure):
+    _fields_ = [(name, U64) for name in "refusal place second count marks offer".split()]
+
+
 class Part(c.Structure):
     _fields_ = [("refusal", U64), ("start", U64), ("length", U64)]
 
@@ -86,6 +90,7 @@ FUNCTIONS = {
     "dk_blocks": (Count, _lists(U64, U64, U64, U64)),
     "dk_hex": (Count, [*_BYTES, U64, *_lists(U8)]),
     "dk_offer": (Offer, [c.POINTER(U64), c.POINTER(U64), U64, c.POINTER(U64), U64, U64, U64]),
+    "dk_offers": (Offered, [c.POINTER(U64), c.POINTER(U64), U64, c.POINTER(U64), U64, *_lists(U64, U64)]),
     "dk_part": (Part, [*_BYTES, U64, U64]),
     "dk_overlay_range": (Overlay, [*_BYTES, *_BYTES, *_lists(U64, U64), U64, U64]),
     "dk_overlay_runs": (Count, [*_BYTES, *_BYTES, *_lists(U64, U64, U64, U64)]),

@@ -53,10 +53,12 @@ def calls():
                                                        Layout().align, Layout().addr, Layout, Recorder, Recorder().bank, Recorder().node, built.part, Refused))
         yield from ((bench, text, value), (bench, value, text), (bench, text, text, value), (convert, value, 1), (convert, some.to_form(), value))
         yield from ((Layout.from_file, value), (Layout.from_file, ROOT / "examples" / "worked.form", value), (verify, value, text))
+        yield from ((Store().offer_all, value),)
         yield from ((verify, some, value), (verify, some, text, value), (verify, some, text, 0x10, value), (read_records, text, value))
         yield from ((write_hex, b"abcd", value), (write_hex, b"abcd", 0, value), (write_srec, b"abcd", 0, value), (built.to_hex, 0, value))
     for one, two in itertools.product(JUNK, repeat=2):
         yield from ((Overlay, one, two, [(0, 8)]), (Store().offer, one, two), (Layout().item, one, two), (Layout().node, one, two))
+        yield from ((Store().offer_all, [(one, two)]),)
         yield from ((Layout(rows=2).node, 5, 0, one, two), (Overlay(b"abcd", bytearray(b"abcd"), [(0, 16)]).image_of, one, two))
         yield from ((lambda a, b: Layout(bank0=Bank(a, b)).build(), one, two),)
 
@@ -174,7 +176,7 @@ class Header(unittest.TestCase):
     TYPES = {"uint8_t": c.c_uint8, "uint16_t": c.c_uint16, "uint32_t": c.c_uint32, "uint64_t": c.c_uint64, "int64_t": c.c_int64, "size_t": c.c_size_t}
 
     STRUCTS = {"dk_padding": _c.Padding, "dk_layout": _c.LayoutAnswer, "dk_mapped": _c.Mapped, "dk_profile": _c.Profile, "dk_count": _c.Count,
-               "dk_offer": _c.Offer, "dk_part": _c.Part, "dk_overlay": _c.Overlay, "dk_extent": _c.Extent, "dk_fault": _c.Fault,
+               "dk_offer": _c.Offer, "dk_offered": _c.Offered, "dk_part": _c.Part, "dk_overlay": _c.Overlay, "dk_extent": _c.Extent, "dk_fault": _c.Fault,
                "dk_reason": _c.Reason}
 
     def setUp(self):

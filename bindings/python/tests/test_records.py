@@ -226,6 +226,27 @@ class Bench(unittest.TestCase):
             full.offer(2 * i, 1)
         self.assertEqual(refusal(full.offer, 2000, 1).number, 13)
 
+    def test_store_of_lists(self):
+        """A list of offers beside so many single ones."""
+        rng, seen = draw("lists of offers"), set()
+        for _ in range(HOW_MANY // 4):
+            store, single = Store(), Store()
+            for _ in range(4):
+                listed = [(rng.randrange(300), rng.randrange(6)) for _ in range(rng.randrange(5))]
+                before, stopped = (store.intervals, store.marks), None
+                for at, each in enumerate(listed):
+                    stopped = refusal(single.offer, *each)
+                    if stopped:
+                        break
+                refused = refusal(store.offer_all, listed)
+                seen.add(bool(refused))
+                if refused:
+                    self.assertEqual((refused.number, refused.place, refused.second, refused.node), (stopped.number, stopped.place, stopped.second, at))
+                    self.assertEqual((store.intervals, store.marks), before)
+                    break
+                self.assertEqual((store.intervals, store.marks, stopped), (single.intervals, single.marks, None))
+        self.assertEqual(seen, {True, False})
+
     def test_digits(self):
         rng = draw("digits")
         for _ in range(100):

@@ -361,6 +361,55 @@ pub fn offer(
     unsafe { dk_offer(positions.as_mut_ptr(), sizes.as_mut_ptr(), count, marks.as_mut_ptr(), mark_count, position, size) }
 }
 
+#[repr(C)]
+pub struct DkOffered {
+    pub refusal: u64,
+    pub place: u64,
+    pub second: u64,
+    pub count: u64,
+    pub marks: u64,
+    pub offer: u64,
+}
+
+extern "C" {
+    fn dk_offers(
+        positions: *mut u64,
+        sizes: *mut u64,
+        count: u64,
+        marks: *mut u64,
+        mark_count: u64,
+        offer_positions: *const u64,
+        offer_positions_len: usize,
+        offer_sizes: *const u64,
+        offer_sizes_len: usize,
+    ) -> DkOffered;
+}
+
+pub fn offers(
+    positions: &mut [u64; 512],
+    sizes: &mut [u64; 512],
+    count: u64,
+    marks: &mut [u64; 512],
+    mark_count: u64,
+    offer_positions: &[u64],
+    offer_sizes: &[u64],
+) -> DkOffered {
+    // SAFETY: see the module; the arrays have the 512 elements that the function may touch
+    unsafe {
+        dk_offers(
+            positions.as_mut_ptr(),
+            sizes.as_mut_ptr(),
+            count,
+            marks.as_mut_ptr(),
+            mark_count,
+            offer_positions.as_ptr(),
+            offer_positions.len(),
+            offer_sizes.as_ptr(),
+            offer_sizes.len(),
+        )
+    }
+}
+
 #[rustfmt::skip]
 pub fn overlay_range(overlay: &[u8], released: &[u8], offsets: &[u64], sizes: &[u64], first: u64, count: u64) -> DkOverlay {
     // SAFETY: see the module

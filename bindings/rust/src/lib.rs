@@ -58,7 +58,7 @@ pub use misuse::Misuse;
 pub use names::{BadNames, Name, Names};
 pub use owned::{Bank, Block, Built, Program, Span};
 pub use recorder::{Node, NotBuilt, Recorder};
-pub use store::{NotStored, Store};
+pub use store::{NoneStored, NotStored, Store};
 pub use values::Values;
 
 /// The bank has a size.

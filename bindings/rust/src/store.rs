@@ -26,7 +26,7 @@ pub struct Store {
 pub enum NotStored {
     /// 15: the store is not one; 512 for either count, else the first interval at fault, else the first mark at fault.
     BadStore { entry: u64 },
-    /// 4: the position is above 8,589,934,590, or the size above 4,294,967,295.
+    /// 4: the position is above 8,589,934,590, or the size above 4,294,967,295; of a list of offers, also where one lacks its position or its size.
     Malformed,
     /// 12: the offer shares a bit with the interval, or is empty and strictly inside one; that interval's start and size. Or a mark is strictly inside
     /// the offer: the lowest such mark, and size 0.
@@ -35,6 +35,26 @@ pub enum NotStored {
     Full,
     /// A number that this crate does not know: the archive is newer than the crate.
     Unknown { number: u64, place: u64 },
+}
+
+/// Which offer of a list was refused, counted from 0, and why. Of a list none is kept then: the store is left as it was.
+#[derive(Clone, Copy, Debug, PartialEq, Eq)]
+pub struct NoneStored {
+    /// Its number; 0 where the store itself is at fault.
+    pub offer: u64,
+    /// Why.
+    pub why: NotStored,
+}
+
+fn answer(refusal: u64, place: u64, second: u64) -> Result<(), NotStored> {
+    match refusal {
+        0 => Ok(()),
+        4 => Err(NotStored::Malformed),
+        12 => Err(NotStored::Overlap { start: place, size: second }),
+        13 => Err(NotStored::Full),
+        15 => Err(NotStored::BadStore { entry: place }),
+        number => Err(NotStored::Unknown { number, place }),
+    }
 }
 
 impl Store {
@@ -48,14 +68,16 @@ impl Store {
         let r = ffi::offer(&mut self.positions, &mut self.sizes, self.count, &mut self.marks, self.mark_count, position, size);
         self.count = r.count;
         self.mark_count = r.marks;
-        match r.refusal {
-            0 => Ok(()),
-            4 => Err(NotStored::Malformed),
-            12 => Err(NotStored::Overlap { start: r.place, size: r.second }),
-            13 => Err(NotStored::Full),
-            15 => Err(NotStored::BadStore { entry: r.place }),
-            number => Err(NotStored::Unknown { number, place: r.place }),
-        }
+        answer(r.refusal, r.place, r.second)
+    }
+
+    /// Many offers, all or none: offer i has `sizes[i]` bits from bit `positions[i]` on. The store is looked at once, so that many offers cost little more than
+    /// their search; accepted, it is what so many calls of [`Store::offer`] leave. It takes 14 KiB of stack.
+    pub fn offer_all(&mut self, positions: &[u64], sizes: &[u64]) -> Result<(), NoneStored> {
+        let r = ffi::offers(&mut self.positions, &mut self.sizes, self.count, &mut self.marks, self.mark_count, positions, sizes);
+        self.count = r.count;
+        self.mark_count = r.marks;
+        answer(r.refusal, r.place, r.second).map_err(|why| NoneStored { offer: r.offer, why })
     }
 
     /// The stored intervals, start and size, in order.
@@ -105,3 +127,11 @@ impl fmt::Display for NotStored {
 }
 
 impl std::error::Error for NotStored {}
+
+impl fmt::Display for NoneStored {
+    fn fmt(&self, f: &mut fmt::Formatter<'_>) -> fmt::Result {
+        write!(f, "offer {}: {}", self.offer, self.why)
+    }
+}
+
+impl std::error::Error for NoneStored {}

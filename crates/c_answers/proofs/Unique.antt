@@ -35,6 +35,8 @@ use Rattle.c_answers.proofs.parts.tell_reason.Kinds as reason-kinds
 use Rattle.c_answers.proofs.parts.tell_reason.Reads as reason-reads
 use Rattle.c_answers.proofs.offers.tell_offer.Kinds as offer-kinds
 use Rattle.c_answers.proofs.offers.tell_offer.Reads as offer-reads
+use Rattle.c_answers.proofs.offers.tell_offers.Kinds as offers-kinds
+use Rattle.c_answers.proofs.offers.tell_offers.Reads as offers-reads
 
 pub first-of-unique : OneOutcome 0 first-of-kinds.ps first-of-kinds.r first-of-reads.Learnt
 first-of-unique κs a x y e f p q = determined p q
@@ -86,3 +88,6 @@ tell-reason-unique κs a x y e f p q = determined p q
 
 pub tell-offer-unique : OneOutcome 0 offer-kinds.ps offer-kinds.r offer-reads.Learnt
 tell-offer-unique κs a x y e f p q = determined p q
+
+pub tell-offers-unique : OneOutcome 0 offers-kinds.ps offers-kinds.r offers-reads.Learnt
+tell-offers-unique κs a x y e f p q = determined p q

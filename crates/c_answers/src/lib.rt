@@ -20,6 +20,7 @@ pub use layouts::tell_layout;
 pub use layouts::tell_paged;
 pub use maps::tell_map;
 pub use offers::tell_offer;
+pub use offers::tell_offers;
 pub use parts::tell_extent;
 pub use parts::tell_fault;
 pub use parts::tell_part;
@@ -75,6 +76,18 @@ pub struct DkOffer {
     pub second: u64,
     pub count: u64,
     pub marks: u64,
+}
+
+// The answer to a list of offers: that of the offer that was refused, and its number, from 0; where all were accepted, how many there are. `count` and `marks`
+// are as an offer's answer has them.
+#[repr(C)]
+pub struct DkOffered {
+    pub refusal: u64,
+    pub place: u64,
+    pub second: u64,
+    pub count: u64,
+    pub marks: u64,
+    pub offer: u64,
 }
 
 // The answer of a call that writes a list: how many things it wrote, or its refusal.

@@ -1,10 +1,11 @@
-// The answer to an offer to the store.
+// The answer to an offer to the store, and to a list of them.
 use crate::DkOffer;
+use crate::DkOffered;
 use refusal::Place;
 use refusal::Verdict;
 ghost use mathlib.Core.Path.{_≡_};
 ghost use Rattle.refusal.specs.Told.{refuses, toldVerdict};
-ghost use Rattle.c_answers.specs.Stores.{inFigures};
+ghost use Rattle.c_answers.specs.Stores.{inFigures, numbered};
 
 // A refusal's number and place, with the counts.
 fn tell_place(number: u64, at: Place, count: u64, marks: u64) -> DkOffer
@@ -43,5 +44,20 @@ pub fn tell_offer(verdict: Verdict, count: u64, marks: u64) -> DkOffer
         Verdict::Refused(why) => {
             tell_place(refusal::number(why), refusal::place_of(why), count, marks)
         }
+    }
+}
+
+// The same of a list of offers, with an offer's number.
+pub fn tell_offers(verdict: Verdict, count: u64, marks: u64, offer: u64) -> DkOffered
+    ensures { λ r. ⌜ r ≡ numbered (inFigures (toldVerdict verdict) count marks) offer ⌝ }
+{
+    let one = tell_offer(verdict, count, marks);
+    DkOffered {
+        refusal: one.refusal,
+        place: one.place,
+        second: one.second,
+        count: one.count,
+        marks: one.marks,
+        offer,
     }
 }

@@ -13,6 +13,7 @@ use Rattle.says.specs.Convert as convert
 use Rattle.says.specs.Blocks as blocks
 use Rattle.says.specs.Hex as hex
 use Rattle.says.specs.Map as map
+use Rattle.says.specs.Offers as offers
 use Rattle.says.specs.Overlay as overlay
 use Rattle.says.specs.Read as read
 use Rattle.says.specs.Store as store
@@ -35,6 +36,7 @@ use Rattle.meets_records.specs.Theorems.ReadDecides.{read-decides}
 use Rattle.meets_records.specs.Theorems.WriteDecides.{write-hex-decides, write-srec-decides}
 use Rattle.meets_sentences.specs.Theorems.Decides.{build-decides}
 use Rattle.meets_store.specs.Theorems.Decides.{offer-decides}
+use Rattle.meets_store.specs.Theorems.Offers.{offers-decide}
 use Rattle.meets_verify.specs.Theorems.Verify.{verify-decides}
 use Rattle.denkumari.proofs.builds.dk_build.Kinds as build-kinds
 use Rattle.denkumari.proofs.builds.dk_build.Reads as build-reads
@@ -54,6 +56,8 @@ use Rattle.denkumari.proofs.conversions.dk_to_form1.Kinds as to-form1-k
 use Rattle.denkumari.proofs.conversions.dk_to_form1.Reads as to-form1-reads
 use Rattle.denkumari.proofs.stores.dk_offer.Kinds as offer-kinds
 use Rattle.denkumari.proofs.stores.dk_offer.Reads as offer-reads
+use Rattle.denkumari.proofs.stores.dk_offers.Kinds as offers-kinds
+use Rattle.denkumari.proofs.stores.dk_offers.Reads as offers-reads
 use Rattle.denkumari.proofs.parts.dk_blocks.Kinds as blocks-kinds
 use Rattle.denkumari.proofs.parts.dk_blocks.Reads as blocks-reads
 use Rattle.denkumari.proofs.parts.dk_hex.Kinds as hex-kinds
@@ -118,6 +122,10 @@ dk-to-form1-unique κs a x y e f p q = to-form1-decides _ _ _ _ p q
 pub dk-offer-unique : OneView 3 offer-kinds.ps offer-kinds.r offer-reads.Learnt store.Outcome
     (λ κs x e. record { answer = x; positions = e .0 .now; sizes = e .1 .0 .now; marks = e .1 .1 .1 .0 .now })
 dk-offer-unique κs a x y e f p q = offer-decides _ _ _ _ p q
+
+pub dk-offers-unique : OneView 5 offers-kinds.ps offers-kinds.r offers-reads.Learnt offers.Result
+    (λ κs x e. record { answer = x; positions = e .0 .now; sizes = e .1 .0 .now; marks = e .1 .1 .1 .0 .now })
+dk-offers-unique κs a x y e f p q = offers-decide _ _ _ _ _ p q
 
 pub dk-blocks-unique : OneView 4 blocks-kinds.ps blocks-kinds.r blocks-reads.Learnt blocks.Outcome
     (λ κs x e. record { answer = x; starts = e .1 .1 .0 .now; sizes = e .1 .1 .1 .0 .now })

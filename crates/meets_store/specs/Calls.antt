@@ -6,10 +6,7 @@ use Rattle.overlap_checker.specs.declared.Entry.{Entry}
 use Rattle.meets_sentences.specs.InTurn.{Item}
 use Rattle.says.specs.Words.{Not}
 use Rattle.says.specs.Store.{Store, Arrays, Outcome, Covers, Inside, OfferSays}
-
--- what a call leaves, as the next one is given it
-abbrev pub handed : Outcome → Store
-handed y = record { positions = y .positions; sizes = y .sizes; count = y .answer .count; marks = y .marks; markCount = y .answer .marks }
+use Rattle.says.specs.Offers.{handed}
 
 -- "a store without intervals or marks": counts of 0, whatever the arrays hold
 pub record Empty (s : Store) : Type 0 where

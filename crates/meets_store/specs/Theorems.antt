@@ -1,5 +1,6 @@
 pub mod Decides
 pub mod Meets
+pub mod Offers
 pub mod Refused
 pub mod Demand3
 pub mod Marks

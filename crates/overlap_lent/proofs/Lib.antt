@@ -1,2 +1,3 @@
+pub mod Many
 pub mod Surely
 pub mod Unique

@@ -4,7 +4,7 @@
 --
 -- To read it, take Words first: refusals tried one after another, the first that is so. Then Banks and Build, `dk_build`: bottom up as the file goes, or from
 -- `BuildSays` at its end backwards. `dk_profile`, `dk_build_paged` and `dk_map` go on from there (Profile, Paged, Map). The others stand by themselves:
--- Store is `dk_offer`, Blocks, Part and Hex are `dk_blocks`, `dk_part` and `dk_hex`, Overlay the two calls of the bench, Verify is `dk_verify`. Files is what
+-- Store is `dk_offer`, Offers over it `dk_offers`, Blocks, Part and Hex are `dk_blocks`, `dk_part` and `dk_hex`, Overlay the two calls of the bench, Verify is `dk_verify`. Files is what
 -- a layout file holds, under Form and FormPaged (`dk_form`, `dk_form_paged`) and Convert (`dk_to_form1`, `dk_to_form2`). Records is what Intel HEX and
 -- S-records share, under Write (`dk_write_hex`, `dk_write_srec`), Read (`dk_read_records`, `dk_record_fault`), Extent (`dk_record_extent`) and Reason
 -- (`dk_record_reason`).
@@ -17,6 +17,7 @@ pub mod Profile
 pub mod Paged
 pub mod Map
 pub mod Store
+pub mod Offers
 pub mod Blocks
 pub mod Part
 pub mod Hex

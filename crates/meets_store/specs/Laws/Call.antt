@@ -226,19 +226,19 @@ module _ (s : Store) (e : Entry) (arrays : Arrays s) where
           (λ c h. ⊎-elim (λ le. marks c h (omega arith)) (puts c h) (le-or-lt (e .size) 0))
 
   -- ---- the call
-  no-bad-entry : s .count ≤ 512 → length (held a) ≤ firstFault 0 (held a) → (i : ℕ) → First (BadEntry s) i → ⊥
+  pub no-bad-entry : s .count ≤ 512 → length (held a) ≤ firstFault 0 (held a) → (i : ℕ) → First (BadEntry s) i → ⊥
   no-bad-entry few none i f =
       let count = count-is s arrays few in
       proper-none s (held a) (ascending-proper (held a) (ascending 0 (held a) (omega (arith, fault-le 0 (held a), none))))
       (λ j m. entry-is s arrays few j (omega arith)) (let h = entry-stored s (f .so) in omega arith) (f .so)
 
-  no-bad-mark : Fine a → (i : ℕ) → First (BadMark s) i → ⊥
+  pub no-bad-mark : Fine a → (i : ℕ) → First (BadMark s) i → ⊥
   no-bad-mark fine i f =
       let count = mark-count-is s arrays (fine .few) (fine .fewMarks) in
       proper-marks-none s arrays (fine .few) (heldMarks a) (resting-proper (held a) (heldMarks a) (marks-rest a (sound fine)))
       (λ j m. mark-is s arrays (fine .few) (fine .fewMarks) j (omega arith)) (let h = mark-stored s (f .so) in omega arith) (f .so)
 
-  not-many : s .count ≤ 512 → s .markCount ≤ 512 → (x : Unit {0}) → TooMany s → ⊥
+  pub not-many : s .count ≤ 512 → s .markCount ≤ 512 → (x : Unit {0}) → TooMany s → ⊥
   not-many few fewMarks x = ⊎-elim (λ h. omega arith) (λ h. omega arith)
 
   past : pastLimits e ≡ true → PastLimits s e

@@ -10,8 +10,9 @@ use Rattle.sort.specs.Laws.Sorted.{le-or-lt}
 use Rattle.overlap_checker.specs.declared.Entry.{Entry}
 use Rattle.says.specs.Words.{Not}
 use Rattle.says.specs.Store.{Store, Outcome, Covers, OfferSays, PastLimits}
+use Rattle.says.specs.Offers.{handed}
 use Rattle.meets_store.specs.Calls as c
-use Rattle.meets_store.specs.Calls.{handed, Empty, Within, Calls}
+use Rattle.meets_store.specs.Calls.{Empty, Within, Calls}
 use Rattle.meets_store.specs.Theorems.Refused.{refused-changes-nothing}
 use Rattle.meets_store.specs.Theorems.Exactly.{accepted-exactly}
 use Rattle.meets_store.specs.Theorems.Demand3.{overlap-exactly}

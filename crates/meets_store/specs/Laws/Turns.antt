@@ -21,8 +21,9 @@ use Rattle.says.specs.Words.{refused, passed}
 use Rattle.says.specs.Store as w
 use Rattle.says.specs.Words.{Not}
 use Rattle.says.specs.Store.{Store, Arrays, Outcome, OfferSays}
+use Rattle.says.specs.Offers.{handed}
 use Rattle.meets_store.specs.Calls as c
-use Rattle.meets_store.specs.Calls.{handed, Calls}
+use Rattle.meets_store.specs.Calls.{Calls}
 use Rattle.meets_store.specs.Laws.Held.{asLent}
 use Rattle.meets_store.specs.Laws.Call.{outcomeOf, call-says}
 use Rattle.meets_store.specs.Theorems.Decides.{offer-decides}

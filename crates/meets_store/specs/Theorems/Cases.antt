@@ -9,7 +9,7 @@ use Rattle.says.specs.Words.{refused, passed}
 use Rattle.says.specs.Store as w
 use Rattle.says.specs.Store.{Store, Outcome, start, size, mark, BadEntry, BadMark, Clash, Overlaps, Names, refusal}
 use Rattle.says.specs.Store.{OfferSays}
-use Rattle.meets_store.specs.Calls.{handed}
+use Rattle.says.specs.Offers.{handed}
 use Rattle.meets_store.specs.Theorems.Decides.{offer-decides}
 
 abbrev offer : ℕ → ℕ → Entry

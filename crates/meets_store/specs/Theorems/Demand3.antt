@@ -22,8 +22,9 @@ use Rattle.overlap_checker.specs.Theorems.Demand3Calls as calls
 use Rattle.overlap_checker.specs.Laws.WhatIsStored as what
 use Rattle.says.specs.Words.{Not}
 use Rattle.says.specs.Store.{Store, Outcome, Inside, start, size, mark, OfferSays}
+use Rattle.says.specs.Offers.{handed}
 use Rattle.meets_store.specs.Calls as c
-use Rattle.meets_store.specs.Calls.{handed, Empty, Within, AllWithin, Calls, SharesBit, HasMarkInside, InsideOne, Apart}
+use Rattle.meets_store.specs.Calls.{Empty, Within, AllWithin, Calls, SharesBit, HasMarkInside, InsideOne, Apart}
 use Rattle.meets_store.specs.Laws.Held.{asLent, count-is, entry-is, entry-in, entry-of, mark-count-is, mark-is, mark-in, mark-of}
 use Rattle.meets_store.specs.Laws.Turns.{Turned, turned, call-made, number-is, by-number}
 

@@ -5,7 +5,7 @@ use Rattle.says.specs.Words.{refused, passed}
 use Rattle.says.specs.Store as w
 use Rattle.says.specs.Words.{Not}
 use Rattle.says.specs.Store.{Store, Outcome, OfferSays}
-use Rattle.meets_store.specs.Calls.{handed}
+use Rattle.says.specs.Offers.{handed}
 
 -- A call that is refused hands the store back as it was: the three arrays, to the last place, and both counts.
 pub refused-changes-nothing : {s : Store} {e : Entry} {y : Outcome} → OfferSays s e y → Not (y .answer .refusal ≡ 0) → handed y ≡ s

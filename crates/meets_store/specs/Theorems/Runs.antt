@@ -6,8 +6,9 @@ use native.Mathlib.Omega.{arith}
 use Rattle.sort.specs.Laws.Sorted.{le-or-lt}
 use Rattle.overlap_checker.specs.declared.Entry.{Entry}
 use Rattle.says.specs.Store.{Store, Arrays, Outcome, OfferSays}
+use Rattle.says.specs.Offers.{handed}
 use Rattle.meets_store.specs.Calls as c
-use Rattle.meets_store.specs.Calls.{handed, Calls}
+use Rattle.meets_store.specs.Calls.{Calls}
 use Rattle.meets_store.specs.Laws.Turns.{arrays-kept, made, made-says}
 use Rattle.meets_store.specs.Theorems.Decides.{offer-decides}
 
