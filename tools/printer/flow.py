@@ -2,7 +2,7 @@
 import copy
 from functools import reduce
 
-from term import PTR, Array, Body, Copy, Named, Place, Ref, Slice, manners, must
+from term import PTR, Array, Body, Copy, Named, Ref, Slice, manners, must
 
 
 def union(sets):
@@ -52,8 +52,8 @@ def taken(body):
 
 
 def sets(body, n):
-    """Whether local n is set, whole or in part."""
-    return any(s.to is not None and s.to.local == n and not s.to.indirect for s in every(body))
+    """How often local n is set, whole or in part."""
+    return sum(s.to is not None and s.to.local == n and not s.to.indirect for s in every(body))
 
 
 def may_write(types, t):
@@ -120,30 +120,16 @@ def leaves(body, depth):
 
 
 def spread(body):
-    """`return x` behind branches that each set x last goes into the branches."""
-    cut, answer = len(body) - 1, Place(0)
-    if body and body[-1].kind == 'return':
-        while cut > 0 and is_copy(body[cut - 1], answer):
-            cut, answer = cut - 1, body[cut - 1].reads[0].place
-        if cut > 0 and body[cut - 1].kind in ('if', 'switch') and all(sets_last(inner, answer) for inner in body[cut - 1].bodies):
-            fork, tail = body[cut - 1], body[cut:]
-            fork.bodies = [inner if ends(inner) else Body(inner + copy.deepcopy(tail)) for inner in fork.bodies]
-            body = Body(body[:cut])
+    """`return` behind branches goes into them, with the copies ahead of it."""
+    at = len(body) - 1
+    while at > 0 and (body[at].kind == 'return' or body[at].value == 'rvOpd'):
+        at -= 1
+    if body and body[-1].kind == 'return' and body[at].kind in ('if', 'switch') and all(body[at].bodies):
+        body[at].bodies = [inner if ends(inner) else Body(inner + copy.deepcopy(body[at + 1:])) for inner in body[at].bodies]
+        body = Body(body[:at + 1])
     for s in body:
         s.bodies = [spread(inner) for inner in s.bodies]
     return body
-
-
-def is_copy(s, place):
-    """Whether a statement sets a place to a copy of a whole local."""
-    return s.kind == 'assign' and s.value == 'rvOpd' and s.to == place and isinstance(s.reads[0], Copy) and s.reads[0].place.steps == ()
-
-
-def sets_last(body, place):
-    """Whether each way through a body ends in a jump or sets a place last."""
-    if not body or ends(body):
-        return bool(body)
-    return body[-1].to == place or body[-1].kind in ('if', 'switch') and all(sets_last(inner, place) for inner in body[-1].bodies)
 
 
 if __name__ == '__main__':
