@@ -2,7 +2,6 @@
 from dataclasses import dataclass, replace
 
 from ctypes_of import element, symbol
-from flow import union
 from names import safe
 from term import BOOL, PTR, UNIT, Array, Const, Int, Ref, Slice, Unknown, manners, must
 
@@ -40,7 +39,7 @@ class Expr:
 def made(text, strength, t, *parts, **more):
     """An expression made of others."""
     more = {'steady': bool(parts) and parts[0].steady, **more}
-    return Expr(text, strength, t, union(e.uses for e in parts), any(e.memory for e in parts), any(e.calls for e in parts), **more)
+    return Expr(text, strength, t, frozenset().union(*(e.uses for e in parts)), any(e.memory for e in parts), any(e.calls for e in parts), **more)
 
 
 def compared(left, op, right, *parts):

@@ -1,12 +1,7 @@
 """What becomes of locals: which are read later, whose address is taken, which are set; and the term's blocks put into the shape that C's statements have."""
 import copy
-from functools import reduce
 
 from term import PTR, Array, Body, Copy, Named, Ref, Slice, manners, must
-
-
-def union(sets):
-    return reduce(frozenset.union, sets, frozenset())
 
 
 def every(body):
@@ -24,26 +19,21 @@ def live(body, after, exits):
         if s.kind == 'exit':
             after = exits[s.depth]
         elif s.kind == 'loop':
-            after = s.live = around(s.bodies[0], exits)
+            top, after = None, frozenset()              # from its end a loop goes on to its start
+            while after != top:
+                top = after
+                after = top | live(s.bodies[0], top, [top] + exits)
+            s.live = after
         elif s.kind == 'block':
             after = live(s.bodies[0], after, [after] + exits)
         else:
             if s.bodies or s.kind == 'return':
-                after = union(live(inner, after, exits) for inner in s.bodies)
+                after = frozenset().union(*(live(inner, after, exits) for inner in s.bodies))
             if s.to is not None:
                 after = after | {s.to.local} if s.to.steps else after - {s.to.local}
             after |= {o.place.local for o in s.reads if isinstance(o, Copy)}
     body.live = after
     return after
-
-
-def around(body, exits):
-    """What is live at the start of a loop, which goes on from its end to its start."""
-    top, new = None, frozenset()
-    while new != top:
-        top = new
-        new = top | live(body, top, [top] + exits)
-    return top
 
 
 def taken(body):

@@ -59,8 +59,6 @@ class Printer(Exprs):
         unused = [f'(void){name};' for name in self.program.params(self.f) if not any(names(line, name) for line in lines)]
         return f'{self.program.head(self.f)}\n{{\n{laid(unused + lines, 4)}}}\n'
 
-    # What is pending
-
     def set(self, out, n):
         """Sets a local to its pending value."""
         e = self.fit(self.pending.pop(n), self.f.locals[n])
@@ -76,12 +74,6 @@ class Printer(Exprs):
             if which(n, self.pending[n]):
                 self.set(out, n)
 
-    def later(self, out, n, e):
-        """Makes a value pending; those that name the local are set first."""
-        self.pending.pop(n, None)
-        self.flush(out, lambda _, other: n in other.uses)
-        self.pending[n] = e
-
     def ready(self, out, reads, after, changes):
         """Before a statement that reads some operands, with `after` live behind it: sets what is pending that it cannot take in, or that it would change."""
         def goes(n, e):
@@ -91,25 +83,19 @@ class Printer(Exprs):
             return len(here) > 1 or n in after or bool(here[0]) and not e.place and here[0][0][0] != 'deref'
         self.flush(out, goes)
 
-    # Statements
-
     def lines(self, body, after):
         """The lines of a body, with nothing left pending that is live behind it."""
         out, pending, self.pending = [], self.pending, {}
-        for s in body:
-            self.statement(out, s)
+        for s in body:                                  # a pending call that may write is put nowhere but in what follows at once
+            takes = s.kind in ('return', 'if') or s.value == 'rvOpd' and not s.to.steps
+            self.flush(out, lambda n, e: e.calls and not (takes and s.reads == [Copy(Place(n))]))
+            getattr(self, 'do_' + s.kind)(out, s)
             if out and is_jump(out[-1]):
                 self.pending = {}
                 break
         self.flush(out, lambda n, _: n in after)
         self.pending = pending
         return out
-
-    def statement(self, out, s):
-        """One statement. A pending call that may write is put nowhere but in what follows at once."""
-        takes = s.kind in ('return', 'if') or s.kind == 'assign' and s.value == 'rvOpd' and not s.to.steps
-        self.flush(out, lambda n, e: e.calls and not (takes and s.reads == [Copy(Place(n))]))
-        getattr(self, 'do_' + s.kind)(out, s)
 
     def do_return(self, out, s):
         if self.f.locals[0] == UNIT:
@@ -138,10 +124,12 @@ class Printer(Exprs):
     def store(self, out, s, to, e):
         """Sets a statement's place to a value, at once or later."""
         n = s.to.local
-        if to is None and n in s.live and e.type != UNIT:
-            self.later(out, n, e)
-        elif to is None or e.type == UNIT:
+        if to is None or e.type == UNIT:
             self.pending.pop(n, None)
+        if to is None and n in s.live and e.type != UNIT:
+            self.flush(out, lambda _, other: n in other.uses)   # those that name the local's old value are set first
+            self.pending[n] = e
+        elif to is None or e.type == UNIT:
             out += [f'{"" if e.type == UNIT else "(void)"}{e.text};'] if e.calls else []
         elif s.to.steps:
             out.append(f'{to.text} = {self.fit(e, to.type).text};')
@@ -226,12 +214,11 @@ class Printer(Exprs):
         self.scopes.append((s.kind, s.live))
         lines = self.lines(body, s.live)
         self.scopes.pop()
-        if s.kind == 'block':
-            out += lines
-            return
         if lines[-1:] == ['continue;']:
             lines.pop()
-        if lines and isinstance(lines[0], Nest) and lines[0].lines == ['break;'] and getattr((lines + [''])[1], 'head', '') != 'else':
+        if s.kind == 'block':
+            out += lines
+        elif lines and getattr(lines[0], 'test', None) and lines[0].lines == ['break;'] and getattr((lines + [''])[1], 'head', '') != 'else':
             out.append(Nest(f'while ({negated(lines[0].test).text})', lines[1:]))
         else:
             out.append(Nest('for (;;)', lines))
