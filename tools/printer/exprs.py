@@ -107,11 +107,12 @@ class Exprs:
         return e
 
     def pointee(self, e, t):
-        """What a pointer points to."""
-        self.points(e, t)
-        must(not isinstance(t, Array), 'an array behind a pointer, taken by value')
+        """What a pointer points to: an array, which C knows by its first element, by a cast to the struct that has nothing else."""
+        mut = self.points(e, t)
         text, strength = (e.at(1) + '[0]', 1) if e.has('of') else ('*' + e.at(2), 2)
-        if e.has('indexed'):
+        if isinstance(t, Array):
+            text, strength = f'*({"const " * (not mut)}{self.types.c(t)} *){self.fit(e, PTR).at(2)}', 2
+        elif e.has('indexed'):
             base, i = e.has('indexed')
             text, strength = f'{base.at(1)}[{i.text}]', 1
         return replace(made(text, strength, t, e), memory=e.memory or not e.steady)
