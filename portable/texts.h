@@ -3,7 +3,7 @@
  * `sources` (sha256; tools/portable.sh says of what).
  *
  * sources: 65057545e223d6489febd07c5dd3bdab3fe00f52477606c791d905663b64fedc
- * text: 8d017b36da1c8ead2f83f717eb08c7da3293fbed52b16d8bb40dd1b92aaca322
+ * text: eebdc3e373b21b66ad7d7d8dadb92d2a66bc9721a35ceccbed52ab6b6e3713db
  * kit: rattle-kit-5b-plain logic 097e4c862dff5811
  */
 #ifndef DENKUMARI_TEXTS_H
@@ -18,7 +18,7 @@ enum {
     refusal__Opt_Some = 1
 };
 typedef struct {
-    uint8_t tag;
+    uint32_t tag;
     union {
         struct { uint32_t f0; } Some;
     } u;
@@ -57,7 +57,7 @@ enum {
     refusal__Refusal_OffProfile = 17
 };
 typedef struct {
-    uint8_t tag;
+    size_t tag;
     union {
         struct { uint64_t f0; } BankNumber;
         struct { uint64_t f0; uint64_t f1; } BanksOverlap;
@@ -79,7 +79,7 @@ enum {
     blocks__Blocks_Refused = 1
 };
 typedef struct {
-    uint8_t tag;
+    size_t tag;
     union {
         struct { uint64_t f0; } Found;
         struct { refusal__Refusal f0; } Refused;
@@ -90,7 +90,7 @@ enum {
     prog_overlay__Asked_Range = 1
 };
 typedef struct {
-    uint8_t tag;
+    uint32_t tag;
     union {
         struct { uint32_t f0; uint32_t f1; } Range;
     } u;
@@ -101,7 +101,7 @@ enum {
     form_convert__Conversion_Refused = 1
 };
 typedef struct {
-    uint8_t tag;
+    size_t tag;
     union {
         struct { uint64_t f0; } Converted;
         struct { refusal__Refusal f0; } Refused;
@@ -118,7 +118,7 @@ uint64_t layout__put_file(slice_u8 file, uint8_t fill, refusal__Opt page, mut_u8
  * The map's text of a file of either form, a fill's choice and a page size, if there is one, at the front of `out`,
  * which has room for any.
  */
-uint64_t print_map__files__write_map(slice_u8 file, uint8_t fill, refusal__Opt page, uint8_t *out);
+uint64_t print_map__files__write_map(slice_u8 file, uint8_t fill, refusal__Opt page, uint8_t *restrict out);
 
 /* prog_records::put_file: The text of a file, put at the front of `out`: how many bytes it is. */
 uint64_t prog_records__put_file(print_records__Wanted wanted, slice_u8 file, uint8_t fill, refusal__Opt page,
@@ -140,8 +140,8 @@ record_reason__Why record_reason__reason_of(uint8_t format, slice_u8 text, uint3
 blocks__Blocks prog_overlay__load_file(uint32_t load, slice_u8 source, mut_u8 bytes, mut_u64 offsets, mut_u64 sizes);
 
 /* prog_overlay::put_unread: The refusal of a file, with its name and the line at fault. */
-uint64_t prog_overlay__put_unread(const refusal__Refusal *why, slice_u8 name, uint32_t load, slice_u8 source,
-        mut_u8 out);
+uint64_t prog_overlay__put_unread(const refusal__Refusal *restrict why, slice_u8 name, uint32_t load,
+        slice_u8 source, mut_u8 out);
 
 /* prog_overlay::put_released:
  * The whole text, where the overlay was read: the room for the released file's bytes begins as a copy of the
@@ -161,7 +161,7 @@ form_convert__Conversion form_convert__to_form2(slice_u8 file, mut_u8 out);
  * The same where it is known to fit: a refusal's line has at most 71 bytes, since its number has two digits at most
  * and each of a place twenty.
  */
-uint64_t print_text__write_refusal(mut_u8 out, uint64_t at, const refusal__Refusal *why);
+uint64_t print_text__write_refusal(mut_u8 out, uint64_t at, const refusal__Refusal *restrict why);
 
 /* prog_args::number:
  * The number that a text spells in decimal digits, or in hexadecimal ones behind 0x, up to 4,294,967,295; none for

@@ -59,12 +59,14 @@ class Types:
             self.declare_cases(symbol(t.name), self.cases(t), self.shape(t)[1])
 
     def declare_cases(self, name, cases, parts):
-        """An enum: the number of its case, and what each case has."""
+        """An enum: the number of its case, as wide as what stands behind it, so that compilers copy whole words; and what each case has."""
+        widest = max((one.bits if isinstance(one, Int) else 64 for part in parts for one in part), default=8)
+        tag = 'size_t' if widest == 64 else f'uint{widest}_t'
         lines = ''.join(f'        struct {{ {" ".join(f"{pad(self.c(one))}f{i};" for i, one in enumerate(part))} }} {safe(case)};\n'
                         for case, part in zip(cases, parts) if part)
         numbers = ',\n'.join(f'    {name}_{case} = {i}' for i, case in enumerate(cases))
         held = f'    union {{\n{lines}    }} u;\n' if lines else ''
-        self.out.append(f'enum {{\n{numbers}\n}};\ntypedef struct {{\n    uint8_t tag;\n{held}}} {name};')
+        self.out.append(f'enum {{\n{numbers}\n}};\ntypedef struct {{\n    {tag} tag;\n{held}}} {name};')
 
     def shape(self, t):
         must(isinstance(t, Named) and self.shapes[t.name][1], f'the parts of {t}')

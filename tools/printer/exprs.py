@@ -2,7 +2,6 @@
 from dataclasses import dataclass, replace
 
 from ctypes_of import element, symbol
-from flow import union
 from names import safe
 from term import BOOL, PTR, UNIT, Array, Const, Int, Ref, Slice, Unknown, manners, must
 
@@ -16,7 +15,8 @@ OPPOSITE = {'<': '>=', '<=': '>', '==': '!=', '!=': '==', '>': '<=', '>=': '<'}
 @dataclass
 class Expr:
     """An expression: its text and strength, its type; the locals that it names; whether it reads memory, whether a call in it may write; whether C may give
-    it a narrower type; whether it names a place; and what else is known of it, a word and its details."""
+    it a narrower type; whether it names a place; whether that is, or it points to, a part of a value that is lent, which does not change while the function
+    runs; and what else is known of it, a word and its details."""
     text: str
     strength: int
     type: object
@@ -25,6 +25,7 @@ class Expr:
     calls: bool = False
     literal: bool = False
     place: bool = False
+    steady: bool = False
     known: tuple = ('',)
 
     def at(self, strength):
@@ -37,7 +38,8 @@ class Expr:
 
 def made(text, strength, t, *parts, **more):
     """An expression made of others."""
-    return Expr(text, strength, t, union(e.uses for e in parts), any(e.memory for e in parts), any(e.calls for e in parts), **more)
+    more = {'steady': bool(parts) and parts[0].steady, **more}
+    return Expr(text, strength, t, frozenset().union(*(e.uses for e in parts)), any(e.memory for e in parts), any(e.calls for e in parts), **more)
 
 
 def compared(left, op, right, *parts):
@@ -49,10 +51,6 @@ def negated(e):
         left, op, right = e.has('compared')
         return compared(left, OPPOSITE[op], right, e)
     return e.has('not')[0] if e.has('not') else made('!' + e.at(2), 2, BOOL, e, known=('not', e))
-
-
-def chosen(test, yes, no):
-    return made(f'{test.at(10)} ? {yes.at(12)} : {no.at(12)}', 13, yes.type, test, yes, no, literal=yes.literal and no.literal)
 
 
 def number(bits, n):
@@ -94,7 +92,7 @@ class Exprs:
         """A local by its name; what a parameter points to, where the value is lent."""
         name, t = self.name[n], self.f.locals[n]
         if n in self.lent:
-            return Expr('*' + name, 2, t, frozenset([n]), place=True, known=('lent', name))
+            return Expr('*' + name, 2, t, frozenset([n]), place=True, steady=True, known=('lent', name))
         return Expr(name, 0, self.pointers[n] if t == PTR else t, frozenset([n]), n in self.slots, place=True)
 
     def place(self, place):
@@ -105,18 +103,19 @@ class Exprs:
                 case = what
             else:
                 e, case = self.pointee(e, what) if kind == 'deref' else self.part(e, case, what), None
-            e.place = True
+            e.place, e.steady = True, e.steady and not isinstance(e.type, Ref)      # a pointer in what is lent may point anywhere
         return e
 
     def pointee(self, e, t):
-        """What a pointer points to."""
-        self.points(e, t)
-        must(not isinstance(t, Array), 'an array behind a pointer, taken by value')
+        """What a pointer points to: an array, which C knows by its first element, by a cast to the struct that has nothing else."""
+        mut = self.points(e, t)
         text, strength = (e.at(1) + '[0]', 1) if e.has('of') else ('*' + e.at(2), 2)
-        if e.has('indexed'):
+        if isinstance(t, Array):
+            text, strength = f'*({"const " * (not mut)}{self.types.c(t)} *){self.fit(e, PTR).at(2)}', 2
+        elif e.has('indexed'):
             base, i = e.has('indexed')
             text, strength = f'{base.at(1)}[{i.text}]', 1
-        return replace(made(text, strength, t, e), memory=True)
+        return replace(made(text, strength, t, e), memory=e.memory or not e.steady)
 
     def points(self, e, t):
         """Whether what e points to, of type t or its first element, may be written."""
@@ -175,7 +174,7 @@ class Exprs:
         must(not place.indirect, 'the address of a part of what is lent')
         e = self.place(place)
         text, strength = (e.at(1) + '.a', 1) if isinstance(e.type, Array) else (address(e), 2)
-        return Expr(text, strength, Ref(place.local not in self.lent, element(e.type)), e.uses)
+        return Expr(text, strength, Ref(place.local not in self.lent, element(e.type)), e.uses, steady=e.steady)
 
     def aggregate(self, parts, t):
         """A struct, a case of an enum, an array or a slice of its parts."""

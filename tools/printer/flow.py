@@ -1,12 +1,7 @@
 """What becomes of locals: which are read later, whose address is taken, which are set; and the term's blocks put into the shape that C's statements have."""
 import copy
-from functools import reduce
 
-from term import PTR, Array, Body, Copy, Named, Place, Ref, Slice, manners, must
-
-
-def union(sets):
-    return reduce(frozenset.union, sets, frozenset())
+from term import PTR, Array, Body, Copy, Named, Ref, Slice, manners, must
 
 
 def every(body):
@@ -24,26 +19,21 @@ def live(body, after, exits):
         if s.kind == 'exit':
             after = exits[s.depth]
         elif s.kind == 'loop':
-            after = s.live = around(s.bodies[0], exits)
+            top, after = None, frozenset()              # from its end a loop goes on to its start
+            while after != top:
+                top = after
+                after = top | live(s.bodies[0], top, [top] + exits)
+            s.live = after
         elif s.kind == 'block':
             after = live(s.bodies[0], after, [after] + exits)
         else:
             if s.bodies or s.kind == 'return':
-                after = union(live(inner, after, exits) for inner in s.bodies)
+                after = frozenset().union(*(live(inner, after, exits) for inner in s.bodies))
             if s.to is not None:
                 after = after | {s.to.local} if s.to.steps else after - {s.to.local}
             after |= {o.place.local for o in s.reads if isinstance(o, Copy)}
     body.live = after
     return after
-
-
-def around(body, exits):
-    """What is live at the start of a loop, which goes on from its end to its start."""
-    top, new = None, frozenset()
-    while new != top:
-        top = new
-        new = top | live(body, top, [top] + exits)
-    return top
 
 
 def taken(body):
@@ -52,8 +42,8 @@ def taken(body):
 
 
 def sets(body, n):
-    """Whether local n is set, whole or in part."""
-    return any(s.to is not None and s.to.local == n and not s.to.indirect for s in every(body))
+    """How often local n is set, whole or in part."""
+    return sum(s.to is not None and s.to.local == n and not s.to.indirect for s in every(body))
 
 
 def may_write(types, t):
@@ -120,30 +110,16 @@ def leaves(body, depth):
 
 
 def spread(body):
-    """`return x` behind branches that each set x last goes into the branches."""
-    cut, answer = len(body) - 1, Place(0)
-    if body and body[-1].kind == 'return':
-        while cut > 0 and is_copy(body[cut - 1], answer):
-            cut, answer = cut - 1, body[cut - 1].reads[0].place
-        if cut > 0 and body[cut - 1].kind in ('if', 'switch') and all(sets_last(inner, answer) for inner in body[cut - 1].bodies):
-            fork, tail = body[cut - 1], body[cut:]
-            fork.bodies = [inner if ends(inner) else Body(inner + copy.deepcopy(tail)) for inner in fork.bodies]
-            body = Body(body[:cut])
+    """`return` behind branches goes into them, with the copies ahead of it."""
+    at = len(body) - 1
+    while at > 0 and (body[at].kind == 'return' or body[at].value == 'rvOpd'):
+        at -= 1
+    if body and body[-1].kind == 'return' and body[at].kind in ('if', 'switch') and all(body[at].bodies):
+        body[at].bodies = [inner if ends(inner) else Body(inner + copy.deepcopy(body[at + 1:])) for inner in body[at].bodies]
+        body = Body(body[:at + 1])
     for s in body:
         s.bodies = [spread(inner) for inner in s.bodies]
     return body
-
-
-def is_copy(s, place):
-    """Whether a statement sets a place to a copy of a whole local."""
-    return s.kind == 'assign' and s.value == 'rvOpd' and s.to == place and isinstance(s.reads[0], Copy) and s.reads[0].place.steps == ()
-
-
-def sets_last(body, place):
-    """Whether each way through a body ends in a jump or sets a place last."""
-    if not body or ends(body):
-        return bool(body)
-    return body[-1].to == place or body[-1].kind in ('if', 'switch') and all(sets_last(inner, place) for inner in body[-1].bodies)
 
 
 if __name__ == '__main__':

@@ -5,22 +5,22 @@ is pending. No pending value names a local for which another is pending, so they
 import re
 
 from ctypes_of import pad, symbol
-from exprs import BINARY, Exprs, address, cast, chosen, compared, made, narrowed, negated, widened
-from flow import live, may_write, sets, spread, taken, unblock, union, written_behind
-from lines import Line, Nest, declare, is_only, laid
+from exprs import BINARY, Exprs, address, cast, compared, made, narrowed, negated, widened
+from flow import live, may_write, sets, spread, taken, unblock, written_behind
+from lines import Nest, declare, laid, names
 from term import BOOL, PTR, UNIT, Array, Copy, Int, Named, Place, Slice, manners, must
 
 WRAPPING = re.compile(r'std::num::wrapping_(add|sub)_u(\d+)')   # the kit's, by their meaning and not by their bodies
 
 
 class Printer(Exprs):
-    """Prints one function. `named` are the locals that the text names, `scopes` the loops around a statement and what is live where they are left, `alias`
-    the locals that are a parameter by another number."""
+    """Prints one function. `scopes` are the loops around a statement and what is live where they are left, `alias` the locals that are a parameter by
+    another number."""
 
     def prepare(self):
         """Puts the body into shape, names the locals, and finds the parameters that are large and only read: they are lent."""
         f = self.f
-        self.body, self.named, self.scopes, self.alias = spread(unblock(f.body)), set(), [], {}
+        self.body, self.scopes, self.alias = spread(unblock(f.body)), [], {}
         live(self.body, frozenset(), [])
         self.slots = taken(self.body)
         self.name = {n: f'v{n}' for n in range(len(f.locals))} | dict(enumerate(['result'] + self.program.params(f)))
@@ -29,7 +29,7 @@ class Printer(Exprs):
             self.alias[s.to.local] = s.reads[0].place.local
         names = self.program.names.locals(f, self.program.functions, len(self.alias))
         self.name |= {n: name for n, name in names.items() if n not in self.alias} | {n: self.name[m] for n, m in self.alias.items()}
-        lent = {n for n in range(1, f.params + 1) if self.is_only_read(n)}
+        lent = {n for n in range(1, f.params + 1) if self.is_only_read(n, 0)}
         self.lent = lent | {n for n, m in self.alias.items() if m in lent}
         return lent
 
@@ -41,48 +41,38 @@ class Printer(Exprs):
         return 1 <= m <= self.f.params < n and n in self.slots and m not in self.slots and m not in s.live and not sets(self.body, m) \
             and self.f.locals[n] == self.f.locals[m] and m not in self.alias.values()
 
-    def is_only_read(self, n):
-        """Whether a parameter is a large struct that nothing writes to."""
-        same = [m for m in self.alias if self.alias[m] == n]
-        return isinstance(self.f.locals[n], Named) and self.types.size(self.f.locals[n])[0] > self.program.LARGE and not sets(self.body, n) \
-            and not any(sets(self.body, m) or written_behind(self.f, self.body, m) for m in same)
+    def is_only_read(self, n, times):
+        """Whether a local is a large struct that is set so many times, and that nothing else writes to."""
+        same = {n} | {m for m in self.alias if self.alias[m] == n}
+        return isinstance(self.f.locals[n], Named) and self.types.size(self.f.locals[n])[0] > self.program.LARGE \
+            and sum(sets(self.body, m) for m in same) == times and not any(written_behind(self.f, self.body, m) for m in same & self.slots)
 
     def function(self):
         """The function's text."""
         lines = self.lines(self.body, frozenset())
-        if is_only(lines[-1:], 'return;'):
+        if lines[-1:] == ['return;']:
             lines.pop()
-        for n in self.named:
-            if n == 0 or n > self.f.params and n not in self.alias:
-                t = self.pointers[n] if self.f.locals[n] == PTR else self.f.locals[n]
-                declare(lines, n, self.name[n], pad(self.types.c(t)), t == BOOL or isinstance(t, Int))
-        used = {self.alias.get(n, n) for n in union(line.uses for line in lines)}
-        unused = [Line(f'(void){self.name[n]};') for n in range(1, self.f.params + 1) if n not in used]
-        return f'{self.program.head(self.f)}\n{{\n{laid(unused + lines, 1)}}}\n'
-
-    # What is pending
+        for n, t in enumerate(self.f.locals):
+            if (n == 0 or n > self.f.params and n not in self.alias) and (t != PTR or n in self.pointers) and t != UNIT:
+                c = self.types.c(self.pointers.get(n, t))
+                declare(lines, self.name[n], f'const {c} *' if n in self.lent else pad(c), t == BOOL or isinstance(t, Int))
+        unused = [f'(void){name};' for name in self.program.params(self.f) if not any(names(line, name) for line in lines)]
+        return f'{self.program.head(self.f)}\n{{\n{laid(unused + lines, 4)}}}\n'
 
     def set(self, out, n):
         """Sets a local to its pending value."""
         e = self.fit(self.pending.pop(n), self.f.locals[n])
         if self.f.locals[n] == PTR:
             must(self.pointers.setdefault(n, e.type) == e.type, 'a pointer of two types')
-        self.named |= {n}
-        typed = f'({self.types.c(e.type)})' if isinstance(e.type, (Named, Array, Slice)) else '('
-        init = e.text[len(typed):] if e.text.startswith(typed + '{') else e.text
-        out.append(Line(f'{self.name[n]} = {e.text};', e.uses | {n}, n, init, e.uses))
+        if e.place and e.steady and self.is_only_read(n, 1):     # a part of what is lent is lent too
+            self.lent.add(n)
+        out.append(f'{self.name[n]} = {address(e) if n in self.lent else e.text};')
 
     def flush(self, out, which):
         """Sets the pending locals of which `which(n, value)` says so."""
         for n in list(self.pending):
             if which(n, self.pending[n]):
                 self.set(out, n)
-
-    def later(self, out, n, e):
-        """Makes a value pending; those that name the local are set first."""
-        self.pending.pop(n, None)
-        self.flush(out, lambda _, other: n in other.uses)
-        self.pending[n] = e
 
     def ready(self, out, reads, after, changes):
         """Before a statement that reads some operands, with `after` live behind it: sets what is pending that it cannot take in, or that it would change."""
@@ -93,63 +83,56 @@ class Printer(Exprs):
             return len(here) > 1 or n in after or bool(here[0]) and not e.place and here[0][0][0] != 'deref'
         self.flush(out, goes)
 
-    # Statements
-
     def lines(self, body, after):
         """The lines of a body, with nothing left pending that is live behind it."""
         out, pending, self.pending = [], self.pending, {}
-        for s in body:
-            self.statement(out, s)
-            if out and out[-1].jump:
+        for s in body:                                  # a pending call that may write is put nowhere but in what follows at once
+            takes = s.kind in ('return', 'if') or s.value == 'rvOpd' and not s.to.steps
+            self.flush(out, lambda n, e: e.calls and not (takes and s.reads == [Copy(Place(n))]))
+            getattr(self, 'do_' + s.kind)(out, s)
+            if out and is_jump(out[-1]):
                 self.pending = {}
                 break
         self.flush(out, lambda n, _: n in after)
         self.pending = pending
         return out
 
-    def statement(self, out, s):
-        """One statement. A pending call that may write is put nowhere but in what follows at once."""
-        takes = s.kind in ('return', 'if') or s.kind == 'assign' and s.value == 'rvOpd' and not s.to.steps
-        self.flush(out, lambda n, e: e.calls and not (takes and s.reads == [Copy(Place(n))]))
-        getattr(self, 'do_' + s.kind)(out, s)
-
     def do_return(self, out, s):
         if self.f.locals[0] == UNIT:
-            return out.append(Line('return;', jump=True))
-        e = self.fit(self.value(s.reads[0]), self.f.locals[0])
-        self.named |= e.uses
-        return out.append(Line(f'return {e.text};', e.uses, jump=True, answer=e))
+            return out.append('return;')
+        return out.append(f'return {self.fit(self.value(s.reads[0]), self.f.locals[0]).text};')
 
     def do_exit(self, out, s):
         """A loop's `continue` or `break`."""
         way = [kind for kind, _ in self.scopes[-1 - s.depth:]]
         must(way in (['loop'], ['block', 'loop']), 'a loop that is left from inside of another, or of a switch')
         self.flush(out, lambda n, _: n in self.scopes[-1 - s.depth][1])
-        out.append(Line('continue;' if way == ['loop'] else 'break;', jump=True))
+        out.append('continue;' if way == ['loop'] else 'break;')
 
     def target(self, out, s, pure):
         """Makes ready for a statement that sets a place: the place, or None for a local that can wait."""
         n, steps = s.to.local, s.to.steps
-        waits = not steps and n not in self.slots and getattr(s, 'value', '') != 'repeat'
+        waits = not steps and n not in self.slots and s.value != 'repeat'
         if steps and not s.to.indirect and n in self.pending:
             self.set(out, n)
 
         def changes(_, e):
             return not pure and e.memory or not waits and (e.memory if s.to.indirect else n in e.uses or n in self.slots and e.memory)
         self.ready(out, s.reads + ([Copy(s.to)] if steps else []), s.live if steps else s.live - {n}, changes)
-        self.named |= frozenset() if waits or s.to.indirect or self.f.locals[n] == UNIT else {n}
         return None if waits else self.place(s.to) if steps else self.local(n)
 
     def store(self, out, s, to, e):
         """Sets a statement's place to a value, at once or later."""
         n = s.to.local
-        if to is None and n in s.live and e.type != UNIT:
-            self.later(out, n, e)
-        elif to is None or e.type == UNIT:
+        if to is None or e.type == UNIT:
             self.pending.pop(n, None)
-            out += [Line(f'{"" if e.type == UNIT else "(void)"}{e.text};', e.uses)] if e.calls else []
+        if to is None and n in s.live and e.type != UNIT:
+            self.flush(out, lambda _, other: n in other.uses)   # those that name the local's old value are set first
+            self.pending[n] = e
+        elif to is None or e.type == UNIT:
+            out += [f'{"" if e.type == UNIT else "(void)"}{e.text};'] if e.calls else []
         elif s.to.steps:
-            out.append(Line(f'{to.text} = {self.fit(e, to.type).text};', to.uses | e.uses))
+            out.append(f'{to.text} = {self.fit(e, to.type).text};')
         else:
             self.pending[n] = e
             self.set(out, n)
@@ -162,7 +145,7 @@ class Printer(Exprs):
             return self.store(out, s, to, self.assigned(s, to.type if to else self.f.locals[s.to.local]))
         e = self.value(s.reads[0])
         must(to.type == Array(e.type, s.op), f'{to.type} filled with {s.op} of {e.type}')
-        return out.append(Line(f'for (size_t each = 0; each < {s.op}u; each++) {to.text}.a[each] = {e.text};', to.uses | e.uses))
+        return out.append(f'for (size_t each = 0; each < {s.op}u; each++) {to.text}.a[each] = {e.text};')
 
     def do_call(self, out, s):
         wrapping, g = WRAPPING.fullmatch(s.name), self.program.functions.get(s.name)
@@ -179,7 +162,7 @@ class Printer(Exprs):
         given = [self.argument(self.fit(e, t), i in self.program.lent[g.name], pure) for i, (e, t) in enumerate(zip(parts, g.locals[1:]), 1)]
         e = made(f'{symbol(g.name)}({", ".join(given)})', 1, g.locals[0], *parts)
         e.memory |= any(t != BOOL and not isinstance(t, Int) for t in g.locals[1:g.params + 1])
-        e.calls |= not pure
+        e.calls, e.steady = e.calls or not pure, False
         return self.store(out, s, to, e)
 
     def argument(self, e, lent, pure):
@@ -195,54 +178,20 @@ class Printer(Exprs):
         """Before a branch: its test, with all set that the branches or what follows read."""
         alive = s.live.union(*(inner.live for inner in s.bodies))
         self.ready(out, s.reads, alive, lambda n, _: n in alive)
-        e = self.value(s.reads[0])
-        self.named |= e.uses
-        return e
+        return self.value(s.reads[0])
 
     def do_if(self, out, s):
-        if self.joined(out, s):
-            return
-        e, (yes, no) = self.tested(out, s), [self.only_value(inner, s.live) for inner in s.bodies]
-        if yes and no and yes[0] == no[0] and is_short(e, yes[1], no[1]):
-            self.later(out, yes[0], chosen(e, yes[1], no[1]))
-        else:
-            self.fork(out, e, *[self.lines(inner, s.live) for inner in s.bodies])
-
-    def only_value(self, body, after):
-        """The local and the value, where all that a body does is to set one local."""
-        pending, self.pending, out = self.pending, {}, []
-        for s in body:
-            self.statement(out, s)
-        found, self.pending = [(n, e) for n, e in self.pending.items() if n in after], pending
-        return found[0] if not out and len(found) == 1 else None
-
-    def joined(self, out, s):
-        """`t = A; if t { t = B }` as A && B, and with the branches exchanged as A || B."""
-        test, (yes, no) = s.reads[0], s.bodies
-        n = test.place.local if isinstance(test, Copy) and not test.place.steps else None
-        if n not in self.pending or self.pending[n].calls or bool(yes) == bool(no):
-            return False
-        m, b = self.only_value(yes or no, s.live) or (None, None)
-        if m != n or b.calls or n in b.uses:
-            return False
-        self.flush(out, lambda other, _: other != n and other in b.uses)
-        a, sign, strength = self.pending[n], '&&' if yes else '||', 11 if yes else 12
-        self.later(out, n, made(f'{a.at(strength if a.strength == strength else 10)} {sign} {b.at(10)}', strength, BOOL, a, b))
-        return True
+        self.fork(out, self.tested(out, s), *[self.lines(inner, s.live) for inner in s.bodies])
 
     def fork(self, out, e, yes, no):
         """An `if` of two lists of lines."""
         if not yes:
             e, yes, no = negated(e), no, yes
-        answers = [lines[0].answer if len(lines) == 1 else None for lines in (yes, no)]
         if not yes:
-            out += [Line(f'(void){e.text};', e.uses)] if e.calls else []
-        elif all(answers) and is_short(e, *answers):
-            answer = chosen(e, *answers)
-            out.append(Line(f'return {answer.text};', answer.uses, jump=True, answer=answer))
+            out += [f'(void){e.text};'] if e.calls else []
         else:
-            out.append(Nest('if', f'if ({e.text})', yes, e.uses, e))
-            out += no if no and yes[-1].jump else [Nest('else', 'else', no)] if no else []
+            out.append(Nest(f'if ({e.text})', yes, e))
+            out += no if no and is_jump(yes[-1]) else [Nest('else', no)] if no else []
 
     def do_switch(self, out, s):
         e = self.tested(out, s)
@@ -253,9 +202,9 @@ class Printer(Exprs):
         for i, (keys, inner) in enumerate(zip(s.keys, s.bodies)):
             lines, names = self.lines(inner, s.live), [self.key(e, n) for n in keys]
             head = ' '.join(f'case {name}:' for name in names) if i < last else 'default:' + (f' /* {", ".join(names)} */' if names else '')
-            rows.append(Nest('case', head, lines + ([] if lines and lines[-1].jump else [Line('break;')])))
+            rows.append(Nest(head, lines + ([] if lines and is_jump(lines[-1]) else ['break;']), braced=False))
         self.scopes.pop()
-        return out.append(Nest('switch', f'switch ({e.text})', rows, e.uses))
+        return out.append(Nest(f'switch ({e.text})', rows))
 
     def do_block(self, out, s):
         """A loop, or the block around it."""
@@ -265,23 +214,21 @@ class Printer(Exprs):
         self.scopes.append((s.kind, s.live))
         lines = self.lines(body, s.live)
         self.scopes.pop()
+        if lines[-1:] == ['continue;']:
+            lines.pop()
         if s.kind == 'block':
             out += lines
-            return
-        if is_only(lines[-1:], 'continue;'):
-            lines.pop()
-        if lines and lines[0].kind == 'if' and is_only(lines[0].lines, 'break;') and [line.kind for line in lines[1:2]] != ['else']:
-            out.append(Nest('loop', f'while ({negated(lines[0].test).text})', lines[1:], lines[0].names))
+        elif lines and getattr(lines[0], 'test', None) and lines[0].lines == ['break;'] and getattr((lines + [''])[1], 'head', '') != 'else':
+            out.append(Nest(f'while ({negated(lines[0].test).text})', lines[1:]))
         else:
-            out.append(Nest('loop', 'for (;;)', lines))
+            out.append(Nest('for (;;)', lines))
 
     do_loop = do_block
 
 
-def is_short(test, yes, no):
-    """Whether a choice of two values reads well in one line."""
-    return yes.type == no.type and (isinstance(yes.type, Int) or yes.type == BOOL and not {yes.text, no.text} & {'true', 'false'}) \
-        and max(yes.strength, no.strength) < 13 and len(test.text + yes.text + no.text) < 90 and not (yes.calls or no.calls)
+def is_jump(line):
+    """Whether nothing runs behind a line."""
+    return isinstance(line, str) and line.split()[0].rstrip(';') in ('return', 'break', 'continue')
 
 
 if __name__ == '__main__':

@@ -18,7 +18,8 @@ Copy, Const = make_dataclass('Copy', ['place'], frozen=True), make_dataclass('Co
 
 
 class Unknown(Exception):
-    """Something that the printer does not know: then nothing is printed."""
+    """Something that the printer does not know: then nothing is printed. `where`: the function that it is in."""
+    where = 'no function'
 
 
 def must(known, what):
@@ -45,6 +46,7 @@ class Body(list):
 
 class Stmt:
     """A statement: what it reads, the place that it sets or None, its bodies, and what else its kind has. `live`: the locals that are read behind it."""
+    value = ''
 
     def __init__(self, kind, reads=(), to=None, bodies=(), **more):
         self.kind, self.reads, self.to, self.bodies, self.live = kind, list(reads), to, list(bodies), frozenset()
@@ -107,22 +109,20 @@ def operand(x):
     raise Unknown(f'the operand {x}')
 
 
-def assignment(to, x):
-    """A place set to a value; `value` is the value's kind, `op` its operator, or a count."""
+def value_of(x):
+    """What a place is set to: the kind of the value, its operator or count, and its operands."""
     match x:
         case ['rvOpd', *parts]:
-            op = None
-        case ['op1' | 'op2', op, *parts]:
-            pass
+            return 'rvOpd', None, parts
+        case ['op1' | 'op2' as kind, op, *parts]:
+            return kind, op, parts
         case ['aggregate', parts]:
-            op, parts = None, items(parts)
-        case ['repeat', part, ('lenLit', count) | [_, count] | count]:
-            op, parts = int(count), [part]
+            return 'aggregate', None, items(parts)
+        case ['repeat', part, ['lenLit', count] | count]:
+            return 'repeat', int(count), [part]
         case ['addrOf', place]:
-            op, parts = None, [['copy', place]]
-        case _:
-            raise Unknown(f'the value {x}')
-    return Stmt('assign', map(operand, parts), to, value=x[0], op=op)
+            return 'addrOf', None, [['copy', place]]
+    raise Unknown(f'the value {x}')
 
 
 def statement(x):
@@ -130,7 +130,8 @@ def statement(x):
         case 'return':
             return Stmt('return', [Copy(Place(0))])
         case ['assign', to, value]:
-            return assignment(place_of(to), value)
+            kind, op, parts = value_of(value)
+            return Stmt('assign', map(operand, parts), place_of(to), value=kind, op=op)
         case ['call', ['direct', ['fnRef', name]], parts, to]:
             return Stmt('call', map(operand, items(parts)), place_of(to), name=name[1:])
         case ['if', test, yes, no]:
@@ -147,15 +148,12 @@ def statement(x):
 
 def arms_of(x):
     """A switch's arms, each with its keys; the default's keys are empty."""
-    while x != 'noDefault':
-        match x:
-            case ['arm', keys, body, x]:
-                yield [int(key) for key in items(keys)], body_of(body)
-            case ['default', body]:
-                yield [], body_of(body)
-                return
-            case _:
-                raise Unknown(f'the arm {x}')
+    while x[0] == 'arm':
+        yield [int(key) for key in items(x[1])], body_of(x[2])
+        x = x[3]
+    must(x == 'noDefault' or x[0] == 'default', f'the arm {x}')
+    if x != 'noDefault':
+        yield [], body_of(x[1])
 
 
 def body_of(x):
@@ -167,21 +165,19 @@ def body_of(x):
 
 
 class Function:
-    """A function: how many parameters, the types of its locals (0 the answer, then the parameters), its body and the types that it names."""
+    """A function: how many parameters, the types of its locals (0 the answer, then the parameters), its body, and the types that it names: a struct's fields
+    ('fields', [type ..]), or an enum's cases ('variants', [[type ..] ..])."""
 
     def __init__(self, x):
         match x:
             case ['fn-def', name, ['fnItem', _, 'lnil', params, local, body], *types]:
                 self.name, self.params, self.locals, self.body = name[1:], int(params), [type_of(one[1]) for one in items(local)], body_of(body)
-                self.types = {pair[1][1:]: named(*pair[2]) for pair in (items(types[0]) if types else [])}
+                shapes = {pair[1][1:]: pair[2] for pair in (items(types[0]) if types else [])}
+                must(all(kind in ('fields', 'variants') for kind, _ in shapes.values()), f'the types of {name}')
+                self.types = {name: (kind, [type_of(part) if kind == 'fields' else [type_of(one) for one in items(part)] for part in items(parts)])
+                              for name, (kind, parts) in shapes.items()}
             case _:
                 raise Unknown(f'the function {x[1]}')
-
-
-def named(kind, parts):
-    """A struct's fields ('fields', [type ..]), or an enum's cases ('variants', [[type ..] ..])."""
-    must(kind in ('fields', 'variants'), f'the types {kind}')
-    return kind, [type_of(part) if kind == 'fields' else [type_of(one) for one in items(part)] for part in items(parts)]
 
 
 def functions(texts):
