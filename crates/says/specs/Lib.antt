@@ -4,10 +4,10 @@
 --
 -- To read it, take Words first: refusals tried one after another, the first that is so. Then Banks and Build, `dk_build`: bottom up as the file goes, or from
 -- `BuildSays` at its end backwards. `dk_profile`, `dk_build_paged` and `dk_map` go on from there (Profile, Paged, Map). The others stand by themselves:
--- Store is `dk_offer`, Offers over it `dk_offers`, Blocks, Part and Hex are `dk_blocks`, `dk_part` and `dk_hex`, Overlay the two calls of the bench, Verify is `dk_verify`. Files is what
--- a layout file holds, under Form and FormPaged (`dk_form`, `dk_form_paged`) and Convert (`dk_to_form1`, `dk_to_form2`). Records is what Intel HEX and
--- S-records share, under Write (`dk_write_hex`, `dk_write_srec`), Read (`dk_read_records`, `dk_record_fault`), Extent (`dk_record_extent`) and Reason
--- (`dk_record_reason`).
+-- Store is `dk_offer`, Offers over it `dk_offers`, Blocks, Part and Hex are `dk_blocks`, `dk_part` and `dk_hex`, Overlay the two calls of the bench, Verify
+-- is `dk_verify`. Files is what a layout file holds, under Form and FormPaged (`dk_form`, `dk_form_paged`) and Convert (`dk_to_form1`, `dk_to_form2`). Records
+-- is what Intel HEX and S-records share, under Write (`dk_write_hex`, `dk_write_srec`), Read (`dk_read_records`, `dk_record_fault`), Extent
+-- (`dk_record_extent`) and Reason (`dk_record_reason`).
 -- What programs print is said over these: Lines is a line of text, Report what `layout` prints, RecordsText the program behind tools/ihex and tools/srec,
 -- Texts what `prog_reason`, `prog_convert` and `prog_rehex` print, MapText what `prog_map` prints, Bench what `prog_overlay` prints.
 pub mod Words
