@@ -441,7 +441,8 @@ struct dk_extent {
 
 /* The lowest address that the same file gives a byte to and the one behind the highest, in the same time, with `scratch` as above; both are 0 where it gives
  * none, and only then is `end` 0. Refused 4 (place 0) where the format is neither of the two or the file bad, whatever the load address. dk_read_records with
- * `load` no higher than `lowest` then needs end - load bytes, and refuses nothing but lists that are too short. It needs less than 1.5 KiB of stack. */
+ * `load` no higher than `lowest` then needs end - load bytes, and refuses nothing but lists that are too short. It needs less than 2 KiB of stack
+ * (1.3 KiB). */
 struct dk_extent dk_record_extent(uint8_t format, const uint8_t *text, size_t text_len, uint8_t *scratch, size_t scratch_len);
 
 /* Where a file of records is bad. */

@@ -351,7 +351,7 @@ int main(void)
     bad |= measure("dk_read_records, Intel HEX", read_hex, 2048);
     bad |= measure("dk_write_srec", write_srec, 1024);
     bad |= measure("dk_read_records, S-records", read_srec, 2048);
-    bad |= measure("dk_record_extent", extent, 1536);
+    bad |= measure("dk_record_extent", extent, 2048);
     bad |= measure("dk_record_fault", fault, 1536);
     for (unsigned i = 0; i < 97; i++) {
         unsigned at = i * 41 % 97;
@@ -359,7 +359,7 @@ int main(void)
     }
     jumps_length += (size_t)sprintf(jumps + jumps_length, ":00000001FF\n");
     bad |= measure("dk_read_records, jumps", read_jumps, 2048);
-    bad |= measure("dk_record_extent, jumps", extent_jumps, 1536);
+    bad |= measure("dk_record_extent, jumps", extent_jumps, 2048);
     bad |= measure("dk_record_fault, jumps", fault_jumps, 1536);
     bad |= measure("dk_record_reason, jumps", reason_jumps, 2048);
     bad |= measure("dk_record_reason", reason, 2048);

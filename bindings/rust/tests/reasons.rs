@@ -1,6 +1,6 @@
-//! Why a file of records is bad: the reason as a value, and in words.
+//! Why a file of records is bad: the reason as a value, and in words; and where the bytes of a good one stand.
 
-use denkumari::records::{line_at_fault, reason, Format, Reason};
+use denkumari::records::{extent, line_at_fault, read, reason, Format, Reason};
 
 /// The reason of a text read from a load address on, whose line is the one that `line_at_fault` names, and its words.
 fn of(format: Format, text: &str, load: u32) -> (u64, Reason, String) {
@@ -13,6 +13,19 @@ fn of(format: Format, text: &str, load: u32) -> (u64, Reason, String) {
 fn a_good_file_has_none() {
     assert_eq!(reason(Format::IntelHex, b":0100000041BE\r\n:00000001ff", 0), None);
     assert_eq!(reason(Format::SRecords, b"s1040000AA51\nS9030000FC\n", 0), None);
+}
+
+#[test]
+fn where_bytes_stand() {
+    let text = *b":01800200413C\n:01800000423D\n:00FFFF0002\n:00000001FF\n";
+    let found = extent(Format::IntelHex, &text).unwrap();
+    assert_eq!(found, 0x8000..0x8003);
+    let (mut bytes, mut offsets, mut sizes) = (vec![9; (found.end - found.start) as usize], [0; 2], [0; 2]);
+    assert_eq!(read(Format::IntelHex, &text, found.start as u32, &mut bytes, &mut offsets, &mut sizes), Ok(2));
+    assert_eq!((bytes, offsets, sizes), (vec![0x42, 9, 0x41], [0, 16], [8, 8]));
+    assert_eq!(extent(Format::SRecords, b"S306FFFFFFFF2AD3\nS70500000000FA\n"), Ok(0xffff_ffff..0x1_0000_0000));
+    assert_eq!(extent(Format::SRecords, b"S9030000FC\n"), Ok(0..0));
+    assert_eq!(extent(Format::SRecords, &text).map_err(|refusal| refusal.number()), Err(4));
 }
 
 #[test]
