@@ -1,7 +1,7 @@
 // What the bench prints of a released image and an overlay under trial, each an Intel HEX file:
 //
-// of every run of bytes that the overlay changes a line, `run ADDRESS COUNT` and the bytes of both, in hex; a line `alone ADDRESS` with the first byte that only
-// the overlay gives, if there is one; last `runs` and their number. Or of a range `overlay` or `released`, whichever it comes from, and its bytes.
+// of every run of bytes that the overlay changes a line, `run ADDRESS COUNT` and the bytes of both, in hex; a line `alone ADDRESS` with the first byte that
+// only the overlay gives, if there is one; last `runs` and their number. Or of a range `overlay` or `released`, whichever it comes from, and its bytes.
 //
 // A file's image goes from the load address to the end of its last block, and no byte is shown that a file does not give. A refusal is one line, `refused` with
 // its number and place. Where a file was refused, one more says which, and one more the line at fault, from 0, if there is one; where a range was, one more
@@ -652,7 +652,8 @@ pub fn put_bench(
     out: &mut [u8; TEXT],
 ) -> usize
     ensures { λ r. ⌜
-        Benches load all address count (now (overlay .entry)) (now («released_file» .entry)) (now («overlay_file» .entry)) (now (out .entry)) r (now (out .exit))
+        Benches load all address count (now (overlay .entry)) (now («released_file» .entry)) (now («overlay_file» .entry)) (now (out .entry)) r
+        (now (out .exit))
         ⌝ }
 {
     let asked = asked_of(all, address, count);

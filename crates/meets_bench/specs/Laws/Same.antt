@@ -32,7 +32,8 @@ use Rattle.record_read.specs.Theorems.GivenLaws.{filled-long}
 use Rattle.print_bench.specs.declared.Asked.{Asked}
 use Rattle.print_bench.specs.declared.Asked.the-variants.{Runs, Range}
 use Rattle.print_bench.specs.Images.{extentOf, freeFrom, aloneIn}
-use Rattle.print_bench.specs.Program.{runsRoom, field, runText, runLines, aloneText, listText, bytesText, namedText, givenText, toldBy, sourceText, rangeText, answerText}
+use Rattle.print_bench.specs.Program.{runsRoom, field, runText, runLines, aloneText, listText}
+use Rattle.print_bench.specs.Program.{bytesText, namedText, givenText, toldBy, sourceText, rangeText, answerText}
 use Rattle.print_bench.specs.Theorems.Given.{before-it-is-given}
 use Rattle.print_bench.specs.Theorems.Runs.{images, covered-given, gap-agrees, run-is-given-by-both}
 
@@ -214,7 +215,8 @@ module _ (load : ℕ) (a b : List ℕ) (same : length a ≡ length b) (under iss
 
     told-same : (s : Source) → sourceOf t first count ≡ s → toldBy load first count free lack t s ≡ toldBy load first count free lack u s
     told-same (Refused why) e =
-        ap (λ (n : ℕ). pick (leb (first + count) n) (namedText why (ascii "overlay") (load + lack)) (namedText why (ascii "released") (load + free))) issued-long
+        ap (λ (n : ℕ). pick (leb (first + count) n) (namedText why (ascii "overlay") (load + lack)) (namedText why (ascii "released") (load + free)))
+        issued-long
     told-same Overlay e =
         ap (bytesText (ascii "overlay"))
         (part-same (t .overlay) (u .overlay) over-long first count (λ k l h z. over-same k z (all-own e k l h)))

@@ -50,7 +50,8 @@ returns c =
     let at-found = c .before .before .before .before .before .before in
     let d = at-found .before .before .before .before .before .before .before .before in
     let a = s d .args in
-    stands-as (bench-unread (a .load) (a .asked) (a .overlay .now) (a .released-file .now) (a .overlay-file .now) (told d (Refused _) (at-found .found .given .1)))
+    stands-as
+    (bench-unread (a .load) (a .asked) (a .overlay .now) (a .released-file .now) (a .overlay-file .now) (told d (Refused _) (at-found .found .given .1)))
     (c .before .before .put-unread .ensures)
 
 returns-2 : tie.Need-returns-2
