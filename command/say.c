@@ -21,7 +21,7 @@ void *memory(size_t count, size_t size) {
 
 static void make_room(struct text *t, size_t more) {
     if (t->room - t->len > more) return;
-    t->room = 2 * (t->len + more) + 256;
+    t->room = 2 * (t->len + more) + 16;
     t->at = realloc(t->at, t->room);
     if (!t->at) fail_memory();
 }
@@ -51,12 +51,20 @@ void put(struct text *t, const char *form, ...) {
     va_end(words);
 }
 
-void put_several(struct text *t, long long count, const char *what) { put(t, "%lld %s%s", count, what, count == 1 ? "" : "s"); }
-
-void put_both(struct text *t, long long number) {
-    if (number < 10) put(t, "%lld", number);
-    else put(t, "%lld = 0x%llx", number, (unsigned long long)number);
+const char *shown(const char *form, ...) {
+    struct text t = {0};
+    va_list words;
+    va_start(words, form);
+    put_list(&t, form, words);
+    va_end(words);
+    return t.at;
 }
+
+const char *several(long long count, const char *what) { return shown("%lld %s%s", count, what, count == 1 ? "" : "s"); }
+
+const char *both(long long number) { return number < 10 ? shown("%lld", number) : shown("%lld = 0x%llx", number, (unsigned long long)number); }
+
+const char *or_dash(long long number) { return number == NONE ? "-" : shown("%lld", number); }
 
 struct bytes bytes_of(const struct text *t) {
     struct bytes b = {(const uint8_t *)t->at, t->len};
@@ -83,46 +91,37 @@ size_t character(const uint8_t *at, size_t n) {
     return 0;
 }
 
-void put_escaped(struct text *t, const char *word) {
+const char *escaped(const char *word) {
+    struct text t = {0};
     size_t n = strlen(word);
+    put(&t, "%s", "");
     for (size_t i = 0, long_; i < n; i += long_ ? long_ : 1) {
         long_ = character((const uint8_t *)word + i, n - i);
-        if (long_) put_bytes(t, word + i, long_);
-        else put(t, "\\x%02x", (unsigned)(unsigned char)word[i]);
+        if (long_) put_bytes(&t, word + i, long_);
+        else put(&t, "\\x%02x", (unsigned)(unsigned char)word[i]);
     }
+    return t.at;
 }
 
-void tell_text(const struct text *t) {
+static void tell_list(const char *form, va_list words) {
     struct text line = {0};
     put(&line, "%s: ", tool);
-    put_bytes(&line, t->at, t->len);
+    put_list(&line, form, words);
     put(&line, "\n");
     write_all(2, line.at, line.len); /* where this fails there is nobody left to be told */
-    free(line.at);
 }
 
-/* A name where there is one, between what stands ahead of it and the rest. */
-static void say_list(const char *before, const char *name, const char *form, va_list words) {
-    struct text t = {0};
-    put(&t, "%s", before);
-    if (name) put_escaped(&t, name);
-    put_list(&t, form, words);
-    tell_text(&t);
-    free(t.at);
+void tell(const char *form, ...) {
+    va_list words;
+    va_start(words, form);
+    tell_list(form, words);
+    va_end(words);
 }
 
 void fail(const char *form, ...) {
     va_list words;
     va_start(words, form);
-    say_list("", NULL, form, words);
-    va_end(words);
-    exit(FAILED);
-}
-
-void fail_name(const char *before, const char *name, const char *form, ...) {
-    va_list words;
-    va_start(words, form);
-    say_list(before, name, form, words);
+    tell_list(form, words);
     va_end(words);
     exit(FAILED);
 }
