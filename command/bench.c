@@ -35,8 +35,7 @@ static int put_runs(struct text *t, struct text *json, struct bytes text) {
         unsigned long long address = number_of(next_word(&line));
         if (is_word(kind, "run")) {
             put(t, "run %llu 0x%08llx %.*s\n", address, address, (int)line.len, (const char *)line.at);
-            json_open(json, NULL, "{");
-            json_numbers(json, "address count", (long long)address, (long long)number_of(next_word(&line)));
+            json_numbers(json, "{ address count", (long long)address, (long long)number_of(next_word(&line)));
             json_text(json, "released", next_word(&line));
             json_text(json, "overlay", next_word(&line));
             put(json, "}");
@@ -45,8 +44,7 @@ static int put_runs(struct text *t, struct text *json, struct bytes text) {
         put(t, "alone %llu 0x%08llx\n", address, address);
         alone = (long long)address;
     }
-    put(json, "]");
-    json_numbers(json, "alone?", alone);
+    json_numbers(json, "] alone?", alone);
     return t->len > 0;
 }
 
@@ -54,8 +52,7 @@ static int put_runs(struct text *t, struct text *json, struct bytes text) {
 static void put_range(struct text *t, struct text *json, const struct asked *asked, struct bytes text) {
     struct bytes line = {text.at, text.len > 0 ? text.len - 1 : 0};
     put_bytes(t, text.at, text.len);
-    json_open(json, "range", "{");
-    json_numbers(json, "address count", asked->range[0], asked->range[1]);
+    json_numbers(json, "range{ address count", asked->range[0], asked->range[1]);
     json_text(json, "from", next_word(&line));
     json_text(json, "bytes", line);
     put(json, "}");

@@ -73,8 +73,7 @@ static void put_contents(struct text *t, struct text *json, const struct side *a
     for (long long done = 0; done < y->node->bits; done += w.bits) {
         w = word_at(b->layout, y->number, done);
         if (same_bits(a->image, w.output + moved, b->image, w.output, w.bits)) continue;
-        json_open(json, NULL, "{");
-        json_numbers(json, "address past", w.address, w.past);
+        json_numbers(json, "{ address past", w.address, w.past);
         json_value(json, "old", a->image, w.output + moved, w.bits);
         json_value(json, "new", b->image, w.output, w.bits);
         put(json, "}");
@@ -93,8 +92,7 @@ static void json_one(struct text *t, const char *key, const struct side *s, cons
     json_open(t, key, o ? "{" : "null");
     if (!o) return;
     json_node(t, s->layout, s->names, o->number);
-    json_numbers(t, "size", o->node->bits);
-    put(t, "}");
+    json_numbers(t, "size }", o->node->bits);
 }
 
 static void json_pair(struct text *t, const struct side *a, const struct one *x, const struct side *b, const struct one *y, unsigned found) {
@@ -156,8 +154,7 @@ static void put_banks(struct text *t, struct text *json, const struct layout *a,
         for (int k = 0; was && is && k < SAID; k++) put_moved(&said, words[k], old[k], now[k], k >= 2 && k <= 4 ? or_dash : plain);
         if (was && is && said.len == 0) continue;
         if (was && is) put(t, "bank %lld: %s\n", i, said.at);
-        json_open(json, NULL, "{");
-        json_numbers(json, "bank", i);
+        json_numbers(json, "{ bank", i);
         json_bank(json, "old", was ? old : NULL);
         json_bank(json, "new", is ? now : NULL);
         put(json, "}");
@@ -178,17 +175,14 @@ static void put_others(struct text *t, struct text *json, const char *key, const
         struct block b = l->block[i];
         if (has_block(other, b)) continue;
         put(t, "  %s bits %lld..%lld\n", word, b.start, b.start + b.size - 1);
-        json_open(json, NULL, "{");
-        json_numbers(json, "start size", b.start, b.size);
-        put(json, "}");
+        json_numbers(json, "{ start size }", b.start, b.size);
     }
     put(json, "]");
 }
 
 static void put_blocks(struct text *t, struct text *json, const struct layout *a, const struct layout *b) {
     struct text said = {0};
-    json_open(json, "blocks", "{");
-    json_numbers(json, "old new", a->blocks, b->blocks);
+    json_numbers(json, "blocks{ old new", a->blocks, b->blocks);
     put_others(&said, json, "gone", "gone", a, b);
     put_others(&said, json, "added", "new ", b, a);
     put(json, "}");
@@ -207,22 +201,19 @@ static void put_runs(struct text *t, struct text *json, struct image a, struct i
         for (first = i; i + 1 < shorter && a.at[i + 1] != b.at[i + 1];) i++;
         put(&runs, "%s%s", sum > 0 ? ", " : "", span(first, i));
         sum += i - first + 1;
-        json_open(json, NULL, "{");
-        json_numbers(json, "first last", first, i);
+        json_numbers(json, "{ first last", first, i);
         json_value(json, "old", a, 8 * first, 8 * (i - first + 1));
         json_value(json, "new", b, 8 * first, 8 * (i - first + 1));
         put(json, "}");
     }
-    put(json, "]");
-    json_numbers(json, "differ", sum);
+    json_numbers(json, "] differ", sum);
     if (sum > 0) put(t, "  %s differ%s: %s\n", several(sum, "byte"), sum == 1 ? "s" : "", runs.at);
 }
 
 static void put_image(struct text *t, struct text *json, struct image a, struct image b) {
     long long shorter = a.bytes < b.bytes ? a.bytes : b.bytes, longer = a.bytes < b.bytes ? b.bytes : a.bytes;
     struct text said = {0};
-    json_open(json, "image", "{");
-    json_numbers(json, "old_bytes new_bytes", a.bytes, b.bytes);
+    json_numbers(json, "image{ old_bytes new_bytes", a.bytes, b.bytes);
     put_runs(&said, json, a, b, shorter);
     put(json, "}");
     if (shorter < longer) put(&said, "  bytes %s are in the %s image alone\n", span(shorter, longer - 1), b.bytes > a.bytes ? "new" : "old");
@@ -246,7 +237,7 @@ static void json_files(struct text *t, const struct asked *asked) {
 /* Nothing is compared with a layout that is refused: which of the two, and why. */
 static NEVER_RETURNS void fail_refused(const struct asked *asked, int i, const struct side *s) {
     struct text t = {0};
-    const char *words = refusal_words(s->layout, s->names, &s->layout->refusal);
+    const char *words = refusal_words(s->layout, s->names, &s->layout->refusal, 0);
     json_files(&t, asked);
     json_word(&t, "refused_file", i ? "new" : "old");
     json_end(&t, &s->layout->refusal, words);
@@ -299,10 +290,7 @@ int do_compare(struct asked *asked) {
     json_files(&json, asked);
     json_open(&json, "nodes", "[");
     put_pairs(&nodes, &json, &old, &new, counts);
-    put(&json, "]");
-    json_open(&json, "counts", "{");
-    json_list(&json, "same moved grown shrunk other_contents other_kind new gone", counts);
-    put(&json, "}");
+    json_list(&json, "] counts{ same moved grown shrunk other_contents other_kind new gone }", counts);
     if (a->passes_to != b->passes_to) put(&rest, "passes %d -> %d\n", a->passes_to, b->passes_to);
     json_numbers(&json, "old_passes new_passes", a->passes_to, b->passes_to);
     put_banks(&rest, &json, a, b);

@@ -13,12 +13,15 @@ void json_open(struct text *t, const char *key, const char *bracket) {
 }
 
 void json_list(struct text *t, const char *keys, const long long *n) {
-    for (size_t size; *keys; keys += size + (keys[size] == ' '), n++) {
+    for (size_t size; *keys; keys += size + (keys[size] == ' ')) {
         size = strcspn(keys, " ");
-        int or_none = keys[size - 1] == '?';
-        put_key(t, keys, (int)size - or_none);
-        if (or_none && *n == NONE) put(t, "null");
+        char last = keys[size - 1];
+        int is_end = last == '}' || last == ']', is_begin = last == '{' || last == '[', named = (int)size - (is_begin || last == '?');
+        if (!is_end) put_key(t, named ? keys : NULL, named);
+        if (is_begin || is_end) put(t, "%c", last);
+        else if (last == '?' && *n == NONE) put(t, "null");
         else put(t, "%lld", *n);
+        n += !is_begin && !is_end;
     }
 }
 
@@ -53,19 +56,14 @@ void json_node(struct text *t, const struct layout *l, const struct names *names
 
 void json_blocks(struct text *t, const struct layout *l) {
     json_open(t, "blocks", "[");
-    for (long long i = 0; i < l->blocks; i++) {
-        json_open(t, NULL, "{");
-        json_numbers(t, "start size", l->block[i].start, l->block[i].size);
-        put(t, "}");
-    }
+    for (long long i = 0; i < l->blocks; i++) json_numbers(t, "{ start size }", l->block[i].start, l->block[i].size);
     put(t, "]");
 }
 
 void json_end(struct text *t, const struct refusal *r, const char *words) {
-    json_open(t, "refused", r->number ? "{" : "null");
-    if (r->number) {
-        json_numbers(t, "number", r->number);
-        json_open(t, "place", "[");
+    if (r->number == 0) json_open(t, "refused", "null");
+    else {
+        json_numbers(t, "refused{ number place[", r->number);
         for (int i = 0; i < r->places; i++) put(t, "%s%lld", i ? "," : "", r->place[i]);
         put(t, "]");
         json_word(t, "words", words);

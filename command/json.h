@@ -4,7 +4,7 @@
 #include "names.h"
 #include "values.h"
 
-/* One number for each key, blanks between; of a key that ends in ? NONE is null. */
+/* One number for each key, blanks between; of a key that ends in ? NONE is null. A key that ends in { or [ begins an object or a list, } or ] ends one. */
 #define json_numbers(t, keys, ...) json_list(t, keys, (const long long[]){__VA_ARGS__})
 void json_list(struct text *t, const char *keys, const long long *n);
 void json_open(struct text *t, const char *key, const char *bracket); /* { or [, or a value that has no quotes */

@@ -49,7 +49,7 @@ int do_layout(struct asked *asked) {
     struct refusal r = refusal_of(last_line(text));
     const struct names *names = asked->names[0] || r.number ? find_names(asked->file[0], asked->names[0], file) : NULL;
     struct layout *l = r.number ? read_mapped(file, choices_of(asked)) : read_layout(file);
-    const char *refused = r.number ? refusal_words(l, names, &r) : NULL;
+    const char *refused = r.number ? refusal_words(l, names, &r, 0) : NULL;
     struct text json = {0};
     take_text(l, text);
     if (asked->given & JSON) put_layout_json(&json, asked, l, &r, refused);
@@ -72,7 +72,7 @@ int do_map(struct asked *asked) {
     struct layout *l = read_mapped(file, choices_of(asked));
     struct text t = {0};
     take_layout(l, file, choices_of(asked));
-    const char *refused = l->refusal.number ? refusal_words(l, names, &l->refusal) : NULL;
+    const char *refused = l->refusal.number ? refusal_words(l, names, &l->refusal, 0) : NULL;
     if (is_json) {
         json_open(&t, NULL, "{");
         json_word(&t, "file", escaped(called(asked->file[0])));
@@ -85,18 +85,6 @@ int do_map(struct asked *asked) {
 /* 14 of other rooms than the image's, 15, 16 and 17 are of calls that no layout file shows: they are said in general. */
 static int is_of_layout(const struct refusal *r) { return r->number < 15 ? r->number != 14 || r->place[0] == 0 : r->number >= 18; }
 
-static int is_spelled(const char *said) {
-    const char *digits = "0123456789";
-    if (strncmp(said, "refused ", 8) != 0) return 0;
-    size_t n = strspn(said += 8, digits), numbers = 0;
-    if (n == 0 || n > 2 || said[0] == '0' || (n == 2 && said[0] != '1')) return 0;
-    for (said += n; *said == ' '; said += n, numbers++) {
-        n = strspn(++said, digits);
-        if (n == 0 || n > 18) return 0;
-    }
-    return *said == 0 && (numbers == 1 || numbers == 2);
-}
-
 /* Whether the layout, or its conversion, is refused so; what it says instead goes to standard error. */
 static int is_so(const struct refusal *r, struct refusal found, const char *file) {
     if (found.number == r->number && found.place[0] == r->place[0] && found.place[1] == r->place[1]) return 1;
@@ -107,8 +95,9 @@ static int is_so(const struct refusal *r, struct refusal found, const char *file
 
 int do_words(struct asked *asked) {
     struct bytes said = {(const uint8_t *)asked->file[1], strlen(asked->file[1])}, file;
-    if (!is_spelled(asked->file[1])) fail("usage: denkumari words FILE 'refused NUMBER PLACE ..'");
     struct refusal r = refusal_of(said);
+    if (r.number < 1 || r.number > 19 || r.places < 1 || strcmp(spelled(&r), asked->file[1]) != 0)
+        fail("usage: denkumari words FILE 'refused NUMBER PLACE ..'");
     file = read_input(asked->file[0], LAYOUT_MAX);
     const struct names *names = find_names(asked->file[0], asked->names[0], file);
     struct layout *l = read_mapped(file, choices_of(asked));
@@ -116,7 +105,7 @@ int do_words(struct asked *asked) {
     int to = asked->to ? asked->to[0] - '0' : 0;
     struct bytes line = to ? proved_convert(file, to) : last_line(proved_layout(file, choices_of(asked)));
     if ((to || is_of_layout(&r)) && !is_so(&r, refusal_of(line), asked->file[0])) return FAILED;
-    put(&text, "%s\n", to ? conversion_words(l, names, &r, to) : refusal_words(l, names, &r));
+    put(&text, "%s\n", refusal_words(l, names, &r, to));
     return answer(bytes_of(&text), NULL);
 }
 
@@ -134,7 +123,7 @@ int do_convert(struct asked *asked) {
     struct bytes file = read_input(asked->file[0], LAYOUT_MAX), text = proved_convert(file, asked->to[0] - '0');
     struct refusal r = refusal_of(text);
     const struct names *names = find_names(asked->file[0], NULL, file);
-    if (r.number) return refuse(&r, conversion_words(read_layout(file), names, &r, asked->to[0] - '0'));
+    if (r.number) return refuse(&r, refusal_words(read_layout(file), names, &r, asked->to[0] - '0'));
     answer(text, asked->out);
     if (asked->out && names) convert_names(asked->out, names, file, text);
     return DONE;

@@ -215,8 +215,7 @@ static void json_banks(struct text *t, const struct layout *l, const struct figu
     json_open(t, "banks", "[");
     for (long long i = 0; i < l->banks && i < 16; i++) {
         const struct bank *b = &l->bank[i];
-        json_open(t, NULL, "{");
-        json_numbers(t, "bank unit start size? offset? align? used padding padding_units free?", i, b->unit, b->start, b->size, b->offset,
+        json_numbers(t, "{ bank unit start size? offset? align? used padding padding_units free?", i, b->unit, b->start, b->size, b->offset,
                      b->align, f->used[i], b->padding, b->units, f->unused[i]);
         json_word(t, "fill", filled_with(b));
         put(t, "}");
@@ -231,8 +230,7 @@ static void json_nodes(struct text *t, const struct layout *l, const struct name
         json_open(t, NULL, "{");
         json_node(t, l, names, i);
         long long to = l->node[i].kind == ADDR ? number_at(l, i, row_of(l, l->passes)) : NONE;
-        json_numbers(t, "size? padding_before to?", size_of(l, f, i), f->before[i], to);
-        put(t, "}");
+        json_numbers(t, "size? padding_before to? }", size_of(l, f, i), f->before[i], to);
     }
     put(t, "]");
 }

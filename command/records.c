@@ -96,7 +96,7 @@ static int do_records(struct asked *asked, uint8_t format) {
     if (r.number == 0) return answer(text, asked->out);
     const struct names *names = find_names(asked->file[0], NULL, file);
     struct layout *l = read_mapped(file, choices_of(asked));
-    if (!of_records) return refuse(&r, refusal_words(l, names, &r));
+    if (!of_records) return refuse(&r, refusal_words(l, names, &r, 0));
     if (r.number != 16) return refuse(&r, words_of(RECORDS_ADDRESS, &(struct said){0}));
     struct built b = proved_build(file, choices_of(asked));
     take_built(l, &b);

@@ -71,24 +71,18 @@ struct bytes bytes_of(const struct text *t) {
     return b;
 }
 
-static int within(uint8_t c, int low, int high) { return c >= low && c <= high; }
-
-/* Control characters, those of C1 too, are not printable. */
+/* Control characters, those of C1 too, are not printable; nor is what UTF-8 does not allow. */
 size_t character(const uint8_t *at, size_t n) {
-    static const struct {
-        uint8_t first, last, low, high, size;
-    } shapes[] = {{0xc2, 0xc2, 0xa0, 0xbf, 2}, {0xc3, 0xdf, 0x80, 0xbf, 2}, {0xe0, 0xe0, 0xa0, 0xbf, 3},
-                  {0xe1, 0xec, 0x80, 0xbf, 3}, {0xed, 0xed, 0x80, 0x9f, 3}, {0xee, 0xef, 0x80, 0xbf, 3},
-                  {0xf0, 0xf0, 0x90, 0xbf, 4}, {0xf1, 0xf3, 0x80, 0xbf, 4}, {0xf4, 0xf4, 0x80, 0x8f, 4}};
-    if (n == 0) return 0;
-    if (at[0] < 0x80) return at[0] >= 32 && at[0] != 127;
-    for (size_t i = 0; i < sizeof shapes / sizeof *shapes; i++) {
-        if (!within(at[0], shapes[i].first, shapes[i].last) || n < shapes[i].size || !within(at[1], shapes[i].low, shapes[i].high)) continue;
-        for (size_t k = 2; k < shapes[i].size; k++)
-            if (!within(at[k], 0x80, 0xbf)) return 0;
-        return shapes[i].size;
+    static const uint32_t least[] = {0, ' ', 0xa0, 0x800, 0x10000};
+    size_t size = n == 0 ? 0 : at[0] < 0x80 ? 1 : at[0] < 0xc2 ? 0 : at[0] < 0xe0 ? 2 : at[0] < 0xf0 ? 3 : 4;
+    if (size == 0 || n < size) return 0;
+    uint32_t code = size == 1 ? at[0] : at[0] & 0x7fu >> size;
+    for (size_t k = 1; k < size; k++) {
+        if ((at[k] & 0xc0) != 0x80) return 0;
+        code = code << 6 | (at[k] & 0x3f);
     }
-    return 0;
+    int is_bad = code < least[size] || code == 127 || (code >= 0xd800 && code < 0xe000) || code > 0x10ffff || at[0] > 0xf4;
+    return is_bad ? 0 : size;
 }
 
 const char *escaped(const char *word) {

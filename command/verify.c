@@ -132,8 +132,7 @@ static void put_verified(struct both_sides *b, struct text *json, const struct v
     put_sum(b, v);
     for (size_t i = 0; i < v->runs; i++)
         if (v->kind[i] == DK_MISSING) memset(b->is_missing + v->first[i], 1, (size_t)v->count[i]);
-    json_numbers(json, "bytes", v->asked);
-    json_open(json, "runs", "[");
+    json_numbers(json, "bytes runs[", v->asked);
     for (size_t i = 0; i < v->runs; i++) put_run(b, json, (long long)v->first[i], (long long)v->count[i], v->kind[i]);
     put(json, "]");
     json_open(json, "words", "[");
@@ -143,7 +142,7 @@ static void put_verified(struct both_sides *b, struct text *json, const struct v
 
 /* Why nothing was verified: the layout's refusal, the dump's, or a block that is not of whole bytes. */
 static const char *refused_words(const struct both_sides *b, const struct source *dump, const struct refusal *r) {
-    if (b->layout->refusal.number) return refusal_words(b->layout, b->names, r);
+    if (b->layout->refusal.number) return refusal_words(b->layout, b->names, r, 0);
     if (r->number == 16) return words_of(VERIFY_EDGES, &(struct said){.note = ragged(b->layout, b->names)});
     return shown("%s: %s", escaped(called(b->asked->file[1])), unread(dump, r->number, r->number == 4 && dump->file.len <= dump->limit));
 }

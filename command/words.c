@@ -108,95 +108,78 @@ static enum cause looks_like(struct bytes file) {
     return BROKEN;
 }
 
+/* A cause with the numbers of its words. */
+static enum cause say(struct said *s, enum cause cause, long long first, long long second, long long third) {
+    s->n[0] = first, s->n[1] = second, s->n[2] = third;
+    return cause;
+}
+
 static enum cause say_broken(struct said *s) {
     s->note = has_mark(s->layout->file) ? shown("%s; it begins with a byte order mark (EF BB BF)", s->layout->why) : s->layout->why;
     return looks_like(s->layout->file);
 }
 
-static enum cause say_table(struct said *s) {
-    const struct bank *b = &s->layout->bank[s->bank];
+static enum cause say_table(const struct bank *b) {
     if (b->unit == 0) return BANK_UNIT;
     if (is_beyond(b)) return BANK_START;
     return b->fill && b->size == 0 ? BANK_EMPTY : BANK_ONES;
 }
 
-/* A node's number and state in each row; kinds 0 to 2 have no state that is read. */
-static enum cause say_rows(struct said *s) {
-    const struct layout *l = s->layout;
-    const struct node *n = &l->node[s->node];
-    for (s->n[0] = 0; s->n[0] < l->rows && n->kind > LABEL; s->n[0]++) {
-        long long cell = s->n[0] * l->nodes + s->node;
-        s->n[1] = l->state[cell];
-        if (s->n[1] > 2) return NODE_STATE;
-        s->n[1] = n->operand + l->number[cell];
-        s->n[2] = 8 * l->values;
-        int is_read = n->kind == INSTRUCTION || n->kind == OPEN || (n->kind == DATA && s->n[0] == 0);
-        if (is_read && s->n[1] > s->n[2]) return NODE_VALUES;
-    }
-    s->n[0] = s->node;
-    return MALFORMED;
-}
-
-/* 4: the file's own fault, else the list's: node count, row count, then the lowest node. */
+/* 4: the file's own fault, else the list's: node count, row count, then the lowest node, its number and state in each row. */
 static enum cause say_list(struct said *s) {
     const struct layout *l = s->layout;
+    const struct node *n = &l->node[s->node < l->nodes ? s->node : 0];
     if (l->why) return say_broken(s);
-    s->n[0] = l->nodes;
-    if (l->nodes > 4096) return NODE_COUNT;
-    s->n[0] = l->rows;
-    if (l->rows < 1 || l->rows > 16) return ROW_COUNT;
-    s->n[0] = s->node;
-    if (s->node >= l->nodes) return MALFORMED;
-    s->n[0] = l->node[s->node].kind;
-    if (s->n[0] > ASSERT) return NODE_KIND;
-    s->n[0] = l->banks;
-    if (l->node[s->node].kind == SWITCH && l->node[s->node].operand >= l->banks) return NODE_BANK;
-    return say_rows(s);
+    if (l->nodes > 4096) return say(s, NODE_COUNT, l->nodes, 0, 0);
+    if (l->rows < 1 || l->rows > 16) return say(s, ROW_COUNT, l->rows, 0, 0);
+    if (s->node < l->nodes && n->kind > ASSERT) return say(s, NODE_KIND, n->kind, 0, 0);
+    if (s->node < l->nodes && n->kind == SWITCH && n->operand >= l->banks) return say(s, NODE_BANK, l->banks, 0, 0);
+    for (long long r = 0; s->node < l->nodes && n->kind > LABEL && r < l->rows; r++) { /* kinds 0 to 2 have no state that is read */
+        int state = l->state[r * l->nodes + s->node], is_read = n->kind == INSTRUCTION || n->kind == OPEN || (n->kind == DATA && r == 0);
+        long long end = n->operand + l->number[r * l->nodes + s->node];
+        if (state > 2) return say(s, NODE_STATE, r, state, 0);
+        if (is_read && end > 8 * l->values) return say(s, NODE_VALUES, r, end, 8 * l->values);
+    }
+    return say(s, MALFORMED, s->node, 0, 0);
 }
 
 /* 5: where the bank stood before, as far as the nodes of the map tell it. */
 static enum cause say_far(struct said *s) {
     const struct layout *l = s->layout;
     long long at = 0;
-    s->n[0] = bank_at(l, s->node);
     for (long long i = 0; i < l->shown; i++) {
         const struct node *n = &l->node[i];
-        if (n->bank != s->n[0]) continue;
-        at = n->kind == ALIGN ? NONE : n->kind == ADDR ? number_at(l, i, row_of(l, l->passes)) : n->position + n->bits;
+        if (n->bank == s->bank) at = n->kind == ALIGN ? NONE : n->kind == ADDR ? number_at(l, i, row_of(l, l->passes)) : n->position + n->bits;
     }
-    if (!l->has_map || l->shown != s->node) return TOO_FAR;
-    s->note = shown("%s, in pass %d", at == NONE ? "" : shown(", from %lld", at), l->passes);
-    return TOO_FAR;
+    if (l->has_map && l->shown == s->node) s->note = shown("%s, in pass %d", at == NONE ? "" : shown(", from %lld", at), l->passes);
+    return say(s, TOO_FAR, s->bank, 0, 0);
 }
 
 /* A walk of one pass, as document 01 has it: each bank's position and whether it is known. */
 struct walk {
     long long row, at[16];
-    int is_known[16];
+    int is_unknown[16];
 };
 
 static void align_symbol(const struct layout *l, struct walk *w, long long bank, long long node) {
     const struct node *n = &l->node[node];
-    if ((n->kind == LABEL || n->kind == CONSTANT) && n->operand == 0 && l->bank[bank].align > 0)
-        w->at[bank] += distance(&l->bank[bank], w->at[bank], l->bank[bank].align);
+    if ((n->kind == LABEL || n->kind == CONSTANT) && n->operand == 0) w->at[bank] += distance(&l->bank[bank], w->at[bank], l->bank[bank].align);
 }
 
 static void advance(const struct layout *l, struct walk *w, long long bank, long long node) {
-    int kind = l->node[node].kind, is_resolved = l->state[w->row * l->nodes + node] == 0;
+    int kind = l->node[node].kind, is_open = l->state[w->row * l->nodes + node] != 0;
     long long number = number_at(l, node, w->row);
     if (kind >= INSTRUCTION && kind <= RESERVE) w->at[bank] += number;
     if (kind == ALIGN) w->at[bank] += distance(&l->bank[bank], w->at[bank], number);
-    if (kind == ADDR) w->at[bank] = number;
-    if (kind == ADDR) w->is_known[bank] = is_resolved;
-    else if (kind >= INSTRUCTION && kind <= ALIGN && kind != DATA) w->is_known[bank] = w->is_known[bank] && is_resolved;
+    if (kind == ADDR) w->at[bank] = number, w->is_unknown[bank] = is_open;
+    else if (kind >= INSTRUCTION && kind <= ALIGN && kind != DATA) w->is_unknown[bank] |= is_open;
 }
 
 /* 8: the first node that the last pass leaves unresolved: by its own state, or a label by where it stands and stood. */
 static enum cause say_unresolved(struct said *s) {
     const struct layout *l = s->layout;
-    struct walk now = {row_of(l, l->passes), {0}, {0}}, old = {row_of(l, l->passes - 1), {0}, {0}};
+    struct walk now = {.row = row_of(l, l->passes)}, old = {.row = row_of(l, l->passes - 1)};
     long long bank = 0;
-    for (int i = 0; i < 16; i++) now.is_known[i] = old.is_known[i] = 1;
     for (s->node = 0; s->node < l->nodes; s->node++) {
         const struct node *n = &l->node[s->node];
         if (n->kind == SWITCH) bank = n->operand < 16 ? n->operand : 0;
@@ -204,36 +187,24 @@ static enum cause say_unresolved(struct said *s) {
         align_symbol(l, &old, bank, s->node);
         if (n->kind > LABEL && l->state[now.row * l->nodes + s->node] == 2) break;
         long long unit = l->bank[bank].unit ? l->bank[bank].unit : 1;
-        int is_settled = now.is_known[bank] && now.at[bank] % unit == 0, has_moved = now.at[bank] / unit != old.at[bank] / unit;
-        if (n->kind == LABEL && !is_settled && l->passes < 2) s->note = ", and no pass before it tells whether it stays";
-        else if (n->kind == LABEL && !is_settled && has_moved) s->note = shown(": it has moved since pass %d", l->passes - 1);
+        int is_open = n->kind == LABEL && (now.is_unknown[bank] || now.at[bank] % unit != 0);
+        if (is_open && l->passes < 2) s->note = ", and no pass before it tells whether it stays";
+        else if (is_open && now.at[bank] / unit != old.at[bank] / unit) s->note = shown(": it has moved since pass %d", l->passes - 1);
         if (s->note) break;
         advance(l, &now, bank, s->node);
         advance(l, &old, bank, s->node);
     }
-    s->n[0] = l->passes;
-    s->n[1] = l->limit;
-    s->n[2] = l->rows;
-    return l->passes < l->limit ? UNRESOLVED_AGAIN : UNRESOLVED;
-}
-
-static enum cause say_end(struct said *s) {
-    const struct layout *l = s->layout;
-    const struct node *n = &l->node[s->node];
-    s->n[0] = n->position + n->bits;
-    s->n[1] = s->n[0] - l->bank[s->bank].size;
-    return PAST_END;
+    return say(s, l->passes < l->limit ? UNRESOLVED_AGAIN : UNRESOLVED, l->passes, l->limit, l->rows);
 }
 
 /* 12: the node that was offered, and the one that stands there. */
 static enum cause say_clash(struct said *s, long long from, long long size) {
     const struct layout *l = s->layout;
     s->node = l->fault;
-    s->n[0] = from;
-    s->n[1] = size;
     for (long long i = 0; i < l->fault && !s->note; i++)
         if (is_placed(l, i) && l->node[i].output == from && l->node[i].bits == size) s->note = shown(": %s", node_words(l, s->names, i));
-    return size == 0 ? AROUND_MARK : l->fault >= 0 && l->node[l->fault].bits == 0 ? MARK_INSIDE : OVERLAPS;
+    int is_mark = l->fault >= 0 && l->node[l->fault].bits == 0;
+    return say(s, size == 0 ? AROUND_MARK : is_mark ? MARK_INSIDE : OVERLAPS, from, size, 0);
 }
 
 /* 14: what reaches past the room for the image. */
@@ -250,23 +221,20 @@ static enum cause say_room(struct said *s, long long place) {
         long long end = l->bank[i].offset + l->bank[i].size;
         if (is_filled(&l->bank[i]) && end > 8 * l->room) s->note = shown(": %s is filled to bit %lld", bank_words(l, i), end);
     }
-    s->n[0] = l->room;
-    s->n[1] = 8 * l->room;
-    return IMAGE_ROOM;
+    return say(s, IMAGE_ROOM, l->room, 8 * l->room, 0);
 }
 
 static int is_power(long long v) { return v > 0 && (v & (v - 1)) == 0; }
 
 /* 19, a node: in some row its alignment, or where it goes. */
-static enum cause say_row_of_rule(struct said *s, long long rule) {
+static enum cause say_row_of_rule(struct said *s, int is_alignment) {
     const struct layout *l = s->layout;
-    s->n[1] = bank_at(l, s->node);
-    s->n[2] = s->n[1] < l->banks ? l->bank[s->n[1]].unit : 0;
+    long long bank = bank_at(l, s->node), unit = bank < l->banks ? l->bank[bank].unit : 0, number = 0;
     for (long long r = 0; r < l->rows; r++) {
-        s->n[0] = number_at(l, s->node, r);
-        if (rule == 2 ? s->n[0] != 0 && !is_power(s->n[0]) : s->n[2] > 0 && s->n[0] % s->n[2] != 0) break;
+        number = number_at(l, s->node, r);
+        if (is_alignment ? number != 0 && !is_power(number) : unit > 0 && number % unit != 0) break;
     }
-    return rule == 2 ? NODE_ALIGNMENT : PAGE_ADDR;
+    return say(s, is_alignment ? NODE_ALIGNMENT : PAGE_ADDR, number, bank, unit);
 }
 
 /* 19: rule 2 names a bank while its label alignment is at fault. */
@@ -274,34 +242,33 @@ static enum cause say_rule(struct said *s, long long rule, long long at) {
     const struct bank *b = &s->layout->bank[at < s->layout->banks ? at : 0];
     s->bank = s->node = at;
     if (rule == 1) return PAGE_SIZE;
-    s->n[0] = b->align;
-    if (rule == 2 && at < s->layout->banks && b->align > 0 && !is_power(b->align)) return BANK_ALIGNMENT;
-    if (rule == 2 || rule >= 6) return say_row_of_rule(s, rule);
-    s->n[0] = rule == 3 ? b->offset : rule == 4 ? b->size : b->unit;
-    return rule == 3 ? PAGE_OFFSET : rule == 5 ? PAGE_UNIT : b->size == NONE ? PAGE_NO_SIZE : PAGE_PARTS;
+    if (rule == 2 && at < s->layout->banks && b->align > 0 && !is_power(b->align)) return say(s, BANK_ALIGNMENT, b->align, 0, 0);
+    if (rule == 2 || rule >= 6) return say_row_of_rule(s, rule == 2);
+    if (rule == 3) return say(s, PAGE_OFFSET, b->offset, 0, 0);
+    return rule == 5 ? say(s, PAGE_UNIT, b->unit, 0, 0) : say(s, b->size == NONE ? PAGE_NO_SIZE : PAGE_PARTS, b->size, 0, 0);
 }
 
 static enum cause say_cause(struct said *s, const struct refusal *r) {
     const struct layout *l = s->layout;
-    s->node = s->bank = r->place[0];
+    const struct node *n = &l->node[r->place[0] < l->nodes ? r->place[0] : 0];
+    s->node = s->bank = s->n[0] = r->place[0];
     s->second = r->place[1];
-    s->n[0] = r->number == 1 ? l->banks : r->place[0];
     if (r->number >= 5) s->bank = bank_at(l, s->node);
-    int is_mark = s->node < l->shown && l->node[s->node].bits == 0;
+    const struct bank *b = &l->bank[s->bank < l->banks ? s->bank : 0];
     switch (r->number) {
-    case 1: return BANK_COUNT;
-    case 2: return say_table(s);
+    case 1: return say(s, BANK_COUNT, l->banks, 0, 0);
+    case 2: return say_table(b);
     case 3: return BANKS_OVERLAP;
     case 4: return say_list(s);
     case 5: return say_far(s);
     case 6: return GONE_6;
-    case 7: s->n[0] = l->bank[s->bank].unit; return OFF_BOUNDARY;
+    case 7: return say(s, OFF_BOUNDARY, b->unit, 0, 0);
     case 8: return say_unresolved(s);
     case 9: return l->banks == 1 ? BANK_0_CLOSED : BANK_0_USED;
-    case 10: return say_end(s);
+    case 10: return say(s, PAST_END, n->position + n->bits, n->position + n->bits - b->size, 0);
     case 11: return NO_OUTPUT;
     case 12: return say_clash(s, r->place[0], r->place[1]);
-    case 13: return is_mark ? MARKS_FULL : STORE_FULL;
+    case 13: return s->node < l->shown && n->bits == 0 ? MARKS_FULL : STORE_FULL;
     case 14: return say_room(s, r->place[0]);
     case 15: return BAD_STORE;
     case 16: return BAD_PART;
@@ -310,36 +277,25 @@ static enum cause say_cause(struct said *s, const struct refusal *r) {
     }
 }
 
-const char *refusal_words(const struct layout *l, const struct names *names, const struct refusal *r) {
-    struct said s = {.layout = l, .names = names};
-    enum cause cause = say_cause(&s, r);
-    return words_of(cause, &s);
-}
-
 /* 4 and 18 of a conversion: the file or its form, the counts of file and result, a bank that is not there, the length; a bank with a fill bit. */
 static enum cause say_conversion(struct said *s, const struct refusal *r, int to) {
     const struct layout *l = s->layout;
+    const struct node *n = &l->node[r->place[0] < l->nodes ? r->place[0] : 0];
     long long most = l->banks == 1 && to == 2 ? 4095 : 4096;
     s->node = r->place[0];
-    for (s->bank = 0; s->bank < l->banks && !l->bank[s->bank].bit;) s->bank++;
+    while (s->bank < l->banks && !l->bank[s->bank].bit) s->bank++;
     if (r->number == 18) return DROPS_BIT;
-    s->n[0] = l->form;
-    if (l->file.len > 0 && l->form == to && (!l->why || l->file.at[0] < 32)) return FORM_ALREADY;
+    if (l->file.len > 0 && l->form == to && (!l->why || l->file.at[0] < 32)) return say(s, FORM_ALREADY, l->form, 0, 0);
     if (l->why) return say_broken(s);
-    s->n[0] = l->nodes;
-    s->n[1] = most;
     if (most < 4096) s->note = ", since a switch is put ahead of them";
-    if (l->nodes > most) return CONVERT_NODES;
-    s->n[0] = l->rows;
-    if (l->rows > 16) return CONVERT_ROWS;
-    if (l->banks == 1 && s->node < l->nodes && l->node[s->node].kind == SWITCH && l->node[s->node].operand > 0) return CONVERT_BANK;
-    s->n[0] = to;
-    s->n[1] = to == 2 ? 65536 : 65000;
-    return CONVERT_LONG;
+    if (l->nodes > most) return say(s, CONVERT_NODES, l->nodes, most, 0);
+    if (l->rows > 16) return say(s, CONVERT_ROWS, l->rows, 0, 0);
+    if (l->banks == 1 && s->node < l->nodes && n->kind == SWITCH && n->operand > 0) return CONVERT_BANK;
+    return say(s, CONVERT_LONG, to, to == 2 ? 65536 : 65000, 0);
 }
 
-const char *conversion_words(const struct layout *l, const struct names *names, const struct refusal *r, int to) {
+const char *refusal_words(const struct layout *l, const struct names *names, const struct refusal *r, int to) {
     struct said s = {.layout = l, .names = names};
-    enum cause cause = say_conversion(&s, r, to);
+    enum cause cause = to ? say_conversion(&s, r, to) : say_cause(&s, r);
     return words_of(cause, &s);
 }

@@ -22,6 +22,6 @@ struct said {
 const char *words_alone(enum cause cause, const struct said *s);
 const char *remedy(enum cause cause); /* ahead of it a full stop; empty where there is none */
 const char *words_of(enum cause cause, const struct said *s); /* and the remedy */
-const char *refusal_words(const struct layout *l, const struct names *names, const struct refusal *r);
-const char *conversion_words(const struct layout *l, const struct names *names, const struct refusal *r, int to);
+/* Of a conversion into form `to`, or with 0 of a layout. */
+const char *refusal_words(const struct layout *l, const struct names *names, const struct refusal *r, int to);
 #endif
