@@ -25,24 +25,22 @@ static unsigned long long number_of(struct bytes word) {
 
 /* What the proved text has, without the count of runs at its end, with addresses in hex too, and as JSON: whether anything differs. */
 static int put_runs(struct text *t, struct text *json, struct bytes text) {
-    const uint8_t *at = text.at, *end = text.at + text.len, *next;
     long long alone = NONE;
+    struct bytes line;
     json_open(json, "runs", "[");
-    for (; at < end; at = next + 1) {
-        next = memchr(at, '\n', (size_t)(end - at));
-        if (!next) next = end;
-        struct bytes line = {at, (size_t)(next - at)}, kind = next_word(&line);
+    while (next_line(&text, &line)) {
+        struct bytes kind = next_word(&line);
         unsigned long long address = number_of(next_word(&line));
-        if (is_word(kind, "run")) {
-            put(t, "run %llu 0x%08llx %.*s\n", address, address, (int)line.len, (const char *)line.at);
-            json_numbers(json, "{ address count", (long long)address, (long long)number_of(next_word(&line)));
-            json_text(json, "released", next_word(&line));
-            json_text(json, "overlay", next_word(&line));
-            put(json, "}");
+        if (is_word(kind, "alone")) {
+            put(t, "alone %llu 0x%08llx\n", address, address);
+            alone = (long long)address;
         }
-        if (!is_word(kind, "alone")) continue;
-        put(t, "alone %llu 0x%08llx\n", address, address);
-        alone = (long long)address;
+        if (!is_word(kind, "run")) continue;
+        put(t, "run %llu 0x%08llx %.*s\n", address, address, (int)line.len, (const char *)line.at);
+        json_numbers(json, "{ address count", (long long)address, (long long)number_of(next_word(&line)));
+        json_text(json, "released", next_word(&line));
+        json_text(json, "overlay", next_word(&line));
+        put(json, "}");
     }
     json_numbers(json, "] alone?", alone);
     return t->len > 0;
@@ -56,14 +54,6 @@ static void put_range(struct text *t, struct text *json, const struct asked *ask
     json_text(json, "from", next_word(&line));
     json_text(json, "bytes", line);
     put(json, "}");
-}
-
-/* A line of a refusal, from 0 on. */
-static struct bytes line_at(struct bytes text, int number) {
-    for (; number > 0 && text.len > 0; text.at++, text.len--) number -= *text.at == '\n';
-    const uint8_t *end = text.len > 0 ? memchr(text.at, '\n', text.len) : NULL;
-    if (end) text.len = (size_t)(end - text.at);
-    return text;
 }
 
 /* A refusal's second line names the file that it is of, behind a blank the address at which a range is not given; its third the line at fault. */

@@ -59,7 +59,7 @@ static void put_pair(struct text *t, const struct side *a, const struct one *x, 
     const struct names *names = y ? b->names : a->names;
     put(t, "%s: %s (%s", changes_words(found), called_node(names, o->number), has_name(names, o->number) ? shown("node %lld, ", o->number) : "");
     put(t, "%s%s", kind_words[o->node->kind], o->node->kind > CONSTANT ? shown(", %s", several(o->node->bits, "bit")) : "");
-    if (o->behind.len > 0) put(t, ", behind %.*s", (int)o->behind.len, (const char *)o->behind.at);
+    if (*o->behind) put(t, ", behind %s", o->behind);
     put(t, "): %s\n", moved_words(x ? x->node : NULL, y ? y->node : NULL));
 }
 
@@ -254,13 +254,13 @@ static uint64_t hash_of(const struct side *s, long long i) {
 
 static void gather(struct side *s) {
     const struct layout *l = s->layout;
-    struct bytes behind = {NULL, 0};
+    const char *behind = "";
     s->ones = memory((size_t)l->shown + 1, sizeof *s->ones);
     for (long long i = 0; i < l->shown; i++) {
         if (l->node[i].kind < LABEL || l->node[i].kind > RESERVE) continue;
-        struct one o = {.node = &l->node[i], .number = i, .alike = hash_of(s, i), .name = name_of(s->names, i)};
-        if (o.name.len == 0) o.behind = behind;
-        else behind = o.name;
+        struct one o = {.node = &l->node[i], .number = i, .alike = hash_of(s, i), .name = name_of(s->names, i), .behind = ""};
+        if (*o.name) behind = o.name;
+        else o.behind = behind;
         s->ones[s->count++] = o;
     }
 }

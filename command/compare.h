@@ -10,7 +10,7 @@ struct one {
     const struct node *node;
     long long number;
     uint64_t alike; /* of its kind, size and contents */
-    struct bytes name, behind; /* its own, and that of the named node before it */
+    const char *name, *behind; /* its own, and that of the named node before it; empty where there is none */
     struct one *other;
     int is_common; /* too many are alike for a run of them to say anything */
 };

@@ -50,8 +50,8 @@ void json_node(struct text *t, const struct layout *l, const struct names *names
     const struct node *n = &l->node[node];
     json_numbers(t, "node bank position address output?", node, n->bank, n->position, n->address, n->output);
     json_word(t, "kind", kind_words[n->kind]);
-    json_text(t, "name", name_of(names, node));
-    json_text(t, "source", place_of(names, node));
+    json_word(t, "name", name_of(names, node));
+    json_word(t, "source", place_of(names, node));
 }
 
 void json_blocks(struct text *t, const struct layout *l) {

@@ -101,8 +101,6 @@ struct layout *read_mapped(struct bytes file, struct choices c) {
 
 enum { NUMBERS = 10 };
 
-static int begins(struct bytes line, const char *begin) { return line.len >= strlen(begin) && memcmp(line.at, begin, strlen(begin)) == 0; }
-
 /* The numbers behind a line's first word, NONE for a lone -: how many there are. */
 static int numbers_of(struct bytes line, long long *n) {
     const uint8_t *at = memchr(line.at, ' ', line.len), *end = line.at + line.len, *first;
@@ -158,13 +156,8 @@ static void take_line(struct layout *l, struct bytes line) {
 }
 
 void take_text(struct layout *l, struct bytes text) {
-    const uint8_t *at = text.at, *end = text.at + text.len, *next;
-    for (; at < end; at = next + 1) {
-        next = memchr(at, '\n', (size_t)(end - at));
-        if (!next) next = end;
-        struct bytes line = {at, (size_t)(next - at)};
-        take_line(l, line);
-    }
+    struct bytes line;
+    while (next_line(&text, &line)) take_line(l, line);
 }
 
 void take_built(struct layout *l, const struct built *b) {

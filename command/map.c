@@ -175,11 +175,10 @@ static void put_nodes(struct text *text, const struct layout *l, const struct na
     put(&t, "node%s\tkind\tbank\tposition\taddress\tin hex\toutput bits\tbytes\tsize\t\n", has_names ? "\tname\tsource" : "");
     for (long long i = 0; i < l->shown; i++) {
         const struct node *n = &l->node[i];
-        struct bytes name = name_of(names, i), place = place_of(names, i);
         if (!is_listed(l, i)) continue;
         long long past = n->position % l->bank[n->bank].unit;
         put(&t, "%lld\t", i);
-        if (has_names) put(&t, "%.*s\t%.*s\t", (int)name.len, (const char *)name.at, (int)place.len, (const char *)place.at);
+        if (has_names) put(&t, "%s\t%s\t", name_of(names, i), place_of(names, i));
         put(&t, "%s\t%lld\t%lld\t%lld", kind_words[n->kind], n->bank, n->position, n->address);
         if (past) put(&t, "+%lld", past);
         put(&t, "\t%s\t%s\t%s", n->address < 0 ? "-" : in_hex(n->address, past), output_cells(n->output, f->advance[i]), or_dash(size_of(l, f, i)));

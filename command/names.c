@@ -60,19 +60,19 @@ static long long read_line(struct names *names, struct bytes line, const char **
         return NONE;
     }
     if (node < 0 || tabs != 2 || !is_plain(name) || !is_plain(place)) return -2;
-    if (node < NODES) names->name[node] = name, names->place[node] = place;
+    if (node < NODES) {
+        names->name[node] = shown("%.*s", (int)name.len, (const char *)name.at);
+        names->place[node] = shown("%.*s", (int)place.len, (const char *)place.at);
+    }
     return node;
 }
 
 /* What is wrong with a names file, or NULL; `belongs` is the sum in its first line, NULL where it has none. */
 static const char *read_names(struct names *names, struct bytes file, const char **belongs) {
-    const uint8_t *at = file.at, *end = file.at + file.len, *next;
+    struct bytes line;
     long long above = NONE;
     if (has_mark(file)) return "it begins with a byte order mark (EF BB BF)";
-    for (long number = 1; at < end; at = next + 1, number++) {
-        next = memchr(at, '\n', (size_t)(end - at));
-        if (!next) next = end;
-        struct bytes line = {at, (size_t)(next - at)};
+    for (long number = 1; next_line(&file, &line); number++) {
         if (line.len > 0 && line.at[line.len - 1] == '\r') line.len--;
         long long node = read_line(names, line, number == 1 ? belongs : NULL);
         if (node < NONE) return shown("line %ld is not a number, a name and a place with tabs between", number);
@@ -108,27 +108,22 @@ const struct names *find_names(const char *form, const char *given, struct bytes
 void put_names(struct text *t, const struct names *names, long long shift, struct bytes file) {
     put(t, "form\t%lu\t%llu\n", (unsigned long)cksum(file), (unsigned long long)file.len);
     for (long long i = 0; i < NODES; i++) {
-        struct bytes name = names->name[i], place = names->place[i];
         if (!has_name(names, i) || i + shift < 0) continue;
-        put(t, "%lld\t%.*s\t%.*s\n", i + shift, (int)name.len, (const char *)name.at, (int)place.len, (const char *)place.at);
+        put(t, "%lld\t%s\t%s\n", i + shift, name_of(names, i), place_of(names, i));
     }
 }
 
-struct bytes name_of(const struct names *names, long long node) {
-    static const struct bytes none;
-    return names && node >= 0 && node < NODES ? names->name[node] : none;
+const char *name_of(const struct names *names, long long node) {
+    return names && node >= 0 && node < NODES && names->name[node] ? names->name[node] : "";
 }
 
-struct bytes place_of(const struct names *names, long long node) {
-    static const struct bytes none;
-    return names && node >= 0 && node < NODES ? names->place[node] : none;
+const char *place_of(const struct names *names, long long node) {
+    return names && node >= 0 && node < NODES && names->place[node] ? names->place[node] : "";
 }
 
-int has_name(const struct names *names, long long node) { return name_of(names, node).len + place_of(names, node).len > 0; }
+int has_name(const struct names *names, long long node) { return *name_of(names, node) || *place_of(names, node); }
 
 const char *called_node(const struct names *names, long long node) {
-    struct bytes name = name_of(names, node), place = place_of(names, node);
-    if (!has_name(names, node)) return shown("node %lld", node);
-    const char *between = name.len > 0 && place.len > 0 ? ", " : "";
-    return shown("%.*s%s%.*s", (int)name.len, (const char *)name.at, between, (int)place.len, (const char *)place.at);
+    const char *name = name_of(names, node), *place = place_of(names, node);
+    return has_name(names, node) ? shown("%s%s%s", name, *name && *place ? ", " : "", place) : shown("node %lld", node);
 }

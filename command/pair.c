@@ -70,7 +70,7 @@ static void pair_span(struct span s) {
 
 static size_t nameless(const struct side *s, const struct one *from) {
     size_t n = 0;
-    while (from + n < s->ones + s->count && from[n].name.len == 0) n++;
+    while (from + n < s->ones + s->count && !*from[n].name) n++;
     return n;
 }
 
@@ -81,18 +81,16 @@ static void pair_behind(const struct side *a, struct one *x, const struct side *
 }
 
 /* The first of a name that is not paired yet: so the second of a name is the other side's second. */
-static struct one *find(const struct side *s, struct bytes name) {
-    for (size_t i = 0; i < s->count; i++) {
-        struct bytes other = s->ones[i].name;
-        if (!s->ones[i].other && other.len == name.len && memcmp(other.at, name.at, name.len) == 0) return &s->ones[i];
-    }
+static struct one *find(const struct side *s, const char *name) {
+    for (size_t i = 0; i < s->count; i++)
+        if (!s->ones[i].other && strcmp(s->ones[i].name, name) == 0) return &s->ones[i];
     return NULL;
 }
 
 void pair_all(struct side *a, struct side *b) {
     pair_behind(a, a->ones, b, b->ones);
     for (size_t i = 0; i < a->count; i++) {
-        struct one *o = &a->ones[i], *other = o->name.len > 0 ? find(b, o->name) : NULL;
+        struct one *o = &a->ones[i], *other = *o->name ? find(b, o->name) : NULL;
         if (!other) continue;
         pair(o, other);
         pair_behind(a, o + 1, b, other + 1);

@@ -6,15 +6,13 @@
 
 uint8_t kind_of(struct bytes file) { return file.len > 0 && (file.at[0] == 'S' || file.at[0] == 's'); }
 
-/* A line of a file as it stands there, from 0, with what cannot be shown as ?. */
-static void put_line(struct text *t, struct bytes file, uint64_t line) {
-    size_t at = 0;
-    for (uint64_t k = 0; k < line && at < file.len; at++) k += file.at[at] == '\n';
-    for (int n = 0; at < file.len && file.at[at] != '\n' && n < 80; at++) {
-        if (file.at[at] == '\r') continue;
-        put(t, "%c", file.at[at] >= ' ' && file.at[at] <= '~' ? file.at[at] : '?');
-        n++;
-    }
+/* A line of a file as it stands there, as far as it is shown, with what cannot be shown as ?. */
+static const char *line_words(struct bytes line) {
+    struct text t = {0};
+    put(&t, "%s", "");
+    for (size_t i = 0; i < line.len && t.len < 80; i++)
+        if (line.at[i] != '\r') put(&t, "%c", line.at[i] >= ' ' && line.at[i] <= '~' ? line.at[i] : '?');
+    return t.at;
 }
 
 /* What a reason adds to its words: how lines begin, or which types are read. */
@@ -29,15 +27,15 @@ static const char *reason_note(uint8_t kind, const struct dk_reason *r) {
 static const char *reason_words(const struct source *f) {
     struct dk_reason r = proved_reason(f->file, f->kind, f->load);
     struct said s = {.n = {(long long)r.first, (long long)r.second}, .note = reason_note(f->kind, &r)};
-    struct text t = {0}, line = {0};
+    struct text t = {0};
+    const char *line = line_words(line_at(f->file, r.line));
     int is_other = r.reason == 1 && f->kind == 0 && kind_of(f->file);
     enum cause cause = has_mark(f->file) ? RECORDS_MARK : is_other ? RECORDS_SREC : (enum cause)(REASON_1 + r.reason - 1);
-    put_line(&line, f->file, r.line);
     if (r.reason == 2 || r.reason == 11) s.n[0]++; /* characters and lines as people count them */
     put(&t, "line %llu: ", (unsigned long long)r.line + 1);
-    if (cause == REASON_1 && line.len == 0) put(&t, "a blank line");
+    if (cause == REASON_1 && !*line) put(&t, "a blank line");
     else put(&t, "%s", words_alone(cause, &s));
-    if (line.len > 0 && r.reason < 13) put(&t, ": \"%s\"", line.at);
+    if (*line && r.reason < 13) put(&t, ": \"%s\"", line);
     put(&t, "%s", remedy(cause));
     return t.at;
 }
@@ -57,12 +55,6 @@ const char *unread(const struct source *f, int number, int has_line) {
     return words_of(load > f->load && proved_reads(f->file, f->kind, load, f->reach) ? RECORDS_LOW : RECORDS_ROOM, &s);
 }
 
-int says(struct bytes text, const char *begin) {
-    const uint8_t *line = memchr(text.at, '\n', text.len);
-    size_t left = line ? (size_t)(text.at + text.len - line - 1) : 0;
-    return left >= strlen(begin) && memcmp(line + 1, begin, strlen(begin)) == 0;
-}
-
 const char *ragged(const struct layout *l, const struct names *names) {
     long long at = 0, node = 0;
     while (at < l->blocks && l->block[at].start % 8 == 0 && l->block[at].size % 8 == 0) at++;
@@ -78,7 +70,7 @@ static struct bytes written(const struct asked *asked, struct bytes file, uint8_
     int is_whole = (asked->given & WHOLE) != 0;
     if (!(asked->given & ROOM)) {
         struct bytes text = proved_records(file, choices_of(asked), format, asked->load, is_whole);
-        *of_records = says(text, "records");
+        *of_records = begins(line_at(text, 1), "records");
         *r = refusal_of(text);
         return text;
     }
@@ -116,7 +108,7 @@ int do_rehex(struct asked *asked) {
     if (!(asked->given & LOWEST)) f.load = f.file.len > RECORDS_MAX ? 0 : lowest(f.file, f.kind);
     struct bytes text = proved_rehex(f.file, f.kind, !to_srec ? 0 : asked->width ? asked->width : 4, f.load);
     struct refusal r = refusal_of(text);
-    int has_line = says(text, "line "), is_address = r.number == 4 && !has_line && f.file.len <= f.limit;
+    int has_line = begins(line_at(text, 1), "line "), is_address = r.number == 4 && !has_line && f.file.len <= f.limit;
     if (r.number == 0) return answer(text, asked->out);
     return refuse(&r, is_address ? words_of(RECORDS_ADDRESS, &(struct said){0}) : unread(&f, r.number, has_line));
 }

@@ -16,5 +16,4 @@ uint8_t kind_of(struct bytes file); /* by its first character */
 uint32_t lowest(struct bytes file, uint8_t kind); /* the lowest address that a good file gives a byte at, the last of all where it gives none; 0 of a bad one */
 const char *ragged(const struct layout *l, const struct names *names); /* the first block that is not of whole bytes, and its first item */
 const char *unread(const struct source *s, int number, int has_line); /* a refusal of it in words; with a line where the file is bad there */
-int says(struct bytes text, const char *begin); /* whether the second line of a refusal begins so */
 #endif

@@ -71,6 +71,25 @@ struct bytes bytes_of(const struct text *t) {
     return b;
 }
 
+int begins(struct bytes text, const char *begin) { return text.len >= strlen(begin) && memcmp(text.at, begin, strlen(begin)) == 0; }
+
+int next_line(struct bytes *rest, struct bytes *line) {
+    const uint8_t *end = rest->len > 0 ? memchr(rest->at, '\n', rest->len) : NULL;
+    *line = *rest;
+    if (rest->len == 0) return 0;
+    if (end) line->len = (size_t)(end - rest->at);
+    rest->at += line->len + (end != NULL);
+    rest->len -= line->len + (end != NULL);
+    return 1;
+}
+
+struct bytes line_at(struct bytes text, uint64_t number) {
+    struct bytes line = {text.at, 0};
+    for (uint64_t i = 0; i <= number; i++)
+        if (!next_line(&text, &line)) break;
+    return line;
+}
+
 /* Control characters, those of C1 too, are not printable; nor is what UTF-8 does not allow. */
 size_t character(const uint8_t *at, size_t n) {
     static const uint32_t least[] = {0, ' ', 0xa0, 0x800, 0x10000};
@@ -97,25 +116,12 @@ const char *escaped(const char *word) {
     return t.at;
 }
 
-static void tell_list(const char *form, va_list words) {
-    struct text line = {0};
-    put(&line, "%s: ", tool);
-    put_list(&line, form, words);
-    put(&line, "\n");
-    write_all(2, line.at, line.len); /* where this fails there is nobody left to be told */
+void tell_words(const char *words) {
+    const char *line = shown("%s: %s\n", tool, words);
+    write_all(2, line, strlen(line)); /* where this fails there is nobody left to be told */
 }
 
-void tell(const char *form, ...) {
-    va_list words;
-    va_start(words, form);
-    tell_list(form, words);
-    va_end(words);
-}
-
-void fail(const char *form, ...) {
-    va_list words;
-    va_start(words, form);
-    tell_list(form, words);
-    va_end(words);
+void fail_words(const char *words) {
+    tell_words(words);
     exit(FAILED);
 }

@@ -104,7 +104,7 @@ static enum cause looks_like(struct bytes file) {
     if (line.len > 2 && line.at[0] == ':' && strchr("0123456789abcdefABCDEF", line.at[1] ? line.at[1] : '!')) return BROKEN_HEX;
     if (line.len > 2 && (line.at[0] == 'S' || line.at[0] == 's') && line.at[1] >= '0' && line.at[1] <= '9') return BROKEN_SREC;
     for (size_t i = 0; i < sizeof words / sizeof *words; i++)
-        if (line.len >= strlen(words[i]) && memcmp(line.at, words[i], strlen(words[i])) == 0) return BROKEN_WORDS;
+        if (begins(line, words[i])) return BROKEN_WORDS;
     return BROKEN;
 }
 
