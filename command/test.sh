@@ -50,7 +50,7 @@ for call in 'layout worked.form' 'map worked.form' 'map --lines worked.form' 'ih
 done
 ends 0 '"$D" layout worked.form >/dev/null 2>&-'
 ends 1 '"$D" layout clamp-mark-after.form >/dev/null 2>&-'
-ends 2 'trap "" PIPE; { sleep .3; "$D" ihex sequencer.form --whole; echo $? >status; } | true; exit "$(cat status)"'
+ends 2 '{ sleep .3; "$D" ihex sequencer.form --whole; echo $? >status; } | true; exit "$(cat status)"'
 for call in 'layout sequencer.form' 'ihex sequencer.form --whole' 'srec sequencer.form --whole' 'convert sequencer.form --to 2' 'rehex s.hex'; do
     ends 2 "ulimit -f 4; \"\$D\" $call >big"
     ends 2 "ulimit -f 4; \"\$D\" $call -o big2"
@@ -118,6 +118,13 @@ for locale in tr_TR.UTF-8 de_DE.UTF-8 ja_JP.SJIS C POSIX none; do
 --whole | cmp - s.hex"
     ends 1 "LC_ALL=$locale \"\$D\" map clamp-mark-after.form >a; status=\$?; LC_ALL=C \"\$D\" map clamp-mark-after.form >b 2>/dev/null; cmp a b && exit \$status"
 done
+# what cannot be asked for cannot be in the way, also where this machine has no other locale
+if command -v nm >/dev/null 2>&1; then
+    holds 'nm -u "$D" | grep -q "[ _]write"'
+    holds '! nm -u "$D" | grep -E "[ _](setlocale|newlocale|uselocale|getenv|secure_getenv|environ|__environ|system|popen|exec[a-z]*|fork|mkstemp|tmpfile)(@|$)"'
+else
+    echo "skipped: what the command asks of the system, for want of nm"
+fi
 odd=$(printf 'od\377d\033[31m\n\303\244.form')
 cp worked.form "$odd" && cp clamp-mark-after.form "x$odd" || wrong=1
 export odd
@@ -137,6 +144,11 @@ done
 for call in 'ihex sequencer.form --whole --load=0x10 --fill=full' 'bench s.hex s.hex --range=0 4' 'layout -- worked.form' 'layout --nothing --help' \
     'layout --page=8 --page 16 --fill inherited worked.form'; do
     case $call in *--page=8*) ends 1 "\"\$D\" $call" ;; *) ends 0 "\"\$D\" $call" ;; esac
+done
+
+for word in --page --fill --foo; do
+    ends 2 "\"\$D\" layout worked.form $word \"\$odd\""
+    holds '[ "$(LC_ALL=C tr -d "\303\244\n -~" <"'"$room"'/err" | wc -c)" -eq 0 ] && [ "$(wc -l <"'"$room"'/err")" -eq 1 ]'
 done
 
 # names have the sum of their layout file: stale ones are told and not used, given ones refused; a conversion writes those of its result
