@@ -11,7 +11,7 @@ struct choices choices_of(const struct asked *asked) {
 }
 
 int refuse(const struct refusal *r, const char *words) {
-    tell("refused with %d: %s", r->number, words);
+    tell_user("refused with %d: %s", r->number, words);
     return REFUSED;
 }
 
@@ -28,7 +28,7 @@ int finish(const struct asked *asked, const struct text *text, struct text *json
 static int print_layout(const struct asked *asked, struct bytes text, const char *refused) {
     if (!refused) return answer(text, asked->out);
     print_answer(text);
-    tell("%s", refused);
+    tell_user("%s", refused);
     return REFUSED;
 }
 
@@ -88,7 +88,7 @@ static int is_of_layout(const struct refusal *r) { return r->number < 15 ? r->nu
 /* Whether the layout, or its conversion, is refused so; what it says instead goes to standard error. */
 static int is_so(const struct refusal *r, struct refusal found, const char *file) {
     if (found.number == r->number && found.place[0] == r->place[0] && found.place[1] == r->place[1]) return 1;
-    tell("%s does not have this refusal: it is %s", escaped(called(file)),
+    tell_user("%s does not have this refusal: it is %s", escaped(called(file)),
          found.number ? spelled(&found) : "accepted; --fill, --page and --to are those of the refused call");
     return 0;
 }

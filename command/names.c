@@ -101,7 +101,7 @@ const struct names *find_names(const char *form, const char *given, struct bytes
     if (given && fault) fail("%s is not a names file: %s", name, fault);
     if (given) fail("%s does not belong to %s: cksum %s, and %s has %s", name, layout, belongs, layout, has);
     if (!fault) fault = shown("they belong to another layout file (cksum %s, and %s has %s)", belongs, layout, has);
-    tell("the names of %s are left out: %s", name, fault);
+    tell_user("the names of %s are left out: %s", name, fault);
     return NULL;
 }
 

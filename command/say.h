@@ -43,7 +43,7 @@ const char *both(long long number); /* in decimal, and from 10 on in hex */
 const char *or_dash(long long number); /* - for NONE */
 
 /* A line on standard error, as printf has it; the second ends the command with it. */
-#define tell(...) tell_words(shown(__VA_ARGS__))
+#define tell_user(...) tell_words(shown(__VA_ARGS__))
 #define fail(...) fail_words(shown(__VA_ARGS__))
 void tell_words(const char *words);
 NEVER_RETURNS void fail_words(const char *words);

@@ -68,6 +68,48 @@ else
     echo "left out: a full disk, since none can be mounted here; a limit on files stands for it"
 fi
 
+# a system whose calls fail late, or do a part: what writes, closes, syncs and renames is asked whether it did
+cat >faults.c <<'SOURCE'
+#define _GNU_SOURCE
+#include <errno.h>
+#include <fcntl.h>
+#include <stdlib.h>
+#include <string.h>
+#include <sys/stat.h>
+#include <sys/syscall.h>
+#include <unistd.h>
+static int is(const char *call) { return getenv("FAULT") && strcmp(getenv("FAULT"), call) == 0; }
+static int fails(const char *call, long done) { return is(call) ? (errno = EIO, -1) : (int)done; }
+int fsync(int fd) { return fails("fsync", syscall(SYS_fsync, fd)); }
+int fchmod(int fd, mode_t mode) { return fails("fchmod", syscall(SYS_fchmod, fd, mode)); }
+int rename(const char *from, const char *to) { return is("rename") ? (errno = EIO, -1) : (int)syscall(SYS_renameat2, AT_FDCWD, from, AT_FDCWD, to, 0); }
+int close(int fd) {
+    int is_input = (fcntl(fd, F_GETFL) & O_ACCMODE) == O_RDONLY;
+    return fails(is_input ? "close of an input" : "close", syscall(SYS_close, fd));
+}
+static ssize_t partly(long call, int fd, void *at, size_t n) {
+    static int turn;
+    if (is("interrupted") && turn++ % 2 == 0) return errno = EINTR, -1;
+    return syscall(call, fd, at, is("part") && n > 7 ? 7 : n);
+}
+ssize_t read(int fd, void *at, size_t n) { return partly(SYS_read, fd, at, n); }
+ssize_t write(int fd, const void *at, size_t n) { return partly(SYS_write, fd, (void *)at, n); }
+SOURCE
+if "${CC:-cc}" -shared -fPIC -o faults.so faults.c 2>/dev/null && FAULT=fsync LD_PRELOAD=./faults.so "$D" layout worked.form -o x 2>/dev/null; [ "$?" -eq 2 ]; then
+    cp s.hex late.hex
+    for fault in fsync fchmod rename close 'close of an input'; do
+        ends 2 "FAULT='$fault' LD_PRELOAD=./faults.so \"\$D\" ihex worked.form --whole -o late.hex"
+        holds 'cmp s.hex late.hex && [ -z "$(ls -A | grep "^\.denkumari")" ]'
+    done
+    ends 2 'FAULT=close LD_PRELOAD=./faults.so "$D" ihex worked.form --whole >late'
+    for fault in part interrupted; do
+        ends 0 "FAULT=$fault LD_PRELOAD=./faults.so \"\$D\" ihex sequencer.form --whole >late && cmp late s.hex"
+        ends 0 "FAULT=$fault LD_PRELOAD=./faults.so \"\$D\" rehex s.hex --to hex -o late.hex && cmp late.hex s.hex"
+    done
+else
+    echo "left out: calls that fail late, since no library can be put ahead of the system's here"
+fi
+
 # -o: whole or not at all, mode kept, through links, never an input
 for mode in 600 640 444 4755; do
     holds "rm -f m; cp s.hex m; chmod $mode m; \"\$D\" ihex worked.form --whole -o m; [ \"\$(stat -c %a m)\" = $mode ] && ! cmp -s m s.hex"
