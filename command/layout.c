@@ -91,14 +91,6 @@ struct layout *read_layout(struct bytes file) {
     return l;
 }
 
-struct layout *read_mapped(struct bytes file, struct choices c) {
-    struct layout *l = read_layout(file);
-    take_text(l, proved_map(file, c));
-    l->is_full = c.fill;
-    l->room = c.room;
-    return l;
-}
-
 enum { NUMBERS = 10 };
 
 /* The numbers behind a line's first word, NONE for a lone -: how many there are. */
@@ -137,27 +129,24 @@ const char *spelled(const struct refusal *r) {
 
 static void take_line(struct layout *l, struct bytes line) {
     long long n[NUMBERS] = {0};
-    int count = begins(line, "image") ? 0 : numbers_of(line, n);
+    int count = numbers_of(line, n);
     if (begins(line, "file ")) l->passes = (int)n[3], l->has_map = 1;
     if (begins(line, "fault ")) l->fault = n[0];
-    if (begins(line, "passes ")) l->passes_to = (int)n[0];
     if (begins(line, "refused ")) l->refusal = refusal_of(line);
-    if (begins(line, "image ")) l->image.at = line.at + 6, l->image.len = line.len - 6;
     if (begins(line, "bank ") && count == 10) l->bank[n[0]].padding = n[8], l->bank[n[0]].units = n[9];
-    if (begins(line, "block ") && l->blocks < 4096) {
-        struct block b = {n[0], n[1]};
-        l->block[l->blocks++] = b;
-    }
-    if (begins(line, "node ") && count == 7) {
-        struct node node = {(int)n[1], l->node[n[0]].operand, n[2], n[3], n[4], n[5], n[6]};
-        l->node[n[0]] = node;
-        l->shown = n[0] + 1;
-    }
+    if (!begins(line, "node ") || count != 7) return;
+    struct node node = {(int)n[1], l->node[n[0]].operand, n[2], n[3], n[4], n[5], n[6]};
+    l->node[n[0]] = node;
+    l->shown = n[0] + 1;
 }
 
-void take_text(struct layout *l, struct bytes text) {
-    struct bytes line;
-    while (next_line(&text, &line)) take_line(l, line);
+struct layout *read_mapped(struct bytes file, struct choices c) {
+    struct layout *l = read_layout(file);
+    struct bytes map = proved_map(file, c), line;
+    while (next_line(&map, &line)) take_line(l, line);
+    l->is_full = c.fill;
+    l->room = c.room;
+    return l;
 }
 
 void take_built(struct layout *l, const struct built *b) {

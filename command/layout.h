@@ -22,7 +22,6 @@ struct layout {
     int form, limit, passes, passes_to, has_map, is_full; /* passes that were run, and K of `passes K` */
     long long banks, nodes, rows, values, shown, fault, blocks, room, bits; /* of the image */
     struct refusal refusal;
-    struct bytes image; /* its hex digits, where the proved layout was read */
     struct bank bank[3000];
     struct node node[8200];
     struct block block[4096];
@@ -32,7 +31,6 @@ struct layout {
 
 struct layout *read_layout(struct bytes file);
 struct layout *read_mapped(struct bytes file, struct choices c); /* with what the proved map says of it */
-void take_text(struct layout *l, struct bytes text); /* what the proved map or the proved layout says of it */
 void take_built(struct layout *l, const struct built *b);
 struct refusal refusal_of(struct bytes text); /* what its first line says; number 0 where that is no refusal */
 struct bytes last_line(struct bytes text);

@@ -33,15 +33,16 @@ static int print_layout(const struct asked *asked, struct bytes text, const char
 }
 
 /* What the layout's text says, as JSON. */
-static void put_layout_json(struct text *t, const struct asked *asked, struct layout *l, const struct refusal *r, const char *refused) {
+static void put_layout_json(struct text *t, const struct asked *asked, struct layout *l, const struct built *b, const char *refused) {
     json_open(t, NULL, "{");
     json_word(t, "file", escaped(called(asked->file[0])));
     if (!refused) {
-        json_numbers(t, "passes", l->passes_to);
+        take_built(l, b);
+        json_numbers(t, "passes", b->passes);
         json_blocks(t, l);
-        json_text(t, "image", l->image);
+        json_value(t, "image", image_of(b), 0, (b->bits + 3) / 4 * 4);
     }
-    json_end(t, r, refused);
+    json_end(t, &b->refusal, refused);
 }
 
 int do_layout(struct asked *asked) {
@@ -51,8 +52,9 @@ int do_layout(struct asked *asked) {
     struct layout *l = r.number ? read_mapped(file, choices_of(asked)) : read_layout(file);
     const char *refused = r.number ? refusal_words(l, names, &r, 0) : NULL;
     struct text json = {0};
-    take_text(l, text);
-    if (asked->given & JSON) put_layout_json(&json, asked, l, &r, refused);
+    struct built b = {.refusal = r};
+    if (!refused && asked->given & JSON) b = proved_build(file, choices_of(asked));
+    if (asked->given & JSON) put_layout_json(&json, asked, l, &b, refused);
     return print_layout(asked, asked->given & JSON ? bytes_of(&json) : text, refused);
 }
 

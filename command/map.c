@@ -11,19 +11,12 @@ struct box {
 };
 struct figures {
     struct box *box;
-    long long boxes, *before, *advance, skipped[16], skipped_units[16], used[16], unused[16];
+    long long boxes, *before, *advance, used[16], unused[16];
 };
 
 static void put_box(struct figures *f, long long bank, long long from, long long size, int is_padding) {
     struct box b = {bank, from, from + size, is_padding};
-    f->box[f->boxes++] = b;
-}
-
-static void put_skip(struct figures *f, const struct layout *l, long long bank, long long from, long long size) {
-    if (size == 0) return;
-    put_box(f, bank, from, size, 1);
-    f->skipped[bank] += size;
-    f->skipped_units[bank] += size / (l->bank[bank].unit ? l->bank[bank].unit : 1);
+    if (size > 0) f->box[f->boxes++] = b;
 }
 
 static int by_from(const void *a, const void *b) {
@@ -34,8 +27,7 @@ static int by_from(const void *a, const void *b) {
 /* The bits that a bank's boxes take, each bit once, below a limit where there is one. The boxes ascend. */
 static long long taken(const struct figures *f, long long bank, int with_padding, long long limit) {
     long long reached = 0, sum = 0;
-    for (long long i = 0; i < f->boxes; i++) {
-        const struct box *b = &f->box[i];
+    for (const struct box *b = f->box; b < f->box + f->boxes; b++) {
         if (b->bank != bank || (b->is_padding && !with_padding)) continue;
         long long to = limit != NONE && b->to > limit ? limit : b->to, from = b->from < reached ? reached : b->from;
         if (to <= from) continue;
@@ -45,34 +37,40 @@ static long long taken(const struct figures *f, long long bank, int with_padding
     return sum;
 }
 
+/* Whether a bank's padding adds up to what the proved map says of it, in bits and in units. */
+static int is_padded_so(const struct figures *f, const struct bank *bank, long long number) {
+    long long bits = 0, units = 0;
+    for (const struct box *b = f->box; b < f->box + f->boxes; b++) {
+        if (b->bank != number || !b->is_padding) continue;
+        bits += b->to - b->from;
+        units += (b->to - b->from) / bank->unit;
+    }
+    return bits == bank->padding && units == bank->units;
+}
+
 /* Where each bank stands after each node: only a symbol may be found past that, by its label alignment. 0 where that is not so. */
 static int walk(struct figures *f, const struct layout *l) {
     long long at[16] = {0}, row = row_of(l, l->passes);
     for (long long i = 0; i < l->shown; i++) {
         const struct node *n = &l->node[i];
         if (n->bank < 0 || n->bank >= 16 || n->bank >= l->banks) return 0;
-        f->before[i] = n->position - at[n->bank];
-        if (f->before[i] != 0 && n->kind != LABEL && n->kind != CONSTANT) return 0;
-        put_skip(f, l, n->bank, at[n->bank], f->before[i]);
+        long long before = f->before[i] = n->position - at[n->bank];
+        if (before < 0 || (before > 0 && n->kind != LABEL && n->kind != CONSTANT)) return 0;
+        put_box(f, n->bank, at[n->bank], before, 1);
         f->advance[i] = n->kind == ALIGN ? distance(&l->bank[n->bank], n->position, number_at(l, i, row)) : n->bits;
-        if (n->kind == ALIGN) put_skip(f, l, n->bank, n->position, f->advance[i]);
-        else if (is_placed(l, i) && i != l->fault) put_box(f, n->bank, n->position, n->bits, 0);
+        if (n->kind == ALIGN || (is_placed(l, i) && i != l->fault)) put_box(f, n->bank, n->position, f->advance[i], n->kind == ALIGN);
         at[n->bank] = n->kind == ADDR ? number_at(l, i, row) : n->position + f->advance[i];
     }
     return 1;
 }
 
 static struct figures reckon(const struct layout *l) {
-    struct figures f;
     size_t nodes = (size_t)l->shown + 1;
-    memset(&f, 0, sizeof f);
-    f.box = memory(2 * nodes, sizeof *f.box);
-    f.before = memory(nodes, sizeof *f.before);
-    f.advance = memory(nodes, sizeof *f.advance);
+    struct figures f = {.box = memory(2 * nodes, sizeof *f.box), .before = memory(nodes, sizeof *f.before), .advance = memory(nodes, sizeof *f.advance)};
     int is_right = walk(&f, l);
     qsort(f.box, (size_t)f.boxes, sizeof *f.box, by_from);
     for (long long i = 0; i < l->banks && i < 16; i++) {
-        is_right = is_right && f.skipped[i] == l->bank[i].padding && f.skipped_units[i] == l->bank[i].units;
+        is_right = is_right && is_padded_so(&f, &l->bank[i], i);
         f.used[i] = taken(&f, i, 0, NONE);
         f.unused[i] = l->bank[i].size == NONE ? NONE : l->bank[i].size - taken(&f, i, 1, l->bank[i].size);
     }
