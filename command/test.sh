@@ -95,7 +95,7 @@ static ssize_t partly(long call, int fd, void *at, size_t n) {
 ssize_t read(int fd, void *at, size_t n) { return partly(SYS_read, fd, at, n); }
 ssize_t write(int fd, const void *at, size_t n) { return partly(SYS_write, fd, (void *)at, n); }
 SOURCE
-if "${CC:-cc}" -shared -fPIC -o faults.so faults.c 2>/dev/null && FAULT=fsync LD_PRELOAD=./faults.so "$D" layout worked.form -o x 2>/dev/null; [ "$?" -eq 2 ]; then
+if "${CC:-cc}" -shared -fPIC -o faults.so faults.c 2>/dev/null && sync s.hex && ! FAULT=fsync LD_PRELOAD=./faults.so sync s.hex 2>/dev/null; then
     cp s.hex late.hex
     for fault in fsync fchmod rename close 'close of an input'; do
         ends 2 "FAULT='$fault' LD_PRELOAD=./faults.so \"\$D\" ihex worked.form --whole -o late.hex"
@@ -163,7 +163,7 @@ done
 # what cannot be asked for cannot be in the way, also where this machine has no other locale
 if command -v nm >/dev/null 2>&1; then
     holds 'nm -u "$D" | grep -q "[ _]write"'
-    holds '! nm -u "$D" | grep -E "[ _](setlocale|newlocale|uselocale|getenv|secure_getenv|environ|__environ|system|popen|exec[a-z]*|fork|mkstemp|tmpfile)(@|$)"'
+    holds '! nm -u "$D" | grep -E "[ _](setlocale|newlocale|uselocale|(secure_)?getenv|environ|system|popen|exec[a-z]*|fork|mkstemp|tmpfile)(@|$)"'
 else
     echo "skipped: what the command asks of the system, for want of nm"
 fi

@@ -1,4 +1,5 @@
-/* Which nodes of two layouts are the same, for the page that draws both: compare's own pairs, a line each, OLD NEW CHANGES with - for a node that there is not. */
+/* Which nodes of two layouts are the same, for the page that draws both: compare's own pairs, a line each, OLD NEW CHANGES with - for a node that there is
+ * not. */
 #include "../command/compare.h"
 #include "../command/files.h"
 
