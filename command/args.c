@@ -12,7 +12,7 @@ const struct option options[OPTIONS] = {
 static uint32_t number(const char *name, const char *word) {
     struct bytes spelled = {(const uint8_t *)word, strlen(word)};
     uint32_t n = 0;
-    if (!proved_number(spelled, &n)) fail_name("", name, " takes a number up to 4294967295, decimal or in hex after 0x, not '%s'", word);
+    if (!proved_number(spelled, &n)) fail("%s takes a number up to 4294967295, decimal or in hex after 0x, not '%s'", name, escaped(word));
     return n;
 }
 
@@ -21,7 +21,7 @@ static int is_second(const struct option *o, const char *word) {
     const char *bar = strchr(o->values, '|');
     size_t first = (size_t)(bar - o->values);
     int is_first = strlen(word) == first && memcmp(word, o->values, first) == 0;
-    if (!is_first && strcmp(word, bar + 1) != 0) fail_name("", o->name, " takes %.*s or %s, not '%s'", (int)first, o->values, bar + 1, word);
+    if (!is_first && strcmp(word, bar + 1) != 0) fail("%s takes %.*s or %s, not '%s'", o->name, (int)first, o->values, bar + 1, escaped(word));
     return !is_first;
 }
 
@@ -50,10 +50,7 @@ static void take(struct asked *asked, int at, const char *value, const char *nex
     case OUTPUT: asked->out = file_name(value); break;
     case BOTH_NAMES: asked->names[1] = file_name(next); /* falls through */
     case NAMES: asked->names[0] = file_name(value); break;
-    case RANGE:
-        asked->address = number(o->name, value);
-        asked->count = number(o->name, next);
-        break;
+    case RANGE: asked->range[0] = number(o->name, value), asked->range[1] = number(o->name, next); break;
     default: break;
     }
 }
@@ -61,7 +58,7 @@ static void take(struct asked *asked, int at, const char *value, const char *nex
 static int find_option(const char *word, size_t n, unsigned takes) {
     for (int i = 0; i < OPTIONS; i++)
         if (strlen(options[i].name) == n && memcmp(options[i].name, word, n) == 0 && (takes >> i & 1)) return i;
-    fail_name("there is no option ", word, " (--help lists them)");
+    fail("there is no option %s (--help lists them)", escaped(word));
 }
 
 /* An option and its values: the place of the last word that it takes. */
@@ -82,15 +79,13 @@ static int take_option(struct asked *asked, unsigned takes, int argc, char **arg
 }
 
 struct asked read_words(const struct command *command, int argc, char **argv) {
-    struct asked asked;
+    struct asked asked = {.room = ROOM_USUAL};
     int only_files = 0;
-    memset(&asked, 0, sizeof asked);
-    asked.room = ROOM_USUAL;
     for (int i = 2; i < argc; i++) {
         char *word = argv[i];
         if (!only_files && strcmp(word, "--") == 0) only_files = 1;
         else if (!only_files && word[0] == '-' && word[1] != 0) i = take_option(&asked, command->takes, argc, argv, i);
-        else if (asked.files == command->most) fail_name("one word too many: ", word, " (--help shows the usage)");
+        else if (asked.files == command->most) fail("one word too many: %s (--help shows the usage)", escaped(word));
         else asked.file[asked.files++] = file_name(word);
     }
     if (asked.files < command->least) fail("a file is missing (--help shows the usage)");

@@ -22,7 +22,7 @@ extern const struct option options[OPTIONS];
 struct asked {
     unsigned given;
     uint8_t fill, width;
-    uint32_t page, load, address, count, room;
+    uint32_t page, load, room, range[2];
     const char *to, *out, *names[2], *file[2];
     int files;
 };

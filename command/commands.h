@@ -1,4 +1,4 @@
-/* The commands, each with its status. */
+/* The commands, each with its status, and how they end. */
 #ifndef DENKUMARI_COMMANDS_H
 #define DENKUMARI_COMMANDS_H
 #include "args.h"
@@ -9,8 +9,9 @@
 #include "help.def"
 
 struct choices choices_of(const struct asked *asked);
-struct layout *read_refused(struct bytes file, struct choices c); /* a layout with its map, for words */
-int finish(const struct asked *asked, struct bytes text, const struct text *refused); /* what is refused is printed, and never into a file of its own */
+int refuse(const struct refusal *r, const char *words); /* REFUSED, and on standard error why */
+/* An answer that is text or, with --json, an object: the object alone is printed of what is refused, and never into a file of its own. */
+int finish(const struct asked *asked, const struct text *text, struct text *json, const struct refusal *r, const char *words, int differs);
 void put_table(struct text *t, const char *name, const struct layout *l, const struct names *names); /* the map as tables */
-void put_map_json(struct text *t, const char *name, const struct layout *l, const struct names *names, const struct refusal *r, const struct text *words);
+void json_map(struct text *t, const struct layout *l, const struct names *names);
 #endif

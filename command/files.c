@@ -9,6 +9,8 @@ static size_t input_count;
 
 const char *called(const char *name) { return strcmp(name, "-") == 0 ? "standard input" : name; }
 
+int has_mark(struct bytes file) { return file.len >= 3 && memcmp(file.at, "\xef\xbb\xbf", 3) == 0; }
+
 /* What went wrong, or NULL. */
 static const char *read_from(int from, size_t limit, struct bytes *found) {
     int is_folder;
@@ -16,13 +18,11 @@ static const char *read_from(int from, size_t limit, struct bytes *found) {
     if (is_folder) return "it is a folder";
     if (input_count < sizeof inputs / sizeof *inputs) inputs[input_count++] = input;
     size_t n = 0, room = 65537;
-    uint8_t *at = malloc(room);
-    while (at && n <= limit) {
-        if (n == room) {
-            uint8_t *more = realloc(at, room *= 4);
-            if (!more) return "there is no memory left";
-            at = more;
-        }
+    uint8_t *at = malloc(room), *more = at;
+    while (more && n <= limit) {
+        if (n == room) more = realloc(at, room *= 4);
+        if (!more) break;
+        at = more;
         size_t wanted = limit + 1 < room ? limit + 1 : room;
         long k = read_some(from, at + n, wanted - n);
         if (k < 0) return why();
@@ -31,24 +31,26 @@ static const char *read_from(int from, size_t limit, struct bytes *found) {
     }
     found->at = at;
     found->len = n;
-    return at ? NULL : "there is no memory left";
+    return more ? NULL : "there is no memory left";
+}
+
+/* The same of a name, - being standard input where that is allowed. */
+static const char *read_named(const char *name, int is_standard, size_t limit, struct bytes *found) {
+    int from = is_standard ? 0 : open_input(name);
+    const char *fault = from < 0 ? why() : read_from(from, limit, found);
+    return !fault && !is_standard && close_file(from) != 0 ? why() : fault;
 }
 
 struct bytes read_input(const char *name, size_t limit) {
     struct bytes found = {NULL, 0};
-    int is_standard = strcmp(name, "-") == 0, from = is_standard ? 0 : open_input(name);
-    const char *fault = from < 0 ? why() : read_from(from, limit, &found);
-    if (!fault && !is_standard && close_input(from) != 0) fault = why();
-    if (fault) fail_name("", called(name), " cannot be read: %s", fault);
+    const char *fault = read_named(name, strcmp(name, "-") == 0, limit, &found);
+    if (fault) fail("%s cannot be read: %s", escaped(called(name)), fault);
     return found;
 }
 
 const char *read_beside(const char *name, size_t limit, struct bytes *found) {
-    int from = open_input(name);
-    const char *fault = from < 0 ? why() : read_from(from, limit, found);
-    if (from >= 0 && close_input(from) != 0 && !fault) fault = why();
-    if (!fault && found->len > limit) fault = "it is too long";
-    return fault;
+    const char *fault = read_named(name, 0, limit, found);
+    return !fault && found->len > limit ? "it is too long" : fault;
 }
 
 static int is_input(struct which target) {
@@ -58,7 +60,7 @@ static int is_input(struct which target) {
 }
 
 void print_answer(struct bytes text) {
-    if (write_all(1, text.at, text.len) != 0 || close_output() != 0) fail("the answer could not be written: %s", why());
+    if (write_all(1, text.at, text.len) != 0 || close_file(1) != 0) fail("the answer could not be written: %s", why());
 }
 
 int answer(struct bytes text, const char *out) {

@@ -1,33 +1,32 @@
 /* JSON, written so that nothing has to be remembered: whether a comma is due tells the last character. */
 #include "json.h"
-#include "files.h"
-#include <stdlib.h>
 #include <string.h>
 
-static void put_key(struct text *t, const char *key) {
+static void put_key(struct text *t, const char *key, int size) {
     if (t->len > 0 && t->at[t->len - 1] != '{' && t->at[t->len - 1] != '[') put(t, ",");
-    if (key) put(t, "\"%s\":", key);
+    if (key) put(t, "\"%.*s\":", size, key);
 }
 
 void json_open(struct text *t, const char *key, const char *bracket) {
-    put_key(t, key);
+    put_key(t, key, key ? (int)strlen(key) : 0);
     put(t, "%s", bracket);
 }
 
-void json_numbers(struct text *t, const char *keys, const int64_t *n) {
-    for (size_t size; *keys; keys += size + (keys[size] == ' '), n++) {
+void json_list(struct text *t, const char *keys, const long long *n) {
+    for (size_t size; *keys; keys += size + (keys[size] == ' ')) {
         size = strcspn(keys, " ");
-        int or_none = keys[size - 1] == '?';
-        put_key(t, NULL);
-        put(t, "\"%.*s\":", (int)size - or_none, keys);
-        if (or_none && *n == NONE) put(t, "null");
-        else put(t, "%lld", (long long)*n);
+        char last = keys[size - 1];
+        int is_end = last == '}' || last == ']', is_begin = last == '{' || last == '[', named = (int)size - (is_begin || last == '?');
+        if (!is_end) put_key(t, named ? keys : NULL, named);
+        if (is_begin || is_end) put(t, "%c", last);
+        else if (last == '?' && *n == NONE) put(t, "null");
+        else put(t, "%lld", *n);
+        n += !is_begin && !is_end;
     }
 }
 
 void json_text(struct text *t, const char *key, struct bytes text) {
-    put_key(t, key);
-    put(t, "\"");
+    json_open(t, key, "\"");
     for (size_t i = 0; i < text.len; i++) {
         if (text.at[i] < 32) put(t, "\\u%04x", (unsigned)text.at[i]);
         else put(t, text.at[i] == '"' || text.at[i] == '\\' ? "\\%c" : "%c", text.at[i]);
@@ -41,44 +40,34 @@ void json_word(struct text *t, const char *key, const char *word) {
     else json_open(t, key, "null");
 }
 
-void json_name(struct text *t, const char *key, const char *name) {
-    struct text shown = {0};
-    put_escaped(&shown, called(name));
-    json_text(t, key, bytes_of(&shown));
-    free(shown.at);
+void json_value(struct text *t, const char *key, struct image image, long long from, long long bits) {
+    json_open(t, key, image.at ? "\"" : "null");
+    if (image.at) put_value(t, image, from, bits);
+    if (image.at) put(t, "\"");
 }
 
-void json_node(struct text *t, const struct layout *l, const struct names *names, int64_t node) {
+void json_node(struct text *t, const struct layout *l, const struct names *names, long long node) {
     const struct node *n = &l->node[node];
-    const struct bytes none = {NULL, 0}, name = has_name(names, node) ? names->name[node] : none, place = has_name(names, node) ? names->place[node] : none;
-    json_numbers(t, "node bank position address output?", (const int64_t[]){node, n->bank, n->position, n->address, n->output});
+    json_numbers(t, "node bank position address output?", node, n->bank, n->position, n->address, n->output);
     json_word(t, "kind", kind_words[n->kind]);
-    json_text(t, "name", name);
-    json_text(t, "source", place);
+    json_word(t, "name", name_of(names, node));
+    json_word(t, "source", place_of(names, node));
 }
 
-void json_block(struct text *t, struct block b) {
-    json_open(t, NULL, "{");
-    json_numbers(t, "start size", (const int64_t[]){b.start, b.size});
-    put(t, "}");
-}
-
-void json_blocks(struct text *t, const char *key, const struct layout *l) {
-    json_open(t, key, "[");
-    for (int64_t i = 0; i < l->blocks; i++) json_block(t, l->block[i]);
+void json_blocks(struct text *t, const struct layout *l) {
+    json_open(t, "blocks", "[");
+    for (long long i = 0; i < l->blocks; i++) json_numbers(t, "{ start size }", l->block[i].start, l->block[i].size);
     put(t, "]");
 }
 
-void json_refusal(struct text *t, const struct refusal *r, const struct text *words) {
-    if (!r) {
-        json_word(t, "refused", NULL);
-        return;
+void json_end(struct text *t, const struct refusal *r, const char *words) {
+    if (r->number == 0) json_open(t, "refused", "null");
+    else {
+        json_numbers(t, "refused{ number place[", r->number);
+        for (int i = 0; i < r->places; i++) put(t, "%s%lld", i ? "," : "", r->place[i]);
+        put(t, "]");
+        json_word(t, "words", words);
+        put(t, "}");
     }
-    json_open(t, "refused", "{");
-    json_numbers(t, "number", (const int64_t[]){r->number});
-    json_open(t, "place", "[");
-    for (int i = 0; i < r->places; i++) put(t, "%s%lld", i ? "," : "", (long long)r->place[i]);
-    put(t, "]");
-    json_text(t, "words", bytes_of(words));
-    put(t, "}");
+    put(t, "}\n");
 }

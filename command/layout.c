@@ -1,21 +1,21 @@
 /* Reads a layout file of either form as far as it goes, and what the proved functions said of it. For words and tables alone: no answer stands on it. */
 #include "layout.h"
-#include <stdlib.h>
 #include <string.h>
 
 const char *const kind_words[11] = {"nothing",           "bank switch", "label", "constant", "instruction", "data",
                                     "data of open size", "reserve",     "align", "addr",     "assert"};
 
-static int64_t word(const struct layout *l, size_t at, int count) {
+static long long word(const struct layout *l, size_t at, int count) {
     uint64_t v = 0;
     for (int i = 0; i < count; i++) v = v << 8 | l->file.at[at + (size_t)i];
-    return (int64_t)v;
+    return (long long)v;
 }
 
-static int64_t longest(const struct layout *l) { return l->form == 2 ? 65536 : 65000; }
-
-/* The length of each kind of field; the values have any. */
-static int64_t wanted(const struct layout *l, int place) { return place == 1 ? 22 + l->form : place == 2 ? 5 : place == 3 ? 5 * l->nodes : 1; }
+/* Fields in their order: 1 a bank, 2 a node, 3 a row, 4 the values, 5 the pass limit; 0 for a tag that the form does not have. */
+static int order_of(const struct layout *l, size_t at) {
+    int tag = l->file.at[at];
+    return tag == (l->form == 2 ? 17 : 1) ? 1 : tag >= 2 && tag <= 5 ? tag : 0;
+}
 
 static void take_bank(struct layout *l, size_t at) {
     struct bank *b = &l->bank[l->banks++];
@@ -29,109 +29,81 @@ static void take_bank(struct layout *l, size_t at) {
     b->bit = l->form == 2 ? l->file.at[at + 23] : 0;
 }
 
-static void take_field(struct layout *l, int place, size_t at, int64_t size) {
-    if (place == 1) take_bank(l, at);
-    if (place == 2) {
+static void take_field(struct layout *l, int order, size_t at, long long size) {
+    if (order == 1) take_bank(l, at);
+    if (order == 2) {
         l->node[l->nodes].kind = l->file.at[at];
         l->node[l->nodes++].operand = word(l, at + 1, 4);
     }
-    for (int64_t i = 0; place == 3 && i < l->nodes; i++) {
+    for (long long i = 0; order == 3 && i < l->nodes; i++) {
         l->number[l->rows * l->nodes + i] = (uint32_t)word(l, at + 5 * (size_t)i, 4);
         l->state[l->rows * l->nodes + i] = l->file.at[at + 5 * (size_t)i + 4];
     }
-    if (place == 3) l->rows++;
-    if (place == 4) l->values = size;
-    if (place == 5) l->limit = l->file.at[at];
+    if (order == 3) l->rows++;
+    if (order == 4) l->values = size;
+    if (order == 5) l->limit = l->file.at[at];
 }
 
-/* What is wrong with a field's head, in words behind "field N, at byte B, "; 1 where something is. */
-static int is_bad_field(const struct layout *l, struct text *why, size_t at, int place, int newest, int64_t size) {
+/* What is wrong with the field from byte `at` on, in words behind "field N, at byte B, ", or NULL. */
+static const char *fault_of(const struct layout *l, size_t at, int newest, int is_head) {
     static const char *const named[] = {"", "a bank", "a node", "a row", "the values", "the pass limit"};
-    int tag = l->file.at[at];
-    if (!place) put(why, "has tag %d, which form %d does not have", tag, l->form);
-    else if (newest < 4 ? place < newest || place > 4 : place != 5) put(why, "is %s and out of order", named[place]);
-    else if (place != 4 && size != wanted(l, place)) put(why, "is %s of %lld bytes, not %lld", named[place], (long long)size, (long long)wanted(l, place));
-    else if (place == 1 && l->file.at[at + 25] > 15) put(why, "is a bank with flags %d, above 15", l->file.at[at + 25]);
-    else if (place == 1 && l->form == 2 && l->file.at[at + 26] > 1) put(why, "is a bank with a fill bit of %d, above 1", l->file.at[at + 26]);
-    else return 0;
-    return 1;
-}
-
-/* One field from byte `at` on: its length, or -1 where the file breaks there. */
-static int64_t read_field(struct layout *l, struct text *why, size_t at, int is_head, int *newest) {
-    size_t left = l->file.len - at;
-    int is_cut = at < l->file.len;
-    if (left < 3) {
-        if (is_cut) put(why, "is cut in its head");
-        else put(why, "is missing: the file ends before its %s", *newest < 4 ? "values" : "pass limit");
-        return -1;
-    }
-    int tag = l->file.at[at], place = tag == (l->form == 2 ? 17 : 1) ? 1 : tag >= 2 && tag <= 5 ? tag : 0;
-    int64_t size = word(l, at + 1, 2);
-    if (left - 3 < (size_t)size) put(why, "is cut: it says %lld bytes, and %lld are left", (long long)size, (long long)left - 3);
-    else if (is_head && (size != 1 || l->file.at[at + 3] != 2)) put(why, "is not form 2's head, one byte, 2");
-    else if (is_head) return 3 + size;
-    else if (!is_bad_field(l, why, at, place, *newest, size)) {
-        *newest = place;
-        take_field(l, place, at + 3, size);
-        return 3 + size;
-    }
-    return -1;
+    long long left = (long long)(l->file.len - at) - 3, wanted[] = {0, 22 + l->form, 5, 5 * l->nodes, 0, 1};
+    const uint8_t *field = l->file.at + at;
+    if (left == -3) return shown("is missing: the file ends before its %s", newest < 4 ? "values" : "pass limit");
+    if (left < 0) return "is cut in its head";
+    long long size = word(l, at + 1, 2);
+    int order = order_of(l, at);
+    if (left < size) return shown("is cut: it says %lld bytes, and %lld are left", size, left);
+    if (is_head) return size == 1 && field[3] == 2 ? NULL : "is not form 2's head, one byte, 2";
+    if (!order) return shown("has tag %d, which form %d does not have", field[0], l->form);
+    if (newest < 4 ? order < newest || order > 4 : order != 5) return shown("is %s and out of order", named[order]);
+    if (order != 4 && size != wanted[order]) return shown("is %s of %lld bytes, not %lld", named[order], size, wanted[order]);
+    if (order == 1 && field[25] > 15) return shown("is a bank with flags %d, above 15", field[25]);
+    if (order == 1 && l->form == 2 && field[26] > 1) return shown("is a bank with a fill bit of %d, above 1", field[26]);
+    return NULL;
 }
 
 static void read_fields(struct layout *l) {
-    struct text fault = {0};
+    const char *fault = NULL;
     size_t at = 0;
     int newest = 0;
-    int64_t fields = 0, size = 0;
-    for (; newest != 5; fields++, at += (size_t)size) {
-        size = read_field(l, &fault, at, l->form == 2 && fields == 0, &newest);
-        if (size < 0) break;
+    long long fields = 0;
+    for (; newest != 5; fields++) {
+        fault = fault_of(l, at, newest, l->form == 2 && fields == 0);
+        if (fault) break;
+        newest = order_of(l, at);
+        take_field(l, newest, at + 3, word(l, at + 1, 2));
+        at += 3 + (size_t)word(l, at + 1, 2);
     }
-    if (size >= 0 && at < l->file.len) put(&fault, "is one too many: the pass limit ends a file");
-    if (fault.len == 0) return;
-    l->broken = fields;
-    put(&l->why, "field %lld, at byte %lld, %s", (long long)fields, (long long)at, fault.at);
-    free(fault.at);
+    if (!fault && at < l->file.len) fault = "is one too many: the pass limit ends a file";
+    if (fault) l->why = shown("field %lld, at byte %lld, %s", fields, (long long)at, fault);
 }
 
 struct layout *read_layout(struct bytes file) {
     struct layout *l = memory(1, sizeof *l);
     l->file = file;
     l->form = file.len > 0 && file.at[0] == 16 ? 2 : 1;
-    l->fault = l->broken = NONE;
+    l->fault = NONE;
     l->room = ROOM_USUAL;
-    if ((int64_t)file.len <= longest(l)) read_fields(l);
-    else {
-        l->broken = 0;
-        put(&l->why, "the file is longer than %lld bytes, the most that form %d allows", (long long)longest(l), l->form);
-    }
+    int longest = l->form == 2 ? 65536 : 65000;
+    if (file.len <= (size_t)longest) read_fields(l);
+    else l->why = shown("the file is longer than %d bytes, the most that form %d allows", longest, l->form);
     return l;
 }
 
-/* A line's words in turn: a number, NONE for a lone -. */
-static int64_t next_number(const uint8_t **at, const uint8_t *end) {
-    uint64_t n = 0;
-    int is_below = 0, has_digits = 0;
-    while (*at < end && **at == ' ') ++*at;
-    if (*at < end && **at == '-') is_below = 1, ++*at;
-    for (; *at < end && **at >= '0' && **at <= '9'; ++*at, has_digits = 1) n = 10 * n + (uint64_t)(**at - '0');
-    return !has_digits ? NONE : is_below ? (int64_t)(0 - n) : (int64_t)n;
-}
+enum { NUMBERS = 10 };
 
-static int begins(const uint8_t *at, const uint8_t *end, const char *begin) {
-    size_t n = strlen(begin);
-    return (size_t)(end - at) >= n && memcmp(at, begin, n) == 0;
-}
-
-int is_refusal(struct bytes text, struct refusal *r) {
-    const uint8_t *at = text.at, *end = text.at + text.len;
-    if (!begins(at, end, "refused ")) return 0;
-    at += 8;
-    r->number = (int)next_number(&at, end);
-    r->place[0] = r->place[1] = 0;
-    for (r->places = 0; r->places < 2 && at < end && *at == ' '; r->places++) r->place[r->places] = next_number(&at, end);
-    return 1;
+/* The numbers behind a line's first word, NONE for a lone -: how many there are. */
+static int numbers_of(struct bytes line, long long *n) {
+    const uint8_t *at = memchr(line.at, ' ', line.len), *end = line.at + line.len, *first;
+    int count = 0;
+    for (; at && at < end && *at == ' ' && count < NUMBERS; count++) {
+        uint64_t v = 0;
+        int is_below = ++at < end && *at == '-';
+        for (first = at += is_below; at < end && *at >= '0' && *at <= '9'; at++) v = 10 * v + (uint64_t)(*at - '0');
+        n[count] = at == first ? NONE : (long long)(is_below ? 0 - v : v);
+    }
+    return count;
 }
 
 struct bytes last_line(struct bytes text) {
@@ -141,97 +113,82 @@ struct bytes last_line(struct bytes text) {
     return line;
 }
 
-static void take_node(struct layout *l, const uint8_t *at, const uint8_t *end) {
-    int64_t i = next_number(&at, end);
-    if (i < 0 || i >= 8200) return;
-    struct node *n = &l->node[i];
-    n->kind = (int)next_number(&at, end);
-    n->bank = next_number(&at, end);
-    n->position = next_number(&at, end);
-    n->address = next_number(&at, end);
-    n->output = next_number(&at, end);
-    n->bits = next_number(&at, end);
-    l->shown = i + 1;
+struct refusal refusal_of(struct bytes text) {
+    struct refusal r = {0, 0, {0, 0}};
+    long long n[NUMBERS];
+    if (!begins(text, "refused ")) return r;
+    r.places = numbers_of(text, n) - 1;
+    r.number = (int)n[0];
+    for (int i = 0; i < r.places && i < 2; i++) r.place[i] = n[i + 1];
+    return r;
 }
 
-/* What the map adds to a bank: its padding, in bits and in units, the last two of ten numbers. */
-static void take_padding(struct layout *l, const uint8_t *at, const uint8_t *end) {
-    int64_t i = next_number(&at, end);
-    if (i < 0 || i >= 3000) return;
-    for (int skipped = 0; skipped < 7; skipped++) next_number(&at, end);
-    l->bank[i].padding = next_number(&at, end);
-    l->bank[i].units = next_number(&at, end);
+const char *spelled(const struct refusal *r) {
+    return shown("refused %d %lld%s", r->number, r->place[0], r->places > 1 ? shown(" %lld", r->place[1]) : "");
 }
 
-static void take_line(struct layout *l, const uint8_t *at, const uint8_t *end) {
-    struct bytes line = {at, (size_t)(end - at)};
-    if (begins(at, end, "file ")) {
-        at += 5;
-        for (int i = 0; i < 4; i++) l->passes = (int)next_number(&at, end);
-        l->has_map = 1;
-    } else if (begins(at, end, "bank ")) take_padding(l, at + 5, end);
-    else if (begins(at, end, "node ")) take_node(l, at + 5, end);
-    else if (begins(at, end, "fault ")) at += 6, l->fault = next_number(&at, end);
-    else if (begins(at, end, "passes ")) at += 7, l->passes_to = (int)next_number(&at, end);
-    else if (begins(at, end, "image")) l->image = (const char *)at + 6, l->digits = end - at > 6 ? end - at - 6 : 0;
-    else if (begins(at, end, "block ") && l->blocks < 4096) {
-        at += 6;
-        l->block[l->blocks].start = next_number(&at, end);
-        l->block[l->blocks++].size = next_number(&at, end);
-    } else if (is_refusal(line, &l->refusal)) l->is_refused = 1, l->verdict = line;
+static void take_line(struct layout *l, struct bytes line) {
+    long long n[NUMBERS] = {0};
+    int count = numbers_of(line, n);
+    if (begins(line, "file ")) l->passes = (int)n[3], l->has_map = 1;
+    if (begins(line, "fault ")) l->fault = n[0];
+    if (begins(line, "refused ")) l->refusal = refusal_of(line);
+    if (begins(line, "bank ") && count == 10) l->bank[n[0]].padding = n[8], l->bank[n[0]].units = n[9];
+    if (!begins(line, "node ") || count != 7) return;
+    struct node node = {(int)n[1], l->node[n[0]].operand, n[2], n[3], n[4], n[5], n[6]};
+    l->node[n[0]] = node;
+    l->shown = n[0] + 1;
 }
 
-void take_text(struct layout *l, struct bytes text) {
-    const uint8_t *at = text.at, *end = text.at + text.len, *next;
-    for (; at < end; at = next + 1) {
-        next = memchr(at, '\n', (size_t)(end - at));
-        if (!next) next = end;
-        take_line(l, at, next);
-    }
+struct layout *read_mapped(struct bytes file, struct choices c) {
+    struct layout *l = read_layout(file);
+    struct bytes map = proved_map(file, c), line;
+    while (next_line(&map, &line)) take_line(l, line);
+    l->is_full = c.fill;
+    l->room = c.room;
+    return l;
 }
 
 void take_built(struct layout *l, const struct built *b) {
-    struct text line = {0};
-    l->blocks = (int64_t)b->blocks;
-    for (int64_t i = 0; i < l->blocks; i++) {
-        l->block[i].start = (int64_t)b->offsets[i];
-        l->block[i].size = (int64_t)b->sizes[i];
+    l->blocks = (long long)b->blocks.count;
+    for (size_t i = 0; i < b->blocks.count; i++) {
+        struct block one = {(long long)b->blocks.starts[i], (long long)b->blocks.sizes[i]};
+        l->block[i] = one;
     }
     l->passes_to = (int)b->passes;
-    l->digits = (b->bits + 3) / 4;
-    l->image = b->refusal.number ? NULL : "";
-    put(&line, "refused %d %lld", b->refusal.number, (long long)b->refusal.place[0]);
-    if (b->refusal.places > 1) put(&line, " %lld", (long long)b->refusal.place[1]);
-    if (b->refusal.number) l->verdict = bytes_of(&line);
+    l->bits = b->bits;
+    l->refusal = b->refusal;
 }
 
 /* "Pass n reads row n, or the last row if there are fewer." */
-int64_t row_of(const struct layout *l, int64_t pass) { return (pass < 1 ? 1 : pass > l->rows ? l->rows : pass) - 1; }
+long long row_of(const struct layout *l, long long pass) { return (pass < 1 ? 1 : pass > l->rows ? l->rows : pass) - 1; }
 
 /* Kind 5's number is read in the first row. */
-int64_t number_at(const struct layout *l, int64_t node, int64_t row) {
+long long number_at(const struct layout *l, long long node, long long row) {
     if (row < 0 || row >= l->rows) return 0;
     return l->number[(l->node[node].kind == DATA ? 0 : row) * l->nodes + node];
 }
 
-int64_t bank_at(const struct layout *l, int64_t node) {
-    int64_t bank = 0;
-    for (int64_t i = 0; i <= node && i < l->nodes; i++)
+long long bank_at(const struct layout *l, long long node) {
+    long long bank = 0;
+    for (long long i = 0; i <= node && i < l->nodes; i++)
         if (l->node[i].kind == SWITCH) bank = l->node[i].operand;
     return bank;
 }
 
 /* The distance to an alignment. */
-int64_t distance(const struct bank *b, int64_t position, int64_t alignment) {
+long long distance(const struct bank *b, long long position, long long alignment) {
     if (alignment <= 0) return 0;
-    int64_t r = b->start % alignment;
+    long long r = b->start % alignment;
     if (r < 0) r += alignment;
     r = (r * (b->unit % alignment) + position) % alignment;
     return r ? alignment - r : 0;
 }
 
-int is_written(const struct layout *l, int64_t node) { return l->node[node].kind >= INSTRUCTION && l->node[node].kind <= OPEN; }
+int is_written(const struct layout *l, long long node) { return l->node[node].kind >= INSTRUCTION && l->node[node].kind <= OPEN; }
 
-int is_placed(const struct layout *l, int64_t node) { return l->node[node].kind >= INSTRUCTION && l->node[node].kind <= RESERVE; }
+int is_placed(const struct layout *l, long long node) { return l->node[node].kind >= INSTRUCTION && l->node[node].kind <= RESERVE; }
+
+int is_filled(const struct bank *b) { return b->fill && b->size != NONE && b->offset != NONE; }
 
 int is_beyond(const struct bank *b) { return b->start > 1099511627776 || b->start < -1099511627776; }

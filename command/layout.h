@@ -3,29 +3,25 @@
 #define DENKUMARI_LAYOUT_H
 #include "proved.h"
 
-enum { NONE = -1 }; /* a size, offset, alignment or place in the output that there is not */
 enum { NOTHING, SWITCH, LABEL, CONSTANT, INSTRUCTION, DATA, OPEN, RESERVE, ALIGN, ADDR, ASSERT };
 
 struct bank {
-    int64_t unit, start, size, offset, align, padding, units;
+    long long unit, start, size, offset, align, padding, units;
     int fill, bit;
 };
 struct node {
     int kind;
-    int64_t operand, bank, position, address, output, bits; /* from `bank` on as the map has it */
+    long long operand, bank, position, address, output, bits; /* from `bank` on as the map has it */
 };
 struct block {
-    int64_t start, size;
+    long long start, size;
 };
 struct layout {
     struct bytes file;
-    int form, limit, passes, passes_to, has_map, is_refused, is_full; /* passes that were run, and K of `passes K` */
-    int64_t banks, nodes, rows, values, shown, fault, blocks, digits, room;
-    int64_t broken; /* the first field at which no good file goes on, NONE where there is none */
-    struct text why; /* what is wrong there */
+    const char *why; /* what is wrong with the file, NULL where nothing is */
+    int form, limit, passes, passes_to, has_map, is_full; /* passes that were run, and K of `passes K` */
+    long long banks, nodes, rows, values, shown, fault, blocks, room, bits; /* of the image */
     struct refusal refusal;
-    struct bytes verdict; /* the refusal's line, as it was written */
-    const char *image; /* its hex digits */
     struct bank bank[3000];
     struct node node[8200];
     struct block block[4096];
@@ -34,17 +30,19 @@ struct layout {
 };
 
 struct layout *read_layout(struct bytes file);
-void take_text(struct layout *l, struct bytes text); /* what the proved map or the proved layout says of it */
+struct layout *read_mapped(struct bytes file, struct choices c); /* with what the proved map says of it */
 void take_built(struct layout *l, const struct built *b);
-int is_refusal(struct bytes text, struct refusal *r); /* whether a text is a refusal's line, alone or with others behind it */
+struct refusal refusal_of(struct bytes text); /* what its first line says; number 0 where that is no refusal */
 struct bytes last_line(struct bytes text);
+const char *spelled(const struct refusal *r); /* the refusal's line */
 
 extern const char *const kind_words[11];
-int64_t number_at(const struct layout *l, int64_t node, int64_t row);
-int64_t row_of(const struct layout *l, int64_t pass); /* the row that a pass reads */
-int64_t bank_at(const struct layout *l, int64_t node); /* the bank that a node stands in */
-int64_t distance(const struct bank *b, int64_t position, int64_t alignment);
-int is_written(const struct layout *l, int64_t node);
-int is_placed(const struct layout *l, int64_t node);
+long long number_at(const struct layout *l, long long node, long long row);
+long long row_of(const struct layout *l, long long pass); /* the row that a pass reads */
+long long bank_at(const struct layout *l, long long node); /* the bank that a node stands in */
+long long distance(const struct bank *b, long long position, long long alignment);
+int is_written(const struct layout *l, long long node);
+int is_placed(const struct layout *l, long long node);
+int is_filled(const struct bank *b); /* inside the image */
 int is_beyond(const struct bank *b); /* a start that is refused */
 #endif

@@ -22,17 +22,12 @@ static const struct command commands[] = {
 #include "help.def"
 };
 
-int do_form(struct asked *asked) { fail_name("", asked->file[0], " is shown by a script, which this installation does not have"); }
-
-static int print_text(const struct text *t) {
-    print_answer(bytes_of(t));
-    return DONE;
-}
+int do_form(struct asked *asked) { fail("%s is shown by a script, which this installation does not have", escaped(asked->file[0])); }
 
 static int print_version(void) {
     struct text t = {0};
     put(&t, "denkumari " DENKUMARI_VERSION "\nkit " DENKUMARI_KIT "\ncommit " DENKUMARI_COMMIT "\nsources " DENKUMARI_SOURCES "\n");
-    return print_text(&t);
+    return answer(bytes_of(&t), NULL);
 }
 
 static int print_help(void) {
@@ -44,7 +39,7 @@ static int print_help(void) {
             "What is printed comes from the proved functions: portable/ has them as C, printed from the very term that the proofs speak of, and its head\n"
             "names the sources and the kit. The command around them (command/) is written by hand: it reads, calls, and writes whole or not at all.\n"
             "Status 0: done; 1: refused (for compare: a difference), with the reason in words on standard error; 2: anything else.\n");
-    return print_text(&t);
+    return answer(bytes_of(&t), NULL);
 }
 
 static int print_usage(const struct command *c) {
@@ -58,7 +53,7 @@ static int print_usage(const struct command *c) {
         put(&words, "  %s%s%-*s  %s\n", o->name, blank, 22 - (int)(strlen(o->name) + strlen(blank)), o->values, o->words);
     }
     put(&t, " %s\n%s%s", c->files, words.at, c->text);
-    return print_text(&t);
+    return answer(bytes_of(&t), NULL);
 }
 
 int main(int argc, char **argv) {
@@ -70,11 +65,13 @@ int main(int argc, char **argv) {
     if (strcmp(argv[1], "--version") == 0) return print_version();
     for (size_t i = 0; i < sizeof commands / sizeof *commands; i++)
         if (strcmp(argv[1], commands[i].name) == 0) command = &commands[i];
-    if (!command) fail_name(argv[1][0] == '-' ? "there is no option " : "there is no command ", argv[1], " (--help lists them)");
+    if (!command) fail("there is no %s %s (--help lists them)", argv[1][0] == '-' ? "option" : "command", escaped(argv[1]));
     snprintf(tool, 40, "denkumari %s", command->name);
     for (int i = 2; i < argc && strcmp(argv[i], "--") != 0; i++)
         if (strcmp(argv[i], "--help") == 0) return print_usage(command);
     struct asked asked = read_words(command, argc, argv);
     if (asked.given & (SVG | HTML)) fail("a script does that, which this installation does not have");
+    if (asked.files == 2 && (command->takes & OUTPUT) && strcmp(asked.file[0], "-") == 0 && strcmp(asked.file[1], "-") == 0)
+        fail("standard input can be read once, and both files are -");
     return command->run(&asked);
 }

@@ -2,34 +2,35 @@
 #include "names.h"
 #include "files.h"
 #include "system.h"
-#include <stdio.h>
-#include <stdlib.h>
 #include <string.h>
 
-static int is_plain(const uint8_t *at, size_t n) {
-    for (size_t i = 0, size; i < n; i += size) {
-        size = character(at + i, n - i);
+enum { NODES = 8200 };
+
+static int is_plain(struct bytes b) {
+    for (size_t i = 0, size; i < b.len; i += size) {
+        size = character(b.at + i, b.len - i);
         if (size == 0) return 0;
     }
     return 1;
 }
 
-/* A line: its node's number, or -1 where it is none. */
-static int64_t read_line(struct names *names, const uint8_t *at, const uint8_t *end) {
-    int64_t node = 0;
-    const uint8_t *digits = at, *name, *place;
-    if (end > at && end[-1] == '\r') end--;
-    for (; at < end && *at >= '0' && *at <= '9'; at++) node = node > 99999999 ? node : 10 * node + (*at - '0');
-    if (at == digits || at == end || *at != '\t') return -1;
-    name = at + 1;
-    place = memchr(name, '\t', (size_t)(end - name));
-    if (!place || !is_plain(name, (size_t)(place - name)) || !is_plain(place + 1, (size_t)(end - place - 1))) return -1;
-    if (node >= 8200) return node;
-    names->name[node].at = name;
-    names->name[node].len = (size_t)(place - name);
-    names->place[node].at = place + 1;
-    names->place[node].len = (size_t)(end - place - 1);
-    return node;
+/* What stands ahead of a line's next tab, or of its end. */
+static struct bytes next_part(struct bytes *line) {
+    const uint8_t *tab = line->len > 0 ? memchr(line->at, '\t', line->len) : NULL;
+    struct bytes part = {line->at, tab ? (size_t)(tab - line->at) : line->len};
+    line->at += part.len + (tab != NULL);
+    line->len -= part.len + (tab != NULL);
+    return part;
+}
+
+/* A number of digits alone, above every node's where it is too long; -1 where it is none. */
+static long long number_of(struct bytes digits) {
+    long long n = 0;
+    for (size_t i = 0; i < digits.len; i++) {
+        if (digits.at[i] < '0' || digits.at[i] > '9') return -1;
+        n = n > 99999999 ? n : 10 * n + (digits.at[i] - '0');
+    }
+    return digits.len > 0 ? n : -1;
 }
 
 static uint32_t shifted(uint32_t crc, size_t byte) {
@@ -46,105 +47,83 @@ static uint32_t cksum(struct bytes file) {
     return ~crc;
 }
 
-static const uint8_t *skip_digits(const uint8_t *at, const uint8_t *end) {
-    while (at < end && *at >= '0' && *at <= '9') at++;
-    return at;
+static const char *sum_of(struct bytes file) { return shown("%lu %llu", (unsigned long)cksum(file), (unsigned long long)file.len); }
+
+/* A line: its node's number, or -1 where it is none. The first may say of which layout file the names are: `form`, the sum and the length. */
+static long long read_line(struct names *names, struct bytes line, const char **belongs) {
+    int tabs = 0;
+    for (size_t i = 0; i < line.len; i++) tabs += line.at[i] == '\t';
+    struct bytes first = next_part(&line), name = next_part(&line), place = line;
+    long long node = number_of(first);
+    if (belongs && tabs == 2 && first.len == 4 && memcmp(first.at, "form", 4) == 0 && number_of(name) >= 0 && number_of(place) >= 0) {
+        *belongs = shown("%.*s %.*s", (int)name.len, (const char *)name.at, (int)place.len, (const char *)place.at);
+        return NONE;
+    }
+    if (node < 0 || tabs != 2 || !is_plain(name) || !is_plain(place)) return -2;
+    if (node < NODES) {
+        names->name[node] = shown("%.*s", (int)name.len, (const char *)name.at);
+        names->place[node] = shown("%.*s", (int)place.len, (const char *)place.at);
+    }
+    return node;
 }
 
-/* Whether a first line says of which layout file the names are: `form`, the sum and the length, tabs between. Its numbers go into `belongs`. */
-static int is_first_line(const uint8_t *at, const uint8_t *end, struct text *belongs) {
-    if (end > at && end[-1] == '\r') end--;
-    if (end - at < 8 || memcmp(at, "form\t", 5) != 0) return 0;
-    const uint8_t *sum = at + 5, *tab = skip_digits(sum, end);
-    if (tab == sum || tab + 1 >= end || *tab != '\t' || skip_digits(tab + 1, end) != end) return 0;
-    put(belongs, "%.*s %.*s", (int)(tab - sum), (const char *)sum, (int)(end - tab - 1), (const char *)tab + 1);
-    return 1;
-}
-
-/* Whether a file is read; if not, `fault` says why. */
-static int read_names(struct names *names, struct bytes file, struct text *fault, struct text *belongs) {
-    const uint8_t *at = file.at, *end = file.at + file.len, *next;
-    int64_t above = -1;
-    if (file.len >= 3 && memcmp(file.at, "\xef\xbb\xbf", 3) == 0) put(fault, "it begins with a byte order mark (EF BB BF)");
-    if (fault->len > 0) return 0;
-    for (long line = 1; at < end; at = next + 1, line++) {
-        next = memchr(at, '\n', (size_t)(end - at));
-        if (!next) next = end;
-        if (line == 1 && is_first_line(at, next, belongs)) continue;
-        int64_t node = read_line(names, at, next);
-        if (node < 0) put(fault, "line %ld is not a number, a name and a place with tabs between", line);
-        else if (node <= above) put(fault, "the node in line %ld is not above that of the line before", line);
-        if (fault->len > 0) return 0;
+/* What is wrong with a names file, or NULL; `belongs` is the sum in its first line, NULL where it has none. */
+static const char *read_names(struct names *names, struct bytes file, const char **belongs) {
+    struct bytes line;
+    long long above = NONE;
+    if (has_mark(file)) return "it begins with a byte order mark (EF BB BF)";
+    for (long number = 1; next_line(&file, &line); number++) {
+        if (line.len > 0 && line.at[line.len - 1] == '\r') line.len--;
+        long long node = read_line(names, line, number == 1 ? belongs : NULL);
+        if (node < NONE) return shown("line %ld is not a number, a name and a place with tabs between", number);
+        if (number > 1 && node <= above) return shown("the node in line %ld is not above that of the line before", number);
         above = node;
     }
-    return 1;
-}
-
-char *names_beside(const char *form) {
-    size_t n = strlen(form);
-    if (n < 5 || strcmp(form + n - 5, ".form") != 0) return NULL;
-    char *name = memory(n + 2, 1);
-    memcpy(name, form, n - 5);
-    strcpy(name + n - 5, ".names");
-    return name;
-}
-
-/* Names that are of another layout file: told, or, where they were given, the end. */
-static struct names *stale(const char *name, int is_given, const char *form, const char *belongs, const char *has) {
-    struct text said = {0};
-    if (!is_given) put(&said, "the names of ");
-    put_escaped(&said, name);
-    put(&said, is_given ? " does not belong to " : " are left out: they belong to another layout file (");
-    if (is_given) put_escaped(&said, called(form));
-    put(&said, is_given ? ": cksum %s, and " : "cksum %s, and ", belongs);
-    put_escaped(&said, called(form));
-    put(&said, is_given ? " has %s" : " has %s)", has);
-    tell_text(&said);
-    if (is_given) exit(FAILED);
     return NULL;
 }
 
-struct names *find_names(const char *form, const char *given, struct bytes file) {
-    const char *name = given ? given : names_beside(form);
+const char *names_beside(const char *form) {
+    size_t n = strlen(form);
+    return n < 5 || strcmp(form + n - 5, ".form") != 0 ? NULL : shown("%.*s.names", (int)n - 5, form);
+}
+
+/* Names of another layout file, bad ones and ones that cannot be read: told, or, where they were given, the end. */
+const struct names *find_names(const char *form, const char *given, struct bytes file) {
+    const char *name = given ? given : names_beside(form), *belongs = NULL, *layout = escaped(called(form)), *has;
     struct bytes text = {NULL, 0};
-    struct text fault = {0}, belongs = {0}, has = {0};
     if (!name || (!given && !is_regular(name))) return NULL;
     struct names *names = memory(1, sizeof *names);
-    const char *unread = read_beside(name, NAMES_MAX, &text);
-    if (!unread && read_names(names, text, &fault, &belongs)) {
-        put(&has, "%lu %llu", (unsigned long)cksum(file), (unsigned long long)file.len);
-        return belongs.len == 0 || strcmp(belongs.at, has.at) == 0 ? names : stale(name, given != NULL, form, belongs.at, has.at);
-    }
-    if (unread) put(&fault, "%s", unread);
-    if (given) fail_name("", given, " is not a names file: %s", fault.at);
-    struct text said = {0};
-    put(&said, "the names of ");
-    put_escaped(&said, name);
-    put(&said, " are left out: %s", fault.at);
-    tell_text(&said);
+    const char *fault = read_beside(name, NAMES_MAX, &text);
+    if (!fault) fault = read_names(names, text, &belongs);
+    has = sum_of(file);
+    if (!fault && (!belongs || strcmp(belongs, has) == 0)) return names;
+    name = escaped(name);
+    if (given && fault) fail("%s is not a names file: %s", name, fault);
+    if (given) fail("%s does not belong to %s: cksum %s, and %s has %s", name, layout, belongs, layout, has);
+    if (!fault) fault = shown("they belong to another layout file (cksum %s, and %s has %s)", belongs, layout, has);
+    tell_user("the names of %s are left out: %s", name, fault);
     return NULL;
 }
 
-void put_names(struct text *t, const struct names *names, int64_t shift, struct bytes file) {
+void put_names(struct text *t, const struct names *names, long long shift, struct bytes file) {
     put(t, "form\t%lu\t%llu\n", (unsigned long)cksum(file), (unsigned long long)file.len);
-    for (int64_t i = 0; i < 8200; i++) {
+    for (long long i = 0; i < NODES; i++) {
         if (!has_name(names, i) || i + shift < 0) continue;
-        put(t, "%lld\t", (long long)(i + shift));
-        put_bytes(t, names->name[i].at, names->name[i].len);
-        put(t, "\t");
-        put_bytes(t, names->place[i].at, names->place[i].len);
-        put(t, "\n");
+        put(t, "%lld\t%s\t%s\n", i + shift, name_of(names, i), place_of(names, i));
     }
 }
 
-int has_name(const struct names *names, int64_t node) { return names && node >= 0 && node < 8200 && names->name[node].len + names->place[node].len > 0; }
+const char *name_of(const struct names *names, long long node) {
+    return names && node >= 0 && node < NODES && names->name[node] ? names->name[node] : "";
+}
 
-void put_name(struct text *t, const struct names *names, int64_t node) {
-    if (!has_name(names, node)) {
-        put(t, "node %lld", (long long)node);
-        return;
-    }
-    put_bytes(t, names->name[node].at, names->name[node].len);
-    if (names->name[node].len > 0 && names->place[node].len > 0) put(t, ", ");
-    put_bytes(t, names->place[node].at, names->place[node].len);
+const char *place_of(const struct names *names, long long node) {
+    return names && node >= 0 && node < NODES && names->place[node] ? names->place[node] : "";
+}
+
+int has_name(const struct names *names, long long node) { return *name_of(names, node) || *place_of(names, node); }
+
+const char *called_node(const struct names *names, long long node) {
+    const char *name = name_of(names, node), *place = place_of(names, node);
+    return has_name(names, node) ? shown("%s%s%s", name, *name && *place ? ", " : "", place) : shown("node %lld", node);
 }

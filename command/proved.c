@@ -55,53 +55,49 @@ struct bytes proved_rehex(struct bytes file, uint8_t kind, uint8_t format, uint3
     return first_of(rehexed, print_rehex__put_file(kind, format, load, lent(file), image, starts, lengths, out));
 }
 
-static struct bytes bench(int all, uint32_t address, uint32_t count, struct bytes released, struct bytes overlay, uint32_t load) {
-    return first_of(benched, print_bench__put_bench(all != 0, address, count, load, lent(released), lent(overlay), more_bytes, more_offsets, more_sizes, bytes,
-                                                    offsets, sizes, firsts, counts, benched));
+struct bytes proved_bench(struct bytes released, struct bytes overlay, uint32_t load, const uint32_t *range) {
+    return first_of(benched, print_bench__put_bench(!range, range ? range[0] : 0, range ? range[1] : 0, load, lent(released), lent(overlay), more_bytes,
+                                                    more_offsets, more_sizes, bytes, offsets, sizes, firsts, counts, benched));
 }
 
-struct bytes proved_bench(struct bytes released, struct bytes overlay, uint32_t load) {
-    return bench(1, 0, 0, released, overlay, load);
-}
-
-struct bytes proved_bench_range(struct bytes released, struct bytes overlay, uint32_t load, uint32_t address, uint32_t count) {
-    return bench(0, address, count, released, overlay, load);
-}
-
-struct bytes proved_convert(struct bytes file, int form, int *is_refused) {
+struct bytes proved_convert(struct bytes file, int form) {
     mut_u8 out = {converted, sizeof converted};
     form_convert__Conversion c = form == 1 ? form_convert__to_form1(lent(file), out) : form_convert__to_form2(lent(file), out);
-    *is_refused = c.tag != form_convert__Conversion_Converted;
-    return first_of(converted, *is_refused ? print_text__write_refusal(out, 0, &c.u.Refused.f0) : c.u.Converted.f0);
+    int is_refused = c.tag != form_convert__Conversion_Converted;
+    return first_of(converted, is_refused ? print_text__write_refusal(out, 0, &c.u.Refused.f0) : c.u.Converted.f0);
 }
 
 struct built proved_build(struct bytes file, struct choices c) {
     static int64_t addresses[4096];
-    struct built b = {{0, 1, {0, 0}}, memory(c.room + 1, 1), 0, 0, 0, more_offsets, more_sizes};
-    struct dk_layout r = c.has_page ? dk_form_paged(file.at, file.len, c.fill, c.page, b.image, c.room, addresses, COUNT(addresses), offsets, COUNT(offsets),
-                                                    sizes, COUNT(sizes))
-                                    : dk_form(file.at, file.len, c.fill, b.image, c.room, addresses, COUNT(addresses), offsets, COUNT(offsets), sizes,
-                                              COUNT(sizes));
+    uint8_t *image = memory(c.room + 1, 1);
     struct dk_count n = {0, 0, 0};
-    b.refusal.number = (int)r.refusal;
-    b.refusal.places = r.refusal == DK_BANKS_OVERLAP || r.refusal == DK_OVERLAP || r.refusal == DK_OFF_PROFILE ? 2 : 1;
-    b.refusal.place[0] = (int64_t)r.place;
-    b.refusal.place[1] = (int64_t)r.second;
-    b.passes = (int64_t)r.k;
-    b.bits = (int64_t)r.length;
-    if (r.refusal == 0) n = dk_blocks(offsets, (size_t)r.spans, sizes, (size_t)r.spans, more_offsets, COUNT(more_offsets), more_sizes, COUNT(more_sizes));
+    struct dk_layout r = c.has_page ? dk_form_paged(file.at, file.len, c.fill, c.page, image, c.room, addresses, COUNT(addresses), offsets,
+                                                    COUNT(offsets), sizes, COUNT(sizes))
+                                    : dk_form(file.at, file.len, c.fill, image, c.room, addresses, COUNT(addresses), offsets, COUNT(offsets),
+                                              sizes, COUNT(sizes));
+    int places = r.refusal == DK_BANKS_OVERLAP || r.refusal == DK_OVERLAP || r.refusal == DK_OFF_PROFILE ? 2 : 1;
+    if (r.refusal == 0)
+        n = dk_blocks(offsets, (size_t)r.spans, sizes, (size_t)r.spans, more_offsets, COUNT(more_offsets), more_sizes, COUNT(more_sizes));
     if (n.refusal != 0) fail("the layout's blocks do not fit their room");
-    b.blocks = n.count;
+    struct built b = {{(int)r.refusal, places, {(long long)r.place, (long long)r.second}}, image, (long long)r.length, (long long)r.k,
+                      {more_offsets, more_sizes, (size_t)n.count}};
     return b;
 }
 
+/* What is written or verified of an image: its blocks, or the whole of it as one. */
+static struct blocks parts_of(const struct built *b, int is_whole) {
+    static uint64_t start, size;
+    struct blocks whole = {&start, &size, b->bits > 0};
+    size = 8 * ((uint64_t)(b->bits + 7) / 8);
+    return is_whole ? whole : b->blocks;
+}
+
 struct bytes proved_write(const struct built *b, uint8_t format, uint32_t load, int is_whole, struct refusal *r) {
-    uint64_t whole_offset = 0, bytes_long = (uint64_t)(b->bits + 7) / 8, whole_size = 8 * bytes_long;
-    const uint64_t *starts = is_whole ? &whole_offset : b->offsets, *lengths = is_whole ? &whole_size : b->sizes;
-    size_t n = is_whole ? bytes_long > 0 : (size_t)b->blocks, room = (size_t)dk_record_room(bytes_long, n);
+    struct blocks k = parts_of(b, is_whole);
+    size_t image = (size_t)(b->bits + 7) / 8, room = (size_t)dk_record_room(image, k.count);
     uint8_t *text = memory(room + 1, 1);
-    struct dk_count w = format == 0 ? dk_write_hex(b->image, (size_t)bytes_long, starts, n, lengths, n, load, text, room)
-                                    : dk_write_srec(b->image, (size_t)bytes_long, starts, n, lengths, n, load, format, text, room);
+    struct dk_count w = format == 0 ? dk_write_hex(b->image, image, k.starts, k.count, k.sizes, k.count, load, text, room)
+                                    : dk_write_srec(b->image, image, k.starts, k.count, k.sizes, k.count, load, format, text, room);
     if (w.refusal == DK_TOO_SHORT) fail("the records do not fit their room");
     r->number = (int)w.refusal;
     return first_of(text, w.count);
@@ -120,23 +116,19 @@ static size_t from_load(uint64_t shift, size_t n) {
 }
 
 struct verified proved_verify(const struct built *b, struct bytes dump, uint8_t kind, uint32_t base, uint32_t load, int is_whole, struct refusal *r) {
-    size_t image = (size_t)(b->bits + 7) / 8, shift = load - base < ROOM_MAX ? load - base : ROOM_MAX, spare = ROOM_MAX / 8;
-    uint64_t whole_offset = 0, whole_size = 8 * (uint64_t)image, *first = memory(image + 1, sizeof *first), *count = memory(image + 1, sizeof *count);
-    const uint64_t *starts = is_whole ? &whole_offset : b->offsets, *lengths = is_whole ? &whole_size : b->sizes;
-    size_t n = is_whole ? image > 0 : (size_t)b->blocks, given;
-    uint8_t *all = memory(ROOM_MAX + image + 1, 1), *zeros = memory(spare, 1), *kinds = memory(image + 1, 1);
-    struct verified v = {memory(image + 1, sizeof *v.run), 0, 0, all + shift};
+    struct blocks k = parts_of(b, is_whole);
+    size_t image = (size_t)(b->bits + 7) / 8, shift = load - base < ROOM_MAX ? load - base : ROOM_MAX, spare = ROOM_MAX / 8, given;
+    uint8_t *all = memory(ROOM_MAX + image + 1, 1), *zeros = memory(spare, 1);
+    struct verified v = {memory(image + 1, sizeof *v.first), memory(image + 1, sizeof *v.count), memory(image + 1, 1), 0, 0, all + shift};
     struct dk_count read = dk_read_records(kind, dump.at, dump.len, base, all, ROOM_MAX, offsets, COUNT(offsets), sizes, COUNT(sizes), zeros, spare), held;
     r->number = (int)read.refusal;
     if (read.refusal) return v;
     given = from_load(load - base, (size_t)read.count);
-    held = dk_verify(b->image, image, starts, n, lengths, n, v.bytes, ROOM_MAX - shift, offsets, given, sizes, given, first, image, count, image, kinds, image);
+    held = dk_verify(b->image, image, k.starts, k.count, k.sizes, k.count, v.bytes, ROOM_MAX - shift, offsets, given, sizes, given, v.first, image,
+                     v.count, image, v.kind, image);
     r->number = (int)held.refusal;
-    for (size_t i = 0; i < n; i++) v.asked += (int64_t)lengths[i] / 8;
-    for (; v.runs < held.count; v.runs++) {
-        struct run one = {first[v.runs], count[v.runs], kinds[v.runs]};
-        v.run[v.runs] = one;
-    }
+    for (size_t i = 0; i < k.count; i++) v.asked += (long long)k.sizes[i] / 8;
+    v.runs = (size_t)held.count;
     return v;
 }
 
@@ -144,11 +136,8 @@ int proved_reads(struct bytes file, uint8_t kind, uint32_t load, size_t reach) {
     return dk_read_records(kind, file.at, file.len, load, bytes, reach, offsets, COUNT(offsets), sizes, COUNT(sizes), scratch, sizeof scratch).refusal == 0;
 }
 
-struct reason proved_reason(struct bytes file, uint8_t kind, uint32_t load) {
-    mut_u8 room = {scratch, sizeof scratch};
-    record_reason__Why w = record_reason__reason_of(kind, lent(file), load, room);
-    struct reason r = {w.reason, w.line, w.first, w.second};
-    return r;
+struct dk_reason proved_reason(struct bytes file, uint8_t kind, uint32_t load) {
+    return dk_record_reason(kind, file.at, file.len, load, scratch, sizeof scratch);
 }
 
 uint32_t proved_lowest(struct bytes file, uint8_t kind) {

@@ -1,6 +1,7 @@
 /* The proved functions, each with the room that its contract asks for. What an answer says is theirs alone. */
 #ifndef DENKUMARI_PROVED_H
 #define DENKUMARI_PROVED_H
+#include "denkumari.h"
 #include "say.h"
 
 #define ROOM_USUAL 16384u /* bytes of an image: what layout lends */
@@ -11,18 +12,19 @@ struct choices {
     int has_page;
     uint32_t page, room;
 };
-struct refusal {
+struct refusal { /* 0 where there is none */
     int number, places;
-    int64_t place[2];
+    long long place[2];
 };
-struct built { /* a layout in as much room as was asked for; the lists are of its blocks */
-    struct refusal refusal; /* 0 where there is none */
+struct blocks {
+    uint64_t *starts, *sizes;
+    size_t count;
+};
+struct built { /* a layout in as much room as was asked for */
+    struct refusal refusal;
     uint8_t *image;
-    int64_t bits, passes;
-    uint64_t blocks, *offsets, *sizes;
-};
-struct reason { /* why a file of records is bad: include/denkumari.h has the numbers */
-    uint64_t reason, line, first, second;
+    long long bits, passes;
+    struct blocks blocks;
 };
 
 int proved_number(struct bytes word, uint32_t *n);
@@ -30,24 +32,20 @@ struct bytes proved_layout(struct bytes file, struct choices c);
 struct bytes proved_map(struct bytes file, struct choices c);
 struct bytes proved_records(struct bytes file, struct choices c, uint8_t format, uint32_t load, int is_whole);
 struct bytes proved_rehex(struct bytes file, uint8_t kind, uint8_t format, uint32_t load);
-struct bytes proved_bench(struct bytes released, struct bytes overlay, uint32_t load);
-struct bytes proved_bench_range(struct bytes released, struct bytes overlay, uint32_t load, uint32_t address, uint32_t count);
-struct bytes proved_convert(struct bytes file, int form, int *is_refused); /* the file, or the refusal's line */
+struct bytes proved_bench(struct bytes released, struct bytes overlay, uint32_t load, const uint32_t *range); /* address and count, or NULL */
+struct bytes proved_convert(struct bytes file, int form); /* the file, or the refusal's line, with which no file begins */
 struct built proved_build(struct bytes file, struct choices c);
 struct bytes proved_write(const struct built *b, uint8_t format, uint32_t load, int is_whole, struct refusal *r); /* records; r->number is 0, 4 or 16 */
-struct run { /* bytes that are not given or differ (enum dk_unlike), from the image's first on */
-    uint64_t first, count;
-    int kind;
-};
 struct verified {
-    struct run *run;
+    uint64_t *first, *count; /* runs of bytes that are not given or differ (enum dk_unlike), from the image's first on */
+    uint8_t *kind;
     size_t runs;
-    int64_t asked; /* how many bytes were held against the image's */
+    long long asked; /* how many bytes were held against the image's */
     uint8_t *bytes; /* what was read back, from the load address on */
 };
 /* A dump whose lowest address, or a lower one, is `base`. */
 struct verified proved_verify(const struct built *b, struct bytes dump, uint8_t kind, uint32_t base, uint32_t load, int is_whole, struct refusal *r);
 int proved_reads(struct bytes file, uint8_t kind, uint32_t load, size_t reach); /* whether it is read so, its bytes that near to the load address */
-struct reason proved_reason(struct bytes file, uint8_t kind, uint32_t load);
+struct dk_reason proved_reason(struct bytes file, uint8_t kind, uint32_t load);
 uint32_t proved_lowest(struct bytes file, uint8_t kind); /* the lowest address that a file gives a byte to; 0 where it gives none or is bad */
 #endif

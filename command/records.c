@@ -2,83 +2,61 @@
 #include "records.h"
 #include "commands.h"
 #include "files.h"
-#include <stdlib.h>
 #include <string.h>
-
-int refuse(int number, const struct text *words) {
-    struct text said = {0};
-    put(&said, "refused with %d: ", number);
-    put_bytes(&said, words->at, words->len);
-    tell_text(&said);
-    return REFUSED;
-}
 
 uint8_t kind_of(struct bytes file) { return file.len > 0 && (file.at[0] == 'S' || file.at[0] == 's'); }
 
-/* A line of a file as it stands there, from 0, with what cannot be shown as ?. */
-static void put_line(struct text *t, struct bytes file, uint64_t line) {
-    size_t at = 0;
-    for (uint64_t k = 0; k < line && at < file.len; at++) k += file.at[at] == '\n';
-    for (int n = 0; at < file.len && file.at[at] != '\n' && n < 80; at++) {
-        if (file.at[at] == '\r') continue;
-        put(t, "%c", file.at[at] >= ' ' && file.at[at] <= '~' ? file.at[at] : '?');
-        n++;
-    }
+/* A line of a file as it stands there, as far as it is shown, with what cannot be shown as ?. */
+static const char *line_words(struct bytes line) {
+    struct text t = {0};
+    put(&t, "%s", "");
+    for (size_t i = 0; i < line.len && t.len < 80; i++)
+        if (line.at[i] != '\r') put(&t, "%c", line.at[i] >= ' ' && line.at[i] <= '~' ? line.at[i] : '?');
+    return t.at;
 }
 
 /* What a reason adds to its words: how lines begin, or which types are read. */
-static void put_reason_note(struct text *t, uint8_t kind, const struct reason *r) {
-    if (r->reason == 1) put(t, kind ? "S" : "a colon");
-    if (r->reason != 6) return;
-    if (kind) put(t, "S%c", r->first < 256 && r->first >= 32 ? (int)r->first : '?');
-    else put(t, "%02X", (unsigned)r->first);
-    put(t, kind ? " (there are S0, S1 with S9, and S3 with S7)" : " (there are 00, 01 and 04)");
+static const char *reason_note(uint8_t kind, const struct dk_reason *r) {
+    if (r->reason == 1) return kind ? "S" : "a colon";
+    if (r->reason != 6) return "";
+    return kind ? shown("S%c (there are S0, S1 with S9, and S3 with S7)", r->first < 256 && r->first >= 32 ? (int)r->first : '?')
+                : shown("%02X (there are 00, 01 and 04)", (unsigned)r->first);
 }
 
 /* Why a file of records is bad: its line, one cause, the line's text, and what to do. */
-static void put_reason(struct text *t, const struct source *f) {
-    struct reason r = proved_reason(f->file, f->kind, f->load);
-    struct said s = {NULL, NULL, 0, 0, 0, {(int64_t)r.first, (int64_t)r.second, 0}, {NULL, 0, 0}};
-    struct text line = {0};
-    int is_blank, is_other = r.reason == 1 && f->kind == 0 && kind_of(f->file);
+static const char *reason_words(const struct source *f) {
+    struct dk_reason r = proved_reason(f->file, f->kind, f->load);
+    struct said s = {.n = {(long long)r.first, (long long)r.second}, .note = reason_note(f->kind, &r)};
+    struct text t = {0};
+    const char *line = line_words(line_at(f->file, r.line));
+    int is_other = r.reason == 1 && f->kind == 0 && kind_of(f->file);
     enum cause cause = has_mark(f->file) ? RECORDS_MARK : is_other ? RECORDS_SREC : (enum cause)(REASON_1 + r.reason - 1);
-    put(t, "line %llu: ", (unsigned long long)r.line + 1);
-    put_line(&line, f->file, r.line);
-    is_blank = cause == REASON_1 && line.len == 0;
     if (r.reason == 2 || r.reason == 11) s.n[0]++; /* characters and lines as people count them */
-    put_reason_note(&s.note, f->kind, &r);
-    if (is_blank) put(t, "a blank line");
-    else put_words(t, cause, &s);
-    if (line.len > 0 && r.reason < 13) put(t, ": \"%s\"", line.at);
-    if (!is_blank) put_remedy(t, cause);
+    put(&t, "line %llu: ", (unsigned long long)r.line + 1);
+    if (cause == REASON_1 && !*line) put(&t, "a blank line");
+    else put(&t, "%s", words_alone(cause, &s));
+    if (*line && r.reason < 13) put(&t, ": \"%s\"", line);
+    put(&t, "%s", remedy(cause));
+    return t.at;
 }
 
-void put_unread(struct text *t, const struct source *f, int number, int has_line) {
-    struct said s = {NULL, NULL, 0, 0, 0, {(int64_t)f->limit, (int64_t)f->reach, 0}, {NULL, 0, 0}};
-    if (number == 4 && has_line) {
-        put_reason(t, f);
-        return;
-    }
-    uint32_t load = number == 14 ? proved_lowest(f->file, f->kind) : 0;
+const char *unread(const struct source *f, int number, int has_line) {
+    struct said s = {.n = {(long long)f->limit, (long long)f->reach, 0}};
+    if (number == 4 && has_line) return reason_words(f);
+    if (number != 14) return words_of(RECORDS_LONG, &s);
+    uint32_t load = proved_lowest(f->file, f->kind);
     s.n[2] = load;
-    put_cause(t, number != 14 ? RECORDS_LONG : load > f->load && proved_reads(f->file, f->kind, load, f->reach) ? RECORDS_LOW : RECORDS_ROOM, &s);
+    return words_of(load > f->load && proved_reads(f->file, f->kind, load, f->reach) ? RECORDS_LOW : RECORDS_ROOM, &s);
 }
 
-int says(struct bytes text, const char *begin) {
-    const uint8_t *line = memchr(text.at, '\n', text.len);
-    size_t left = line ? (size_t)(text.at + text.len - line - 1) : 0;
-    return left >= strlen(begin) && memcmp(line + 1, begin, strlen(begin)) == 0;
-}
-
-void put_ragged(struct text *t, const struct layout *l, const struct names *names) {
-    int64_t at = 0, node = 0;
+const char *ragged(const struct layout *l, const struct names *names) {
+    long long at = 0, node = 0;
     while (at < l->blocks && l->block[at].start % 8 == 0 && l->block[at].size % 8 == 0) at++;
-    if (at >= l->blocks) return;
-    while (node < l->shown && !(is_written(l, node) && l->node[node].bits > 0 && l->node[node].output == l->block[at].start)) node++;
-    put(t, "block %lld (output bits %lld..%lld", (long long)at, (long long)l->block[at].start, (long long)(l->block[at].start + l->block[at].size - 1));
-    put(t, node < l->shown ? ", from " : "");
-    if (node < l->shown) put_name(t, names, node);
-    put(t, node < l->shown ? " on)" : ")");
+    if (at >= l->blocks) return "";
+    long long first = l->block[at].start, last = first + l->block[at].size - 1;
+    while (node < l->shown && !(is_written(l, node) && l->node[node].bits > 0 && l->node[node].output == first)) node++;
+    const char *item = node < l->shown ? shown(", from %s on", called_node(names, node)) : "";
+    return shown("block %lld (output bits %lld..%lld%s)", at, first, last, item);
 }
 
 /* The records of a layout: by the proved text function, or, where more room is asked for than it lends, by the proved calls one after the other. */
@@ -86,8 +64,8 @@ static struct bytes written(const struct asked *asked, struct bytes file, uint8_
     int is_whole = (asked->given & WHOLE) != 0;
     if (!(asked->given & ROOM)) {
         struct bytes text = proved_records(file, choices_of(asked), format, asked->load, is_whole);
-        *of_records = says(text, "records");
-        if (!is_refusal(text, r)) r->number = 0;
+        *of_records = begins(line_at(text, 1), "records");
+        *r = refusal_of(text);
         return text;
     }
     struct built b = proved_build(file, choices_of(asked));
@@ -97,24 +75,18 @@ static struct bytes written(const struct asked *asked, struct bytes file, uint8_
 }
 
 static int do_records(struct asked *asked, uint8_t format) {
-    struct choices c = choices_of(asked);
     struct bytes file = read_input(asked->file[0], LAYOUT_MAX);
     struct refusal r;
     int of_records;
     struct bytes text = written(asked, file, format, &r, &of_records);
-    struct text words = {0};
     if (r.number == 0) return answer(text, asked->out);
-    struct names *names = find_names(asked->file[0], NULL, file);
-    struct layout *l = read_refused(file, c);
-    struct said s = {l, names, 0, 0, 0, {0, 0, 0}, {NULL, 0, 0}};
-    if (!of_records) put_refusal(&words, l, names, &r);
-    else if (r.number == 16) {
-        struct built b = proved_build(file, c);
-        take_built(l, &b);
-        put_ragged(&s.note, l, names);
-        put_cause(&words, RECORDS_EDGES, &s);
-    } else put_cause(&words, RECORDS_ADDRESS, &s);
-    return refuse(r.number, &words);
+    const struct names *names = find_names(asked->file[0], NULL, file);
+    struct layout *l = read_mapped(file, choices_of(asked));
+    if (!of_records) return refuse(&r, refusal_words(l, names, &r, 0));
+    if (r.number != 16) return refuse(&r, words_of(RECORDS_ADDRESS, &(struct said){0}));
+    struct built b = proved_build(file, choices_of(asked));
+    take_built(l, &b);
+    return refuse(&r, words_of(RECORDS_EDGES, &(struct said){.note = ragged(l, names)}));
 }
 
 int do_ihex(struct asked *asked) { return do_records(asked, 0); }
@@ -126,15 +98,11 @@ int do_rehex(struct asked *asked) {
     struct source f = {read_input(asked->file[0], RECORDS_MAX), 0, asked->load, RECORDS_MAX, 1048576};
     f.kind = kind_of(f.file);
     int to_srec = asked->to ? asked->to[0] == 's' : !f.kind;
-    struct refusal r;
-    struct text words = {0};
-    if (!to_srec && asked->width) fail_name("--width is for S-records, and ", called(asked->file[0]), " has some: Intel HEX comes out");
+    if (!to_srec && asked->width) fail("--width is for S-records, and %s has some: Intel HEX comes out", escaped(called(asked->file[0])));
     if (!(asked->given & LOWEST)) f.load = f.file.len > RECORDS_MAX ? 0 : proved_lowest(f.file, f.kind);
     struct bytes text = proved_rehex(f.file, f.kind, !to_srec ? 0 : asked->width ? asked->width : 4, f.load);
-    if (!is_refusal(text, &r)) return answer(text, asked->out);
-    if (r.number == 4 && !says(text, "line ") && f.file.len <= f.limit) {
-        struct said s = {NULL, NULL, 0, 0, 0, {0, 0, 0}, {NULL, 0, 0}};
-        put_cause(&words, RECORDS_ADDRESS, &s);
-    } else put_unread(&words, &f, r.number, says(text, "line "));
-    return refuse(r.number, &words);
+    struct refusal r = refusal_of(text);
+    int has_line = begins(line_at(text, 1), "line "), is_address = r.number == 4 && !has_line && f.file.len <= f.limit;
+    if (r.number == 0) return answer(text, asked->out);
+    return refuse(&r, is_address ? words_of(RECORDS_ADDRESS, &(struct said){0}) : unread(&f, r.number, has_line));
 }

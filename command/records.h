@@ -13,8 +13,6 @@ struct source {
 };
 
 uint8_t kind_of(struct bytes file); /* by its first character */
-void put_ragged(struct text *t, const struct layout *l, const struct names *names); /* the first block that is not of whole bytes, and its first item */
-void put_unread(struct text *t, const struct source *s, int number, int has_line); /* a refusal of it in words; with a line where the file is bad there */
-int refuse(int number, const struct text *words);
-int says(struct bytes text, const char *begin); /* whether the second line of a refusal begins so */
+const char *ragged(const struct layout *l, const struct names *names); /* the first block that is not of whole bytes, and its first item */
+const char *unread(const struct source *s, int number, int has_line); /* a refusal of it in words; with a line where the file is bad there */
 #endif

@@ -21,7 +21,7 @@ void *memory(size_t count, size_t size) {
 
 static void make_room(struct text *t, size_t more) {
     if (t->room - t->len > more) return;
-    t->room = 2 * (t->len + more) + 256;
+    t->room = 2 * (t->len + more) + 16;
     t->at = realloc(t->at, t->room);
     if (!t->at) fail_memory();
 }
@@ -51,78 +51,77 @@ void put(struct text *t, const char *form, ...) {
     va_end(words);
 }
 
-void put_several(struct text *t, long long count, const char *what) { put(t, "%lld %s%s", count, what, count == 1 ? "" : "s"); }
-
-void put_both(struct text *t, long long number) {
-    if (number < 10) put(t, "%lld", number);
-    else put(t, "%lld = 0x%llx", number, (unsigned long long)number);
+const char *shown(const char *form, ...) {
+    struct text t = {0};
+    va_list words;
+    va_start(words, form);
+    put_list(&t, form, words);
+    va_end(words);
+    return t.at;
 }
+
+const char *several(long long count, const char *what) { return shown("%lld %s%s", count, what, count == 1 ? "" : "s"); }
+
+const char *both(long long number) { return number < 10 ? shown("%lld", number) : shown("%lld = 0x%llx", number, (unsigned long long)number); }
+
+const char *or_dash(long long number) { return number == NONE ? "-" : shown("%lld", number); }
 
 struct bytes bytes_of(const struct text *t) {
     struct bytes b = {(const uint8_t *)t->at, t->len};
     return b;
 }
 
-static int within(uint8_t c, int low, int high) { return c >= low && c <= high; }
+int begins(struct bytes text, const char *begin) { return text.len >= strlen(begin) && memcmp(text.at, begin, strlen(begin)) == 0; }
 
-/* Control characters, those of C1 too, are not printable. */
-size_t character(const uint8_t *at, size_t n) {
-    static const struct {
-        uint8_t first, last, low, high, size;
-    } shapes[] = {{0xc2, 0xc2, 0xa0, 0xbf, 2}, {0xc3, 0xdf, 0x80, 0xbf, 2}, {0xe0, 0xe0, 0xa0, 0xbf, 3},
-                  {0xe1, 0xec, 0x80, 0xbf, 3}, {0xed, 0xed, 0x80, 0x9f, 3}, {0xee, 0xef, 0x80, 0xbf, 3},
-                  {0xf0, 0xf0, 0x90, 0xbf, 4}, {0xf1, 0xf3, 0x80, 0xbf, 4}, {0xf4, 0xf4, 0x80, 0x8f, 4}};
-    if (n == 0) return 0;
-    if (at[0] < 0x80) return at[0] >= 32 && at[0] != 127;
-    for (size_t i = 0; i < sizeof shapes / sizeof *shapes; i++) {
-        if (!within(at[0], shapes[i].first, shapes[i].last) || n < shapes[i].size || !within(at[1], shapes[i].low, shapes[i].high)) continue;
-        for (size_t k = 2; k < shapes[i].size; k++)
-            if (!within(at[k], 0x80, 0xbf)) return 0;
-        return shapes[i].size;
-    }
-    return 0;
+int next_line(struct bytes *rest, struct bytes *line) {
+    const uint8_t *end = rest->len > 0 ? memchr(rest->at, '\n', rest->len) : NULL;
+    *line = *rest;
+    if (rest->len == 0) return 0;
+    if (end) line->len = (size_t)(end - rest->at);
+    rest->at += line->len + (end != NULL);
+    rest->len -= line->len + (end != NULL);
+    return 1;
 }
 
-void put_escaped(struct text *t, const char *word) {
+struct bytes line_at(struct bytes text, uint64_t number) {
+    struct bytes line = {text.at, 0};
+    for (uint64_t i = 0; i <= number; i++)
+        if (!next_line(&text, &line)) break;
+    return line;
+}
+
+/* Control characters, those of C1 too, are not printable; nor is what UTF-8 does not allow. */
+size_t character(const uint8_t *at, size_t n) {
+    static const uint32_t least[] = {0, ' ', 0xa0, 0x800, 0x10000};
+    size_t size = n == 0 ? 0 : at[0] < 0x80 ? 1 : at[0] < 0xc2 ? 0 : at[0] < 0xe0 ? 2 : at[0] < 0xf0 ? 3 : 4;
+    if (size == 0 || n < size) return 0;
+    uint32_t code = size == 1 ? at[0] : at[0] & 0x7fu >> size;
+    for (size_t k = 1; k < size; k++) {
+        if ((at[k] & 0xc0) != 0x80) return 0;
+        code = code << 6 | (at[k] & 0x3f);
+    }
+    int is_bad = code < least[size] || code == 127 || (code >= 0xd800 && code < 0xe000) || code > 0x10ffff || at[0] > 0xf4;
+    return is_bad ? 0 : size;
+}
+
+const char *escaped(const char *word) {
+    struct text t = {0};
     size_t n = strlen(word);
+    put(&t, "%s", "");
     for (size_t i = 0, long_; i < n; i += long_ ? long_ : 1) {
         long_ = character((const uint8_t *)word + i, n - i);
-        if (long_) put_bytes(t, word + i, long_);
-        else put(t, "\\x%02x", (unsigned)(unsigned char)word[i]);
+        if (long_) put_bytes(&t, word + i, long_);
+        else put(&t, "\\x%02x", (unsigned)(unsigned char)word[i]);
     }
+    return t.at;
 }
 
-void tell_text(const struct text *t) {
-    struct text line = {0};
-    put(&line, "%s: ", tool);
-    put_bytes(&line, t->at, t->len);
-    put(&line, "\n");
-    write_all(2, line.at, line.len); /* where this fails there is nobody left to be told */
-    free(line.at);
+void tell_words(const char *words) {
+    const char *line = shown("%s: %s\n", tool, words);
+    write_all(2, line, strlen(line)); /* where this fails there is nobody left to be told */
 }
 
-/* A name where there is one, between what stands ahead of it and the rest. */
-static void say_list(const char *before, const char *name, const char *form, va_list words) {
-    struct text t = {0};
-    put(&t, "%s", before);
-    if (name) put_escaped(&t, name);
-    put_list(&t, form, words);
-    tell_text(&t);
-    free(t.at);
-}
-
-void fail(const char *form, ...) {
-    va_list words;
-    va_start(words, form);
-    say_list("", NULL, form, words);
-    va_end(words);
-    exit(FAILED);
-}
-
-void fail_name(const char *before, const char *name, const char *form, ...) {
-    va_list words;
-    va_start(words, form);
-    say_list(before, name, form, words);
-    va_end(words);
+void fail_words(const char *words) {
+    tell_words(words);
     exit(FAILED);
 }

@@ -21,6 +21,25 @@ int is_regular(const char *name) {
 
 int is_same(struct which a, struct which b) { return a.is_known && b.is_known && a.volume == b.volume && a.file == b.file; }
 
+static long write_some(int to, const void *from, size_t n);
+
+int write_all(int to, const void *from, size_t n) {
+    for (const char *at = from; n > 0;) {
+        long k = write_some(to, at, n);
+        if (k == 0) errno = EIO;
+        if (k <= 0) return -1;
+        at += k;
+        n -= (size_t)k;
+    }
+    return 0;
+}
+
+static NEVER_RETURNS void fail_writing(const char *name, const char *cause) { fail("%s could not be written: %s", escaped(name), cause); }
+
+static NEVER_RETURNS void fail_beside(const char *name, const char *cause) { fail("no file can be made beside %s: %s", escaped(name), cause); }
+
+static NEVER_RETURNS void fail_input(const char *name) { fail("%s is an input, and is not written over", escaped(name)); }
+
 #ifndef _WIN32
 #include <signal.h>
 #include <unistd.h>
@@ -42,7 +61,7 @@ long read_some(int from, void *room, size_t n) {
     return (long)k;
 }
 
-int close_input(int from) { return close(from); }
+int close_file(int fd) { return close(fd); }
 
 static struct which which_of(const struct stat *s) {
     struct which w = {(unsigned long long)s->st_dev, (unsigned long long)s->st_ino, S_ISREG(s->st_mode)};
@@ -58,20 +77,12 @@ struct which which_input(int from, int *is_folder) {
     return which_of(&s);
 }
 
-int write_all(int to, const void *from, size_t n) {
-    const char *at = from;
-    while (n > 0) {
-        ssize_t k = write(to, at, n);
-        if (k < 0 && errno == EINTR) continue;
-        if (k == 0) errno = EIO;
-        if (k <= 0) return -1;
-        at += k;
-        n -= (size_t)k;
-    }
-    return 0;
+static long write_some(int to, const void *from, size_t n) {
+    ssize_t k;
+    do k = write(to, from, n);
+    while (k < 0 && errno == EINTR);
+    return (long)k;
 }
-
-int close_output(void) { return close(1); }
 
 /* Where a name leads: through links, also where the last one leads to a file that is not there yet. */
 static void follow(const char *name, char *path, size_t room) {
@@ -85,7 +96,7 @@ static void follow(const char *name, char *path, size_t room) {
         memcpy(path + keep, link, (size_t)n);
         path[keep + (size_t)n] = 0;
     }
-    fail_name("", name, " could not be written: too many links");
+    fail_writing(name, "too many links");
 }
 
 /* The file beside its place, with the mode and, where that is allowed, the owner of the file that it replaces. */
@@ -119,13 +130,13 @@ static void hold_signals(sigset_t *before) {
 void put_in_place(const char *name, const void *from, size_t n, int (*is_input)(struct which)) {
     char path[4096], part[4200];
     struct stat s;
-    if (strlen(name) >= sizeof path) fail_name("", name, " could not be written: its name is too long");
+    if (strlen(name) >= sizeof path) fail_writing(name, "its name is too long");
     strcpy(path, name);
     follow(name, path, sizeof path);
     int is_there = stat(path, &s) == 0;
-    if (!is_there && errno != ENOENT) fail_name("", name, " could not be written: %s", why());
-    if (is_there && !S_ISREG(s.st_mode)) fail_name("", name, " is not a regular file");
-    if (is_there && is_input(which_of(&s))) fail_name("", name, " is an input, and is not written over");
+    if (!is_there && errno != ENOENT) fail_writing(name, why());
+    if (is_there && !S_ISREG(s.st_mode)) fail("%s is not a regular file", escaped(name));
+    if (is_there && is_input(which_of(&s))) fail_input(name);
     char *slash = strrchr(path, '/');
     size_t folder = slash ? (size_t)(slash - path) + 1 : 0;
     mode_t mask = umask(077);
@@ -133,12 +144,11 @@ void put_in_place(const char *name, const void *from, size_t n, int (*is_input)(
     sigset_t before;
     hold_signals(&before);
     int fd = make_part(part, sizeof part, path, folder);
-    if (fd < 0) fail_name("no file can be made beside ", name, ": %s", why());
+    if (fd < 0) fail_beside(name, why());
     if (fill_part(fd, is_there ? &s : NULL, is_there ? s.st_mode & 07777 : 0666 & ~mask, from, n) != 0 || rename(part, path) != 0) {
-        int cause = errno;
+        const char *cause = why();
         unlink(part);
-        errno = cause;
-        fail_name("", name, " could not be written: %s", why());
+        fail_writing(name, cause);
     }
     sigprocmask(SIG_SETMASK, &before, NULL);
 }
@@ -156,7 +166,7 @@ int open_input(const char *name) { return _open(name, _O_RDONLY | _O_BINARY | _O
 
 long read_some(int from, void *room, size_t n) { return _read(from, room, n < 1u << 20 ? (unsigned)n : 1u << 20); }
 
-int close_input(int from) { return _close(from); }
+int close_file(int fd) { return _close(fd); }
 
 struct which which_input(int from, int *is_folder) {
     BY_HANDLE_FILE_INFORMATION i;
@@ -169,33 +179,21 @@ struct which which_input(int from, int *is_folder) {
     return w;
 }
 
-int write_all(int to, const void *from, size_t n) {
-    const char *at = from;
-    while (n > 0) {
-        int k = _write(to, at, n < 1u << 20 ? (unsigned)n : 1u << 20);
-        if (k == 0) errno = EIO;
-        if (k <= 0) return -1;
-        at += k;
-        n -= (size_t)k;
-    }
-    return 0;
-}
-
-int close_output(void) { return _close(1); }
+static long write_some(int to, const void *from, size_t n) { return _write(to, from, n < 1u << 20 ? (unsigned)n : 1u << 20); }
 
 void put_in_place(const char *name, const void *from, size_t n, int (*is_input)(struct which)) {
     char part[4200];
     int is_folder, old = open_input(name);
-    if (old >= 0 && is_input(which_input(old, &is_folder))) fail_name("", name, " is an input, and is not written over");
+    if (old >= 0 && is_input(which_input(old, &is_folder))) fail_input(name);
     if (old >= 0) _close(old);
-    if (strlen(name) > 4096) fail_name("", name, " could not be written: its name is too long");
+    if (strlen(name) > 4096) fail_writing(name, "its name is too long");
     snprintf(part, sizeof part, "%s.part-%lu", name, (unsigned long)GetCurrentProcessId());
     int fd = _open(part, _O_WRONLY | _O_CREAT | _O_EXCL | _O_BINARY, _S_IREAD | _S_IWRITE);
-    if (fd < 0) fail_name("no file can be made beside ", name, ": %s", why());
+    if (fd < 0) fail_beside(name, why());
     int good = write_all(fd, from, n) == 0 && _commit(fd) == 0;
     if (_close(fd) != 0 || !good || !MoveFileExA(part, name, MOVEFILE_REPLACE_EXISTING | MOVEFILE_WRITE_THROUGH)) {
         _unlink(part);
-        fail_name("", name, " could not be written");
+        fail("%s could not be written", escaped(name));
     }
 }
 #endif

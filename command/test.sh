@@ -50,7 +50,7 @@ for call in 'layout worked.form' 'map worked.form' 'map --lines worked.form' 'ih
 done
 ends 0 '"$D" layout worked.form >/dev/null 2>&-'
 ends 1 '"$D" layout clamp-mark-after.form >/dev/null 2>&-'
-ends 2 'trap "" PIPE; { sleep .3; "$D" ihex sequencer.form --whole; echo $? >status; } | true; exit "$(cat status)"'
+ends 2 '{ sleep .3; "$D" ihex sequencer.form --whole; echo $? >status; } | true; exit "$(cat status)"'
 for call in 'layout sequencer.form' 'ihex sequencer.form --whole' 'srec sequencer.form --whole' 'convert sequencer.form --to 2' 'rehex s.hex'; do
     ends 2 "ulimit -f 4; \"\$D\" $call >big"
     ends 2 "ulimit -f 4; \"\$D\" $call -o big2"
@@ -66,6 +66,48 @@ if mkdir small && mount -t tmpfs -o size=8k none small 2>/dev/null; then
     umount small
 else
     echo "left out: a full disk, since none can be mounted here; a limit on files stands for it"
+fi
+
+# a system whose calls fail late, or do a part: what writes, closes, syncs and renames is asked whether it did
+cat >faults.c <<'SOURCE'
+#define _GNU_SOURCE
+#include <errno.h>
+#include <fcntl.h>
+#include <stdlib.h>
+#include <string.h>
+#include <sys/stat.h>
+#include <sys/syscall.h>
+#include <unistd.h>
+static int is(const char *call) { return getenv("FAULT") && strcmp(getenv("FAULT"), call) == 0; }
+static int fails(const char *call, long done) { return is(call) ? (errno = EIO, -1) : (int)done; }
+int fsync(int fd) { return fails("fsync", syscall(SYS_fsync, fd)); }
+int fchmod(int fd, mode_t mode) { return fails("fchmod", syscall(SYS_fchmod, fd, mode)); }
+int rename(const char *from, const char *to) { return is("rename") ? (errno = EIO, -1) : (int)syscall(SYS_renameat2, AT_FDCWD, from, AT_FDCWD, to, 0); }
+int close(int fd) {
+    int is_input = (fcntl(fd, F_GETFL) & O_ACCMODE) == O_RDONLY;
+    return fails(is_input ? "close of an input" : "close", syscall(SYS_close, fd));
+}
+static ssize_t partly(long call, int fd, void *at, size_t n) {
+    static int turn;
+    if (is("interrupted") && turn++ % 2 == 0) return errno = EINTR, -1;
+    return syscall(call, fd, at, is("part") && n > 7 ? 7 : n);
+}
+ssize_t read(int fd, void *at, size_t n) { return partly(SYS_read, fd, at, n); }
+ssize_t write(int fd, const void *at, size_t n) { return partly(SYS_write, fd, (void *)at, n); }
+SOURCE
+if "${CC:-cc}" -shared -fPIC -o faults.so faults.c 2>/dev/null && sync s.hex && ! FAULT=fsync LD_PRELOAD=./faults.so sync s.hex 2>/dev/null; then
+    cp s.hex late.hex
+    for fault in fsync fchmod rename close 'close of an input'; do
+        ends 2 "FAULT='$fault' LD_PRELOAD=./faults.so \"\$D\" ihex worked.form --whole -o late.hex"
+        holds 'cmp s.hex late.hex && [ -z "$(ls -A | grep "^\.denkumari")" ]'
+    done
+    ends 2 'FAULT=close LD_PRELOAD=./faults.so "$D" ihex worked.form --whole >late'
+    for fault in part interrupted; do
+        ends 0 "FAULT=$fault LD_PRELOAD=./faults.so \"\$D\" ihex sequencer.form --whole >late && cmp late s.hex"
+        ends 0 "FAULT=$fault LD_PRELOAD=./faults.so \"\$D\" rehex s.hex --to hex -o late.hex && cmp late.hex s.hex"
+    done
+else
+    echo "left out: calls that fail late, since no library can be put ahead of the system's here"
 fi
 
 # -o: whole or not at all, mode kept, through links, never an input
@@ -118,6 +160,13 @@ for locale in tr_TR.UTF-8 de_DE.UTF-8 ja_JP.SJIS C POSIX none; do
 --whole | cmp - s.hex"
     ends 1 "LC_ALL=$locale \"\$D\" map clamp-mark-after.form >a; status=\$?; LC_ALL=C \"\$D\" map clamp-mark-after.form >b 2>/dev/null; cmp a b && exit \$status"
 done
+# what cannot be asked for cannot be in the way, also where this machine has no other locale
+if command -v nm >/dev/null 2>&1; then
+    holds 'nm -u "$D" | grep -q "[ _]write"'
+    holds '! nm -u "$D" | grep -E "[ _](setlocale|newlocale|uselocale|(secure_)?getenv|environ|system|popen|exec[a-z]*|fork|mkstemp|tmpfile)(@|$)"'
+else
+    echo "skipped: what the command asks of the system, for want of nm"
+fi
 odd=$(printf 'od\377d\033[31m\n\303\244.form')
 cp worked.form "$odd" && cp clamp-mark-after.form "x$odd" || wrong=1
 export odd
@@ -137,6 +186,11 @@ done
 for call in 'ihex sequencer.form --whole --load=0x10 --fill=full' 'bench s.hex s.hex --range=0 4' 'layout -- worked.form' 'layout --nothing --help' \
     'layout --page=8 --page 16 --fill inherited worked.form'; do
     case $call in *--page=8*) ends 1 "\"\$D\" $call" ;; *) ends 0 "\"\$D\" $call" ;; esac
+done
+
+for word in --page --fill --foo; do
+    ends 2 "\"\$D\" layout worked.form $word \"\$odd\""
+    holds '[ "$(LC_ALL=C tr -d "\303\244\n -~" <"'"$room"'/err" | wc -c)" -eq 0 ] && [ "$(wc -l <"'"$room"'/err")" -eq 1 ]'
 done
 
 # names have the sum of their layout file: stale ones are told and not used, given ones refused; a conversion writes those of its result

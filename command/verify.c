@@ -1,40 +1,39 @@
 /* What was flashed, read back and held against its layout: dk_verify says which bytes are not as they should be, and this file whose they are. */
 #include "commands.h"
-#include "denkumari.h"
 #include "files.h"
 #include "json.h"
 #include "records.h"
-#include "values.h"
-#include <stdlib.h>
 #include <string.h>
 
 /* Both sides, byte by byte from the load address on; `is_missing` where the dump gives no byte. */
-struct both {
+struct both_sides {
     const struct asked *asked;
     struct layout *layout;
     const struct names *names;
-    struct image wanted, found, is_missing;
-    struct text shown, words, runs;
-    int64_t last; /* the word that was shown last, by its place in the output */
+    struct image wanted, found;
+    uint8_t *is_missing;
+    struct text shown, words;
+    long long last; /* the word that was shown last, by its place in the output */
 };
 
-static void put_at(struct text *t, const struct both *b, int64_t first, int64_t last) {
-    put(t, " (0x%08llx", (unsigned long long)(b->asked->load + first));
-    put(t, last > first ? "..0x%08llx)" : ")", (unsigned long long)(b->asked->load + last));
+/* Bytes by their addresses in the device, and the end of a line. */
+static void put_at(struct both_sides *b, long long first, long long last) {
+    put(&b->shown, " (0x%08llx", (unsigned long long)(b->asked->load + first));
+    put(&b->shown, last > first ? "..0x%08llx)\n" : ")\n", (unsigned long long)(b->asked->load + last));
 }
 
-static int is_missing(const struct both *b, int64_t from, int64_t bits) {
-    for (int64_t i = from / 8; i <= (from + bits - 1) / 8; i++)
-        if (b->is_missing.at[i]) return 1;
+static int is_missing(const struct both_sides *b, struct word w) {
+    for (long long i = w.output / 8; i <= (w.output + w.bits - 1) / 8; i++)
+        if (b->is_missing[i]) return 1;
     return 0;
 }
 
 /* The written item that has a bit of the output, or NONE; `next` is where it ends, or where the next one begins. */
-static int64_t item_at(const struct layout *l, int64_t at, int64_t *next) {
-    for (int64_t i = 0; i < l->shown; i++) {
+static long long item_at(const struct layout *l, long long at, long long *next) {
+    for (long long i = 0; i < l->shown; i++) {
         const struct node *n = &l->node[i];
         if (!is_written(l, i) || n->output == NONE || n->bits == 0) continue;
-        int64_t end = n->output + n->bits;
+        long long end = n->output + n->bits;
         if (n->output <= at && at < end) *next = end < *next ? end : *next;
         if (n->output <= at && at < end) return i;
         if (n->output > at && n->output < *next) *next = n->output;
@@ -42,201 +41,146 @@ static int64_t item_at(const struct layout *l, int64_t at, int64_t *next) {
     return NONE;
 }
 
-static void put_item(struct text *t, const struct both *b, int64_t node) {
-    put_name(t, b->names, node);
-    if (has_name(b->names, node)) put(t, " (node %lld)", (long long)node);
-    put(t, ", ");
+/* "curve (node 381), word 0x820" */
+static void put_item(struct both_sides *b, long long node, const char *what, struct word w) {
+    const char *number = has_name(b->names, node) ? shown(" (node %lld)", node) : "";
+    put(&b->shown, "%s%s, %s %s", called_node(b->names, node), number, what, in_hex(w.address, w.past));
 }
 
-/* A word that is not as it should be, as JSON: what was found there is null where not all of it is given. */
-static void json_word_of(struct both *b, int64_t node, struct word w, const char *found, const char *wanted) {
+/* "curve (node 381), word 0x820: 03, should be 07 (0x00008821)"; in JSON what was found there is null where not all of it is given. */
+static void put_different(struct both_sides *b, long long node, struct word w, int is_shown) {
+    static const struct image nothing;
+    int has_all = !is_missing(b, w);
     json_open(&b->words, NULL, "{");
     json_node(&b->words, b->layout, b->names, node);
-    json_numbers(&b->words, "word past at", (const int64_t[]){w.address, w.past, b->asked->load + w.output / 8});
-    json_word(&b->words, "found", found);
-    json_word(&b->words, "wanted", wanted);
+    json_numbers(&b->words, "word past at", w.address, w.past, b->asked->load + w.output / 8);
+    json_value(&b->words, "found", has_all ? b->found : nothing, w.output, w.bits);
+    json_value(&b->words, "wanted", b->wanted, w.output, w.bits);
     put(&b->words, "}");
+    if (!is_shown) return;
+    put_item(b, node, "word", w);
+    put(&b->shown, has_all ? ": " : ": not given");
+    if (has_all) put_value(&b->shown, b->found, w.output, w.bits);
+    put(&b->shown, ", should be ");
+    put_value(&b->shown, b->wanted, w.output, w.bits);
+    put_at(b, w.output / 8, (w.output + w.bits - 1) / 8);
 }
 
-/* "curve (node 381), word 0x820: 03, should be 07 (0x00008821)" */
-static void put_different(struct both *b, int64_t node, struct word w, int is_shown) {
-    struct text found = {0}, wanted = {0};
-    int has_all = !is_missing(b, w.output, w.bits);
-    put_value(&wanted, b->wanted, w.output, w.bits);
-    put_value(&found, b->found, w.output, w.bits);
-    json_word_of(b, node, w, has_all ? found.at : NULL, wanted.at);
-    if (is_shown) {
-        put_item(&b->shown, b, node);
-        put(&b->shown, "word ");
-        put_word(&b->shown, w);
-        put(&b->shown, ": %s, should be %s", has_all ? found.at : "not given", wanted.at);
-        put_at(&b->shown, b, w.output / 8, (w.output + w.bits - 1) / 8);
-        put(&b->shown, "\n");
-    }
-    free(found.at);
-    free(wanted.at);
-}
-
-/* Several words in a row that are not given, in one line. */
-static void put_words_missing(struct both *b, int64_t node, struct word first, struct word last) {
-    put_item(&b->shown, b, node);
-    put(&b->shown, "words ");
-    put_word(&b->shown, first);
-    put(&b->shown, "..");
-    put_word(&b->shown, last);
-    put(&b->shown, ": not given");
-    put_at(&b->shown, b, first.output / 8, (last.output + last.bits - 1) / 8);
-    put(&b->shown, "\n");
-}
-
-/* The words of an item between two bits of the output, each once. Of a run that is missing all but the first and the last are missing whole. */
-static void put_item_words(struct both *b, int64_t node, int64_t from, int64_t to, int kind) {
+/* The words of an item between two bits of the output, each once. Of a run that is missing all but the first and the last are missing whole: one line. */
+static void put_item_words(struct both_sides *b, long long node, long long from, long long to, int kind) {
     const struct node *n = &b->layout->node[node];
     struct word w = word_at(b->layout, node, 0), first = w, last = w;
-    int64_t unit = b->layout->bank[n->bank].unit, count = 0;
+    long long unit = b->layout->bank[n->bank].unit, count = 0, behind = from - n->output - w.bits;
     int is_row = kind == DK_MISSING && to - from > 2 * unit;
-    for (int64_t done = from - n->output < w.bits ? 0 : w.bits + (from - n->output - w.bits) / unit * unit; n->output + done < to; done += w.bits) {
+    for (long long done = behind < 0 ? 0 : w.bits + behind / unit * unit; n->output + done < to; done += w.bits) {
         w = word_at(b->layout, node, done);
-        int is_same = same_bits(b->wanted, w.output, b->found, w.output, w.bits) && !is_missing(b, w.output, w.bits);
-        if (w.output <= b->last || is_same) continue;
+        if (w.output <= b->last || (same_bits(b->wanted, w.output, b->found, w.output, w.bits) && !is_missing(b, w))) continue;
         put_different(b, node, w, !is_row);
         b->last = w.output;
         last = w;
         if (count++ == 0) first = w;
     }
-    if (is_row && count > 0) put_words_missing(b, node, first, last);
+    if (!is_row || count == 0) return;
+    put_item(b, node, "words", first);
+    put(&b->shown, "..%s: not given", in_hex(last.address, last.past));
+    put_at(b, first.output / 8, (last.output + last.bits - 1) / 8);
 }
 
-/* Bytes that no item writes: gaps and fill. */
-static void put_gap(struct both *b, int64_t from, int64_t to, int kind) {
-    int64_t first = from / 8, last = (to - 1) / 8, shown = last - first < 16 ? last - first + 1 : 16;
-    put(&b->shown, "no item, ");
-    put_several(&b->shown, last - first + 1, "byte");
-    put(&b->shown, ": ");
-    if (kind == DK_DIFFERENT) put_value(&b->shown, b->found, 8 * first, 8 * shown);
-    put(&b->shown, kind == DK_DIFFERENT ? "%s, should be " : "not given", last - first + 1 > shown ? ".." : "");
-    if (kind == DK_DIFFERENT) put_value(&b->shown, b->wanted, 8 * first, 8 * shown);
-    if (kind == DK_DIFFERENT && last - first + 1 > shown) put(&b->shown, "..");
-    put_at(&b->shown, b, first, last);
-    put(&b->shown, "\n");
+/* Bytes that no item writes: gaps and fill, the first sixteen of them. */
+static void put_gap(struct both_sides *b, long long from, long long to, int kind) {
+    long long first = from / 8, last = (to - 1) / 8, count = last - first + 1, bits = 8 * (count < 16 ? count : 16);
+    const char *more = count > 16 ? ".." : "";
+    put(&b->shown, "no item, %s: ", several(count, "byte"));
+    if (kind == DK_DIFFERENT) {
+        put_value(&b->shown, b->found, 8 * first, bits);
+        put(&b->shown, "%s, should be ", more);
+        put_value(&b->shown, b->wanted, 8 * first, bits);
+        put(&b->shown, "%s", more);
+    } else put(&b->shown, "not given");
+    put_at(b, first, last);
 }
 
-static void put_run(struct both *b, const struct run *r) {
-    int64_t first = (int64_t)r->first, count = (int64_t)r->count, end = 8 * (first + count);
-    struct text found = {0}, wanted = {0};
-    put_value(&wanted, b->wanted, 8 * first, 8 * count);
-    if (r->kind == DK_DIFFERENT) put_value(&found, b->found, 8 * first, 8 * count);
-    json_open(&b->runs, NULL, "{");
-    json_word(&b->runs, "kind", r->kind == DK_MISSING ? "missing" : "different");
-    json_numbers(&b->runs, "address count", (const int64_t[]){b->asked->load + first, count});
-    json_word(&b->runs, "found", found.at);
-    json_word(&b->runs, "wanted", wanted.at);
-    put(&b->runs, "}");
-    for (int64_t at = 8 * first, next; at < end; at = next) {
+static void put_run(struct both_sides *b, struct text *json, long long first, long long count, int kind) {
+    static const struct image nothing;
+    long long end = 8 * (first + count);
+    json_open(json, NULL, "{");
+    json_word(json, "kind", kind == DK_MISSING ? "missing" : "different");
+    json_numbers(json, "address count", b->asked->load + first, count);
+    json_value(json, "found", kind == DK_DIFFERENT ? b->found : nothing, 8 * first, 8 * count);
+    json_value(json, "wanted", b->wanted, 8 * first, 8 * count);
+    put(json, "}");
+    for (long long at = 8 * first, next; at < end; at = next) {
         next = end;
-        int64_t node = item_at(b->layout, at, &next);
-        if (node != NONE) put_item_words(b, node, at, next, r->kind);
-        else if (r->kind == DK_MISSING || !same_bits(b->wanted, at, b->found, at, next - at)) put_gap(b, at, next, r->kind);
+        long long node = item_at(b->layout, at, &next);
+        if (node != NONE) put_item_words(b, node, at, next, kind);
+        else if (kind == DK_MISSING || !same_bits(b->wanted, at, b->found, at, next - at)) put_gap(b, at, next, kind);
     }
-    free(found.at);
-    free(wanted.at);
 }
 
-static void put_sum(struct text *t, const struct both *b, const struct verified *v) {
-    int64_t sums[3] = {0, 0, 0};
-    for (size_t i = 0; i < v->runs; i++) sums[v->run[i].kind] += (int64_t)v->run[i].count;
-    put_escaped(t, called(b->asked->file[1]));
-    put(t, ": ");
-    if (v->runs == 0) put(t, "the same, ");
-    if (sums[DK_DIFFERENT] > 0) put_several(t, sums[DK_DIFFERENT], "byte");
-    if (sums[DK_DIFFERENT] > 0) put(t, sums[DK_DIFFERENT] == 1 ? " differs%s" : " differ%s", sums[DK_MISSING] > 0 ? ", " : ", of ");
-    if (sums[DK_MISSING] > 0) put_several(t, sums[DK_MISSING], "byte");
-    if (sums[DK_MISSING] > 0) put(t, sums[DK_MISSING] == 1 ? " is not given, of " : " are not given, of ");
-    put_several(t, v->asked, "byte");
-    put(t, "\n");
+static void put_sum(struct both_sides *b, const struct verified *v) {
+    long long sums[3] = {0, 0, 0}, differ, missing;
+    for (size_t i = 0; i < v->runs; i++) sums[v->kind[i]] += (long long)v->count[i];
+    differ = sums[DK_DIFFERENT], missing = sums[DK_MISSING];
+    put(&b->shown, "%s: %s", escaped(called(b->asked->file[1])), v->runs == 0 ? "the same, " : "");
+    if (differ > 0) put(&b->shown, "%s %s%s", several(differ, "byte"), differ == 1 ? "differs" : "differ", missing > 0 ? ", " : ", of ");
+    if (missing > 0) put(&b->shown, "%s %s not given, of ", several(missing, "byte"), missing == 1 ? "is" : "are");
+    put(&b->shown, "%s\n", several(v->asked, "byte"));
 }
 
-/* The answer, either way: 1 where something is not as it should be. */
-static int put_verified(struct text *t, struct both *b, const struct verified *v) {
-    put_sum(t, b, v);
+/* What is not as it should be, both ways. */
+static void put_verified(struct both_sides *b, struct text *json, const struct verified *v) {
+    put_sum(b, v);
     for (size_t i = 0; i < v->runs; i++)
-        if (v->run[i].kind == DK_MISSING) memset(b->is_missing.at + v->run[i].first, 1, (size_t)v->run[i].count);
-    for (size_t i = 0; i < v->runs; i++) put_run(b, &v->run[i]);
-    put_bytes(t, b->shown.at, b->shown.len);
-    return v->runs > 0;
-}
-
-static void put_object(struct text *t, const struct both *b, const struct verified *v, const struct refusal *r, const struct text *words) {
-    json_open(t, NULL, "{");
-    json_name(t, "layout", b->asked->file[0]);
-    json_name(t, "dump", b->asked->file[1]);
-    json_numbers(t, "load", (const int64_t[]){b->asked->load});
-    json_open(t, "whole", b->asked->given & WHOLE ? "true" : "false");
-    if (r->number == 0) {
-        json_numbers(t, "bytes", &v->asked);
-        json_open(t, "runs", "[");
-        put_bytes(t, b->runs.at, b->runs.len);
-        put(t, "]");
-        json_open(t, "words", "[");
-        put_bytes(t, b->words.at, b->words.len);
-        put(t, "]");
-    }
-    json_refusal(t, r->number ? r : NULL, words);
-    put(t, "}\n");
+        if (v->kind[i] == DK_MISSING) memset(b->is_missing + v->first[i], 1, (size_t)v->count[i]);
+    json_numbers(json, "bytes runs[", v->asked);
+    for (size_t i = 0; i < v->runs; i++) put_run(b, json, (long long)v->first[i], (long long)v->count[i], v->kind[i]);
+    put(json, "]");
+    json_open(json, "words", "[");
+    put_bytes(json, b->words.at, b->words.len);
+    put(json, "]");
 }
 
 /* Why nothing was verified: the layout's refusal, the dump's, or a block that is not of whole bytes. */
-static void put_refused(struct text *t, struct both *b, const struct built *built, const struct source *dump, const struct refusal *r) {
-    struct said s = {b->layout, b->names, 0, 0, 0, {0, 0, 0}, {NULL, 0, 0}};
-    if (built->refusal.number) put_refusal(t, b->layout, b->names, r);
-    else if (r->number == 16) {
-        put_ragged(&s.note, b->layout, b->names);
-        put_cause(t, VERIFY_EDGES, &s);
-    } else {
-        put_escaped(t, called(b->asked->file[1]));
-        put(t, ": ");
-        put_unread(t, dump, r->number, r->number == 4 && dump->file.len <= dump->limit);
-    }
+static const char *refused_words(const struct both_sides *b, const struct source *dump, const struct refusal *r) {
+    if (b->layout->refusal.number) return refusal_words(b->layout, b->names, r, 0);
+    if (r->number == 16) return words_of(VERIFY_EDGES, &(struct said){.note = ragged(b->layout, b->names)});
+    return shown("%s: %s", escaped(called(b->asked->file[1])), unread(dump, r->number, r->number == 4 && dump->file.len <= dump->limit));
 }
 
 /* Where the dump gives none of the image's bytes, the lowest address that it gives: perhaps another --load was meant. It is never taken by itself, since a
  * dump that was shifted would then be the same. */
-static void hint_load(const struct both *b, const struct verified *v, uint32_t lowest) {
-    struct text said = {0};
+static void hint_load(const struct both_sides *b, const struct verified *v, uint32_t lowest) {
     uint64_t missing = 0;
-    for (size_t i = 0; i < v->runs; i++) missing += v->run[i].kind == DK_MISSING ? v->run[i].count : 0;
+    for (size_t i = 0; i < v->runs; i++) missing += v->kind[i] == DK_MISSING ? v->count[i] : 0;
     if (missing == 0 || missing < (uint64_t)v->asked || lowest <= b->asked->load) return;
-    put_escaped(&said, called(b->asked->file[1]));
-    put(&said, ": its lowest address is 0x%lX: if the image begins there, say --load 0x%lX", (unsigned long)lowest, (unsigned long)lowest);
-    tell_text(&said);
+    tell_user("%s: its lowest address is 0x%lX: if the image begins there, say --load 0x%lX", escaped(called(b->asked->file[1])), (unsigned long)lowest,
+              (unsigned long)lowest);
 }
 
 int do_verify(struct asked *asked) {
-    if (strcmp(asked->file[0], "-") == 0 && strcmp(asked->file[1], "-") == 0) fail("standard input can be read once, and both files are -");
     struct bytes file = read_input(asked->file[0], LAYOUT_MAX);
     struct source dump = {read_input(asked->file[1], DUMP_MAX), 0, asked->load, DUMP_MAX, ROOM_MAX};
-    struct both b = {asked, read_refused(file, choices_of(asked)), find_names(asked->file[0], asked->names[0], file), {NULL, 0}, {NULL, 0}, {NULL, 0}, {0}, {0},
-                     {0}, NONE};
+    struct both_sides b = {.asked = asked, .layout = read_mapped(file, choices_of(asked)), .last = NONE};
+    b.names = find_names(asked->file[0], asked->names[0], file);
     struct built built = proved_build(file, choices_of(asked));
     struct verified v = {0};
-    struct text text = {0}, json = {0}, words = {0};
-    int differs = 0;
+    struct text json = {0};
     take_built(b.layout, &built);
     struct refusal r = built.refusal;
     dump.kind = kind_of(dump.file);
     uint32_t lowest = proved_lowest(dump.file, dump.kind);
     dump.load = lowest < asked->load ? lowest : asked->load;
     if (r.number == 0) v = proved_verify(&built, dump.file, dump.kind, dump.load, asked->load, (asked->given & WHOLE) != 0, &r);
-    if (r.number) put_refused(&words, &b, &built, &dump, &r);
-    b.wanted.at = built.image;
+    b.wanted = b.found = image_of(&built);
     b.found.at = v.bytes;
-    b.wanted.bytes = b.found.bytes = b.is_missing.bytes = (built.bits + 7) / 8;
-    b.is_missing.at = memory((size_t)b.is_missing.bytes + 1, 1);
-    if (r.number == 0) differs = put_verified(&text, &b, &v);
-    put_object(&json, &b, &v, &r, &words);
-    if (r.number && (asked->given & JSON)) print_answer(bytes_of(&json));
-    if (r.number) return refuse(r.number, &words);
-    answer(bytes_of(asked->given & JSON ? &json : &text), asked->out);
+    b.is_missing = memory((size_t)b.wanted.bytes + 1, 1);
+    json_open(&json, NULL, "{");
+    json_word(&json, "layout", escaped(called(asked->file[0])));
+    json_word(&json, "dump", escaped(called(asked->file[1])));
+    json_numbers(&json, "load", asked->load);
+    json_open(&json, "whole", asked->given & WHOLE ? "true" : "false");
+    if (r.number == 0) put_verified(&b, &json, &v);
+    int status = finish(asked, &b.shown, &json, &r, r.number ? refused_words(&b, &dump, &r) : NULL, v.runs > 0);
     hint_load(&b, &v, lowest);
-    return differs ? REFUSED : DONE;
+    return status;
 }

@@ -15,14 +15,13 @@ enum cause {
 struct said {
     const struct layout *layout;
     const struct names *names;
-    int64_t node, bank, second, n[3];
-    struct text note;
+    long long node, bank, second, n[3];
+    const char *note;
 };
 
-int has_mark(struct bytes file); /* whether a file begins with a byte order mark, EF BB BF */
-void put_words(struct text *t, enum cause cause, const struct said *s);
-void put_remedy(struct text *t, enum cause cause);
-void put_cause(struct text *t, enum cause cause, const struct said *s);
-void put_refusal(struct text *t, const struct layout *l, const struct names *names, const struct refusal *r);
-void put_conversion(struct text *t, const struct layout *l, const struct names *names, const struct refusal *r, int to);
+const char *words_alone(enum cause cause, const struct said *s);
+const char *remedy(enum cause cause); /* ahead of it a full stop; empty where there is none */
+const char *words_of(enum cause cause, const struct said *s); /* and the remedy */
+/* Of a conversion into form `to`, or with 0 of a layout. */
+const char *refusal_words(const struct layout *l, const struct names *names, const struct refusal *r, int to);
 #endif

@@ -28,8 +28,8 @@ FLAGS = ("--target=wasm32", "-Oz", "-std=c99", "-ffreestanding", "-nostdlib", "-
          "-Dmain=main_of_command")
 LINKED = ("--no-entry", "--gc-sections", "--strip-all", "-z", "stack-size=1048576")
 PROVED = (ROOT / "portable" / "texts.c", ROOT / "portable" / "denkumari.c")
-# the command's own, in whose place the page has others: web/system.c, and web/pairs.c, which reads compare.c
-REPLACED = ("system.c", "compare.c")
+# the command's own, in whose place the page has its own: web/system.c
+REPLACED = ("system.c",)
 
 
 def compiled_files():

@@ -23,8 +23,8 @@ int open_input(const char *name) { return page_open(name, strlen(name)); }
 
 long read_some(int from, void *room, size_t n) { return page_read(from, room, n); }
 
-int close_input(int from) {
-    (void)from;
+int close_file(int fd) {
+    (void)fd;
     return 0;
 }
 
@@ -48,13 +48,11 @@ int write_all(int to, const void *from, size_t n) {
     return 0;
 }
 
-int close_output(void) { return 0; }
-
 void put_in_place(const char *name, const void *from, size_t n, int (*is_input)(struct which)) {
     (void)from;
     (void)n;
     (void)is_input;
-    fail_name("", name, " could not be written: a page has no files");
+    fail("%s could not be written: a page has no files", escaped(name));
 }
 
 void exit(int status) { page_exit(status); }
