@@ -289,9 +289,9 @@ class Made(unittest.TestCase):
         """Where everything stands in each pass: beside a walk by hand, within the pass too; beside the map of the row, as far as that goes; and beside the
         spans of its build."""
         rng, seen = draw("places"), {"within": 0, "stopped": 0, "built": 0, "too far": 0}
-        for _ in range(HOW_MANY):
+        for _ in range(max(HOW_MANY, 200)):
             self.places_of(rng, seen)
-        self.assertTrue(all(count > HOW_MANY // 40 for count in seen.values()), seen)
+        self.assertTrue(all(count > 10 for count in seen.values()), seen)
 
     def places_of(self, rng, seen):
         banks = [Bank(rng.choice([1, 8, 10, 16]), rng.randint(-32, 32), 96, rng.choice([None, 96 * i]), rng.choice([None, 0, 8, 30])) for i in range(1, 4)]
@@ -304,7 +304,7 @@ class Made(unittest.TestCase):
             recorder.node(kind, operand)
         row = [0] * len(nodes)
         for last in range(rng.randint(1, 3)):
-            row = [old if last and kind == Kind.DATA else 2**32 - 1 if rng.random() < .02 and not kind.written else 4 * rng.randint(0, 5)
+            row = [old if last and kind == Kind.DATA else 2**32 - 1 if rng.random() < .1 and not kind.written else 4 * rng.randint(0, 5)
                    for old, kind in zip(row, kinds)]
             recorder.begin_pass()
             for i, kind in enumerate(kinds):
