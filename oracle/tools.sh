@@ -414,6 +414,12 @@ recipes() {
         is 1 tools/rehex "$room/4.hex" --to srec --load 0x8000
         is 1 tools/rehex "$room/5.s37" --to hex --load 0x8000
         [ "$(wc -c <"$room/3.bin")" -eq 64 ] || wrong=1
+        # a read-back in plain bytes, alone and cut from a dump of more
+        srec_cat "$room/3.bin" -binary -offset 0x8000 -o "$room/6.hex" -intel -disable=exec-start-address || wrong=1
+        is 0 tools/verify examples/banks.form "$room/6.hex" --load 0x8000
+        srec_cat "$room/6.hex" -intel -fill 0xff 0 0x9000 -o "$room/7.bin" -binary &&
+            srec_cat "$room/7.bin" -binary -crop 0x8000 0x8030 -o "$room/7.hex" -intel -disable=exec-start-address || wrong=1
+        is 0 tools/verify examples/banks.form "$room/7.hex" --load 0x8000
     else
         echo "left out: the recipes for srec_cat, which is not installed"
     fi
@@ -426,6 +432,7 @@ recipes() {
             tools/rehex "$room/back.hex" --to srec --load 0x8000 >"$room/again.s37" || wrong=1
         same "$room/back.s37" "$room/again.s37" "what objcopy wrote as S-records and as Intel HEX is not read as the same"
         is 1 tools/rehex "$room/o5.hex" --to srec --load 0x8000
+        is 0 tools/verify examples/banks.form "$room/o.hex" --load 0x8000
     else
         echo "left out: the recipes for objcopy, which is not installed"
     fi
