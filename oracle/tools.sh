@@ -357,7 +357,7 @@ verified() {
             "tools/verify --svg in $locale"
         has "$room/out" '<title>.*\\xff&lt;&amp;&gt;.hex: 1 byte differs, of 16 bytes</title>' "tools/verify --svg in $locale"
     done
-    differs tools/verify --svg --names "$room/odd.names" -o "$room/read.svg" -- "$room/odd.form" "$odd"
+    differs tools/verify --svg --names "$room/odd.names" --load 0x8000 -o "$room/read.svg" -- "$room/odd.form" "$odd"
     has "$room/read.svg" '</svg>' 'tools/verify --svg -o'
     # a refusal draws nothing, and inputs are not written over
     is 1 tools/verify --svg examples/clamp-mark-after.form "$room/read.hex" -o "$room/none.svg"

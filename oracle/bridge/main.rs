@@ -41,13 +41,8 @@ fn main() {
             tally.count("the same from a tree of another shape".to_string(), plain == varied);
             if rust.starts_with("refused 12") {
                 let (mine, theirs) = (plain.as_ref().and_then(|(_, nodes)| *nodes), customasms_overlap(file));
-                let (row, same) = match (mine, theirs) {
-                    (Some((node, None)), Some((their, Some(_)))) => {
-                        ("the node of an overlap alone, the image being past 16 MiB", node == their)
-                    }
-                    _ => ("the nodes of an overlap: refused, and in the way", mine.is_some() && mine == theirs),
-                };
-                tally.count(row.to_string(), same);
+                let same = mine.is_some() && mine == theirs;
+                tally.count("the nodes of an overlap: refused, and in the way".to_string(), same);
             }
             tally.take(file, &rust, plain.map(|(line, _)| line), &direct(file));
         }
