@@ -304,8 +304,8 @@ static inline uint64_t dk_bytes_read(const struct dk_block_list *blocks)
     return blocks->count == 0 ? 0 : (blocks->offsets[blocks->count - 1] + blocks->sizes[blocks->count - 1]) / 8;
 }
 
-/* Runs of bytes that are not as they should be: run i is the counts[i] bytes from byte firsts[i] on, DK_MISSING or DK_DIFFERENT by kinds[i]; `count` of them, in
- * lists of `room` elements. */
+/* Runs of bytes that are not as they should be: run i is the counts[i] bytes from byte firsts[i] on, DK_MISSING or DK_DIFFERENT by kinds[i]; `count` of them,
+ * in lists of `room` elements. */
 struct dk_unlike_list {
     uint64_t *firsts;
     uint64_t *counts;

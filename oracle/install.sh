@@ -201,7 +201,8 @@ if [ -f "$(find "$room/release" -name '*-windows.zip')" ]; then
     wine=$(command -v wine || command -v wine64 || command -v /usr/lib/wine/wine64) || wine=
     under_wine() { (cd "$room"/windows/* && WINEPREFIX=$room/wine WINEDEBUG=-all "$wine" denkumari.exe "$@") 2>"$room/err" | tr -d '\r'; }
     if [ -n "$wine" ]; then
-        under_wine layout "$examples/banks.form" | cmp -s - "$room/banks.layout" || fault "the command for Windows prints another layout: $(tail -n 1 "$room/err")"
+        under_wine layout "$examples/banks.form" | cmp -s - "$room/banks.layout" ||
+            fault "the command for Windows prints another layout: $(tail -n 1 "$room/err")"
         under_wine ihex "$examples/banks.form" --load 0x8000 | cmp -s - "$room/banks.hex" || fault "the command for Windows writes other records"
         sed '1s/1234E7$/1235E6/' "$room/banks.hex" >"$room/turned.hex"
         for dump in banks turned; do

@@ -1,7 +1,7 @@
-/* The structs of denkumari_tables.h, in C and, compiled as it is, in C++: document 01's worked example, a byte from tables to Intel HEX, ten-bit
- * words as records and read back, what is refused before a list is read, the bench, a file of records, and the answers that have their call's name. That each field stands in its place is tested on random layouts by `batch --structs`; here, of
- * every struct that denkumari.h declares, by calls whose fields differ from each other: a field that had another offset in C than in the archive would have
- * another's number. Prints what is wrong; the last line says how many tests there were. */
+/* The structs of denkumari_tables.h, in C and, compiled as it is, in C++: document 01's worked example, a byte from tables to Intel HEX, ten-bit words as records
+ * and read back, what is refused before a list is read, the bench, a file of records, and the answers that have their call's name. That each field stands in
+ * its place is tested on random layouts by `batch --structs`; here, of every struct that denkumari.h declares, by calls whose fields differ from each other: a
+ * field that had another offset in C than in the archive would have another's number. Prints what is wrong; the last line says how many tests there were. */
 #include <stdio.h>
 #include <string.h>
 

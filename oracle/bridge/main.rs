@@ -115,7 +115,8 @@ fn customasms_overlap(bytes: &[u8]) -> Option<(usize, Option<usize>)> {
 fn bridged(bytes: &[u8], varied: bool) -> Option<(String, Option<(usize, Option<usize>)>)> {
     let file = judge::form::read(bytes)?;
     let sound = (1..=16).contains(&file.banks.len())
-        && file.banks.iter().all(|bank| bank.is_within_limits() && !bank.is_empty_fill())
+        && file.banks.iter().all(|bank| bank.unit != 0 && bank.is_within_limits() && !bank.is_empty_fill())
+        && file.is_within_counts()
         && file.has_sound_lists();
     if !sound {
         return None;
