@@ -376,7 +376,12 @@ verified() {
         echo "tools/verify --svg: made a file where nothing was drawn"
         wrong=1
     }
-    # from a pipe too, either of them
+    # from a pipe too, either of them, which is called what it is
+    tools/verify --svg examples/banks.form - <examples/README.md >"$room/piped" 2>"$room/err" && wrong=1
+    grep -q '^tools/verify_svg: refused with 4: standard input: line 1' "$room/err" || {
+        echo "tools/verify --svg of a bad file from standard input: $(cat "$room/err")"
+        wrong=1
+    }
     tools/verify --svg examples/banks.form - --load 0x8000 <"$room/read.hex" >"$room/piped" || wrong=1
     has "$room/piped" '<title>standard input: the same, 16 bytes</title>' 'tools/verify --svg of standard input'
     tools/verify --svg - "$room/read.hex" --load 0x8000 <examples/banks.form | cmp -s - "$room/same.svg" || {
