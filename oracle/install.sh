@@ -211,6 +211,11 @@ if [ -f "$(find "$room/release" -name '*-windows.zip')" ]; then
                 fault "the command for Windows verifies $dump.hex otherwise: $(tail -n 1 "$room/err")"
         done
         grep -q 'should be 34' "$room/here" || fault "a turned bit is not found"
+        # its server keeps the folder for a while
+        if server=$(command -v wineserver || command -v /usr/lib/wine/wineserver); then
+            WINEPREFIX=$room/wine "$server" -k || :
+            WINEPREFIX=$room/wine "$server" -w || :
+        fi
         echo "installed: the command for Windows, under wine"
     else
         echo "left out: a run of the command for Windows: wine is not installed"
