@@ -26,7 +26,7 @@ _denkumari() {
         srec:*) [ "${word#-}" = "$word" ] || words="--load --whole --width --fill --page --room -o --help" ;;
         rehex:*) [ "${word#-}" = "$word" ] || words="--load --width --to -o --help" ;;
         bench:*) [ "${word#-}" = "$word" ] || words="--load --range --check --json -o --help" ;;
-        verify:*) [ "${word#-}" = "$word" ] || words="--load --whole --fill --page --room --names --json -o --help" ;;
+        verify:*) [ "${word#-}" = "$word" ] || words="--svg --load --whole --fill --page --room --names --json -o --help" ;;
         convert:*) [ "${word#-}" = "$word" ] || words="--to -o --help" ;;
         form:*) [ "${word#-}" = "$word" ] || words="--make --names -o --help" ;;
         esac

@@ -198,6 +198,23 @@ static inline struct dk_count dk_blocks_into(const struct dk_layout *layout, con
     return r;
 }
 
+/* The whole image of an accepted layout as one block in the place of its blocks, gaps and fill too: for words that do not begin and end on whole bytes, whose
+ * blocks are refused with 16. An empty image has none. The list needs room for one. */
+static inline struct dk_count dk_whole_into(const struct dk_layout *layout, struct dk_block_list *blocks)
+{
+    struct dk_count r = {DK_ACCEPTED, 0, layout->length > 0};
+    if (r.count > blocks->room) {
+        struct dk_count refused = {DK_TOO_SHORT, 2, 0};
+        return refused;
+    }
+    blocks->count = (size_t)r.count;
+    if (r.count == 1) {
+        blocks->offsets[0] = 0;
+        blocks->sizes[0] = (layout->length + 7) / 8 * 8;
+    }
+    return r;
+}
+
 /* dk_write_hex and dk_write_srec of a layout's image and its blocks. */
 static inline struct dk_count dk_write_hex_of(const struct dk_room *room, const struct dk_block_list *blocks, uint32_t load, uint8_t *text, size_t text_len)
 {
@@ -285,6 +302,29 @@ static inline struct dk_count dk_read_records_into(const struct dk_reading *read
 static inline uint64_t dk_bytes_read(const struct dk_block_list *blocks)
 {
     return blocks->count == 0 ? 0 : (blocks->offsets[blocks->count - 1] + blocks->sizes[blocks->count - 1]) / 8;
+}
+
+/* Runs of bytes that are not as they should be: run i is the counts[i] bytes from byte firsts[i] on, DK_MISSING or DK_DIFFERENT by kinds[i]; `count` of them,
+ * in lists of `room` elements. */
+struct dk_unlike_list {
+    uint64_t *firsts;
+    uint64_t *counts;
+    uint8_t *kinds;
+    size_t room;
+    size_t count;
+};
+
+/* dk_verify of a layout's image and its blocks against a file that was read from the same load address, with the blocks that it gives; accepted, it sets the
+ * list's count, which is 0 where, and only where, every byte is given with its value. */
+static inline struct dk_count dk_verify_of(const struct dk_room *room, const struct dk_block_list *blocks, const struct dk_reading *reading,
+                                           const struct dk_block_list *given, struct dk_unlike_list *unlike)
+{
+    struct dk_count r = dk_verify(room->image, room->image_len, blocks->offsets, blocks->count, blocks->sizes, blocks->count, reading->bytes,
+                                  reading->bytes_len, given->offsets, given->count, given->sizes, given->count, unlike->firsts, unlike->room,
+                                  unlike->counts, unlike->room, unlike->kinds, unlike->room);
+    if (r.refusal == DK_ACCEPTED)
+        unlike->count = (size_t)r.count;
+    return r;
 }
 
 /* dk_record_extent, dk_record_fault and dk_record_reason of the same file. */

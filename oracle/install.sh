@@ -71,6 +71,7 @@ as layout "$room/none"
 as compare "$examples/worked.form" "$examples/banks.form"
 if command -v python3 >/dev/null 2>&1; then
     as compare --svg "$examples/worked.form" "$examples/banks.form"
+    as verify --svg "$examples/banks.form" "$room/banks.hex"
     as form "$examples/worked.form"
 fi
 for command in layout map compare words ihex srec rehex bench verify convert; do
@@ -190,15 +191,32 @@ else
     echo "left out: the package for Debian: dpkg is not installed"
 fi
 
-# the zip file for Windows: whole, with the command; nothing here can run it unless wine is there
+# the zip file for Windows: whole, and its command run where wine is there
 if [ -f "$(find "$room/release" -name '*-windows.zip')" ]; then
     mkdir "$room/windows"
     python3 -m zipfile -e "$room"/release/*-windows.zip "$room/windows" || fault "the zip file for Windows cannot be unpacked"
     (cd "$room"/windows/* && sha256sum -c --quiet SHA256SUMS) || fault "the checksums in the zip file for Windows"
     [ "$(head -c 2 "$room"/windows/*/denkumari.exe)" = MZ ] || fault "the command for Windows is no program of Windows"
-    if command -v wine >/dev/null 2>&1; then
-        wine "$room"/windows/*/denkumari.exe layout "$examples/banks.form" 2>/dev/null | cmp -s - "$room/banks.layout" ||
-            fault "the command for Windows prints another layout"
+    # Debian's wine64 has no name on the PATH of its own
+    wine=$(command -v wine || command -v wine64 || command -v /usr/lib/wine/wine64) || wine=
+    under_wine() { (cd "$room"/windows/* && WINEPREFIX=$room/wine WINEDEBUG=-all "$wine" denkumari.exe "$@") 2>"$room/err" | tr -d '\r'; }
+    if [ -n "$wine" ]; then
+        under_wine layout "$examples/banks.form" | cmp -s - "$room/banks.layout" ||
+            fault "the command for Windows prints another layout: $(tail -n 1 "$room/err")"
+        under_wine ihex "$examples/banks.form" --load 0x8000 | cmp -s - "$room/banks.hex" || fault "the command for Windows writes other records"
+        sed '1s/1234E7$/1235E6/' "$room/banks.hex" >"$room/turned.hex"
+        for dump in banks turned; do
+            tools/verify "$examples/banks.form" "$room/$dump.hex" --load 0x8000 >"$room/here" 2>/dev/null
+            under_wine verify "$examples/banks.form" "$room/$dump.hex" --load 0x8000 | cmp -s - "$room/here" ||
+                fault "the command for Windows verifies $dump.hex otherwise: $(tail -n 1 "$room/err")"
+        done
+        grep -q 'should be 34' "$room/here" || fault "a turned bit is not found"
+        # its server keeps the folder for a while
+        if server=$(command -v wineserver || command -v /usr/lib/wine/wineserver); then
+            WINEPREFIX=$room/wine "$server" -k || :
+            WINEPREFIX=$room/wine "$server" -w || :
+        fi
+        echo "installed: the command for Windows, under wine"
     else
         echo "left out: a run of the command for Windows: wine is not installed"
     fi

@@ -7,6 +7,7 @@ import argparse
 import os
 import shutil
 import signal
+import stat
 import subprocess
 import sys
 import tempfile
@@ -77,6 +78,51 @@ def room():
         signal.pthread_sigmask(signal.SIG_BLOCK, ENDING)
         if folder is not None:
             shutil.rmtree(folder, ignore_errors=True)
+        signal.pthread_sigmask(signal.SIG_UNBLOCK, ENDING)
+
+
+def answer(data, path, sources):
+    """Bytes that are the answer: to standard output, or to a file that is none of the sources."""
+    if path is None:
+        sys.stdout.buffer.write(data)
+    else:
+        deliver(path, data, sources)
+
+
+def deliver(path, data, sources):
+    """The answer in a file of its own: made beside its place, and moved there when it is whole. It keeps the mode of the file that it replaces."""
+    place = os.path.realpath(path)
+    try:
+        old = os.stat(place) if os.path.exists(place) else None
+        if old and not stat.S_ISREG(old.st_mode):
+            raise Stop(f"{path} is no regular file")
+        if old and any(os.path.samestat(old, os.fstat(0) if one == "-" else os.stat(one)) for one in sources):
+            raise Stop(f"{path} is a file that is read, and is not written over")
+        umask = os.umask(0)
+        os.umask(umask)
+        replace(place, data, stat.S_IMODE(old.st_mode) if old else 0o666 & ~umask)
+    except OSError as error:
+        raise Stop(f"{path} could not be written: {error.strerror}") from None
+
+
+def replace(place, data, mode):
+    """While the file beside it is made and while it goes, signals wait."""
+    part, folder = None, os.open(os.path.dirname(place), os.O_RDONLY)
+    signal.pthread_sigmask(signal.SIG_BLOCK, ENDING)
+    try:
+        handle, part = tempfile.mkstemp(prefix=".part.", dir=os.path.dirname(place))
+        with open(handle, "wb") as file:
+            file.write(data)
+            file.flush()
+            os.fchmod(handle, mode)
+            os.fsync(handle)
+        os.replace(part, place)
+        part = None
+        os.fsync(folder)
+    finally:
+        if part is not None:
+            os.unlink(part)
+        os.close(folder)
         signal.pthread_sigmask(signal.SIG_UNBLOCK, ENDING)
 
 

@@ -236,6 +236,8 @@ is 2 tools/map --html "$room/over.form" -o "$room/over.names"
 is 2 tools/map --svg "$room/over.form" --names "$room/over.names" -o "$room/over.names"
 same "$room/over.kept" "$room/over.names" "tools/map wrote over its names"
 is 2 tools/map --html --svg examples/banks.form
+is 2 tools/map --svg --html=1 examples/banks.form
+is 0 tools/map --svg --fill=full --room 0x5000 -- examples/lock.form
 is 2 tools/map --html --lines examples/banks.form
 # names, given and beside the file, in the words of each tool; a names file that is none
 cp examples/clamp-mark-after.form "$room/clamp.form"
@@ -332,14 +334,66 @@ WORDS
     differs tools/compare --svg --names "$room/a.names" "$room/b.names" "$room/a.form" "$room/b.form"
     has "$room/out" '.*class="moved"><title>moved: node 4 .*' 'tools/compare --svg'
     has "$room/out" '</svg>' 'tools/compare --svg'
+    differs tools/compare --svg -o "$room/drawn.svg" "$room/a.form" "$room/b.form"
+    is 2 tools/compare --svg -o "$room/b.form" "$room/a.form" "$room/b.form"
+    has "$room/drawn.svg" '</svg>' 'tools/compare --svg -o'
     is 2 tools/compare --names "$room/a.form" "$room/b.names" "$room/a.form" "$room/b.form"
     is 2 tools/compare "$room/a.form" examples/clamp-mark-after.form
     is 2 tools/compare "$room/a.form"
 }
+# the picture of a read-back: what verify says, to scale (oracle/pictures.py), whole or not at all, whatever the files are called and the locale is
+verified() {
+    oracle/pictures.py 30 || wrong=1
+    tools/ihex examples/banks.form --load 0x8000 >"$room/read.hex" || wrong=1
+    is 0 tools/verify --svg examples/banks.form "$room/read.hex" --load=0x8000 -o "$room/same.svg"
+    has "$room/same.svg" '.*>words 0x100..0x11f: nothing is wrong</text>' 'tools/verify --svg of the same'
+    cp examples/banks.form "$room/odd.form"
+    printf '2\tcurve <1> & "2"\ttables.asm:3\n' >"$room/odd.names"
+    odd=$(printf '%s/\303\251 \377<&>.hex' "$room")
+    sed '1s/0E00401234E7$/0F00401234E6/' "$room/read.hex" >"$odd"
+    for locale in LC_ALL=C LC_ALL=C.UTF-8 PYTHONIOENCODING=latin-1; do
+        differs env "$locale" tools/verify --svg "$room/odd.form" "$odd" --load 0x8000
+        has "$room/out" '.*<title>curve &lt;1&gt; &amp; &quot;2&quot;, tables.asm:3 (node 2, instruction), word 0x100: 0f, should be 0e (0x.*' \
+            "tools/verify --svg in $locale"
+        has "$room/out" '<title>.*\\xff&lt;&amp;&gt;.hex: 1 byte differs, of 16 bytes</title>' "tools/verify --svg in $locale"
+    done
+    differs tools/verify --svg --names "$room/odd.names" --load 0x8000 -o "$room/read.svg" -- "$room/odd.form" "$odd"
+    has "$room/read.svg" '</svg>' 'tools/verify --svg -o'
+    # a refusal draws nothing, and inputs are not written over
+    is 1 tools/verify --svg examples/clamp-mark-after.form "$room/read.hex" -o "$room/none.svg"
+    has "$room/err" '.*refused with 12: .*' 'tools/verify --svg of a refused layout'
+    is 1 tools/verify --svg examples/worked.form "$room/read.hex" -o "$room/none.svg"
+    for call in "examples/banks.form $room/nothere" "examples/banks.form" "- -" "examples/banks.form $room/read.hex --json" \
+        "examples/banks.form $room/read.hex --load x" \
+        "examples/banks.form $room/read.hex --whole --nothing"; do
+        # shellcheck disable=SC2086
+        is 2 tools/verify --svg $call -o "$room/none.svg"
+    done
+    for out in odd.names odd.form read.hex .; do
+        is 2 tools/verify --svg "$room/odd.form" "$room/read.hex" -o "$room/$out"
+    done
+    [ ! -e "$room/none.svg" ] || {
+        echo "tools/verify --svg: made a file where nothing was drawn"
+        wrong=1
+    }
+    # from a pipe too, either of them, which is called what it is
+    tools/verify --svg examples/banks.form - <examples/README.md >"$room/piped" 2>"$room/err" && wrong=1
+    grep -q '^tools/verify_svg: refused with 4: standard input: line 1' "$room/err" || {
+        echo "tools/verify --svg of a bad file from standard input: $(cat "$room/err")"
+        wrong=1
+    }
+    tools/verify --svg examples/banks.form - --load 0x8000 <"$room/read.hex" >"$room/piped" || wrong=1
+    has "$room/piped" '<title>standard input: the same, 16 bytes</title>' 'tools/verify --svg of standard input'
+    tools/verify --svg - "$room/read.hex" --load 0x8000 <examples/banks.form | cmp -s - "$room/same.svg" || {
+        echo "tools/verify --svg: another picture of a layout from standard input"
+        wrong=1
+    }
+}
 if command -v python3 >/dev/null 2>&1; then
     compared
+    verified
 else
-    echo "skipped: tools/compare and tools/form, for want of python3"
+    echo "skipped: tools/compare, tools/form and the picture of tools/verify, for want of python3"
 fi
 # the recipes of docs/RECIPES.md, where their tools are installed: each file that its option makes good is read, and the one without is not
 recipes() {
@@ -365,6 +419,12 @@ recipes() {
         is 1 tools/rehex "$room/4.hex" --to srec --load 0x8000
         is 1 tools/rehex "$room/5.s37" --to hex --load 0x8000
         [ "$(wc -c <"$room/3.bin")" -eq 64 ] || wrong=1
+        # a read-back in plain bytes, alone and cut from a dump of more
+        srec_cat "$room/3.bin" -binary -offset 0x8000 -o "$room/6.hex" -intel -disable=exec-start-address || wrong=1
+        is 0 tools/verify examples/banks.form "$room/6.hex" --load 0x8000
+        srec_cat "$room/6.hex" -intel -fill 0xff 0 0x9000 -o "$room/7.bin" -binary &&
+            srec_cat "$room/7.bin" -binary -crop 0x8000 0x8030 -o "$room/7.hex" -intel -disable=exec-start-address || wrong=1
+        is 0 tools/verify examples/banks.form "$room/7.hex" --load 0x8000
     else
         echo "left out: the recipes for srec_cat, which is not installed"
     fi
@@ -377,6 +437,7 @@ recipes() {
             tools/rehex "$room/back.hex" --to srec --load 0x8000 >"$room/again.s37" || wrong=1
         same "$room/back.s37" "$room/again.s37" "what objcopy wrote as S-records and as Intel HEX is not read as the same"
         is 1 tools/rehex "$room/o5.hex" --to srec --load 0x8000
+        is 0 tools/verify examples/banks.form "$room/o.hex" --load 0x8000
     else
         echo "left out: the recipes for objcopy, which is not installed"
     fi

@@ -3,7 +3,7 @@
 # many files.
 . "$(dirname "$(readlink -f -- "$0")")/start.sh"
 . "$home/tools/native.sh"
-fill='' page='' names='' output='' part='' file='' files=0
+fill='' page='' image_room='' names='' output='' part='' file='' files=0
 
 # A number, decimal or in hex after 0x, as decimal.
 number() {
@@ -32,11 +32,26 @@ word() {
     [ -n "$value" ] || say "$1 wants one of: $3; and not '$2'"
 }
 
-# Reads the command line, options and files in any order.
+# Reads the command line, options and files in any order; --option=value is --option value, and behind -- every word is a file.
 options() {
+    only_files=''
     while [ "$#" -gt 0 ]; do
         name=$1
-        case $name in
+        case $only_files$name in
+        --)
+            only_files=' '
+            shift
+            continue
+            ;;
+        --?*=*)
+            shift
+            set -- "${name%%=*}" "${name#*=}" "$@"
+            name=$1
+            case " $takes " in
+            *" $name "*) ;;
+            *) say "there is no option $name with a value (--help says what there is)" ;;
+            esac
+            ;;
         -?*)
             case " ${flags:-} " in
             *" $name "*)
@@ -61,6 +76,7 @@ options() {
         esac
         case $name in
         --page) number "$name" "$2" && page=$value ;;
+        --room) number "$name" "$2" && image_room=$value ;;
         --fill) word "$name" "$2" 'inherited full' && fill=$value ;;
         --names)
             [ -n "$2" ] || say "the name of a file is empty"

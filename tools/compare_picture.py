@@ -84,9 +84,9 @@ class Picture:
         kind = f' class="{kind}"' if kind else ""
         self.emit(f'<path d="M{number(start[0])} {number(start[1])}L{number(end[0])} {number(end[1])}"{kind}/>')
 
-    def legend(self):
+    def legend(self, entries):
         x = LEFT
-        for kind, words in LEGEND:
+        for kind, words in entries:
             self.area(x, self.y, (28, 14), kind)
             self.write(x + 34, self.y + 11, words)
             x += 54 + 5.8 * len(words)
@@ -102,6 +102,12 @@ class Picture:
             line += (" " if line else "") + word
         self.write(LEFT, self.y, line)
         self.y += 8
+
+    def framed(self, head):
+        """The lines of the whole drawing."""
+        across, down = LEFT + WIDE + 34, number(self.y + 6)
+        return [f'<svg xmlns="http://www.w3.org/2000/svg" width="{across}" height="{down}" viewBox="0 0 {across} {down}">',
+                f"<title>{escape(head)}</title>", STYLE, PATTERNS, '<rect width="100%" height="100%" style="fill:#fff;stroke:none"/>', *self.body, "</svg>"]
 
 
 class Axis:
@@ -216,7 +222,7 @@ def drawn(old, new, pairs, runs, head):
     picture = Picture()
     picture.write(LEFT, picture.y, head.split(": ", 1)[0], "top")
     picture.y += 12
-    picture.legend()
+    picture.legend(LEGEND)
     picture.y += 12
     picture.paragraph(head.split(": ", 1)[1])
     low, high = sorted((len(old.image), len(new.image)))
@@ -225,9 +231,7 @@ def drawn(old, new, pairs, runs, head):
     banks = sorted({node.bank for one, other, _ in pairs for node in (one, other) if node is not None and node.output is None})
     for bank in banks:
         draw_axis(picture, Axis(bank, pairs, (0, 0), []), f"Bank {bank}, which has no place in the output")
-    across, down = LEFT + WIDE + 34, number(picture.y + 6)
-    return [f'<svg xmlns="http://www.w3.org/2000/svg" width="{across}" height="{down}" viewBox="0 0 {across} {down}">',
-            f"<title>{escape(head)}</title>", STYLE, PATTERNS, '<rect width="100%" height="100%" style="fill:#fff;stroke:none"/>', *picture.body, "</svg>"]
+    return picture.framed(head)
 
 
 if __name__ == "__main__":

@@ -71,7 +71,7 @@ with_pictures() {
     shift
     for one in "$@"; do
         case $command:$one in
-        map:--svg | compare:--svg | map:--html) exec "$home/tools/${command}_${one#--}" "$@" ;;
+        map:--svg | compare:--svg | verify:--svg | map:--html) exec "$home/tools/${command}_${one#--}" "$@" ;;
         esac
     done
     start_native "$command" "$@"

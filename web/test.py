@@ -82,6 +82,8 @@ def main():
     asked.add_argument("--files", type=manners.count, default=1500, help="how many random layout files")
     asked.add_argument("--pictures", help="where pictures of the page are left")
     asked = asked.parse_args()
+    if asked.pictures:
+        Path(asked.pictures).mkdir(parents=True, exist_ok=True)
     held(HERE / "build.py")
     if not shutil.which("node"):
         print("left out: the page beside the command, and in a browser: node is not installed")

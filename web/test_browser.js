@@ -171,11 +171,12 @@ async function given(browser) {
     const form = path.join(room, "given <b>&.form"), out = path.join(room, "given.html"), names = path.join(room, "given.names");
     fs.copyFileSync(example("sequencer"), form);
     fs.writeFileSync(names, "24\t<script>alert(1)</script>\tödp.asm:3\n");
-    const made = child.spawnSync(path.join(root, "tools", "map"), ["--html", "--fill", "full", "--names", names, "-o", out, form], { encoding: "utf8" });
+    const words = ["--html", "--fill", "full", "--room", "20000", "--names", names, "-o", out, form];
+    const made = child.spawnSync(path.join(root, "tools", "map"), words, { encoding: "utf8" });
     same("map --html", [made.status, made.stdout, made.stderr], [0, "", ""]);
     await browser.open("file://" + out);
-    same("what it shows", await browser.ask("[state.docs[NOW].name, state.said[NOW].choices.fill, nameOf(state.said[NOW], 24)]"),
-        ["given <b>&.form", "full", "<script>alert(1)</script>"]);
+    same("what it shows", await browser.ask("[state.docs[NOW].name, state.said[NOW].choices.fill, state.said[NOW].choices.room, nameOf(state.said[NOW], 24)]"),
+        ["given <b>&.form", "full", "20000", "<script>alert(1)</script>"]);
     const pdf = Buffer.from((await browser.send("Page.printToPDF", { preferCSSPageSize: true, printBackground: true })).data, "base64");
     same("it prints", [pdf.subarray(0, 5).toString(), pdf.length > 40000], ["%PDF-", true]);
     if (pictures) fs.writeFileSync(path.join(pictures, "print.pdf"), pdf);

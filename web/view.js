@@ -84,6 +84,7 @@ function openGiven() {
     if (!given) return undefined;
     $("fill").value = given.fill;
     $("page").value = given.page;
+    $("room").value = given.room || "";
     const name = text(given.name), names = given.names ? unbase(given.names) : null;
     return show([null, { name, form: unbase(given.form), names, namesName: names ? name + ".names" : null }]);
 }

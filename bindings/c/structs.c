@@ -1,7 +1,7 @@
-/* The structs of denkumari_tables.h, in C and, compiled as it is, in C++: document 01's worked example, a byte from tables to Intel HEX, what is refused before
- * a list is read, the bench, a file of records, and the answers that have their call's name. That each field stands in its place is tested on random layouts by `batch --structs`; here, of
- * every struct that denkumari.h declares, by calls whose fields differ from each other: a field that had another offset in C than in the archive would have
- * another's number. Prints what is wrong; the last line says how many tests there were. */
+/* The structs of denkumari_tables.h, in C and, compiled as it is, in C++: document 01's worked example, a byte from tables to Intel HEX, ten-bit words as records
+ * and read back, what is refused before a list is read, the bench, a file of records, and the answers that have their call's name. That each field stands in
+ * its place is tested on random layouts by `batch --structs`; here, of every struct that denkumari.h declares, by calls whose fields differ from each other: a
+ * field that had another offset in C than in the archive would have another's number. Prints what is wrong; the last line says how many tests there were. */
 #include <stdio.h>
 #include <string.h>
 
@@ -308,8 +308,50 @@ static void records_by_name(void)
     expect(dk_record_reason_of(&reading).reason == DK_NO_START, "the same as S-records");
 }
 
+/* From a layout of ten-bit words to records, and what was read back held against it: the same, a byte turned, a byte not given. */
+static void read_back(void)
+{
+    static const char turned[] = ":05800000FFC042A800D2\n:00000001FF\n", cut[] = ":04800000FFC002A813\n:00000001FF\n";
+    static uint8_t text[128], bytes[8], scratch[1], kinds_of[4];
+    static uint64_t given_offsets[4], given_sizes[4], firsts[4], counts_of[4];
+    struct dk_tables tables = worked_tables();
+    struct dk_room room = lent();
+    struct dk_block_list blocks = {block_offsets, block_sizes, 4, 0}, given = {given_offsets, given_sizes, 4, 0}, no_room = {NULL, NULL, 0, 7};
+    struct dk_unlike_list unlike = {firsts, counts_of, kinds_of, 4, 9};
+    struct dk_reading reading = dk_no_reading();
+    struct dk_layout r = dk_build_tables(&tables, &room), empty;
+    expect(dk_blocks_into(&r, &room, &blocks).refusal == 0 && dk_write_hex_of(&room, &blocks, 0x8000, text, sizeof text).refusal == DK_BAD_PART,
+           "ten-bit blocks as records");
+    expect(dk_whole_into(&r, &blocks).count == 1 && blocks.count == 1 && block_offsets[0] == 0 && block_sizes[0] == 40, "the whole image");
+    expect(dk_whole_into(&r, &no_room).refusal == DK_TOO_SHORT && dk_whole_into(&r, &no_room).place == 2 && no_room.count == 7, "no room for it");
+    empty = r;
+    empty.length = 0;
+    expect(dk_whole_into(&empty, &no_room).refusal == 0 && no_room.count == 0, "an empty image has no block");
+    struct dk_count n = dk_write_hex_of(&room, &blocks, 0x8000, text, sizeof text);
+    reading.text = text;
+    reading.text_len = (size_t)n.count;
+    reading.load = 0x8000;
+    reading.bytes = bytes;
+    reading.bytes_len = sizeof bytes;
+    reading.scratch = scratch;
+    reading.scratch_len = sizeof scratch;
+    expect(n.refusal == 0 && dk_read_records_into(&reading, &given).refusal == 0, "written and read");
+    expect(dk_verify_of(&room, &blocks, &reading, &given, &unlike).refusal == 0 && unlike.count == 0, "the same");
+    reading.text = (const uint8_t *)turned;
+    reading.text_len = sizeof turned - 1;
+    expect(dk_read_records_into(&reading, &given).refusal == 0 && dk_verify_of(&room, &blocks, &reading, &given, &unlike).count == 1, "a byte turned");
+    expect(unlike.count == 1 && firsts[0] == 2 && counts_of[0] == 1 && kinds_of[0] == DK_DIFFERENT, "which one");
+    reading.text = (const uint8_t *)cut;
+    reading.text_len = sizeof cut - 1;
+    expect(dk_read_records_into(&reading, &given).refusal == 0 && dk_verify_of(&room, &blocks, &reading, &given, &unlike).count == 1, "a byte not given");
+    expect(firsts[0] == 4 && counts_of[0] == 1 && kinds_of[0] == DK_MISSING, "which one is not given");
+    unlike.room = 0;
+    expect(dk_verify_of(&room, &blocks, &reading, &given, &unlike).refusal == DK_TOO_SHORT && unlike.count == 1, "no room for a run");
+}
+
 int main(void)
 {
+    read_back();
     bench_by_name();
     records_by_name();
     worked_example();

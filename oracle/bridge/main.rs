@@ -41,13 +41,8 @@ fn main() {
             tally.count("the same from a tree of another shape".to_string(), plain == varied);
             if rust.starts_with("refused 12") {
                 let (mine, theirs) = (plain.as_ref().and_then(|(_, nodes)| *nodes), customasms_overlap(file));
-                let (row, same) = match (mine, theirs) {
-                    (Some((node, None)), Some((their, Some(_)))) => {
-                        ("the node of an overlap alone, the image being past 16 MiB", node == their)
-                    }
-                    _ => ("the nodes of an overlap: refused, and in the way", mine.is_some() && mine == theirs),
-                };
-                tally.count(row.to_string(), same);
+                let same = mine.is_some() && mine == theirs;
+                tally.count("the nodes of an overlap: refused, and in the way".to_string(), same);
             }
             tally.take(file, &rust, plain.map(|(line, _)| line), &direct(file));
         }
@@ -120,7 +115,8 @@ fn customasms_overlap(bytes: &[u8]) -> Option<(usize, Option<usize>)> {
 fn bridged(bytes: &[u8], varied: bool) -> Option<(String, Option<(usize, Option<usize>)>)> {
     let file = judge::form::read(bytes)?;
     let sound = (1..=16).contains(&file.banks.len())
-        && file.banks.iter().all(|bank| bank.is_within_limits() && !bank.is_empty_fill())
+        && file.banks.iter().all(|bank| bank.unit != 0 && bank.is_within_limits() && !bank.is_empty_fill())
+        && file.is_within_counts()
         && file.has_sound_lists();
     if !sound {
         return None;

@@ -13,7 +13,7 @@ $1 == "node" { split($0, w); take_node(w); next }
 $1 == "fault" { fault = $2; next }
 $1 == "accepted" || $1 == "refused" { verdict = $0; next }
 $1 == "block" { block_from[blocks] = $2; block_size[blocks++] = $3; next }
-$1 == "image" { digits = length($2); built = 1; next }
+$1 == "bits" { laid_bits = $2; built = 1; next }
 $1 == "passes" { k = $2; next }
 { for (i = 1; i <= NF; i++) b[n++] = $i }
 

@@ -5,7 +5,7 @@ from typing import Any, Dict, List, Optional, Tuple
 
 from ._c import MOST, number
 from ._layout import ROOM, Built, Layout, Value, bits_of
-from ._types import Bank, Kind, Node, State
+from ._types import Bank, Kind, Node, Placed, State
 
 
 class Misuse(ValueError):
@@ -14,7 +14,8 @@ class Misuse(ValueError):
 
 class Recorder:
     """Records a layout pass by pass: banks and nodes once, in the order of the source; then for each pass `begin_pass` and a number and a state for each
-    node (`tell`); the bits of written items at any time (`value`, the newest count). Nobody counts bits: operands come from the values.
+    node (`tell`); the bits of written items at any time (`value`, the newest count). Nobody counts bits: operands come from the values; and nobody reckons
+    addresses: `places` says where everything stands in a pass.
 
     >>> recorder = Recorder(limit=10)
     >>> flash = recorder.bank(size=512, offset=0)
@@ -75,6 +76,41 @@ class Recorder:
         if not self._kind(node).written:
             raise Misuse(f"{self._called(node)} is not written, and has no value")
         self._values[node] = bits_of(value, bits)
+
+    def places(self) -> List[Placed]:
+        """Where each node stands in the pass that has begun, as far as it was told: up to the first node that it has said nothing of, which is there too,
+        since what a node sees depends on the nodes ahead of it alone. Refused 1, 2, 3 for the banks, 5 for a position that would go too far.
+
+        >>> recorder = Recorder()
+        >>> words = recorder.bank(unit=10, start=64, size=40, offset=0)
+        >>> nodes = [recorder.node(kind, words) for kind in (Kind.SWITCH, Kind.DATA, Kind.LABEL)]
+        >>> recorder.begin_pass()
+        >>> [placed.address for placed in recorder.places()]
+        [64, 64]
+        >>> recorder.tell(nodes[1], 20)
+        >>> recorder.places()[nodes[2]].address
+        66
+
+        The library is asked for the map of this pass's row as a layout of one row and limit 0. Positions depend on that row alone (document 01); data of
+        declared size has the same number in every pass here. What could end the walk early is taken from it and moves nothing: written items, whose values are
+        not read, are reserves, labels are constants of their depth, and every state is unresolved, so that no placement is tried.
+        """
+        if not self._told:
+            raise Misuse("no pass has begun")
+        told, walk = self._told[-1], Layout(0, 1)
+        walk.banks, walk.names = self._layout.banks, self._layout.names
+        kinds = []
+        for i, node in enumerate(self._layout.nodes):
+            kinds.append(Kind(node.kind))
+            walked = Kind.RESERVE if kinds[i].written else Kind.CONSTANT if kinds[i] == Kind.LABEL else kinds[i]
+            walk.nodes.append(Node(walked, node.operand, (told.get(i, (0, 0))[0],), (State.UNRESOLVED,)))
+            if kinds[i] > Kind.LABEL and i not in told:
+                break
+        mapped = walk.map()
+        if mapped.stopped == 5:
+            walk.nodes = [node._replace(kind=kind) for node, kind in zip(walk.nodes, kinds)]  # for the words
+            raise walk._refused(5, mapped.place, 0, mapped, 0)
+        return [placed._replace(kind=kinds[placed.node]) for placed in mapped]
 
     def layout(self) -> Layout:
         """The layout so far: a row for each pass, without rows at the end that are as the one before, which change nothing."""

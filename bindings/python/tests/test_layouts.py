@@ -4,7 +4,7 @@ import unittest
 from pathlib import Path
 
 from .common import EXAMPLES, HOW_MANY, ROOT, answers, batched, command, draw, drawn_files, paged_files, refusal, some_layout
-from denkumari import BadNames, Bank, Kind, Layout, Misuse, Recorder, Refused, State, cksum, convert, read_names
+from denkumari import BadNames, Bank, Kind, Layout, Misuse, Placed, Recorder, Refused, State, cksum, convert, read_names
 
 FILLS = ("inherited", "full")
 
@@ -24,6 +24,36 @@ def line_of(file, fill="inherited", page=None):
     said = f"ok {built.k} {built.passes} {built.length} {built.digits() or '-'} | spans {spans} | blocks {listed(f'{o}:{b}' for o, b in built.blocks)}"
     said += f" | padding {listed(p.bits for p in built.padding)} | units {listed(p.units for p in built.padding)}"
     return said if page is None else said + f" | pages {listed(layout.profile(page, fill))}"
+
+
+def walked(banks, nodes, row):
+    """Document 01's walk of one row, by hand: where each node stands, or the node at which a position would pass 4,294,967,295."""
+    bank, at, places = 0, [0] * len(banks), []
+    for i, ((kind, operand), bits) in enumerate(zip(nodes, row)):
+        bank = operand if kind == Kind.SWITCH else bank
+        unit, start, _, offset, align = banks[bank][:5]
+        if kind in (Kind.LABEL, Kind.CONSTANT) and operand == 0 and align:
+            at[bank] += -(start * unit + at[bank]) % align
+        seen = at[bank]
+        if kind == Kind.ALIGN and bits:
+            at[bank] += -(start * unit + seen) % bits
+        elif kind == Kind.ADDR:
+            at[bank] = bits
+        elif kind.placed:
+            at[bank] += bits
+        if at[bank] >= 2**32:
+            return i
+        output = None if offset is None else offset + seen
+        places.append(Placed(i, "", kind, bank, seen, start + seen // unit, seen % unit, output, bits if kind.placed else 0))
+    return places
+
+
+def said_of(recorder):
+    """The places of a pass, or the node at which refusal 5 is met."""
+    try:
+        return recorder.places()
+    except Refused as refused:
+        return refused.node if refused.number == 5 else refused
 
 
 def fields(file):
@@ -254,6 +284,71 @@ class Made(unittest.TestCase):
         for each in (layout, recorder):
             self.assertEqual((each.build().digits(), each.build().k), ("eb02beef", 3))
         self.assertEqual(layout.to_form(), recorder.layout().to_form())
+
+    def test_places(self):
+        """Where everything stands in each pass: beside a walk by hand, within the pass too; beside the map of the row, as far as that goes; and beside the
+        spans of its build."""
+        rng, seen = draw("places"), {"within": 0, "stopped": 0, "built": 0, "too far": 0}
+        for _ in range(max(HOW_MANY, 200)):
+            self.places_of(rng, seen)
+        self.assertTrue(all(count > 10 for count in seen.values()), seen)
+
+    def places_of(self, rng, seen):
+        banks = [Bank(rng.choice([1, 8, 10, 16]), rng.randint(-32, 32), 96, rng.choice([None, 96 * i]), rng.choice([None, 0, 8, 30])) for i in range(1, 4)]
+        recorder = Recorder(limit=rng.randint(0, 3))
+        for bank in banks:
+            recorder.bank(*bank)
+        kinds = [Kind(rng.randint(0, 10)) for _ in range(rng.randint(0, 12))]
+        nodes = [(kind, rng.randint(0, 3 if kind == Kind.SWITCH else 1)) for kind in kinds]
+        for kind, operand in nodes:
+            recorder.node(kind, operand)
+        row = [0] * len(nodes)
+        for last in range(rng.randint(1, 3)):
+            row = [old if last and kind == Kind.DATA else 2**32 - 1 if rng.random() < .1 and not kind.written else 4 * rng.randint(0, 5)
+                   for old, kind in zip(row, kinds)]
+            recorder.begin_pass()
+            for i, kind in enumerate(kinds):
+                if kind > Kind.LABEL:
+                    if rng.random() < .25:
+                        seen["within"] += 1
+                        self.assertEqual(said_of(recorder), walked([Bank(), *banks], nodes[:i + 1], row[:i] + [0]))
+                    recorder.tell(i, row[i], rng.randint(0, 2))
+            places = said_of(recorder)
+            self.assertEqual(places, walked([Bank(), *banks], nodes, row))
+            if isinstance(places, int):
+                seen["too far"] += 1
+                continue
+            layout = Layout(limit=0)
+            for bank in banks:
+                layout.bank(*bank)
+            layout._values.data = bytearray(8)
+            for (kind, operand), bits in zip(nodes, row):
+                layout.node(kind, operand if kind < Kind.INSTRUCTION else 0, bits)
+            mapped = layout.map()
+            self.assertEqual(places[:len(mapped)], list(mapped))
+            seen["stopped"] += mapped.stopped > 0
+            if refusal(layout.build) is None:
+                seen["built"] += 1
+                for span in layout.build().spans:
+                    self.assertEqual((places[span.node].address, places[span.node].output, places[span.node].bits), span[2:])
+
+    def test_no_places(self):
+        recorder = Recorder()
+        with self.assertRaisesRegex(Misuse, "no pass has begun"):
+            recorder.places()
+        far, stack = recorder.node(Kind.ADDR), recorder.node(Kind.INSTRUCTION, name="stack", place="brake.asm:9")
+        recorder.begin_pass()
+        recorder.tell(far, 2**32 - 1)
+        self.assertEqual(recorder.places()[stack][:8], (stack, "stack", Kind.INSTRUCTION, 0, 2**32 - 1, 536870911, 7, None))
+        recorder.tell(stack, 1)
+        refused = refusal(recorder.places)
+        self.assertEqual((refused.number, refused.node, refused.name), (5, stack, "stack"))
+        self.assertTrue(refused.words.startswith("stack, brake.asm:9 (node 1, instruction, bank 0, 1 bit)"), refused.words)
+        overlapping = Recorder()
+        for _ in range(2):
+            overlapping.bank(offset=0)
+        overlapping.begin_pass()
+        self.assertEqual(str(refusal(overlapping.places)).split(":")[0], "refused 3 1 2")
 
     def test_recorder_turns_away(self):
         recorder = Recorder()

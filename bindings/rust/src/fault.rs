@@ -1,6 +1,6 @@
 //! A refusal with the nodes that it speaks of.
 
-use crate::{Kind, Name, Names, Program, Refusal, State};
+use crate::{Kind, Name, Names, Program, Refusal, Standing};
 use std::fmt;
 
 /// A node, with what is known of it.
@@ -21,15 +21,14 @@ pub struct Fault {
     pub refusal: Refusal,
     /// The node at which it was met.
     pub node: Option<NodeAt>,
-    /// Of refusal 12: the item, reserve or mark whose start and size the refusal names; `None` where the image ahead of it is past 16 MiB.
+    /// Of refusal 12: the item, reserve or mark whose start and size the refusal names.
     pub other: Option<NodeAt>,
     more: Option<String>,
 }
 
 impl Program {
     /// What a refusal of [`Program::build`] speaks of. Refusal 4 says whether its place is a count or a node, and what is wrong with it; refusal 12, which
-    /// names a start and a size, is given its node: the library is asked again for the first nodes of the list, in the row of the last pass, until it
-    /// refuses.
+    /// names a start and a size, is given its node, and the one that stands there, by [`Program::map`].
     ///
     /// ```
     /// use denkumari::{Bank, Kind, Program, State::Resolved};
@@ -67,9 +66,9 @@ impl Program {
             | Refusal::PastBank { node, .. }
             | Refusal::NoOutput { node, .. }
             | Refusal::StoreFull { node, .. } => (Some(node as usize), None, None),
-            Refusal::Overlap { start, size, passes } => {
-                let (node, other) = self.at_overlap(start, size, passes);
-                (node, other, None)
+            Refusal::Overlap { start, size, .. } => {
+                let met = self.at_overlap(start, size);
+                (met.map(|met| met.0), met.and_then(|met| met.1), None)
             }
             _ => (None, None, None),
         };
@@ -88,71 +87,14 @@ impl Program {
         Some(format!("in row {row} it ends at bit {past} of the values, which have {end}"))
     }
 
-    /// The first nodes of the list in the row of that pass, as a layout of one pass: everything stands where it stands in that pass.
-    fn beginning(&self, nodes: usize, pass: u64) -> Option<Program> {
-        let row = self.rows.get((pass.min(self.rows.len() as u64)).checked_sub(1)? as usize)?;
-        let first = self.rows.first()?;
-        let declared =
-            |node: usize, cell: u32| if self.kinds.get(node) == Some(&Kind::Data) { first.get(node).map_or(cell, |c| c.0) } else { cell };
-        let cells = row.iter().enumerate().take(nodes).map(|(node, cell)| (declared(node, cell.0), State::Resolved)).collect();
-        Some(Program {
-            kinds: self.kinds.get(..nodes)?.to_vec(),
-            operands: self.operands.get(..nodes)?.to_vec(),
-            rows: vec![cells],
-            limit: 0,
-            choices: crate::Choices { page: None, ..self.choices },
-            ..self.clone()
-        })
-    }
-
-    fn at_overlap(&self, start: u64, size: u64, passes: u64) -> (Option<usize>, Option<usize>) {
-        let refused = |nodes: usize| matches!(self.beginning(nodes, passes).map(|p| p.build(0)), Some(Err(Refusal::Overlap { .. })));
-        // the least count of nodes that is refused so: what is refused stays refused with more nodes behind it
-        let (mut low, mut high) = (0, self.kinds.len());
-        if !refused(high) {
-            return (None, None);
-        }
-        while low < high {
-            let middle = low + (high - low) / 2;
-            if refused(middle) {
-                high = middle;
-            } else {
-                low = middle + 1;
-            }
-        }
-        let node = high.checked_sub(1);
-        (node, node.and_then(|node| self.standing(node, start, size, passes)))
-    }
-
-    /// The node ahead of `node` that stands from bit `start` on with so many bits. Spans tell where written items stand; of a reserve, which has no span, an
-    /// item of no bits ahead of it tells.
-    fn standing(&self, node: usize, start: u64, size: u64, pass: u64) -> Option<usize> {
-        let ahead = self.beginning(node, pass)?;
-        let (mut told, mut of, mut row, mut bank) = (ahead.clone(), Vec::new(), Vec::new(), 0);
-        told.kinds.clear();
-        told.operands.clear();
-        // a fill moves nothing, and may make the image long
-        told.banks.iter_mut().for_each(|bank| bank.fill = false);
-        for (i, cell) in ahead.rows.first()?.iter().enumerate() {
-            let (kind, operand) = (*ahead.kinds.get(i)?, *ahead.operands.get(i)?);
-            match kind {
-                Kind::Switch => bank = operand as usize,
-                Kind::Label => of.push(None),
-                Kind::Reserve if self.banks.get(bank)?.offset.is_some() => {
-                    told.node(Kind::OpenData, 0);
-                    row.push((0, State::Resolved));
-                    of.push(Some((i, u64::from(cell.0))));
-                }
-                kind if kind.is_written() => of.push(Some((i, u64::from(cell.0)))),
-                _ => {}
-            }
-            told.node(kind, operand);
-            row.push(*cell);
-        }
-        told.rows = vec![row];
-        let built = told.build(1 << 24).ok()?;
-        let stands = of.into_iter().zip(built.spans).filter(|(_, span)| span.offset == Some(start));
-        stands.filter_map(|(of, _)| of).find(|(_, bits)| *bits == size).map(|(node, _)| node)
+    /// Of refusal 12 the node that was refused, by the map, and the one ahead of it that stands from bit `start` on with so many bits.
+    fn at_overlap(&self, start: u64, size: u64) -> Option<(usize, Option<usize>)> {
+        let map = self.map().ok()?;
+        let node = map.stopped.filter(|stopped| stopped.why.number() == 12)?.node? as usize;
+        let stands = |(standing, kind): (&Standing, &Kind)| {
+            (4..=7).contains(&(*kind as u8)) && standing.output == Some(start) && u64::from(standing.size) == size
+        };
+        Some((node, map.nodes.iter().zip(&self.kinds).take(node).position(stands)))
     }
 }
 

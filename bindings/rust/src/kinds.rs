@@ -101,6 +101,15 @@ impl Kind {
         self as u8 >= 3
     }
 
+    /// A kind that moves the walk as this one does and refuses less: reserves for written items, constants for labels.
+    pub(crate) fn walked(self) -> Kind {
+        match self {
+            Kind::Label => Kind::Constant,
+            kind if kind.is_written() => Kind::Reserve,
+            kind => kind,
+        }
+    }
+
     /// Its word in `tools/form`.
     pub fn word(self) -> &'static str {
         match self {

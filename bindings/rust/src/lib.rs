@@ -57,7 +57,7 @@ pub use maps::{map, Map, Standing, Stopped};
 pub use misuse::Misuse;
 pub use names::{BadNames, Name, Names};
 pub use owned::{Bank, Block, Built, Program, Span};
-pub use recorder::{Node, NotBuilt, Recorder};
+pub use recorder::{Node, NotBuilt, Place, Recorder};
 pub use store::{NoneStored, NotStored, Store};
 pub use values::Values;
 

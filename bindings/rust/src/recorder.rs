@@ -1,6 +1,6 @@
 //! What an assembler tells pass by pass, kept until the library is asked.
 
-use crate::{Bank, Built, Choices, Fault, Form, Kind, Misuse, Names, Program, Refusal, State, Values};
+use crate::{Bank, Built, Choices, Fault, Form, Kind, Misuse, Names, Program, Refusal, Standing, State, Values};
 use std::fmt;
 
 /// A node of a [`Recorder`].
@@ -14,9 +14,27 @@ impl Node {
     }
 }
 
+/// Where a node stands in a pass.
+#[derive(Clone, Copy, Debug, PartialEq, Eq)]
+pub struct Place {
+    /// The bank that it stands in.
+    pub bank: u32,
+    /// The position that it sees, in bits of its bank.
+    pub position: u32,
+    /// The bank's own address there, in whole units.
+    pub address: i64,
+    /// How many bits past that address it stands; a label may have none in the last pass.
+    pub past: u32,
+    /// Its place in the output, in bits.
+    pub output: Option<u64>,
+    /// The bits of an item or a reserve, else 0.
+    pub size: u32,
+}
+
 /// Records a layout as an assembler comes to know it: banks and nodes once, in the order of the source; then, for each pass, [`Recorder::begin_pass`] and a
-/// number and a state for each node ([`Recorder::tell`]); the bits of written items at any time ([`Recorder::value`], the newest count). [`Recorder::build`]
-/// asks the library, [`Recorder::to_form`] gives the same layout as a file, [`Recorder::names`] the names file beside it.
+/// number and a state for each node ([`Recorder::tell`]); the bits of written items at any time ([`Recorder::value`], the newest count). Where everything
+/// stands in a pass says [`Recorder::places`]: an assembler reckons no address itself. [`Recorder::build`] asks the library, [`Recorder::to_form`] gives the
+/// same layout as a file, [`Recorder::names`] the names file beside it.
 ///
 /// Nobody counts bits or cells: operands of items come from the values, and a pass that leaves out a node, or tells one twice, is turned away with the
 /// node's number. Nothing needs to be told of nodes of kinds 0, 1 and 2, of which a row is not read.
@@ -36,11 +54,14 @@ impl Node {
 /// recorder.tell(gap, 10, Resolved)?;
 /// // the jump is forgotten, and a file asked for
 /// assert_eq!(recorder.to_form(Form::Two), Err(Misuse::NodeMissing { pass: 1, node: 4, kind: Kind::Instruction }));
+/// // as far as the pass was told: the jump is the first node of which nothing is known, and it stands at word 66
+/// assert_eq!(recorder.places()?.iter().map(|place| place.address).collect::<Vec<_>>(), [64, 64, 64, 65, 66]);
 /// recorder.tell(jump, 10, Resolved)?;
 /// recorder.value_number(data, 0x3ff, 10)?;
 /// recorder.value_number(jump, 0x0aa, 10)?;
 /// let built = recorder.build(1024)?;
 /// assert_eq!(built.digits()?, "ffc002a800");
+/// assert_eq!(built.span(jump.number()).map(|span| span.address), Some(66));
 /// # Ok::<(), Box<dyn std::error::Error>>(())
 /// ```
 #[derive(Clone, Debug, Default)]
@@ -140,6 +161,39 @@ impl Recorder {
         let mut value = Values::new();
         value.append_number(number, bits).ok_or(Misuse::ShortValue { node: node.0, bits, given: 8 })?;
         self.value(node, value.bytes(), bits)
+    }
+
+    /// Where each node stands in the pass that has begun, as far as that pass was told: up to the first node that it has said nothing of, which is there too,
+    /// since what a node sees depends on the nodes ahead of it alone. So it can be asked at a pass's end, and within it; each call walks the list once.
+    ///
+    /// The library is asked for the map of this pass's row as a layout of one row and no further pass (limit 0). By document 01 a position depends on that row
+    /// alone: each pass begins at position 0, 4 to 7 "add their number", and data of declared size, whose number is the first row's, has the same in every
+    /// row here. What could end the walk early is taken from it, and moves nothing: written items, whose values are not read, are reserves; labels are
+    /// constants of their depth, which are aligned as they are; and every state is unresolved, so that the walk ends there (8) and no placement is tried.
+    /// Left to be refused are bad banks (1, 2, 3) and a position past 4,294,967,295 (5).
+    pub fn places(&self) -> Result<Vec<Place>, NotBuilt> {
+        let told = self.pass.as_ref().ok_or(NotBuilt::Misuse(Misuse::NoPass))?;
+        let mut walk = Program { banks: self.tables.banks.clone(), ..Program::new(0) };
+        let mut row = Vec::new();
+        for ((cell, kind), operand) in told.iter().zip(&self.tables.kinds).zip(&self.tables.operands) {
+            walk.node(kind.walked(), *operand);
+            row.push((cell.map_or(0, |cell| cell.0), State::Unresolved));
+            if cell.is_none() && kind.reads_state() {
+                break;
+            }
+        }
+        let refused = |refusal| NotBuilt::Refused(Box::new(self.tables.named_fault(refusal, &self.names)));
+        let map = walk.row(&row).map().map_err(refused)?;
+        if let Some(Refusal::PositionPast { node, .. }) = map.stopped.map(|stopped| stopped.why) {
+            return Err(refused(Refusal::PositionPast { node, passes: self.tables.rows.len() as u64 + 1 }));
+        }
+        Ok(map.nodes.iter().map(|standing| self.place(standing)).collect())
+    }
+
+    fn place(&self, standing: &Standing) -> Place {
+        let Standing { bank, position, output, size } = *standing;
+        let (address, past) = self.tables.banks.get(bank as usize).map_or((0, 0), |bank| bank.address(position));
+        Place { bank: bank as u32, position, address, past, output, size }
     }
 
     /// The names, which `to_string` writes as a names file.

@@ -234,6 +234,167 @@ fn drawn(draw: &mut Draw) -> Recorder {
     recorder
 }
 
+/// A source as an assembler has it: banks, and of each node kind and operand.
+struct Source {
+    banks: Vec<Bank>,
+    nodes: Vec<(Kind, u32)>,
+}
+
+impl Source {
+    fn drawn(draw: &mut Draw) -> Source {
+        let some = |draw: &mut Draw, number: u32| (draw.below(3) != 0).then_some(number);
+        let bank = |draw: &mut Draw, i: u32| Bank {
+            start: i64::from(draw.below(64)) - 32,
+            size: Some(96),
+            offset: some(draw, i * 96),
+            align: [None, Some(0), Some(8), Some(24), Some(30)][draw.below(5) as usize],
+            ..Bank::new([1, 8, 10, 16][draw.below(4) as usize])
+        };
+        let banks: Vec<Bank> = (0..1 + draw.below(4)).map(|i| bank(draw, i)).collect();
+        let node = |draw: &mut Draw| match Kind::ALL[draw.below(11) as usize] {
+            Kind::Switch => (Kind::Switch, draw.below(banks.len() as u32)),
+            kind if matches!(kind, Kind::Label | Kind::Constant) => (kind, draw.below(2)),
+            kind => (kind, 0),
+        };
+        let nodes = (0..draw.below(12)).map(|_| node(draw)).collect();
+        Source { banks, nodes }
+    }
+
+    /// Document 01's walk of one row, by hand: where each node stands, up to the node at which a position would pass 4,294,967,295.
+    fn walked(&self, row: &[u32]) -> Result<Vec<Place>, usize> {
+        let (mut bank, mut at, mut places) = (0, vec![0_u64; self.banks.len()], Vec::new());
+        for (node, ((kind, operand), number)) in self.nodes.iter().zip(row).enumerate() {
+            if *kind == Kind::Switch {
+                bank = *operand as usize;
+            }
+            let (b, unit) = (self.banks[bank], u64::from(self.banks[bank].unit));
+            let distance = |position: u64, align: u32| match align {
+                0 => 0,
+                a => (-(i128::from(b.start) * i128::from(unit) + i128::from(position))).rem_euclid(i128::from(a)) as u64,
+            };
+            if matches!(kind, Kind::Label | Kind::Constant) && *operand == 0 {
+                at[bank] += distance(at[bank], b.align.unwrap_or(0));
+            }
+            let seen = at[bank];
+            let takes = (4..=7).contains(&(*kind as u8));
+            match kind {
+                Kind::Align => at[bank] += distance(seen, *number),
+                Kind::Addr => at[bank] = u64::from(*number),
+                _ if takes => at[bank] += u64::from(*number),
+                _ => {}
+            }
+            if at[bank] > u64::from(u32::MAX) {
+                return Err(node);
+            }
+            places.push(Place {
+                bank: bank as u32,
+                position: seen as u32,
+                address: b.start + (seen / unit) as i64,
+                past: (seen % unit) as u32,
+                output: b.offset.map(|offset| u64::from(offset) + seen),
+                size: if takes { *number } else { 0 },
+            });
+        }
+        Ok(places)
+    }
+
+    /// The row as a layout of its own, in which it is the last pass.
+    fn program(&self, row: &[u32]) -> Program {
+        let mut program = Program::new(0);
+        self.banks.iter().for_each(|bank| _ = program.bank(*bank));
+        self.nodes.iter().for_each(|(kind, operand)| _ = program.node(*kind, *operand));
+        program.row(&row.iter().map(|number| (*number, Resolved)).collect::<Vec<_>>()).values(&[0xa5; 8]);
+        program
+    }
+}
+
+/// What is said of a pass: its places, or the node at which a position would go too far.
+fn said_of(recorder: &Recorder, pass: u64) -> Result<Vec<Place>, usize> {
+    recorder.places().map_err(|why| match why.refusal() {
+        Some(Refusal::PositionPast { node, passes }) if passes == pass => node as usize,
+        _ => panic!("{why}"),
+    })
+}
+
+/// Where everything stands, asked within passes and at their ends: beside a walk by hand, beside the library's own map of the row, as far as that goes, and
+/// beside the spans of its build.
+#[test]
+fn places_in_every_pass() {
+    let mut draw = Draw(5);
+    let (mut within, mut stopped, mut built, mut too_far) = (0, 0, 0, 0);
+    for _ in 0..3_000 {
+        let source = Source::drawn(&mut draw);
+        let mut recorder = Recorder::new(draw.below(4) as u8);
+        source.banks.iter().for_each(|bank| _ = recorder.bank(*bank).unwrap());
+        let nodes: Vec<Node> = source.nodes.iter().map(|(kind, operand)| recorder.node(*kind, *operand).unwrap()).collect();
+        let mut row = vec![0; nodes.len()];
+        for pass in 1..2 + u64::from(draw.below(3)) {
+            for (number, (kind, _)) in row.iter_mut().zip(&source.nodes).filter(|(_, (kind, _))| pass == 1 || *kind != Kind::Data) {
+                *number = if draw.below(40) == 0 && !kind.is_written() { u32::MAX } else { draw.below(6) * 4 };
+            }
+            recorder.begin_pass().unwrap();
+            let walked = source.walked(&row);
+            for (node, (kind, _)) in nodes.iter().zip(&source.nodes).filter(|(_, (kind, _))| kind.reads_state()) {
+                if draw.below(4) == 0 {
+                    within += 1;
+                    let ahead = &row[..node.number()];
+                    let seen = source.walked(&[ahead, &[0]].concat()).map_err(|past| past.min(node.number()));
+                    assert_eq!(said_of(&recorder, pass), seen, "{kind}");
+                }
+                recorder.tell(*node, row[node.number()], [Resolved, Stable, Unresolved][draw.below(3) as usize]).unwrap();
+            }
+            assert_eq!(said_of(&recorder, pass), walked);
+            let Ok(places) = walked else {
+                too_far += 1;
+                continue;
+            };
+            let map = source.program(&row).map().unwrap();
+            stopped += map.stopped.is_some() as u32;
+            for (standing, place) in map.nodes.iter().zip(&places) {
+                let Standing { bank, position, output, size } = *standing;
+                assert_eq!((bank as u32, position, output, size), (place.bank, place.position, place.output, place.size));
+            }
+            assert!(map.stopped.is_some() || map.nodes.len() == places.len());
+            if let Ok(image) = source.program(&row).build(64) {
+                built += 1;
+                for (node, place) in places.iter().enumerate() {
+                    let (kind, size) = (source.nodes[node].0, u64::from(place.size));
+                    let has_span = kind == Kind::Label || kind.is_written();
+                    assert_eq!(image.span(node), has_span.then_some(Span { address: place.address, offset: place.output, size }));
+                }
+                assert_eq!((image.span(places.len()), image.nodes.len()), (None, image.spans.len()));
+            }
+        }
+    }
+    assert!(within > 5_000 && stopped > 1_000 && built > 500 && too_far > 100, "{within} {stopped} {built} {too_far}");
+}
+
+#[test]
+fn places_that_there_are_not() {
+    let mut recorder = Recorder::new(1);
+    assert_eq!(recorder.places(), Err(NotBuilt::Misuse(Misuse::NoPass)));
+    recorder.begin_pass().unwrap();
+    assert_eq!(recorder.places().unwrap_err().refusal(), Some(Refusal::BankCount));
+    let mut recorder = Recorder::new(1);
+    let sized = Bank { size: Some(9), offset: Some(0), ..Bank::new(8) };
+    recorder.bank(Bank::new(8)).unwrap();
+    recorder.bank(sized).unwrap();
+    recorder.bank(Bank { offset: Some(8), ..sized }).unwrap();
+    recorder.begin_pass().unwrap();
+    assert_eq!(recorder.places().unwrap_err().refusal(), Some(Refusal::BanksOverlap { first: 1, second: 2 }));
+    // a node that would go too far, by its name; before it is told it stands at the last position
+    let mut recorder = Recorder::new(1);
+    recorder.bank(Bank::new(8)).unwrap();
+    let (far, more) = (recorder.node(Kind::Addr, 0).unwrap(), recorder.node(Kind::Reserve, 0).unwrap());
+    recorder.name(more, "stack", "brake.asm:9").unwrap();
+    recorder.begin_pass().unwrap();
+    recorder.tell(far, u32::MAX, Resolved).unwrap();
+    assert_eq!(recorder.places().unwrap().last().map(|place| (place.address, place.past)), Some((536_870_911, 7)));
+    recorder.tell(more, 1, Resolved).unwrap();
+    let words = "refused 5: at node 1 a position would pass 4,294,967,295: node 1 (reserve) stack at brake.asm:9";
+    assert_eq!(recorder.places().unwrap_err().to_string(), words);
+}
+
 #[test]
 fn a_file_read_back_is_answered_as_the_recorder_is() {
     let mut draw = Draw(1);
@@ -451,8 +612,23 @@ fn records_of_what_was_built() {
     assert_eq!((bytes, starts, sizes), (built.image.clone(), [0, 56_008], [56_000, 16]));
     assert_eq!(built.s_records(0xfff0, records::Width::Two), Err(Refusal::Malformed { place: 0 }));
     assert!(built.s_records(0xfff0, records::Width::Four).unwrap().starts_with("S3150000FFF05A"));
+    // off byte edges there are no records of blocks, and of the whole image there are
     let ragged = by_hand().build(64).unwrap();
     assert_eq!((ragged.intel_hex(0), ragged.ragged_block()), (Err(Refusal::BadPart), Some(Block { offset: 0, size: 10 })));
+    for (format, whole) in [
+        (records::Format::IntelHex, ragged.whole_intel_hex(0x8000).unwrap()),
+        (records::Format::SRecords, ragged.whole_s_records(0x8000, records::Width::Two).unwrap()),
+    ] {
+        let (mut bytes, mut starts, mut sizes) = (vec![0; 5], [0; 1], [0; 1]);
+        assert_eq!(records::read(format, whole.as_bytes(), 0x8000, &mut bytes, &mut starts, &mut sizes), Ok(1));
+        assert_eq!((bytes, starts, sizes), (ragged.image.clone(), [0], [40]));
+    }
+    // gaps are in it too, an address past the last is refused, and an empty image has the last record alone
+    assert!(built.whole_intel_hex(0).unwrap().contains(":0B1B5000") && !built.intel_hex(0).unwrap().contains(":0B1B5000"));
+    assert_eq!(ragged.whole_intel_hex(u32::MAX - 3), Err(Refusal::Malformed { place: 0 }));
+    let mut empty = Program::new(1);
+    empty.bank(Bank::new(8)).row(&[]);
+    assert_eq!(empty.build(0).unwrap().whole_intel_hex(7).as_deref(), Ok(":00000001FF\n"));
 }
 
 /// The room is that of crates/record_room, and files of many shapes fit it.
