@@ -19,12 +19,9 @@ import manners  # noqa: E402
 import sentences_inputs  # noqa: E402
 import sentences_library  # noqa: E402
 import sentences_rust  # noqa: E402
-from sentences.calls import CALLS, Call  # noqa: E402
+from sentences.calls import CALLS, LONG, NOT_RUN, Call  # noqa: E402
 from sentences.running import deep  # noqa: E402
 from sentences.values import Floundered, Open, Rec  # noqa: E402
-
-NOT_RUN = ("dk_record_fault",)          # "some good file begins so": no search finds that file (docs/RUNNING-SENTENCES.md)
-LONG = ("dk_map", "dk_offer")
 
 
 def told(name, parts):

@@ -287,5 +287,15 @@ def inputs(call, seed, count):
         yield MAKE[call](Random("%s %s %d" % (call, seed, i)))
 
 
+def wide(call, seed, count):
+    """The same, and among them numbers past what the header's types hold: the sentences speak of them too."""
+    for i, given in enumerate(inputs(call, seed, count)):
+        rng, names = Random("wide %s %d" % (seed, i)), [n for n in ("units", "bank_sizes", "bank_offsets", "aligns", "numbers") if given.get(n)]
+        if names and i % 8 == 0:
+            name = rng.choice(names)
+            given[name][rng.randrange(len(given[name]))] = 65536 if name == "units" else TOP + 1
+        yield given
+
+
 if __name__ == "__main__":
     manners.part(__doc__)
