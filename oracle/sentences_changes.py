@@ -1,12 +1,12 @@
 #!/usr/bin/env python3
 """Changes to the sentences, by hand: each numeral one higher, each < and ≤ exchanged, each constructor and premise removed, one at a time, on drawn inputs.
 
-    oracle/sentences_changes.py FILE .. [--inputs N] [--seed S] [--from L] [--to L] [--seconds S] [--try]
+    oracle/sentences_changes.py FILE .. [--inputs N] [--seed S] [--call NAME ..] [--from L] [--to L] [--seconds S] [--try]
 
 FILE is the name of a file of sentences (Part.antt). Each change is tried on the calls whose sentences reach the declaration that it is made to, and on N
 inputs of each (of calls with long lists a tenth), until an answer differs. Prints a row for each change: `changed` an answer, with none or several outcomes
 too; `stops`: the changed sentences cannot be run; `long`: they ran for more than S seconds; `same` on all inputs, which is to be read; `apart`: no call that
-runs reaches it. --from and --to say which lines of a file are changed. Nothing is written. --try reads the words only."""
+runs reaches it. --call leaves other calls out, --from and --to say which lines of a file are changed. Nothing is written. --try reads the words only."""
 import multiprocessing
 import re
 import sys
@@ -49,7 +49,7 @@ def removals(path, text):
     lines = text.split("\n")
     for d in program.lib.file(path).defs.values():
         for name, kind, _, line in d.parts if d.kind != "abbrev" else ():
-            if d.kind == "record" and program.kind(kind, (d.file, d.blocks)) not in (None, "fun", "pair"):
+            if d.kind == "record" and (kind[0] == "id" or program.kind(kind, d.ctx) not in (None, "fun", "pair")):
                 continue
             indent, end = re.match(" *", lines[line - 1]).group(), line
             while end < len(lines) and lines[end].startswith(indent + " "):
@@ -60,7 +60,7 @@ def removals(path, text):
 class Pool:
     """A call, its inputs and their outcomes; those that told a change apart come first for the next."""
     def __init__(self, name, seed, count):
-        self.name, self.reached, began = name, set(), time.process_time()
+        self.name, self.reached, self.drawn, began = name, set(), None, time.process_time()
         lookup = Library.lookup
 
         def watched(library, file, word):
@@ -72,12 +72,18 @@ class Pool:
         call = Call(name, ROOT / "crates")
         Library.lookup = lookup
         self.reached.add((call.definition.file.path, call.definition.line))
-        drawn = sentences_inputs.wide(name, seed, max(1, count // 10) if name in LONG else count)
-        self.inputs = [(i, given, outcome(call, given)) for i, given in enumerate(drawn)]
-        self.cost = time.process_time() - began
+        self.cost = (name in LONG, time.process_time() - began)
+        self.draw = lambda: [(i, given, outcome(call, given)) for i, given in
+                             enumerate(sentences_inputs.wide(name, seed, max(1, count // 10) if name in LONG else count))]
+
+    def inputs(self):
+        """(number, input, outcome) of each, drawn where they are first asked for."""
+        if self.drawn is None:
+            self.drawn = self.draw()
+        return self.drawn
 
     def first(self, number):
-        self.inputs.sort(key=lambda x: x[0] != number)
+        self.drawn.sort(key=lambda x: x[0] != number)
 
 
 def outcome(call, given):
@@ -94,7 +100,7 @@ def tried(pool, path, text):
     except REFUSED:
         return "stops", 0
     stops = False
-    for i, given, before in pool.inputs:
+    for i, given, before in pool.inputs():
         now = outcome(call, given)
         if now != before and not isinstance(now, str):
             return "changed", i
@@ -120,6 +126,7 @@ def apart(work, seconds):
 def verdict(pools, path, text, seconds):
     said = []
     for pool in pools:
+        pool.inputs()
         found, number = apart(lambda pool=pool: tried(pool, path, text), seconds) or ("long", 0)
         if found == "changed":
             pool.first(number)
@@ -131,7 +138,7 @@ def verdict(pools, path, text, seconds):
 
 
 def run(asked):
-    pools = sorted((Pool(n, asked.seed, asked.inputs) for n in CALLS if n not in NOT_RUN), key=lambda p: p.cost)
+    pools = sorted((Pool(n, asked.seed, asked.inputs) for n in asked.call or CALLS if n not in NOT_RUN), key=lambda p: p.cost)
     library = Library(ROOT / "crates")
     for name in asked.files:
         path, = (ROOT / "crates").glob("says*/specs/" + name)
@@ -152,6 +159,7 @@ def main():
     p.add_argument("files", nargs="+", metavar="FILE")
     p.add_argument("--inputs", type=manners.some, default=1500, metavar="N")
     p.add_argument("--seed", default="changes", metavar="S")
+    p.add_argument("--call", nargs="+", choices=list(CALLS), metavar="NAME")
     p.add_argument("--from", type=manners.some, default=1, dest="first", metavar="L")
     p.add_argument("--to", type=manners.some, default=10 ** 6, dest="last", metavar="L")
     p.add_argument("--seconds", type=manners.some, default=30, metavar="S")

@@ -288,13 +288,51 @@ def inputs(call, seed, count):
 
 
 def wide(call, seed, count):
-    """The same, and among them numbers past what the header's types hold: the sentences speak of them too."""
+    """The same, and among them numbers past what the header's types hold: the sentences speak of them too. Behind them edges that chance does not find."""
     for i, given in enumerate(inputs(call, seed, count)):
         rng, names = Random("wide %s %d" % (seed, i)), [n for n in ("units", "bank_sizes", "bank_offsets", "aligns", "numbers") if given.get(n)]
         if names and i % 8 == 0:
             name = rng.choice(names)
             given[name][rng.randrange(len(given[name]))] = 65536 if name == "units" else TOP + 1
         yield given
+    for edge in EDGES.get(call, lambda: ())():
+        yield dict(MAKE[call](Random(call)), **edge)
+
+
+def one_bank(nodes=1, rows=1, limit=2, flags=2, start=0, banks=1):
+    """Tables of labels in one bank, or in several that have nothing."""
+    bank_ = dict(units=[8], starts=[start], bank_sizes=[0], bank_offsets=[0], aligns=[0], flags=[flags], fill_bits=[0])
+    return dict({n: x * banks for n, x in bank_.items()}, kinds=[2] * nodes, operands=[0] * nodes, numbers=[0] * (nodes * rows), states=[0] * (nodes * rows),
+                rows=rows, values=[], limit=limit, fill=0, closed=0)
+
+
+def of_length(n, form, **tables_):
+    """A layout file of so many bytes."""
+    t = one_bank(**tables_)
+    return encoded(dict(t, values=[7] * (n - len(encoded(t, form)))), form)
+
+
+def table_edges():
+    return [one_bank(4096), one_bank(4097), one_bank(rows=16), one_bank(rows=17), one_bank(limit=255), one_bank(limit=256), one_bank(flags=8), one_bank(flags=9)]
+
+
+def file_edges():
+    starts = [encoded(one_bank(start=x), form) for form in (1, 2) for x in (2 ** 63 - 1, -2 ** 63, 2 ** 40, -2 ** 40)]
+    return [dict(file=x, fill=0) for x in starts + [of_length(n, form) for n, form in ((65000, 1), (65001, 1), (65536, 2), (65537, 2))]]
+
+
+def convert_edges():
+    files = [encoded(one_bank(n), 1) for n in (4095, 4096)] + [encoded(one_bank(rows=r), form) for r in (16, 17) for form in (1, 2)]
+    files += [of_length(n, 2, banks=2, flags=0) for n in (65005, 65006, 65007)] + [encoded(one_bank(0, banks=n, flags=0), 1) for n in (2423, 2424, 2425)]
+    return [dict(file=x, out=[0] * 65536) for x in files]
+
+
+def span_edges():
+    return [dict(offsets=[NONE] * n, sizes=[0] * n) for n in (4096, 4097)]
+
+
+EDGES = {"dk_build": table_edges, "dk_profile": table_edges, "dk_form": file_edges, "dk_to_form2": convert_edges, "dk_to_form1": convert_edges,
+         "dk_blocks": span_edges}
 
 
 if __name__ == "__main__":

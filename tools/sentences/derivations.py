@@ -129,9 +129,11 @@ class Why:
         return node
 
     def premises(self, node, c, env, depth, outcome):
-        """The premises below a node. Where the outcome is handed on, that goes further, and the others are told in a line each."""
-        carried = [g for g in c.goals if outcome is not None and g.kind == "call" and any(self.value(a, env) is outcome for a in g.parts)]
-        for g in [g for g in c.goals if g not in carried]:
+        """The premises below a node. Where the outcome is handed on to a sentence that has premises of its own, that goes further, and the others are told in
+        a line each."""
+        handed = [g for g in c.goals if outcome is not None and g.kind == "call" and any(self.value(a, env) is outcome for a in g.parts)]
+        carried = [g for g in handed if any(x.goals for x in g.label.clauses)]
+        for g in [g for g in c.goals if g not in handed]:
             node.below += self.premise(g, env, 0 if carried else depth if outcome is not None else depth - 1)
         if carried:
             if len(node.below) == 1 and c.goals[0].kind == "not":

@@ -16,7 +16,7 @@ def names_of(path, given):
     if not given and not beside.is_file():
         return {}
     out = {}
-    for line in beside.read_text(encoding="utf-8").splitlines():
+    for line in beside.read_bytes().decode("utf-8", "replace").splitlines():
         words = line.split("\t")
         if len(words) != 3 or not words[0].isdigit():
             raise ValueError("%s is no names file: %s" % (beside, line[:60]))
