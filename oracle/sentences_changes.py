@@ -1,12 +1,13 @@
 #!/usr/bin/env python3
 """Changes to the sentences, by hand: each numeral one higher, each < and ≤ exchanged, each constructor and premise removed, one at a time, on drawn inputs.
 
-    oracle/sentences_changes.py FILE .. [--inputs N] [--seed S] [--call NAME ..] [--from L] [--to L] [--seconds S] [--try]
+    oracle/sentences_changes.py FILE .. [--inputs N] [--seed S] [--call NAME ..] [--from L] [--to L] [--again ROWS] [--seconds S] [--try]
 
 FILE is the name of a file of sentences (Part.antt). Each change is tried on the calls whose sentences reach the declaration that it is made to, and on N
 inputs of each (of calls with long lists a tenth), until an answer differs. Prints a row for each change: `changed` an answer, with none or several outcomes
 too; `stops`: the changed sentences cannot be run; `long`: they ran for more than S seconds; `same` on all inputs, which is to be read; `apart`: no call that
-runs reaches it. --call leaves other calls out, --from and --to say which lines of a file are changed. Nothing is written. --try reads the words only."""
+runs reaches it. --call leaves other calls out, --from and --to say which lines of a file are changed, --again that only those changes are tried that are
+`same` or `long` in the rows of an earlier run. Nothing is written. --try reads the words only."""
 import multiprocessing
 import re
 import sys
@@ -140,13 +141,15 @@ def verdict(pools, path, text, seconds):
 def run(asked):
     pools = sorted((Pool(n, asked.seed, asked.inputs) for n in asked.call or CALLS if n not in NOT_RUN), key=lambda p: p.cost)
     library = Library(ROOT / "crates")
+    rows = [row.split("\t") for row in Path(asked.again).read_text(encoding="utf-8").splitlines()] if asked.again else []
+    again = {tuple(row[1:3]) for row in rows if row[0] in ("same", "long")} if asked.again else None
     for name in asked.files:
         path, = (ROOT / "crates").glob("says*/specs/" + name)
         path, counted = path.resolve(), Counter()
         starts = sorted(d.line for d in library.file(path).defs.values())
         text = path.read_text(encoding="utf-8")
         for line, what, text in list(changes(text)) + list(removals(path, text)):
-            if asked.first <= line <= asked.last:
+            if asked.first <= line <= asked.last and (again is None or ("%s:%d" % (name, line), what) in again):
                 of = max((s for s in starts if s <= line), default=0)
                 said, by = verdict([p for p in pools if (path, of) in p.reached], path, text, asked.seconds)
                 counted[said] += 1
@@ -162,6 +165,7 @@ def main():
     p.add_argument("--call", nargs="+", choices=list(CALLS), metavar="NAME")
     p.add_argument("--from", type=manners.some, default=1, dest="first", metavar="L")
     p.add_argument("--to", type=manners.some, default=10 ** 6, dest="last", metavar="L")
+    p.add_argument("--again", metavar="ROWS")
     p.add_argument("--seconds", type=manners.some, default=30, metavar="S")
     p.add_argument("--try", action="store_true", dest="only")
     asked = p.parse_args()

@@ -294,7 +294,7 @@ def wide(call, seed, count):
         if names and i % 8 == 0:
             name = rng.choice(names)
             given[name][rng.randrange(len(given[name]))] = 65536 if name == "units" else TOP + 1
-        yield given
+        yield dict(given, **crowded(rng)) if "kinds" in given and i % 2 else given
     for edge in EDGES.get(call, lambda: ())():
         yield dict(MAKE[call](Random(call)), **edge)
 
@@ -306,6 +306,24 @@ def one_bank(nodes=1, rows=1, limit=2, flags=2, start=0, banks=1):
                 rows=rows, values=[], limit=limit, fill=0, closed=0)
 
 
+def crowded(rng):
+    """Tables of items that meet, marks among them, in one bank and near its end; or near the last position; or labels that are aligned."""
+    far = rng.random() < 0.2
+    kinds, numbers = [], []
+    for _ in range(rng.choice((2, 3, 4, 5))):
+        kinds += [9, rng.choice((4, 4, 5, 6, 7, 2))]
+        numbers += [rng.choice((TOP - 1, TOP)) if far else rng.randrange(7), rng.choice((0, 0, 1, 2, 3))]
+    n = len(kinds)
+    return dict(one_bank(n), units=[rng.choice((1, 1, 2, 8))], kinds=kinds, operands=[0] * n, numbers=numbers, states=[0] * n, values=[0xA5, 0x3C],
+                bank_sizes=[8], aligns=[rng.choice((0, 2, 3, 4))], flags=[rng.choice((2, 2, 2, 6, 6, 3, 11))], limit=rng.choice((0, 1, 2)),
+                fill=rng.randrange(2))
+
+
+def stored(size):
+    """Tables of one item more than a store has room for: intervals, or marks."""
+    return dict(one_bank(513), kinds=[4] * 513, numbers=[size] * 513, values=[255])
+
+
 def of_length(n, form, **tables_):
     """A layout file of so many bytes."""
     t = one_bank(**tables_)
@@ -313,7 +331,8 @@ def of_length(n, form, **tables_):
 
 
 def table_edges():
-    return [one_bank(4096), one_bank(4097), one_bank(rows=16), one_bank(rows=17), one_bank(limit=255), one_bank(limit=256), one_bank(flags=8), one_bank(flags=9)]
+    return [one_bank(4096), one_bank(4097), one_bank(rows=16), one_bank(rows=17), one_bank(limit=255), one_bank(limit=256), one_bank(flags=8), one_bank(flags=9),
+            stored(0), stored(1)]
 
 
 def file_edges():
