@@ -281,21 +281,20 @@ class Lists(Arithmetic):
         """Puts what a fact says into the cells; False where it contradicts what is there."""
         known, test = [env[ident(v)] for v in f.given], f.test and self.names[f.test[1]]
         for found in self.names[f.name](*known):
-            power = None
             if test is None:
-                for at, u in zip(zip(which, found), found[f.places:]):
-                    if cells.setdefault(at, u) != u:
+                for w, i, u in zip(which, found, found[f.places:]):
+                    if cells.setdefault((w, i), u) != u:
                         return False
-            elif f.test[0] == "below":
-                at, said = (which[0], found[0]), test(*known, *found)
+                    why.setdefault((w, i), []).append((f, found, None))
+                continue
+            at, said = (which[0], found[0]), test(*known, *found)
+            if f.test[0] == "below":
                 below[at] = min(said, below.get(at, said))
                 continue
-            else:
-                power, base, v = test(*known, *found)
-                if v >= base or digits.setdefault((which[0], found[0]), {}).setdefault((power, base), v) != v:
-                    return False
-            for at in zip(which, found):
-                why.setdefault(at, []).append((f, found, power))
+            power, base, v = said
+            if v >= base or digits.setdefault(at, {}).setdefault((power, base), v) != v:
+                return False
+            why.setdefault(at, []).append((f, found, power))
         return True
 
     def impossible(self, f, env, found):

@@ -1,5 +1,6 @@
 """The plans become Python, and the Python is run. Every sentence that is met is kept in a table, with the constructor and its numbers: all outcomes are found,
 so that each run also tests that there is exactly one."""
+import gc
 import itertools
 import re
 import sys
@@ -135,6 +136,7 @@ def deep(work):
             out.append((work(), None))
         except BaseException as error:
             out.append((None, error))
+    gc.set_threshold(100000)                  # the tables of a run are many small things that all stay
     sys.setrecursionlimit(10 ** 6)
     threading.stack_size(1 << 29)
     t = threading.Thread(target=run)
