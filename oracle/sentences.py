@@ -1,6 +1,6 @@
 #!/usr/bin/env python3
-"""The sentences, run as they stand (tools/sentences), beside the library itself: drawn inputs of every call that can be run, all examples, recorded answers; and
-tools/why and tools/verdict as a person starts them.
+"""The sentences, run as they stand (tools/sentences), beside the library itself: drawn inputs of every call that can be run, all examples, recorded answers.
+Then tools/why and tools/verdict, as a person starts them.
 
     oracle/sentences.py [--inputs N] [--seed S] [--call NAME] [--archive ARCHIVE] [--recorded N] [--try]
 

@@ -294,7 +294,8 @@ def wide(call, seed, count):
         if names and i % 8 == 0:
             name = rng.choice(names)
             given[name][rng.randrange(len(given[name]))] = 65536 if name == "units" else TOP + 1
-        yield dict(given, **crowded(rng)) if "kinds" in given and i % 2 else given
+        sharper = crowded if "kinds" in given else lines if "format" in given else None
+        yield dict(given, **sharper(rng)) if sharper and i % 2 else given
     for edge in EDGES.get(call, lambda: ())():
         yield dict(MAKE[call](Random(call)), **edge)
 
@@ -311,12 +312,29 @@ def crowded(rng):
     far = rng.random() < 0.2
     kinds, numbers = [], []
     for _ in range(rng.choice((2, 3, 4, 5))):
-        kinds += [9, rng.choice((4, 4, 5, 6, 7, 2))]
+        kinds += [9, rng.choice((4, 4, 4, 5, 6, 7, 2, 2, 10))]
         numbers += [rng.choice((TOP - 1, TOP)) if far else rng.randrange(7), rng.choice((0, 0, 1, 2, 3))]
     n = len(kinds)
-    return dict(one_bank(n), units=[rng.choice((1, 1, 2, 8))], kinds=kinds, operands=[0] * n, numbers=numbers, states=[0] * n, values=[0xA5, 0x3C],
-                bank_sizes=[8], aligns=[rng.choice((0, 2, 3, 4))], flags=[rng.choice((2, 2, 2, 6, 6, 3, 11))], limit=rng.choice((0, 1, 2)),
+    states = [0] * n if rng.random() < 0.7 else [rng.choice((0, 0, 1)) for _ in range(n)]
+    return dict(one_bank(n), units=[rng.choice((1, 1, 2, 8))], kinds=kinds, operands=[0] * n, numbers=numbers, states=states, values=[0xA5, 0x3C],
+                bank_sizes=[8], aligns=[rng.choice((0, 2, 3, 4))], flags=[rng.choice((2, 2, 2, 6, 6, 3, 11, 4, 8, 14))], limit=rng.choice((0, 1, 2)),
                 fill=rng.randrange(2))
+
+
+def lines(rng):
+    """A file of few records, each of them whole but of any type, count and field, at the ends of what a record's address holds; at times one is cut off."""
+    kind, near = rng.randrange(2), rng.choice((0, 0, 1, 0xFFFD, 0xFFFE, 0xFFFF))
+    made = [record(4, 0, [255, 255])] if kind == 0 and rng.random() < 0.3 else []
+    for _ in range(rng.choice((1, 1, 2, 3))):
+        data = some(rng, rng.choice((0, 1, 2, 2, 3)))
+        far = 0xFFFF0000 * rng.randrange(2)
+        digit = rng.choice((0, 1, 1, 2, 3, 3, 5, 7, 9)) if kind else rng.choice((0, 0, 0, 1, 2, 4, 4, 5))
+        made.append(record("S%d" % digit, near + far, data) if kind else record(digit, near, data))
+    made.append(record(1, 0, []) if kind == 0 else record(rng.choice(("S9", "S7")), 0, []))
+    if rng.random() < 0.3:
+        at = rng.randrange(len(made))
+        made[at] = made[at][:rng.randrange(len(made[at]) + 1)] + rng.choice(("", "", "0", "G"))
+    return dict(format=kind, load=0, text=list(("\n".join(made) + "\n").encode()))
 
 
 def stored(size):
@@ -331,8 +349,8 @@ def of_length(n, form, **tables_):
 
 
 def table_edges():
-    return [one_bank(4096), one_bank(4097), one_bank(rows=16), one_bank(rows=17), one_bank(limit=255), one_bank(limit=256), one_bank(flags=8), one_bank(flags=9),
-            stored(0), stored(1)]
+    return [one_bank(4096), one_bank(4097), one_bank(rows=16), one_bank(rows=17), one_bank(limit=255), one_bank(limit=256), one_bank(flags=8),
+            one_bank(flags=9), stored(0), stored(1)]
 
 
 def file_edges():
