@@ -89,13 +89,12 @@ class Lists(Arithmetic):
         return last[2][0][1], subst(replace(body, tail, NIL), {p[1]: a for p, a in zip(patterns, args) if p[0] == "var"})
 
     def by_members(self, st):
-        """A list of which it is said what stands in it, and that each comes before those behind it."""
+        """A list of which it is said what stands in it, that nothing else does, and that each comes before those behind it."""
         universals = [g for g in st.goals if g.fa]
         for v in [v for v in st.unknown() if self.type_of.get(v) == "list" and ("members", v) not in st.seen]:
             before = [b for g in universals for b in [self.order_of(v, g, st)] if b]
             members = [m for g in universals for m in [self.member_of(v, g)] if m]
-            only = [g for g in universals if any(holds(x, v) for x in g.fa[1]) and not g.fa[2]]
-            if before and members and len(only) > 1:
+            if before and members and self.nothing_else(v, *members[0], universals):
                 st.seen.add(("members", v))
                 k, premises = members[0]
                 given = [x for x in frees(premises) if x in st.bound]
@@ -121,6 +120,19 @@ class Lists(Arithmetic):
         vs, premises, further, conclusion = g.fa
         found = [b[1] for _, a, b in equations(conclusion) if is_fn(a, "getD") and a[2][0] == ("var", v) and b[0] == "var" and b[1] in vs]
         return (found[0], premises) if found and further and not any(holds(x, v) for x in premises) else None
+
+    def nothing_else(self, v, k, premises, universals):
+        """Whether each element of a list is said to meet the premises by which k stands in it: "i < length l → .. getD l i ..", or of the i that stands at a place."""
+        for vs, said, further, conclusion in (g.fa for g in universals):
+            inside = [x.parts[0] for x in said if x.label == "<" and x.parts[1] == length(v)]
+            named = {b[1]: ("var", k) for _, a, b in equations(said) if is_fn(a, "getD") and a[2][0] == ("var", v) and a[2][1] in inside and b[0] == "var"}
+            if not further and len(inside) == 1 and len(said) == 1 + len(named):
+                cell = ("fn", "getD", (("var", v), inside[0], ("num", 0)))
+                have = [replace(subst(c, named), cell, ("var", k)) for c in conclusion]
+                own = [x for x in frees(premises) if x != k and x not in frees(have)]
+                if all(any(c.label == p.label and all(a == b or b[1] in own for a, b in zip(c.parts, p.parts)) for c in have) for p in premises):
+                    return True
+        return False
 
     # ---- element by element
     def by_elements(self, st):
