@@ -26,8 +26,8 @@ def names_of(path, given):
 
 class Layout:
     """A file's outcomes, with as much lent as they want, and at most what the program `layout` lends."""
-    def __init__(self, crates, data, fill=0, page=None):
-        self.call = Call("dk_form" if page is None else "dk_form_paged", crates)
+    def __init__(self, crates, data, fill=0, page=None, call=None):
+        self.call = call or Call("dk_form" if page is None else "dk_form_paged", crates)
         bytes_, spans = 64, 16
         while True:
             lists = dict(zip(("image", "addresses", "offsets", "sizes"), ([0] * bytes_, [0] * spans, [0] * spans, [0] * spans)))
