@@ -348,14 +348,21 @@ def of_length(n, form, **tables_):
     return encoded(dict(t, values=[7] * (n - len(encoded(t, form)))), form)
 
 
+def touching():
+    """A filled bank of four bits, and behind it one of a single bit whose fill bit is one: the image ends before it."""
+    return dict(one_bank(0), units=[8, 1, 1], starts=[0] * 3, bank_sizes=[0, 4, 1], bank_offsets=[0, 0, 4], aligns=[0] * 3, flags=[0, 11, 11],
+                fill_bits=[0, 0, 1])
+
+
 def table_edges():
     return [one_bank(4096), one_bank(4097), one_bank(rows=16), one_bank(rows=17), one_bank(limit=255), one_bank(limit=256), one_bank(flags=8),
-            one_bank(flags=9), stored(0), stored(1)]
+            one_bank(flags=9), stored(0), stored(1), touching()]
 
 
 def file_edges():
     starts = [encoded(one_bank(start=x), form) for form in (1, 2) for x in (2 ** 63 - 1, -2 ** 63, 2 ** 40, -2 ** 40)]
-    return [dict(file=x, fill=0) for x in starts + [of_length(n, form) for n, form in ((65000, 1), (65001, 1), (65536, 2), (65537, 2))]]
+    cut = [of_length(n, form)[:-4] for n in (100, 600) for form in (1, 2)]           # the last field is missing
+    return [dict(file=x, fill=0) for x in starts + cut + [of_length(n, form) for n, form in ((65000, 1), (65001, 1), (65536, 2), (65537, 2))]]
 
 
 def convert_edges():
