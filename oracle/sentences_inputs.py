@@ -361,7 +361,7 @@ def table_edges():
 
 def file_edges():
     starts = [encoded(one_bank(start=x), form) for form in (1, 2) for x in (2 ** 63 - 1, -2 ** 63, 2 ** 40, -2 ** 40)]
-    cut = [of_length(n, form)[:-4] for n in (100, 600) for form in (1, 2)]           # the last field is missing
+    cut = [of_length(n, form)[:-4] for n, form in ((100, 1), (100, 2), (600, 1), (600, 2), (65004, 1), (65540, 2))]       # the last field is missing
     return [dict(file=x, fill=0) for x in starts + cut + [of_length(n, form) for n, form in ((65000, 1), (65001, 1), (65536, 2), (65537, 2))]]
 
 
@@ -372,7 +372,8 @@ def convert_edges():
 
 
 def span_edges():
-    return [dict(offsets=[NONE] * n, sizes=[0] * n) for n in (4096, 4097)]
+    bits = dict(offsets=[0, 1, 8, 16], sizes=[1, 1, 1, 1], block_offsets=[0] * 9, block_sizes=[0] * 9)
+    return [bits] + [dict(offsets=[NONE] * n, sizes=[0] * n) for n in (4096, 4097)]
 
 
 EDGES = {"dk_build": table_edges, "dk_profile": table_edges, "dk_form": file_edges, "dk_to_form2": convert_edges, "dk_to_form1": convert_edges,
