@@ -1,11 +1,13 @@
 #!/usr/bin/env python3
 """The sentences, run as they stand (tools/sentences), beside the library itself: drawn inputs of every call that can be run, all examples, recorded answers.
+Then tools/why and tools/verdict, as a person starts them.
 
     oracle/sentences.py [--inputs N] [--seed S] [--call NAME] [--archive ARCHIVE] [--recorded N] [--try]
 
 Each call's outcome, its answer and all that is lent, has to be the only one that meets the call's sentences. --inputs says how many are drawn for each call
 (200; of calls with long lists a tenth), --recorded how many recorded layouts of at most 400 bytes are asked (150). ARCHIVE is the proved archive
 (target/staticlib/libdenkumari.a; bindings/build.sh makes it). Status 1 says that something differs. --try reads the words and does nothing else."""
+import subprocess
 import sys
 import time
 from collections import Counter
@@ -19,12 +21,10 @@ import manners  # noqa: E402
 import sentences_inputs  # noqa: E402
 import sentences_library  # noqa: E402
 import sentences_rust  # noqa: E402
-from sentences.calls import CALLS, Call  # noqa: E402
+from sentences import layouts  # noqa: E402
+from sentences.calls import CALLS, LONG, NOT_RUN, Call  # noqa: E402
 from sentences.running import deep  # noqa: E402
 from sentences.values import Floundered, Open, Rec  # noqa: E402
-
-NOT_RUN = ("dk_record_fault",)          # "some good file begins so": no search finds that file (docs/RUNNING-SENTENCES.md)
-LONG = ("dk_map", "dk_offer", "dk_offers")
 
 
 def told(name, parts):
@@ -68,6 +68,20 @@ class Test:
                 self.ask(call, dict(lists, file=list(file.read_bytes()), fill=fill), "%s, fill %d" % (file.name, fill))
         print("%d examples, both fills" % len(files), flush=True)
 
+    def tools(self, folder):
+        """tools/why and tools/verdict, as a person starts them."""
+        files = made_files(folder)
+        for words, status, said in TOOLS:
+            tool, *rest = [files.get(w, w) for w in words.split()]
+            done = subprocess.run([sys.executable, ROOT / "tools" / tool, *rest], cwd=ROOT, capture_output=True, text=True)
+            if done.returncode != status or said not in done.stdout + done.stderr or words == TOOLS[0][0] and done.stdout.count("\n") > 40:
+                self.wrong += 1
+                print("tools/%s ends with %d, and not with %d and: %s\n%s" % (words, done.returncode, status, said, (done.stdout + done.stderr)[:500]))
+        if "verdict: yes" not in Path(files["OUT"]).read_text() or Path(files["OUT2"]).exists():
+            self.wrong += 1
+            print("a certificate is written with yes, and with yes only")
+        print("%d uses of tools/why and tools/verdict" % len(TOOLS), flush=True)
+
     def recorded(self, most):
         side, count = sentences_rust.Side(), 0
         for row in (ROOT / "oracle" / "replay" / "cases.tsv").read_text().splitlines():
@@ -81,6 +95,46 @@ class Test:
         print("%d recorded layouts" % count, flush=True)
 
 
+# a tool's words, its status, and what stands in its answer; HEX and BAD are a file of records of banks.form, and one with a bit changed
+TOOLS = (
+    ("why examples/clamp-mark-after.form", 0, "Why 0 7 12 0 128  by overlaps"),
+    ("why BROKEN", 0, "Broken (form-1) 1  by at-field"),
+    ("why examples/worked.form --bit 9", 0, "bit 9 is 1:  item-bit"),
+    ("why examples/worked.form --bit 40", 2, "there is no bit 40: the image has 40 bits"),
+    ("why examples/worked.form --node 1 --names NAMES", 0, "node 1 (start, a.asm:3) in pass 2: label"),
+    ("why examples/worked.form --node 9", 2, "there is no node 9"),
+    ("why examples/worked.form --node 1 --pass 3", 2, "there is no pass 3: passes 1 to 2 were run"),
+    ("why examples/worked.form --names BROKEN", 2, "is no names file"),
+    ("why examples/worked.form --html", 0, "<details open><summary>"),
+    ("why MISSING", 2, "No such file"),
+    ("verdict examples/banks.form HEX --certificate OUT", 0, "yes: "),
+    ("verdict examples/banks.form HEX --certificate /dev/full", 2, "No space left on device"),
+    ("verdict examples/banks.form BAD --certificate OUT2", 1, "is 0f in the file; by the sentences 0e"),
+    ("verdict examples/banks.form BROKEN --as hex", 1, "the file of records is bad: reason"),
+    ("verdict examples/clamp-mark-after.form HEX", 1, "the layout has no image: refused 12, place 0, second 128"),
+    ("verdict examples/worked.form HEX", 1, "not on byte edges"),
+    ("verdict MISSING HEX", 2, "No such file"),
+)
+
+
+def made_files(folder):
+    """The files that the tools are tried with, by the names above."""
+    layout = layouts.Layout(ROOT / "crates", (ROOT / "examples" / "banks.form").read_bytes())
+    n, load = layout.answer["spans"], dict(image=layout.image, load=0, text=[0] * 1000)
+    blocks, starts, sizes = sentences_rust.Side().parts(Call("dk_blocks", ROOT / "crates"), dict(
+        offsets=layout.lent[2][:n], sizes=layout.lent[3][:n], block_offsets=[0] * n, block_sizes=[0] * n))
+    written, text = sentences_rust.Side().parts(Call("dk_write_hex", ROOT / "crates"), dict(
+        load, offsets=starts[:blocks["count"]], sizes=sizes[:blocks["count"]]))
+    good = bytes(text[:written["count"]])
+    record = bytearray.fromhex(good.split(b"\n")[0][1:].decode())
+    record[4], record[-1] = record[4] ^ 1, (record[-1] + (1 if record[4] & 1 else -1)) % 256
+    bad = b"\n".join([b":" + record.hex().upper().encode()] + good.split(b"\n")[1:])
+    made = dict(HEX=good, BAD=bad, BROKEN=(ROOT / "examples" / "worked.form").read_bytes()[:40], NAMES=b"1\tstart\ta.asm:3\n")
+    for name, data in made.items():
+        (folder / name).write_bytes(data)
+    return {name: str(folder / name) for name in (*made, "MISSING", "OUT", "OUT2")}
+
+
 def run(asked):
     with manners.room() as folder:
         test = Test(sentences_library.Library(asked.archive, folder))
@@ -89,6 +143,7 @@ def run(asked):
         if not asked.call:
             test.examples()
             test.recorded(asked.recorded)
+            test.tools(folder)
         test.library.close()
     print("%d outcomes of %d calls: %d differ" % (test.asked, 1 if asked.call else len(CALLS) - len(NOT_RUN), test.wrong))
     return test.wrong

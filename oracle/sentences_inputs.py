@@ -307,5 +307,98 @@ def inputs(call, seed, count):
         yield MAKE[call](Random("%s %s %d" % (call, seed, i)))
 
 
+def wide(call, seed, count):
+    """The same, and among them numbers past what the header's types hold: the sentences speak of them too. Behind them edges that chance does not find."""
+    for i, given in enumerate(inputs(call, seed, count)):
+        rng, names = Random("wide %s %d" % (seed, i)), [n for n in ("units", "bank_sizes", "bank_offsets", "aligns", "numbers") if given.get(n)]
+        if names and i % 8 == 0:
+            name = rng.choice(names)
+            given[name][rng.randrange(len(given[name]))] = 65536 if name == "units" else TOP + 1
+        sharper = crowded if "kinds" in given else lines if "format" in given else None
+        yield dict(given, **sharper(rng)) if sharper and i % 2 else given
+    for edge in EDGES.get(call, lambda: ())():
+        yield dict(MAKE[call](Random(call)), **edge)
+
+
+def one_bank(nodes=1, rows=1, limit=2, flags=2, start=0, banks=1):
+    """Tables of labels in one bank, or in several that have nothing."""
+    bank_ = dict(units=[8], starts=[start], bank_sizes=[0], bank_offsets=[0], aligns=[0], flags=[flags], fill_bits=[0])
+    return dict({n: x * banks for n, x in bank_.items()}, kinds=[2] * nodes, operands=[0] * nodes, numbers=[0] * (nodes * rows), states=[0] * (nodes * rows),
+                rows=rows, values=[], limit=limit, fill=0, closed=0)
+
+
+def crowded(rng):
+    """Tables of items that meet, marks among them, in one bank and near its end; or near the last position; or labels that are aligned."""
+    far = rng.random() < 0.2
+    kinds, numbers = [], []
+    for _ in range(rng.choice((2, 3, 4, 5))):
+        kinds += [9, rng.choice((4, 4, 4, 5, 6, 7, 2, 2, 10))]
+        numbers += [rng.choice((TOP - 1, TOP)) if far else rng.randrange(7), rng.choice((0, 0, 1, 2, 3))]
+    n = len(kinds)
+    states = [0] * n if rng.random() < 0.7 else [rng.choice((0, 0, 1)) for _ in range(n)]
+    return dict(one_bank(n), units=[rng.choice((1, 1, 2, 8))], kinds=kinds, operands=[0] * n, numbers=numbers, states=states, values=[0xA5, 0x3C],
+                bank_sizes=[8], aligns=[rng.choice((0, 2, 3, 4))], flags=[rng.choice((2, 2, 2, 6, 6, 3, 11, 4, 8, 14))], limit=rng.choice((0, 1, 2)),
+                fill=rng.randrange(2))
+
+
+def lines(rng):
+    """A file of few records, each of them whole but of any type, count and field, at the ends of what a record's address holds; at times one is cut off."""
+    kind, near = rng.randrange(2), rng.choice((0, 0, 1, 0xFFFD, 0xFFFE, 0xFFFF))
+    made = [record(4, 0, [255, 255])] if kind == 0 and rng.random() < 0.3 else []
+    for _ in range(rng.choice((1, 1, 2, 3))):
+        data = some(rng, rng.choice((0, 1, 2, 2, 3)))
+        far = 0xFFFF0000 * rng.randrange(2)
+        digit = rng.choice((0, 1, 1, 2, 3, 3, 5, 7, 9)) if kind else rng.choice((0, 0, 0, 1, 2, 4, 4, 5))
+        made.append(record("S%d" % digit, near + far, data) if kind else record(digit, near, data))
+    made.append(record(1, 0, []) if kind == 0 else record(rng.choice(("S9", "S7")), 0, []))
+    if rng.random() < 0.3:
+        at = rng.randrange(len(made))
+        made[at] = made[at][:rng.randrange(len(made[at]) + 1)] + rng.choice(("", "", "0", "G"))
+    return dict(format=kind, load=0, text=list(("\n".join(made) + "\n").encode()))
+
+
+def stored(size):
+    """Tables of one item more than a store has room for: intervals, or marks."""
+    return dict(one_bank(513), kinds=[4] * 513, numbers=[size] * 513, values=[255])
+
+
+def of_length(n, form, **tables_):
+    """A layout file of so many bytes."""
+    t = one_bank(**tables_)
+    return encoded(dict(t, values=[7] * (n - len(encoded(t, form)))), form)
+
+
+def touching():
+    """A filled bank of four bits, and behind it one of a single bit whose fill bit is one: the image ends before it."""
+    return dict(one_bank(0), units=[8, 1, 1], starts=[0] * 3, bank_sizes=[0, 4, 1], bank_offsets=[0, 0, 4], aligns=[0] * 3, flags=[0, 11, 11],
+                fill_bits=[0, 0, 1])
+
+
+def table_edges():
+    return [one_bank(4096), one_bank(4097), one_bank(rows=16), one_bank(rows=17), one_bank(limit=255), one_bank(limit=256), one_bank(flags=8),
+            one_bank(flags=9), stored(0), stored(1), touching()]
+
+
+def file_edges():
+    starts = [encoded(one_bank(start=x), form) for form in (1, 2) for x in (2 ** 63 - 1, -2 ** 63, 2 ** 40, -2 ** 40)]
+    cut = [of_length(n, form)[:-4] for n, form in ((100, 1), (100, 2), (600, 1), (600, 2), (65004, 1), (65540, 2))]       # the last field is missing
+    return [dict(file=x, fill=0) for x in starts + cut + [of_length(n, form) for n, form in ((65000, 1), (65001, 1), (65536, 2), (65537, 2))]]
+
+
+def convert_edges():
+    files = [encoded(one_bank(n), 1) for n in (4095, 4096)] + [encoded(one_bank(rows=r), form) for r in (16, 17) for form in (1, 2)]
+    files += [of_length(n, 2, banks=2, flags=0) for n in (65005, 65006, 65007)] + [encoded(one_bank(0, banks=n, flags=0), 1) for n in (2423, 2424, 2425)]
+    return [dict(file=x, out=[0] * 65536) for x in files]
+
+
+def span_edges():
+    bits = dict(offsets=[0, 1, 8, 16], sizes=[1, 1, 1, 1], block_offsets=[0] * 9, block_sizes=[0] * 9)
+    return [bits] + [dict(offsets=[NONE] * n, sizes=[0] * n) for n in (4096, 4097)]
+
+
+EDGES = {"dk_build": table_edges, "dk_profile": table_edges, "dk_form": file_edges, "dk_to_form2": convert_edges, "dk_to_form1": convert_edges,
+         "dk_blocks": span_edges}
+
+
 if __name__ == "__main__":
     manners.part(__doc__)

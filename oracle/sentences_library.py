@@ -14,7 +14,6 @@ import manners
 
 ROOT = Path(__file__).resolve().parent.parent
 CODES = {"uint8_t": "B", "uint16_t": "H", "uint32_t": "I", "uint64_t": "Q", "int64_t": "q", "size_t": "Q"}
-FIXED = {"dk_offer": 512, "dk_offers": 512, "dk_map": 4096}
 START = """#include <stdio.h>
 #include <stdlib.h>
 #include <string.h>
@@ -27,7 +26,8 @@ static void *list(uint64_t n, size_t size) { void *p = malloc(n * size + 1); if 
 
 
 def header():
-    """Each call as (its answer's struct, parameters), a parameter as (name, C type, whether it is a list, whether it is lent); and each struct's fields."""
+    """Each call as (its answer's struct, parameters), a parameter as (name, C type, whether it is a list, whether it is lent, whether its length is given
+    behind it); and each struct's fields."""
     text = re.sub(r"/\*.*?\*/", " ", (ROOT / "include" / "denkumari.h").read_text(), flags=re.S)
     calls, structs = {}, {}
     for name, body in re.findall(r"struct (\w+) \{(.*?)\};", text, re.S):
@@ -36,8 +36,10 @@ def header():
         found = []
         for one in params.split(","):
             const, of, star, word = re.match(r"\s*(const )?(\w+) (\*?)(\w+)\s*$", one).groups()
-            if not (word.endswith("_len") and found and found[-1][0] == word[:-4]):
-                found.append((word, of, bool(star), bool(star) and not const))
+            if word.endswith("_len") and found and found[-1][0] == word[:-4]:
+                found[-1] = found[-1][:4] + (True,)
+            else:
+                found.append((word, of, bool(star), bool(star) and not const, False))
         calls[name] = answer, found
     return calls, structs
 
@@ -51,24 +53,20 @@ def program():
     for number, (name, (answer, params)) in enumerate(CALLS.items()):
         lines.append("case %d: {" % number)
         args = []
-        for word, of, is_list, _ in params:
+        for word, of, is_list, _, with_length in params:
             if is_list:
                 lines.append("uint64_t n_%s = number(); %s *%s = list(n_%s, sizeof(%s));" % (word, of, word, word, of))
-                args += [word] if name in FIXED and word in lent_lists(name) else [word, "n_" + word]
+                args += [word, "n_" + word] if with_length else [word]
             else:
                 lines.append("%s %s = (%s)number();" % (of, word, of))
                 args.append(word)
         lines.append("struct %s answer = %s(%s);" % (answer, name, ", ".join(args)))
         lines.append("put_out(&answer, sizeof answer);")
-        for word, of, is_list, lent in params:
+        for word, of, is_list, lent, _ in params:
             lines += ["put_out(%s, n_%s * sizeof(%s));" % (word, word, of)] if lent else []
             lines += ["free(%s);" % word] if is_list else []
         lines.append("break; }")
     return "\n".join(lines + ["default: return 4;", "}", "fflush(stdout);", "}", "return 0;", "}", ""])
-
-
-def lent_lists(name):
-    return [word for word, _, _, lent in CALLS[name][1] if lent]
 
 
 class Library:
@@ -87,7 +85,7 @@ class Library:
         """The answer's fields by their names, and each lent list afterwards."""
         answer, params = CALLS[name]
         sent = [bytes([list(CALLS).index(name)])]
-        for word, of, is_list, _ in params:
+        for word, of, is_list, _, _ in params:
             if is_list:
                 sent += [struct.pack("<Q", len(inputs[word])), array(CODES[of], inputs[word]).tobytes()]
             else:
@@ -99,7 +97,7 @@ class Library:
             n = 16 if many else 1
             got = [self.read("Q", len(STRUCTS[of])) if of in STRUCTS else self.read("Q", 1)[0] for _ in range(n)]
             fields[word] = got if many else got[0]
-        return [fields] + [self.read(CODES[of], len(inputs[word])) for word, of, _, lent in params if lent]
+        return [fields] + [self.read(CODES[of], len(inputs[word])) for word, of, _, lent, _ in params if lent]
 
     def read(self, code, n):
         a = array(code)

@@ -12,6 +12,7 @@ ROOT = Path(__file__).resolve().parent.parent
 sys.path.insert(0, str(ROOT / "tools"))
 
 import manners  # noqa: E402
+from sentences import layouts  # noqa: E402
 from sentences.calls import Call  # noqa: E402
 from sentences.running import deep  # noqa: E402
 
@@ -28,18 +29,11 @@ class Side:
             raise manners.Stop("the sentences of %s leave %d outcomes" % (call.name, len(outcomes)))
         return call.parts(outcomes[0])
 
-    def laid(self, file):
-        """The outcome with as many bytes lent as it wants, at most those of the program `layout`."""
-        room, most = 64, 16384
-        while True:
-            lists = dict(image=[0] * room, addresses=[0] * 4096, offsets=[0] * 4096, sizes=[0] * 4096)
-            found = self.parts(self.form, dict(lists, file=file, fill=0))
-            if found[0]["refusal"] != 14 or room == most:
-                return found
-            room = min(8 * room, most)
-
     def line(self, file):
-        a, image, addresses, offsets, sizes = self.laid(file)
+        laid = layouts.Layout(None, file, call=self.form)
+        if len(laid.outcomes) != 1:
+            raise manners.Stop("the sentences of a layout leave %d outcomes" % len(laid.outcomes))
+        a, (image, addresses, offsets, sizes) = laid.answer, laid.lent
         if a["refusal"]:
             places = [a["place"], a["second"]] if a["refusal"] in (3, 12) else [a["place"]]
             return " ".join(["refused", str(a["refusal"])] + list(map(str, places)) + (["passes", str(a["passes"])] if a["refusal"] > 4 else []))

@@ -6,7 +6,7 @@ import re
 
 from .clauses import indices_of
 from .running import Runner
-from .values import Rec, Seq, value
+from .values import Rec, Seq, rec, value
 
 TABLES = "(units starts bank_sizes bank_offsets aligns flags fill_bits kinds operands numbers states rows values %s fill %s)"
 LENT = "(image addresses offsets sizes)"
@@ -34,6 +34,8 @@ CALLS = {
     "dk_record_reason": "DkReasonSays format load text scratch",
     "dk_record_fault": "FaultSays format load text scratch",
 }
+NOT_RUN = ("dk_record_fault",)                # "some good file begins so": no search finds that file (docs/RUNNING-SENTENCES.md)
+LONG = ("dk_map", "dk_offer", "dk_offers")    # their lists have a fixed length in thousands, so that fewer inputs are drawn
 
 
 def parsed(text):
@@ -49,11 +51,10 @@ class Call:
         self.name = name
         sentence, self.inputs = parsed(CALLS[name])
         self.runner = Runner(crates, texts)
-        self.definition = self.runner.find(sentence, len(self.inputs))
-        d, ctx = self.definition, (self.definition.file, self.definition.blocks)
-        raw = [t for _, t, _ in d.given()] + [t for _, t in indices_of(d)]
-        self.kinds = [self.runner.kind(t, ctx) for t in raw]
-        self.query = self.runner.query(sentence, len(self.inputs))
+        self.definition = d = self.runner.find(sentence, len(self.inputs))
+        self.kinds = [self.runner.kind(t, d.ctx) for t in [t for _, t, _ in d.given()] + [t for _, t in indices_of(d)]]
+        self.pred, self.mask, self.order = self.runner.query(d, len(self.kinds))
+        self.function = self.runner.function(self.pred, self.mask)
 
     def given(self, inputs):
         """The sentence's arguments from the call's inputs, by their names."""
@@ -65,15 +66,20 @@ class Call:
                 names = words if bracket == "{" else [p[0] for p in kind[1].parts]
                 if len(names) != len(words):
                     raise ValueError("%s: %d fields are named and %d are declared" % (self.name, len(words), len(names)))
-                fields = dict(zip(names, map(one, words)))
-                out.append(Rec(tuple(sorted(fields)), tuple(fields[n] for n in sorted(fields))))
+                out.append(rec(dict(zip(names, map(one, words)))))
             else:
                 out.append((kind[1].parts[int(words[1:])][0],) if words[0] == "#" else one(words))
         return tuple(out)
 
     def outcomes(self, inputs):
         self.runner.clear()
-        return self.query.outcomes(*self.given(inputs))
+        given = self.given(inputs)
+        return [y for y, in self.runner.ask(self.function, [given[i] for i, known in zip(self.order, self.mask) if known])]
+
+    def why(self, why, inputs, outcome, depth, *handed):
+        """The reason of an outcome, a tree."""
+        arguments = self.given(inputs) + (outcome,)
+        return why.call(self.pred, tuple(arguments[i] for i in self.order), depth, *handed)
 
     def parts(self, outcome, kind=None):
         """An outcome as its answer and the lists behind it, in the order in which they are declared."""
@@ -82,5 +88,5 @@ class Call:
             return [x for y in outcome for x in self.parts(y)]
         if isinstance(outcome, Rec) and isinstance(kind, tuple) and kind[0] == "rec":
             d = kind[1]
-            return [x for n, raw, _, _ in d.parts for x in self.parts(outcome.d[n], self.runner.kind(raw, (d.file, d.blocks)) or "none")]
+            return [x for n, raw, _, _ in d.parts for x in self.parts(outcome.d[n], self.runner.kind(raw, d.ctx) or "none")]
         return [outcome.d if isinstance(outcome, Rec) else list(outcome) if isinstance(outcome, Seq) else outcome]

@@ -5,8 +5,7 @@ import itertools
 import textwrap
 
 from .arithmetic import ident
-from .reader import show
-from .terms import Call, Clo, Const, Neg, Or, Rel, frees
+from .terms import false, frees, is_fn
 from .values import BUSY, Floundered, Rec, Seq, brief
 
 SIGNS = {"==": "≡", "!=": "≢", "<=": "≤"}
@@ -14,8 +13,11 @@ SIGNS = {"==": "≡", "!=": "≢", "<=": "≤"}
 
 class Node:
     """A line of a reason: its words, the premises below it, and the line that goes on from it."""
-    def __init__(self, text, words=""):
-        self.text, self.words, self.below, self.further = text, words, [], None
+    def __init__(self, text, words="", below=()):
+        self.text, self.words, self.below, self.further = text, words, list(below), None
+
+    def chain(self):
+        return [self] + (self.further.chain() if self.further else [])
 
 
 def small(x):
@@ -25,67 +27,77 @@ def small(x):
     return not (isinstance(x, Seq) and x.n > 8) and not (isinstance(x, tuple) and not all(map(small, x)))
 
 
+def shown(x):
+    return small(x) and not isinstance(x, Rec)
+
+
+def letter(v):
+    return v.split("~")[0]
+
+
+def joined(*words):
+    return " ".join(filter(None, words))
+
+
 class Why:
     """named: what is said beside a number of a variable, or nothing; depth: how many premises deep the reason goes where the outcome is decided."""
     def __init__(self, runner, depth=2, named=lambda variable, number: ""):
         self.runner, self.depth, self.named, self.told, self.seen, self.numbers = runner, depth, named, set(), set(), []
 
     # ---- terms with their numbers
+    def python(self, text, env):
+        return eval(text, self.runner.names, {ident(k): v for k, v in env.items()})
+
     def value(self, e, env):
         try:
-            return eval(self.runner.py(e), self.runner.names, {ident(k): v for k, v in env.items()})
+            return self.python(self.runner.py(e), env)
         except (NameError, KeyError):
             return None
 
     def term(self, e, env):
-        if isinstance(e, Clo):
-            return "(%s)" % show(e.body)
-        if e[0] == "var":
-            v = env.get(e[1])
-            return e[1].split("~")[0] if v is None or not small(v) or isinstance(v, Rec) else brief(v)
-        v = self.value(e, env)
-        if v is not None and small(v) and not isinstance(v, Rec) and not (e[0] == "fn" and e[1] in ("+", "*", "+ℤ") and isinstance(v, int)):
+        v = env.get(e[1]) if e[0] == "var" else None if e[0] == "clo" else self.value(e, env)
+        if v is not None and shown(v) and not (is_fn(e, "+", "*", "+ℤ") and isinstance(v, int)):
             return brief(v)
-        if e[0] == "fn" and len(e[2]) == 2 and not e[1].isalpha():
-            return "%s %s %s" % (self.term(e[2][0], env), e[1], self.term(e[2][1], env))
-        if e[0] in ("fn", "con"):
-            return "(%s)" % " ".join([e[1]] + [self.term(x, env) for x in e[2]])
-        if e[0] == "proj":
-            return "%s .%s" % (self.term(e[1], env), e[2])
-        return ".."
+        if e[0] in ("var", "clo"):
+            return letter(e[1]) if e[0] == "var" else "(%s)" % e[1][2]
+        parts = [self.term(x, env) for x in e[2]]
+        if e[0] == "fn" and len(parts) == 2 and not e[1].isalpha():
+            return "%s %s %s" % (parts[0], e[1], parts[1])
+        return "(%s)" % " ".join([e[1]] + parts) if e[0] in ("fn", "con") else "%s .%s" % (parts[0], e[1]) if e[0] == "proj" else ".."
+
+    def numbers_of(self, pairs):
+        return ["%s = %s%s" % (n, brief(x), self.named(n, x)) for n, x in pairs]
 
     def label(self, p):
         return p.label if len(p.label) < 50 else p.name + " .."
 
+    def all_of(self, goals, env):
+        return ", ".join(self.goal(x, env) for x in goals)
+
     def goal(self, g, env):
-        if isinstance(g, Rel):
-            return "%s %s %s" % (self.term(g.a, env), SIGNS.get(g.op, g.op), self.term(g.b, env))
-        if isinstance(g, Call):
-            shown = [a for a in g.args[g.pred.captured:] if not isinstance(self.value(a, env), Rec) and a[0] != "rec"]
-            return " ".join([self.label(g.pred)] + [self.term(a, env) for a in shown])
-        if isinstance(g, Or):
-            return " or ".join("(%s)" % ", ".join(self.goal(x, env) for x in gs) for _, gs in g.alts)
-        if isinstance(g, Const):
-            return "true" if g.v else "false"
-        vs, premises, _, conclusion = g.fa or (g.vars, g.goals, [], [Const(False)])
-        said = ", ".join(self.goal(x, env) for x in premises)
-        names = " ".join(v.split("~")[0] for v in vs if v in frees(premises))
-        if conclusion and isinstance(conclusion[0], Const):
+        if g.kind == "rel":
+            return "%s %s %s" % (self.term(g.parts[0], env), SIGNS.get(g.label, g.label), self.term(g.parts[1], env))
+        if g.kind == "call":
+            told = [a for a in g.parts[g.label.captured:] if not isinstance(self.value(a, env), Rec) and a[0] != "rec"]
+            return " ".join([self.label(g.label)] + [self.term(a, env) for a in told])
+        if g.kind == "or":
+            return " or ".join("(%s)" % self.all_of(gs, env) for _, gs in g.ways) or "false"
+        vs, premises, _, conclusion = g.fa or (*g.ways[0], [], [])
+        names, said = " ".join(letter(v) for v in vs if v in frees(premises)), self.all_of(premises, env)
+        if not conclusion or false(conclusion[0]):
             return "no %s with %s" % (names, said) if names else "not: " + said
-        return "every %s with %s has %s" % (names or "case", said, ", ".join(self.goal(x, env) for x in conclusion))
+        return "every %s with %s has %s" % (names or "case", said, self.all_of(conclusion, env))
 
     # ---- the tree
     def found(self, p, args):
         """The constructor that made it, and its numbers."""
-        for (q, m), t in [x for x in self.runner.tables.items() if isinstance(x[0], tuple) and x[0][0] is p]:
-            r = t.get(tuple(a for a, x in zip(args, m) if x))
-            if r is not None and r is not BUSY and tuple(a for a, x in zip(args, m) if not x) in r:
-                return r[tuple(a for a, x in zip(args, m) if not x)]
+        for (q, m), t in [x for x in self.runner.tables.items() if x[0][0] is p]:
+            known, rest = (tuple(a for a, x in zip(args, m) if x == is_known) for is_known in (True, False))
+            r = t.get(known)
+            if r is not None and r is not BUSY and rest in r:
+                return r[rest]
         m = (True,) * len(args)
-        if self.runner.ok(p, m, None):
-            self.runner.compile(p, m)
-            return self.runner.names[self.runner.function(p, m)](*args).get(())
-        return None
+        return self.runner.ask(self.runner.function(p, m), args).get(()) if self.runner.ok(p, m, None) else None
 
     def words_of(self, key, text):
         if not text or key in self.told:
@@ -101,155 +113,110 @@ class Why:
         c = p.clauses[made[0]]
         env = dict(zip(p.args, args))
         env.update((v, x) for v, x in zip(c.vars, made[1]) if x is not None)
-        shown = [x for x in args[p.captured:] if small(x) and not isinstance(x, Rec)]
-        head = " ".join([self.label(p)] + ["(%s)" % brief(x) if isinstance(x, tuple) else brief(x) for x in shown])
-        given = {(v.split("~")[0], x) for v, x in zip(p.args, args)}
-        numbers = [(v.split("~")[0], env[v]) for v in c.vars if v in env and small(env[v]) and not isinstance(env[v], Rec)]
-        self.numbers += numbers if depth > 0 else []
-        text = "%s%s  [%s:%d]%s" % (head, "" if c.name == "record" else "  by " + c.name, p.of.file.path.name, c.line,
-                                    "".join("  %s = %s%s" % (n, brief(x), self.named(n, x)) for n, x in numbers if (n, x) not in given))
-        own = self.words_of((p.of, c.name), c.comment) if depth > 0 and c.name != "record" else ""
-        node = Node(text, " ".join(filter(None, (self.words_of((p.of, ""), p.of.comment) if depth > 0 else "", own))))
-        if (p.id, args) in self.seen and depth > 0 and outcome is None:
-            node.text += "  (as above)"
-            return node
+        head = " ".join([self.label(p)] + ["(%s)" % brief(x) if isinstance(x, tuple) else brief(x) for x in args[p.captured:] if shown(x)])
+        given = {(letter(v), x) for v, x in zip(p.args, args)}
+        numbers = [(letter(v), env[v]) for v in c.vars if v in env and shown(env[v])]
+        by, where = "" if c.name == "record" else "  by " + c.name, "  [%s:%d]" % (p.of.file.path.name, c.line)
+        node = Node("  ".join([head + by + where] + self.numbers_of(x for x in numbers if x not in given)))
         if depth > 0:
+            self.numbers += numbers
+            node.words = joined(self.words_of((p.of, ""), p.of.comment), self.words_of((p.of, c.name), "" if c.name == "record" else c.comment))
+            if (p.id, args) in self.seen and outcome is None:
+                node.text += "  (as above)"
+                return node
             self.seen.add((p.id, args))
             self.premises(node, c, env, depth, outcome)
         return node
 
     def premises(self, node, c, env, depth, outcome):
-        """The premises below a node. Where the outcome is handed on, that goes further, and the others are told in a line each."""
-        carried = [g for g in c.goals if outcome is not None and isinstance(g, Call) and any(self.value(a, env) is outcome for a in g.args)]
-        for g in [g for g in c.goals if g not in carried]:
+        """The premises below a node. Where the outcome is handed on to a sentence that has premises of its own, that goes further, and the others are told in
+        a line each."""
+        handed = [g for g in c.goals if outcome is not None and g.kind == "call" and any(self.value(a, env) is outcome for a in g.parts)]
+        carried = [g for g in handed if any(x.goals for x in g.label.clauses)]
+        for g in [g for g in c.goals if g not in handed]:
             node.below += self.premise(g, env, 0 if carried else depth if outcome is not None else depth - 1)
         if carried:
-            g = carried[0]
-            if len(node.below) == 1 and isinstance(c.goals[0], Neg):
+            if len(node.below) == 1 and c.goals[0].kind == "not":
                 node.text, node.below = "passed over: " + node.below[0].text, []
-            node.further = self.call(g.pred, tuple(self.value(a, env) for a in g.args), depth, outcome)
+            node.further = self.call(carried[0].label, tuple(self.value(a, env) for a in carried[0].parts), depth, outcome)
 
     def premise(self, g, env, depth):
-        words = " ".join(filter(None, (self.words_of((d, "abbrev"), d.comment and "%s: %s" % (d.name, d.comment)) for d, _ in g.via if depth > 0)))
-        if isinstance(g, Call):
-            args = tuple(self.value(a, env) for a in g.args)
-            node = self.call(g.pred, args, depth) if None not in args else Node(self.goal(g, env))
-        elif isinstance(g, Or):
-            node = Node(self.chosen(g, env))
-        elif isinstance(g, Neg):
-            node = Node(self.goal(g, env))
-            node.below = [Node(t) for t in self.searched(g, env)] if depth > 0 else []
-        elif isinstance(g, Rel):
-            if any(isinstance(v, (Rec, Seq)) and not small(v) for v in (self.value(g.a, env), self.value(g.b, env))):
-                return []
-            source, said = show(g.src) if g.src and g.src[0] == "op" else "", self.goal(g, env)
-            node = Node(said if not source or source.replace(" ", "") == said.replace(" ", "") else "%s:  %s" % (source, said))
-        else:
+        args, text, below = tuple(self.value(a, env) for a in g.parts), self.goal(g, env), ()
+        words = [self.words_of((d, "abbrev"), d.comment and "%s: %s" % (d.name, d.comment)) for d in g.via if depth > 0]
+        if g.kind == "call" and None not in args:
+            node = self.call(g.label, args, depth)
+            node.words = joined(*words, node.words)
+            return [node]
+        if false(g) or g.kind == "rel" and any(isinstance(v, (Rec, Seq)) and not small(v) for v in args):
             return []
-        node.words = " ".join(filter(None, (words, node.words)))
-        return [node]
+        source = g.src[-1] if g.src and (g.src[0], g.kind) in (("op", "rel"), ("sum", "or")) else ""
+        if g.kind == "or":
+            met = [self.all_of(goals, env) for vs, goals in g.ways if not vs and self.met(goals, env)]
+            text = "%s:  %s" % (source or "one of", met[0]) if met else source or text
+        elif g.kind == "not" and depth > 0:
+            below = [Node(t) for t in self.searched(g, env)]
+        elif source.replace(" ", "") not in ("", text.replace(" ", "")):
+            text = "%s:  %s" % (source, text)
+        return [Node(text, joined(*words), below)]
 
-    def chosen(self, g, env):
-        """Of a choice the first part that holds."""
-        for vs, goals in g.alts:
-            tests = [self.runner.pure(x, set(env)) for x in goals]
-            if not vs and None not in tests and all(eval(t, self.runner.names, {ident(k): v for k, v in env.items()}) for t in tests):
-                return "%s:  %s" % (show(g.src) if g.src else "one of", ", ".join(self.goal(x, env) for x in goals))
-        return show(g.src) if g.src else self.goal(g, env)
+    def met(self, goals, env):
+        tests = [self.runner.pure(x, set(env)) for x in goals]
+        return None not in tests and all(self.python(t, env) for t in tests)
 
     def searched(self, g, env, most=6):
         """What was gone through by a search that found nothing: each case of its first premises."""
-        vs, premises = (g.fa[0], g.fa[1]) if g.fa else (g.vars, g.goals)
-        first = [x for x in premises if isinstance(x, Call)][:1] or premises
+        vs, premises = g.fa[:2] if g.fa else g.ways[0]
+        first = [x for x in premises if x.kind == "call"][:1] or premises
         given, asked = [v for v in frees(first) if v in env], [v for v in frees(first) if v not in env]
-        if not asked or not vs:
-            return
         try:
-            name = self.runner.helper("searched", given, asked, first)
-            if not name:
-                return
-            pred = next(q for q, m in self.runner.modes if self.runner.function(q, m) == name)
-            self.runner.compile(pred, (True,) * len(given) + (False,) * len(asked))
-            found = list(itertools.islice(self.runner.names[name](*[env[v] for v in given]), 1000))
-        except (Floundered, StopIteration):
-            return
-        names = [v.split("~")[0] for v in asked]
-        cases = [" ".join("%s = %s%s" % (n, brief(x), self.named(n, x)) for n, x in zip(names, each) if small(x)) for each in found[:most]]
-        count = "1000 cases and more" if len(found) == 1000 else "%d case%s" % (len(found), "" if len(found) == 1 else "s")
-        yield "searched %s: %s" % (count, "; ".join(cases) + ("; .." if len(found) > most else "") if found else "none there")
+            name = self.runner.helper("searched", given, asked, first) if asked and vs else None
+            found = list(itertools.islice(self.runner.ask(name, [env[v] for v in given]), 1000)) if name else None
+        except Floundered:
+            found = None
+        if found is not None:
+            cases = [" ".join(self.numbers_of((letter(v), x) for v, x in zip(asked, each) if small(x))) for each in found[:most]]
+            count = "1000 cases and more" if len(found) == 1000 else "%d case%s" % (len(found), "" if len(found) == 1 else "s")
+            yield "searched %s: %s" % (count, "; ".join(cases) + ("; .." if len(found) > most else "") if found else "none there")
 
-    def bit(self, place, which=0):
-        """Of a list that was made from what is said of its elements: what made this bit of it, the top bit of each byte first."""
+    def bit(self, place, name="image"):
+        """Of the list of this name that was made from what is said of its elements: what made this bit of it, the top bit of each byte first."""
         for lists, (names, why) in self.runner.why.items():
-            if not names[which].split("~")[0] == "image":
-                continue
-            for f, found, power in why.get((which, place // 8), ()):
-                if power != 2 ** (7 - place % 8):
-                    continue
-                env = dict(zip(f.found, found))
-                field, comment = self.part_of(f.goal)
-                numbers = "  ".join("%s = %s%s" % (v.split("~")[0], brief(env[v]), self.named(v.split("~")[0], env[v])) for v in f.vars if v in env)
-                bit = lists[which].t[place // 8] // power % 2
-                yield Node("bit %d is %d:  %s%s" % (place, bit, field + "  " if field else "", numbers), comment)
+            for f, found, power in why.get((0, place // 8), ()) if letter(names[0]) == name else ():
+                if power == 2 ** (7 - place % 8):
+                    env = dict(zip(f.found, found))
+                    field, comment = self.part_of(f.goal)
+                    numbers = "  ".join(self.numbers_of((letter(v), env[v]) for v in f.vars if v in env))
+                    yield Node("bit %d is %d:  %s%s" % (place, lists[0].t[place // 8] // power % 2, field, numbers), comment)
 
     def part_of(self, goal):
+        """The field of a record that says a goal, and the words above it."""
         for p in self.runner.preds.values():
-            for c in p.made or ():
-                for field, comment, a, b in c.parts or ():
-                    if any(x.src is goal.src and goal.src for x in c.goals[a:b]):
-                        return "%s [%s]" % (field, p.of.file.path.name), comment
+            for field, comment, a, b in [x for c in p.made or () for x in c.parts or ()]:
+                if any(x.src is goal.src and goal.src for x in p.made[0].goals[a:b]):
+                    return "%s [%s]  " % (field, p.of.file.path.name), comment
         return "", ""
 
 
-def as_text(node, lines=1, width=150, indent=0):
+def as_text(nodes, lines=1, width=150, indent=0):
     """Lines of text, so many of each node's words; what has neither words nor premises shares a line."""
-    out, pad, short = [], "  " * indent, []
+    out, pad = [], "  " * indent
 
-    def wrapped(text, first, rest):
+    def wrapped(text, first="", rest="    "):
         return textwrap.wrap(text, width, initial_indent=pad + first, subsequent_indent=pad + rest, break_long_words=False)
-
-    def line(n):
-        if n.words or n.below:
-            flush()
-            out.extend(wrapped(n.text, "", "    "))
+    for leaves, group in itertools.groupby((m for n in nodes for m in n.chain()), lambda n: not (n.words or n.below)):
+        if leaves:
+            out += wrapped(";  ".join(n.text for n in group))
+        for n in group:
             words = wrapped("-- " + n.words, "   ", "   -- ") if n.words else []
-            out.extend(words if len(words) <= lines else words[:lines - 1] + [words[lines - 1] + " .."])
-            for m in gathered(n.below):
-                out.extend(as_text(m, lines, width, indent + 1))
-        else:
-            short.append(n.text)
-
-    def flush():
-        if short:
-            out.extend(wrapped(";  ".join(short), "", "    "))
-            short.clear()
-    while node:
-        line(node)
-        node = node.further
-    flush()
+            out += wrapped(n.text) + words[:lines - 1] + [w + " .." * (len(words) > lines) for w in words[lines - 1:lines]]
+            out += as_text(n.below, lines, width, indent + 1)
     return out
 
 
-def gathered(nodes):
-    """Leaves that stand together, as one."""
-    out, short = [], []
-    for n in nodes + [None]:
-        if n is not None and not n.words and not n.below and not n.further:
-            short.append(n.text)
-            continue
-        if short:
-            out.append(Node(";  ".join(short)))
-            short = []
-        out += [n] if n is not None else []
-    return out
-
-
-def as_html(node):
+def as_html(nodes):
     out = ""
-    while node:
-        words = "<p class=words>%s</p>" % html.escape(node.words) if node.words else ""
-        text = "<code>%s</code>" % html.escape(node.text)
-        out += "<div class=leaf>%s%s</div>" % (text, words) if not node.below else \
-            "<details%s><summary>%s</summary>%s%s</details>" % ("" if node.further else " open", text, words, "".join(map(as_html, node.below)))
-        node = node.further
+    for n in (m for n in nodes for m in n.chain()):
+        text = "<code>%s</code>" % html.escape(n.text), "<p class=words>%s</p>" % html.escape(n.words) if n.words else ""
+        out += "<div class=leaf>%s%s</div>" % text if not n.below else \
+            "<details%s><summary>%s</summary>%s%s</details>" % ("" if n.further else " open", *text, as_html(n.below))
     return out

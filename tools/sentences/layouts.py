@@ -16,7 +16,7 @@ def names_of(path, given):
     if not given and not beside.is_file():
         return {}
     out = {}
-    for line in beside.read_text(encoding="utf-8").splitlines():
+    for line in beside.read_bytes().decode("utf-8", "replace").splitlines():
         words = line.split("\t")
         if len(words) != 3 or not words[0].isdigit():
             raise ValueError("%s is no names file: %s" % (beside, line[:60]))
@@ -26,22 +26,19 @@ def names_of(path, given):
 
 class Layout:
     """A file's outcomes, with as much lent as they want, and at most what the program `layout` lends."""
-    def __init__(self, crates, data, fill=0, page=None):
-        self.call = Call("dk_form" if page is None else "dk_form_paged", crates)
-        names = [p[0] for p in self.call.kinds[-2][1].parts]
+    def __init__(self, crates, data, fill=0, page=None, call=None):
+        self.call = call or Call("dk_form" if page is None else "dk_form_paged", crates)
         bytes_, spans = 64, 16
         while True:
             lists = dict(zip(("image", "addresses", "offsets", "sizes"), ([0] * bytes_, [0] * spans, [0] * spans, [0] * spans)))
-            inputs = dict(lists, file=data, fill=fill, page=page or 0)
-            self.outcomes = self.call.outcomes(inputs)
-            self.given = self.call.given(inputs)
+            self.inputs = dict(lists, file=data, fill=fill, page=page or 0)
+            self.outcomes = self.call.outcomes(self.inputs)
             if len(self.outcomes) != 1:
                 return
             self.answer, *self.lent = self.call.parts(self.outcomes[0])
             short = self.answer["refusal"] == 14 and self.answer["place"]
             if self.answer["refusal"] != 14 or (bytes_ if short == 0 else spans) == (MOST_BYTES if short == 0 else MOST_SPANS):
                 self.image = bytes(self.lent[0][:-(-self.answer["length"] // 8)])
-                self.names = names
                 return
             bytes_, spans = (min(4 * bytes_, MOST_BYTES), spans) if short == 0 else (bytes_, min(4 * spans, MOST_SPANS))
 

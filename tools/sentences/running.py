@@ -1,5 +1,6 @@
 """The plans become Python, and the Python is run. Every sentence that is met is kept in a table, with the constructor and its numbers: all outcomes are found,
 so that each run also tests that there is exactly one."""
+import gc
 import itertools
 import re
 import sys
@@ -8,7 +9,6 @@ import threading
 from . import values
 from .arithmetic import ident
 from .modes import Modes
-from .terms import Call
 from .values import Floundered
 
 
@@ -45,18 +45,19 @@ class Runner(Modes):
                 depth, out = depth + 1, "continue"
         return lines, depth
 
-    def compile(self, p, mask):
-        """Code for a sentence in a mode, and for all that it asks."""
-        by_name = {self.function(q, m): (q, m) for q, m in self.modes}
-        work = [(p, mask)] + [by_name[n] for _, facts, _ in self.builds for f in facts for n in (f.name, f.said[0]) if n in by_name]
-        while work:
-            k = work.pop()
-            if k in self.compiled:
-                continue
-            self.compiled.add(k)
-            for text in self.code(*k):
-                self.define(text)
-                work += [by_name[w] for w in set(re.findall(r"\bp\d+_[io]*\b", "\n".join(text))) if w in by_name]
+    def ask(self, name, args):
+        """What a function finds; first comes code for it, and for all that it asks."""
+        if name not in self.compiled:
+            by_name = {self.function(*k): k for k in self.modes}
+            work = [name] + [n for _, facts, _ in self.builds for f in facts for n in (f.name, f.said[0])]
+            while work:
+                k = work.pop()
+                if k in by_name and k not in self.compiled:
+                    self.compiled.add(k)
+                    for text in self.code(*by_name[k]):
+                        self.define(text)
+                        work += re.findall(r"\bp\d+_[io]*\b", "\n".join(text))
+        return self.names[name](*args)
 
     def code(self, p, mask):
         name, args, calls = self.function(p, mask), [ident(v) for v, m in zip(p.args, mask) if m], []
@@ -105,41 +106,25 @@ class Runner(Modes):
         return [" k = (%s)" % "".join(a + ", " for a in args), " t = %s.get(k)" % table, " if t is None:", "  %s[k] = BUSY; t = {}" % table] + \
             ["  " + line for line in body] + ["  %s[k] = t" % table, " return t"]
 
-    def query(self, name, given):
-        """A function of so many given values that gives all outcomes that meet the sentence."""
-        d = self.find(name, given)
-        vs = [self.fresh("x") for _ in range(given + 1)]
+    def query(self, d, count):
+        """(sentence, which of its arguments are known, their order) of a declaration of which all but the last of so many arguments are given."""
+        vs = [self.fresh("x") for _ in range(count)]
         goals = self.goals(self.make(d, [("var", v) for v in vs]), [])
-        if len(goals) != 1 or not isinstance(goals[0], Call):
-            raise Floundered("%s is no sentence of an outcome" % name)
-        p, args = goals[0].pred, goals[0].args
-        mask = tuple(a[1] != vs[-1] for a in args)
+        if [g.kind for g in goals] != ["call"]:
+            raise Floundered("%s is no sentence of an outcome" % d.name)
+        p, order = goals[0].label, [vs.index(a[1]) for a in goals[0].parts]
+        mask = tuple(i != count - 1 for i in order)
         for relaxed, lenient in ((False, None), (True, None), (True, p)):
             self.reset(relaxed, lenient)
             if self.ok(p, mask, None):
-                break
-        else:
-            raise Floundered("%s: no order of its premises finds the outcome" % name)
-        self.compile(p, mask)
-        return Query(self, p, mask, [vs.index(a[1]) for a in args])
+                return p, mask, order
+        raise Floundered("%s: no order of its premises finds the outcome" % d.name)
 
     def clear(self):
         for t in self.tables.values():
             t.clear()
         values.Rec.known.clear()
         self.why.clear()
-
-
-class Query:
-    def __init__(self, runner, pred, mask, order):
-        self.runner, self.pred, self.mask, self.order = runner, pred, mask, order
-
-    def outcomes(self, *given):
-        found = self.runner.names[self.runner.function(self.pred, self.mask)](*[given[i] for i, m in zip(self.order, self.mask) if m])
-        return [y for y, in found]
-
-    def arguments(self, given, outcome):
-        return tuple((tuple(given) + (outcome,))[i] for i in self.order)
 
 
 def deep(work):
@@ -151,6 +136,7 @@ def deep(work):
             out.append((work(), None))
         except BaseException as error:
             out.append((None, error))
+    gc.set_threshold(100000)                  # the tables of a run are many small things that all stay
     sys.setrecursionlimit(10 ** 6)
     threading.stack_size(1 << 29)
     t = threading.Thread(target=run)

@@ -1,57 +1,52 @@
 """Terms and goals: what a sentence becomes before it is run.
 
-A term is a tuple: var num lit fn con rec pair proj ufn (a definition by cases), and before it is a goal: rel sig pi sum bot top call abbr; papp, bif, ty and
-Clo (a λ) wait for arguments. A goal is a comparison, a call of another sentence, a choice, a search that must find nothing, or a truth."""
-LEAVES = ("num", "lit", "ty", "bot", "top")
+A term is (kind, label, parts); var, num, lit, ty, bot and top have no parts. Values are var num lit fn con rec (a pair is one with the fields 0 and 1) proj and
+ufn, a definition by cases. What is said is rel sig pi sum call and abbr, with the term of the file behind the parts. What waits for arguments is papp, bif
+and clo, a λ with the values of the names that it uses. A goal is a comparison (rel), another sentence (call), a choice (or) or a search that must find nothing
+(not); a choice of nothing is false."""
 NIL = ("fn", "[]", ())
-
-
-class Clo:
-    def __init__(self, params, body, env, ctx):
-        self.params, self.body, self.env, self.ctx = params, body, env, ctx
+BOUND = ("sig", "pi")
 
 
 class Goal:
-    """src: the term in the file; via: the abbreviations it came through; free: its free variables, once they were asked for."""
-    pred, src, via, free = None, None, (), None
+    """label: the comparison's sign or the sentence; ways: (variables, goals) of each choice, of a search the one; fa: (variables, premises, further variables,
+    conclusion) where it was said of all; src: the term in the file; via: the abbreviations it came through."""
+    pred, free = None, None
+
+    def __init__(self, kind, label=None, parts=(), ways=(), fa=None, src=None, via=()):
+        self.kind, self.label, self.parts, self.ways, self.fa, self.src, self.via = kind, label, parts, ways, fa, src, via
 
     def noted(self, src, via):
         self.src, self.via = src, via
         return self
 
 
-class Rel(Goal):
-    def __init__(self, op, a, b):
-        self.op, self.a, self.b = op, a, b
+def rel(op, a, b):
+    return Goal("rel", op, (a, b))
 
 
-class Call(Goal):
-    def __init__(self, pred, args):
-        self.pred, self.args = pred, args
+def nothing(vars, goals, fa=None):
+    """The search for something that meets the goals must find nothing."""
+    return Goal("not", ways=[(vars, goals)], fa=fa)
 
 
-class Or(Goal):
-    """alts: (variables, goals) of each."""
-    def __init__(self, alts):
-        self.alts = alts
+def false(g):
+    return g.kind == "or" and not g.ways
 
 
-class Neg(Goal):
-    """Nothing in vars meets the goals. fa: (variables, premises, further variables, conclusion) where it was said of all."""
-    def __init__(self, vars, goals, fa=None):
-        self.vars, self.goals, self.fa = vars, goals, fa
-
-
-class Const(Goal):
-    def __init__(self, v):
-        self.v = v
+def equations(goals):
+    """(goal, side, other side) of each equation, read both ways."""
+    for g in goals:
+        if g.kind == "rel" and g.label == "==":
+            yield (g, *g.parts)
+            yield (g, *g.parts[::-1])
 
 
 class Clause:
     """A constructor: its variables, premises, and what it concludes of each argument; parts of a record: (field, comment, first goal, goal behind the last)."""
     def __init__(self, name, vars, goals, head, comment="", line=0, parts=None, fa=None):
         self.name, self.vars, self.goals, self.head = name, vars, goals, head
-        self.comment, self.line, self.parts, self.fa, self.of = comment, line, parts, fa, self
+        self.comment, self.line, self.parts, self.fa = comment, line, parts, fa
 
 
 class Pred:
@@ -70,28 +65,27 @@ class Pred:
         return self.made
 
 
+def is_fn(e, *ops):
+    return e[0] == "fn" and e[1] in ops
+
+
 def fn(op, args):
     """An operation, worked out as far as lists are written out."""
     a = args[0] if args else None
-    if op == "++" and a[0] == "fn":
-        if a[1] == "∷":
-            return ("fn", "∷", (a[2][0], fn("++", (a[2][1], args[1]))))
-        if a[1] == "[]":
-            return args[1]
-        if a[1] == "++":
-            return fn("++", (a[2][0], fn("++", (a[2][1], args[1]))))
-    if op == "length" and a[0] == "fn":
-        if a[1] == "[]":
-            return ("num", 0)
-        if a[1] == "∷":
-            n = fn("length", (a[2][1],))
-            return ("num", n[1] + 1) if n[0] == "num" else ("fn", "suc", (n,))
-        if a[1] == "++":
-            return ("fn", "+", (fn("length", (a[2][0],)), fn("length", (a[2][1],))))
-    if op == "getD" and a[0] == "fn" and a[1] == "∷":
+    if op == "++" and is_fn(a, "∷", "++"):
+        return fn(a[1], (a[2][0], fn("++", (a[2][1], args[1]))))
+    if op == "++" and a == NIL:
+        return args[1]
+    if op == "length" and a == NIL:
+        return ("num", 0)
+    if op == "length" and is_fn(a, "∷"):
+        n = fn("length", (a[2][1],))
+        return ("num", n[1] + 1) if n[0] == "num" else ("fn", "suc", (n,))
+    if op == "length" and is_fn(a, "++"):
+        return ("fn", "+", tuple(fn("length", (x,)) for x in a[2]))
+    if op == "getD" and is_fn(a, "∷") and folded(args[1]) is not None:
         i = folded(args[1])
-        if i is not None:
-            return a[2][0] if i == 0 else fn("getD", (a[2][1], ("num", i - 1), args[2]))
+        return a[2][0] if i == 0 else fn("getD", (a[2][1], ("num", i - 1), args[2]))
     return ("fn", op, args)
 
 
@@ -99,55 +93,24 @@ def folded(e):
     """A term of numerals as a number, or None."""
     if e[0] == "num":
         return e[1]
-    if e[0] == "fn" and e[1] in ("+", "suc") and e[2]:
-        parts = [folded(x) for x in e[2]]
-        return None if None in parts else sum(parts) + (e[1] == "suc")
-    return None
+    parts = [folded(x) for x in e[2]] if is_fn(e, "+", "suc") else [None]
+    return None if None in parts else sum(parts) + (e[1] == "suc")
 
 
 def proj(e, field):
-    if e[0] == "rec":
-        return dict(e[1])[field]
-    if e[0] == "pair":
-        return e[1] if field == "0" else e[2]
-    return ("proj", e, field)
+    return e[2][e[1].index(field)] if e[0] == "rec" else ("proj", field, (e,))
 
 
 def mapped(x, f):
     """A term or goal with f put on its direct subterms; the variables that it binds are not touched."""
-    if isinstance(x, Rel):
-        return Rel(x.op, f(x.a), f(x.b)).noted(x.src, x.via)
-    if isinstance(x, Call):
-        return Call(x.pred, tuple(map(f, x.args))).noted(x.src, x.via)
-    if isinstance(x, Or):
-        return Or([(vs, [mapped(g, f) for g in gs]) for vs, gs in x.alts]).noted(x.src, x.via)
-    if isinstance(x, Neg):
-        fa = x.fa and (x.fa[0], [mapped(g, f) for g in x.fa[1]], x.fa[2], [mapped(g, f) for g in x.fa[3]])
-        return Neg(x.vars, [mapped(g, f) for g in x.goals], fa).noted(x.src, x.via)
-    if isinstance(x, Const):
+    if isinstance(x, Goal):
+        vs, premises, further, conclusion = x.fa or ([], [], [], [])
+        fa = x.fa and (vs, [mapped(g, f) for g in premises], further, [mapped(g, f) for g in conclusion])
+        return Goal(x.kind, x.label, tuple(map(f, x.parts)), [(vs, [mapped(g, f) for g in gs]) for vs, gs in x.ways], fa, x.src, x.via)
+    if len(x) < 3:
         return x
-    if isinstance(x, Clo):
-        return Clo(x.params, x.body, {k: f(v) for k, v in x.env.items()}, x.ctx)
-    k = x[0]
-    if k == "var" or k in LEAVES:
-        return x
-    if k == "fn":
-        return fn(x[1], tuple(map(f, x[2])))
-    if k in ("con", "papp", "bif", "ufn", "call"):
-        return x[:2] + (tuple(map(f, x[2])),) + x[3:]
-    if k == "proj":
-        return proj(f(x[1]), x[2])
-    if k == "rec":
-        return ("rec", tuple((n, f(y)) for n, y in x[1]))
-    if k == "pair":
-        return ("pair", f(x[1]), f(x[2]))
-    if k == "rel":
-        return x[:2] + (f(x[2]), f(x[3])) + x[4:]
-    if k in ("sig", "pi"):
-        return (k, x[1], f(x[2]) if x[1] is None else x[2], f(x[3])) + x[4:]
-    if k == "sum":
-        return ("sum", f(x[1]), f(x[2])) + x[3:]
-    return ("abbr", x[1], tuple(map(f, x[2])), f(x[3]))
+    parts = tuple(map(f, x[2]))
+    return fn(x[1], parts) if x[0] == "fn" else proj(parts[0], x[1]) if x[0] == "proj" else (x[0], x[1], parts) + x[3:]
 
 
 def subst(x, m):
@@ -159,47 +122,28 @@ def subst(x, m):
 
 def replace(x, old, new):
     """A term replaced by another."""
-    if isinstance(x, tuple) and x == old:
-        return new
-    return mapped(x, lambda y: replace(y, old, new))
+    return new if x == old else mapped(x, lambda y: replace(y, old, new))
 
 
 def subterms(x):
-    if isinstance(x, Rel):
-        below = (x.a, x.b)
-    elif isinstance(x, Call):
-        below = x.args
-    elif isinstance(x, Or):
-        below = [g for _, gs in x.alts for g in gs]
-    elif isinstance(x, Neg):
-        below = x.goals
-    elif isinstance(x, Const):
-        below = ()
-    elif isinstance(x, Clo):
-        below = [v for v in x.env.values() if isinstance(v, (tuple, Clo))]
-    else:
-        yield x
-        k = x[0]
-        below = x[2] if k in ("fn", "con", "ufn", "papp", "bif") else [y for _, y in x[1]] if k == "rec" else x[1:3] if k == "pair" else \
-            (x[1],) if k == "proj" else ()
-    for y in below:
+    if isinstance(x, Goal):
+        for y in x.parts + tuple(g for _, gs in x.ways for g in gs):
+            yield from subterms(y)
+        return
+    yield x
+    for y in x[2] if len(x) > 2 else ():
         yield from subterms(y)
 
 
 def free(x):
     """Free variables, in order."""
-    if isinstance(x, Goal):
-        if x.free is None:
-            if isinstance(x, (Or, Neg)):
-                x.free = {v: 1 for bound, goals in (x.alts if isinstance(x, Or) else [(x.vars, x.goals)]) for v in frees(goals) if v not in bound}
-            else:
-                x.free = {y[1]: 1 for y in subterms(x) if y[0] == "var"}
-        return x.free
-    return {x[1]: 1} if x[0] == "var" else {y[1]: 1 for y in subterms(x) if y[0] == "var"}
+    if not isinstance(x, Goal):
+        return {x[1]: 1} if x[0] == "var" else {y[1]: 1 for y in subterms(x) if y[0] == "var"}
+    if x.free is None:
+        x.free = {v: 1 for y in x.parts for v in free(y)}
+        x.free.update((v, 1) for bound, goals in x.ways for v in frees(goals) if v not in bound)
+    return x.free
 
 
 def frees(goals):
-    out = {}
-    for g in goals:
-        out.update(free(g))
-    return out
+    return {v: 1 for g in goals for v in free(g)}

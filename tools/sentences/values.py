@@ -63,7 +63,7 @@ class Rec:
         return "{%s}" % "; ".join("%s = %s" % (k, brief(v)) for k, v in self.d.items())
 
 
-def rec(**fields):
+def rec(fields):
     names = tuple(sorted(fields))
     return Rec(names, tuple(fields[n] for n in names))
 
@@ -72,7 +72,7 @@ def value(x):
     """A Python value as the sentences have it: lists become lists, dictionaries records."""
     if isinstance(x, (list, bytes, bytearray)):
         return Seq(tuple(map(value, x)))
-    return rec(**{k: value(v) for k, v in x.items()}) if isinstance(x, dict) else x
+    return rec({k: value(v) for k, v in x.items()}) if isinstance(x, dict) else x
 
 
 def plain(x):
@@ -113,19 +113,6 @@ def cut(xs, n):
     return Seq(xs.t[xs.at:xs.at + n]), Seq(xs.t, xs.at + min(n, xs.n), xs.hashes)
 
 
-def append(a, b):
-    return Seq(a.items() + b.items())
-
-
-def put(xs, i, x):
-    t = xs.items()
-    return Seq(t[:i] + (x,) + t[i + 1:]) if i < xs.n else xs
-
-
-def monus(a, b):
-    return a - b if a > b else 0
-
-
 def div(a, b):
     return a // b if b else 0
 
@@ -136,11 +123,9 @@ def mod(a, b):
 
 def exact(t, c):
     """The x with c * x = t, or None."""
-    if c == 0:
-        if t == 0:
-            raise Floundered("0 * x = 0")
-        return None
-    return t // c if t % c == 0 else None
+    if c == t == 0:
+        raise Floundered("0 * x = 0")
+    return t // c if c and t % c == 0 else None
 
 
 def exponent(base, v):
@@ -156,14 +141,10 @@ def exponent(base, v):
 
 def multiples(low, high, c, sign, m):
     """Each x from low to high (or on and on) with c + sign * x a multiple of m."""
-    m = abs(m)
     if m == 0:
         raise Floundered("multiple of 0")
-    x = max(low, 0)
-    x += (-c * sign - x) % m
-    while high is None or x <= high:
-        yield x
-        x += m
+    start = low + (-c * sign - low) % abs(m)
+    return itertools.count(start, abs(m)) if high is None else range(start, high + 1, abs(m))
 
 
 def first(found):
@@ -187,28 +168,19 @@ def ranked(found, before):
 
 def pieces(step, known, text):
     """Each way of reading pieces off the front: those read, and what is left."""
-    read, left = (), text
-    todo = [(read, left)]
-    while todo:
-        further = []
-        for read, left in todo:
-            yield Seq(read), left
-            for piece, rest in step(*known, left):
-                if rest.n >= left.n:
-                    raise Floundered("an empty piece")
-                further.append((read + (piece,), rest))
-        todo = further
+    todo = [((), text)]
+    for read, left in todo:
+        yield Seq(read), left
+        for piece, rest in step(*known, left):
+            if rest.n >= left.n:
+                raise Floundered("an empty piece")
+            todo.append((read + (piece,), rest))
 
 
 def elementwise(cell, known, n):
     """Each list of n elements whose element i is one that `cell` finds."""
-    def from_here(i, done):
-        if i == n:
-            yield Seq(done)
-            return
-        for x, in set(cell(*known, i)):
-            yield from from_here(i + 1, done + (x,))
-    return from_here(0, ())
+    for each in itertools.product(*(set(cell(*known, i)) for i in range(n))):
+        yield Seq(tuple(x for x, in each))
 
 
 class Ranges:
