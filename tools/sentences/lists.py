@@ -321,4 +321,4 @@ class Lists(Arithmetic):
             left_open |= (power, base) not in digits
             total += digits.get((power, base), gap) * power
             power *= base
-        return total, left_open
+        return (total, left_open) if below is not None else (total + gap * power, True)      # without a bound a further digit is open
