@@ -6,7 +6,7 @@
 
 #define COUNT(a) (sizeof(a) / sizeof *(a))
 
-static uint8_t report[163840], map[663552], records[131072], rehexed[3145728], benched[4194304], converted[65537], bytes[1048576], more_bytes[524288],
+static uint8_t report[163840], map[663552], records[131072], rehexed[3145728], benched[3801600], converted[65537], bytes[1048576], more_bytes[524288],
     scratch[65536];
 static uint64_t offsets[4096], sizes[4096], more_offsets[4096], more_sizes[4096], firsts[65536], counts[65536];
 

@@ -32,22 +32,25 @@ use Rattle.print_bench.specs.Program.{runsRoom, runText, runLines, alone
 use Rattle.print_bench.specs.Steps.{InBoth, EachInBoth}
 use Rattle.print_bench.proofs.Laws.{length-run}
 
--- ---- the bytes of all runs are no more than those of the shorter image
+-- ---- the bytes of all runs, and one behind each but the last, are no more than those of the shorter image
 
 abbrev total : List ℕ → ℕ
 total [] = 0
 total (x ∷ l) = x + total l
 
 module _ (test : ℕ → Bool) where
-  counts-few : (at n : ℕ) (inside : Bool) → total (sizes (runsFrom test at n inside)) + pick inside (lengthFrom test at n) 0 ≤ n
+  counts-few : (at n : ℕ) (inside : Bool)
+      → total (sizes (runsFrom test at n inside)) + length (runsFrom test at n inside) + pick inside (suc (lengthFrom test at n)) 0 ≤ suc n
   unfolding runsFrom lengthFrom
   counts-few at zero true = omega arith
   counts-few at zero false = omega arith
   counts-few at (suc n) inside = go (test at) inside (counts-few (suc at) n (test at))
     where
-      go : (here inside : Bool) → total (sizes (runsFrom test (suc at) n here)) + pick here (lengthFrom test (suc at) n) 0 ≤ n
+      go : (here inside : Bool)
+          → total (sizes (runsFrom test (suc at) n here)) + length (runsFrom test (suc at) n here) + pick here (suc (lengthFrom test (suc at) n)) 0 ≤ suc n
           → total (sizes (begun here inside (block at (pick here (suc (lengthFrom test (suc at) n)) 0)) ++ runsFrom test (suc at) n here))
-          + pick inside (pick here (suc (lengthFrom test (suc at) n)) 0) 0 ≤ suc n
+          + length (begun here inside (block at (pick here (suc (lengthFrom test (suc at) n)) 0)) ++ runsFrom test (suc at) n here)
+          + pick inside (suc (pick here (suc (lengthFrom test (suc at) n)) 0)) 0 ≤ suc (suc n)
       go true true h = omega (arith, h)
       go true false h = omega (arith, h)
       go false true h = omega (arith, h)
@@ -84,7 +87,7 @@ module _ (t : Trial) (small : length (t .released) ≤ bytesRoom) (little : leng
   unfolding runsOf
   inside-both i h = omega (arith, each-good (listed t) 0 (shorter t) false i h .within)
 
-  all-counts : total (sizes (runsOf t)) ≤ shorter t
+  all-counts : total (sizes (runsOf t)) + length (runsOf t) ≤ suc (shorter t)
   unfolding runsOf
   all-counts = omega (arith, counts-few (listed t) 0 (shorter t) false)
 
@@ -101,7 +104,7 @@ module _ (t : Trial) (small : length (t .released) ≤ bytesRoom) (little : leng
       }
 
   all-lines : (load : ℕ) → load ≤ 4294967295 → length (runsOf t) ≤ runsRoom
-      → length (runLines load (t .released) (t .overlay) (origins (runsOf t)) (sizes (runsOf t))) ≤ 4063232
+      → length (runLines load (t .released) (t .overlay) (origins (runsOf t)) (sizes (runsOf t))) ≤ 3801092
   all-lines load low few =
       omega (
         arith,
@@ -184,7 +187,7 @@ module _ (t : Trial) (small : length (t .released) ≤ bytesRoom) (little : leng
           ≡ runLines load (t .released) (t .overlay) (origins (runsOf t)) (sizes (runsOf t))
       same-lines load = ap₂ (runLines load (t .released) (t .overlay)) first second
 
-      pub lines-fit : (load : ℕ) → load ≤ 4294967295 → length (runLines load (t .released) (t .overlay) (take count fs′) (take count cs′)) ≤ 4063232
+      pub lines-fit : (load : ℕ) → load ≤ 4294967295 → length (runLines load (t .released) (t .overlay) (take count fs′) (take count cs′)) ≤ 3801092
       lines-fit load low = omega (arith, ap length (same-lines load), all-lines load low (leb-true n runsRoom (all-three .1)))
 
       pub list-is : (load alone : ℕ)

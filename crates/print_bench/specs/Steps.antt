@@ -14,7 +14,7 @@ use Rattle.print_bench.specs.Program.{benchText}
 
 -- The room for the text.
 abbrev pub textRoom : ℕ
-textRoom = 4194304
+textRoom = 3801600
 
 -- No byte that a block of 64-bit numbers ends at is farther.
 abbrev pub far : ℕ

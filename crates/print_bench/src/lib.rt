@@ -39,8 +39,8 @@ const BLOCKS: usize = 4_096;
 
 const RUNS: usize = 65_536;
 
-// Room for the longest list: every byte of both images in digits, and 32 bytes of a line for each run.
-const TEXT: usize = 4_194_304;
+// Room for the longest list: every byte of both images in digits, and 26 bytes more for each run, between which there is a byte.
+const TEXT: usize = 3_801_600;
 
 // What is asked: every run, or a range by its address and its count of bytes.
 pub enum Asked {

@@ -54,7 +54,7 @@ module _ (d : tie.After-differences) where
         each-listed t (s .pre .0 .0) (s .pre .0 .1) (s .args .firsts .now) (s .args .counts .now) (d .differences .result) fs cs (d .differences .ensures)
         (s .pre .1 .1 .0 .0) (s .pre .1 .1 .0 .1) count e
 
-    fit : length (runLines (s .args .load) (s .args .released .now) (s .args .overlay .now) (take count fs) (take count cs)) ≤ 4063232
+    fit : length (runLines (s .args .load) (s .args .released .now) (s .args .overlay .now) (take count fs) (take count cs)) ≤ 3801092
     fit =
         lines-fit t (s .pre .0 .0) (s .pre .0 .1) (s .args .firsts .now) (s .args .counts .now) (d .differences .result) fs cs (d .differences .ensures)
         (s .pre .1 .1 .0 .0) (s .pre .1 .1 .0 .1) count e (s .args .load) low

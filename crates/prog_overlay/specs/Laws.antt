@@ -1,2 +1,0 @@
-pub mod Cover
-pub mod Free
