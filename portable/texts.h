@@ -2,8 +2,8 @@
  * speak of; not to be edited. What follows this comment has the sum `text`, and what it was printed from has the sum
  * `sources` (sha256; tools/portable.sh says of what).
  *
- * sources: 65057545e223d6489febd07c5dd3bdab3fe00f52477606c791d905663b64fedc
- * text: eebdc3e373b21b66ad7d7d8dadb92d2a66bc9721a35ceccbed52ab6b6e3713db
+ * sources: df0f3ea9d46fb6cb87d68ba22834e851a2639cdfe695141c1ca562bcac3437f4
+ * text: 68c712ad83f6a21217ee466dc53e22060c75e710129f84b538ef941d14fad917
  * kit: rattle-kit-5b-plain logic 097e4c862dff5811
  */
 #ifndef DENKUMARI_TEXTS_H
@@ -30,12 +30,6 @@ typedef struct {
     bool whole;
 } print_records__Wanted;
 typedef struct { uint64_t *ptr; size_t len; } mut_u64;
-typedef struct {
-    uint64_t reason;
-    uint64_t line;
-    uint64_t first;
-    uint64_t second;
-} record_reason__Why;
 enum {
     refusal__Refusal_BankCount = 0,
     refusal__Refusal_BankNumber = 1,
@@ -75,28 +69,6 @@ typedef struct {
     } u;
 } refusal__Refusal;
 enum {
-    blocks__Blocks_Found = 0,
-    blocks__Blocks_Refused = 1
-};
-typedef struct {
-    size_t tag;
-    union {
-        struct { uint64_t f0; } Found;
-        struct { refusal__Refusal f0; } Refused;
-    } u;
-} blocks__Blocks;
-enum {
-    prog_overlay__Asked_Runs = 0,
-    prog_overlay__Asked_Range = 1
-};
-typedef struct {
-    uint32_t tag;
-    union {
-        struct { uint32_t f0; uint32_t f1; } Range;
-    } u;
-} prog_overlay__Asked;
-typedef struct { const uint64_t *ptr; size_t len; } slice_u64;
-enum {
     form_convert__Conversion_Converted = 0,
     form_convert__Conversion_Refused = 1
 };
@@ -128,28 +100,15 @@ uint64_t prog_records__put_file(print_records__Wanted wanted, slice_u8 file, uin
 uint64_t print_rehex__put_file(uint8_t kind, uint8_t format, uint32_t load, slice_u8 source, mut_u8 bytes,
         mut_u64 offsets, mut_u64 sizes, mut_u8 out);
 
-/* record_reason::reason_of:
- * The line at fault of a file that is read from a load address on, and why. The scratch is as it was behind the
- * call.
+/* print_bench::put_bench:
+ * The whole text, at the front of `out`: how many bytes it is. All runs are asked for, or else a range by its
+ * address and its count of bytes. The arrays go by reference, with their lengths, so that there is always room, and
+ * are not looked at one by one.
  */
-record_reason__Why record_reason__reason_of(uint8_t format, slice_u8 text, uint32_t load, mut_u8 scratch);
-
-/* prog_overlay::load_file:
- * What a file gives, in what is lent. One that is too long is refused as it is, and not read.
- */
-blocks__Blocks prog_overlay__load_file(uint32_t load, slice_u8 source, mut_u8 bytes, mut_u64 offsets, mut_u64 sizes);
-
-/* prog_overlay::put_unread: The refusal of a file, with its name and the line at fault. */
-uint64_t prog_overlay__put_unread(const refusal__Refusal *restrict why, slice_u8 name, uint32_t load,
-        slice_u8 source, mut_u8 out);
-
-/* prog_overlay::put_released:
- * The whole text, where the overlay was read: the room for the released file's bytes begins as a copy of the
- * overlay's, so that where the released file gives no byte none differs.
- */
-uint64_t prog_overlay__put_released(prog_overlay__Asked asked, uint32_t load, slice_u8 source, mut_u8 released,
-        mut_u64 released_offsets, mut_u64 released_sizes, slice_u8 overlay, slice_u64 offsets, slice_u64 sizes,
-        mut_u64 firsts, mut_u64 counts, mut_u8 out);
+uint64_t print_bench__put_bench(bool all, uint32_t address, uint32_t count, uint32_t load, slice_u8 released_file,
+        slice_u8 overlay_file, uint8_t *restrict released, uint64_t *restrict released_offsets,
+        uint64_t *restrict released_sizes, uint8_t *restrict overlay, uint64_t *restrict offsets,
+        uint64_t *restrict sizes, uint64_t *restrict firsts, uint64_t *restrict counts, uint8_t *restrict out);
 
 /* form_convert::to_form1: Form 2 to form 1. A refused call changes nothing that is lent. */
 form_convert__Conversion form_convert__to_form1(slice_u8 file, mut_u8 out);

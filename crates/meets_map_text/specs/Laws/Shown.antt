@@ -29,9 +29,9 @@ use Rattle.resolver.specs.Once.{Program, bankRecord}
 use Rattle.resolver.specs.Passes.{rowOfPass}
 use Rattle.resolver.specs.declared.Settled.{Settled}
 use Rattle.resolver.specs.declared.Settled.the-variants.{At, Refused as Unsettled}
-use Rattle.build_plan.specs.Placing.{Placed, holds, stops, placedAll}
+use Rattle.build_plan.specs.Placing.{Placed, holds, stops, placedAll, walkedAll}
 use Rattle.output.specs.Output.{Input, closedOf, visitsOf, passesOf, settledOf}
-use Rattle.build_map.specs.Map.{walkedAll, tracedBy, nodeOf, nodesMet, faultMet, settledReach, reachOf, mapOf, bankShown, positionShown, outputShown, sizeShown}
+use Rattle.build_map.specs.Map.{tracedBy, nodeOf, nodesMet, faultMet, settledReach, reachOf, mapOf, bankShown, positionShown, outputShown, sizeShown}
 use Rattle.build_map.specs.Laws.Entries.{shown-at}
 use Rattle.build_map.specs.Theorems.Reached.{ran-checked, none-run, shown-sees}
 use Rattle.build_map.specs.declared.Fault.{Fault}
