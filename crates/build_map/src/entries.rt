@@ -1,10 +1,13 @@
 // The entries of nodes: bank, position, place in the output and size, each in a lent list.
+use bankdef::Bankdef;
 use bankdef::Bankdefs;
 use iter::Lost;
+use iter::Paced;
+use iter::Pos;
 use iter::bank_after;
 use iter::get_output_position;
 use iter::lost_after;
-use iter::pace;
+use iter::pace_of_parts;
 use iter::start;
 use lists::Node;
 use lists::node_at;
@@ -14,6 +17,7 @@ ghost use mathlib.Core.Path.{_≡_};
 ghost use Prim.Native.Nat.{_≤_};
 ghost use lib.ListN.{length};
 ghost use Rattle.refusal.specs.Limits.{maxNodes};
+ghost use Rattle.iter.specs.Pace.{Paces};
 ghost use Rattle.resolver.specs.Once.{walkTo, programWith};
 ghost use Rattle.resolver.specs.Padding.{sizeBy};
 ghost use Rattle.resolver.specs.Switches.{Switches};
@@ -32,6 +36,25 @@ fn size_of(node: Node) -> u32
         return 0;
     }
     node.number
+}
+
+// The step over one node, by its parts. It is the build's own (`iter::pace`), kind by kind; this second caller keeps that function out of the build's loops,
+// which are faster so (docs/PROVING.md).
+fn step_of(def: Bankdef, at: Pos, node: Node) -> Paced
+    ensures { λ r. ⌜ Paces def at node r ⌝ }
+{
+    let align = def.align;
+    pace_of_parts(
+        def.unit,
+        def.start,
+        align,
+        at,
+        node.index,
+        node.kind,
+        node.operand,
+        node.number,
+        node.state,
+    )
 }
 
 // The entries of the first `nodes` nodes of a row, by the step that the build makes; the lists keep their old contents past them. Answers what the walk lost
@@ -81,7 +104,7 @@ pub(crate) fn write_entries(
         let node = node_at(kinds, operands, first, numbers, states, i);
         let bank = bank_after(walk.bank, node);
         let def = banks.defs[bank as usize];
-        let step = pace(def, walk.at[bank as usize], node);
+        let step = step_of(def, walk.at[bank as usize], node);
         let now = step.seen;
         let out = get_output_position(def, now.position);
         banks_of[i] = bank;

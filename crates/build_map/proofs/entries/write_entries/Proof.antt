@@ -31,7 +31,7 @@ abbrev Banked : Type 0
 Banked = tie.After-bank-after Inv-loop μ-loop
 
 abbrev Paced : Type 0
-Paced = tie.After-pace Inv-loop μ-loop
+Paced = tie.After-step-of Inv-loop μ-loop
 
 abbrev Sized : Type 0
 Sized = tie.After-size-of Inv-loop μ-loop
@@ -98,9 +98,9 @@ loop-again c =
     let g = paced s in
     let b = banked g in
     goes-on (head b .loop .inv) (entry (head b) .pre .1) (b .before .before .loop-test .taken)
-    (paced-is-visit (comes b) _ _ (g .pace .ensures) (placing s .get-output-position .ensures .0))
-    (paced-still (comes b) _ _ (g .pace .ensures) (c .if1 .taken)) _ (s .before .word-of .result) (s .size-of .result)
-    (sym (paced-position _ _ _ (g .pace .ensures))) (s .before .word-of .ensures) (s .size-of .ensures)
+    (paced-is-visit (comes b) _ _ (g .step-of .ensures) (placing s .get-output-position .ensures .0))
+    (paced-still (comes b) _ _ (g .step-of .ensures) (c .if1 .taken)) _ (s .before .word-of .result) (s .size-of .result)
+    (sym (paced-position _ _ _ (g .step-of .ensures))) (s .before .word-of .ensures) (s .size-of .ensures)
 
 loop-again-2 : tie.Need-loop-again-2 Inv-loop μ-loop
 loop-again-2 c =
@@ -108,9 +108,9 @@ loop-again-2 c =
     let g = paced s in
     let b = banked g in
     goes-on (head b .loop .inv) (entry (head b) .pre .1) (b .before .before .loop-test .taken)
-    (paced-is-visit (comes b) _ _ (g .pace .ensures) (placing s .get-output-position .ensures .0))
-    (paced-next (comes b) _ _ (g .pace .ensures) (c .lost-after .ensures)) _ (s .before .word-of .result) (s .size-of .result)
-    (sym (paced-position _ _ _ (g .pace .ensures))) (s .before .word-of .ensures) (s .size-of .ensures)
+    (paced-is-visit (comes b) _ _ (g .step-of .ensures) (placing s .get-output-position .ensures .0))
+    (paced-next (comes b) _ _ (g .step-of .ensures) (c .lost-after .ensures)) _ (s .before .word-of .result) (s .size-of .result)
+    (sym (paced-position _ _ _ (g .step-of .ensures))) (s .before .word-of .ensures) (s .size-of .ensures)
 
 returns : tie.Need-returns Inv-loop μ-loop
 returns c =
