@@ -2,7 +2,7 @@
  * speak of; not to be edited. What follows this comment has the sum `text`, and what it was printed from has the sum
  * `sources` (sha256; tools/portable.sh says of what).
  *
- * sources: df0f3ea9d46fb6cb87d68ba22834e851a2639cdfe695141c1ca562bcac3437f4
+ * sources: a30466cee0b08a827027bb5d23b3b97a9e92b6a3efb651f8af9fa4b81ef21d68
  * text: 68c712ad83f6a21217ee466dc53e22060c75e710129f84b538ef941d14fad917
  * kit: rattle-kit-5b-plain logic 097e4c862dff5811
  */
