@@ -184,7 +184,7 @@ struct dk_offered {
  * Writes the image, bits from the top of each byte, and the spans, labels and written items in the order of the nodes: span i has addresses[i],
  * offsets[i] (in bits, or DK_NO_OFFSET) and sizes[i] (in bits, 0 for a label). The shortest of the three lists counts.
  *
- * It needs less than 28 KiB of stack (24.5 KiB). */
+ * It needs less than 24 KiB of stack (21.5 KiB). */
 struct dk_layout dk_build(const uint16_t *units, size_t units_len,
                           const int64_t *starts, size_t starts_len,
                           const uint32_t *bank_sizes, size_t bank_sizes_len,
@@ -205,7 +205,7 @@ struct dk_layout dk_build(const uint16_t *units, size_t units_len,
                           uint64_t *sizes, size_t sizes_len);
 
 /* The same for a file of form 1, at most 65,000 bytes, or of form 2, at most 65,536: image and spans as above. Bank 0 is closed in form 2, open in form 1.
- * It needs less than 136 KiB of stack (131.9 KiB), most of it for the lists of the file. */
+ * It needs less than 136 KiB of stack (128.9 KiB), most of it for the lists of the file. */
 struct dk_layout dk_form(const uint8_t *file, size_t file_len, uint8_t fill,
                          uint8_t *image, size_t image_len,
                          int64_t *addresses, size_t addresses_len,
@@ -239,7 +239,7 @@ struct dk_profile dk_profile(uint32_t page,
                              uint8_t fill);
 
 /* dk_build and dk_form in the profile of a device with pages of `page` bits: what dk_profile refuses is refused so, with no pass run; everything else is as
- * without a profile. They need less than 28 KiB and 136 KiB of stack (26.9 and 132.0 KiB). */
+ * without a profile. They need less than 28 KiB and 136 KiB of stack (23.9 and 129.0 KiB). */
 struct dk_layout dk_build_paged(uint32_t page,
                                 const uint16_t *units, size_t units_len,
                                 const int64_t *starts, size_t starts_len,
@@ -286,7 +286,7 @@ struct dk_mapped {
  * DK_NO_OFFSET, and takes sizes[i] bits if it is an item or a reserve. Elements past `nodes` stay. The call is refused 1, 2, 3 and 4 in this order, and then
  * changes nothing; there is no 14, since the lists have a place for every node that a layout can have. Where dk_build refuses from 5 to 13 the map is the
  * answer, and says it in `stopped`, with its place and the node: so the node at fault of 12 is learnt, whose own place is the interval that it meets. Time
- * grows with passes times nodes, and with the nodes times those stored before them. It needs less than 24 KiB of stack (20.8 KiB). */
+ * grows with passes times nodes, and with the nodes times those stored before them. It needs less than 24 KiB of stack (17.0 KiB). */
 struct dk_mapped dk_map(const uint16_t *units, size_t units_len,
                         const int64_t *starts, size_t starts_len,
                         const uint32_t *bank_sizes, size_t bank_sizes_len,
@@ -442,7 +442,7 @@ struct dk_extent {
 /* The lowest address that the same file gives a byte to and the one behind the highest, in the same time, with `scratch` as above; both are 0 where it gives
  * none, and only then is `end` 0. Refused 4 (place 0) where the format is neither of the two or the file bad, whatever the load address. dk_read_records with
  * `load` no higher than `lowest` then needs end - load bytes, and refuses nothing but lists that are too short. It needs less than 2 KiB of stack
- * (1.3 KiB). */
+ * (1.1 KiB). */
 struct dk_extent dk_record_extent(uint8_t format, const uint8_t *text, size_t text_len, uint8_t *scratch, size_t scratch_len);
 
 /* Where a file of records is bad. */

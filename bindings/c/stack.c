@@ -327,7 +327,7 @@ int main(void)
     shuffle_spans();
     bad |= measure("dk_blocks", blocks, 12 * 1024);
     fill_tables();
-    bad |= measure("dk_build", build, 28 * 1024);
+    bad |= measure("dk_build", build, 24 * 1024);
     bad |= measure("dk_map", map, 24 * 1024);
     fill_file();
     bad |= measure("dk_profile", profile, 8 * 1024);
