@@ -66,9 +66,6 @@ EDITS = [
      "Gives ps j a c → (i ≡ j) ⊎ (b ≡ c)) → Good text ps"),
     ("a refused call hands counts of 0 back", "dk_offer", "Store", "count = s .count; marks = s .markCount };", "count = 0; marks = 0 };"),
     ("13 is given for a store of 511 intervals", "dk_offer", "Store", "Full = ((0 < e .size) × (s .count ≡ 512))", "Full = ((0 < e .size) × (s .count ≡ 511))"),
-    ("the offers of a list are counted from 1", "dk_offers", "Offers", "(y .answer .second) n)", "(y .answer .second) (suc n))"),
-    ("of two lists the longer one says where an offer lacks a part", "dk_offers", "Offers",
-     "a-size : length lengths < length starts → Lacking (length lengths)", "a-size : length lengths < length starts → Lacking (length starts)"),
 ]
 
 
