@@ -3,7 +3,7 @@
 
     portable_damage.py [--calls N] [--driver FOLDER] [--term FILE] [NAME ..]
 
-The damaged printer prints the term of the exported calls, and a C compiler compiles that with the driver over all 20 calls (portable/driver.h). A damage is
+The damaged printer prints the term of the exported calls, and a C compiler compiles that with the driver over all calls (portable/driver.h). A damage is
 seen where the printer refuses, where the compiler refuses or warns, or where the driver ends or answers otherwise than over portable/denkumari.c, which is
 held to the proved archive (portable/matrix). One that prints what means the same is listed here with the reason. Prints the table of docs/PORTABLE.md; ends
 with 1 where a damage is not seen and not listed. NAME is a damage by its number, all of them unless said; FILE has what `rt mir` prints, which is asked for
