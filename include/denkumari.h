@@ -1,4 +1,4 @@
-/* Denkumari: from a table of banks and a list of nodes to an image, its spans and its blocks. Every function here is proved: its contract is what the
+/* Denkumari: from a table of banks and a list of nodes to an image, its spans and its blocks. Every call here is proved: its contract is what the
  * documents say of it ("document" means documents 01 and 02), and the last comment of this file names the theorems. Link with libdenkumari.a (x86-64 Linux), or
  * compile portable/denkumari.c with any C99 compiler. It calls nothing but memory functions of the C library, allocates nothing, keeps nothing between calls,
  * and may be called from any thread.
@@ -65,8 +65,8 @@ enum dk_refusal {
     DK_NO_OUTPUT = 11,         /* an item is written in a bank without output offset; place: the node */
     DK_OVERLAP = 12,           /* an item would share a bit with another, or have a mark (an item of size 0) strictly inside it, or is a mark
                                   strictly inside another; place and second: start and size of that other, in bits, of a mark its place and 0 */
-    DK_STORE_FULL = 13,        /* over 512 items, or over 512 marks; place: the node */
-    DK_TOO_SHORT = 14,         /* a buffer is too short; place: image or bytes 0, spans 1, blocks 2, hex or text 3 */
+    DK_STORE_FULL = 13,        /* over 512 items and reserves, or over 512 marks; place: the node, of an offer 0 */
+    DK_TOO_SHORT = 14,         /* a buffer is too short; place: image, bytes or a converted file 0, spans 1, blocks or runs 2, hex or text 3 */
     DK_BAD_STORE = 15,         /* a store that was given is not one: over 512 intervals or marks, or intervals past an offer's limits, empty, not
                                   ascending or sharing a bit, or marks past an offer's limit, out of order or strictly inside an interval;
                                   place: 512 for either count, else the first interval at fault, else the first mark at fault */
@@ -134,7 +134,7 @@ struct dk_layout {
 
 /* The answer of a call that writes a list. */
 struct dk_count {
-    uint64_t refusal; /* DK_ACCEPTED, DK_MALFORMED, DK_TOO_SHORT, of calls that write records DK_BAD_PART, of dk_to_form1 DK_FILL_BIT_LOST */
+    uint64_t refusal; /* DK_ACCEPTED, DK_MALFORMED, DK_TOO_SHORT, of dk_verify and of calls that write records DK_BAD_PART, of dk_to_form1 DK_FILL_BIT_LOST */
     uint64_t place;
     uint64_t count;   /* how many elements were written */
 };
@@ -321,7 +321,7 @@ struct dk_count dk_blocks(const uint64_t *offsets, size_t offsets_len,
                           uint64_t *block_sizes, size_t block_sizes_len);
 
 /* The first `bits` bits of `bytes` in hex: four bits a digit, lower case, the last digit padded with zero bits, no final zero byte. Refused 4
- * where there are fewer bits, then 14 where `hex` is too short. It needs less than 1 KiB of stack (at most 128 bytes). */
+ * where there are fewer bits, then 14 (place 3) where `hex` is too short. It needs less than 1 KiB of stack (at most 128 bytes). */
 struct dk_count dk_hex(const uint8_t *bytes, size_t bytes_len, uint64_t bits, uint8_t *hex, size_t hex_len);
 
 /* Offers `size` bits from bit `position` on to a store that you keep between calls: `count` intervals, ascending, no two sharing a bit, interval i
@@ -558,7 +558,7 @@ static inline const char *dk_words(uint64_t refusal)
 #endif
 
 /* Statements. What a call promises is a sentence over its own parameters, before and after, written from the documents and in their numerals: it is the
- * function's `ensures` in crates/denkumari/src, and each function is proved to keep it. Proved besides are that the sentence leaves one outcome, everything
+ * function's `ensures` in crates/denkumari/src, and each function is proved to keep it. Proved besides are that the sentence allows no second outcome, everything
  * lent included (`.. decides`), and from it what people look for. crate/File.name is a name of a file in crates/crate/specs; docs/STATEMENTS.md has each beside
  * the document's words, and docs/READING.md says how to read them. In brackets stands what a theorem asks besides its calls being accepted. Those that join
  * reading, faults and reasons speak of the formats 0 and 1 (`format < 2`).
@@ -579,7 +579,7 @@ static inline const char *dk_words(uint64_t refusal)
  *                   `build_map/AsBuilt.refused-exactly-as-built`; the node at fault: `build_map/AsBuilt.fault-is-where-refused`
  * dk_to_form2       sentence `says/Convert.ConvertSays`; `meets_convert/Decides.to-form2-decides`. There and back: `meets_convert/Trips.form-1-and-back`
  *                   (not already the shape of a converted one-bank file); the same build: `meets_convert/SameBuild.other-banks-same-build` (not one bank),
- *                   `meets_convert/SameBuild.one-bank-same-build` (one bank: places rise by one)
+ *                   `meets_convert/SameBuild.one-bank-same-build` (one bank: nodes in places rise by one)
  * dk_to_form1       the same sentence; `meets_convert/Decides.to-form1-decides`. And again: `meets_convert/Trips.form-2-and-again` (not one bank); the same
  *                   build: `meets_convert/SameBuild.plain-same-build` (neither one bank nor the shape), `meets_convert/SameBuild.shape-same-build` (the shape)
  * dk_blocks         sentence `says/Blocks.DkBlocksSay`; `meets_bits/Blocks.dk-blocks-decides`

@@ -136,9 +136,9 @@ EXAMPLES = {
 EXAMPLES |= {
     "lock": ("a lock bank of one bit behind a filled byte: the inherited fill leaves it out, full fill has it", lock()),
     "erased": ("form 2: flash that is erased to ones, with gaps and a reserve", erased()),
-    "alone": ("form 2 with bank 0 alone, which form 2 does not let be used", alone()),
+    "alone": ("form 2 with bank 0 alone, and form 2 forbids its use", alone()),
     "paged": ("whole pages of 64 bits, for the paged device", paged()),
-    "paged-alignment": ("the same with an alignment of 24, which has two bits set", paged(align=24)),
+    "paged-alignment": ("the same with an alignment of 24, which is not a power of two", paged(align=24)),
     "paged-offset": ("the same with a bank that starts in the middle of a page", paged(offset=160)),
     "paged-size": ("the same with a bank of one page and a half", paged(size=96)),
     "paged-unit": ("the same with an address unit of 32", paged(unit=32)),
