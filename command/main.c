@@ -34,11 +34,11 @@ static int print_help(void) {
     struct text t = {0};
     put(&t, "denkumari turns a bank table and a list of nodes into the image that is flashed. Each command has its own --help (denkumari layout --help):\n\n");
     for (size_t i = 0; i < sizeof commands / sizeof *commands; i++) put(&t, "    %-8s %-16s  %s\n", commands[i].name, commands[i].files, commands[i].line);
-    put(&t, "    %-25s  the version, the kit that the code was proved with, the commit, and the sum of the proved sources\n\n", "--version");
+    put(&t, "    %-25s  the version, the kit that the code was proved with, the commit, and the sums of the proved sources\n\n", "--version");
     put(&t, "FILE may be -, standard input; --option=value is --option value; behind -- every word is a file. No environment variable and no locale is asked.\n"
             "What is printed comes from the proved functions: portable/ has them as C, printed from the very term that the proofs speak of, and its head\n"
             "names the sources and the kit. The command around them (command/) is written by hand: it reads, calls, and writes whole or not at all.\n"
-            "Status 0: done; 1: refused (for compare: a difference), with the reason in words on standard error; 2: anything else.\n");
+            "Status 0: done; 1: refused, or a difference (compare, verify, bench --check), with the reason in words on standard error; 2: anything else.\n");
     return answer(bytes_of(&t), NULL);
 }
 

@@ -97,7 +97,7 @@ impl fmt::Display for BadFile {
             Reason::NoStart => write!(f, "it does not begin with {start}"),
             Reason::NoDigit { place, character } => write!(f, "character {} is no hex digit: '{}'", place + 1, character.escape_ascii()),
             Reason::Length { found, wanted } => write!(f, "it has {found} characters, should have {wanted}"),
-            Reason::Count { found, wanted } => write!(f, "the count is {found:02X}, and its type has {wanted:02X}"),
+            Reason::Count { found, wanted } => write!(f, "the count is {found:02X}, and its type requires {wanted:02X}"),
             Reason::Checksum { found, wanted } => write!(f, "the checksum is {found:02X}, should be {wanted:02X}"),
             Reason::Type { found } if self.format == Format::IntelHex => {
                 write!(f, "type {found:02X} is not read (types 00, 01 and 04 are)")

@@ -46,7 +46,7 @@ fn each_reason_of_intel_hex() {
             Reason::Length { found: 13, wanted: 15 },
             "line 1: it has 13 characters, should have 15: \":0200000041BE\"",
         ),
-        (":0100000100FE\n", 0, 0, Reason::Count { found: 1, wanted: 0 }, "line 1: the count is 01, and its type has 00: \":0100000100FE\""),
+        (":0100000100FE\n", 0, 0, Reason::Count { found: 1, wanted: 0 }, "line 1: the count is 01, and its type requires 00: \":0100000100FE\""),
         (
             ":0100000041BF\n",
             0,
