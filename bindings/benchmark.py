@@ -24,7 +24,7 @@ from benchmark_stack import stack_rows
 from benchmark_where import where_rows
 from form1 import encode
 from generate import batched
-from programs_time import program_rows
+from programs_time import compiled, program_rows
 
 LONGEST = 65_000
 TABLES = ("machine", "layouts", "where", "series", "calls", "portable", "programs", "stack", "orders")
@@ -126,7 +126,7 @@ def main():
     tables = {"machine": machine_rows, "layouts": lambda: layout_rows(sides, asked.turns), "where": lambda: where_rows(asked.ours, asked.rust),
               "series": lambda: series_rows(sides), "calls": lambda: call_rows(asked.ours, asked.rust, asked.turns),
               "portable": lambda: portable_rows(asked.ours),
-              "programs": lambda: program_rows([asked.rehex] if asked.rehex else manners.command("rehex"), asked.turns),
+              "programs": lambda: program_rows(asked.rehex or compiled(), asked.turns),
               "stack": lambda: stack_rows(asked.ours), "orders": lambda: order_rows(asked.ours)}
     for name in asked.only or tables:
         rows = []

@@ -576,7 +576,7 @@ static inline const char *dk_words(uint64_t refusal)
  *                   `meets_profile/Meets.paged-is-build`
  * dk_form_paged     sentence `says/FormPaged.FormPagedSays`; `meets_form_paged/Decides.form-paged-decides`
  * dk_map            sentence `says/Map.MapSays`; `meets_map/Decides.map-decides`. Refused as the build is but for 14:
- *                   `build_map/AsBuilt.refused-exactly-as-built`; the node at fault: `build_map/AsBuilt.fault-is-where-refused`
+ *                   `meets_map/AsBuilt.map-agrees-with-build`; the node at fault: `meets_map/Fault.fault-is-first-refused`
  * dk_to_form2       sentence `says/Convert.ConvertSays`; `meets_convert/Decides.to-form2-decides`. There and back: `meets_convert/Trips.form-1-and-back`
  *                   (not already the shape of a converted one-bank file); the same build: `meets_convert/SameBuild.other-banks-same-build` (not one bank),
  *                   `meets_convert/SameBuild.one-bank-same-build` (one bank: nodes in places rise by one)

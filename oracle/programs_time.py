@@ -1,5 +1,5 @@
 #!/usr/bin/env python3
-"""tools/rehex's program beside srec_cat and objcopy, on the same files, in one run: instructions, and processor time.
+"""The command behind tools/rehex beside srec_cat and objcopy, on the same files, in one run: instructions, and processor time.
 
     programs_time.py [--turns N]
 
@@ -19,10 +19,16 @@ from benchmark_count import Differ, instructions, seconds  # noqa: E402
 SIZES = (16_384, 1_048_576)
 
 
+def compiled():
+    """The command itself, behind the script that compiles it: the newest that stands in build/."""
+    subprocess.run([manners.ROOT / "tools" / "denkumari", "--version"], stdout=subprocess.DEVNULL, check=True)
+    return max((manners.ROOT / "build").glob("denkumari-*"), key=lambda file: file.stat().st_mtime)
+
+
 def commands(program, room):
-    """The three: S-records in a file or from standard input, Intel HEX to a file or to standard output."""
+    """The three: S-records in a file, Intel HEX to standard output or to a file."""
     source = room / "in.s37"
-    return [([*program, "1", "0", "0"], source.read_bytes()),
+    return [([program, "rehex", source], b""),
             (["srec_cat", source, "-motorola", "-o", room / "srec_cat.hex", "-intel", "-address-length=4", "-output_block_size=16"], b""),
             (["objcopy", "-I", "srec", "-O", "ihex", source, room / "objcopy.hex"], b"")]
 
@@ -61,7 +67,7 @@ def main():
     parser = manners.parser(__doc__)
     parser.add_argument("--turns", type=manners.some, default=10)
     asked = parser.parse_args()
-    for row in program_rows(manners.command("rehex"), asked.turns):
+    for row in program_rows(compiled(), asked.turns):
         print(row, flush=True)
 
 

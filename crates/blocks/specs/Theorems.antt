@@ -3,6 +3,5 @@ pub mod Bits
 pub mod Count
 pub mod Exactly
 pub mod Measure
-pub mod Passed
 pub mod Rising
 pub mod Row

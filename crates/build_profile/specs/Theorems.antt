@@ -1,7 +1,5 @@
-pub mod Exactly
 pub mod Keeping
 pub mod Kept
 pub mod OneBit
 pub mod PageFacts
-pub mod Standing
 pub mod Told

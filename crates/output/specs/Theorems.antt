@@ -6,7 +6,6 @@ pub mod ItemBits
 pub mod OffersMade
 pub mod OffersWithin
 pub mod Padding
-pub mod RaisedLimit
 pub mod Reached
 pub mod RefusedAtNode
 pub mod Reordered

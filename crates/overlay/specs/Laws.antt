@@ -1,5 +1,4 @@
 pub mod CoverFacts
-pub mod Joined
 pub mod Order
 pub mod Range
 pub mod RunFacts

@@ -1,5 +1,4 @@
 pub mod CoverFacts
-pub mod Joined
 pub mod ListFacts
 pub mod Order
 pub mod RangeFacts

@@ -1,17 +1,13 @@
 -- What the tests before writing say, block by block and in document 02's words, and which answer comes exactly when.
 use mathlib.Core.Path.{_≡_}
 use mathlib.Core.Bool.{Bool}
-use mathlib.Core.List.{List, _++_}
-use mathlib.Core.Logic.{_↔_}
+use mathlib.Core.List.{List}
 use Prim.Native.Nat.{ℕ, _+_, _/_, _≤_, _<_}
-use lib.ListN.{length, take, drop, getD}
+use lib.ListN.{length, getD}
 use Rattle.refusal.specs.Pick.{pick}
 use Rattle.refusal.specs.Told.{Told, gives, refuses}
-use Rattle.refusal.specs.declared.Place.{Place}
 use Rattle.refusal.specs.declared.Place.the-variants.{One}
 use Rattle.bitvec.specs.Part.{IsPart}
-use Rattle.record_write.specs.Outcome.{toldWritten}
-use Rattle.record_write.specs.declared.Written.{Written}
 
 -- ---- the tests, block by block
 
@@ -42,20 +38,3 @@ pub record WellPlaced (load : ℕ) (offsets sizes : List ℕ) : Type 0 where
 
 abbrev pub answers : Bool → Bool → Bool → ℕ → Told ℕ
 answers a b c n = pick a (pick b (pick c (gives n) (refuses 14 (One 3))) (refuses 4 (One 0))) (refuses 16 (One 0))
-
--- What the answers say of a call, for what makes every block a part of its image, what makes nothing malformed, and the file that is to be left.
-pub record Answered (parts fine : Type 0) (file old : List ℕ) (r : Written) (new : List ℕ) : Type 0 where
-  -- "16 for a block by document 01's rule": exactly when not every block is a part of the image, whatever else is wrong.
-  pub sixteen : (toldWritten r ≡ refuses 16 (One 0)) ↔ (parts → ⊥)
-  -- "4 for ..": exactly when all are parts, and something is malformed.
-  pub four : (toldWritten r ≡ refuses 4 (One 0)) ↔ (parts × (fine → ⊥))
-  -- "then 14", place 3: exactly when only room is missing.
-  pub fourteen : (toldWritten r ≡ refuses 14 (One 3)) ↔ (parts × fine × (length old < length file))
-  -- Otherwise the file's length.
-  pub given : (toldWritten r ≡ gives (length file)) ↔ (parts × fine × (length file ≤ length old))
-  -- "Each refusal .. changes nothing lent."
-  pub kept : (k : ℕ) (p : Place) → toldWritten r ≡ refuses k p → new ≡ old
-  -- An accepted call leaves the file at the front, and behind it what was there,
-  pub leaves : (n : ℕ) → toldWritten r ≡ gives n → (n ≡ length file) × (new ≡ file ++ drop (length file) old)
-  -- so that the first n characters are the file.
-  pub front : (n : ℕ) → toldWritten r ≡ gives n → take n new ≡ file

@@ -1,4 +1,3 @@
-pub mod Answered
 pub mod Bytes
 pub mod Cut
 pub mod Exactly

@@ -71,16 +71,6 @@ module _ (rank : Span → ℕ) where
       (λ lt. rw (insert-after rank s b l lt, insert-placed s o e l (h .1)) (goes-past s b (placed l) lt (b .offset)))
       (le-or-lt (rank s) (rank b))
 
-  pub sorted-placed : (l : List Span) → placed (sortedBy rank l) ≡ sortedBy rank (placed l)
-  unfolding sortedBy
-  sorted-placed [] = refl
-  sorted-placed (s ∷ l) = go (s .offset) refl (sorted-placed l)
-    where
-      go : (o : Offset) → s .offset ≡ o → placed (sortedBy rank l) ≡ sortedBy rank (placed l)
-          → placed (insertBy rank s (sortedBy rank l)) ≡ sortedBy rank (keepAt o s (placed l))
-      go None e ih = insert-passed s e (sortedBy rank l) ∙ ih
-      go (At o) e ih = insert-placed s o e (sortedBy rank l) (sorted-ascends rank l) ∙ ap (insertBy rank s) ih
-
 -- Two ranks that order spans with an offset alike take them in the same order.
 module _ (rank other : Span → ℕ)
     (alike : (s b : Span) (o p : ℕ) → s .offset ≡ At o → b .offset ≡ At p → leb (rank s) (rank b) ≡ leb (other s) (other b)) where

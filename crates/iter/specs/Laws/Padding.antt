@@ -1,30 +1,21 @@
 -- Laws that Theorems/Padding rests on.
-use Prim.Native.Nat.{ℕ, zero, suc, _+_, _/_, _≤_, zero-le}
+use Prim.Native.Nat.{ℕ, zero, suc, _/_}
 use mathlib.Core.Path.{_≡_, refl, sym, ap, _∙_}
 use mathlib.Core.Bool.{Bool, true, false}
-use mathlib.Core.List.{List, [], _∷_}
-use native.Mathlib.Nat.{zero-div, div-le-self}
-use native.Mathlib.Omega.{arith}
-use lib.Dec.{eqb, leb}
+use native.Mathlib.Nat.{zero-div}
+use lib.Dec.{eqb}
 use lib.ListN.{getD, set, replicate}
-use borrow.Author.Tests.{leb-true, leb-false, eqb-true}
-use Rattle.refusal.specs.Laws.Bools.{either}
-use Rattle.refusal.specs.Limits.{maxPosition}
 use Rattle.refusal.specs.Pick.{pick}
 use Rattle.refusal.specs.declared.Opt.{Opt}
 use Rattle.refusal.specs.declared.Opt.the-variants.{None, Some}
 use Rattle.refusal.specs.declared.Refusal.the-variants.{Malformed}
 use Rattle.bankdef.specs.declared.Bankdef.{Bankdef}
-use Rattle.iter.specs.Theorems.Advance.{bad-state, sound-state, aligning}
 use Rattle.iter.specs.Crossing.{crossingOf, halted, crossedTo, crossedFrom}
 use Rattle.iter.specs.Distance.{tellable, addressInBits, distanceTo, skipsOf, noSkip, distanceOf}
-use Rattle.iter.specs.Known.{staysKnown}
 use Rattle.iter.specs.Padding.{Part, the-bits, the-units, lostPart, skippedPart}
-use Rattle.iter.specs.Step.{noLost, movedByDistance, outermostSymbol, labelAligned, seenOf, badState, advancedOf, skipsBy, whenMade}
-use Rattle.iter.specs.Step.{labelSkips, seenSkips, advanceSkips, maxSum, sumAfter, lostAfter, stepSkips}
-use Rattle.iter.specs.Laws.ToldFacts.{none-skipped}
+use Rattle.iter.specs.Step.{noLost, outermostSymbol, seenOf, badState, advancedOf, skipsBy, whenMade}
+use Rattle.iter.specs.Step.{labelSkips, seenSkips, advanceSkips, sumAfter, lostAfter, stepSkips}
 use Rattle.iter.specs.declared.Crossing.{Crossing}
-use Rattle.iter.specs.declared.Distance.{Distance}
 use Rattle.iter.specs.declared.Distance.the-variants.{Skips, Refused as NoDistance}
 use Rattle.iter.specs.declared.Lost.{Lost}
 use Rattle.iter.specs.declared.Moved.{Moved}
@@ -33,64 +24,10 @@ use Rattle.lists.specs.declared.Node.{Node}
 use Rattle.iter.specs.declared.Pos.{Pos}
 use Rattle.iter.specs.declared.Skipped.{Skipped}
 
-pub sum-at-most : (sum more : ℕ) → sumAfter sum more ≤ sum + more
-sum-at-most sum more =
-    either (leb (sum + more) maxSum)
-    (λ t. rw t (omega arith))
-    (λ t. let l = leb-false (sum + more) maxSum t in rw t (omega arith))
-
 -- each part is added up by itself
 pub part-after : (part : Part) (l : Lost) (s : Skipped) → lostPart part (lostAfter l s) ≡ sumAfter (lostPart part l) (skippedPart part s)
 part-after the-bits l s = refl
 part-after the-units l s = refl
-
--- of nothing, none
-pub part-of-none : (part : Part) → skippedPart part noSkip ≡ 0
-part-of-none the-bits = refl
-part-of-none the-units = refl
-
--- ---- a measure of a list's elements, after one of them is set
-
-module _ {A : Type 0} (g : A → ℕ) (d : A) where
-  -- what is put in place of something, and is larger by no more than k
-  pub more-set : (l : List A) (i j : ℕ) (x : A) (k : ℕ) → g x ≤ g (getD l i d) + k → g (getD (set l i x) j d) ≤ g (getD l j d) + k
-  more-set [] i j x k h = omega arith
-  more-set (y ∷ l) zero zero x k h = h
-  more-set (y ∷ l) zero (suc j) x k h = omega arith
-  more-set (y ∷ l) (suc i) zero x k h = omega arith
-  more-set (y ∷ l) (suc i) (suc j) x k h = more-set l i j x k h
-
--- ---- what a node skips
-
--- ---- what is skipped is below 2^32
-
-skip-small : (at : Pos) (d : Distance) (known : Bool) (node : ℕ) → whenMade (movedByDistance at d known node) (skipsBy d) .bits ≤ maxPosition
-skip-small at (Skips s) known node =
-    either (leb (at .position + s .bits) maxPosition)
-    (λ t. let l = leb-true (at .position + s .bits) maxPosition t in rw t (omega arith))
-    (λ t. rw t zero-le)
-skip-small at (NoDistance why) known node = zero-le
-
-module _ (def : Bankdef) (at : Pos) (node : Node) where
-  pub sight-small : seenSkips def at node .bits ≤ maxPosition
-  unfolding seenSkips seenOf
-  sight-small = go (outermostSymbol node) (def .align)
-    where
-      go : (t : Bool) (o : Opt) → whenMade (pick t (labelAligned def o at (node .index)) (To at)) (pick t (labelSkips def o at (node .index)) noSkip) .bits
-          ≤ maxPosition
-      go true None = zero-le
-      go true (Some a) = skip-small at (distanceOf def (at .position) a (node .index)) (at .known) (node .index)
-      go false o = zero-le
-
-  pub own-small : advanceSkips def at node .bits ≤ maxPosition
-  unfolding advanceSkips
-  own-small =
-      either (eqb (node .kind) 8)
-      (λ e. rw e (either (badState node)
-      (λ t. rw (bad-state def at node t) zero-le)
-      (λ t. rw (sound-state def at node t ∙ aligning def at node (eqb-true (node .kind) 8 e))
-      (skip-small at (distanceOf def (at .position) (node .number) (node .index)) (staysKnown (at .known) node) (node .index)))))
-      (λ e. rw (e, none-skipped (advancedOf def at node)) zero-le)
 
 -- ---- the units of what is skipped
 
@@ -153,11 +90,6 @@ module _ (def : Bankdef) where
   crossing-still at node {c} e none =
       let units : c .skipped .units ≡ 0 = rw e (crossing-whole at node) ∙ ap (λ (b : ℕ). b / def .unit) none ∙ zero-div (def .unit) in
       ap (λ (b : ℕ). record { bits = b; units = c .skipped .units }) none ∙ ap (λ (u : ℕ). record { bits = 0; units = u }) units
-
-  -- so they are no more than the bits
-  pub part-small : (part : Part) (s : Skipped) → Whole s → s .bits ≤ maxPosition → skippedPart part s ≤ maxPosition
-  part-small the-bits s w h = h
-  part-small the-units s w h = let less = div-le-self (s .bits) (def .unit) in omega arith
 
 pub none-yet : (n j : ℕ) → getD (replicate n noLost) j noLost ≡ noLost
 none-yet zero j = refl

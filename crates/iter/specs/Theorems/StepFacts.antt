@@ -6,13 +6,10 @@ use lib.ListN.{length, length-set}
 use borrow.Author.Tests.{ne-eqb}
 use Rattle.refusal.specs.Laws.Bools.{either}
 use Rattle.refusal.specs.Laws.Pick.{pick-false}
-use Rattle.refusal.specs.Told.{refuses}
-use Rattle.refusal.specs.declared.Place.the-variants.{One}
 use Rattle.refusal.specs.declared.Refusal.the-variants.{Malformed}
 use Rattle.bankdef.specs.declared.Bankdef.{Bankdef}
-use Rattle.iter.specs.Step.{startOf, seenOf, bankAfter, malformed, stepOf}
+use Rattle.iter.specs.Step.{seenOf, bankAfter, malformed, stepOf}
 use Rattle.iter.specs.Laws.Advance.{outside}
-use Rattle.iter.specs.Figures.{toldMoved}
 use Rattle.iter.specs.StepCases.{standing}
 use Rattle.iter.specs.Laws.StepCases.{step-cases}
 use Rattle.iter.specs.declared.Pos.{Pos}
@@ -45,8 +42,3 @@ module _ (def : Bankdef) (walk : Walk) (node : Node) where
 -- A node stands in the bank in which the walk stands, but a switch in the one that it switches to.
 pub stands-in : (bank : ℕ) (node : Node) → (node .kind ≡ 1 → ⊥) → bankAfter bank node ≡ bank
 stands-in bank node n = pick-false _ _ (ne-eqb (node .kind) 1 n)
-
--- "Each bank's position starts at 0, known .. The walk begins in bank 0."
-pub starts-in-0 : startOf .bank ≡ 0
-unfolding startOf
-starts-in-0 = refl
