@@ -314,7 +314,8 @@ def tokens(lines):
     """Words and signs, each with whether it follows on the one before without a blank."""
     out = []
     for ln in lines:
-        ln = bare(ln)
+        # what stands in a text names nothing
+        ln = re.sub(r'"[^"]*"', lambda m: '"' + ' ' * (len(m.group(0)) - 2) + '"', bare(ln))
         for m in TOKEN.finditer(ln):
             out.append((m.group(0).strip('«»'), m.start() > 0 and not ln[m.start() - 1].isspace()))
     return out

@@ -4,7 +4,7 @@ use Prim.Native.Nat.{ℕ, _+_, _≤_}
 use Rattle.record_lines.specs.Pieces.{Piece}
 use Rattle.c_answers.specs.declared.DkExtent.{DkExtent}
 use Rattle.says.specs.Words.{First, Not}
-use Rattle.says.specs.Read.{GivenTo, Good, Bad}
+use Rattle.says.specs.Read.{GivenTo, Good}
 
 abbrev pub told : ℕ → ℕ → ℕ → DkExtent
 told refusal lowest end = record { refusal = refusal; lowest = lowest; end = end }
@@ -14,7 +14,7 @@ told refusal lowest end = record { refusal = refusal; lowest = lowest; end = end
 module _ (format : ℕ) (text scratch : List ℕ) where
   pub data ExtentSays : DkExtent × List ℕ → Type 0 where
     -- "4 for .. a bad file"
-    bad : Bad format 0 text → ExtentSays (told 4 0 0, scratch)
+    bad : ((ps : List Piece) → Not (Good format 0 text ps)) → ExtentSays (told 4 0 0, scratch)
     no-byte : {ps : List Piece} → Good format 0 text ps → ((a : ℕ) → Not (GivenTo ps a)) → ExtentSays (told 0 0 0, scratch)
     -- the lowest address that it gives a byte to, and the one behind the highest
     from-to : {ps : List Piece} {lowest highest : ℕ} → Good format 0 text ps → First (GivenTo ps) lowest → GivenTo ps highest

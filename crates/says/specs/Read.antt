@@ -7,7 +7,7 @@ use lib.ListN.{length, getD, take}
 use Rattle.record_lines.specs.Pieces.{Piece}
 use Rattle.c_answers.specs.declared.DkCount.{DkCount}
 use Rattle.c_answers.specs.declared.DkFault.{DkFault}
-use Rattle.says.specs.Words.{Tries, Is, At, Begins, Not}
+use Rattle.says.specs.Words.{Tries, At, Begins, Not}
 use Rattle.says.specs.Records.{either, Lines, Hex, Srec, Width}
 
 -- ---- what a file's lines say: pieces, each an address and the bytes from there on. "types 00, 01 and 04", over the upper half in force; the end
@@ -57,9 +57,6 @@ module _ (format load : ℕ) where
     good : {top : ℕ} → Says text top ps → ((i a b : ℕ) → Gives ps i a b → (load ≤ a) × (a < top))
         → ((i j a b c : ℕ) → Gives ps i a b → Gives ps j a c → i ≡ j) → Good text ps
 
-  abbrev pub Bad : List ℕ → Type 0
-  Bad text = (ps : List Piece) → Good text ps → ⊥
-
   module _ (text : List ℕ) where
     -- ---- the first line at which no good file can go on, from 0 (docs/DECISIONS.md): some good file has the same n first lines (where a text has
     -- ended, it has no line). In a format that is neither no file is good: the fault is at line 0
@@ -103,9 +100,9 @@ module _ (format load : ℕ) where
             })
 
       -- "4 for .. a bad file, then 14": bytes (place 0), then blocks (place 2)
-      pub data ReadSays (y : Outcome) : Type 0 where
-        bad : Bad text → Is (refusal 4 0) y → ReadSays y
-        read : {ps : List Piece} {offsets sizes : List ℕ} → Good text ps → Blocks ps offsets sizes
+      pub data ReadSays : Outcome → Type 0 where
+        bad : ((ps : List Piece) → Not (Good text ps)) → ReadSays (refusal 4 0)
+        read : {ps : List Piece} {offsets sizes : List ℕ} {y : Outcome} → Good text ps → Blocks ps offsets sizes
             → Tries (λ (a : ℕ). GivenTo ps a × (length (old .bytes) ≤ a - load)) (λ _. refusal 14 0)
             (Tries (λ (_ : Unit {0}). (length (old .offsets) < length offsets) ⊎ (length (old .sizes) < length offsets)) (λ _. refusal 14 2)
             (Accepts ps offsets sizes)) y → ReadSays y

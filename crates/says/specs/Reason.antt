@@ -7,7 +7,7 @@ use lib.ListN.{length, getD, take, drop}
 use Rattle.record_lines.specs.Pieces.{Piece}
 use Rattle.c_answers.specs.declared.DkReason.{DkReason}
 use Rattle.says.specs.Words.{Tries, First, FirstPair, At, Not}
-use Rattle.says.specs.Records.{either, Lines, Digit, Spells, total, Hex, IsS, Srec, Width}
+use Rattle.says.specs.Records.{either, Lines, Digit, Spells, total, Hex, Srec, Width}
 
 -- Nothing is refused here: format 0 is Intel HEX, and every other number is taken for S-records (docs/DECISIONS.md)
 module _ (format : ℕ) where
@@ -36,31 +36,23 @@ module _ (format : ℕ) where
   pub data GivesTo (ls : List (List ℕ)) (k a : ℕ) : Type 0 where
     gives-to : {s t : ℕ} {l : List ℕ} {p : Piece} → LineAt 0 ls k s l → LineGives s l t p → p .address ≤ a → a < p .address + length (p .bytes) → GivesTo ls k a
 
-  -- ---- how a line is spelled. The characters before the digits, those of a line whose count is 0, and the least count
-  pub data Spelling : (from bare least : ℕ) → Type 0 where
-    hex : format ≡ 0 → Spelling 1 11 0
-    s-records : Not (format ≡ 0) → Spelling 2 4 3
+  -- ---- how a line is spelled. Its first character (a colon, or S in either letter case), the characters before the digits, those of a line whose count is 0,
+  -- and the least count
+  pub data Spelling : (capital small from bare least : ℕ) → Type 0 where
+    hex : format ≡ 0 → Spelling 58 58 1 11 0
+    s-records : Not (format ≡ 0) → Spelling 83 115 2 4 3
 
   -- "Bytes of a record, checksum included, sum to zero and wrap at 256"; "the ones' complement of the low byte of the sum"
-  pub data Checksum (sum c : ℕ) : Type 0 where
-    hex : format ≡ 0 → c < 256 → (sum + c) % 256 ≡ 0 → Checksum sum c
-    s-record : Not (format ≡ 0) → c ≡ 255 - sum % 256 → Checksum sum c
+  pub data Checksum (bytes : List ℕ) (c : ℕ) : Type 0 where
+    hex : format ≡ 0 → c < 256 → (total bytes + c) % 256 ≡ 0 → Checksum bytes c
+    s-record : Not (format ≡ 0) → c ≡ 255 - total bytes % 256 → Checksum bytes c
 
   module _ (l : List ℕ) where
     pub data EndRecord : Type 0 where
       hex : format ≡ 0 → Hex either l 1 0 [] → EndRecord
       s-record : {d e w top address : ℕ} → Not (format ≡ 0) → Width d e w top → Srec either l e w address [] → EndRecord
 
-    -- a colon, or S in either letter case
-    pub data Starts : Type 0 where
-      colon : format ≡ 0 → At l 0 58 → Starts
-      letter : {c : ℕ} → Not (format ≡ 0) → At l 0 c → IsS either c → Starts
-
     module _ (from : ℕ) where
-      -- a character that should be a digit
-      abbrev pub NoDigit : ℕ → Type 0
-      NoDigit k = (from ≤ k) × (k < length l) × ((v : ℕ) → Not (Digit either (getD l k 0) v))
-
       abbrev pub Count : ℕ → Type 0
       Count c = Spells either (take 2 (drop from l)) (c ∷ [])
 
@@ -68,10 +60,6 @@ module _ (format : ℕ) where
       pub data Long (bare least m : ℕ) : Type 0 where
         counted : {c : ℕ} → Count c → m ≡ bare + 2 * c → Long bare least m
         shortest : length l < from + 2 → m ≡ bare + 2 * least → Long bare least m
-
-    -- "the checksum: what it is, and what it should be"
-    pub data WrongSum (from found should : ℕ) : Type 0 where
-      wrong-sum : (b : List ℕ) → Spells either (drop from l) (b ++ found ∷ []) → Checksum (total b) should → Not (found ≡ should) → WrongSum from found should
 
     -- ---- what its type asks for: "types 00, 01 and 04", "S0, S1, S3, S7 and S9"; in S-records the type is the second character
     pub data OtherType (t : ℕ) : Type 0 where
@@ -86,10 +74,6 @@ module _ (format : ℕ) where
     pub data OtherCount (c m : ℕ) : Type 0 where
       hex : {t f : ℕ} {b : List ℕ} → format ≡ 0 → Hex either l t f b → ((t ≡ 1) × (m ≡ 0)) ⊎ ((t ≡ 4) × (m ≡ 2)) → c ≡ length b → Not (c ≡ m) → OtherCount c m
       s-record : {d e w top : ℕ} → Not (format ≡ 0) → Width d e w top → Count 2 c → m ≡ w + 1 → (At l 1 d × (c < m)) ⊎ (At l 1 e × Not (c ≡ m)) → OtherCount c m
-
-    -- the address field of types 01 and 04 is 0000
-    pub data OtherField (f : ℕ) : Type 0 where
-      other-field : {t : ℕ} {b : List ℕ} → format ≡ 0 → Hex either l t f b → (t ≡ 1) ⊎ (t ≡ 4) → Not (f ≡ 0) → OtherField f
 
     -- ---- its bytes: the address of the last, and the last that there is
     pub data Past (s : ℕ) : (last greatest : ℕ) → Type 0 where
@@ -109,32 +93,29 @@ module _ (format : ℕ) where
     pub data Twice : DkReason → Type 0 where
       twice : {i a : ℕ} → FirstPair (λ (k x : ℕ). (k < n) × GivesTo ls k x × GivesTo ls n x) i a → Twice (why 11 i a)
 
-    -- in this order: its first character, digits, length, a count below 3 in S-records, checksum, type, width, count, address field, past the last address,
-    -- below the load address, given twice
-    pub data LineSays (y : DkReason) : Type 0 where
-      line-says : {s from bare least : ℕ} {l : List ℕ} → LineAt 0 ls n s l → Spelling from bare least
-          → Tries (λ (_ : Unit {0}). Not (Starts l)) (λ _. why 1 0 0)
-          (Tries (First (NoDigit l from)) (λ k. why 2 k (getD l k 0))
-          (Tries (λ (m : ℕ). Long l from bare least m × Not (length l ≡ m)) (λ m. why 3 (length l) m)
-          (Tries (λ (c : ℕ). Count l from c × (c < least)) (λ c. why 4 c least)
-          (Tries (λ (x : ℕ × ℕ). WrongSum l from (x .0) (x .1)) (λ x. why 5 (x .0) (x .1))
-          (Tries (OtherType l) (λ t. why 6 t 0)
-          (Tries (OtherWidth l s) (λ w. why 7 w s)
-          (Tries (λ (x : ℕ × ℕ). OtherCount l (x .0) (x .1)) (λ x. why 4 (x .0) (x .1))
-          (Tries (OtherField l) (λ f. why 8 f 0)
-          (Tries (λ (x : ℕ × ℕ). Past l s (x .0) (x .1)) (λ x. why 9 (x .0) (x .1))
-          (Tries (λ (x : ℕ × ℕ). Below l load ls s (x .0) (x .1)) (λ x. why 10 (x .0) (x .1))
-          Twice)))))))))) y → LineSays y
-
     -- the line before is an end record
     abbrev pub Ended : Type 0
     Ended = (m : ℕ) × (l : List ℕ) × (n ≡ suc m) × At ls m l × EndRecord l
 
-    -- "a line behind the end record"; "the text ends without an end record: `line` is the number of its lines"
+    -- "a line behind the end record"; "the text ends without an end record: `line` is the number of its lines"; and the reasons of a line by itself, in this
+    -- order: its first character, a character that should be a digit, length, a count below 3 in S-records, "the checksum: what it is, and what it should be",
+    -- type, width, count, address field (0000 in types 01 and 04), past the last address, below the load address, given twice
     pub data FaultLine : DkReason → Type 0 where
       behind : n < length ls → Ended → FaultLine (why 12 0 0)
       no-end : n ≡ length ls → Not Ended → FaultLine (why 13 0 0)
-      line : {y : DkReason} → Not Ended → LineSays y → FaultLine y
+      line : {s capital small from bare least : ℕ} {l : List ℕ} {y : DkReason} → Not Ended → LineAt 0 ls n s l → Spelling capital small from bare least
+          → Tries (λ (_ : Unit {0}). Not (At l 0 capital ⊎ At l 0 small)) (λ _. why 1 0 0)
+          (Tries (First (λ (k : ℕ). (from ≤ k) × (k < length l) × ((v : ℕ) → Not (Digit either (getD l k 0) v)))) (λ k. why 2 k (getD l k 0))
+          (Tries (λ (m : ℕ). Long l from bare least m × Not (length l ≡ m)) (λ m. why 3 (length l) m)
+          (Tries (λ (c : ℕ). Count l from c × (c < least)) (λ c. why 4 c least)
+          (Tries (λ (x : ℕ × ℕ). (b : List ℕ) × Spells either (drop from l) (b ++ x .0 ∷ []) × Checksum b (x .1) × Not (x .0 ≡ x .1)) (λ x. why 5 (x .0) (x .1))
+          (Tries (OtherType l) (λ t. why 6 t 0)
+          (Tries (OtherWidth l s) (λ w. why 7 w s)
+          (Tries (λ (x : ℕ × ℕ). OtherCount l (x .0) (x .1)) (λ x. why 4 (x .0) (x .1))
+          (Tries (λ (f : ℕ). (t : ℕ) × (b : List ℕ) × (format ≡ 0) × Hex either l t f b × ((t ≡ 1) ⊎ (t ≡ 4)) × Not (f ≡ 0)) (λ f. why 8 f 0)
+          (Tries (λ (x : ℕ × ℕ). Past l s (x .0) (x .1)) (λ x. why 9 (x .0) (x .1))
+          (Tries (λ (x : ℕ × ℕ). Below l load ls s (x .0) (x .1)) (λ x. why 10 (x .0) (x .1))
+          Twice)))))))))) y → FaultLine y
 
   module _ (load : ℕ) (text scratch : List ℕ) where
     -- the first line that has a reason is told; beside the answer stands the lent scratch afterwards: the call "leaves it as it was" (include/denkumari.h)

@@ -2,6 +2,7 @@
 -- codes: LF 10, CR 13, colon 58, S 83 and s 115, digits from 48 on, letters from 65 (A) and 97 (a) on.
 use mathlib.Core.Path.{_≡_}
 use mathlib.Core.List.{List, [], _∷_, _++_}
+use mathlib.Core.Logic.{_⊎_}
 use Prim.Native.Nat.{ℕ, _+_, _*_, _-_, _<_, _%_}
 use lib.ListN.{length}
 use Rattle.says.specs.Words.{Not}
@@ -23,8 +24,7 @@ pub data Case : Type 0 where
 
 pub data Digit (k : Case) (c value : ℕ) : Type 0 where
   figure : value < 10 → c ≡ 48 + value → Digit k c value
-  capital : {i : ℕ} → i < 6 → c ≡ 65 + i → value ≡ 10 + i → Digit k c value
-  small : {i : ℕ} → k ≡ either → i < 6 → c ≡ 97 + i → value ≡ 10 + i → Digit k c value
+  letter : {i : ℕ} → i < 6 → (c ≡ 65 + i) ⊎ ((k ≡ either) × (c ≡ 97 + i)) → value ≡ 10 + i → Digit k c value
 
 -- Each byte by two digits, the higher first.
 pub data Spells (k : Case) : (text bytes : List ℕ) → Type 0 where
@@ -52,10 +52,6 @@ pub data Number (width : ℕ) : List ℕ → ℕ → Type 0 where
   two : {a b n : ℕ} → width ≡ 2 → n ≡ 256 * a + b → Number width (a ∷ b ∷ []) n
   four : {a b c d n : ℕ} → width ≡ 4 → n ≡ 16777216 * a + 65536 * b + 256 * c + d → Number width (a ∷ b ∷ c ∷ d ∷ []) n
 
-pub data IsS (k : Case) (c : ℕ) : Type 0 where
-  capital : c ≡ 83 → IsS k c
-  small : k ≡ either → c ≡ 115 → IsS k c
-
 -- An S-record: S and its kind's digit, then count (of what follows it), address, data and checksum. "The checksum is the ones' complement of the low byte of
 -- the sum of count, address and data bytes."
 pub record Srec (k : Case) (line : List ℕ) (kind width address : ℕ) (bytes : List ℕ) : Type 0 where
@@ -65,7 +61,7 @@ pub record Srec (k : Case) (line : List ℕ) (kind width address : ℕ) (bytes :
   pub field : List ℕ
   pub check : ℕ
   pub front : line ≡ s ∷ kind ∷ digits
-  pub letter : IsS k s
+  pub letter : (s ≡ 83) ⊎ ((k ≡ either) × (s ≡ 115))
   pub spelled : Spells k digits (count ∷ field ++ (bytes ++ check ∷ []))
   pub counts : count ≡ width + length bytes + 1
   pub number : Number width field address

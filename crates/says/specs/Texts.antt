@@ -1,6 +1,7 @@
 -- What the programs `prog_reason`, `prog_convert` and `prog_rehex` print for the bytes of a file, all of it: what the calls say of the file, in text.
 use mathlib.Core.Path.{_≡_}
 use mathlib.Core.List.{List, [], _∷_, _++_}
+use mathlib.Core.Logic.{_⊎_}
 use Prim.Native.Nat.{ℕ, _≤_, _<_}
 use lib.ListN.{length, getD, take}
 use Rattle.print_text.specs.Ascii.{ascii}
@@ -33,28 +34,13 @@ pub data ReasonText (kind load : ℕ) (source t : List ℕ) : Type 0 where
   told : {w : DkReason} → length source ≤ 3276800 → DkReasonSays kind load source [] (w, [])
       → Line (ascii "reason") (w .reason ∷ w .line ∷ w .first ∷ w .second ∷ []) t → ReasonText kind load source t
 
--- ---- `prog_convert`: form 1 is asked for, or else form 2, which says the form of the file
-pub data From (asked : ℕ) : Form → Type 0 where
-  back : asked ≡ 1 → From asked form-2
-  there : Not (asked ≡ 1) → From asked form-1
-
--- with room for the longest file and a byte more, whatever it holds
+-- ---- `prog_convert`: form 1 is asked for, or else form 2, which says the form of the file; with room for the longest file and a byte more, whatever it holds
 pub data ConvertText (asked : ℕ) (file t : List ℕ) : Type 0 where
-  converts : {f : Form} → From asked f
+  converts : {f : Form} → ((asked ≡ 1) × (f ≡ form-2)) ⊎ (Not (asked ≡ 1) × (f ≡ form-1))
       → ((old : List ℕ) → length old ≡ 65537 → (y : convert.Outcome) × ConvertSays f file old y × Prints (y .answer) (y .out) t)
       → ConvertText asked file t
 
--- ---- `prog_rehex`: kind 0 reads Intel HEX, every other S-records
-pub data ReadAs (kind : ℕ) : ℕ → Type 0 where
-  hex : kind ≡ 0 → ReadAs kind 0
-  s-records : Not (kind ≡ 0) → ReadAs kind 1
-
--- format 0 writes Intel HEX, every other S-records of that width
-pub data WriteSays (format : ℕ) (g : Given) (old : List ℕ) (z : write.Outcome) : Type 0 where
-  hex : format ≡ 0 → HexSays g old z → WriteSays format g old z
-  s-records : Not (format ≡ 0) → SrecSays g old format z → WriteSays format g old z
-
--- the bytes and blocks that were read, from the same load address on
+-- ---- `prog_rehex`. The bytes and blocks that were read, from the same load address on
 abbrev pub taken : ℕ → read.Outcome → Given
 taken load y =
     record { image = y .lent .bytes; offsets = take (y .answer .count) (y .lent .offsets); sizes = take (y .answer .count) (y .lent .sizes); load = load }
@@ -64,20 +50,19 @@ pub data Fault (f : DkFault) : List ℕ → Type 0 where
   none : f .fault ≡ 0 → Fault f []
   at-line : {t : List ℕ} → f .fault ≡ 1 → Line (ascii "line") (f .line ∷ []) t → Fault f t
 
--- The refusal of the file and its line at fault; or what is said of its bytes when they are written.
+-- The refusal of the file and its line at fault; or what is said of its bytes when they are written: format 0 writes Intel HEX, every other S-records of that
+-- width
 pub data Turns (format load : ℕ) (f : DkFault) (out : List ℕ) (y : read.Outcome) : List ℕ → Type 0 where
   unread : {t u : List ℕ} → 0 < y .answer .refusal → Refused (y .answer .refusal) (y .answer .place) t → Fault f u → Turns format load f out y (t ++ u)
-  written : {z : write.Outcome} {t : List ℕ} → y .answer .refusal ≡ 0 → WriteSays format (taken load y) out z → Prints (z .answer) (z .text) t
-      → Turns format load f out y t
+  written : {z : write.Outcome} {t : List ℕ} → y .answer .refusal ≡ 0
+      → ((format ≡ 0) × HexSays (taken load y) out z) ⊎ (Not (format ≡ 0) × SrecSays (taken load y) out format z)
+      → Prints (z .answer) (z .text) t → Turns format load f out y t
 
--- the room that is lent, whatever it holds: 1,048,576 bytes, 4,096 blocks and 3,145,728 characters
-pub record Lends (old : Lent) (out : List ℕ) : Type 0 where
-  pub bytes : (length (old .bytes) ≡ 1048576) × ((i : ℕ) → getD (old .bytes) i 0 < 256)
-  pub blocks : (length (old .offsets) ≡ 4096) × (length (old .sizes) ≡ 4096)
-  pub text : length out ≡ 3145728
-
+-- kind 0 reads Intel HEX, every other S-records; the room that is lent, whatever it holds, is 1,048,576 bytes, 4,096 blocks and 3,145,728 characters
 pub data RehexText (kind format load : ℕ) (source t : List ℕ) : Type 0 where
   too-long : 3276800 < length source → Refused 4 0 t → RehexText kind format load source t
-  turns : {k : ℕ} {f : DkFault} → length source ≤ 3276800 → ReadAs kind k → FaultSays k load source [] (f, [])
-      → ((old : Lent) (out : List ℕ) → Lends old out → (y : read.Outcome) × ReadSays k load source old y × Turns format load f out y t)
+  turns : {k : ℕ} {f : DkFault} → length source ≤ 3276800 → ((kind ≡ 0) × (k ≡ 0)) ⊎ (Not (kind ≡ 0) × (k ≡ 1)) → FaultSays k load source [] (f, [])
+      → ((old : Lent) (out : List ℕ) → (length (old .bytes) ≡ 1048576) × ((i : ℕ) → getD (old .bytes) i 0 < 256)
+      → (length (old .offsets) ≡ 4096) × (length (old .sizes) ≡ 4096) → length out ≡ 3145728
+      → (y : read.Outcome) × ReadSays k load source old y × Turns format load f out y t)
       → RehexText kind format load source t

@@ -1,6 +1,7 @@
 -- What `dk_write_hex` and `dk_write_srec` say, from document 02, Tickets 1 and 12.
 use mathlib.Core.Path.{_≡_}
 use mathlib.Core.List.{List, [], _∷_, _++_}
+use mathlib.Core.Logic.{_⊎_}
 use Prim.Native.Nat.{ℕ, suc, _+_, _*_, _≤_, _<_, _/_, _%_}
 use lib.ListN.{length, getD, take, drop}
 use Rattle.record_lines.specs.Pieces.{Piece}
@@ -41,10 +42,7 @@ module _ (g : Given) where
 
   -- "16 for a block by document 01's rule": empty, not on byte edges, outside the image
   pub data BadPart : Type 0 where
-    empty : {i o : ℕ} → BlockAt i o 0 → BadPart
-    offset : {i o s : ℕ} → BlockAt i o s → Not (o % 8 ≡ 0) → BadPart
-    size : {i o s : ℕ} → BlockAt i o s → Not (s % 8 ≡ 0) → BadPart
-    outside : {i o s : ℕ} → BlockAt i o s → 8 * length (g .image) < o + s → BadPart
+    unfit : {i o s : ℕ} → BlockAt i o s → (s ≡ 0) ⊎ Not (o % 8 ≡ 0) ⊎ Not (s % 8 ≡ 0) ⊎ (8 * length (g .image) < o + s) → BadPart
 
   -- "4 for blocks not ascending or sharing a bit, an address past 2^32 - 1"; lists of different lengths are 4 too. `top`: the first address that doesn't fit
   pub data BadPlace (top : ℕ) : Type 0 where
@@ -75,26 +73,21 @@ module _ (g : Given) where
     pub data Accepts (t : List ℕ) : Outcome → Type 0 where
       accepts : {new : List ℕ} → Begins t old new → Accepts t (record { answer = record { refusal = 0; place = 0; count = length t }; text = new })
 
-    -- "then 14", with place 3, where the text t doesn't fit
-    abbrev pub Leaves : List ℕ → Outcome → Type 0
-    Leaves t = Tries (λ (_ : Unit {0}). length old < length t) (λ _. refusal 14 3) (Accepts t)
-
-    pub data HexWritten (y : Outcome) : Type 0 where
-      written : {ps : List Piece} {t : List ℕ} → Cuts (g .offsets) (g .sizes) ps → HexText 0 ps t → Leaves t y → HexWritten y
+    -- the pieces' text; "then 14", with place 3, where it doesn't fit
+    pub data Written (Text : List Piece → List ℕ → Type 0) (y : Outcome) : Type 0 where
+      written : {ps : List Piece} {t : List ℕ} → Cuts (g .offsets) (g .sizes) ps → Text ps t
+          → Tries (λ (_ : Unit {0}). length old < length t) (λ _. refusal 14 3) (Accepts t) y → Written Text y
 
     abbrev pub HexSays : Outcome → Type 0
     HexSays =
         Tries (λ (_ : Unit {0}). BadPart) (λ _. refusal 16 0)
         (Tries (λ (_ : Unit {0}). BadPlace 4294967296) (λ _. refusal 4 0)
-        HexWritten)
-
-    pub data SrecWritten (d e width : ℕ) (y : Outcome) : Type 0 where
-      written : {ps : List Piece} {t : List ℕ} → Cuts (g .offsets) (g .sizes) ps → SrecText d e width ps t → Leaves t y → SrecWritten d e width y
+        (Written (HexText 0)))
 
     -- "4 also for an address that doesn't fit the width", and before that for a width that is neither 2 nor 4
     pub data SrecPlaced (width : ℕ) (y : Outcome) : Type 0 where
       placed : {d e top : ℕ} → Width d e width top
-          → Tries (λ (_ : Unit {0}). BadPlace top) (λ _. refusal 4 0) (SrecWritten d e width) y → SrecPlaced width y
+          → Tries (λ (_ : Unit {0}). BadPlace top) (λ _. refusal 4 0) (Written (SrecText d e width)) y → SrecPlaced width y
 
     abbrev pub SrecSays : ℕ → Outcome → Type 0
     SrecSays width =

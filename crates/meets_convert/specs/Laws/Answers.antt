@@ -10,7 +10,7 @@ use lib.Dec.{ltb, eqb}
 use lib.ListN.{length, getD, drop, length-append, length-drop, List·getD-append}
 use lib.Seq.{getD-append-add, getD-drop}
 use borrow.Author.Tests.{ltb-true, ltb-false, eqb-true, eq-eqb}
-use Rattle.refusal.specs.Laws.Bools.{either, clash}
+use Rattle.refusal.specs.Laws.Bools.{either, clash, unlike}
 use Rattle.refusal.specs.Limits.{maxNodes, maxRows}
 use Rattle.refusal.specs.Pick.{pick}
 use Rattle.refusal.specs.declared.Refusal.the-variants.{Malformed}
@@ -27,11 +27,11 @@ use Rattle.c_answers.specs.Counts.{conversionCount}
 use Rattle.says.specs.Words as words
 use Rattle.says.specs.Words.{Tries, First, Begins}
 use Rattle.says.specs.Files as files
-use Rattle.says.specs.Files.{Form, form-1, form-2, longest, bytes}
+use Rattle.says.specs.Files.{Held, Form, form-1, form-2, longest, bytes}
 use Rattle.meets_form.specs.Laws.Written.{kind, held, so-fits, bytes-same, longest-same}
 use Rattle.says.specs.Convert as says
-use Rattle.says.specs.Convert.{Outcome, Strays, NamesOther, Drops, other, refusal, Writes, Tried}
-use Rattle.meets_convert.specs.Laws.Turns.{strays-of, of-strays}
+use Rattle.says.specs.Convert.{Outcome, NamesOther, refusal, Writes, Tried}
+use Rattle.meets_convert.specs.Laws.Turns.{strays-of, of-strays, other}
 
 -- text in front of what was there
 pub begins-so : (new old : List ℕ) → length new ≤ length old → Begins new old (new ++ drop (length new) old)
@@ -58,12 +58,16 @@ abbrev pub dropsOf : Form → Contents → Bool
 dropsOf form-1 = dropsNone
 dropsOf form-2 = dropsBit
 
+-- the way back would drop a fill bit of one
+abbrev pub Drops : Held → Form → Type 0
+Drops h f = (f ≡ form-2) × ((b : ℕ) × (b < length (h .banks)) × (getD (getD (h .banks) b []) 23 0 ≡ 1))
+
 pub drops-so : (f : Form) (c : Contents) → made.Fits (kind f) c → dropsOf f c ≡ true → Drops (held c) f
 drops-so form-1 c fits e = absurd (clash e refl)
 drops-so form-2 c fits e =
     let p = drops-bit-exactly c .0 e in
     let few = last (getD (c .banks) (p .0) []) (so-fits form-2 c fits .banks (p .0) (p .1)) in
-    says.drops (p .1) (at-most-one (getD (getD (c .banks) (p .0) []) 23 0) few (p .2))
+    (refl, (p .0, p .1, at-most-one (getD (getD (c .banks) (p .0) []) 23 0) few (p .2)))
   where
     last : (p : List ℕ) → files.Bank p form-2 → getD p 23 0 ≤ 1
     last p (files.of-2 l a b) = b
@@ -73,7 +77,8 @@ drops-so form-2 c fits e =
     at-most-one (suc n) h z = omega arith
 
 pub so-drops : (f : Form) (c : Contents) → Drops (held c) f → dropsOf f c ≡ true
-so-drops form-2 c (says.drops {b} less e) = drops-bit-exactly c .1 (b, less, λ z. omega (arith, z, e))
+so-drops form-1 c (f, x) = unlike cc
+so-drops form-2 c (f, (b, less, e)) = drops-bit-exactly c .1 (b, less, λ z. omega (arith, z, e))
 
 module _ (f : Form) (file old : List ℕ) (c d : Contents) (fits : made.Fits (kind f) c) where
   abbrev result : List ℕ
@@ -99,13 +104,10 @@ module _ (f : Form) (file old : List ℕ) (c d : Contents) (fits : made.Fits (ki
       let e = stray-is a in
       let less : stray c < length (c .nodes) = ltb-true (stray c) (length (c .nodes)) t in
       let there : firstWhere (strays 0) (c .nodes) < length (c .nodes) = omega (arith, e, less) in
+      let s = strays-of (getD (c .nodes) (firstWhere (strays 0) (c .nodes)) []) (first-passes (strays 0) [] (c .nodes) there) in
       subst (First (NamesOther (held c))) (sym e) (record {
-        so = (
-          eqb-true (length (c .banks)) 1 a,
-          there,
-          strays-of (getD (c .nodes) (firstWhere (strays 0) (c .nodes)) []) (first-passes (strays 0) [] (c .nodes) there),
-        );
-        none-below = λ k x. not-before (strays 0) [] (c .nodes) k (x .1) (of-strays (getD (c .nodes) k []) (x .2));
+        so = (eqb-true (length (c .banks)) 1 a, there, s .0, s .1);
+        none-below = λ k x. not-before (strays 0) [] (c .nodes) k (x .1) (of-strays (getD (c .nodes) k []) (x .2, x .3));
       }))
       (λ a.
       let e : stray c ≡ length (c .nodes) = ap (λ (b : Bool). pick b (firstWhere (strays 0) (c .nodes)) (length (c .nodes))) a in
@@ -115,7 +117,7 @@ module _ (f : Form) (file old : List ℕ) (c d : Contents) (fits : made.Fits (ki
   stray-none t i x =
       let y = x .so in
       let e = stray-is (eq-eqb (length (c .banks)) 1 (y .0)) in
-      let first = not-before (strays 0) [] (c .nodes) i (y .1) (of-strays (getD (c .nodes) i []) (y .2)) in
+      let first = not-before (strays 0) [] (c .nodes) i (y .1) (of-strays (getD (c .nodes) i []) (y .2, y .3)) in
       omega (arith, e, first, y .1, ltb-false (stray c) (length (c .nodes)) t)
 
   wrote : ltb (length old) (length result) ≡ false → Writes f file old (bytes (other f) (held d)) (outcomeOf (Converted (length result)))
@@ -123,7 +125,7 @@ module _ (f : Form) (file old : List ℕ) (c d : Contents) (fits : made.Fits (ki
       subst (λ (l : List ℕ). Writes f file old l (outcomeOf (Converted (length result)))) result-is
       (says.writes (begins-so result old (ltb-false (length old) (length result) t)))
 
-  pub answer-meets : Tried f file old (held c) (held d) (outcomeOf (answerFor (kind (other f)) c d (dropsOf f c) (length old)))
+  pub answer-meets : Tried f file old (other f) (held c) (held d) (outcomeOf (answerFor (kind (other f)) c d (dropsOf f c) (length old)))
   unfolding answerOf
   answer-meets =
       let most = max (length (c .nodes)) (length (d .nodes)) in

@@ -16,12 +16,12 @@ use Rattle.c_answers.specs.Counts.{conversionCount}
 use Rattle.c_answers.specs.declared.DkCount.{DkCount}
 use Rattle.c_model.specs.Conversions.{WayTold, answerIn}
 use Rattle.says.specs.Files.{Form, form-1, form-2}
-use Rattle.says.specs.Convert.{Outcome, other, ConvertSays}
+use Rattle.says.specs.Convert.{Outcome, ConvertSays}
 use Rattle.meets_form.specs.Laws.Written.{kind, known}
 use Rattle.meets_convert.specs.Built.{made}
 use Rattle.meets_convert.specs.Laws.Answers.{dropsOf}
 use Rattle.meets_convert.specs.Laws.Bytes as law
-use Rattle.meets_convert.specs.Laws.Turns.{turn}
+use Rattle.meets_convert.specs.Laws.Turns.{turn, other}
 use Rattle.meets_convert.specs.Theorems.Exactly.{convert-told}
 
 -- ---- a contract, as the definitions tell it

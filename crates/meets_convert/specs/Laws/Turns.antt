@@ -27,7 +27,7 @@ use Rattle.says.specs.Files.{four, Held, Form, form-1, form-2}
 use Rattle.says.specs.Files as files
 use Rattle.meets_form.specs.Laws.Written.{kind, held, contents, fits-so, so-fits}
 use Rattle.says.specs.Convert as says
-use Rattle.says.specs.Convert.{switch, Strays, Turned, Widened, EachBank, NamesOther, ShapeOf, Becomes}
+use Rattle.says.specs.Convert.{switch, Turned, Widened, eachBank, NamesOther, ShapeOf, Becomes}
 
 -- ---- lists
 
@@ -45,6 +45,10 @@ map-is f l m d e long each =
     each i there ∙ sym (map-at f l i d e there))
 
 -- ---- nodes
+
+-- a switch to another bank than 0
+abbrev pub Strays : List ℕ → Type 0
+Strays node = (getD node 0 0 ≡ 1) × (four node 1 ≡ 0 → ⊥)
 
 -- a switch to another bank, by its bytes
 pub strays-of : (node : List ℕ) → strays 0 node ≡ true → Strays node
@@ -93,7 +97,8 @@ none-names c none one =
       | no gt ↦
           let less : firstWhere (strays 0) (c .nodes) < length (c .nodes) = omega arith in
           let node = getD (c .nodes) (firstWhere (strays 0) (c .nodes)) [] in
-          absurd (none (firstWhere (strays 0) (c .nodes)) (one, less, strays-of node (first-passes (strays 0) [] (c .nodes) less)))
+          let s = strays-of node (first-passes (strays 0) [] (c .nodes) less) in
+          absurd (none (firstWhere (strays 0) (c .nodes)) (one, less, s .0, s .1))
     ]
 
 -- ---- to form 2
@@ -126,25 +131,6 @@ so-widened h d w =
         let there : i < length (h .nodes) = omega (arith, w .count) in
         so-turned (getD (h .nodes) i []) (getD (d .nodes) (suc i) []) (w .nodes i there) ∙ sym (map-at (turning.turned 1) (h .nodes) i [] [] there)
 
--- ---- each bank by itself
-
-module _ (become : List ℕ → List ℕ) where
-  abbrev eachBank : Contents → Contents
-  eachBank c = record { banks = map become (c .banks); nodes = c .nodes; rows = c .rows; values = c .values; limit = c .limit }
-
-  pub each-so : (c : Contents) → EachBank become (held c) (held (eachBank c))
-  each-so c =
-      record {
-        banks = (length-map (c .banks) become, λ b less. map-at become (c .banks) b [] [] less);
-        nodes = refl;
-        rows = refl;
-        values = refl;
-        limit = refl;
-      }
-
-  pub so-each : (h d : Held) → EachBank become h d → d ≡ held (eachBank (contents h))
-  so-each h d e = same-held (map-is become (h .banks) (d .banks) [] [] (e .banks .0) (e .banks .1)) (e .nodes) (e .rows) (e .values) (e .limit)
-
 -- ---- the shape
 
 pub shape-so : (c : Contents) → made.Fits form2 c → shaped c ≡ true → ShapeOf (held (narrowed c)) (held c)
@@ -152,7 +138,7 @@ shape-so c fits e =
     let n = narrowed c in (
       so-fits form-1 n (narrowed-fits c fits (shape-two c e) (shape-some c e)),
       λ i x.
-          let first = not-before (strays 0) [] (n .nodes) i (x .1) (of-strays (getD (n .nodes) i []) (x .2)) in
+          let first = not-before (strays 0) [] (n .nodes) i (x .1) (of-strays (getD (n .nodes) i []) (x .2, x .3)) in
           omega (arith, x .1, first, none-stray (drop 1 (c .nodes))),
       subst (λ (d : Contents). Widened (held n) (held d)) (widened-again c fits e) (widened-so n refl),
     )
@@ -172,35 +158,45 @@ so-shape d h s =
 
 -- ---- what a file becomes
 
+abbrev pub other : Form → Form
+other form-1 = form-2
+other form-2 = form-1
+
 abbrev pub turn : Form → Contents → Contents
 turn form-1 = toForm2
 turn form-2 = toForm1
 
-pub becomes-so : (f : Form) (c : Contents) → made.Fits (kind f) c → Becomes (held c) f (held (turn f c))
+pub becomes-so : (f : Form) (c : Contents) → made.Fits (kind f) c → Becomes (held c) f (other f) (held (turn f c))
 becomes-so form-1 c fits =
     either (alone c)
-    (λ t. subst (λ (d : Contents). Becomes (held c) form-1 (held d)) (sym (ap (λ (b : Bool). pick b (widened c) (lengthened c)) t))
+    (λ t. subst (λ (d : Contents). Becomes (held c) form-1 form-2 (held d)) (sym (ap (λ (b : Bool). pick b (widened c) (lengthened c)) t))
     (says.one-bank (widened-so c (eqb-true (length (c .banks)) 1 t))))
-    (λ t. subst (λ (d : Contents). Becomes (held c) form-1 (held d)) (sym (ap (λ (b : Bool). pick b (widened c) (lengthened c)) t))
-    (says.longer (eqb-false (length (c .banks)) 1 t) (each-so (λ (b : List ℕ). b ++ zeros 1) c)))
+    (λ t. subst (λ (d : Contents). Becomes (held c) form-1 form-2 (held d)) (sym (ap (λ (b : Bool). pick b (widened c) (lengthened c)) t))
+    (says.longer (eqb-false (length (c .banks)) 1 t) refl))
 becomes-so form-2 c fits =
     either (shaped c)
-    (λ t. subst (λ (d : Contents). Becomes (held c) form-2 (held d)) (sym (ap (λ (b : Bool). pick b (narrowed c) (shortened c)) t))
+    (λ t. subst (λ (d : Contents). Becomes (held c) form-2 form-1 (held d)) (sym (ap (λ (b : Bool). pick b (narrowed c) (shortened c)) t))
     (says.shape (shape-so c fits t)))
-    (λ t. subst (λ (d : Contents). Becomes (held c) form-2 (held d)) (sym (ap (λ (b : Bool). pick b (narrowed c) (shortened c)) t))
-    (says.shorter (λ e s. clash (so-shape e (held c) s .0) t) (each-so (take 23) c)))
+    (λ t. subst (λ (d : Contents). Becomes (held c) form-2 form-1 (held d)) (sym (ap (λ (b : Bool). pick b (narrowed c) (shortened c)) t))
+    (says.shorter (λ e s. clash (so-shape e (held c) s .0) t) refl))
 
-pub so-becomes : (f : Form) (h d : Held) → made.Fits (kind f) (contents h) → Becomes h f d → d ≡ held (turn f (contents h))
+pub to-other : {f to : Form} {h d : Held} → Becomes h f to d → to ≡ other f
+to-other (says.one-bank w) = refl
+to-other (says.longer more e) = refl
+to-other (says.shape s) = refl
+to-other (says.shorter none e) = refl
+
+pub so-becomes : (f : Form) (h d : Held) → made.Fits (kind f) (contents h) → Becomes h f (other f) d → d ≡ held (turn f (contents h))
 so-becomes form-1 h d fits (says.one-bank w) =
     so-widened h d w
     ∙ sym (ap (λ (b : Bool). held (pick b (widened (contents h)) (lengthened (contents h)))) (eq-eqb (length (h .banks)) 1 (w .one)))
 so-becomes form-1 h d fits (says.longer more e) =
-    so-each (λ (b : List ℕ). b ++ zeros 1) h d e
+    e
     ∙ sym (ap (λ (b : Bool). held (pick b (widened (contents h)) (lengthened (contents h)))) (ne-eqb (length (h .banks)) 1 more))
 so-becomes form-2 h d fits (says.shape s) =
     let p = so-shape d h s in
     p .1 ∙ sym (ap (λ (b : Bool). held (pick b (narrowed (contents h)) (shortened (contents h)))) (p .0))
 so-becomes form-2 h d fits (says.shorter none e) =
-    so-each (take 23) h d e
+    e
     ∙ sym (ap (λ (b : Bool). held (pick b (narrowed (contents h)) (shortened (contents h))))
     (either (shaped (contents h)) (λ t. absurd (none _ (shape-so (contents h) fits t))) (λ t. t)))

@@ -12,9 +12,9 @@ use Rattle.c_answers.specs.Counts.{conversionCount}
 use Rattle.c_model.specs.Conversions.{WayTold, answerIn}
 use Rattle.says.specs.Files.{Form}
 use Rattle.meets_form.specs.Laws.Written.{kind}
-use Rattle.says.specs.Convert.{Outcome, other, ConvertSays}
+use Rattle.says.specs.Convert.{Outcome, ConvertSays}
 use Rattle.meets_convert.specs.Laws.Answers.{dropsOf}
-use Rattle.meets_convert.specs.Laws.Turns.{turn}
+use Rattle.meets_convert.specs.Laws.Turns.{turn, other}
 use Rattle.meets_convert.specs.Theorems.Decides.{convert-decides}
 use Rattle.meets_convert.specs.Theorems.Meets.{convert-meets}
 

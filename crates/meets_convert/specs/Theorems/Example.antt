@@ -12,8 +12,9 @@ use Rattle.says.specs.Words.{First}
 use Rattle.says.specs.Files as files
 use Rattle.says.specs.Files.{fields, Held, Form, form-1, form-2, longest, bytes, Bank, of-1, of-2, Sound}
 use Rattle.says.specs.Convert as says
-use Rattle.says.specs.Convert.{Turned, Widened, NamesOther, ShapeOf, Becomes, Drops, Outcome, other, ConvertSays}
-use Rattle.meets_convert.specs.Laws.Answers.{begins-so}
+use Rattle.says.specs.Convert.{Turned, Widened, NamesOther, ShapeOf, Becomes, Outcome, ConvertSays}
+use Rattle.meets_convert.specs.Laws.Answers.{begins-so, Drops}
+use Rattle.meets_convert.specs.Laws.Turns.{other}
 use Rattle.meets_convert.specs.Theorems.Decides.{convert-decides}
 use Rattle.meets_convert.specs.Theorems.Trips.{wrote}
 
@@ -66,9 +67,9 @@ unfolding fields
 is-2 = refl
 
 none-other : (i : ℕ) → NamesOther held1 i → ⊥
-none-other zero x = omega (arith, x .2 .0)
-none-other (suc zero) x = x .2 .1 refl
-none-other (suc (suc zero)) x = omega (arith, x .2 .0)
+none-other zero x = omega (arith, x .2)
+none-other (suc zero) x = x .3 refl
+none-other (suc (suc zero)) x = omega (arith, x .2)
 none-other (suc (suc (suc i))) x = omega (arith, x .1)
 
 fits-1 : files.Fits form-1 held1
@@ -129,9 +130,9 @@ sound-2 = record { is = is-2; short = omega arith; fits = fits-2 }
 
 -- ---- a call that is not refused
 
-module _ (f : Form) (file old : List ℕ) (h d : Held) (result : List ℕ) (is : result ≡ bytes (other f) d) (sound : Sound f file h) (becomes : Becomes h f d)
-    (few : length (h .nodes) ≤ 4096) (few′ : length (d .nodes) ≤ 4096) (rows : length (h .rows) ≤ 16) (none : (i : ℕ) → NamesOther h i → ⊥)
-    (short : length result ≤ longest (other f)) (clear : Drops h f → ⊥) (room : length result ≤ length old) where
+module _ (f : Form) (file old : List ℕ) (h d : Held) (result : List ℕ) (is : result ≡ bytes (other f) d) (sound : Sound f file h)
+    (becomes : Becomes h f (other f) d) (few : length (h .nodes) ≤ 4096) (few′ : length (d .nodes) ≤ 4096) (rows : length (h .rows) ≤ 16)
+    (none : (i : ℕ) → NamesOther h i → ⊥) (short : length result ≤ longest (other f)) (clear : Drops h f → ⊥) (room : length result ≤ length old) where
   abbrev goes-to : Outcome
   goes-to = record { answer = wrote (length result); out = result ++ drop (length result) old }
 
@@ -156,7 +157,7 @@ example-to-form2 old room v so =
     (never form-1 refl) room)
   where
     never : (f : Form) → f ≡ form-1 → Drops held1 f → ⊥
-    never f e (says.drops h x) = unlike cc
+    never f e (g, x) = unlike cc
 
 pub example-to-form1 : (old : List ℕ) → 75 ≤ length old → (v : Outcome) → ConvertSays form-2 inForm2 old v
     → v ≡ record { answer = wrote 75; out = inForm1 ++ drop 75 old }
@@ -171,7 +172,7 @@ example-to-form1 old room v so =
     bit (suc (suc b)) h e = omega arith
 
     clear : Drops held2 form-2 → ⊥
-    clear (says.drops {b} h e) = bit b h e
+    clear (f, (b, h, e)) = bit b h e
 
 -- ---- 18: "a way back that would drop a fill bit of one". One bank of unit 8 with a fill bit of one, no node, one row, no values, limit 0.
 abbrev pub bitOfOne : List ℕ
@@ -207,14 +208,9 @@ sound-3 = record { is = is-3; short = omega arith; fits = record { banks = bank;
     row zero h = refl
     row (suc r) h = absurd (omega arith)
 
-shortened : Becomes held3 form-2 held4
+shortened : Becomes held3 form-2 form-1 held4
 shortened =
-    says.shorter (λ e s. let two = ap length (s .2 .banks) in omega (arith, two))
-    (record { banks = (refl, each); nodes = refl; rows = refl; values = refl; limit = refl })
-  where
-    each : (b : ℕ) → b < 1 → getD (held4 .banks) b [] ≡ take 23 (getD (held3 .banks) b [])
-    each zero h = refl
-    each (suc b) h = absurd (omega arith)
+    says.shorter (λ e s. let two = ap length (s .2 .banks) in omega (arith, two)) refl
 
 pub a-fill-bit-lost : (old : List ℕ) → ConvertSays form-2 bitOfOne old (says.refusal form-2 bitOfOne old 18 0)
 a-fill-bit-lost old =
@@ -223,4 +219,4 @@ a-fill-bit-lost old =
     (words.passed (λ _ x. omega (arith, x))
     (words.passed (λ i x. omega (arith, x .so .1))
     (words.passed (λ _ x. omega (arith, x, short-4))
-    (words.refused tt (says.drops {b = 0} (omega arith) refl))))))
+    (words.refused tt (refl, (0, omega arith, refl)))))))

@@ -18,14 +18,13 @@ use Rattle.form_rewrite.specs.Turning.{toForm2, toForm1, dropsBit}
 use Rattle.c_answers.specs.Counts.{conversionCount}
 use Rattle.c_answers.specs.declared.DkCount.{DkCount}
 use Rattle.c_model.specs.Conversions.{WayTold}
-use Rattle.says.specs.Words as words
 use Rattle.says.specs.Files.{Form, form-1, form-2}
 use Rattle.meets_form.specs.Laws.Breaks.{form-broken}
 use Rattle.meets_form.specs.Laws.Written.{kind, known, held, form-sound}
 use Rattle.says.specs.Convert as says
-use Rattle.says.specs.Convert.{Outcome, other, refusal, ConvertSays}
+use Rattle.says.specs.Convert.{Outcome, refusal, ConvertSays}
 use Rattle.meets_convert.specs.Laws.Answers.{dropsOf, outcomeOf, answer-meets}
-use Rattle.meets_convert.specs.Laws.Turns.{turn, becomes-so}
+use Rattle.meets_convert.specs.Laws.Turns.{turn, other, becomes-so}
 
 module _ (f : Form) (file old : List ℕ) (small : Bytes file) (r : DkCount) (new : List ℕ)
     (told : WayTold (kind f) (kind (other f)) (turn f) (dropsOf f) file old r new) where
@@ -45,7 +44,7 @@ module _ (f : Form) (file old : List ℕ) (small : Bytes file) (r : DkCount) (ne
   by-form (BrokenForm why) e =
       let b = form-broken f file why e in
       subst (ConvertSays f file old) (sym (ap (λ (g : declared.Form). tell (answerOn g)) (e ∙ ap BrokenForm (b .refusal))))
-      (says.broken (b .says) words.is)
+      (says.broken (b .says))
   by-form (SoundForm s) e =
       let fits = contents-fit file small (known f) s e in
       subst (ConvertSays f file old) (sym (ap (λ (g : declared.Form). tell (answerOn g)) e))

@@ -3,7 +3,6 @@ use mathlib.Core.Path.{_≡_}
 use mathlib.Core.List.{List}
 use lib.ListN.{getD}
 use Prim.Native.Nat.{ℕ}
-use Rattle.says.specs.Words as words
 use Rattle.says.specs.Files.{form-1}
 use Rattle.meets_form.specs.Theorems.Forms.{old-reader}
 use Rattle.says.specs.Convert as says
@@ -11,4 +10,4 @@ use Rattle.says.specs.Convert.{Outcome, refusal, ConvertSays}
 use Rattle.meets_convert.specs.Theorems.Decides.{convert-decides}
 
 pub form-2-refused-at-0 : (file old : List ℕ) (v : Outcome) → ConvertSays form-1 file old v → getD file 0 0 ≡ 16 → v ≡ refusal form-1 file old 4 0
-form-2-refused-at-0 file old v so first = convert-decides form-1 file old v _ so (says.broken (old-reader file first) words.is)
+form-2-refused-at-0 file old v so first = convert-decides form-1 file old v _ so (says.broken (old-reader file first))

@@ -37,7 +37,7 @@ use Rattle.says.specs.Convert.{Becomes, ShapeOf, Outcome, ConvertSays}
 use Rattle.meets_convert.specs.Built.{made}
 use Rattle.meets_convert.specs.Laws.Answers.{begins-so}
 use Rattle.meets_convert.specs.Laws.Calls.{any-call, converted, called, made-bytes}
-use Rattle.meets_convert.specs.Laws.Turns.{so-widened, each-so, shape-so, so-shape, becomes-so, so-becomes}
+use Rattle.meets_convert.specs.Laws.Turns.{so-widened, shape-so, so-shape, becomes-so, so-becomes}
 use Rattle.meets_convert.specs.Theorems.Exactly.{convert-told}
 
 abbrev pub wrote : ℕ → DkCount
@@ -47,7 +47,7 @@ wrote n = record { refusal = 0; place = 0; count = n }
 
 -- "Form 1 to 2 to 1": but for a file of two banks that becomes the shape
 pub form-1-and-back : (file out : List ℕ) (v : Outcome) → Bytes file → ConvertSays form-1 file out v → v .answer .refusal ≡ 0
-    → ((h d e : Held) → Sound form-1 file h → (length (h .banks) ≡ 1 → ⊥) → Becomes h form-1 d → ShapeOf e d → ⊥)
+    → ((h d e : Held) → Sound form-1 file h → (length (h .banks) ≡ 1 → ⊥) → Becomes h form-1 form-2 d → ShapeOf e d → ⊥)
     → (old : List ℕ) (w : Outcome) → length file ≤ length old → ConvertSays form-2 (made v) old w
     → (w .answer ≡ wrote (length file)) × Begins file old (w .out)
 form-1-and-back file out v small first zero none old w room again =
@@ -62,7 +62,7 @@ form-1-and-back file out v small first zero none old w room again =
     (λ b.
     let more = eqb-false (length (c .banks)) 1 a in
     absurd (none (held c) (held (lengthened c)) (held (narrowed (lengthened c))) (form-sound form-1 file small (t .shape) (t .sound)) more
-    (says.longer more (each-so (λ (x : List ℕ). x ++ zeros 1) c)) (shape-so (lengthened c) (lengthened-fits c (t .fits)) b)))
+    (says.longer more refl) (shape-so (lengthened c) (lengthened-fits c (t .fits)) b)))
     (λ b. b) in
     let mid′ = made v in
     let p = to-form2-and-back file out (v .out) (v .answer .count) small call other old (w .out) (answerIn form2 form1 toForm1 dropsBit mid′ old) room
@@ -116,7 +116,7 @@ full-file-not-again file out v small first zero h sound one full old w again =
 pub one-bank-comes-as-shape : (file out : List ℕ) (v : Outcome) → Bytes file → ConvertSays form-2 file out v → v .answer .refusal ≡ 0
     → (h : Held) → Sound form-2 file h → length (h .banks) ≡ 1
     → (old : List ℕ) (w : Outcome) → ConvertSays form-1 (made v) old w → w .answer .refusal ≡ 0
-    → (e : Held) × (d : Held) × Becomes h form-2 e × ShapeOf e d × (made w ≡ bytes form-2 d)
+    → (e : Held) × (d : Held) × Becomes h form-2 form-1 e × ShapeOf e d × (made w ≡ bytes form-2 d)
 one-bank-comes-as-shape file out v small first zero h sound one old w again nought =
     let call = called form-2 file out v small first zero in
     let t = turned-file is2 toForm1 dropsBit file out (v .answer .count) (v .out) small call in
@@ -145,14 +145,14 @@ one-bank-comes-as-shape file out v small first zero h sound one old w again noug
     ap (λ (y : Contents). narrowed y) wide ∙ narrowed-back (toForm1 c) (form1-fits c (t .fits)) still exact in (
       held (toForm1 c),
       held x,
-      subst (λ (y : Held). Becomes y form-2 (held (toForm1 c))) (ap held (sound-contents sound)) (becomes-so form-2 c (t .fits)),
+      subst (λ (y : Held). Becomes y form-2 form-1 (held (toForm1 c))) (ap held (sound-contents sound)) (becomes-so form-2 c (t .fits)),
       subst (λ (y : Contents). ShapeOf (held y) (held x)) again (shape-so x fits (one-bank-comes-back-as-shape c (t .fits) alone-is)),
       u .made ∙ ap (λ (y : Contents). written form2 (toForm2 y)) back ∙ bytes-same form-2 (held x),
     )
 
 -- "a two-bank form 1 file that already has the shape, which comes back as one bank"
 pub shape-comes-as-one-bank : (file out : List ℕ) (v : Outcome) → Bytes file → ConvertSays form-1 file out v → v .answer .refusal ≡ 0
-    → (h d e : Held) → Sound form-1 file h → (length (h .banks) ≡ 1 → ⊥) → Becomes h form-1 d → ShapeOf e d
+    → (h d e : Held) → Sound form-1 file h → (length (h .banks) ≡ 1 → ⊥) → Becomes h form-1 form-2 d → ShapeOf e d
     → (old : List ℕ) (w : Outcome) → ConvertSays form-2 (made v) old w → w .answer .refusal ≡ 0
     → (length (e .banks) ≡ 1) × (made w ≡ bytes form-1 e)
 shape-comes-as-one-bank file out v small first zero h d e sound more becomes shape old w again nought =
@@ -181,7 +181,7 @@ shape-comes-as-one-bank file out v small first zero h d e sound more becomes sha
 
 -- the shape comes back
 pub shape-comes-back : (file out : List ℕ) (v : Outcome) → Bytes file → ConvertSays form-1 file out v → v .answer .refusal ≡ 0
-    → (h d e : Held) → Sound form-1 file h → (length (h .banks) ≡ 1 → ⊥) → Becomes h form-1 d → ShapeOf e d
+    → (h d e : Held) → Sound form-1 file h → (length (h .banks) ≡ 1 → ⊥) → Becomes h form-1 form-2 d → ShapeOf e d
     → (old : List ℕ) (w : Outcome) → length (bytes form-1 e) ≤ length old → ConvertSays form-2 (made v) old w
     → (w .answer ≡ wrote (length (bytes form-1 e))) × Begins (bytes form-1 e) old (w .out)
 shape-comes-back file out v small first zero h d e sound more becomes shape old w room again =
@@ -226,7 +226,7 @@ shape-comes-back file out v small first zero h d e sound more becomes shape old 
 
 -- and a one-bank form 2 file comes again, where it has fewer than 4,096 nodes and the result is within its form's length
 pub one-bank-comes-again : (file out : List ℕ) (v : Outcome) → Bytes file → ConvertSays form-2 file out v → v .answer .refusal ≡ 0
-    → (h d e : Held) → Sound form-2 file h → length (h .banks) ≡ 1 → length (h .nodes) < 4096 → Becomes h form-2 e → ShapeOf e d
+    → (h d e : Held) → Sound form-2 file h → length (h .banks) ≡ 1 → length (h .nodes) < 4096 → Becomes h form-2 form-1 e → ShapeOf e d
     → (old : List ℕ) (w : Outcome) → length (bytes form-2 d) ≤ 65536 → length (bytes form-2 d) ≤ length old → ConvertSays form-1 (made v) old w
     → (w .answer ≡ wrote (length (bytes form-2 d))) × Begins (bytes form-2 d) old (w .out)
 one-bank-comes-again file out v small first zero h d e sound one few becomes shape old w low room again =

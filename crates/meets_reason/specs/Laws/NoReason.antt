@@ -27,15 +27,16 @@ use Rattle.meets_records.specs.Laws.SrecLine as srec
 use Rattle.meets_records.specs.Laws.SrecLine.{SrecSaid, width-is}
 use Rattle.meets_records.specs.Theorems.ReadDecides.{distinct, by-data}
 use Rattle.says.specs.Reason as s
-use Rattle.says.specs.Reason.{DataLine, LineGives, Starts, Count, Long, Checksum, WrongSum, OtherType, OtherWidth, OtherCount, OtherField}
-use Rattle.says.specs.Reason.{Past, Below, Twice, LineSays}
+use Rattle.says.specs.Reason.{DataLine, LineGives, Count, Long, Checksum, OtherType, OtherWidth, OtherCount}
+use Rattle.says.specs.Reason.{Past, Below, Twice}
+use Rattle.meets_reason.specs.Laws.One.{WrongSum, OtherField}
 use Rattle.meets_reason.specs.Laws.One.{at-one, last-one, data-one, gives-one, line-one, count-one, counted-long, checksum-one, width-by}
 use Rattle.meets_reason.specs.Laws.Items.{Kept, clashes, own-width, as-hex, as-srec, data-item, item-gives}
 use Rattle.meets_reason.specs.Laws.Trails.{lines, line-is, line-at}
 use Rattle.meets_reason.specs.Laws.Bytes.{gives-covers, new-once}
 use Rattle.meets_reason.specs.Laws.Spelling.{all-digits}
 use Rattle.meets_reason.specs.Laws.Span.{SpanSays}
-use Rattle.meets_reason.specs.Laws.Typed.{TypeSays, LineChain}
+use Rattle.meets_reason.specs.Laws.Typed.{TypeSays, Starts, LineChain, LineSays, line-says}
 
 none : {X Y : Type 0} {Met : X → Type 0} {refusal : X → Y} {Then : Y → Type 0} → ((x : X) → Met x → ⊥) → ((y : Y) → Then y → ⊥) → (y : Y)
     → Tries Met refusal Then y → ⊥
@@ -47,18 +48,20 @@ count-front (r.byte p q e x) = r.byte p q e r.none
 
 module _ (format load : ℕ) (ls : List (List ℕ)) (n st : ℕ) (l : List ℕ) where
   -- ---- how it is spelled
-  module _ (from bare least c check : ℕ) (bytes : List ℕ) (starts : Starts format l) (spelled : Spells r.either (drop from l) (bytes ++ check ∷ []))
-      (count : Count format l from c) (enough : least ≤ c) (long : length l ≡ bare + 2 * c) (sum : Checksum format (total bytes) check) where
+  module _ (capital small from bare least c check : ℕ) (bytes : List ℕ) (starts : Starts capital small l)
+      (spelled : Spells r.either (drop from l) (bytes ++ check ∷ [])) (count : Count format l from c)
+      (enough : least ≤ c) (long : length l ≡ bare + 2 * c) (sum : Checksum format bytes check) where
     not-long : (m : ℕ) → Long format l from bare least m × (length l ≡ m → ⊥) → ⊥
     not-long m (s.counted x e, h) = h (omega (arith, count-one format l from x count))
     not-long m (s.shortest k e, h) = counted-long format l l from count k
 
     not-wrong : (x : ℕ × ℕ) → WrongSum format l from (x .0) (x .1) → ⊥
-    not-wrong (a, b) (s.wrong-sum x p k h) =
+    not-wrong (a, b) (x, p, k, h) =
         let same = last-one x bytes (spells-bytes p spelled) in
-        h (same .1 ∙ checksum-one format l sum (subst (λ (y : List ℕ). Checksum format (total y) b) (same .0) k))
+        h (same .1 ∙ checksum-one format l sum (subst (λ (y : List ℕ). Checksum format y b) (same .0) k))
 
-    spelled-none : ((y : DkReason) → TypeSays format load ls n st l y → ⊥) → (y : DkReason) → LineChain format load ls n st from bare least l y → ⊥
+    spelled-none : ((y : DkReason) → TypeSays format load ls n st l y → ⊥) → (y : DkReason)
+        → LineChain format load ls n st capital small from bare least l y → ⊥
     spelled-none on =
         none (λ x h. h starts)
         (none (all-digits format l from (digits-of spelled))
@@ -96,21 +99,22 @@ module _ (format load : ℕ) (ls : List (List ℕ)) (n st : ℕ) (l : List ℕ) 
     hex-count fits (c, d) (s.s-record m v i j (inr (x, k))) = m f
 
     hex-address : HexFits t field b → (u : ℕ) → OtherField format l u → ⊥
-    hex-address (is-data e) u (s.other-field g k o m) =
+    hex-address (is-data e) u (t, c, g, k, o, m) =
         let same = hex-one k h .0 in
         ⊎-elim (λ z. omega arith) (λ z. omega arith) o
-    hex-address (is-end e z i) u (s.other-field g k o m) = m (hex-one k h .1 ∙ z)
-    hex-address (is-upper e z i) u (s.other-field g k o m) = m (hex-one k h .1 ∙ z)
+    hex-address (is-end e z i) u (t, c, g, k, o, m) = m (hex-one k h .1 ∙ z)
+    hex-address (is-upper e z i) u (t, c, g, k, o, m) = m (hex-one k h .1 ∙ z)
 
-    hex-chain : HexFits t field b → ((y : DkReason) → SpanSays format load ls n st l y → ⊥) → (y : DkReason) → LineChain format load ls n st 1 11 0 l y → ⊥
+    hex-chain : HexFits t field b → ((y : DkReason) → SpanSays format load ls n st l y → ⊥) → (y : DkReason)
+        → LineChain format load ls n st 58 58 1 11 0 l y → ⊥
     unfolding total
     hex-chain fits span =
         let check = h .check in
         let bytes : List ℕ = length b ∷ h .high ∷ h .low ∷ t ∷ b in
         let colon = sym (h .colon) in
         let sum : (total bytes + check) % 256 ≡ 0 = omega (arith, h .sum, total-append bytes (check ∷ [])) in
-        spelled-none 1 11 0 (length b) check bytes
-        (s.colon f (subst (λ (k : List ℕ). At k 0 58) colon (omega arith, refl)))
+        spelled-none 58 58 1 11 0 (length b) check bytes
+        (inl (subst (λ (k : List ℕ). At k 0 58) colon (omega arith, refl)))
         (subst (λ (k : List ℕ). Spells r.either (drop 1 k) (bytes ++ check ∷ [])) colon (h .spelled))
         (subst (λ (k : List ℕ). Count format k 1 (length b)) colon (count-front (h .spelled)))
         (omega arith)
@@ -119,7 +123,7 @@ module _ (format load : ℕ) (ls : List (List ℕ)) (n st : ℕ) (l : List ℕ) 
         (none (hex-type fits) (none hex-width (none (hex-count fits) (none (hex-address fits) span))))
 
   pub hex-none : format ≡ 0 → {x : Item} → HexSaid st l x → (x ≡ bad → ⊥) → ((y : DkReason) → SpanSays format load ls n st l y → ⊥) → (y : DkReason)
-      → LineChain format load ls n st 1 11 0 l y → ⊥
+      → LineChain format load ls n st 58 58 1 11 0 l y → ⊥
   hex-none f (hex.gave h) m span = hex-chain f h (is-data refl) span
   hex-none f (hex.moved h) m span = hex-chain f h (is-upper refl refl refl) span
   hex-none f (hex.closed h) m span = hex-chain f h (is-end refl refl refl) span
@@ -172,7 +176,7 @@ module _ (format load : ℕ) (ls : List (List ℕ)) (n st : ℕ) (l : List ℕ) 
     srec-count (is-header e q) (c, d) (s.s-record g y i j (inr (z, k))) = no-header e y (at-one l 1 z second) (inr refl)
 
     srec-field : (u : ℕ) → OtherField format l u → ⊥
-    srec-field u (s.other-field f k o e) = m f
+    srec-field u (t, c, f, k, o, e) = m f
 
     wide : SrecFits kind v b → 2 ≤ v
     wide (is-data (r.two p q i j) o) = omega arith
@@ -181,7 +185,12 @@ module _ (format load : ℕ) (ls : List (List ℕ)) (n st : ℕ) (l : List ℕ) 
     wide (is-end (r.four p q i j) o e) = omega arith
     wide (is-header e q) = omega arith
 
-    srec-chain : SrecFits kind v b → ((y : DkReason) → SpanSays format load ls n st l y → ⊥) → (y : DkReason) → LineChain format load ls n st 2 4 3 l y → ⊥
+    starts : (h .s ≡ 83) ⊎ ((r.either ≡ r.either) × (h .s ≡ 115)) → Starts 83 115 l
+    starts (inl e) = inl (subst (λ (k : List ℕ). At k 0 83) (sym (h .front)) (omega arith, e))
+    starts (inr (k, e)) = inr (subst (λ (k : List ℕ). At k 0 115) (sym (h .front)) (omega arith, e))
+
+    srec-chain : SrecFits kind v b → ((y : DkReason) → SpanSays format load ls n st l y → ⊥) → (y : DkReason)
+        → LineChain format load ls n st 83 115 2 4 3 l y → ⊥
     srec-chain fits span =
         let check = h .check in
         let bytes : List ℕ = h .count ∷ h .field ++ b in
@@ -189,8 +198,8 @@ module _ (format load : ℕ) (ls : List (List ℕ)) (n st : ℕ) (l : List ℕ) 
         let whole = subst (Spells r.either (h .digits)) (sym (append-assoc (h .count ∷ h .field) b (check ∷ []))) (h .spelled) in
         let ends : length (h .field ++ (b ++ check ∷ [])) ≡ v + (length b + 1) =
         length-append (h .field) (b ++ check ∷ []) ∙ omega (arith, number-length (h .number), length-append b (check ∷ [])) in
-        spelled-none 2 4 3 (v + length b + 1) check bytes
-        (s.letter m (subst (λ (k : List ℕ). At k 0 (h .s)) front (omega arith, refl)) (h .letter))
+        spelled-none 83 115 2 4 3 (v + length b + 1) check bytes
+        (starts (h .letter))
         (subst (λ (k : List ℕ). Spells r.either (drop 2 k) (bytes ++ check ∷ [])) front whole)
         counted
         (omega (arith, wide fits))
@@ -199,7 +208,7 @@ module _ (format load : ℕ) (ls : List (List ℕ)) (n st : ℕ) (l : List ℕ) 
         (none (srec-type fits) (none (srec-width fits) (none (srec-count fits) (none srec-field span))))
 
   pub srec-none : (format ≡ 0 → ⊥) → {x : Item} → SrecSaid st l x → (x ≡ bad → ⊥) → ((y : DkReason) → SpanSays format load ls n st l y → ⊥) → (y : DkReason)
-      → LineChain format load ls n st 2 4 3 l y → ⊥
+      → LineChain format load ls n st 83 115 2 4 3 l y → ⊥
   srec-none m (srec.gave {w = w} v o h e) k span = srec-chain m h (is-data (width-is v) (own-width st w o)) span
   srec-none m (srec.skipped h) k span = srec-chain m h (is-header refl refl) span
   srec-none m (srec.closed {w = w} v o h) k span = srec-chain m h (is-end (width-is v) (own-width st w o) refl) span
@@ -300,14 +309,14 @@ module _ (format load : ℕ) (text : List ℕ) (n : ℕ) (l : List ℕ) (rest : 
           (λ p. own (p .2) i x (f .so .0) (f .so .1) (f .so .2)) parts
 
   -- ---- the line
-  chain-by : {from bare least : ℕ} → (formatBy format st l ≡ bad → ⊥) → ((y : DkReason) → SpanSays format load ls n st l y → ⊥)
-      → s.Spelling format from bare least
-      → (y : DkReason) → LineChain format load ls n st from bare least l y → ⊥
+  chain-by : {capital small from bare least : ℕ} → (formatBy format st l ≡ bad → ⊥) → ((y : DkReason) → SpanSays format load ls n st l y → ⊥)
+      → s.Spelling format capital small from bare least
+      → (y : DkReason) → LineChain format load ls n st capital small from bare least l y → ⊥
   chain-by never span (s.hex f) = hex-none format load ls n st l f (hex.said st l) (λ e. never (as-hex format f st l ∙ e)) span
   chain-by never span (s.s-records m) = srec-none format load ls n st l m (srec.said st l) (λ e. never (as-srec format m st l ∙ e)) span
 
   line-none : (formatBy format st l ≡ bad → ⊥) → ((y : DkReason) → SpanSays format load ls n st l y → ⊥) → (y : DkReason) → LineSays format load ls n y → ⊥
-  line-none never span y (s.line-says x f t) =
+  line-none never span y (line-says x f t) =
       let same = line-one format x (line-at format text n here) in
       chain-by never span f y (rw (same .0, same .1) at t)
 

@@ -2,19 +2,30 @@
 use mathlib.Core.Path.{_≡_, refl, sym, ap, _∙_, subst}
 use mathlib.Core.List.{List, [], _∷_, _++_}
 use mathlib.Core.Logic.{_⊎_, inl, inr, ⊎-elim}
-use Prim.Native.Nat.{ℕ, zero, suc, _+_, _-_, _<_}
+use Prim.Native.Nat.{ℕ, zero, suc, _+_, _-_, _≤_, _<_}
 use native.Mathlib.Omega.{arith}
 use lib.ListN.{length, getD, take, drop, length-append}
 use Rattle.record_lines.specs.Pieces.{Piece}
-use Rattle.says.specs.Words.{At}
+use Rattle.says.specs.Words.{At, Not}
 use Rattle.says.specs.Records as r
-use Rattle.says.specs.Records.{Spells, Hex, Width, total}
+use Rattle.says.specs.Records.{Digit, Spells, Hex, Width}
 use Rattle.meets_records.specs.Laws.One.{apart, front, spells-bytes, hex-one, srec-kind, srec-one, width-one}
 use Rattle.meets_records.specs.Laws.Spelled.{length-of}
 use Rattle.meets_records.specs.Theorems.WriteDecides.{same-piece}
 use Rattle.meets_records.specs.Theorems.ReadDecides.{distinct, by-data}
 use Rattle.says.specs.Reason as s
-use Rattle.says.specs.Reason.{DataLine, LineGives, After, LineAt, Count, Long, Checksum, WrongSum, OtherType, OtherWidth, OtherCount, OtherField}
+use Rattle.says.specs.Reason.{DataLine, LineGives, After, LineAt, Count, Long, Checksum, OtherType, OtherWidth, OtherCount}
+
+-- ---- what the sentences say in place: the character k should be a digit, the checksum is wrong, the address field of types 01 and 04 is not 0000
+abbrev pub NoDigit : (l : List ℕ) (from : ℕ) → ℕ → Type 0
+NoDigit l from k = (from ≤ k) × (k < length l) × ((v : ℕ) → Not (Digit r.either (getD l k 0) v))
+
+abbrev pub WrongSum : (format : ℕ) (l : List ℕ) (from found should : ℕ) → Type 0
+WrongSum format l from found should =
+    (b : List ℕ) × Spells r.either (drop from l) (b ++ found ∷ []) × Checksum format b should × Not (found ≡ should)
+
+abbrev pub OtherField : (format : ℕ) (l : List ℕ) → ℕ → Type 0
+OtherField format l f = (t : ℕ) × (b : List ℕ) × (format ≡ 0) × Hex r.either l t f b × ((t ≡ 1) ⊎ (t ≡ 4)) × Not (f ≡ 0)
 
 -- ---- elements and last elements
 pub inside : (l : List ℕ) (i a b : ℕ) → i < length l → getD l i a ≡ getD l i b
@@ -87,16 +98,16 @@ module _ (format : ℕ) where
     long-one from bare least (s.shortest h f) (s.counted x e) = absurd (counted-long l from x h)
     long-one from bare least (s.shortest h e) (s.shortest k f) = omega arith
 
-    pub checksum-one : {sum a b : ℕ} → Checksum format sum a → Checksum format sum b → a ≡ b
+    pub checksum-one : {bytes : List ℕ} {a b : ℕ} → Checksum format bytes a → Checksum format bytes b → a ≡ b
     checksum-one (s.hex f h e) (s.hex g k i) = omega arith
     checksum-one (s.hex f h e) (s.s-record n i) = absurd (n f)
     checksum-one (s.s-record n i) (s.hex f h e) = absurd (n f)
     checksum-one (s.s-record n e) (s.s-record n′ i) = omega arith
 
     pub sum-one : (from : ℕ) {a b c d : ℕ} → WrongSum format l from a b → WrongSum format l from c d → (a ≡ c) × (b ≡ d)
-    sum-one from {b = b} {d = d} (s.wrong-sum x p e n) (s.wrong-sum y q f m) =
+    sum-one from {b = b} {d = d} (x, p, e, n) (y, q, f, m) =
         let same = last-one x y (spells-bytes p q) in
-        (same .1, checksum-one e (subst (λ (z : List ℕ). Checksum format (total z) d) (sym (same .0)) f))
+        (same .1, checksum-one e (subst (λ (z : List ℕ). Checksum format z d) (sym (same .0)) f))
 
     -- ---- what its type asks for
     pub type-one : {t u : ℕ} → OtherType format l t → OtherType format l u → t ≡ u
@@ -138,4 +149,4 @@ module _ (format : ℕ) where
         (count-one 2 c d, omega (arith, width-by v v′ (at-one l 1 x y) (inr refl) (inr refl)))
 
     pub other-field-one : {f g : ℕ} → OtherField format l f → OtherField format l g → f ≡ g
-    other-field-one (s.other-field f h o n) (s.other-field g k o′ n′) = hex-one h k .1
+    other-field-one (t, b, f, h, o, n) (u, c, g, k, o′, n′) = hex-one h k .1

@@ -19,12 +19,12 @@ use Rattle.record_lines.specs.Laws.Sums.{sum-list-more, list-one-more}
 use Rattle.record_reason.specs.Spelling.{leading, wantedOf}
 use Rattle.says.specs.Words.{First}
 use Rattle.says.specs.Records as r
-use Rattle.says.specs.Records.{Digit, Spells, total}
+use Rattle.says.specs.Records.{Digit, Spells}
 use Rattle.meets_records.specs.Laws.One.{spells-bytes}
 use Rattle.meets_records.specs.Laws.Spelled.{total-is, digits-of, spelled-by}
 use Rattle.says.specs.Reason as s
-use Rattle.says.specs.Reason.{NoDigit, Count, Long, Checksum, WrongSum}
-use Rattle.meets_reason.specs.Laws.One.{last-one, long-one, checksum-one}
+use Rattle.says.specs.Reason.{Count, Long, Checksum}
+use Rattle.meets_reason.specs.Laws.One.{NoDigit, WrongSum, last-one, long-one, checksum-one}
 
 -- ---- one digit
 is-digit : {c v : ℕ} → Digit r.either c v → isDigit c ≡ true
@@ -80,7 +80,7 @@ module _ (format : ℕ) (l : List ℕ) (from : ℕ) where
   place : (k : ℕ) → from ≤ k → getD digits (k - from) 0 ≡ getD l k 0
   place k h = let e : from + (k - from) ≡ k = omega arith in getD-drop from l (k - from) 0 ∙ ap (λ (i : ℕ). getD l i 0) e
 
-  pub no-digit : allDigits digits ≡ false → First (NoDigit format l from) (from + leading digits)
+  pub no-digit : allDigits digits ≡ false → First (NoDigit l from) (from + leading digits)
   no-digit e =
       let x = leads digits e in
       record {
@@ -98,7 +98,7 @@ module _ (format : ℕ) (l : List ℕ) (from : ℕ) where
         ];
       }
 
-  pub all-digits : allDigits digits ≡ true → (k : ℕ) → First (NoDigit format l from) k → ⊥
+  pub all-digits : allDigits digits ≡ true → (k : ℕ) → First (NoDigit l from) k → ⊥
   all-digits e k f =
       let h = f .so in
       let start : from ≤ k = h .0 in
@@ -170,7 +170,7 @@ module _ (format : ℕ) (l : List ℕ) (from : ℕ) where
         abbrev should : ℕ
         should = (256 + target - others % 256) % 256
 
-        checks : Checksum format (total (bytesAt l from many)) should
+        checks : Checksum format (bytesAt l from many) should
         checks =
             let t = total-is (bytesAt l from many) in
             ⊎-elim
@@ -183,14 +183,19 @@ module _ (format : ℕ) (l : List ℕ) (from : ℕ) where
 
         pub sum-wrong : eqb (sumOf (bytesAt l from (body + pairAt l from + 1)) % 256) target ≡ false
             → WrongSum format l from (pairAt l (from + 2 * (body + pairAt l from))) ((256 + target - sumOf (bytesAt l from (body + pairAt l from)) % 256) % 256)
-        sum-wrong e = s.wrong-sum (bytesAt l from many) whole checks (λ z.
-            let h = low in
-            clash (eq-eqb (sumOf (bytesAt l from (many + 1)) % 256) target (omega (arith, z, sum-list-more many byte))) e)
+        sum-wrong e = (
+          bytesAt l from many,
+          whole,
+          checks,
+          λ z.
+              let h = low in
+              clash (eq-eqb (sumOf (bytesAt l from (many + 1)) % 256) target (omega (arith, z, sum-list-more many byte))) e,
+        )
 
         pub sum-right : eqb (sumOf (bytesAt l from (body + pairAt l from + 1)) % 256) target ≡ true → (a b : ℕ) → WrongSum format l from a b → ⊥
-        sum-right e a b (s.wrong-sum x p c n) =
+        sum-right e a b (x, p, c, n) =
             let same = last-one x (bytesAt l from many) (spells-bytes p whole) in
-            let z = checksum-one format l (subst (λ (y : List ℕ). Checksum format (total y) b) (same .0) c) checks in
+            let z = checksum-one format l (subst (λ (y : List ℕ). Checksum format y b) (same .0) c) checks in
             let h = low in
             let found : a ≡ byte many = same .1 in
             n (omega (arith, z, eqb-true (sumOf (bytesAt l from (many + 1)) % 256) target e, sum-list-more many byte))

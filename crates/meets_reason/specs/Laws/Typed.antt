@@ -30,8 +30,8 @@ use Rattle.meets_records.specs.Laws.HexLine.{good-hex}
 use Rattle.meets_records.specs.Laws.SrecLine.{width-is}
 use Rattle.meets_records.specs.Theorems.ReadDecides.{distinct, by-data}
 use Rattle.says.specs.Reason as s
-use Rattle.says.specs.Reason.{NoDigit, Count, Long, WrongSum, OtherType, OtherWidth, OtherCount, OtherField, why}
-use Rattle.meets_reason.specs.Laws.One.{at-one, inside, count-one, width-by}
+use Rattle.says.specs.Reason.{LineAt, Spelling, Count, Long, OtherType, OtherWidth, OtherCount, Ended, FaultLine, why}
+use Rattle.meets_reason.specs.Laws.One.{NoDigit, WrongSum, OtherField, at-one, inside, count-one, width-by}
 use Rattle.meets_reason.specs.Laws.Items.{Kept, ended, skipped, clashes, own-width, agrees-own, as-hex, as-srec}
 use Rattle.meets_reason.specs.Laws.Chain.{toldOf, unless, where-so}
 use Rattle.meets_reason.specs.Laws.Span.{SpanSays, AtFault, broken, unfit}
@@ -50,14 +50,25 @@ TypeSays format load ls n st l =
     (Tries (OtherWidth format l st) (λ w. why format load ls n 7 w st) (CountSays format load ls n st l))
 
 -- and all of them, from how a line is spelled on
-abbrev pub LineChain : (format load : ℕ) (ls : List (List ℕ)) (n st from bare least : ℕ) (l : List ℕ) → DkReason → Type 0
-LineChain format load ls n st from bare least l =
-    Tries (λ (_ : Unit {0}). s.Starts format l → ⊥) (λ _. why format load ls n 1 0 0)
-    (Tries (First (NoDigit format l from)) (λ k. why format load ls n 2 k (getD l k 0))
+abbrev pub Starts : (capital small : ℕ) → List ℕ → Type 0
+Starts capital small l = At l 0 capital ⊎ At l 0 small
+
+abbrev pub LineChain : (format load : ℕ) (ls : List (List ℕ)) (n st capital small from bare least : ℕ) (l : List ℕ) → DkReason → Type 0
+LineChain format load ls n st capital small from bare least l =
+    Tries (λ (_ : Unit {0}). Starts capital small l → ⊥) (λ _. why format load ls n 1 0 0)
+    (Tries (First (NoDigit l from)) (λ k. why format load ls n 2 k (getD l k 0))
     (Tries (λ (m : ℕ). Long format l from bare least m × (length l ≡ m → ⊥)) (λ m. why format load ls n 3 (length l) m)
     (Tries (λ (c : ℕ). Count format l from c × (c < least)) (λ c. why format load ls n 4 c least)
     (Tries (λ (x : ℕ × ℕ). WrongSum format l from (x .0) (x .1)) (λ x. why format load ls n 5 (x .0) (x .1))
     (TypeSays format load ls n st l)))))
+
+-- a line with its reason, and the file's line with it
+pub data LineSays (format load : ℕ) (ls : List (List ℕ)) (n : ℕ) (y : DkReason) : Type 0 where
+  line-says : {st capital small from bare least : ℕ} {l : List ℕ} → LineAt format 0 ls n st l → Spelling format capital small from bare least
+      → LineChain format load ls n st capital small from bare least l y → LineSays format load ls n y
+
+pub lined : {format load n : ℕ} {ls : List (List ℕ)} {y : DkReason} → (Ended format load ls n → ⊥) → LineSays format load ls n y → FaultLine format load ls n y
+lined m (line-says x f t) = s.line m x f t
 
 -- a line at fault is neither an end record nor skipped
 not-kept : (format load : ℕ) (text : List ℕ) (n : ℕ) (l : List ℕ) {x : Item} → AtFault format load text n l → Kept x
@@ -98,7 +109,7 @@ module _ (format load : ℕ) (text : List ℕ) (ls : List (List ℕ)) (n : ℕ) 
     counts (c, d) (s.s-record m v i j (inr (x, k))) = absurd (m f)
 
     fields : (g : ℕ) → OtherField format l g → (typeOf l ≡ 1) ⊎ (typeOf l ≡ 4)
-    fields g (s.other-field i h o m) = let e = hex-one h line .0 in ⊎-elim (λ z. inl (sym e ∙ z)) (λ z. inr (sym e ∙ z)) o
+    fields g (t, b, i, h, o, m) = let e = hex-one h line .0 in ⊎-elim (λ z. inl (sym e ∙ z)) (λ z. inr (sym e ∙ z)) o
 
     module _ (rest : Cause) where
       -- types 01 and 04, with their count
@@ -108,7 +119,7 @@ module _ (format load : ℕ) (text : List ℕ) (ls : List (List ℕ)) (n : ℕ) 
           unless n (eqb (pairAt l 1) c) (pairAt l 1, c) (causeOf 4 (pairAt l 1) c) (causeOf 8 (wordAt l 3) 0) rest refl refl
           (λ e. s.hex f line o (sym few) (eqb-false (pairAt l 1) c e))
           (λ e x h. same x h (eqb-true (pairAt l 1) c e))
-          (λ e. w.refused (wordAt l 3) (s.other-field f line (⊎-elim (λ z. inl (z .0)) (λ z. inr (z .0)) o) (λ z. never (eqb-true (pairAt l 1) c e) z)))
+          (λ e. w.refused (wordAt l 3) (typeOf l, _, f, line, ⊎-elim (λ z. inl (z .0)) (λ z. inr (z .0)) o, λ z. never (eqb-true (pairAt l 1) c e) z))
         where
           same : (x : ℕ × ℕ) → OtherCount format l (x .0) (x .1) → countOf l ≡ c → ⊥
           same (a, b) h e =
@@ -159,7 +170,7 @@ module _ (format load : ℕ) (text : List ℕ) (ls : List (List ℕ)) (n : ℕ) 
     second-is k e = subst (λ (x : ℕ). At l 1 x) e second
 
     no-field : (g : ℕ) → OtherField format l g → ⊥
-    no-field g (s.other-field f h o e) = m f
+    no-field g (t, b, f, h, o, e) = m f
 
     data-known : {v : ℕ} → back.Width v → kind ≡ dataDigit v → (t : ℕ) → OtherType format l t → ⊥
     data-known v e t (s.hex f h a b c) = m f

@@ -11,9 +11,10 @@ use Rattle.c_answers.specs.declared.DkReason.{DkReason}
 use Rattle.meets.specs.Laws.Words.{OneOnly, tries-one, first-one, first-pair-one}
 use Rattle.meets_records.specs.Laws.One.{lines-one}
 use Rattle.says.specs.Reason as s
-use Rattle.says.specs.Reason.{Spelling, GivesTo, NoDigit, Past, Below, why, Twice, LineSays, FaultLine, DkReasonSays}
-use Rattle.meets_reason.specs.Laws.One.{data-one, gives-one, line-one, count-one, long-one, sum-one, type-one, other-width-one, other-count-one}
+use Rattle.says.specs.Reason.{Spelling, GivesTo, Past, Below, why, Twice, FaultLine, DkReasonSays}
+use Rattle.meets_reason.specs.Laws.One.{NoDigit, data-one, gives-one, line-one, count-one, long-one, sum-one, type-one, other-width-one, other-count-one}
 use Rattle.meets_reason.specs.Laws.One.{other-field-one}
+use Rattle.meets_reason.specs.Laws.Typed.{LineSays, line-says}
 use Rattle.meets_reason.specs.Laws.Trails.{drop-line, drop-long}
 
 module _ (format load : ℕ) (ls : List (List ℕ)) (n : ℕ) where
@@ -34,19 +35,20 @@ module _ (format load : ℕ) (ls : List (List ℕ)) (n : ℕ) where
   abbrev tell : ℕ → ℕ → ℕ → DkReason
   tell = why format load ls n
 
-  form-one : {a b c d e f : ℕ} → Spelling format a b c → Spelling format d e f → (a ≡ d) × (b ≡ e) × (c ≡ f)
-  form-one (s.hex f) (s.hex g) = (refl, refl, refl)
+  form-one : {a b c d e a′ b′ c′ d′ e′ : ℕ} → Spelling format a b c d e → Spelling format a′ b′ c′ d′ e′
+      → (a ≡ a′) × (b ≡ b′) × (c ≡ c′) × (d ≡ d′) × (e ≡ e′)
+  form-one (s.hex f) (s.hex g) = (refl, refl, refl, refl, refl)
   form-one (s.hex f) (s.s-records m) = absurd (m f)
   form-one (s.s-records m) (s.hex f) = absurd (m f)
-  form-one (s.s-records m) (s.s-records k) = (refl, refl, refl)
+  form-one (s.s-records m) (s.s-records k) = (refl, refl, refl, refl, refl)
 
   line-decides : OneOnly (LineSays format load ls n)
-  line-decides y z (s.line-says {s = st} {from} {bare} {least} {l} x f t) (s.line-says x′ f′ t′) =
+  line-decides y z (line-says {st} {from = from} {bare} {least} {l} x f t) (line-says x′ f′ t′) =
       let at = line-one format x′ x in
       let form = form-one f′ f in
-      let u = rw (at .0, at .1, form .0, form .1, form .2) at t′ in
+      let u = rw (at .0, at .1, form .0, form .1, form .2, form .3, form .4) at t′ in
       tries-one _ _ _ (λ a b h k. refl)
-      (tries-one _ _ _ (λ a b h k. ap (λ (x : ℕ). tell 2 x (getD l x 0)) (first-one (NoDigit format l from) a b h k))
+      (tries-one _ _ _ (λ a b h k. ap (λ (x : ℕ). tell 2 x (getD l x 0)) (first-one (NoDigit l from) a b h k))
       (tries-one _ _ _ (λ a b h k. ap (tell 3 (length l)) (long-one format l from bare least (h .0) (k .0)))
       (tries-one _ _ _ (λ a b h k. ap (λ (c : ℕ). tell 4 c least) (count-one format l from (h .0) (k .0)))
       (tries-one _ _ _ (λ a b h k. let e = sum-one format l from h k in ap₂ (tell 5) (e .0) (e .1))
@@ -58,18 +60,18 @@ module _ (format load : ℕ) (ls : List (List ℕ)) (n : ℕ) where
       (tries-one _ _ _ (λ a b h k. let e = below-one h k in ap₂ (tell 10) (e .0) (e .1)) twice-one)))))))))) y z t u
 
   inside : (y : DkReason) → LineSays format load ls n y → n < length ls
-  inside y (s.line-says x f t) = drop-long n ls (drop-line format x .1)
+  inside y (line-says x f t) = drop-long n ls (drop-line format x .1)
 
   pub fault-line-decides : OneOnly (FaultLine format load ls n)
   fault-line-decides y z (s.behind h x) (s.behind k w) = refl
   fault-line-decides y z (s.behind h x) (s.no-end e m) = absurd (m x)
-  fault-line-decides y z (s.behind h x) (s.line m t) = absurd (m x)
+  fault-line-decides y z (s.behind h x) (s.line m a f t) = absurd (m x)
   fault-line-decides y z (s.no-end e m) (s.behind h x) = absurd (m x)
   fault-line-decides y z (s.no-end e m) (s.no-end f k) = refl
-  fault-line-decides y z (s.no-end e m) (s.line k t) = absurd (omega (arith, inside z t))
-  fault-line-decides y z (s.line m t) (s.behind h x) = absurd (m x)
-  fault-line-decides y z (s.line m t) (s.no-end e k) = absurd (omega (arith, inside y t))
-  fault-line-decides y z (s.line m t) (s.line k u) = line-decides y z t u
+  fault-line-decides y z (s.no-end e m) (s.line k a f t) = absurd (omega (arith, inside z (line-says a f t)))
+  fault-line-decides y z (s.line m a f t) (s.behind h x) = absurd (m x)
+  fault-line-decides y z (s.line m a f t) (s.no-end e k) = absurd (omega (arith, inside y (line-says a f t)))
+  fault-line-decides y z (s.line m a f t) (s.line k b g u) = line-decides y z (line-says a f t) (line-says b g u)
 
 module _ (format load : ℕ) (text : List ℕ) where
   pub dk-reason-decides : (scratch : List ℕ) → OneOnly (DkReasonSays format load text scratch)

@@ -33,12 +33,12 @@ use Rattle.c_answers.specs.Parts.{reasonTold}
 use Rattle.c_answers.specs.declared.DkReason.{DkReason}
 use Rattle.c_model.specs.Reasons.{kindOf, ReasonTold}
 use Rattle.says.specs.Records as r
-use Rattle.says.specs.Records.{Hex, IsS, Srec}
+use Rattle.says.specs.Records.{Hex, Srec}
 use Rattle.meets_records.specs.Laws.Spelled.{lines-meet}
 use Rattle.meets_records.specs.Laws.HexLine.{good-hex}
 use Rattle.meets_records.specs.Laws.SrecLine.{width-is, good-srec}
 use Rattle.says.specs.Reason as s
-use Rattle.says.specs.Reason.{DataLine, EndRecord, Starts, LineSays, Ended, FaultLine, DkReasonSays}
+use Rattle.says.specs.Reason.{DataLine, EndRecord, Ended, FaultLine, DkReasonSays}
 use Rattle.meets_reason.specs.Laws.One.{inside, count-one}
 use Rattle.meets_reason.specs.Laws.Items.{own-width, said, end-item}
 use Rattle.meets_reason.specs.Laws.Items as items
@@ -50,12 +50,13 @@ use Rattle.meets_reason.specs.Laws.Spelling.{no-digit, all-digits, count
 use Rattle.meets_reason.specs.Laws.Formats.{same-read, same-why}
 use Rattle.meets_reason.specs.Laws.Chain.{toldOf, or-assoc, unless, where-so}
 use Rattle.meets_reason.specs.Laws.Span.{SpanSays, AtFault, broken, unfit, span-says}
-use Rattle.meets_reason.specs.Laws.Typed.{TypeSays, LineChain, hex-typed, srec-typed}
+use Rattle.meets_reason.specs.Laws.Typed.{TypeSays, Starts, LineChain, LineSays, lined, hex-typed, srec-typed}
+use Rattle.meets_reason.specs.Laws.Typed as typed
 
 -- ---- how a line is spelled, once over both formats
-module _ (format load : ℕ) (ls : List (List ℕ)) (n st from body least target bare : ℕ) (l : List ℕ) (sizes : bare ≡ from + 2 * (body + 1))
-    (is : ((format ≡ 0) × (target ≡ 0)) ⊎ ((format ≡ 0 → ⊥) × (target ≡ 255))) (begun : Bool) (starts : begun ≡ true → Starts format l)
-    (never : begun ≡ false → Starts format l → ⊥) (rest : Cause) where
+module _ (format load : ℕ) (ls : List (List ℕ)) (n st capital small from body least target bare : ℕ) (l : List ℕ) (sizes : bare ≡ from + 2 * (body + 1))
+    (is : ((format ≡ 0) × (target ≡ 0)) ⊎ ((format ≡ 0 → ⊥) × (target ≡ 255))) (begun : Bool) (starts : begun ≡ true → Starts capital small l)
+    (never : begun ≡ false → Starts capital small l → ⊥) (rest : Cause) where
   abbrev wanted : ℕ
   wanted = wantedOf from body least l
 
@@ -69,7 +70,7 @@ module _ (format load : ℕ) (ls : List (List ℕ)) (n st from body least target
   sums = eqb (sumOf (bytesAt l from (body + pairAt l from + 1)) % 256) target
 
   module _ (on : begun ≡ true → digits ≡ true → length l ≡ wanted → least ≤ pairAt l from → sums ≡ true → TypeSays format load ls n st l (toldOf n rest)) where
-    spelled-says : LineChain format load ls n st from bare least l (toldOf n (orElse (spelled begun from body least target l) rest))
+    spelled-says : LineChain format load ls n st capital small from bare least l (toldOf n (orElse (spelled begun from body least target l) rest))
     spelled-says =
         unless n begun tt (causeOf 1 0 0) _ rest refl refl (λ b. never b) (λ b x h. h (starts b))
         (λ b. unless n digits odd (causeOf 2 odd (getD l odd 0)) _ rest refl refl
@@ -112,24 +113,25 @@ module _ (format load : ℕ) (text : List ℕ) (n : ℕ) (l : List ℕ) (left : 
   unfolding ownCause
   own-by t e = ap (λ (b : Bool). orElse (spelledAs b) (pick b (hexTyped l) (srecTyped st l))) e
 
-  chain-of : (from bare least : ℕ) (a b : Cause) → ownCause format st l ≡ orElse a b
-      → LineChain format load ls n st from bare least l (toldOf n (orElse a (orElse b span)))
-      → LineChain format load ls n st from bare least l (toldOf n (lineCause format load text n st l))
-  chain-of from bare least a b e x =
-      subst (λ (c : Cause). LineChain format load ls n st from bare least l (toldOf n c)) (sym (ap (λ (c : Cause). orElse c span) e ∙ or-assoc a b span)) x
+  chain-of : (capital small from bare least : ℕ) (a b : Cause) → ownCause format st l ≡ orElse a b
+      → LineChain format load ls n st capital small from bare least l (toldOf n (orElse a (orElse b span)))
+      → LineChain format load ls n st capital small from bare least l (toldOf n (lineCause format load text n st l))
+  chain-of capital small from bare least a b e x =
+      subst (λ (c : Cause). LineChain format load ls n st capital small from bare least l (toldOf n c))
+      (sym (ap (λ (c : Cause). orElse c span) e ∙ or-assoc a b span)) x
 
   -- Intel HEX
   module _ (hex : format ≡ 0) where
-    colon : eqb (getD l 0 0) 58 ≡ true → Starts format l
+    colon : eqb (getD l 0 0) 58 ≡ true → Starts 58 58 l
     colon e = go l (eqb-true (getD l 0 0) 58 e)
       where
-        go : (t : List ℕ) → getD t 0 0 ≡ 58 → Starts format t
+        go : (t : List ℕ) → getD t 0 0 ≡ 58 → Starts 58 58 t
         go [] z = absurd (omega arith)
-        go (c ∷ t) z = s.colon hex (omega arith, z)
+        go (c ∷ t) z = inl (omega arith, z)
 
-    no-colon : eqb (getD l 0 0) 58 ≡ false → Starts format l → ⊥
-    no-colon e (s.colon g x) = eqb-false (getD l 0 0) 58 e (inside l 0 0 58 (x .0) ∙ x .1)
-    no-colon e (s.letter m x i) = m hex
+    no-colon : eqb (getD l 0 0) 58 ≡ false → Starts 58 58 l → ⊥
+    no-colon e (inl x) = eqb-false (getD l 0 0) 58 e (inside l 0 0 58 (x .0) ∙ x .1)
+    no-colon e (inr x) = eqb-false (getD l 0 0) 58 e (inside l 0 0 58 (x .0) ∙ x .1)
 
     hex-good : eqb (getD l 0 0) 58 ≡ true → allDigits (drop 1 l) ≡ true → length l ≡ wantedOf 1 4 0 l
         → eqb (sumOf (bytesAt l 1 (4 + pairAt l 1 + 1)) % 256) 0 ≡ true → goodLine l ≡ true
@@ -147,27 +149,23 @@ module _ (format load : ℕ) (text : List ℕ) (n : ℕ) (l : List ℕ) (left : 
         at-span {p = piece (65536 * st + fieldOf l) (bytesAt l 9 (countOf l))} (s.hex hex y refl) (rw e refl)
         (rw e (sym (length-listOf (countOf l) (λ j. pairAt l (9 + 2 * j))))) (rw e refl)
 
-    hex-says : LineChain format load ls n st 1 11 0 l (toldOf n (lineCause format load text n st l))
-    hex-says = chain-of 1 11 0 (spelledAs true) (hexTyped l) (own-by true (eq-eqb format 0 hex))
-        (spelled-says format load ls n st 1 4 0 0 11 l refl (inl (hex, refl)) (eqb (getD l 0 0) 58) colon no-colon (orElse (hexTyped l) span)
+    hex-says : LineChain format load ls n st 58 58 1 11 0 l (toldOf n (lineCause format load text n st l))
+    hex-says = chain-of 58 58 1 11 0 (spelledAs true) (hexTyped l) (own-by true (eq-eqb format 0 hex))
+        (spelled-says format load ls n st 58 58 1 4 0 0 11 l refl (inl (hex, refl)) (eqb (getD l 0 0) 58) colon no-colon (orElse (hexTyped l) span)
         (λ b d e c t. let good = hex-good b d e t in hex-typed format load text ls n l fault hex good span (hex-span good)))
 
   -- S-records
   module _ (m : format ≡ 0 → ⊥) where
-    letter : isS (getD l 0 0) ≡ true → Starts format l
+    letter : isS (getD l 0 0) ≡ true → Starts 83 115 l
     letter e = go l e
       where
-        go : (t : List ℕ) → isS (getD t 0 0) ≡ true → Starts format t
+        go : (t : List ℕ) → isS (getD t 0 0) ≡ true → Starts 83 115 t
         go [] z = absurd (clash z refl)
-        go (c ∷ t) z = s.letter m (omega arith, refl) (either (eqb c 83) (λ a. r.capital (eqb-true c 83 a)) (λ a. r.small refl (eqb-true c 115 (rw a at z))))
+        go (c ∷ t) z = either (eqb c 83) (λ a. inl (omega arith, eqb-true c 83 a)) (λ a. inr (omega arith, eqb-true c 115 (rw a at z)))
 
-    is-s : {c : ℕ} → IsS r.either c → isS c ≡ true
-    is-s (r.capital e) = rw e
-    is-s (r.small k e) = rw e
-
-    no-letter : isS (getD l 0 0) ≡ false → Starts format l → ⊥
-    no-letter e (s.colon g x) = m g
-    no-letter e (s.letter {c} g x i) = clash (ap isS (inside l 0 0 c (x .0) ∙ x .1) ∙ is-s i) e
+    no-letter : isS (getD l 0 0) ≡ false → Starts 83 115 l → ⊥
+    no-letter e (inl x) = clash (ap isS (inside l 0 0 83 (x .0) ∙ x .1)) e
+    no-letter e (inr x) = clash (ap isS (inside l 0 0 115 (x .0) ∙ x .1)) e
 
     module _ (b : isS (getD l 0 0) ≡ true) (d : allDigits (drop 2 l) ≡ true) (e : length l ≡ wantedOf 2 0 3 l) (three : 3 ≤ pairAt l 2)
         (t : eqb (sumOf (bytesAt l 2 (0 + pairAt l 2 + 1)) % 256) 255 ≡ true) where
@@ -208,15 +206,15 @@ module _ (format load : ℕ) (text : List ℕ) (n : ℕ) (l : List ℕ) (left : 
           srec-typed format load text ls n l fault m is-sound (omega (arith, size))
           (count-is format l 2 d (omega (arith, size))) three span srec-span
 
-    srec-says : LineChain format load ls n st 2 4 3 l (toldOf n (lineCause format load text n st l))
-    srec-says = chain-of 2 4 3 (spelledAs false) (srecTyped st l) (own-by false (ne-eqb format 0 m))
-        (spelled-says format load ls n st 2 0 3 255 4 l refl (inr (m, refl)) (isS (getD l 0 0)) letter no-letter (orElse (srecTyped st l) span)
+    srec-says : LineChain format load ls n st 83 115 2 4 3 l (toldOf n (lineCause format load text n st l))
+    srec-says = chain-of 83 115 2 4 3 (spelledAs false) (srecTyped st l) (own-by false (ne-eqb format 0 m))
+        (spelled-says format load ls n st 83 115 2 0 3 255 4 l refl (inr (m, refl)) (isS (getD l 0 0)) letter no-letter (orElse (srecTyped st l) span)
         (λ b d e c t. srec-on b d e c t))
 
   line-says : LineSays format load ls n (toldOf n (lineCause format load text n st l))
   line-says = either (eqb format 0)
-      (λ t. let h = eqb-true format 0 t in s.line-says (line-at format text n here) (s.hex h) (hex-says h))
-      (λ t. let m = eqb-false format 0 t in s.line-says (line-at format text n here) (s.s-records m) (srec-says m))
+      (λ t. let h = eqb-true format 0 t in typed.line-says (line-at format text n here) (s.hex h) (hex-says h))
+      (λ t. let m = eqb-false format 0 t in typed.line-says (line-at format text n here) (s.s-records m) (srec-says m))
 
 -- ---- the line at fault
 no-lines : (t : List ℕ) → linesOf t ≡ [] → length t ≡ 0
@@ -273,7 +271,7 @@ module _ (format load : ℕ) (text : List ℕ) where
       let at = trail format text n .at in
       let some = some-lines (drop at text) (lines-from format text n ∙ d) in
       rw (goes-no-end format load text n g, lt-leb (length text) at (omega (arith, length-drop at text)), line-is format text n d)
-      (s.line (not-behind n g) (line-says format load text n l left d a))
+      (lined (not-behind n g) (line-says format load text n l left d a))
 
   pub by-fault : (n : ℕ) → n ≤ length all → Fault format load text n → FaultLine format load all n (toldOf n (reason n))
   by-fault n h (stops.after-end e d) = rw e (s.behind (drop-long n all d) (behind n e h))
@@ -289,13 +287,13 @@ module _ (format load : ℕ) (text : List ℕ) where
   no-fault : (n : ℕ) → Stands format load text n → (y : DkReason) → FaultLine format load all n y → ⊥
   no-fault n (stops.given a b c g d e f) y (s.behind h x) = not-behind n g x
   no-fault n (stops.given a b c g d e f) y (s.no-end z m) = omega (arith, drop-long n all d)
-  no-fault n (stops.given {l} {rest} a b c g d e f) y (s.line m x) = given-none format load text n l rest d a b c e f y x
+  no-fault n (stops.given {l} {rest} a b c g d e f) y (s.line m x o t) = given-none format load text n l rest d a b c e f y (typed.line-says x o t)
   no-fault n (stops.kept g d e k) y (s.behind h x) = not-behind n g x
   no-fault n (stops.kept g d e k) y (s.no-end z m) = omega (arith, drop-long n all d)
-  no-fault n (stops.kept {l} {rest} g d e k) y (s.line m x) = kept-none format load text n l rest d k e y x
+  no-fault n (stops.kept {l} {rest} g d e k) y (s.line m x o t) = kept-none format load text n l rest d k e y (typed.line-says x o t)
   no-fault n (stops.over h f) y (s.behind k x) = omega arith
   no-fault n (stops.over h f) y (s.no-end z m) = m (behind n (f z) (omega arith))
-  no-fault n (stops.over h f) y (s.line m (s.line-says x g t)) = omega (arith, drop-long n all (drop-line format x .1))
+  no-fault n (stops.over h f) y (s.line m x g t) = omega (arith, drop-long n all (drop-line format x .1))
 
   -- ---- the file
   says : (scratch : List ℕ) (x : Read) → readText format load text ≡ x → DkReasonSays format load text scratch (reasonTold (whyOf format load text x), scratch)

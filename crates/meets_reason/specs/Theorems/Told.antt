@@ -18,15 +18,18 @@ use Rattle.c_model.specs.RecordFiles.{readAs, FaultTold}
 use Rattle.says.specs.Words as w
 use Rattle.says.specs.Words.{Tries, At}
 use Rattle.says.specs.Words.{Not}
-use Rattle.says.specs.Records.{either, Lines, Spells, total}
+use Rattle.says.specs.Records.{either, Lines, Spells}
 use Rattle.says.specs.Read as r
-use Rattle.says.specs.Read.{Good, Bad, FaultSays, ReadSays, Lent, Outcome}
+use Rattle.says.specs.Read.{Good, FaultSays, ReadSays, Lent, Outcome}
 use Rattle.meets_records.specs.Laws.Spelled.{lines-meet}
 use Rattle.meets_records.specs.Laws.Sits.{solid}
+use Rattle.meets_records.specs.Theorems.Extent.{Bad}
 use Rattle.meets_records.specs.Theorems.FaultDecides.{fault-decides}
 use Rattle.meets_records.specs.Theorems.FaultMeets.{good-sound, sound-good, fault-meets}
 use Rattle.says.specs.Reason as s
-use Rattle.says.specs.Reason.{GivesTo, LineAt, Checksum, why, Twice, LineSays, FaultLine, DkReasonSays}
+use Rattle.says.specs.Reason.{GivesTo, LineAt, Checksum, why, Twice, FaultLine, DkReasonSays}
+use Rattle.meets_reason.specs.Laws.One.{WrongSum}
+use Rattle.meets_reason.specs.Laws.Typed.{LineSays, line-says}
 use Rattle.meets_reason.specs.Laws.Trails.{lines}
 use Rattle.meets_reason.specs.Laws.Stops.{fault-at, fault-within}
 use Rattle.meets_reason.specs.Theorems.Decides.{dk-reason-decides}
@@ -52,7 +55,7 @@ module _ (format load : ℕ) (text : List ℕ) (y : DkReason) where
     pub from : ℕ
     pub bytes : List ℕ
     pub spelled : Spells either (drop from line) (bytes ++ y .first ∷ [])
-    pub should : Checksum format (total bytes) (y .second)
+    pub should : Checksum format bytes (y .second)
     pub other : Not (y .first ≡ y .second)
 
   -- a byte given twice, and by which line
@@ -109,7 +112,7 @@ module _ (format load : ℕ) (text : List ℕ) (ls : List (List ℕ)) (cut : Lin
   )
 
   line-told : (y : DkReason) → LineSays format load ls n y → P y
-  line-told y (s.line-says {s = st} {from = from} {l = l} at form t) =
+  line-told y (line-says {st} {from = from} {l = l} at form t) =
       tries-all P (λ x m. plain 1 0 0 (λ e. omega arith) (λ e. omega arith) (λ e. omega arith) (λ e. omega arith))
       (tries-all P (λ x m. plain 2 x _ (λ e. omega arith) (λ e. omega arith) (λ e. omega arith) (λ e. omega arith))
       (tries-all P (λ x m. plain 3 _ x (λ e. omega arith) (λ e. omega arith) (λ e. omega arith) (λ e. omega arith))
@@ -122,8 +125,8 @@ module _ (format load : ℕ) (text : List ℕ) (ls : List (List ℕ)) (cut : Lin
       (tries-all P (λ x m. plain 9 (x .0) (x .1) (λ e. omega arith) (λ e. omega arith) (λ e. omega arith) (λ e. omega arith))
       (tries-all P (λ x m. lowered x m) twice-told)))))))))) y t
     where
-      summed : (x : ℕ × ℕ) → s.WrongSum format l from (x .0) (x .1) → P (tell 5 (x .0) (x .1))
-      summed (a, b) (s.wrong-sum bytes p c d) = (
+      summed : (x : ℕ × ℕ) → WrongSum format l from (x .0) (x .1) → P (tell 5 (x .0) (x .1))
+      summed (a, b) (bytes, p, c, d) = (
         refl,
         (
           λ e. omega arith,
@@ -154,7 +157,7 @@ module _ (format load : ℕ) (text : List ℕ) (ls : List (List ℕ)) (cut : Lin
   fault-told : (y : DkReason) → FaultLine format load ls n y → P y
   fault-told y (s.behind h x) = plain 12 0 0 (λ e. omega arith) (λ e. omega arith) (λ e. omega arith) (λ e. omega arith)
   fault-told y (s.no-end e m) = plain 13 0 0 (λ e. omega arith) (λ e. omega arith) (λ e. omega arith) (λ e. omega arith)
-  fault-told y (s.line m x) = line-told y x
+  fault-told y (s.line m x f t) = line-told y (line-says x f t)
 
 module _ (format load : ℕ) (text : List ℕ) where
   -- where the reader stops there is a reason
@@ -229,7 +232,7 @@ module _ (format load : ℕ) (text scratch left : List ℕ) (y : DkReason) (c : 
 
       go : (o : Outcome) → ReadSays format load text old o
           → (o .answer .refusal ≡ 4 → y .reason ≡ 0 → ⊥) × ((y .reason ≡ 0 → ⊥) → o .answer .refusal ≡ 4)
-      go o (r.bad b w.is) = (λ e. bad-exactly known .0 b, λ n. refl)
+      go o (r.bad b) = (λ e. bad-exactly known .0 b, λ n. refl)
       go o (r.read g x t) = (
         λ e z. tries-all (λ (u : Outcome). u .answer .refusal ≡ 4 → ⊥) (λ a m q. omega arith)
             (tries-all (λ (u : Outcome). u .answer .refusal ≡ 4 → ⊥) (λ a m q. omega arith) (λ u v. other u v)) o t e,

@@ -119,7 +119,7 @@ module _ (g : Given) where
   inside-of no-part i h k =
       let o = getD (g .offsets) i 0 in
       let n = getD (g .sizes) i 0 in
-      let fit = less (o + n) (8 * length (g .image)) (λ past. no-part (w.outside {i = i} (h, k, refl, refl) past)) in
+      let fit = less (o + n) (8 * length (g .image)) (λ past. no-part (w.unfit {i = i} (h, k, refl, refl) (inr (inr (inr past))))) in
       omega arith
 
   pub low-of : (top : ℕ) → (BadPlace g top → ⊥) → (i : ℕ) → i < length (g .offsets) → i < length (g .sizes)

@@ -21,7 +21,7 @@ use Rattle.record_srec_line.specs.Srec.{dataDigit, endDigit, lineText, agrees, 
 use Rattle.record_srec_line.specs.ReadBack as back
 use Rattle.record_fault.specs.Reading.{formatBy}
 use Rattle.says.specs.Records as r
-use Rattle.says.specs.Records.{Lines, Digit, Spells, Hex, IsS, Number, Srec}
+use Rattle.says.specs.Records.{Lines, Digit, Spells, Hex, Number, Srec}
 use Rattle.says.specs.Read as s
 use Rattle.says.specs.Read.{HexLines, SrecLines, Gives, Good}
 use Rattle.meets_records.specs.Laws.One.{lines-one, spells-below}
@@ -43,8 +43,8 @@ AllAbove (l ∷ ls) = Above l × AllAbove ls
 
 digit-above : {c v : ℕ} → Digit r.either c v → 13 < c
 digit-above (r.figure h e) = omega arith
-digit-above (r.capital h e f) = omega arith
-digit-above (r.small k h e f) = omega arith
+digit-above (r.letter h (inl e) f) = omega arith
+digit-above (r.letter h (inr (k, e)) f) = omega arith
 
 spelled-above : {t bs : List ℕ} → Spells r.either t bs → Above t
 spelled-above r.none = tt
@@ -119,9 +119,9 @@ abbrev FitsAll : ℕ → List Piece → Type 0
 FitsAll top [] = Unit {0}
 FitsAll top (p ∷ ps) = (p .address + length (p .bytes) ≤ top) × FitsAll top ps
 
-letter-above : {c : ℕ} → IsS r.either c → 13 < c
-letter-above (r.capital e) = omega arith
-letter-above (r.small k e) = omega arith
+letter-above : {c : ℕ} → (c ≡ 83) ⊎ ((r.either ≡ r.either) × (c ≡ 115)) → 13 < c
+letter-above (inl e) = omega arith
+letter-above (inr (k, e)) = omega arith
 
 pub srec-above : {l b : List ℕ} {kind w a : ℕ} → 13 < kind → Srec r.either l kind w a b → Above l
 srec-above h x = subst Above (sym (x .front)) (letter-above (x .letter), (h, spelled-above (x .spelled)))

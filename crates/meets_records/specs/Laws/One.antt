@@ -1,12 +1,13 @@
 -- A text spells one list of bytes, one list of bytes has one text in upper case, and records have one text in upper case. From the sentences alone.
 use mathlib.Core.Path.{_≡_, refl, sym, ap, _∙_}
 use mathlib.Core.List.{List, [], _∷_, _++_}
+use mathlib.Core.Logic.{_⊎_, inl, inr}
 use Prim.Native.Nat.{ℕ, zero, suc, _+_, _-_, _<_, _%_}
 use native.Mathlib.Omega.{arith}
 use lib.ListN.{length, getD, length-append}
 use lib.Seq.{getD-append-seam}
 use Rattle.says.specs.Records as r
-use Rattle.says.specs.Records.{Lines, Case, upper, either, Digit, Spells, Hex, Number, IsS, Srec, Width, total}
+use Rattle.says.specs.Records.{Lines, Case, upper, either, Digit, Spells, Hex, Number, Srec, Width, total}
 
 rank : Case → ℕ
 rank upper = 0
@@ -18,28 +19,26 @@ not-either e = let f : _≡_ {A = ℕ} 0 1 = ap rank e in omega arith
 
 pub digit-value : {k : Case} {c v w : ℕ} → Digit k c v → Digit k c w → v ≡ w
 digit-value (r.figure h e) (r.figure i f) = omega arith
-digit-value (r.figure h e) (r.capital i f g) = absurd (omega arith)
-digit-value (r.figure h e) (r.small k i f g) = absurd (omega arith)
-digit-value (r.capital h e g) (r.figure i f) = absurd (omega arith)
-digit-value (r.capital h e g) (r.capital i f j) = omega arith
-digit-value (r.capital h e g) (r.small k i f j) = absurd (omega arith)
-digit-value (r.small k h e g) (r.figure i f) = absurd (omega arith)
-digit-value (r.small k h e g) (r.capital i f j) = absurd (omega arith)
-digit-value (r.small k h e g) (r.small k′ i f j) = omega arith
+digit-value (r.figure h e) (r.letter i (inl f) g) = absurd (omega arith)
+digit-value (r.figure h e) (r.letter i (inr (k, f)) g) = absurd (omega arith)
+digit-value (r.letter h (inl e) g) (r.figure i f) = absurd (omega arith)
+digit-value (r.letter h (inl e) g) (r.letter i (inl f) j) = omega arith
+digit-value (r.letter h (inl e) g) (r.letter i (inr (k, f)) j) = absurd (omega arith)
+digit-value (r.letter h (inr (k, e)) g) (r.figure i f) = absurd (omega arith)
+digit-value (r.letter h (inr (k, e)) g) (r.letter i (inl f) j) = absurd (omega arith)
+digit-value (r.letter h (inr (k, e)) g) (r.letter i (inr (k′, f)) j) = omega arith
 
 pub digit-below : {k : Case} {c v : ℕ} → Digit k c v → v < 16
 digit-below (r.figure h e) = omega arith
-digit-below (r.capital h e g) = omega arith
-digit-below (r.small k h e g) = omega arith
+digit-below (r.letter h e g) = omega arith
 
 pub digit-upper : {c d v : ℕ} → Digit upper c v → Digit upper d v → c ≡ d
 digit-upper (r.figure h e) (r.figure i f) = omega arith
-digit-upper (r.figure h e) (r.capital i f g) = absurd (omega arith)
-digit-upper (r.capital h e g) (r.figure i f) = absurd (omega arith)
-digit-upper (r.capital h e g) (r.capital i f j) = omega arith
-digit-upper (r.small k h e g) d = absurd (not-either k)
-digit-upper (r.figure h e) (r.small k i f g) = absurd (not-either k)
-digit-upper (r.capital h e g) (r.small k i f j) = absurd (not-either k)
+digit-upper (r.figure h e) (r.letter i f g) = absurd (omega arith)
+digit-upper (r.letter h e g) (r.figure i f) = absurd (omega arith)
+digit-upper (r.letter h (inl e) g) (r.letter i (inl f) j) = omega arith
+digit-upper (r.letter h (inl e) g) (r.letter i (inr (k, f)) j) = absurd (not-either k)
+digit-upper (r.letter h (inr (k, e)) g) (r.letter i f j) = absurd (not-either k)
 
 pub spells-bytes : {k : Case} {t a b : List ℕ} → Spells k t a → Spells k t b → a ≡ b
 spells-bytes r.none r.none = refl
@@ -132,10 +131,10 @@ number-one v v′ (r.four {a} {b} {c} {d} w e) s (r.four {a = a′} {b = b′} {
     let ed : d ≡ d′ = omega arith in
     rw (ea, eb, ec, ed)
 
-s-one : {c d : ℕ} → IsS upper c → IsS upper d → c ≡ d
-s-one (r.capital e) (r.capital f) = omega arith
-s-one (r.small k e) d = absurd (not-either k)
-s-one (r.capital e) (r.small k f) = absurd (not-either k)
+s-one : {c d : ℕ} → (c ≡ 83) ⊎ ((upper ≡ either) × (c ≡ 115)) → (d ≡ 83) ⊎ ((upper ≡ either) × (d ≡ 115)) → c ≡ d
+s-one (inl e) (inl f) = omega arith
+s-one (inr (k, e)) d = absurd (not-either k)
+s-one (inl e) (inr (k, f)) = absurd (not-either k)
 
 pub srec-upper : {l m b : List ℕ} {kind w n : ℕ} → Srec upper l kind w n b → Srec upper m kind w n b → l ≡ m
 srec-upper {b = b} {kind = kind} x y =

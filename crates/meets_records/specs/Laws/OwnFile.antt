@@ -2,6 +2,7 @@
 -- file to be read. From the sentences alone.
 use mathlib.Core.Path.{_≡_, refl, sym, _∙_, subst}
 use mathlib.Core.List.{List, [], _∷_, _++_}
+use mathlib.Core.Logic.{_⊎_, inl, inr, ⊎-elim}
 use Prim.Native.Nat.{ℕ, _+_, _≤_, _<_}
 use native.Mathlib.Omega.{arith}
 use lib.ListN.{length, take, length-take}
@@ -11,18 +12,18 @@ use Rattle.record_lines.specs.Pieces.{Piece}
 use Rattle.says.specs.Words as words
 use Rattle.says.specs.Words.{Begins}
 use Rattle.says.specs.Records as r
-use Rattle.says.specs.Records.{Digit, Spells, IsS, Hex, Srec, Width, Lines}
+use Rattle.says.specs.Records.{Digit, Spells, Hex, Srec, Width, Lines}
 use Rattle.says.specs.Write as w
-use Rattle.says.specs.Write.{Given, Outcome, HexText, SrecText, Cuts, BadPart, BadPlace, HexSays, SrecSays, Leaves}
+use Rattle.says.specs.Write.{Given, Outcome, HexText, SrecText, Cuts, BadPart, BadPlace, HexSays, SrecSays}
 use Rattle.says.specs.Read as s
 use Rattle.says.specs.Read.{HexLines, SrecLines}
+use Rattle.meets_records.specs.Laws.Front.{Leaves}
 use Rattle.meets_records.specs.Laws.Formats.{line-ended, hex-above, srec-above}
 
 -- ---- upper case is either case
 digit-either : {c v : ℕ} → Digit r.upper c v → Digit r.either c v
 digit-either (r.figure h e) = r.figure h e
-digit-either (r.capital h e f) = r.capital h e f
-digit-either (r.small k h e f) = r.small refl h e f
+digit-either (r.letter h e f) = r.letter h (⊎-elim inl (λ x. inr (refl, x .1)) e) f
 
 spells-either : {t b : List ℕ} → Spells r.upper t b → Spells r.either t b
 spells-either r.none = r.none
@@ -40,10 +41,6 @@ hex-either x = record {
   sum = x .sum;
 }
 
-letter-either : {c : ℕ} → IsS r.upper c → IsS r.either c
-letter-either (r.capital e) = r.capital e
-letter-either (r.small k e) = r.small refl e
-
 pub srec-either : {l b : List ℕ} {kind w a : ℕ} → Srec r.upper l kind w a b → Srec r.either l kind w a b
 srec-either x = record {
   s = x .s;
@@ -52,7 +49,7 @@ srec-either x = record {
   field = x .field;
   check = x .check;
   front = x .front;
-  letter = letter-either (x .letter);
+  letter = ⊎-elim inl (λ e. inr (refl, e .1)) (x .letter);
   spelled = spells-either (x .spelled);
   counts = x .counts;
   number = x .number;
@@ -98,7 +95,7 @@ module _ (g : Given) (old : List ℕ) where
       front-is t old new room b
     where
       fits : (m n : ℕ) → (n < m → ⊥) → m ≤ n
-      fits m n h = mathlib.Core.Logic.⊎-elim (λ le. le) (λ lt. absurd (h lt)) (le-or-lt m n)
+      fits m n h = ⊎-elim (λ le. le) (λ lt. absurd (h lt)) (le-or-lt m n)
 
   -- What an accepted file is.
   pub record Filed (Text : List Piece → List ℕ → Type 0) (top : ℕ) (y : Outcome) : Type 0 where

@@ -1,5 +1,5 @@
 -- What is refused before anything is written, by the definitions' tests and by the sentences.
-use mathlib.Core.Path.{_≡_, refl, sym, ap, _∙_}
+use mathlib.Core.Path.{_≡_, refl, ap, _∙_}
 use mathlib.Core.Bool.{false, _&&_}
 use mathlib.Core.List.{List, [], _∷_}
 use mathlib.Core.Logic.{_⊎_, inl, inr, ⊎-elim}
@@ -35,7 +35,7 @@ module _ (g : Given) where
       let k = unfit-at (g .offsets) (g .sizes) e in
       let o = getD (g .offsets) (k .0) 0 in
       let s = getD (g .sizes) (k .0) 0 in
-      either (eqb s 0) (λ a. w.empty {i = k .0} {o = o} (k .1, k .2, refl, sym (eqb-true s 0 a)))
+      either (eqb s 0) (λ a. w.unfit {i = k .0} {o = o} {s = s} (k .1, k .2, refl, refl) (inl (eqb-true s 0 a)))
       (λ a. either (eqb (o % 8) 0)
       (λ b. either (eqb (s % 8) 0)
       (λ c. either (leb (o + s) (8 * len))
@@ -45,15 +45,15 @@ module _ (g : Given) where
         ends = eqb-true (s % 8) 0 c;
         inside = leb-true (o + s) (8 * len) d;
       })) (k .3)))
-      (λ d. w.outside {i = k .0} {o = o} {s = s} (k .1, k .2, refl, refl) (leb-false (o + s) (8 * len) d)))
-      (λ c. w.size {i = k .0} {o = o} {s = s} (k .1, k .2, refl, refl) (eqb-false (s % 8) 0 c)))
-      (λ b. w.offset {i = k .0} {o = o} {s = s} (k .1, k .2, refl, refl) (eqb-false (o % 8) 0 b)))
+      (λ d. w.unfit {i = k .0} {o = o} {s = s} (k .1, k .2, refl, refl) (inr (inr (inr (leb-false (o + s) (8 * len) d))))))
+      (λ c. w.unfit {i = k .0} {o = o} {s = s} (k .1, k .2, refl, refl) (inr (inr (inl (eqb-false (s % 8) 0 c))))))
+      (λ b. w.unfit {i = k .0} {o = o} {s = s} (k .1, k .2, refl, refl) (inr (inl (eqb-false (o % 8) 0 b)))))
 
   pub fit : AllParts len (g .offsets) (g .sizes) → BadPart g → ⊥
-  fit h (w.empty {i} b) = omega (arith, h i (b .0) (b .1) .some, b .3)
-  fit h (w.offset {i} {o} {s} b n) = n (ap (λ (x : ℕ). x % 8) (b .2) ∙ h i (b .0) (b .1) .starts)
-  fit h (w.size {i} {o} {s} b n) = n (ap (λ (x : ℕ). x % 8) (b .3) ∙ h i (b .0) (b .1) .ends)
-  fit h (w.outside {i} b past) = omega (arith, h i (b .0) (b .1) .inside, b .2, b .3)
+  fit h (w.unfit {i} b (inl e)) = omega (arith, h i (b .0) (b .1) .some, b .3)
+  fit h (w.unfit {i} b (inr (inl n))) = n (ap (λ (x : ℕ). x % 8) (b .2) ∙ h i (b .0) (b .1) .starts)
+  fit h (w.unfit {i} b (inr (inr (inl n)))) = n (ap (λ (x : ℕ). x % 8) (b .3) ∙ h i (b .0) (b .1) .ends)
+  fit h (w.unfit {i} b (inr (inr (inr past)))) = omega (arith, h i (b .0) (b .1) .inside, b .2, b .3)
 
   abbrev Misplaced : List ℕ → List ℕ → ℕ → Type 0
   Misplaced os ss k = (k < length os) × (k < length ss) × (

@@ -2,7 +2,7 @@
 use mathlib.Core.Path.{_≡_, refl, ap, _∙_}
 use mathlib.Core.Bool.{Bool, true, false, _&&_}
 use mathlib.Core.List.{List, [], _∷_, _++_}
-use mathlib.Core.Logic.{_⊎_, ⊎-elim}
+use mathlib.Core.Logic.{_⊎_, inl, inr, ⊎-elim}
 use Prim.Native.Nat.{ℕ, zero, suc, _+_, _*_, _-_, _<_, _/_, _%_}
 use native.Mathlib.Decide.{decLt}
 use native.Mathlib.Omega.{arith}
@@ -54,8 +54,8 @@ lines-meet (c ∷ d ∷ t) =
 -- ---- digits
 value : {c v : ℕ} → Digit r.either c v → valueOf c ≡ v
 value {c} (r.figure h e) = value-figure c (omega arith) (omega arith) ∙ omega arith
-value {c} (r.capital h e f) = value-upper c (omega arith) (omega arith) ∙ omega arith
-value {c} (r.small k h e f) = value-lower c (omega arith) (omega arith) ∙ omega arith
+value {c} (r.letter h (inl e) f) = value-upper c (omega arith) (omega arith) ∙ omega arith
+value {c} (r.letter h (inr (k, e)) f) = value-lower c (omega arith) (omega arith) ∙ omega arith
 
 digit : (c : ℕ) → isDigit c ≡ true → Digit r.either c (valueOf c)
 digit c h =
@@ -67,11 +67,11 @@ digit c h =
     (λ e. ⊎-elim
     (λ f. ⊎-elim
     (λ g. absurd (omega (arith, value-above c g)))
-    (λ g. let v = value-lower c f g in r.small {i = c - 97} refl (omega arith) (omega arith) (omega arith))
+    (λ g. let v = value-lower c f g in r.letter {i = c - 97} (omega arith) (inr (refl, omega arith)) (omega arith))
     (le-or-lt 103 c))
     (λ f. absurd (omega (arith, value-middle c e f)))
     (le-or-lt 97 c))
-    (λ e. let v = value-upper c d e in r.capital {i = c - 65} (omega arith) (omega arith) (omega arith))
+    (λ e. let v = value-upper c d e in r.letter {i = c - 65} (omega arith) (inl (omega arith)) (omega arith))
     (le-or-lt 71 c))
     (λ d. absurd (omega (arith, value-between c b d)))
     (le-or-lt 65 c))
@@ -144,7 +144,7 @@ list-split (suc a) b f =
 digit-written : {k : Case} (n : ℕ) → n < 16 → Digit k (letterOf n) n
 digit-written n h = elim (decLt n 10) [
   | yes p ↦ rw (lt-ltb n 10 p) (r.figure p refl)
-  | no p ↦ rw (le-ltb n 10 (omega arith)) (r.capital {i = n - 10} (omega arith) (omega arith) (omega arith))
+  | no p ↦ rw (le-ltb n 10 (omega arith)) (r.letter {i = n - 10} (omega arith) (inl (omega arith)) (omega arith))
 ]
 
 pub spelled-written : {k : Case} (l : List ℕ) → Bytes l → Spells k (bytesText l) l

@@ -2,6 +2,7 @@
 use mathlib.Core.Path.{_≡_, refl, sym, ap, ap₂, _∙_, subst}
 use mathlib.Core.Bool.{true, _&&_}
 use mathlib.Core.List.{List, [], _∷_, _++_, append-assoc}
+use mathlib.Core.Logic.{_⊎_, inl, inr}
 use Prim.Native.Nat.{ℕ, suc, _+_, _*_, _-_, _≤_, _<_, _/_, _%_, _^_}
 use native.Mathlib.Omega.{arith}
 use borrow.Author.Tests.{ltb-true, lt-ltb, leb-true, le-leb, eqb-true, eq-eqb}
@@ -23,7 +24,7 @@ use Rattle.record_srec_line.specs.ReadBack as back
 use Rattle.record_srec_line.specs.Laws.ReadBack.{address-bytes}
 use Rattle.record_srec_line.specs.Theorems.ReadBack.{address-back}
 use Rattle.says.specs.Records as r
-use Rattle.says.specs.Records.{Case, Spells, Number, IsS, Srec, Width, total}
+use Rattle.says.specs.Records.{Case, Spells, Number, Srec, Width, total}
 use Rattle.meets_records.specs.Laws.One.{total-append, below-last, front, apart, number-length}
 use Rattle.meets_records.specs.Laws.Spelled.{total-is, digits-of, length-of, pairs-of, spelled-by, same-list, list-split, spelled-written}
 
@@ -63,12 +64,12 @@ complement s c h e = omega arith
 sums-up : (s : ℕ) → (s + (255 - s % 256)) % 256 ≡ 255
 sums-up s = omega arith
 
-letter : (c : ℕ) → isS c ≡ true → IsS r.either c
-letter c e = either (eqb c 83) (λ t. r.capital (eqb-true c 83 t)) (λ f. r.small refl (eqb-true c 115 (rw f at e)))
+letter : (c : ℕ) → isS c ≡ true → (c ≡ 83) ⊎ ((r.either ≡ r.either) × (c ≡ 115))
+letter c e = either (eqb c 83) (λ t. inl (eqb-true c 83 t)) (λ f. inr (refl, eqb-true c 115 (rw f at e)))
 
-letter-back : {c : ℕ} → IsS r.either c → isS c ≡ true
-letter-back (r.capital e) = rw e
-letter-back (r.small k e) = rw e
+letter-back : {c : ℕ} → (c ≡ 83) ⊎ ((r.either ≡ r.either) × (c ≡ 115)) → isS c ≡ true
+letter-back (inl e) = rw e
+letter-back (inr (k, e)) = rw e
 
 -- ---- a line, from its fields
 pair-next : (c k : ℕ) (t : List ℕ) (j : ℕ) → pairAt (c ∷ k ∷ t) (2 + 2 * j) ≡ pairAt t (2 * j)
@@ -324,7 +325,7 @@ srec-written {k} {w} v kind a bytes good few low =
       field = addressBytes w a;
       check = last;
       front = refl;
-      letter = r.capital refl;
+      letter = inl refl;
       spelled = subst (Spells k (bytesText (body ++ last ∷ []))) joined (spelled-written (body ++ last ∷ []) all);
       counts = refl;
       number = number-written v a low;

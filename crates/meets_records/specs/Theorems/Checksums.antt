@@ -7,7 +7,6 @@ use native.Mathlib.Omega.{arith}
 use lib.ListN.{length, take}
 use Rattle.sort.specs.Agree.{All}
 use Rattle.record_lines.specs.Pieces.{Piece}
-use Rattle.says.specs.Words as words
 use Rattle.says.specs.Records as r
 use Rattle.says.specs.Words.{Not}
 use Rattle.says.specs.Records.{Lines, Spells, Hex, Srec, total}
@@ -91,10 +90,10 @@ module _ (load : ℕ) (text : List ℕ) (old : Lent) where
 
   -- a file that is no bad file
   pub hex-read-sums : (y : s.Outcome) → ReadSays 0 load text old y → Not (y .answer .refusal ≡ 4) → (ls : List (List ℕ)) × Lines text ls × All SumsToZero ls
-  hex-read-sums y (s.bad b words.is) n = absurd (n refl)
+  hex-read-sums y (s.bad b) n = absurd (n refl)
   hex-read-sums y (s.read g b t) n = hex-good refl g
 
   pub srec-read-sums : (y : s.Outcome) → ReadSays 1 load text old y → Not (y .answer .refusal ≡ 4)
       → (ls : List (List ℕ)) × Lines text ls × All Complements ls
-  srec-read-sums y (s.bad b words.is) n = absurd (n refl)
+  srec-read-sums y (s.bad b) n = absurd (n refl)
   srec-read-sums y (s.read g b t) n = srec-good refl g

@@ -28,13 +28,17 @@ use Rattle.says.specs.Words.{First}
 use Rattle.says.specs.Records as r
 use Rattle.says.specs.Records.{Width}
 use Rattle.says.specs.Read as s
-use Rattle.says.specs.Read.{GivenTo, Says, Good, Bad}
+use Rattle.says.specs.Read.{GivenTo, Says, Good}
 use Rattle.says.specs.Extent as x
 use Rattle.says.specs.Extent.{told, ExtentSays}
 use Rattle.meets_records.specs.Laws.Sits.{solid}
 use Rattle.meets_records.specs.Laws.GivenBytes.{gives-at, to-given, top-given, of-mem}
 use Rattle.meets_records.specs.Theorems.FaultMeets.{good-sound, sound-good}
 use Rattle.meets_records.specs.Theorems.ReadDecides.{good-one}
+
+-- no pieces make it a good file
+abbrev pub Bad : (format load : ℕ) → List ℕ → Type 0
+Bad format load text = (ps : List Piece) → Good format load text ps → ⊥
 
 -- ---- the lowest address of pieces
 low-of : (l : List Piece) → lowestOf l < 4294967296 → (q : Piece) × List·Memᴰ q l × (q .address ≡ lowestOf l)

@@ -3,7 +3,7 @@
 -- sentences; that a byte lies in a listed block goes by the runs.
 use mathlib.Core.Path.{_≡_, refl, sym, ap, _∙_, subst}
 use mathlib.Core.List.{List}
-use mathlib.Core.Logic.{_⊎_, ⊎-elim}
+use mathlib.Core.Logic.{_⊎_, inl, inr, ⊎-elim}
 use Prim.Native.Nat.{ℕ, zero, suc, _+_, _*_, _-_, _≤_, _<_, _/_, _%_}
 use native.Mathlib.Omega.{arith}
 use borrow.Author.Tests.{eqb-true, eqb-false, ne-eqb}
@@ -295,7 +295,7 @@ module _ (g : Given) (format : ℕ) (text : List ℕ) (ps : List Piece) (fit : G
         }
 
   pub comes-back : (z : Outcome) → ReadSays format (g .load) text old z → Returned g old z
-  comes-back z (s.bad n e) = absurd (n ps fit)
+  comes-back z (s.bad n) = absurd (n ps fit)
   comes-back z (s.read {ps = rs} {offsets = os} {sizes = ss} k b t) =
       let pieces : rs ≡ ps = good-one format (g .load) k fit in
       tried z (rw pieces at b) (rw pieces at t)
@@ -317,8 +317,8 @@ some-of g fine i h k =
     either (eqb (n % 8) 0)
     (λ t.
     let edge = eqb-true (n % 8) 0 t in
-    ⊎-elim (λ le. le) (λ lt. let none : 0 ≡ n = omega arith in absurd (fine (w.empty {i = i} (h, k, refl, none)))) (le-or-lt 8 n))
-    (λ f. absurd (fine (w.size {i = i} (h, k, refl, refl) (eqb-false (n % 8) 0 f))))
+    ⊎-elim (λ le. le) (λ lt. let none : n ≡ 0 = omega arith in absurd (fine (w.unfit {i = i} (h, k, refl, refl) (inl none)))) (le-or-lt 8 n))
+    (λ f. absurd (fine (w.unfit {i = i} (h, k, refl, refl) (inr (inr (inl (eqb-false (n % 8) 0 f)))))))
 
 module _ (g : Given) (old : List ℕ) (y : w.Outcome) {Text : List Piece → List ℕ → Type 0} {top : ℕ} (f : Filed g old Text top y) where
   paired-of : length (g .offsets) ≡ length (g .sizes)

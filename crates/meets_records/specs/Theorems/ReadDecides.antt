@@ -11,7 +11,7 @@ use lib.Seq.{ext-getD}
 use Rattle.refusal.specs.Laws.Bools.{either}
 use Rattle.sort.specs.Laws.Sorted.{le-or-lt}
 use Rattle.record_lines.specs.Pieces.{Piece}
-use Rattle.meets.specs.Laws.Words.{OneOnly, tries-one, is-one, begins-one}
+use Rattle.meets.specs.Laws.Words.{OneOnly, tries-one, begins-one}
 use Rattle.says.specs.Records as s
 use Rattle.says.specs.Records.{Width}
 use Rattle.meets_records.specs.Laws.One.{lines-one, hex-one, apart, srec-kind, srec-one}
@@ -187,9 +187,9 @@ module _ (format load : ℕ) where
       above (r.good x i o) a g = i (g .0) a (g .1) (g .2) .0
 
       pub read-decides : OneOnly (ReadSays format load text old)
-      read-decides y z (r.bad n e) (r.bad m f) = is-one (refusal format load text old 4 0) y z e f
-      read-decides y z (r.bad n e) (r.read {ps = ps} g b t) = absurd (n ps g)
-      read-decides y z (r.read {ps = ps} g b t) (r.bad n e) = absurd (n ps g)
+      read-decides y z (r.bad n) (r.bad m) = refl
+      read-decides y z (r.bad n) (r.read {ps = ps} g b t) = absurd (n ps g)
+      read-decides y z (r.read {ps = ps} g b t) (r.bad n) = absurd (n ps g)
       read-decides y z (r.read {ps = ps} {offsets = os} {sizes = ss} g b t) (r.read {ps = qs} {offsets = ot} {sizes = st} g′ b′ t′) =
           let pieces : qs ≡ ps = good-one g′ g in
           let c = rw pieces at b′ in

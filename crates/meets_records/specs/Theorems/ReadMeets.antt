@@ -31,7 +31,7 @@ use Rattle.record_read.specs.Outcome.{lent, bytesFit, blocksFit, answerOf, lent
 use Rattle.c_answers.specs.Counts.{blocksCount}
 use Rattle.c_answers.specs.declared.DkCount.{DkCount}
 use Rattle.c_model.specs.RecordFiles.{readAs, ReadTold}
-use Rattle.says.specs.Words.{Tries, refused, passed, is}
+use Rattle.says.specs.Words.{Tries, refused, passed}
 use Rattle.says.specs.Read as s
 use Rattle.says.specs.Read.{GivenTo, Good, Lent, Outcome, Filled, Accepts, ReadSays, refusal}
 use Rattle.meets_records.specs.Laws.Sits.{solid}
@@ -135,7 +135,7 @@ module _ (format load : ℕ) (text : List ℕ) (old : Lent) where
 
   -- ---- any file
   read-says : format < 2 → (x : Read) → readText format load text ≡ x → ReadSays format load text old (outcome x)
-  read-says known (faulty i) e = s.bad (λ ps g. differ (sym (good-sound format load text g) ∙ e)) is
+  read-says known (faulty i) e = s.bad (λ ps g. differ (sym (good-sound format load text g) ∙ e))
   read-says known (sound out) e =
       let k = sound-good format load text known out e in
       let fine = subst (Fine load) (k .2) (sound-pieces-fine format load text out e) in
@@ -150,7 +150,7 @@ module _ (format load : ℕ) (text : List ℕ) (old : Lent) where
   says-all =
       elim (decLt format 2) [
         | yes h ↦ rw (lt-ltb format 2 h) (read-says h (readText format load text) refl)
-        | no h ↦ rw (le-ltb format 2 (omega arith)) (s.bad (never-good (omega arith)) is)
+        | no h ↦ rw (le-ltb format 2 (omega arith)) (s.bad (never-good (omega arith)))
       ]
 
   pub read-meets : (r : DkCount) (new : Lent)

@@ -63,7 +63,7 @@ module _ (format load : ℕ) (text : List ℕ) where
     pub sizes : take (z .answer .count) (z .lent .sizes) ≡ ss
 
   took : (old : Lent) (z : Outcome) → ReadSays format load text old z → z .answer .refusal ≡ 0 → Took old z
-  took old z (s.bad n words.is) e = let z : _≡_ {A = ℕ} 4 0 = e in absurd (omega arith)
+  took old z (s.bad n) e = let z : _≡_ {A = ℕ} 4 0 = e in absurd (omega arith)
   took old z (s.read g b (words.refused a m)) e = let z : _≡_ {A = ℕ} 14 0 = e in absurd (omega arith)
   took old z (s.read g b (words.passed none (words.refused x m))) e = let z : _≡_ {A = ℕ} 14 0 = e in absurd (omega arith)
   took old z (s.read {ps} {offsets} {sizes} g b (words.passed none (words.passed enough (s.accepts {bytes} {os} {ss} f o n)))) e =
@@ -139,10 +139,10 @@ module _ (format load : ℕ) (text : List ℕ) where
 
     -- ---- never 16, never 4
     no-part : BadPart given → ⊥
-    no-part (w.empty {i} b) = let k = is-at i (b .0) in omega (arith, k .some, k .size, b .3)
-    no-part (w.offset {i} b n) = let k = is-at i (b .0) in n (omega (arith, k .from, b .2))
-    no-part (w.size {i} b n) = let k = is-at i (b .0) in n (omega (arith, k .size, b .3))
-    no-part (w.outside {i} b past) = omega (arith, inside i (b .0) .0, b .2, b .3)
+    no-part (w.unfit {i} b (inl e)) = let k = is-at i (b .0) in omega (arith, k .some, k .size, b .3)
+    no-part (w.unfit {i} b (inr (inl n))) = let k = is-at i (b .0) in n (omega (arith, k .from, b .2))
+    no-part (w.unfit {i} b (inr (inr (inl n)))) = let k = is-at i (b .0) in n (omega (arith, k .size, b .3))
+    no-part (w.unfit {i} b (inr (inr (inr past)))) = omega (arith, inside i (b .0) .0, b .2, b .3)
 
     no-place : BadPlace given 4294967296 → ⊥
     no-place (w.lengths n) = n (t .blocks .as-many)

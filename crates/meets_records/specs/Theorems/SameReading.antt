@@ -79,7 +79,7 @@ module _ (format format′ load : ℕ) (text other : List ℕ) (ps qs : List Pie
 
   pub same-reading : Good format load text ps → Good format′ load other qs → (y z : Outcome) → ReadSays format load text old y
       → ReadSays format′ load other old z → y ≡ z
-  same-reading g h y z (s.bad n e) u = absurd (n ps g)
+  same-reading g h y z (s.bad n) u = absurd (n ps g)
   same-reading g h y z (s.read {ps = rs} {offsets = os} {sizes = ss} k b t) u =
       let pieces : rs ≡ ps = good-one format load k g in
       read-decides format′ load other old y z (says-there y h (rw pieces at b) (rw pieces at t)) u
@@ -128,8 +128,8 @@ module _ {format format′ load top : ℕ} {text other : List ℕ} {ps qs : List
 module _ {format format′ load top : ℕ} {text other : List ℕ} {ps qs : List Piece} (x : Says format load text top ps) (y : Says format′ load other top qs)
     (order : List·Permᴰ ps qs) where
   pub order-free : (old : Lent) (v w : Outcome) → ReadSays format load text old v → ReadSays format′ load other old w → v ≡ w
-  order-free old v w (s.bad n words.is) (s.bad m words.is) = refl
-  order-free old v w (s.bad n e) (s.read {ps = rs} h b t) =
+  order-free old v w (s.bad n) (s.bad m) = refl
+  order-free old v w (s.bad n) (s.read {ps = rs} h b t) =
       absurd (n ps (good-there y x (Permᴰ·symm order) (subst (Good format′ load other) (good-said format′ load h y) h)))
   order-free old v w (s.read {ps = rs} g b t) u =
       let mine = subst (Good format load text) (good-said format load g x) g in
@@ -149,8 +149,8 @@ module _ {format load : ℕ} {text other : List ℕ} {ls : List (List ℕ)} (a :
 
 module _ {format load : ℕ} {text other : List ℕ} {ls : List (List ℕ)} (a : Lines text ls) (b : Lines other ls) where
   pub lines-free : (old : Lent) (y z : Outcome) → ReadSays format load text old y → ReadSays format load other old z → y ≡ z
-  lines-free old y z (s.bad n words.is) (s.bad m words.is) = refl
-  lines-free old y z (s.bad n e) (s.read {ps = ps} h c t) = absurd (n ps (same-lines b a h))
+  lines-free old y z (s.bad n) (s.bad m) = refl
+  lines-free old y z (s.bad n) (s.read {ps = ps} h c t) = absurd (n ps (same-lines b a h))
   lines-free old y z (s.read {ps = ps} g c t) u =
       same-reading format format load text other ps ps old (λ i j x. x) (λ i j x. x) g (same-lines a b g) y z (s.read g c t) u
 

@@ -18,7 +18,7 @@ withScratch l scratch = record { bytes = l .bytes; offsets = l .offsets; sizes =
 
 module _ (format load : ℕ) (text : List ℕ) (old : Lent) where
   pub read-keeps-scratch : (y : Outcome) → ReadSays format load text old y → y .lent .scratch ≡ old .scratch
-  read-keeps-scratch y (s.bad n words.is) = refl
+  read-keeps-scratch y (s.bad n) = refl
   read-keeps-scratch y (s.read g b (words.refused a m)) = refl
   read-keeps-scratch y (s.read g b (words.passed none (words.refused x m))) = refl
   read-keeps-scratch y (s.read g b (words.passed none (words.passed enough (s.accepts f o z)))) = refl
@@ -32,7 +32,7 @@ module _ (format load : ℕ) (text : List ℕ) (old : Lent) where
 
     other-scratch : (y : Outcome) → ReadSays format load text old y
         → ReadSays format load text new (record { answer = y .answer; lent = withScratch (y .lent) scratch })
-    other-scratch y (s.bad n words.is) = s.bad n words.is
+    other-scratch y (s.bad n) = s.bad n
     other-scratch y (s.read g b (words.refused a m)) = s.read g b (words.refused a m)
     other-scratch y (s.read g b (words.passed none (words.refused x m))) = s.read g b (words.passed none (words.refused x m))
     other-scratch y (s.read g b (words.passed none (words.passed enough (s.accepts f o z)))) =

@@ -1,5 +1,5 @@
 -- The sentences of `dk_write_hex` and `dk_write_srec` leave one outcome: the answer and the text lent. From the sentences alone.
-use mathlib.Core.Path.{_≡_, refl, sym, ap, _∙_}
+use mathlib.Core.Path.{_≡_, refl, sym, ap, subst, _∙_}
 use mathlib.Core.List.{List, [], _∷_, _++_}
 use Prim.Native.Nat.{ℕ, _+_, _<_}
 use native.Mathlib.Omega.{arith}
@@ -7,10 +7,11 @@ use lib.ListN.{length}
 use Rattle.record_lines.specs.Pieces.{Piece}
 use Rattle.meets.specs.Laws.Words.{OneOnly, tries-one, begins-one}
 use Rattle.says.specs.Words.{Not}
+use Rattle.meets_records.specs.Laws.Front.{Leaves}
 use Rattle.meets_records.specs.Laws.One.{hex-upper, hex-field, hex-pair, srec-upper, width-one}
 use Rattle.says.specs.Write as w
 use Rattle.says.specs.Write.{Given, HexText, SrecText, Cut, Cuts, BadPart, BadPlace}
-use Rattle.says.specs.Write.{refusal, Accepts, Leaves, HexWritten, HexSays, SrecWritten, SrecPlaced, SrecSays}
+use Rattle.says.specs.Write.{refusal, Accepts, Written, HexSays, SrecPlaced, SrecSays}
 
 pub same-piece : (p q : Piece) → p .address ≡ q .address → p .bytes ≡ q .bytes → p ≡ q
 same-piece p q e f =
@@ -65,25 +66,22 @@ module _ (g : Given) where
     leaves-one : (t : List ℕ) → OneOnly (Leaves g old t)
     leaves-one t = tries-one (λ (_ : Unit {0}). length old < length t) (λ _. refusal g old 14 3) _ (λ a b m n. refl) (accepts-one t)
 
-    hex-written-one : OneOnly (HexWritten g old)
-    hex-written-one y z (w.written {t = t} c h l) (w.written {t = u} d k m) =
-        let same : u ≡ t = hex-text-one k (rw (cuts-one c d) at h) in
+    written-one : (Text : List Piece → List ℕ → Type 0) → ((ps : List Piece) (x y : List ℕ) → Text ps x → Text ps y → x ≡ y) → OneOnly (Written g old Text)
+    written-one Text one y z (w.written {t = t} c h l) (w.written {t = u} d k m) =
+        let same : u ≡ t = one _ u t k (subst (λ (ps : List Piece). Text ps t) (cuts-one c d) h) in
         leaves-one t y z l (rw same at m)
 
     pub write-hex-decides : OneOnly (HexSays g old)
     write-hex-decides =
         tries-one (λ (_ : Unit {0}). BadPart g) (λ _. refusal g old 16 0) _ (λ a b m n. refl)
-        (tries-one (λ (_ : Unit {0}). BadPlace g 4294967296) (λ _. refusal g old 4 0) _ (λ a b m n. refl) hex-written-one)
-
-    srec-written-one : (d e width : ℕ) → OneOnly (SrecWritten g old d e width)
-    srec-written-one d e width y z (w.written {t = t} c h l) (w.written {t = u} c′ k m) =
-        let same : u ≡ t = srec-text-one k (rw (cuts-one c c′) at h) in
-        leaves-one t y z l (rw same at m)
+        (tries-one (λ (_ : Unit {0}). BadPlace g 4294967296) (λ _. refusal g old 4 0) _ (λ a b m n. refl)
+        (written-one (HexText 0) (λ _ _ _ h k. hex-text-one h k)))
 
     srec-placed-one : (width : ℕ) → OneOnly (SrecPlaced g old width)
     srec-placed-one width y z (w.placed {d} {e} {top} a t) (w.placed b u) =
         let same = width-one b a in
-        tries-one (λ (_ : Unit {0}). BadPlace g top) (λ _. refusal g old 4 0) _ (λ a b m n. refl) (srec-written-one d e width)
+        tries-one (λ (_ : Unit {0}). BadPlace g top) (λ _. refusal g old 4 0) _ (λ a b m n. refl)
+        (written-one (SrecText d e width) (λ _ _ _ h k. srec-text-one h k))
         y z t (rw (same .0, same .1, same .2) at u)
 
     pub write-srec-decides : (width : ℕ) → OneOnly (SrecSays g old width)

@@ -33,8 +33,8 @@ use Rattle.c_model.specs.RecordFiles.{WriteTold}
 use Rattle.says.specs.Words.{Tries, refused, passed}
 use Rattle.says.specs.Records as r
 use Rattle.says.specs.Write as w
-use Rattle.says.specs.Write.{Given, Outcome, HexText, SrecText, HexSays, SrecSays, SrecPlaced, SrecWritten, Leaves}
-use Rattle.meets_records.specs.Laws.Front.{begins}
+use Rattle.says.specs.Write.{Given, Outcome, HexText, SrecText, HexSays, SrecSays, SrecPlaced}
+use Rattle.meets_records.specs.Laws.Front.{begins, Leaves}
 use Rattle.meets_records.specs.Laws.WrittenText.{hex-text-meets, srec-text-meets}
 use Rattle.meets_records.specs.Laws.Cut.{cuts-meets}
 use Rattle.meets_records.specs.Laws.Places.{bad-part, fit, bad-place, well, past-short, lower, well-short}
@@ -119,7 +119,7 @@ module _ (g : Given) (old : List ℕ) where
 
       -- otherwise the file, if there is room
       filed : AllParts len (g .offsets) (g .sizes) → WellPlaced (g .load) (g .offsets) (g .sizes) → {y : Outcome}
-          → SrecWritten g old (dataDigit width) (endDigit width) width y → FitsWidth width (g .load) (g .offsets) (g .sizes)
+          → w.Written g old (SrecText (dataDigit width) (endDigit width) width) y → FitsWidth width (g .load) (g .offsets) (g .sizes)
           → Tries (λ (_ : Unit {0}). (width ≡ 2 → ⊥) × (width ≡ 4 → ⊥)) (λ _. w.refusal g old 4 0) (SrecPlaced g old width) y
       filed h p x (wide e) = passed (λ _ n. n .1 e)
           (w.placed {d = dataDigit width} {e = endDigit width} (r.four (rw e) (rw e) e refl) (passed (λ _. well g h p) x))

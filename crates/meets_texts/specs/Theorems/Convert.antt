@@ -2,6 +2,7 @@
 use mathlib.Core.Path.{_≡_, refl, sym, ap, subst, _∙_}
 use mathlib.Core.Bool.{Bool, true, false}
 use mathlib.Core.List.{List, [], _∷_}
+use mathlib.Core.Logic.{_⊎_, inl, inr}
 use Prim.Native.Nat.{ℕ, _<_}
 use native.Mathlib.Omega.{arith}
 use lib.Dec.{eqb, ltb}
@@ -31,14 +32,14 @@ use Rattle.meets.specs.Laws.Words.{OneOnly}
 use Rattle.meets_form.specs.Laws.Breaks.{form-broken}
 use Rattle.meets_form.specs.Laws.Written.{kind}
 use Rattle.meets_convert.specs.Laws.Answers.{dropsOf}
-use Rattle.meets_convert.specs.Laws.Turns.{turn}
+use Rattle.meets_convert.specs.Laws.Turns.{turn, other}
 use Rattle.meets_convert.specs.Theorems.Decides.{convert-decides}
 use Rattle.meets_convert.specs.Theorems.Meets.{convert-meets}
 use Rattle.says.specs.Files.{Form, form-1, form-2}
-use Rattle.says.specs.Convert.{Outcome, other, ConvertSays}
+use Rattle.says.specs.Convert.{Outcome, ConvertSays}
 use Rattle.says.specs.Lines.{Line}
 use Rattle.says.specs.Texts as says
-use Rattle.says.specs.Texts.{Prints, From, ConvertText}
+use Rattle.says.specs.Texts.{Prints, ConvertText}
 use Rattle.meets_report.specs.Laws.Lines.{line-one, line-meets}
 use Rattle.meets_texts.specs.Laws.AnyRoom.{some-list}
 use Rattle.meets_texts.specs.Printed.{printed, form1Text, form2Text, convertText}
@@ -110,8 +111,8 @@ pub convert-text-meets : (asked : ℕ) (file : List ℕ) → Bytes file → Conv
 unfolding form1Text form2Text
 convert-text-meets asked file small =
     bools.either (eqb asked 1)
-    (λ t. rw t (says.converts (says.back (eqb-true asked 1 t)) (way-meets form-2 file small)))
-    (λ f. rw f (says.converts (says.there (eqb-false asked 1 f)) (way-meets form-1 file small)))
+    (λ t. rw t (says.converts (inl (eqb-true asked 1 t, refl)) (way-meets form-2 file small)))
+    (λ f. rw f (says.converts (inr (eqb-false asked 1 f, refl)) (way-meets form-1 file small)))
 
 -- ---- they leave one
 
@@ -121,11 +122,15 @@ prints-one a out t u (says.refused h l) (says.accepted e) = absurd (omega arith)
 prints-one a out t u (says.accepted e) (says.refused h l) = absurd (omega arith)
 prints-one a out t u (says.accepted e) (says.accepted g) = refl
 
+-- the form of the file, by the form that is asked for
+abbrev From : ℕ → Form → Type 0
+From asked f = ((asked ≡ 1) × (f ≡ form-2)) ⊎ ((asked ≡ 1 → ⊥) × (f ≡ form-1))
+
 from-one : (asked : ℕ) → OneOnly (From asked)
-from-one asked f g (says.back e) (says.back h) = refl
-from-one asked f g (says.back e) (says.there n) = absurd (n e)
-from-one asked f g (says.there n) (says.back e) = absurd (n e)
-from-one asked f g (says.there n) (says.there m) = refl
+from-one asked f g (inl x) (inl y) = x .1 ∙ sym (y .1)
+from-one asked f g (inl x) (inr y) = absurd (y .0 (x .0))
+from-one asked f g (inr x) (inl y) = absurd (x .0 (y .0))
+from-one asked f g (inr x) (inr y) = x .1 ∙ sym (y .1)
 
 abbrev Each : Form → List ℕ → List ℕ → Type 0
 Each f file t = (old : List ℕ) → length old ≡ 65537 → (y : Outcome) × ConvertSays f file old y × Prints (y .answer) (y .out) t

@@ -2,6 +2,7 @@
 use mathlib.Core.Path.{_≡_, refl, sym, ap, subst, _∙_}
 use mathlib.Core.Bool.{Bool, true, false, _&&_}
 use mathlib.Core.List.{List, [], _∷_, _++_}
+use mathlib.Core.Logic.{_⊎_, inl, inr}
 use Prim.Native.Nat.{ℕ, zero, suc, _≤_, _<_}
 use native.Mathlib.Omega.{arith}
 use borrow.Author.Tests.{le-leb, leb-true, leb-false, lt-ltb, eqb-true, eqb-false, eq-eqb}
@@ -56,14 +57,27 @@ use Rattle.meets_records.specs.Theorems.WriteMeets.{write-hex-meets, write-srec
 use Rattle.says.specs.Read as read
 use Rattle.says.specs.Read.{Lent, ReadSays, FaultSays}
 use Rattle.says.specs.Write as write
-use Rattle.says.specs.Write.{Given}
+use Rattle.says.specs.Write.{Given, HexSays, SrecSays}
 use Rattle.says.specs.Lines.{Line}
 use Rattle.says.specs.Texts as says
-use Rattle.says.specs.Texts.{Refused, Prints, ReadAs, WriteSays, taken, Fault, Turns, Lends, RehexText}
+use Rattle.says.specs.Texts.{Refused, Prints, taken, Fault, Turns, RehexText}
 use Rattle.meets_texts.specs.Laws.AnyRoom.{any-room}
 use Rattle.meets_texts.specs.Laws.Bytes.{filled-bytes}
 use Rattle.meets_report.specs.Laws.Lines.{line-one, line-meets}
 use Rattle.meets_texts.specs.Theorems.Convert.{prints-one}
+
+-- ---- what the sentences say in place: as what a file is read, how it is written, what is lent
+
+abbrev ReadAs : ℕ → ℕ → Type 0
+ReadAs kind k = ((kind ≡ 0) × (k ≡ 0)) ⊎ ((kind ≡ 0 → ⊥) × (k ≡ 1))
+
+abbrev WriteSays : ℕ → Given → List ℕ → write.Outcome → Type 0
+WriteSays format g old z = ((format ≡ 0) × HexSays g old z) ⊎ ((format ≡ 0 → ⊥) × SrecSays g old format z)
+
+record Lends (old : Lent) (out : List ℕ) : Type 0 where
+  bytes : (length (old .bytes) ≡ 1048576) × ((i : ℕ) → getD (old .bytes) i 0 < 256)
+  blocks : (length (old .offsets) ≡ 4096) × (length (old .sizes) ≡ 4096)
+  text : length out ≡ 3145728
 
 -- ---- the call that writes, in a room in which every file fits
 
@@ -119,14 +133,14 @@ module _ (g : Given) (good : Bytes (g .image)) (paired : length (g .offsets) ≡
   hex-done =
       let q = eqb (length (g .offsets)) (length (g .sizes)) && placed in
       let z = by-tests (text 0) old (allParts (length (g .image)) listed) q (leb (length (text 0)) (length old)) in
-      (z, says.hex refl (write-hex-meets g old good (z .answer) (z .text) (record { told = refl; text = refl })), printed-by 0 q (rw alike))
+      (z, inl (refl, write-hex-meets g old good (z .answer) (z .text) (record { told = refl; text = refl })), printed-by 0 q (rw alike))
 
   srec-done : (format : ℕ) → eqb format 0 ≡ false → Done-by format
   srec-done format e =
       let q = srec.placesOk (g .offsets) (g .sizes) (g .load) format in
       let z = by-tests (text format) old (allParts (length (g .image)) listed) q (leb (length (text format)) (length old)) in (
         z,
-        says.s-records (eqb-false format 0 e) (write-srec-meets g old good format (z .answer) (z .text) (record { told = refl; text = refl })),
+        inr (eqb-false format 0 e, write-srec-meets g old good format (z .answer) (z .text) (record { told = refl; text = refl })),
         printed-by format q (rw (alike, e)),
       )
 
@@ -261,7 +275,8 @@ module _ (kind format load : ℕ) (source bytes : List ℕ) (room : length bytes
   by-kind : (k : ℕ) → k < 2 → ReadAs kind k → readText kind load source ≡ readText k load source → length source ≤ longest
       → RehexText kind format load source (turned format load bytes (readText kind load source))
   by-kind k known kinds same short =
-      says.turns short kinds (fault-so k format load known source) (λ old out lends. (
+      says.turns short kinds (fault-so k format load known source) (λ old out bytes-are blocks-are text-is-long.
+      let lends : Lends old out = record { bytes = bytes-are; blocks = blocks-are; text = text-is-long } in (
         record { answer = blocksCount (r k format load known source old out lends); lent = left k format load known source old out lends },
         read-so k format load known source old out lends,
         subst (Turns format load (lineTold (faultOf (readText k load source))) out _)
@@ -276,8 +291,8 @@ module _ (kind format load : ℕ) (source bytes : List ℕ) (room : length bytes
       let short = leb-true (length source) longest t in
       subst (RehexText kind format load source) (sym (not-long kind format load bytes source short))
       (either (eqb kind 0)
-      (λ z. let e = eqb-true kind 0 z in by-kind 0 (omega arith) (says.hex e) (ap (λ (k : ℕ). readText k load source) e) short)
-      (λ z. let n = eqb-false kind 0 z in by-kind 1 (omega arith) (says.s-records n) (same-read kind load source n) short)))
+      (λ z. let e = eqb-true kind 0 z in by-kind 0 (omega arith) (inl (e, refl)) (ap (λ (k : ℕ). readText k load source) e) short)
+      (λ z. let n = eqb-false kind 0 z in by-kind 1 (omega arith) (inr (n, refl)) (same-read kind load source n) short)))
       (λ f.
       let long = leb-false (length source) longest f in
       subst (RehexText kind format load source) (sym (too-long kind format load bytes source long))
@@ -286,16 +301,16 @@ module _ (kind format load : ℕ) (source bytes : List ℕ) (room : length bytes
 -- ---- they leave one
 
 read-as-one : (kind : ℕ) → OneOnly (ReadAs kind)
-read-as-one kind j k (says.hex e) (says.hex f) = refl
-read-as-one kind j k (says.hex e) (says.s-records n) = absurd (n e)
-read-as-one kind j k (says.s-records n) (says.hex e) = absurd (n e)
-read-as-one kind j k (says.s-records n) (says.s-records m) = refl
+read-as-one kind j k (inl x) (inl y) = omega (arith, x .1, y .1)
+read-as-one kind j k (inl x) (inr y) = absurd (y .0 (x .0))
+read-as-one kind j k (inr x) (inl y) = absurd (x .0 (y .0))
+read-as-one kind j k (inr x) (inr y) = omega (arith, x .1, y .1)
 
 write-one : (format : ℕ) (g : Given) (old : List ℕ) → OneOnly (WriteSays format g old)
-write-one format g old y z (says.hex e a) (says.hex h c) = write-hex-decides g old y z a c
-write-one format g old y z (says.hex e a) (says.s-records n c) = absurd (n e)
-write-one format g old y z (says.s-records n c) (says.hex e a) = absurd (n e)
-write-one format g old y z (says.s-records n a) (says.s-records m c) = write-srec-decides g old format y z a c
+write-one format g old y z (inl a) (inl c) = write-hex-decides g old y z (a .1) (c .1)
+write-one format g old y z (inl a) (inr c) = absurd (c .0 (a .0))
+write-one format g old y z (inr a) (inl c) = absurd (a .0 (c .0))
+write-one format g old y z (inr a) (inr c) = write-srec-decides g old format y z (a .1) (c .1)
 
 pub fault-one : (f : DkFault) → OneOnly (Fault f)
 fault-one f t u (says.none e) (says.none h) = refl
@@ -324,7 +339,10 @@ some-bytes n = (replicate n 0, length-replicate n 0, zeros n)
 
 module _ (kind format load : ℕ) (source : List ℕ) where
   abbrev Each : ℕ → DkFault → List ℕ → Type 0
-  Each k f t = (old : Lent) (out : List ℕ) → Lends old out → (y : read.Outcome) × ReadSays k load source old y × Turns format load f out y t
+  Each k f t =
+      (old : Lent) (out : List ℕ) → (length (old .bytes) ≡ 1048576) × ((i : ℕ) → getD (old .bytes) i 0 < 256)
+      → (length (old .offsets) ≡ 4096) × (length (old .sizes) ≡ 4096) → length out ≡ 3145728
+      → (y : read.Outcome) × ReadSays k load source old y × Turns format load f out y t
 
   each-one : (k : ℕ) (f : DkFault) (t u : List ℕ) → Each k f t → Each k f u → t ≡ u
   each-one k f t u p q = go (some-bytes 1048576) (some-bytes 4096) (some-bytes 3145728)
@@ -332,9 +350,8 @@ module _ (kind format load : ℕ) (source : List ℕ) where
       go : (l : List ℕ) × (length l ≡ 1048576) × Bytes l → (m : List ℕ) × (length m ≡ 4096) × Bytes m → (o : List ℕ) × (length o ≡ 3145728) × Bytes o → t ≡ u
       go x m o =
           let old : Lent = record { bytes = x .0; offsets = m .0; sizes = m .0; scratch = [] } in
-          let lends : Lends old (o .0) = record { bytes = (x .1, x .2); blocks = (m .1, m .1); text = o .1 } in
-          let a = p old (o .0) lends in
-          let b = q old (o .0) lends in
+          let a = p old (o .0) (x .1, x .2) (m .1, m .1) (o .1) in
+          let b = q old (o .0) (x .1, x .2) (m .1, m .1) (o .1) in
           turns-one format load f (o .0) (a .0) t u (a .2)
           (subst (λ (y : read.Outcome). Turns format load f (o .0) y u) (read-decides k load source old (b .0) (a .0) (b .1) (a .1)) (b .2))
 
