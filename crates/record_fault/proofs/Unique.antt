@@ -10,6 +10,7 @@ use Rattle.refusal.specs.Pick.{pick}
 use Rattle.bitvec.specs.Theorems.Bits.{same-bits}
 use Rattle.refusal.specs.Laws.Pick.{determined, paired}
 use Rattle.refusal.specs.Laws.Outcome.{OneOutcome, OneView}
+use Rattle.record_lines.specs.Spelling.{Spells}
 use Rattle.record_lines.specs.declared.Line.{Line}
 use Rattle.record_lines.specs.Laws.Items.{one-line}
 use Rattle.record_lines.specs.Pieces.{Piece}
@@ -62,8 +63,9 @@ one-step r s p q =
 pub known-line-unique : OneOutcome 2 known-line-kinds.ps known-line-kinds.r known-line-reads.Learnt
 known-line-unique κs a x y e f p q = one-step x y p q
 
-pub search-line-unique : OneOutcome 2 search-line-kinds.ps search-line-kinds.r search-line-reads.Learnt
-search-line-unique κs a x y e f p q = one-step x y p q
+-- by a table that spells the digits
+pub search-line-unique : OneOutcome 2 search-line-kinds.ps search-line-kinds.r (λ κs a x e. Spells (a .1 .1 .0 .now) × search-line-reads.Learnt κs a x e)
+search-line-unique κs a x y e f p q = one-step x y (p .1 (p .0)) (q .1 (q .0))
 
 pub take-line-unique : OneOutcome 2 take-line-kinds.ps take-line-kinds.r take-line-reads.Learnt
 take-line-unique κs a x y e f p q = one-step x y p q

@@ -79,8 +79,8 @@ pub enum Fault {
 
 // What a line says in a format: 0 is Intel HEX, every other number S-records.
 fn line_in(format: u8, line: &[u8], t: &[u8; 256], state: u16) -> Line
-    requires { ⌜ Spells (now t) ⌝ }
-    ensures { λ r. ⌜ Says (now (line .entry)) state (firstBy format (now (line .entry))) r (formatBy format state (now (line .entry))) ⌝ }
+    ensures { λ r. ⌜ (Spells (now (t .entry))
+        → Says (now (line .entry)) state (firstBy format (now (line .entry))) r (formatBy format state (now (line .entry)))) ⌝ }
 {
     if format == 0 {
         return record_ihex_line::line_of(line, t, state);
@@ -107,10 +107,12 @@ fn long_by(format: u8, text: &[u8], t: &[u8; 256], at: usize) -> usize
     ensures { λ r. ⌜ (r ≡ longBy format (now (text .entry)) at) × (r ≤ 521) ⌝ }
 {
     if format == 0 {
-        let bytes = record_lines::pair_inside(text, t, at + 1) as usize;
+        let i = at + 1;
+        let bytes = record_lines::pair_of(t, text[i], text[i + 1]) as usize;
         return 11 + 2 * bytes;
     }
-    let bytes = record_lines::pair_inside(text, t, at + 2) as usize;
+    let j = at + 2;
+    let bytes = record_lines::pair_of(t, text[j], text[j + 1]) as usize;
     4 + 2 * bytes
 }
 
@@ -127,10 +129,9 @@ fn stop_by(format: u8, text: &[u8], t: &[u8; 256], at: usize) -> usize
     at + record_lines::least(long_by(format, text, t, at), left)
 }
 
-// The line that begins at a place, whose end is searched for; behind the text it is empty.
+// The line that begins at a place, whose end is searched for, by a table that spells the digits; behind the text it is empty.
 pub fn search_line(format: u8, text: &[u8], t: &[u8; 256], at: usize, state: u16) -> Step
-    requires { ⌜ Spells (now t) ⌝ }
-    ensures { λ r. ⌜ Stepped format (now (text .entry)) at state r ⌝ }
+    ensures { λ r. ⌜ (Spells (now (t .entry)) → Stepped format (now (text .entry)) at state r) ⌝ }
 {
     let cut = record_lines::line_from(text, at);
     let stop = cut.stop;

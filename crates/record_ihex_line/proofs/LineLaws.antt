@@ -14,9 +14,10 @@ use Rattle.record_lines.specs.Spelling.{checkedSum}
 use Rattle.record_lines.specs.Sums.{sumOf}
 use Rattle.record_ihex_line.specs.Format.{wordAt, countOf, fieldOf, typeOf, goodLine, byType, hexItem}
 
-checked : (d : Bool) (n : ℕ) → eqb (pick d n 256) 0 ≡ (d && eqb n 0)
-checked true n = refl
-checked false n = refl
+checked : (long d : Bool) (n : ℕ) → eqb (pick long (pick d n 256) 256) 0 ≡ (long && d && eqb n 0)
+checked true true n = refl
+checked true false n = refl
+checked false d n = refl
 
 module _ (line : List ℕ) where
   pub no-colon : (x : ℕ) → x ≡ getD line 0 0 → (x ≡ 58 → ⊥) → false ≡ goodLine line
@@ -24,21 +25,15 @@ module _ (line : List ℕ) where
   no-colon x e h = rw (ne-eqb (getD line 0 0) 58 (λ f. h (e ∙ f)))
 
   module _ (x k : ℕ) (ex : x ≡ getD line 0 0) (colon : x ≡ 58) (ek : k ≡ countOf line) where
-    pub wrong-length : (length line ≡ 11 + 2 * k → ⊥) → false ≡ goodLine line
+    pub by-sum : (s : ℕ) → s ≡ checkedSum line 1 (5 + k) → eqb s 0 ≡ goodLine line
     unfolding goodLine
-    wrong-length h =
-        rw (eq-eqb (getD line 0 0) 58 (sym ex ∙ colon), ne-eqb (length line) (11 + 2 * countOf line) (λ f. h (f ∙ ap (λ (n : ℕ). 11 + 2 * n) (sym ek))))
-
-    module _ (long : length line ≡ 11 + 2 * k) where
-      same-long : length line ≡ 11 + 2 * countOf line
-      same-long = long ∙ ap (λ (n : ℕ). 11 + 2 * n) ek
-
-      pub by-sum : (s : ℕ) → s ≡ checkedSum line 1 (5 + k) → eqb s 0 ≡ goodLine line
-      unfolding goodLine
-      by-sum s e =
-          rw (eq-eqb (getD line 0 0) 58 (sym ex ∙ colon), eq-eqb (length line) (11 + 2 * countOf line) same-long)
-          (ap (λ (n : ℕ). eqb n 0) (e ∙ ap (λ (n : ℕ). checkedSum line 1 (5 + n)) ek)
-          ∙ checked (allDigits (drop 1 line)) (sumOf (bytesAt line 1 (5 + countOf line)) % 256))
+    by-sum s e =
+        let sum = sumOf (bytesAt line 1 (5 + countOf line)) % 256 in
+        let long : 1 + 2 * (5 + countOf line) ≡ 11 + 2 * countOf line = omega arith in
+        rw (eq-eqb (getD line 0 0) 58 (sym ex ∙ colon))
+        (ap (λ (n : ℕ). eqb n 0) (e ∙ ap (λ (n : ℕ). checkedSum line 1 (5 + n)) ek)
+        ∙ ap (λ (n : ℕ). eqb (pick (eqb (length line) n) (pick (allDigits (drop 1 line)) sum 256) 256) 0) long
+        ∙ checked (eqb (length line) (11 + 2 * countOf line)) (allDigits (drop 1 line)) sum)
 
   module _ (upper : ℕ) where
     module _ (g : goodLine line ≡ true) (t f n : ℕ) (et : t ≡ typeOf line) (ef : f ≡ fieldOf line) (en : n ≡ countOf line) where

@@ -23,8 +23,7 @@ fn wide(x: u8) -> u16
 
 // Two bytes of a line, the higher first.
 fn word(line: &[u8], t: &[u8; 256], i: u16) -> u16
-    requires { ⌜ Spells (now t) ⌝ }
-    ensures { λ r. ⌜ r ≡ wordAt (now (line .entry)) i ⌝ }
+    ensures { λ r. ⌜ (Spells (now (t .entry)) → r ≡ wordAt (now (line .entry)) i) ⌝ }
 {
     let at = i as u32;
     256 * wide(record_lines::pair(line, t, at)) + wide(record_lines::pair(line, t, at + 2))
@@ -32,24 +31,19 @@ fn word(line: &[u8], t: &[u8; 256], i: u16) -> u16
 
 // Whether a line is a colon and as many digits as its count says. "Bytes of a record, checksum included, sum to zero and wrap at 256": checked.
 fn is_good(line: &[u8], t: &[u8; 256]) -> bool
-    requires { ⌜ Spells (now t) ⌝ }
-    ensures { λ r. ⌜ r ≡ goodLine (now (line .entry)) ⌝ }
+    ensures { λ r. ⌜ (Spells (now (t .entry)) → r ≡ goodLine (now (line .entry))) ⌝ }
 {
     if record_lines::char_at(line, 0) != b':' {
         return false;
     }
-    let count = record_lines::pair(line, t, 1) as usize;
-    if line.len() as u64 != 11 + 2 * (count as u64) {
-        return false;
-    }
+    let count = record_lines::pair(line, t, 1) as u16;
     record_lines::sum_checked(line, t, 1, 5 + count) == 0
 }
 
-// What a good line says while an upper half is in force: "types 00, 01 and 04".
+// What a good line says while an upper half is in force: "types 00, 01 and 04". Of a line that is not good nothing is told.
 pub fn known_line(line: &[u8], t: &[u8; 256], state: u16) -> Line
-    requires { ⌜ Spells (now t) ⌝ }
-    requires { ⌜ goodLine (now line) ≡ true ⌝ }
-    ensures { λ r. ⌜ Says (now (line .entry)) state 9 r (hexItem state (now (line .entry))) ⌝ }
+    ensures { λ r. ⌜ (Spells (now (t .entry)) → goodLine (now (line .entry)) ≡ true
+        → Says (now (line .entry)) state 9 r (hexItem state (now (line .entry)))) ⌝ }
 {
     let count = record_lines::pair(line, t, 1);
     let field = word(line, t, 3);
@@ -81,10 +75,9 @@ pub fn known_line(line: &[u8], t: &[u8; 256], state: u16) -> Line
     plain(record_lines::BAD, state)
 }
 
-// What any line says.
+// What any line says, by a table that spells the digits.
 pub fn line_of(line: &[u8], t: &[u8; 256], state: u16) -> Line
-    requires { ⌜ Spells (now t) ⌝ }
-    ensures { λ r. ⌜ Says (now (line .entry)) state 9 r (hexItem state (now (line .entry))) ⌝ }
+    ensures { λ r. ⌜ (Spells (now (t .entry)) → Says (now (line .entry)) state 9 r (hexItem state (now (line .entry)))) ⌝ }
 {
     if !is_good(line, t) {
         return plain(record_lines::BAD, state);

@@ -8,7 +8,7 @@ use native.Mathlib.Omega.{arith}
 use native.Mathlib.Decide.{ℕ-discrete, decLt}
 use lib.ListN.{length, drop, getD, set}
 use lib.Seq.{drop-cons, getD-set-same, getD-set-other}
-use borrow.Author.Tests.{le-ltb}
+use borrow.Author.Tests.{le-ltb, eq-eqb, ne-eqb}
 use Rattle.refusal.specs.Pick.{pick}
 use Rattle.refusal.specs.Laws.Pick.{pick-true, pick-false}
 use Rattle.record_lines.specs.Digits.{valueOf, allDigits, pairAt, bytesAt}
@@ -21,9 +21,13 @@ digits-fail : (l : List ℕ) (i : ℕ) → i < length l → 15 < valueOf (getD l
 unfolding allDigits
 digits-fail l i h e = rw (drop-cons l i 0 h, le-ltb (valueOf (getD l i 0)) 16 (omega arith))
 
-pub sum-bad : (l : List ℕ) (from n k : ℕ) → allDigits (drop from l) ≡ allDigits (drop k l) → k < length l → 15 < valueOf (getD l k 0)
+-- A line of another length has no sum.
+pub sum-wrong : (l : List ℕ) (from n : ℕ) → (length l ≡ from + 2 * n → ⊥) → 256 ≡ checkedSum l from n
+sum-wrong l from n h = sym (pick-false _ _ (ne-eqb (length l) (from + 2 * n) h))
+
+pub sum-bad : (l : List ℕ) (from n k : ℕ) → length l ≡ from + 2 * n → allDigits (drop from l) ≡ allDigits (drop k l) → k < length l → 15 < valueOf (getD l k 0)
     → 256 ≡ checkedSum l from n
-sum-bad l from n k inv h e = sym (pick-false _ _ (inv ∙ digits-fail l k h e))
+sum-bad l from n k long inv h e = sym (pick-true _ _ (eq-eqb (length l) (from + 2 * n) long) ∙ pick-false _ _ (inv ∙ digits-fail l k h e))
 
 pub digits-one : (l : List ℕ) (from i : ℕ) → i < length l → valueOf (getD l i 0) ≤ 15 → allDigits (drop from l) ≡ allDigits (drop i l)
     → allDigits (drop from l) ≡ allDigits (drop (i + 1) l)
@@ -40,10 +44,12 @@ pair-more l from j s h w r e f g hb wb k =
     ∙ ap (λ (b : ℕ). (sumOf (bytesAt l from j) + b) % 256) (sym p)
     ∙ ap (λ (x : ℕ). x % 256) (sym (sum-list-more j (λ k. pairAt l (from + 2 * k))))
 
-pub sum-good : (l : List ℕ) (from n j s : ℕ) → allDigits (drop from l) ≡ allDigits (drop (from + 2 * j) l) → length l ≤ from + 2 * j → j ≡ n
+pub sum-good : (l : List ℕ) (from n j s : ℕ) → length l ≡ from + 2 * n
+    → allDigits (drop from l) ≡ allDigits (drop (from + 2 * j) l) → length l ≤ from + 2 * j → j ≡ n
     → s ≡ sumOf (bytesAt l from j) % 256 → s ≡ checkedSum l from n
-sum-good l from n j s inv h e f =
-    f ∙ ap (λ (k : ℕ). sumOf (bytesAt l from k) % 256) e ∙ sym (pick-true _ _ (inv ∙ digits-done l (from + 2 * j) h))
+sum-good l from n j s long inv h e f =
+    f ∙ ap (λ (k : ℕ). sumOf (bytesAt l from k) % 256) e
+    ∙ sym (pick-true _ _ (eq-eqb (length l) (from + 2 * n) long) ∙ pick-true _ _ (inv ∙ digits-done l (from + 2 * j) h))
 
 -- One entry more of the table.
 pub table-more : (t : List ℕ) (i v : ℕ) → i < length t → v ≡ valueOf i → ((c : ℕ) → c < i → getD t c 0 ≡ valueOf c)

@@ -7,6 +7,7 @@ use denote.Triple.Clauses.{AtExit}
 use lib.ListN.{getD}
 use Rattle.refusal.specs.Laws.Outcome.{OneOutcome}
 use Rattle.refusal.specs.Laws.Pick.{determined}
+use Rattle.record_lines.specs.Spelling.{Spells}
 use Rattle.record_lines.specs.declared.Cut.{Cut}
 use Rattle.record_lines.proofs.least.Kinds as least-kinds
 use Rattle.record_lines.proofs.least.Reads as least-reads
@@ -24,8 +25,8 @@ use Rattle.record_lines.proofs.all_digits.Kinds as all-digits-kinds
 use Rattle.record_lines.proofs.all_digits.Reads as all-digits-reads
 use Rattle.record_lines.proofs.sum_pairs.Kinds as sum-pairs-kinds
 use Rattle.record_lines.proofs.sum_pairs.Reads as sum-pairs-reads
-use Rattle.record_lines.proofs.pair_inside.Kinds as pair-inside-kinds
-use Rattle.record_lines.proofs.pair_inside.Reads as pair-inside-reads
+use Rattle.record_lines.proofs.pair_of.Kinds as pair-of-kinds
+use Rattle.record_lines.proofs.pair_of.Reads as pair-of-reads
 use Rattle.record_lines.proofs.sum_checked.Kinds as sum-checked-kinds
 use Rattle.record_lines.proofs.sum_checked.Reads as sum-checked-reads
 use Rattle.record_lines.proofs.end_at.Kinds as end-at-kinds
@@ -39,8 +40,12 @@ plain-unique κs a x y e f p q = determined p q
 pub char-at-unique : OneOutcome 1 char-at-kinds.ps char-at-kinds.r char-at-reads.Learnt
 char-at-unique κs a x y e f p q = determined p q
 
-pub pair-unique : OneOutcome 2 pair-kinds.ps pair-kinds.r pair-reads.Learnt
-pair-unique κs a x y e f p q = determined p q
+-- by a table that spells the digits
+pub pair-of-unique : OneOutcome 1 pair-of-kinds.ps pair-of-kinds.r (λ κs a x e. Spells (a .0 .now) × pair-of-reads.Learnt κs a x e)
+pair-of-unique κs a x y e f p q = determined (p .1 (p .0)) (q .1 (q .0))
+
+pub pair-unique : OneOutcome 2 pair-kinds.ps pair-kinds.r (λ κs a x e. Spells (a .1 .0 .now) × pair-reads.Learnt κs a x e)
+pair-unique κs a x y e f p q = determined (p .1 (p .0)) (q .1 (q .0))
 
 pub byte-at-unique : OneOutcome 1 byte-at-kinds.ps byte-at-kinds.r byte-at-reads.Learnt
 byte-at-unique κs a x y e f p q = determined p q
@@ -51,11 +56,8 @@ all-digits-unique κs a x y e f p q = determined p q
 pub sum-pairs-unique : OneOutcome 1 sum-pairs-kinds.ps sum-pairs-kinds.r sum-pairs-reads.Learnt
 sum-pairs-unique κs a x y e f p q = determined p q
 
-pub pair-inside-unique : OneOutcome 2 pair-inside-kinds.ps pair-inside-kinds.r pair-inside-reads.Learnt
-pair-inside-unique κs a x y e f p q = determined p q
-
-pub sum-checked-unique : OneOutcome 2 sum-checked-kinds.ps sum-checked-kinds.r sum-checked-reads.Learnt
-sum-checked-unique κs a x y e f p q = determined p q
+pub sum-checked-unique : OneOutcome 2 sum-checked-kinds.ps sum-checked-kinds.r (λ κs a x e. Spells (a .1 .0 .now) × sum-checked-reads.Learnt κs a x e)
+sum-checked-unique κs a x y e f p q = determined (p .1 (p .0)) (q .1 (q .0))
 
 pub end-at-unique : OneOutcome 1 end-at-kinds.ps end-at-kinds.r end-at-reads.Learnt
 end-at-unique κs a x y e f p q = determined p q

@@ -95,24 +95,29 @@ pub fn digit_table() -> [u8; 256]
     t
 }
 
-// A character's value by the table.
+// A character's value by the table, if that spells the digits.
 fn value_by(t: &[u8; 256], c: u8) -> u8
-    requires { ⌜ Spells (now t) ⌝ }
-    ensures { λ r. ⌜ r ≡ valueOf c ⌝ }
+    ensures { λ r. ⌜ (Spells (now (t .entry)) → r ≡ valueOf c) ⌝ }
 {
     let at = c as usize;
     t[at]
 }
 
-// The byte that the characters at i and behind it spell.
+// The byte that two characters spell, by a table that spells the digits.
+pub fn pair_of(t: &[u8; 256], first: u8, second: u8) -> u8
+    ensures { λ r. ⌜ (Spells (now (t .entry)) → r ≡ 16 * (valueOf first % 16) + valueOf second % 16) ⌝ }
+{
+    let high = value_by(t, first);
+    let low = value_by(t, second);
+    16 * (high % 16) + low % 16
+}
+
+// The byte that the characters at i and behind it spell, by a table that spells the digits.
 pub fn pair(line: &[u8], t: &[u8; 256], i: u32) -> u8
-    requires { ⌜ Spells (now t) ⌝ }
-    ensures { λ r. ⌜ r ≡ pairAt (now (line .entry)) i ⌝ }
+    ensures { λ r. ⌜ (Spells (now (t .entry)) → r ≡ pairAt (now (line .entry)) i) ⌝ }
 {
     let at = i as u64;
-    let high = value_by(t, char_at(line, at));
-    let low = value_by(t, char_at(line, at + 1));
-    16 * (high % 16) + low % 16
+    pair_of(t, char_at(line, at), char_at(line, at + 1))
 }
 
 // The same without a table, for a line that is looked at once.
@@ -150,17 +155,6 @@ pub fn sum_pairs(line: &[u8], from: u16, n: u16) -> u8
     sum
 }
 
-// The byte that the characters at i and behind it spell, where these are known to be there.
-pub fn pair_inside(line: &[u8], t: &[u8; 256], i: usize) -> u8
-    requires { ⌜ Spells (now t) ⌝ }
-    requires { ⌜ i + 1 < length (now line) ⌝ }
-    ensures { λ r. ⌜ r ≡ pairAt (now (line .entry)) i ⌝ }
-{
-    let high = value_by(t, line[i]);
-    let low = value_by(t, line[i + 1]);
-    16 * (high % 16) + low % 16
-}
-
 fn wide(x: u8) -> u32
     ensures { λ r. ⌜ (r ≡ x) × (r < 256) ⌝ }
 {
@@ -168,15 +162,18 @@ fn wide(x: u8) -> u32
 }
 
 // "Bytes of a record, checksum included, sum to zero and wrap at 256": the wrapping sum of the n bytes that the characters from a place to the end of
-// the line spell; 256 where one of them is no digit.
-pub fn sum_checked(line: &[u8], t: &[u8; 256], from: usize, n: usize) -> u32
-    requires { ⌜ Spells (now t) ⌝ }
-    requires { ⌜ (length (now line) ≡ from + 2 * n) × (n ≤ 1000) ⌝ }
-    ensures { λ r. ⌜ r ≡ checkedSum (now (line .entry)) from n ⌝ }
+// the line spell, by a table that spells the digits; 256 where one of them is no digit, or the line has more characters or fewer.
+pub fn sum_checked(line: &[u8], t: &[u8; 256], from: u16, n: u16) -> u32
+    ensures { λ r. ⌜ (Spells (now (t .entry)) → r ≡ checkedSum (now (line .entry)) from n) ⌝ }
 {
+    let first = from as usize;
+    let count = n as usize;
+    if line.len() != first + 2 * count {
+        return 256;
+    }
     let mut sum = 0u8;
-    for j in 0..n {
-        let i = from + 2 * j;
+    for j in 0..count {
+        let i = first + 2 * j;
         let high = value_by(t, line[i]);
         let low = value_by(t, line[i + 1]);
         if 15 < high {

@@ -381,11 +381,12 @@ fn fill_line(
     let base = address as u64;
     let n = count as usize;
     for j in 0..n {
+        let i = start + 2 * j;
         put_byte(
             bytes,
             base + j as u64,
             load,
-            record_lines::pair_inside(line, t, start + 2 * j),
+            record_lines::pair_of(t, line[i], line[i + 1]),
         );
     }
 }

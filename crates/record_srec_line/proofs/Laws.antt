@@ -39,13 +39,11 @@ module _ (w state : ℕ) (l : List ℕ) {r : Line} (f g : ℕ) where
 
 -- ---- soundness
 
-no-more : (d x : Bool) → (d && false && x) ≡ false
-no-more true x = refl
-no-more false x = refl
-
-checked : (d : Bool) (n : ℕ) → (d && true && eqb n 255) ≡ eqb (pick d n 256) 255
-checked true n = refl
-checked false n = refl
+checked : (d long : Bool) (n : ℕ) → (d && long && eqb n 255) ≡ eqb (pick long (pick d n 256) 256) 255
+checked true true n = refl
+checked true false n = refl
+checked false true n = refl
+checked false false n = refl
 
 module _ (l : List ℕ) where
   pub sound-short : length l < 4 → isSound l ≡ false
@@ -58,17 +56,14 @@ module _ (l : List ℕ) where
     sound-letter h = rw (le-leb 4 (length l) long, h)
 
     module _ (s : isS (getD l 0 0) ≡ true) where
-      pub sound-count : (length l ≡ 4 + 2 * countOf l → ⊥) → isSound l ≡ false
+      pub sound-sum : isSound l ≡ eqb (checkedSum l 2 (countOf l + 1)) 255
       unfolding isSound
-      sound-count h =
-          rw (le-leb 4 (length l) long, s, ne-eqb (length l) (4 + 2 * countOf l) h)
-          (no-more (allDigits (drop 2 l)) (eqb (sumOf (bytesAt l 2 (countOf l + 1)) % 256) 255))
-
-      pub sound-sum : length l ≡ 4 + 2 * countOf l → isSound l ≡ eqb (checkedSum l 2 (countOf l + 1)) 255
-      unfolding isSound
-      sound-sum h =
-          rw (le-leb 4 (length l) long, s, eq-eqb (length l) (4 + 2 * countOf l) h)
-          (checked (allDigits (drop 2 l)) (sumOf (bytesAt l 2 (countOf l + 1)) % 256))
+      sound-sum =
+          let sum = sumOf (bytesAt l 2 (countOf l + 1)) % 256 in
+          let e : 4 + 2 * countOf l ≡ 2 + 2 * (countOf l + 1) = omega arith in
+          rw (le-leb 4 (length l) long, s)
+          (checked (allDigits (drop 2 l)) (eqb (length l) (4 + 2 * countOf l)) sum
+          ∙ ap (λ (n : ℕ). eqb (pick (eqb (length l) n) (pick (allDigits (drop 2 l)) sum 256) 256) 255) e)
 
 -- ---- the types
 

@@ -22,16 +22,14 @@ fn is_s(c: u8) -> bool
 }
 
 fn byte(line: &[u8], t: &[u8; 256], i: u32) -> u32
-    requires { ⌜ Spells (now t) ⌝ }
-    ensures { λ r. ⌜ (r ≡ pairAt (now (line .entry)) i) × (r < 256) ⌝ }
+    ensures { λ r. ⌜ (Spells (now (t .entry)) → r ≡ pairAt (now (line .entry)) i) × (r < 256) ⌝ }
 {
     record_lines::pair(line, t, i) as u32
 }
 
 // Whether a line is an S, pairs of digits, as many as its count says, and sums to 255.
 fn is_sound(line: &[u8], t: &[u8; 256]) -> bool
-    requires { ⌜ Spells (now t) ⌝ }
-    ensures { λ r. ⌜ r ≡ isSound (now (line .entry)) ⌝ }
+    ensures { λ r. ⌜ (Spells (now (t .entry)) → r ≡ isSound (now (line .entry))) ⌝ }
 {
     if line.len() < 4 {
         return false;
@@ -39,10 +37,7 @@ fn is_sound(line: &[u8], t: &[u8; 256]) -> bool
     if !is_s(line[0]) {
         return false;
     }
-    let count = record_lines::pair(line, t, 2) as usize;
-    if line.len() != 4 + 2 * count {
-        return false;
-    }
+    let count = record_lines::pair(line, t, 2) as u16;
     record_lines::sum_checked(line, t, 2, count + 1) == 255
 }
 
@@ -58,9 +53,8 @@ fn does_agree(state: u16, width: u16) -> bool
 
 // The address of an S1 record, 16 bits, and of an S3 record, 32 bits.
 fn address_of(line: &[u8], t: &[u8; 256], width: u16) -> u32
-    requires { ⌜ Spells (now t) ⌝ }
     requires { ⌜ ((width ≡ 2) ⊎ (width ≡ 4)) ⌝ }
-    ensures { λ r. ⌜ r ≡ addressOf width (now (line .entry)) ⌝ }
+    ensures { λ r. ⌜ (Spells (now (t .entry)) → r ≡ addressOf width (now (line .entry))) ⌝ }
 {
     let upper = byte(line, t, 4) * 256 + byte(line, t, 6);
     if width == 2 {
@@ -83,10 +77,9 @@ fn limit(width: u16) -> u64
 
 // S1 and S3.
 fn data_line(line: &[u8], t: &[u8; 256], width: u16, state: u16) -> Line
-    requires { ⌜ Spells (now t) ⌝ }
     requires { ⌜ ((width ≡ 2) ⊎ (width ≡ 4)) ⌝ }
-    requires { ⌜ length (now line) ≡ 4 + 2 * countOf (now line) ⌝ }
-    ensures { λ r. ⌜ Says (now (line .entry)) state (4 + 2 * width) r (dataLine width state (now (line .entry))) ⌝ }
+    ensures { λ r. ⌜ (Spells (now (t .entry)) → length (now (line .entry)) ≡ 4 + 2 * countOf (now (line .entry))
+        → Says (now (line .entry)) state (4 + 2 * width) r (dataLine width state (now (line .entry)))) ⌝ }
 {
     if !does_agree(state, width) {
         return plain(record_lines::BAD, state);
@@ -111,9 +104,8 @@ fn data_line(line: &[u8], t: &[u8; 256], width: u16, state: u16) -> Line
 
 // S9 and S7.
 fn end_line(line: &[u8], t: &[u8; 256], width: u16, state: u16) -> Line
-    requires { ⌜ Spells (now t) ⌝ }
     requires { ⌜ width ≤ 4 ⌝ }
-    ensures { λ r. ⌜ Says (now (line .entry)) state 0 r (endLine width state (now (line .entry))) ⌝ }
+    ensures { λ r. ⌜ (Spells (now (t .entry)) → Says (now (line .entry)) state 0 r (endLine width state (now (line .entry)))) ⌝ }
 {
     if !does_agree(state, width) {
         return plain(record_lines::BAD, state);
@@ -126,8 +118,7 @@ fn end_line(line: &[u8], t: &[u8; 256], width: u16, state: u16) -> Line
 
 // S0: "A header record S0 is read and skipped."
 fn header_line(line: &[u8], t: &[u8; 256], state: u16) -> Line
-    requires { ⌜ Spells (now t) ⌝ }
-    ensures { λ r. ⌜ Says (now (line .entry)) state 0 r (headerLine state (now (line .entry))) ⌝ }
+    ensures { λ r. ⌜ (Spells (now (t .entry)) → Says (now (line .entry)) state 0 r (headerLine state (now (line .entry)))) ⌝ }
 {
     if record_lines::pair(line, t, 2) < 3 {
         return plain(record_lines::BAD, state);
@@ -137,9 +128,8 @@ fn header_line(line: &[u8], t: &[u8; 256], state: u16) -> Line
 
 // A sound line by its type's digit.
 fn typed_line(line: &[u8], t: &[u8; 256], digit: u8, state: u16) -> Line
-    requires { ⌜ Spells (now t) ⌝ }
-    requires { ⌜ length (now line) ≡ 4 + 2 * countOf (now line) ⌝ }
-    ensures { λ r. ⌜ Says (now (line .entry)) state (firstFor digit) r (typed digit state (now (line .entry))) ⌝ }
+    ensures { λ r. ⌜ (Spells (now (t .entry)) → length (now (line .entry)) ≡ 4 + 2 * countOf (now (line .entry))
+        → Says (now (line .entry)) state (firstFor digit) r (typed digit state (now (line .entry)))) ⌝ }
 {
     match digit {
         b'0' => header_line(line, t, state),
@@ -151,20 +141,18 @@ fn typed_line(line: &[u8], t: &[u8; 256], digit: u8, state: u16) -> Line
     }
 }
 
-// What a sound line says while a width is in force (0 for none).
+// What a sound line says while a width is in force (0 for none). Of a line that is not sound nothing is told.
 pub fn known_line(line: &[u8], t: &[u8; 256], state: u16) -> Line
-    requires { ⌜ Spells (now t) ⌝ }
-    requires { ⌜ isSound (now line) ≡ true ⌝ }
-    ensures { λ r. ⌜ Says (now (line .entry)) state (firstOf (now (line .entry))) r (srecItem state (now (line .entry))) ⌝ }
+    ensures { λ r. ⌜ (Spells (now (t .entry)) → isSound (now (line .entry)) ≡ true
+        → Says (now (line .entry)) state (firstOf (now (line .entry))) r (srecItem state (now (line .entry)))) ⌝ }
 {
     let digit = record_lines::char_at(line, 1);
     typed_line(line, t, digit, state)
 }
 
-// What any line's characters say, without its end.
+// What any line's characters say, without its end, by a table that spells the digits.
 pub fn line_of(line: &[u8], t: &[u8; 256], state: u16) -> Line
-    requires { ⌜ Spells (now t) ⌝ }
-    ensures { λ r. ⌜ Says (now (line .entry)) state (firstOf (now (line .entry))) r (srecItem state (now (line .entry))) ⌝ }
+    ensures { λ r. ⌜ (Spells (now (t .entry)) → Says (now (line .entry)) state (firstOf (now (line .entry))) r (srecItem state (now (line .entry)))) ⌝ }
 {
     if !is_sound(line, t) {
         return plain(record_lines::BAD, state);

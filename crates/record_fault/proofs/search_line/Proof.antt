@@ -12,7 +12,7 @@ use Rattle.record_fault.proofs.search_line.Statement.{statement}
 use Rattle.record_fault.proofs.search_line.Tie as tie
 
 returns : tie.Need-returns
-returns c =
+returns c spells =
     let two = c .before .before in
     let one = two .before in
     let f = one .before in
@@ -23,7 +23,8 @@ returns c =
     (one .least .ensures) (two .least2 .ensures) in
     record {
       says =
-          subst (λ (l : List ℕ). Says l (a .state) (firstBy (a .format) l) (c .line-in .result) (formatBy (a .format) (a .state) l)) own (c .line-in .ensures);
+          subst (λ (l : List ℕ). Says l (a .state) (firstBy (a .format) l) (c .line-in .result) (formatBy (a .format) (a .state) l)) own
+          (c .line-in .ensures spells);
       stop = cut .stop;
       start = omega (arith, cut .stop);
       within = λ h. rw (cut .stop) (stop-inside t (a .at) h);

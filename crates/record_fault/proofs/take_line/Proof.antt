@@ -21,10 +21,10 @@ abbrev start : tie.Else2 → tie.Start
 start c = stopped c .before .before
 
 returns : tie.Need-returns
-returns c = c .search-line .ensures
+returns c = c .search-line .ensures (c .before .before .before .before .before .pre .0)
 
 returns-2 : tie.Need-returns-2
-returns-2 c = c .search-line2 .ensures
+returns-2 c = c .search-line2 .ensures (c .before .before .before .before .before .before .before .before .before .pre .0)
 
 -- what is found, as a step
 found : (c : tie.Else2) → Stepped (start c .args .format) (start c .args .text .now) (start c .args .at) (start c .args .state)
@@ -39,9 +39,10 @@ found c =
     let stop = b .stop-by .result in
     let h = b .stop-by .ensures .1 in
     let k = b .stop-by .ensures .2 in
-    let good = says-good (a .format) (a .state) (l .line-in .ensures) (c .if2 .left) in
+    let good = says-good (a .format) (a .state) (l .line-in .ensures (b .before .before .pre .0)) (c .if2 .left) in
     stepped-by t (a .at) stop h k (a .format) (a .state) (e .end-at .result)
-    (line-found t (a .at) stop h k (a .format) (a .state) good (λ z. i .if1 .left (e .end-at .ensures ∙ z))) (e .end-at .ensures) (l .line-in .ensures)
+    (line-found t (a .at) stop h k (a .format) (a .state) good (λ z. i .if1 .left (e .end-at .ensures ∙ z))) (e .end-at .ensures)
+    (l .line-in .ensures (b .before .before .pre .0))
 
 add-t14 : tie.Need-add-t14
 add-t14 c =

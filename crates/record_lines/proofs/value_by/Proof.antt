@@ -4,7 +4,7 @@ use Rattle.record_lines.proofs.value_by.Statement.{statement}
 use Rattle.record_lines.proofs.value_by.Tie as tie
 
 returns : tie.Need-returns
-returns c = c .before .pre (c .before .args .c) (search needs)
+returns c spells = spells (c .before .args .c) (search needs)
 
 pub value-by-spec : {M : Type 1} → statement M
 value-by-spec = tie.close (tie.spec (λ c. search needs) returns)

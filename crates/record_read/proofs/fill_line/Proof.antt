@@ -29,10 +29,11 @@ loop-again : tie.Need-loop-again Inv-loop μ-loop
 loop-again c =
     let b = c .before .before in
     let p = b .before in
-    let l = p .before .before .before in
+    let l = p .before .before .before .before .before in
     let a = l .before .before .before .args in (
       search needs,
-      spelled-more (a .line .now) (a .first) (a .address) (a .load) (a .bytes .now) (l .loop .j) (l .loop .inv .1) (p .pair-inside .ensures)
+      spelled-more (a .line .now) (a .first) (a .address) (a .load) (a .bytes .now) (l .loop .j) (l .loop .inv .1)
+          (p .pair-of .ensures (l .before .before .before .pre .0))
           (b .put-byte .ensures),
     )
 
@@ -53,5 +54,5 @@ pub fill-line-spec : {M : Type 1} → statement M
 fill-line-spec =
     tie.close
     (tie.spec
-    Inv-loop μ-loop loop-holds (λ c. search needs) (λ c. search needs) (λ c. search needs) (λ c κs. search needs) (λ c κs. search needs)
-    (λ c. search needs) (λ c. search needs) loop-again same-length returns)
+    Inv-loop μ-loop loop-holds (λ c. search needs) (λ c. search needs) (λ c. search needs) (λ c. search needs) (λ c. search needs) (λ c. search needs)
+    (λ c κs. search needs) (λ c κs. search needs) (λ c. search needs) (λ c. search needs) loop-again same-length returns)

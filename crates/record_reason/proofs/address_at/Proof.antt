@@ -10,17 +10,14 @@ use Rattle.record_reason.proofs.address_at.Tie as tie
 place-of-requires : tie.Need-place-of-requires
 place-of-requires c κs = c .before .pre
 
-search-line-requires : tie.Need-search-line-requires
-search-line-requires c κs = c .before .before .pre
-
 returns : tie.Need-returns
 returns c =
     let a = c .before .before .before .before .args in
     let p = c .before .before .place-of .ensures in
-    let s = moved (a .format) (a .text .now) (a .n) _ _ _ (p .at) (p .state) (c .before .search-line .ensures) in
+    let s = moved (a .format) (a .text .now) (a .n) _ _ _ (p .at) (p .state) (c .before .search-line .ensures (c .before .before .before .before .pre)) in
     says-address (s .says)
 
 pub address-at-spec : {M : Type 1} → statement M
 address-at-spec =
     tie.close
-    (tie.spec place-of-requires search-line-requires returns)
+    (tie.spec place-of-requires (λ c κs. search needs) returns)

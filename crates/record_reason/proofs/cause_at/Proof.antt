@@ -31,11 +31,13 @@ returns-2 c =
           (length (c .before .before .before .before .before .args .text .now)) (t .at) past,
     )
 
-search-line-requires : tie.Need-search-line-requires
-search-line-requires c κs = c .before .before .before .before .pre
+sub-line-cause : tie.Need-sub-line-cause
+sub-line-cause c =
+    let h = c .search-line .ensures (c .before .before .before .before .before .pre) .start in
+    search needs
 
 part-line-cause-end : tie.Need-part-line-cause-end
-part-line-cause-end c = c .search-line .ensures .within (c .before .before .before .place-of .ensures .inside)
+part-line-cause-end c = c .search-line .ensures (c .before .before .before .before .before .pre) .within (c .before .before .before .place-of .ensures .inside)
 
 line-cause-requires : tie.Need-line-cause-requires
 line-cause-requires c κs = c .before .before .before .before .before .before .pre
@@ -50,7 +52,7 @@ returns-3 c =
     rw (sym (p .ended) ∙ c .before .before .before .before .if1 .left, lt-leb (length l) (t .at) before)
     (c .line-cause .ensures
     ∙ ap (λ (s : List ℕ). lineCause (a .format) (a .load) l (a .n) (c .before .before .before .before .before .place-of .result .state) s)
-    (c .before .before .search-line .ensures .part)
+    (c .before .before .search-line .ensures (c .before .before .before .before .before .before .before .pre) .part)
     ∙ ap (λ (s : ℕ). lineCause (a .format) (a .load) l (a .n) s (lineAt l (c .before .before .before .before .before .place-of .result .at))) (p .state)
     ∙ ap (λ (x : ℕ). lineCause (a .format) (a .load) l (a .n) (t .state) (lineAt l x)) (p .at))
 
@@ -58,5 +60,5 @@ pub cause-at-spec : {M : Type 1} → statement M
 cause-at-spec =
     tie.close
     (tie.spec
-    place-of-requires (λ c κs. search needs) returns (λ c κs. search needs) returns-2 search-line-requires (λ c. search needs) (λ c. search needs)
-    part-line-cause-end line-cause-requires returns-3)
+    place-of-requires (λ c κs. search needs) returns (λ c κs. search needs) returns-2 (λ c κs. search needs) sub-line-cause
+    (λ c. c .search-line .ensures (c .before .before .before .before .before .pre) .start) part-line-cause-end line-cause-requires returns-3)

@@ -15,12 +15,10 @@ abbrev μ-loop : tie.MeasureT-loop
 loop-holds : tie.Need-loop-holds Inv-loop μ-loop
 loop-holds c = seeking-starts (c .before .args .format) (c .before .args .text .now) (c .before .args .n) (c .before .args .first) (c .before .args .end)
 
-search-line-requires : tie.Need-search-line-requires Inv-loop μ-loop
-search-line-requires c κs = c .before .before .before .pre
-
 loop-again : tie.Need-loop-again Inv-loop μ-loop
 loop-again c = seeking-on _ _ _ _ _ (c .before .before .before .before .before .loop .inv) (c .before .before .before .before .loop-test .taken)
-    (c .before .before .before .search-line .ensures) (c .before .leaves .ensures) (c .next-giver .ensures)
+    (c .before .before .before .search-line .ensures (c .before .before .before .before .before .before .before .pre)) (c .before .leaves .ensures)
+    (c .next-giver .ensures)
 
 returns : tie.Need-returns Inv-loop μ-loop
 returns c = seeking-ends _ _ _ _ _ (c .before .loop .inv) (c .loop-test .left)
@@ -29,4 +27,4 @@ pub first-giver-spec : {M : Type 1} → statement M
 first-giver-spec =
     tie.close
     (tie.spec
-    Inv-loop μ-loop loop-holds search-line-requires (λ c κs. search needs) (λ c κs. search needs) (λ c. search needs) (λ c. search needs) loop-again returns)
+    Inv-loop μ-loop loop-holds (λ c κs. search needs) (λ c κs. search needs) (λ c κs. search needs) (λ c. search needs) (λ c. search needs) loop-again returns)

@@ -16,22 +16,20 @@ abbrev μ-loop : tie.MeasureT-loop
 loop-holds : tie.Need-loop-holds Inv-loop μ-loop
 loop-holds c = sinking-starts (c .before .args .format) (c .before .args .text .now)
 
-search-line-requires : tie.Need-search-line-requires Inv-loop μ-loop
-search-line-requires c κs = c .before .before .before .pre
-
 loop-less : tie.Need-loop-less Inv-loop μ-loop
 loop-less c = omega (
   arith,
-  c .before .before .search-line .ensures .onward (c .before .before .before .loop-test .taken),
-  c .before .before .search-line .ensures .inside (c .before .before .before .before .loop .inv .inside),
+  c .before .before .search-line .ensures (c .before .before .before .before .before .before .pre) .onward (c .before .before .before .loop-test .taken),
+  c .before .before .search-line .ensures (c .before .before .before .before .before .before .pre) .inside
+      (c .before .before .before .before .loop .inv .inside),
 )
 
 loop-again : tie.Need-loop-again Inv-loop μ-loop
 loop-again c = sinking-on _ _ (c .before .before .before .before .loop .inv) (c .before .before .before .loop-test .taken)
-    (c .before .before .search-line .ensures) (c .lower-of .ensures)
+    (c .before .before .search-line .ensures (c .before .before .before .before .before .before .pre)) (c .lower-of .ensures)
 
 returns : tie.Need-returns Inv-loop μ-loop
 returns c = sinking-ends _ _ (c .before .loop .inv) (c .loop-test .left)
 
 pub lowest-of-spec : {M : Type 1} → statement M
-lowest-of-spec = tie.close (tie.spec Inv-loop μ-loop loop-holds search-line-requires (λ c κs. search needs) loop-less loop-again returns)
+lowest-of-spec = tie.close (tie.spec Inv-loop μ-loop loop-holds (λ c κs. search needs) (λ c κs. search needs) loop-less loop-again returns)

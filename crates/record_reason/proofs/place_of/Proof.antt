@@ -14,12 +14,9 @@ abbrev μ-loop : tie.MeasureT-loop
 loop-holds : tie.Need-loop-holds Inv-loop μ-loop
 loop-holds c = walking-starts (c .before .args .format) (c .before .args .text .now) (c .before .args .n)
 
-search-line-requires : tie.Need-search-line-requires Inv-loop μ-loop
-search-line-requires c κs = c .before .before .before .pre
-
 loop-again : tie.Need-loop-again Inv-loop μ-loop
 loop-again c = walking-on _ _ _ (c .before .before .before .before .loop .inv) (c .before .before .before .loop-test .taken)
-    (c .before .before .search-line .ensures) (c .is-end .ensures)
+    (c .before .before .search-line .ensures (c .before .before .before .before .before .before .pre)) (c .is-end .ensures)
 
 returns : tie.Need-returns Inv-loop μ-loop
 returns c = walking-ends _ _ _ (c .before .loop .inv) (c .loop-test .left)
@@ -28,4 +25,4 @@ pub place-of-spec : {M : Type 1} → statement M
 place-of-spec =
     tie.close
     (tie.spec
-    Inv-loop μ-loop loop-holds search-line-requires (λ c κs. search needs) (λ c. search needs) (λ c. search needs) loop-again returns)
+    Inv-loop μ-loop loop-holds (λ c κs. search needs) (λ c κs. search needs) (λ c. search needs) (λ c. search needs) loop-again returns)

@@ -10,22 +10,22 @@ use Rattle.record_srec_line.proofs.address_of.Statement.{statement}
 use Rattle.record_srec_line.proofs.address_of.Tie as tie
 
 returns : tie.Need-returns
-returns c =
+returns c spells =
     let s = c .before .before .before .before in
-    rw (c .if1 .taken) (ap (λ (n : ℕ). n * 256 + c .before .byte2 .result) (c .before .before .byte .ensures .0)
-    ∙ ap (λ (n : ℕ). pairAt (s .args .line .now) 4 * 256 + n) (c .before .byte2 .ensures .0)
+    rw (c .if1 .taken) (ap (λ (n : ℕ). n * 256 + c .before .byte2 .result) (c .before .before .byte .ensures .0 spells)
+    ∙ ap (λ (n : ℕ). pairAt (s .args .line .now) 4 * 256 + n) (c .before .byte2 .ensures .0 spells)
     ∙ sym (address-two (s .args .line .now)))
 
 returns-2 : tie.Need-returns-2
-returns-2 c =
+returns-2 c spells =
     let s = c .before .before .before .before .before .before in
-    let four : s .args .width ≡ 4 = ⊎-elim (λ e. absurd (c .before .before .if1 .left e)) (λ e. e) (s .pre .1) in
+    let four : s .args .width ≡ 4 = ⊎-elim (λ e. absurd (c .before .before .if1 .left e)) (λ e. e) (s .pre) in
     rw four (omega (
       arith,
-      c .before .before .before .before .byte .ensures .0,
-      c .before .before .before .byte2 .ensures .0,
-      c .before .byte3 .ensures .0,
-      c .byte4 .ensures .0,
+      c .before .before .before .before .byte .ensures .0 spells,
+      c .before .before .before .byte2 .ensures .0 spells,
+      c .before .byte3 .ensures .0 spells,
+      c .byte4 .ensures .0 spells,
       address-four (s .args .line .now),
     ))
 

@@ -9,26 +9,26 @@ use Rattle.record_srec_line.proofs.data_line.Statement.{statement}
 use Rattle.record_srec_line.proofs.data_line.Tie as tie
 
 returns : tie.Need-returns
-returns c = as-bad (data-other _ _ _ (sym (c .before .before .does-agree .ensures) ∙ not-true _ (c .before .if1 .taken))) (c .plain .ensures)
+returns c spells long = as-bad (data-other _ _ _ (sym (c .before .before .does-agree .ensures) ∙ not-true _ (c .before .if1 .taken))) (c .plain .ensures)
 
 returns-2 : tie.Need-returns-2
-returns-2 c =
+returns-2 c spells long =
     let a = c .before .before .before in
-    as-bad (data-short _ _ _ (sym (a .before .does-agree .ensures) ∙ not-false _ (a .if1 .left)) (omega (arith, c .before .before .pair .ensures)))
+    as-bad (data-short _ _ _ (sym (a .before .does-agree .ensures) ∙ not-false _ (a .if1 .left)) (omega (arith, c .before .before .pair .ensures spells)))
     (c .plain2 .ensures)
 
 returns-3 : tie.Need-returns-3
-returns-3 c =
+returns-3 c spells long =
     let d = c .before .before .before in
     let p = d .before .before in
     let a = p .before in
     as-bad
-    (data-past _ _ _ (sym (a .before .does-agree .ensures) ∙ not-false _ (a .if1 .left)) (omega (arith, p .pair .ensures))
-    (omega (arith, p .pair .ensures, d .address-of .ensures, c .before .before .limit .ensures)))
+    (data-past _ _ _ (sym (a .before .does-agree .ensures) ∙ not-false _ (a .if1 .left)) (omega (arith, p .pair .ensures spells))
+    (omega (arith, p .pair .ensures spells, d .address-of .ensures spells, c .before .before .limit .ensures)))
     (c .plain3 .ensures)
 
 returns-4 : tie.Need-returns-4
-returns-4 c =
+returns-4 c spells long =
     let d = c .before .before in
     let p = d .before .before in
     let a = p .before in
@@ -36,9 +36,10 @@ returns-4 c =
     let l = s .args .line .now in
     let w = s .args .width in
     let own = sym (a .before .does-agree .ensures) ∙ not-false _ (a .if1 .left) in
-    data-as w (s .args .state) l (c .before .before .address-of .result) (p .pair .result) (d .address-of .ensures) (p .pair .ensures)
-    (data-gives w (s .args .state) l own (omega (arith, p .pair .ensures)) (omega (arith, p .pair .ensures, d .address-of .ensures, c .before .limit .ensures)))
-    (omega (arith, p .pair .ensures)) (s .pre .1 .1)
+    data-as w (s .args .state) l (c .before .before .address-of .result) (p .pair .result) (d .address-of .ensures spells) (p .pair .ensures spells)
+    (data-gives w (s .args .state) l own (omega (arith, p .pair .ensures spells))
+    (omega (arith, p .pair .ensures spells, d .address-of .ensures spells, c .before .limit .ensures)))
+    (omega (arith, p .pair .ensures spells)) long
 
 pub data-line-spec : {M : Type 1} → statement M
 data-line-spec =

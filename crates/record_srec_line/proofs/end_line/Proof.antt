@@ -9,19 +9,19 @@ use Rattle.record_srec_line.proofs.end_line.Statement.{statement}
 use Rattle.record_srec_line.proofs.end_line.Tie as tie
 
 returns : tie.Need-returns
-returns c = as-bad (end-other _ _ _ (sym (c .before .before .does-agree .ensures) ∙ not-true _ (c .before .if1 .taken))) (c .plain .ensures)
+returns c spells = as-bad (end-other _ _ _ (sym (c .before .before .does-agree .ensures) ∙ not-true _ (c .before .if1 .taken))) (c .plain .ensures)
 
 returns-2 : tie.Need-returns-2
-returns-2 c =
+returns-2 c spells =
     let a = c .before .before .before in
     as-bad (end-count _ _ _ (sym (a .before .does-agree .ensures) ∙ not-false _ (a .if1 .left))
-    (λ e. c .before .if2 .taken (c .before .before .pair .ensures ∙ e))) (c .plain2 .ensures)
+    (λ e. c .before .if2 .taken (c .before .before .pair .ensures spells ∙ e))) (c .plain2 .ensures)
 
 returns-3 : tie.Need-returns-3
-returns-3 c =
+returns-3 c spells =
     let a = c .before .before .before in
     as-ends (end-ends _ _ _ (sym (a .before .does-agree .ensures) ∙ not-false _ (a .if1 .left))
-    (sym (c .before .before .pair .ensures) ∙ c .before .if2 .left)) (c .plain3 .ensures)
+    (sym (c .before .before .pair .ensures spells) ∙ c .before .if2 .left)) (c .plain3 .ensures)
 
 pub end-line-spec : {M : Type 1} → statement M
 end-line-spec =

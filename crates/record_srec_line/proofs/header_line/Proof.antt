@@ -8,10 +8,10 @@ use Rattle.record_srec_line.proofs.header_line.Statement.{statement}
 use Rattle.record_srec_line.proofs.header_line.Tie as tie
 
 returns : tie.Need-returns
-returns c = as-bad (header-short _ _ (omega arith)) (c .plain .ensures)
+returns c spells = as-bad (header-short _ _ (omega (arith, c .before .before .pair .ensures spells))) (c .plain .ensures)
 
 returns-2 : tie.Need-returns-2
-returns-2 c = as-passes (header-passes _ _ (omega arith)) (c .plain2 .ensures)
+returns-2 c spells = as-passes (header-passes _ _ (omega (arith, c .before .before .pair .ensures spells))) (c .plain2 .ensures)
 
 pub header-line-spec : {M : Type 1} → statement M
 header-line-spec = tie.close (tie.spec (λ c κs. search needs) (λ c κs. search needs) returns (λ c κs. search needs) returns-2)

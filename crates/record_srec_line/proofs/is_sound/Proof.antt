@@ -5,40 +5,28 @@ use Rattle.record_lines.specs.Spelling.{checkedSum}
 use mathlib.Core.Path.{sym, ap, _∙_}
 use borrow.Author.Tests.{not-true, not-false}
 use native.Mathlib.Omega.{arith}
-use Rattle.record_srec_line.proofs.Laws.{sound-short, sound-letter, sound-count, sound-sum}
+use Rattle.record_srec_line.proofs.Laws.{sound-short, sound-letter, sound-sum}
 use borrow.Author.Needs.{needs}
 use Rattle.record_srec_line.proofs.is_sound.Statement.{statement}
 use Rattle.record_srec_line.proofs.is_sound.Tie as tie
 
 returns : tie.Need-returns
-returns c = sym (sound-short _ (c .if1 .taken))
+returns c spells = sym (sound-short _ (c .if1 .taken))
 
 returns-2 : tie.Need-returns-2
-returns-2 c = sym (sound-letter _ (omega arith) (sym (c .before .is-s .ensures) ∙ not-true _ (c .if2 .taken)))
+returns-2 c spells = sym (sound-letter _ (omega arith) (sym (c .before .is-s .ensures) ∙ not-true _ (c .if2 .taken)))
 
 returns-3 : tie.Need-returns-3
-returns-3 c =
+returns-3 c spells =
     let p = c .before in
     let j = p .before in
-    sym (sound-count _ (omega arith) (sym (j .before .is-s .ensures) ∙ not-false _ (j .if2 .left))
-    (λ e. c .if3 .taken (e ∙ ap (λ (n : ℕ). 4 + 2 * n) (sym (p .pair .ensures)))))
-
-sum-checked-requires : tie.Need-sum-checked-requires
-sum-checked-requires c κs = (search needs, (omega (arith, c .if3 .left), search needs))
-
-returns-4 : tie.Need-returns-4
-returns-4 c =
-    let i = c .before in
-    let p = i .before in
-    let j = p .before in
     let l = j .before .before .before .before .before .args .line .now in
-    ap (λ (n : ℕ). eqb n 255) (c .sum-checked .ensures ∙ ap (λ (n : ℕ). checkedSum l 2 (n + 1)) (p .pair .ensures))
-    ∙ sym (sound-sum _ (omega arith) (sym (j .before .is-s .ensures) ∙ not-false _ (j .if2 .left))
-    (i .if3 .left ∙ ap (λ (n : ℕ). 4 + 2 * n) (p .pair .ensures)))
+    ap (λ (n : ℕ). eqb n 255) (c .sum-checked .ensures spells ∙ ap (λ (n : ℕ). checkedSum l 2 (n + 1)) (p .pair .ensures spells))
+    ∙ sym (sound-sum _ (omega arith) (sym (j .before .is-s .ensures) ∙ not-false _ (j .if2 .left)))
 
 pub is-sound-spec : {M : Type 1} → statement M
 is-sound-spec =
     tie.close
     (tie.spec
-    returns (λ c. search needs) (λ c κs. search needs) returns-2 (λ c κs. search needs) (λ c. search needs) (λ c. search needs) (λ c. search needs)
-    returns-3 (λ c. search needs) sum-checked-requires returns-4)
+    returns (λ c. search needs) (λ c κs. search needs) returns-2 (λ c κs. search needs) (λ c. search needs) (λ c. search needs) (λ c κs. search needs)
+    returns-3)

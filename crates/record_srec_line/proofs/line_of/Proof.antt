@@ -8,13 +8,12 @@ use Rattle.record_srec_line.proofs.line_of.Statement.{statement}
 use Rattle.record_srec_line.proofs.line_of.Tie as tie
 
 returns : tie.Need-returns
-returns c = as-bad (item-bad _ _ (sym (c .before .before .is-sound .ensures) ∙ not-true _ (c .before .if1 .taken))) (c .plain .ensures)
-
-known-line-requires : tie.Need-known-line-requires
-known-line-requires c κs = let g = c .before in (g .before .before .pre, sym (g .is-sound .ensures) ∙ not-false _ (c .if1 .left))
+returns c spells = as-bad (item-bad _ _ (sym (c .before .before .is-sound .ensures spells) ∙ not-true _ (c .before .if1 .taken))) (c .plain .ensures)
 
 returns-2 : tie.Need-returns-2
-returns-2 c = c .known-line .ensures
+returns-2 c spells =
+    let i = c .before in
+    c .known-line .ensures spells (sym (i .before .is-sound .ensures spells) ∙ not-false _ (i .if1 .left))
 
 pub line-of-spec : {M : Type 1} → statement M
-line-of-spec = tie.close (tie.spec (λ c κs. search needs) (λ c κs. search needs) returns known-line-requires returns-2)
+line-of-spec = tie.close (tie.spec (λ c κs. search needs) (λ c κs. search needs) returns (λ c κs. search needs) returns-2)
