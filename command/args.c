@@ -1,8 +1,5 @@
 /* The command line: options and files in any order, `--option=value` as `--option value`, and only files behind `--`. */
-#include "args.h"
-#include "proved.h"
-#include "say.h"
-#include <string.h>
+#include "command.h"
 
 const struct option options[OPTIONS] = {
 #define OPTION(what, name, values, words) {name, values, words},
@@ -10,9 +7,9 @@ const struct option options[OPTIONS] = {
 };
 
 static uint32_t number(const char *name, const char *word) {
-    struct bytes spelled = {(const uint8_t *)word, strlen(word)};
+    struct bytes digits = {(const uint8_t *)word, strlen(word)};
     uint32_t n = 0;
-    if (!proved_number(spelled, &n)) fail("%s takes a number up to 4294967295, decimal or in hex after 0x, not '%s'", name, escaped(word));
+    if (!proved_number(digits, &n)) fail("%s takes a number up to 4294967295, decimal or in hex after 0x, not '%s'", name, escaped(word));
     return n;
 }
 
@@ -35,18 +32,18 @@ static void take(struct asked *asked, int at, const char *value, const char *nex
     asked->given |= 1u << at;
     int is_other = strchr(o->values, '|') ? is_second(o, value) : 0;
     switch (1 << at) {
-    case FILL: asked->fill = (uint8_t)is_other; break;
-    case PAGE: asked->page = number(o->name, value); break;
+    case FILL: asked->choices.fill = (uint8_t)is_other; break;
+    case PAGE: asked->choices.page = number(o->name, value), asked->choices.has_page = 1; break;
+    case ROOM:
+        asked->choices.room = number(o->name, value);
+        if (asked->choices.room > ROOM_MAX) fail("--room takes at most %u bytes", ROOM_MAX);
+        break;
     case LOAD:
     case LOWEST: asked->load = number(o->name, value); break;
     case WIDTH: asked->width = is_other ? 4 : 2; break;
     case TO_FORM:
     case INTO_FORM:
     case TO_KIND: asked->to = value; break;
-    case ROOM:
-        asked->room = number(o->name, value);
-        if (asked->room > ROOM_MAX) fail("--room takes at most %u bytes", ROOM_MAX);
-        break;
     case OUTPUT: asked->out = file_name(value); break;
     case BOTH_NAMES: asked->names[1] = file_name(next); /* falls through */
     case NAMES: asked->names[0] = file_name(value); break;
@@ -79,7 +76,7 @@ static int take_option(struct asked *asked, unsigned takes, int argc, char **arg
 }
 
 struct asked read_words(const struct command *command, int argc, char **argv) {
-    struct asked asked = {.room = ROOM_USUAL};
+    struct asked asked = {.choices = {.room = ROOM_USUAL}};
     int only_files = 0;
     for (int i = 2; i < argc; i++) {
         char *word = argv[i];

@@ -19,14 +19,19 @@ struct option {
 };
 extern const struct option options[OPTIONS];
 
+struct choices { /* of a layout */
+    uint8_t fill; /* 0 inherited, 1 full */
+    uint32_t page, room;
+    int has_page;
+};
 struct asked {
     unsigned given;
-    uint8_t fill, width;
-    uint32_t page, load, room, range[2];
+    struct choices choices;
+    uint8_t width;
+    uint32_t load, range[2];
     const char *to, *out, *names[2], *file[2];
     int files;
 };
-
 struct command {
     const char *name, *files;
     int least, most; /* files, or a file and a refusal */

@@ -1,12 +1,11 @@
 /* The nodes of two layouts, and which of them are the same. */
 #ifndef DENKUMARI_COMPARE_H
 #define DENKUMARI_COMPARE_H
-#include "args.h"
-#include "names.h"
-#include "values.h"
+#include "command.h"
 
 /* A node that is compared, and the one that it is on the other side. */
 struct one {
+    const struct layout *layout;
     const struct node *node;
     long long number;
     uint64_t alike; /* of its kind, size and contents */
@@ -16,17 +15,14 @@ struct one {
 };
 struct side {
     struct layout *layout;
-    const struct names *names;
-    const char *title;
     struct one *ones;
     size_t count;
-    struct image image;
 };
 
 enum { MOVED, GROWN, SHRUNK, CONTENTS, KIND, NEW, GONE, DIFFERENCES };
 
 struct side read_side(const struct asked *asked, int i); /* fails where its layout is refused */
 void pair_all(struct side *a, struct side *b);
-unsigned changes(const struct side *a, const struct one *x, const struct side *b, const struct one *y); /* a bit each; one of the two may be NULL */
+unsigned changes(const struct one *x, const struct one *y); /* a bit each; one of the two may be NULL */
 const char *changes_words(unsigned found); /* with commas between */
 #endif

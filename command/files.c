@@ -1,15 +1,18 @@
 /* Files in and answers out. Every input is read once; every answer is whole before its first byte is written. */
-#include "files.h"
-#include "system.h"
+#include "command.h"
 #include <stdlib.h>
-#include <string.h>
 
 static struct which inputs[4];
 static size_t input_count;
 
-const char *called(const char *name) { return strcmp(name, "-") == 0 ? "standard input" : name; }
+const char *called(const char *name) { return strcmp(name, "-") == 0 ? "standard input" : escaped(name); }
 
-int has_mark(struct bytes file) { return file.len >= 3 && memcmp(file.at, "\xef\xbb\xbf", 3) == 0; }
+const char *titled(const char *name) {
+    const char *slash = strrchr(name, '/');
+    return slash ? escaped(slash + 1) : called(name);
+}
+
+int has_mark(struct bytes file) { return begins(file, "\xef\xbb\xbf"); }
 
 /* What went wrong, or NULL. */
 static const char *read_from(int from, size_t limit, struct bytes *found) {
@@ -17,21 +20,19 @@ static const char *read_from(int from, size_t limit, struct bytes *found) {
     struct which input = which_input(from, &is_folder);
     if (is_folder) return "it is a folder";
     if (input_count < sizeof inputs / sizeof *inputs) inputs[input_count++] = input;
-    size_t n = 0, room = 65537;
-    uint8_t *at = malloc(room), *more = at;
-    while (more && n <= limit) {
-        if (n == room) more = realloc(at, room *= 4);
-        if (!more) break;
-        at = more;
-        size_t wanted = limit + 1 < room ? limit + 1 : room;
-        long k = read_some(from, at + n, wanted - n);
+    size_t n = 0, room = 0;
+    uint8_t *at = NULL;
+    while (n <= limit) {
+        if (n == room) at = realloc(at, room = room ? 4 * room : 65537);
+        if (!at) return "there is no memory left";
+        long k = read_some(from, at + n, (limit + 1 < room ? limit + 1 : room) - n);
         if (k < 0) return why();
         if (k == 0) break;
         n += (size_t)k;
     }
     found->at = at;
     found->len = n;
-    return more ? NULL : "there is no memory left";
+    return NULL;
 }
 
 /* The same of a name, - being standard input where that is allowed. */
@@ -44,7 +45,7 @@ static const char *read_named(const char *name, int is_standard, size_t limit, s
 struct bytes read_input(const char *name, size_t limit) {
     struct bytes found = {NULL, 0};
     const char *fault = read_named(name, strcmp(name, "-") == 0, limit, &found);
-    if (fault) fail("%s cannot be read: %s", escaped(called(name)), fault);
+    if (fault) fail("%s cannot be read: %s", called(name), fault);
     return found;
 }
 

@@ -1,11 +1,7 @@
 /* denkumari: the proved functions as one command. Everything in this folder is written by hand and not proved: the command line, files in, answers out,
  * words. */
-#include "commands.h"
-#include "denkumari.h"
-#include "files.h"
-#include "system.h"
+#include "command.h"
 #include <stdio.h>
-#include <string.h>
 
 #ifndef DENKUMARI_KIT
 #define DENKUMARI_KIT "not recorded"

@@ -1,7 +1,6 @@
 /* Which nodes of two layouts are the same: by their names, and those without one by what is alike behind the same name. */
 #include "compare.h"
 #include <stdlib.h>
-#include <string.h>
 
 static void pair(struct one *a, struct one *b) {
     a->other = b;

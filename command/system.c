@@ -3,12 +3,10 @@
 #define _XOPEN_SOURCE 700
 #define _FILE_OFFSET_BITS 64
 #endif
-#include "system.h"
-#include "say.h"
+#include "command.h"
 #include <errno.h>
 #include <fcntl.h>
 #include <stdio.h>
-#include <string.h>
 #include <sys/stat.h>
 #include <sys/types.h>
 

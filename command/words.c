@@ -1,8 +1,6 @@
 /* Refusals in words: which cause it is, and what fills its words. The layout is one that was refused so, and its map, where there is one, of the same
  * choices. */
-#include "words.h"
-#include "files.h"
-#include <string.h>
+#include "command.h"
 
 static const struct {
     const char *words, *remedy;
@@ -32,13 +30,11 @@ static void put_place(struct text *t, const struct layout *l, long long i) {
     if (n->output != NONE) put(t, "%s at output bit %lld", is_placed(l, i) ? "" : ",", n->output);
 }
 
-static const char *node_words(const struct layout *l, const struct names *names, long long i) {
+static const char *node_words(const struct layout *l, long long i) {
     const struct node *n = &l->node[i];
     struct text t = {0};
-    if (i >= l->nodes) return called_node(names, i);
-    put(&t, "%s (%s", called_node(names, i), has_name(names, i) ? shown("node %lld, ", i) : "");
-    if (n->kind > ASSERT) put(&t, "kind %d", n->kind);
-    else put(&t, "%s", kind_words[n->kind]);
+    if (i >= l->nodes) return called_node(l, i);
+    put(&t, "%s (%s%s", called_node(l, i), has_name(l, i) ? shown("node %lld, ", i) : "", n->kind > ASSERT ? shown("kind %d", n->kind) : kind_words[n->kind]);
     if (n->kind == SWITCH) put(&t, " to %lld", n->operand);
     else if (n->kind <= ASSERT && i < l->shown) put_place(&t, l, i);
     else if (n->kind <= ASSERT) put(&t, ", bank %lld", bank_at(l, i));
@@ -52,8 +48,7 @@ static const char *bank_words(const struct layout *l, long long i) {
     struct text t = {0};
     put(&t, "bank %lld", i);
     if (i >= l->banks) return t.at;
-    put(&t, " (unit %lld, start %s, %s", b->unit, is_beyond(b) ? shown("%lld", b->start) : both(b->start), b->size == NONE ? "no size" : "size ");
-    if (b->size != NONE) put(&t, "%lld", b->size);
+    put(&t, " (unit %lld, start %s, %s", b->unit, is_beyond(b) ? plain(b->start) : both(b->start), b->size == NONE ? "no size" : shown("size %lld", b->size));
     if (b->offset != NONE) put(&t, ", output from bit %lld", b->offset);
     if (b->offset != NONE && b->size > 0) put(&t, " to %lld", b->offset + b->size - 1);
     put(&t, "%s)", !b->fill ? "" : b->bit ? ", filled with ones" : ", filled");
@@ -65,12 +60,12 @@ static const char *blank_words(const char *blank, size_t n, const struct said *s
     char what[20] = "";
     if (n >= sizeof what) return "";
     memcpy(what, blank, n);
-    if (strcmp(what, "node") == 0) return node_words(s->layout, s->names, s->node);
+    if (strcmp(what, "node") == 0) return node_words(s->layout, s->node);
     if (strcmp(what, "bank") == 0) return bank_words(s->layout, s->bank);
     if (strcmp(what, "second") == 0) return bank_words(s->layout, s->second);
     if (strcmp(what, "note") == 0) return s->note ? s->note : "";
     long long number = s->n[what[0] - '0'];
-    if (n == 1) return shown("%lld", number);
+    if (n == 1) return plain(number);
     return what[3] == 'X' ? shown("%0*llX", what[2] - '0', (unsigned long long)number) : several(number, what + 2);
 }
 
@@ -93,18 +88,16 @@ const char *words_of(enum cause cause, const struct said *s) { return shown("%s%
 static enum cause looks_like(struct bytes file) {
     static const char *const words[] = {"form ", "bank ", "rows ",   "limit ", "values ", "switch ", "label", "constant", "instruction",
                                         "data",  "open",  "reserve", "mark",   "kind ",   "align:",  "addr:", "assert",   "nothing"};
-    size_t at = has_mark(file) ? 3 : 0;
-    for (; at < file.len; at++) {
-        while (at < file.len && (file.at[at] == ' ' || file.at[at] == '\t')) at++;
-        if (at < file.len && file.at[at] == '#')
-            while (at < file.len && file.at[at] != '\n') at++;
-        else if (at < file.len && file.at[at] != '\n' && file.at[at] != '\r') break;
+    if (has_mark(file)) file.at += 3, file.len -= 3;
+    while (file.len > 0 && *file.at && strchr(" \t\r\n#", *file.at)) {
+        if (*file.at == '#') cut(&file, '\n');
+        else file.at++, file.len--;
     }
-    struct bytes line = {file.at + at, file.len - at};
-    if (line.len > 2 && line.at[0] == ':' && strchr("0123456789abcdefABCDEF", line.at[1] ? line.at[1] : '!')) return BROKEN_HEX;
-    if (line.len > 2 && (line.at[0] == 'S' || line.at[0] == 's') && line.at[1] >= '0' && line.at[1] <= '9') return BROKEN_SREC;
+    int second = file.len > 2 ? file.at[1] : 0;
+    if (begins(file, ":") && second && strchr("0123456789abcdefABCDEF", second)) return BROKEN_HEX;
+    if (kind_of(file) && second >= '0' && second <= '9') return BROKEN_SREC;
     for (size_t i = 0; i < sizeof words / sizeof *words; i++)
-        if (begins(line, words[i])) return BROKEN_WORDS;
+        if (begins(file, words[i])) return BROKEN_WORDS;
     return BROKEN;
 }
 
@@ -162,8 +155,7 @@ struct walk {
 };
 
 static void align_symbol(const struct layout *l, struct walk *w, long long bank, long long node) {
-    const struct node *n = &l->node[node];
-    if ((n->kind == LABEL || n->kind == CONSTANT) && n->operand == 0) w->at[bank] += distance(&l->bank[bank], w->at[bank], l->bank[bank].align);
+    if (is_symbol(&l->node[node]) && l->node[node].operand == 0) w->at[bank] += distance(&l->bank[bank], w->at[bank], l->bank[bank].align);
 }
 
 static void advance(const struct layout *l, struct walk *w, long long bank, long long node) {
@@ -202,7 +194,7 @@ static enum cause say_clash(struct said *s, long long from, long long size) {
     const struct layout *l = s->layout;
     s->node = l->fault;
     for (long long i = 0; i < l->fault && !s->note; i++)
-        if (is_placed(l, i) && l->node[i].output == from && l->node[i].bits == size) s->note = shown(": %s", node_words(l, s->names, i));
+        if (is_placed(l, i) && l->node[i].output == from && l->node[i].bits == size) s->note = shown(": %s", node_words(l, i));
     int is_mark = l->fault >= 0 && l->node[l->fault].bits == 0;
     return say(s, size == 0 ? AROUND_MARK : is_mark ? MARK_INSIDE : OVERLAPS, from, size, 0);
 }
@@ -215,7 +207,7 @@ static enum cause say_room(struct said *s, long long place) {
     if (place > 0) return OTHER_ROOM;
     for (long long i = 0; i < l->shown && !s->note; i++) {
         long long end = l->node[i].output + l->node[i].bits;
-        if (is_written(l, i) && end > 8 * l->room) s->note = shown(": %s ends at bit %lld", node_words(l, s->names, i), end);
+        if (is_written(l, i) && end > 8 * l->room) s->note = shown(": %s ends at bit %lld", node_words(l, i), end);
     }
     for (long long i = 0; i < l->banks && !s->note; i++) {
         long long end = l->bank[i].offset + l->bank[i].size;
@@ -294,8 +286,8 @@ static enum cause say_conversion(struct said *s, const struct refusal *r, int to
     return say(s, CONVERT_LONG, to, to == 2 ? 65536 : 65000, 0);
 }
 
-const char *refusal_words(const struct layout *l, const struct names *names, const struct refusal *r, int to) {
-    struct said s = {.layout = l, .names = names};
+const char *refusal_words(const struct layout *l, const struct refusal *r, int to) {
+    struct said s = {.layout = l};
     enum cause cause = to ? say_conversion(&s, r, to) : say_cause(&s, r);
     return words_of(cause, &s);
 }

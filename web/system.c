@@ -1,9 +1,7 @@
-/* The command in a page: ../command with the page in the place of an operating system (system.h). The page gives the files' bytes by name, and takes what is
+/* The command in a page: ../command with the page in the place of an operating system (system.c). The page gives the files' bytes by name, and takes what is
  * written. Nothing is proved here; what an answer says of a layout comes from the proved functions, as in the command. */
-#include "../command/system.h"
-#include "../command/say.h"
+#include "../command/command.h"
 #include <stdlib.h>
-#include <string.h>
 
 /* The page's own (core.js). */
 #define OF_PAGE(name) __attribute__((import_module("page"), import_name(name)))
