@@ -1,5 +1,6 @@
 /* The command line: options and files in any order, `--option=value` as `--option value`, and only files behind `--`. */
 #include "command.h"
+#include "texts.h"
 
 const struct option options[OPTIONS] = {
 #define OPTION(what, name, values, words) {name, values, words},
@@ -7,10 +8,9 @@ const struct option options[OPTIONS] = {
 };
 
 static uint32_t number(const char *name, const char *word) {
-    struct bytes digits = {(const uint8_t *)word, strlen(word)};
-    uint32_t n = 0;
-    if (!proved_number(digits, &n)) fail("%s takes a number up to 4294967295, decimal or in hex after 0x, not '%s'", name, escaped(word));
-    return n;
+    refusal__Opt n = prog_args__number((slice_u8){(const uint8_t *)word, strlen(word)});
+    if (n.tag != refusal__Opt_Some) fail("%s takes a number up to 4294967295, decimal or in hex after 0x, not '%s'", name, escaped(word));
+    return n.u.Some.f0;
 }
 
 /* Whether it is the second of the two words that an option takes, a bar between them. */
@@ -32,11 +32,11 @@ static void take(struct asked *asked, int at, const char *value, const char *nex
     asked->given |= 1u << at;
     int is_other = strchr(o->values, '|') ? is_second(o, value) : 0;
     switch (1 << at) {
-    case FILL: asked->choices.fill = (uint8_t)is_other; break;
-    case PAGE: asked->choices.page = number(o->name, value), asked->choices.has_page = 1; break;
+    case FILL: asked->fill = (uint8_t)is_other; break;
+    case PAGE: asked->page = number(o->name, value); break;
     case ROOM:
-        asked->choices.room = number(o->name, value);
-        if (asked->choices.room > ROOM_MAX) fail("--room takes at most %u bytes", ROOM_MAX);
+        asked->room = number(o->name, value);
+        if (asked->room > ROOM_MAX) fail("--room takes at most %u bytes", ROOM_MAX);
         break;
     case LOAD:
     case LOWEST: asked->load = number(o->name, value); break;
@@ -76,7 +76,7 @@ static int take_option(struct asked *asked, unsigned takes, int argc, char **arg
 }
 
 struct asked read_words(const struct command *command, int argc, char **argv) {
-    struct asked asked = {.choices = {.room = ROOM_USUAL}};
+    struct asked asked = {.room = ROOM_USUAL};
     int only_files = 0;
     for (int i = 2; i < argc; i++) {
         char *word = argv[i];

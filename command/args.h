@@ -19,16 +19,10 @@ struct option {
 };
 extern const struct option options[OPTIONS];
 
-struct choices { /* of a layout */
-    uint8_t fill; /* 0 inherited, 1 full */
-    uint32_t page, room;
-    int has_page;
-};
 struct asked {
     unsigned given;
-    struct choices choices;
-    uint8_t width;
-    uint32_t load, range[2];
+    uint8_t fill, width; /* a fill of 0 is inherited, of 1 full */
+    uint32_t page, room, load, range[2];
     const char *to, *out, *names[2], *file[2];
     int files;
 };

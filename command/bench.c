@@ -53,7 +53,7 @@ int do_bench(struct asked *asked) {
     if (has_range && (asked->given & CHECK)) fail("--check is for whole files, and --range asks for a part");
     struct bytes files[2] = {read_input(asked->file[0], BENCH_MAX), read_input(asked->file[1], BENCH_MAX)};
     asked->load = load_of(asked, files);
-    struct bytes text = proved_bench(files, asked->load, has_range ? asked->range : NULL);
+    struct bytes text = proved_bench(files, asked);
     struct refusal r = refusal_of(text);
     struct text said = {0}, object = {0};
     json(&object, "{'released':%s,'overlay':%s,'load':%lu", quoted(called(asked->file[0])), quoted(called(asked->file[1])), (unsigned long)asked->load);

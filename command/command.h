@@ -37,12 +37,12 @@ void put(struct text *t, const char *form, ...) LIKE_PRINTF(2, 3);
 void put_list(struct text *t, const char *form, va_list words);
 void put_bytes(struct text *t, const void *from, size_t n);
 struct bytes bytes_of(const struct text *t);
+struct bytes bytes_in(const char *word);
 int begins(struct bytes text, const char *begin);
 struct bytes cut(struct bytes *rest, char end); /* what stands ahead of the next `end`, or all; the rest begins behind that */
 struct bytes line_at(struct bytes text, uint64_t number); /* from 0 on; empty where there are not so many */
 struct bytes last_line(struct bytes text);
 long long number_of(struct bytes word, long long most); /* NONE where it is none; digits behind a number above `most` are not read */
-size_t character(const uint8_t *at, size_t n); /* the bytes of a printable character of UTF-8, 0 where none begins there */
 /* Words that live as long as the command. */
 const char *shown(const char *form, ...) LIKE_PRINTF(1, 2);
 const char *escaped(const char *word); /* a file's name may hold any bytes */
@@ -58,19 +58,14 @@ void tell_words(const char *words);
 NEVER_RETURNS void fail_words(const char *words);
 
 /* system.c: what the operating systems have in different ways */
-struct which {
-    unsigned long long volume, file;
-    int is_known;
-};
 void prepare(void); /* first of all */
 int open_input(const char *name); /* a descriptor, or -1 */
 long read_some(int from, void *room, size_t n); /* 0 at the end, -1 for a fault */
 int close_file(int fd);
-struct which which_input(int from, int *is_folder);
+int note_input(int from); /* so that it is not written over; whether it is a folder */
 int is_regular(const char *name); /* whether there is such a file, no folder and no pipe */
-int is_same(struct which a, struct which b);
 int write_all(int to, const void *from, size_t n); /* 0, or -1 for a fault */
-void put_in_place(const char *name, const void *from, size_t n, int (*is_input)(struct which)); /* whole or not at all */
+void put_in_place(const char *name, struct bytes text); /* whole or not at all; never over an input */
 const char *why(void); /* the last fault in words */
 
 /* files.c: files in and answers out. The longest input of each kind; the proved functions refuse one that is a byte longer. */
@@ -117,14 +112,13 @@ struct verified {
     long long asked; /* how many bytes were held against the image's */
     struct bytes found; /* what was read back, from the load address on */
 };
-int proved_number(struct bytes word, uint32_t *n);
-struct bytes proved_layout(struct bytes file, const struct choices *c);
-struct bytes proved_map(struct bytes file, const struct choices *c);
+struct bytes proved_layout(struct bytes file, const struct asked *asked);
+struct bytes proved_map(struct bytes file, const struct asked *asked);
 struct bytes proved_records(struct bytes file, const struct asked *asked, uint8_t format);
-struct bytes proved_rehex(struct bytes file, uint8_t kind, uint8_t format, uint32_t load);
-struct bytes proved_bench(const struct bytes *files, uint32_t load, const uint32_t *range); /* address and count, or NULL */
+struct bytes proved_rehex(const struct source *s, uint8_t format);
+struct bytes proved_bench(const struct bytes *files, const struct asked *asked);
 struct bytes proved_convert(struct bytes file, int form); /* the file, or the refusal's line, with which no file begins */
-struct built proved_build(struct bytes file, const struct choices *c);
+struct built proved_build(struct bytes file, const struct asked *asked);
 struct bytes proved_write(const struct built *b, const struct asked *asked, uint8_t format, struct refusal *r); /* records; r->number is 0, 4 or 16 */
 struct verified proved_verify(const struct built *b, const struct source *dump, const struct asked *asked, struct refusal *r);
 int proved_reads(const struct source *s, uint32_t load); /* whether it would be read with that load address */
@@ -200,9 +194,8 @@ struct said { /* what fills the places of a cause's words */
     long long node, bank, second, n[3];
     const char *note;
 };
-const char *words_alone(enum cause cause, const struct said *s);
-const char *remedy(enum cause cause); /* ahead of it a full stop; empty where there is none */
-const char *words_of(enum cause cause, const struct said *s); /* and the remedy */
+const char *words_of(enum cause cause, const struct said *s); /* and what to do about it */
+const char *words_with(enum cause cause, const struct said *s, const char *between); /* what stands between the two */
 const char *refusal_words(const struct layout *l, const struct refusal *r, int to); /* of a conversion into form `to`, or with 0 of a layout */
 
 /* records.c: files of records, and why one is not read */
@@ -212,7 +205,7 @@ const char *unread(const struct source *s, int number, int has_line); /* a refus
 
 /* json.c: the answer as JSON, and how a command ends that has one */
 void json(struct text *t, const char *form, ...) LIKE_PRINTF(2, 3); /* ' stands for "; behind a comma where something stands before it */
-const char *quoted(const char *word); /* null for NULL */
+const char *quoted(const char *word); /* of printable UTF-8; null for NULL */
 const char *or_null(long long number); /* null for NONE */
 void json_node(struct text *t, const struct layout *l, long long node); /* an object without its end: the keys of a node that has a place */
 void json_blocks(struct text *t, const struct blocks *b);
@@ -223,4 +216,25 @@ int finish(const struct asked *asked, const struct text *text, struct text *obje
 
 /* map.c: the map as tables and as JSON */
 void put_map(struct text *t, struct text *object, const char *title, const struct layout *l);
+
+/* compare.c, pair.c: the nodes of two layouts, and which of them are the same */
+enum { MOVED, GROWN, SHRUNK, CONTENTS, KIND, NEW, GONE, DIFFERENCES };
+struct one { /* a node that is compared, and the one that it is on the other side */
+    const struct layout *layout;
+    const struct node *node;
+    long long number;
+    uint64_t alike; /* of its kind, size and contents */
+    const char *name, *behind; /* its own, and that of the named node before it; empty where there is none */
+    struct one *other;
+    int is_common; /* too many are alike for a run of them to say anything */
+};
+struct side {
+    struct layout *layout;
+    struct one *ones;
+    size_t count;
+};
+struct side read_side(const struct asked *asked, int i); /* fails where its layout is refused */
+void pair_all(struct side *a, struct side *b);
+unsigned changes(const struct one *x, const struct one *y); /* a bit each; one of the two may be NULL */
+const char *changes_words(unsigned found); /* with commas between */
 #endif

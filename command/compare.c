@@ -1,5 +1,5 @@
 /* What moved between two layouts, node by node, and what else differs. */
-#include "compare.h"
+#include "command.h"
 
 static const char *const differences[] = {"moved", "grown", "shrunk", "other contents", "other kind", "new", "gone"};
 static const char *const count_keys[] = {"same", "moved", "grown", "shrunk", "other_contents", "other_kind", "new", "gone"};
@@ -234,7 +234,7 @@ static uint64_t hash_of(const struct layout *l, long long i) {
 struct side read_side(const struct asked *asked, int i) {
     struct bytes file = read_input(asked->file[i], LAYOUT_MAX);
     struct layout *l = open_layout(asked, i, file);
-    l->built = proved_build(file, &asked->choices);
+    l->built = proved_build(file, asked);
     if (l->built.refusal.number) fail_refused(asked, i, l);
     struct side s = {l, memory((size_t)l->shown + 1, sizeof *s.ones), 0};
     const char *behind = "";

@@ -17,10 +17,7 @@ const char *quoted(const char *word) {
     struct text t = {0};
     if (!word) return "null";
     put(&t, "\"");
-    for (; *word; word++) {
-        if ((unsigned char)*word < 32) put(&t, "\\u%04x", (unsigned)*word);
-        else put(&t, *word == '"' || *word == '\\' ? "\\%c" : "%c", *word);
-    }
+    for (; *word; word++) put(&t, *word == '"' || *word == '\\' ? "\\%c" : "%c", *word);
     put(&t, "\"");
     return t.at;
 }

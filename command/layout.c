@@ -126,10 +126,10 @@ static void take_line(struct layout *l, struct bytes line) {
 
 struct layout *open_layout(const struct asked *asked, int i, struct bytes file) {
     struct layout *l = read_layout(file);
-    struct bytes map = proved_map(file, &asked->choices);
+    struct bytes map = proved_map(file, asked);
     while (map.len > 0) take_line(l, cut(&map, '\n'));
-    l->is_full = asked->choices.fill;
-    l->room = asked->choices.room;
+    l->is_full = asked->fill;
+    l->room = asked->room;
     l->names = find_names(asked, i, file);
     return l;
 }
@@ -160,11 +160,7 @@ long long distance(const struct bank *b, long long position, long long alignment
 }
 
 int is_written(const struct layout *l, long long node) { return l->node[node].kind >= INSTRUCTION && l->node[node].kind <= OPEN; }
-
 int is_placed(const struct layout *l, long long node) { return l->node[node].kind >= INSTRUCTION && l->node[node].kind <= RESERVE; }
-
 int is_symbol(const struct node *n) { return n->kind == LABEL || n->kind == CONSTANT; }
-
 int is_filled(const struct bank *b) { return b->fill && b->size != NONE && b->offset != NONE; }
-
 int is_beyond(const struct bank *b) { return b->start > 1099511627776 || b->start < -1099511627776; }

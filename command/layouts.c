@@ -10,7 +10,7 @@ static int print_layout(const struct asked *asked, struct bytes text, const char
 }
 
 int do_layout(struct asked *asked) {
-    struct bytes file = read_input(asked->file[0], LAYOUT_MAX), text = proved_layout(file, &asked->choices);
+    struct bytes file = read_input(asked->file[0], LAYOUT_MAX), text = proved_layout(file, asked);
     struct refusal r = refusal_of(last_line(text));
     struct layout *l = asked->names[0] || r.number ? open_layout(asked, 0, file) : NULL;
     const char *refused = r.number ? refusal_words(l, &r, 0) : NULL;
@@ -18,7 +18,7 @@ int do_layout(struct asked *asked) {
     if (!(asked->given & JSON)) return print_layout(asked, text, refused);
     json(&object, "{'file':%s", quoted(called(asked->file[0])));
     if (!refused) {
-        struct built b = proved_build(file, &asked->choices);
+        struct built b = proved_build(file, asked);
         json(&object, "'passes':%lld", b.passes);
         json_blocks(&object, &b.blocks);
         json(&object, "'image':'%s'", value(b.image, 0, (b.bits + 3) / 4 * 4));
@@ -35,40 +35,30 @@ int do_map(struct asked *asked) {
     const struct refusal *r = &l->built.refusal;
     struct text t = {0}, object = {0};
     if (!r->number) {
-        l->built = proved_build(file, &asked->choices); /* 14 is the layout's alone to say, since the map lends no image */
+        l->built = proved_build(file, asked); /* 14 is the layout's alone to say, since the map lends no image */
         if (r->number != 0 && r->number != 14) fail("the map and the layout do not agree");
     }
     const char *refused = r->number ? refusal_words(l, r, 0) : NULL;
     json(&object, "{'file':%s", quoted(called(asked->file[0])));
     if (!is_lines && l->has_map) put_map(&t, &object, titled(asked->file[0]), l);
     json_end(&object, r, refused);
-    return print_layout(asked, is_lines ? proved_map(file, &asked->choices) : bytes_of(is_json ? &object : &t), refused);
+    return print_layout(asked, is_lines ? proved_map(file, asked) : bytes_of(is_json ? &object : &t), refused);
 }
 
-/* 14 of other rooms than the image's, 15, 16 and 17 are of calls that no layout file shows: they are said in general. */
-static int is_of_layout(const struct refusal *r) { return r->number < 15 ? r->number != 14 || r->place[0] == 0 : r->number >= 18; }
-
-/* Whether the layout, or its conversion, is refused so; what it says instead goes to standard error. */
-static int is_so(const struct refusal *r, struct refusal found, const char *file) {
-    if (found.number == r->number && found.place[0] == r->place[0] && found.place[1] == r->place[1]) return 1;
-    tell_user("%s does not have this refusal: it is %s", called(file),
-              found.number ? spelled(&found) : "accepted; --fill, --page and --to are those of the refused call");
-    return 0;
-}
-
+/* The layout, or its conversion, has to be refused so. 14 of other rooms than the image's, 15, 16 and 17 are of calls that no layout file shows: they are said
+ * in general. */
 int do_words(struct asked *asked) {
-    struct bytes said = {(const uint8_t *)asked->file[1], strlen(asked->file[1])}, file;
-    struct refusal r = refusal_of(said);
+    struct refusal r = refusal_of(bytes_in(asked->file[1]));
     if (r.number < 1 || r.number > 19 || r.places < 1 || strcmp(spelled(&r), asked->file[1]) != 0)
         fail("usage: denkumari words FILE 'refused NUMBER PLACE ..'");
-    file = read_input(asked->file[0], LAYOUT_MAX);
+    struct bytes file = read_input(asked->file[0], LAYOUT_MAX);
     struct layout *l = open_layout(asked, 0, file);
-    struct text text = {0};
-    int to = asked->to ? asked->to[0] - '0' : 0;
-    struct bytes line = to ? proved_convert(file, to) : last_line(proved_layout(file, &asked->choices));
-    if ((to || is_of_layout(&r)) && !is_so(&r, refusal_of(line), asked->file[0])) return FAILED;
-    put(&text, "%s\n", refusal_words(l, &r, to));
-    return answer(bytes_of(&text), NULL);
+    int to = asked->to ? asked->to[0] - '0' : 0, is_general = !to && ((r.number == 14 && r.place[0] != 0) || (r.number >= 15 && r.number <= 17));
+    struct refusal found = refusal_of(to ? proved_convert(file, to) : last_line(proved_layout(file, asked)));
+    if (!is_general && (found.number != r.number || memcmp(found.place, r.place, sizeof r.place) != 0))
+        fail("%s does not have this refusal: it is %s", called(asked->file[0]),
+             found.number ? spelled(&found) : "accepted; --fill, --page and --to are those of the refused call");
+    return answer(bytes_in(shown("%s\n", refusal_words(l, &r, to))), NULL);
 }
 
 int do_convert(struct asked *asked) {

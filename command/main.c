@@ -21,9 +21,7 @@ static const struct command commands[] = {
 int do_form(struct asked *asked) { fail("%s is shown by a script, which this installation does not have", escaped(asked->file[0])); }
 
 static int print_version(void) {
-    struct text t = {0};
-    put(&t, "denkumari " DENKUMARI_VERSION "\nkit " DENKUMARI_KIT "\ncommit " DENKUMARI_COMMIT "\nsources " DENKUMARI_SOURCES "\n");
-    return answer(bytes_of(&t), NULL);
+    return answer(bytes_in("denkumari " DENKUMARI_VERSION "\nkit " DENKUMARI_KIT "\ncommit " DENKUMARI_COMMIT "\nsources " DENKUMARI_SOURCES "\n"), NULL);
 }
 
 static int print_help(void) {

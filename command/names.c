@@ -3,12 +3,10 @@
 
 enum { NODES = 8200, DIGITS_MOST = 99999999 };
 
-static int is_plain(struct bytes b) {
-    for (size_t i = 0, size; i < b.len; i += size) {
-        size = character(b.at + i, b.len - i);
-        if (size == 0) return 0;
-    }
-    return 1;
+/* NULL where it has anything that is not printable. */
+static const char *plain_words(struct bytes part) {
+    const char *words = shown("%.*s", PRINTED(part));
+    return strlen(words) == part.len && strcmp(escaped(words), words) == 0 ? words : NULL;
 }
 
 static uint32_t shifted(uint32_t crc, size_t byte) {
@@ -27,20 +25,16 @@ static const char *sum_of(struct bytes file, char between) {
 
 /* A line: its node's number. The first may say of which layout file the names are: `form`, the sum and the length, and is NONE; a bad one is below that. */
 static long long read_line(struct names *names, struct bytes line, const char **belongs) {
-    int tabs = 0;
-    for (size_t i = 0; i < line.len; i++) tabs += line.at[i] == '\t';
-    struct bytes first = cut(&line, '\t'), name = cut(&line, '\t'), place = line;
+    struct bytes first = cut(&line, '\t'), second = cut(&line, '\t');
+    const char *name = plain_words(second), *place = plain_words(line);
     long long node = number_of(first, DIGITS_MOST);
-    if (belongs && tabs == 2 && first.len == 4 && begins(first, "form") && number_of(name, DIGITS_MOST) >= 0 && number_of(place, DIGITS_MOST) >= 0) {
-        *belongs = shown("%.*s %.*s", PRINTED(name), PRINTED(place));
+    if (line.at == second.at + second.len || !name || !place) return NONE - 1; /* fewer tabs than two, or more */
+    if (belongs && first.len == 4 && begins(first, "form") && number_of(second, DIGITS_MOST) >= 0 && number_of(line, DIGITS_MOST) >= 0) {
+        *belongs = shown("%s %s", name, place);
         return NONE;
     }
-    if (node < 0 || tabs != 2 || !is_plain(name) || !is_plain(place)) return NONE - 1;
-    if (node < NODES) {
-        names->name[node] = shown("%.*s", PRINTED(name));
-        names->place[node] = shown("%.*s", PRINTED(place));
-    }
-    return node;
+    if (node >= 0 && node < NODES) names->name[node] = name, names->place[node] = place;
+    return node < 0 ? NONE - 1 : node;
 }
 
 /* What is wrong with a names file, or NULL; `belongs` is the sum in its first line, NULL where it has none. */
@@ -93,11 +87,8 @@ void write_names(const char *form, const struct layout *l, struct bytes file) {
 }
 
 static int is_listed(const struct layout *l, long long node) { return l->names && node >= 0 && node < NODES; }
-
 const char *name_of(const struct layout *l, long long node) { return is_listed(l, node) && l->names->name[node] ? l->names->name[node] : ""; }
-
 const char *place_of(const struct layout *l, long long node) { return is_listed(l, node) && l->names->place[node] ? l->names->place[node] : ""; }
-
 int has_name(const struct layout *l, long long node) { return *name_of(l, node) || *place_of(l, node); }
 
 const char *called_node(const struct layout *l, long long node) {

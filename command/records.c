@@ -28,8 +28,8 @@ static const char *reason_words(const struct source *f) {
     int is_other = r.reason == 1 && f->kind == 0 && kind_of(f->file);
     enum cause cause = has_mark(f->file) ? RECORDS_MARK : is_other ? RECORDS_SREC : (enum cause)(REASON_1 + r.reason - 1);
     if (r.reason == 2 || r.reason == 11) s.n[0]++; /* characters and lines as people count them */
-    return shown("line %llu: %s%s%s", (unsigned long long)r.line + 1, cause == REASON_1 && !*line ? "a blank line" : words_alone(cause, &s),
-                 *line && r.reason < 13 ? shown(": \"%s\"", line) : "", remedy(cause));
+    const char *words = words_with(cause, &s, *line && r.reason < 13 ? shown(": \"%s\"", line) : "");
+    return shown("line %llu: %s", (unsigned long long)r.line + 1, cause == REASON_1 && !*line ? "a blank line" : words);
 }
 
 const char *unread(const struct source *f, int number, int has_line) {
@@ -53,36 +53,26 @@ const char *ragged(const struct layout *l) {
     return shown("block %d (output bits %lld..%lld%s)", (int)at, first, last, item);
 }
 
-/* The records of a layout: by the proved text function, or, where more room is asked for than it lends, by the proved calls one after the other. */
-static struct bytes written(const struct asked *asked, struct bytes file, uint8_t format, struct refusal *r, int *of_records) {
-    struct bytes text = {NULL, 0};
-    if (!(asked->given & ROOM)) {
-        text = proved_records(file, asked, format);
-        *of_records = begins(line_at(text, 1), "records");
-        *r = refusal_of(text);
-        return text;
-    }
-    struct built b = proved_build(file, &asked->choices);
-    *r = b.refusal;
-    *of_records = r->number == 0;
-    return r->number == 0 ? proved_write(&b, asked, format, r) : text;
-}
-
+/* The records of a layout: by the proved text function, or, where other room is asked for than it lends, by the proved calls one after the other. */
 static int do_records(struct asked *asked, uint8_t format) {
-    struct bytes file = read_input(asked->file[0], LAYOUT_MAX);
-    struct refusal r;
-    int of_records;
-    struct bytes text = written(asked, file, format, &r, &of_records);
+    struct bytes file = read_input(asked->file[0], LAYOUT_MAX), text = proved_records(file, asked, format);
+    struct refusal r = refusal_of(text);
+    int of_records = begins(line_at(text, 1), "records");
+    if (asked->given & ROOM) {
+        struct built b = proved_build(file, asked);
+        r = b.refusal;
+        of_records = r.number == 0;
+        if (of_records) text = proved_write(&b, asked, format, &r);
+    }
     if (r.number == 0) return answer(text, asked->out);
     struct layout *l = open_layout(asked, 0, file);
     if (!of_records) return refuse(&r, refusal_words(l, &r, 0));
     if (r.number != 16) return refuse(&r, words_of(RECORDS_ADDRESS, &(struct said){0}));
-    l->built = proved_build(file, &asked->choices);
+    l->built = proved_build(file, asked);
     return refuse(&r, words_of(RECORDS_EDGES, &(struct said){.note = ragged(l)}));
 }
 
 int do_ihex(struct asked *asked) { return do_records(asked, 0); }
-
 int do_srec(struct asked *asked) { return do_records(asked, asked->width ? asked->width : 4); }
 
 int do_rehex(struct asked *asked) {
@@ -92,7 +82,7 @@ int do_rehex(struct asked *asked) {
     int to_srec = asked->to ? asked->to[0] == 's' : !f.kind;
     if (!to_srec && asked->width) fail("--width is for S-records, and %s has some: Intel HEX comes out", called(asked->file[0]));
     if (!(asked->given & LOWEST)) f.load = f.file.len > RECORDS_MAX ? 0 : proved_lowest(f.file, f.kind);
-    struct bytes text = proved_rehex(f.file, f.kind, !to_srec ? 0 : asked->width ? asked->width : 4, f.load);
+    struct bytes text = proved_rehex(&f, !to_srec ? 0 : asked->width ? asked->width : 4);
     struct refusal r = refusal_of(text);
     int has_line = begins(line_at(text, 1), "line "), is_address = r.number == 4 && !has_line && f.file.len <= f.limit;
     if (r.number == 0) return answer(text, asked->out);

@@ -58,11 +58,8 @@ const char *shown(const char *form, ...) {
 }
 
 const char *several(long long count, const char *what) { return shown("%lld %s%s", count, what, count == 1 ? "" : "s"); }
-
 const char *plain(long long number) { return shown("%lld", number); }
-
 const char *both(long long number) { return number < 10 ? plain(number) : shown("%lld = 0x%llx", number, (unsigned long long)number); }
-
 const char *or_dash(long long number) { return number == NONE ? "-" : plain(number); }
 
 const char *in_hex(long long address, long long past) {
@@ -70,11 +67,8 @@ const char *in_hex(long long address, long long past) {
     return past ? shown("%s+%lld", at, past) : at;
 }
 
-struct bytes bytes_of(const struct text *t) {
-    struct bytes b = {(const uint8_t *)t->at, t->len};
-    return b;
-}
-
+struct bytes bytes_of(const struct text *t) { return (struct bytes){(const uint8_t *)t->at, t->len}; }
+struct bytes bytes_in(const char *word) { return (struct bytes){(const uint8_t *)word, strlen(word)}; }
 int begins(struct bytes text, const char *begin) { return text.len >= strlen(begin) && memcmp(text.at, begin, strlen(begin)) == 0; }
 
 struct bytes cut(struct bytes *rest, char end) {
@@ -106,8 +100,8 @@ long long number_of(struct bytes word, long long most) {
     return word.len == 0 || (is_below && n == 0) ? NONE : is_below ? -n : n;
 }
 
-/* Control characters, those of C1 too, are not printable; nor is what UTF-8 does not allow. */
-size_t character(const uint8_t *at, size_t n) {
+/* The bytes of a printable character of UTF-8, 0 where none begins: control characters, those of C1 too, are not printable, nor is what UTF-8 does not allow. */
+static size_t character(const uint8_t *at, size_t n) {
     static const uint32_t least[] = {0, ' ', 0xa0, 0x800, 0x10000};
     size_t size = n == 0 ? 0 : at[0] < 0x80 ? 1 : at[0] < 0xc2 ? 0 : at[0] < 0xe0 ? 2 : at[0] < 0xf0 ? 3 : 4;
     if (size == 0 || n < size) return 0;

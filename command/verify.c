@@ -127,7 +127,7 @@ int do_verify(struct asked *asked) {
     struct verified v = {0};
     struct text object = {0};
     const char *words = NULL, *hint = NULL;
-    *built = proved_build(file, &asked->choices);
+    *built = proved_build(file, asked);
     struct refusal r = built->refusal;
     dump.kind = kind_of(dump.file);
     uint32_t lowest = proved_lowest(dump.file, dump.kind);

@@ -13,7 +13,7 @@ static const struct {
 /* The number of a node that no pass has placed, in each row. */
 static void put_numbers(struct text *t, const struct layout *l, long long node) {
     int kind = l->node[node].kind;
-    long long now = l->has_map ? row_of(l, l->passes) : 0, number = number_at(l, node, now);
+    long long number = number_at(l, node, l->has_map ? row_of(l, l->passes) : 0);
     put(t, ", %s%lld", kind >= ALIGN ? "to " : "", number);
     for (long long r = 1; !l->has_map && kind != DATA && r < l->rows; r++)
         if (number_at(l, node, r) != number) put(t, ", then %lld", number_at(l, node, r));
@@ -31,58 +31,49 @@ static void put_place(struct text *t, const struct layout *l, long long i) {
 }
 
 static const char *node_words(const struct layout *l, long long i) {
-    const struct node *n = &l->node[i];
+    int kind = l->node[i].kind, is_known = kind <= ASSERT;
     struct text t = {0};
     if (i >= l->nodes) return called_node(l, i);
-    put(&t, "%s (%s%s", called_node(l, i), has_name(l, i) ? shown("node %lld, ", i) : "", n->kind > ASSERT ? shown("kind %d", n->kind) : kind_words[n->kind]);
-    if (n->kind == SWITCH) put(&t, " to %lld", n->operand);
-    else if (n->kind <= ASSERT && i < l->shown) put_place(&t, l, i);
-    else if (n->kind <= ASSERT) put(&t, ", bank %lld", bank_at(l, i));
-    if (n->kind >= INSTRUCTION && n->kind <= ADDR && i >= l->shown) put_numbers(&t, l, i);
+    put(&t, "%s (%s%s", called_node(l, i), has_name(l, i) ? shown("node %lld, ", i) : "", is_known ? kind_words[kind] : shown("kind %d", kind));
+    if (kind == SWITCH) put(&t, " to %lld", l->node[i].operand);
+    else if (is_known && i < l->shown) put_place(&t, l, i);
+    else if (is_known) put(&t, ", bank %lld", bank_at(l, i));
+    if (kind >= INSTRUCTION && kind <= ADDR && i >= l->shown) put_numbers(&t, l, i);
     put(&t, ")");
     return t.at;
 }
 
 static const char *bank_words(const struct layout *l, long long i) {
     const struct bank *b = &l->bank[i];
-    struct text t = {0};
-    put(&t, "bank %lld", i);
-    if (i >= l->banks) return t.at;
-    put(&t, " (unit %lld, start %s, %s", b->unit, is_beyond(b) ? plain(b->start) : both(b->start), b->size == NONE ? "no size" : shown("size %lld", b->size));
-    if (b->offset != NONE) put(&t, ", output from bit %lld", b->offset);
-    if (b->offset != NONE && b->size > 0) put(&t, " to %lld", b->offset + b->size - 1);
-    put(&t, "%s)", !b->fill ? "" : b->bit ? ", filled with ones" : ", filled");
-    return t.at;
+    if (i >= l->banks) return shown("bank %lld", i);
+    const char *size = b->size == NONE ? "no size" : shown("size %lld", b->size), *from = b->offset == NONE ? "" : shown(", output from bit %lld", b->offset);
+    const char *to = b->offset != NONE && b->size > 0 ? shown(" to %lld", b->offset + b->size - 1) : "", *fill = b->bit ? ", filled with ones" : ", filled";
+    return shown("bank %lld (unit %lld, start %s, %s%s%s%s)", i, b->unit, is_beyond(b) ? plain(b->start) : both(b->start), size, from, to, b->fill ? fill : "");
 }
 
 /* One place of a cause's words: what stands between its braces. */
-static const char *blank_words(const char *blank, size_t n, const struct said *s) {
-    char what[20] = "";
-    if (n >= sizeof what) return "";
-    memcpy(what, blank, n);
-    if (strcmp(what, "node") == 0) return node_words(s->layout, s->node);
-    if (strcmp(what, "bank") == 0) return bank_words(s->layout, s->bank);
-    if (strcmp(what, "second") == 0) return bank_words(s->layout, s->second);
-    if (strcmp(what, "note") == 0) return s->note ? s->note : "";
-    long long number = s->n[what[0] - '0'];
-    if (n == 1) return plain(number);
-    return what[3] == 'X' ? shown("%0*llX", what[2] - '0', (unsigned long long)number) : several(number, what + 2);
+static const char *blank_words(struct bytes blank, const struct said *s) {
+    if (begins(blank, "node")) return node_words(s->layout, s->node);
+    if (begins(blank, "bank")) return bank_words(s->layout, s->bank);
+    if (begins(blank, "second")) return bank_words(s->layout, s->second);
+    if (begins(blank, "note")) return s->note ? s->note : "";
+    long long number = blank.len > 0 ? s->n[blank.at[0] - '0'] : 0;
+    if (blank.len < 2) return blank.len ? plain(number) : "";
+    return blank.at[3] == 'X' ? shown("%0*llX", blank.at[2] - '0', (unsigned long long)number) : several(number, shown("%.*s", (int)blank.len - 2, blank.at + 2));
 }
 
-const char *words_alone(enum cause cause, const struct said *s) {
+const char *words_with(enum cause cause, const struct said *s, const char *between) {
+    struct bytes rest = bytes_in(table[cause].words);
     struct text t = {0};
-    for (const char *w = table[cause].words; *w; w++) {
-        const char *end = *w == '{' ? strchr(w, '}') : NULL;
-        if (end) put(&t, "%s", blank_words(w + 1, (size_t)(end - w) - 1, s));
-        else put(&t, "%c", *w);
-        if (end) w = end;
+    while (rest.len > 0) {
+        struct bytes words = cut(&rest, '{'), blank = cut(&rest, '}');
+        put(&t, "%.*s%s", PRINTED(words), blank_words(blank, s));
     }
+    put(&t, "%s%s%s", between, *table[cause].remedy ? ". " : "", table[cause].remedy);
     return t.at;
 }
 
-const char *remedy(enum cause cause) { return *table[cause].remedy ? shown(". %s", table[cause].remedy) : ""; }
-
-const char *words_of(enum cause cause, const struct said *s) { return shown("%s%s", words_alone(cause, s), remedy(cause)); }
+const char *words_of(enum cause cause, const struct said *s) { return words_with(cause, s, ""); }
 
 /* What a file that is no layout file looks like, by its first line that is neither empty nor a remark. */
 static enum cause looks_like(struct bytes file) {
@@ -112,12 +103,6 @@ static enum cause say_broken(struct said *s) {
     return looks_like(s->layout->file);
 }
 
-static enum cause say_table(const struct bank *b) {
-    if (b->unit == 0) return BANK_UNIT;
-    if (is_beyond(b)) return BANK_START;
-    return b->fill && b->size == 0 ? BANK_EMPTY : BANK_ONES;
-}
-
 /* 4: the file's own fault, else the list's: node count, row count, then the lowest node, its number and state in each row. */
 static enum cause say_list(struct said *s) {
     const struct layout *l = s->layout;
@@ -125,9 +110,10 @@ static enum cause say_list(struct said *s) {
     if (l->why) return say_broken(s);
     if (l->nodes > 4096) return say(s, NODE_COUNT, l->nodes, 0, 0);
     if (l->rows < 1 || l->rows > 16) return say(s, ROW_COUNT, l->rows, 0, 0);
-    if (s->node < l->nodes && n->kind > ASSERT) return say(s, NODE_KIND, n->kind, 0, 0);
-    if (s->node < l->nodes && n->kind == SWITCH && n->operand >= l->banks) return say(s, NODE_BANK, l->banks, 0, 0);
-    for (long long r = 0; s->node < l->nodes && n->kind > LABEL && r < l->rows; r++) { /* kinds 0 to 2 have no state that is read */
+    if (s->node >= l->nodes) return say(s, MALFORMED, s->node, 0, 0);
+    if (n->kind > ASSERT) return say(s, NODE_KIND, n->kind, 0, 0);
+    if (n->kind == SWITCH && n->operand >= l->banks) return say(s, NODE_BANK, l->banks, 0, 0);
+    for (long long r = 0; n->kind > LABEL && r < l->rows; r++) { /* kinds 0 to 2 have no state that is read */
         int state = l->state[r * l->nodes + s->node], is_read = n->kind == INSTRUCTION || n->kind == OPEN || (n->kind == DATA && r == 0);
         long long end = n->operand + l->number[r * l->nodes + s->node];
         if (state > 2) return say(s, NODE_STATE, r, state, 0);
@@ -161,10 +147,10 @@ static void align_symbol(const struct layout *l, struct walk *w, long long bank,
 static void advance(const struct layout *l, struct walk *w, long long bank, long long node) {
     int kind = l->node[node].kind, is_open = l->state[w->row * l->nodes + node] != 0;
     long long number = number_at(l, node, w->row);
-    if (kind >= INSTRUCTION && kind <= RESERVE) w->at[bank] += number;
+    if (is_placed(l, node)) w->at[bank] += number;
     if (kind == ALIGN) w->at[bank] += distance(&l->bank[bank], w->at[bank], number);
     if (kind == ADDR) w->at[bank] = number, w->is_unknown[bank] = is_open;
-    else if (kind >= INSTRUCTION && kind <= ALIGN && kind != DATA) w->is_unknown[bank] |= is_open;
+    else if ((is_placed(l, node) || kind == ALIGN) && kind != DATA) w->is_unknown[bank] |= is_open;
 }
 
 /* 8: the first node that the last pass leaves unresolved: by its own state, or a label by where it stands and stood. */
@@ -249,7 +235,7 @@ static enum cause say_cause(struct said *s, const struct refusal *r) {
     const struct bank *b = &l->bank[s->bank < l->banks ? s->bank : 0];
     switch (r->number) {
     case 1: return say(s, BANK_COUNT, l->banks, 0, 0);
-    case 2: return say_table(b);
+    case 2: return b->unit == 0 ? BANK_UNIT : is_beyond(b) ? BANK_START : b->fill && b->size == 0 ? BANK_EMPTY : BANK_ONES;
     case 3: return BANKS_OVERLAP;
     case 4: return say_list(s);
     case 5: return say_far(s);

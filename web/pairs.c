@@ -1,6 +1,6 @@
 /* Which nodes of two layouts are the same, for the page that draws both: compare's own pairs, a line each, OLD NEW CHANGES with - for a node that there is
  * not. */
-#include "../command/compare.h"
+#include "../command/command.h"
 
 static const struct command pairs = {.name = "pairs", .takes = FILL | BOTH_NAMES, .least = 2, .most = 2};
 

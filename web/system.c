@@ -26,30 +26,20 @@ int close_file(int fd) {
     return 0;
 }
 
-struct which which_input(int from, int *is_folder) {
-    struct which w = {0, 0, 0};
+int note_input(int from) {
     (void)from;
-    *is_folder = 0;
-    return w;
+    return 0;
 }
 
 int is_regular(const char *name) { return open_input(name) >= 0; }
-
-int is_same(struct which a, struct which b) {
-    (void)a;
-    (void)b;
-    return 0;
-}
 
 int write_all(int to, const void *from, size_t n) {
     page_write(to, from, n);
     return 0;
 }
 
-void put_in_place(const char *name, const void *from, size_t n, int (*is_input)(struct which)) {
-    (void)from;
-    (void)n;
-    (void)is_input;
+void put_in_place(const char *name, struct bytes text) {
+    (void)text;
     fail("%s could not be written: a page has no files", escaped(name));
 }
 
