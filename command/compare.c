@@ -113,8 +113,8 @@ static void put_pairs(struct text *t, struct text *object, const struct side *a,
 static const struct {
     const char *words, *key;
     int may_be_none;
-} said[] = {{"unit ", "unit", 0}, {"start ", "start", 0}, {"size ", "size", 1}, {"offset ", "offset", 1}, {"label alignment ", "align", 1}, {"fill ", "fill", 0},
-            {"fill bit ", "fill_bit", 0}, {"padding ", "padding", 0}, {"padding in units ", "padding_units", 0}, {"used ", "used", 0}};
+} said[] = {{"unit ", "unit", 0}, {"start ", "start", 0}, {"size ", "size", 1}, {"offset ", "offset", 1}, {"label alignment ", "align", 1},
+            {"fill ", "fill", 0}, {"fill bit ", "fill_bit", 0}, {"padding ", "padding", 0}, {"padding in units ", "padding_units", 0}, {"used ", "used", 0}};
 enum { SAID = sizeof said / sizeof *said };
 
 /* 0 where there is no such bank. */
@@ -176,10 +176,11 @@ static void put_blocks(struct text *t, struct text *object, const struct blocks 
 
 static const char *span(long long first, long long last) { return last > first ? shown("%lld..%lld", first, last) : plain(first); }
 
-/* The runs of bytes that both images have and that differ. */
-static void put_runs(struct text *t, struct text *object, struct bytes a, struct bytes b, long long shorter) {
+/* The runs of bytes that both images have and that differ, and what one of them has alone. */
+static void put_image(struct text *t, struct text *object, struct bytes a, struct bytes b) {
+    long long was = (long long)a.len, is = (long long)b.len, shorter = was < is ? was : is, longer = was < is ? is : was, sum = 0;
     struct text runs = {0};
-    long long sum = 0;
+    json(object, "'image':{'old_bytes':%lld,'new_bytes':%lld,'runs':[", was, is);
     for (long long i = 0, first; i < shorter; i++) {
         if (a.at[i] == b.at[i]) continue;
         for (first = i; i + 1 < shorter && a.at[i + 1] != b.at[i + 1];) i++;
@@ -188,18 +189,10 @@ static void put_runs(struct text *t, struct text *object, struct bytes a, struct
         json(object, "{'first':%lld,'last':%lld,'old':'%s','new':'%s'}", first, i, value(a, 8 * first, 8 * count), value(b, 8 * first, 8 * count));
         sum += count;
     }
-    json(object, "],'differ':%lld", sum);
+    json(object, "],'differ':%lld}", sum);
+    if (sum > 0 || was != is) put(t, "image %s%s\n", several(was, "byte"), was != is ? shown(" -> %s", several(is, "byte")) : "");
     if (sum > 0) put(t, "  %s differ%s: %s\n", several(sum, "byte"), sum == 1 ? "s" : "", runs.at);
-}
-
-static void put_image(struct text *t, struct text *object, struct bytes a, struct bytes b) {
-    long long was = (long long)a.len, is = (long long)b.len, shorter = was < is ? was : is, longer = was < is ? is : was;
-    struct text differs = {0};
-    json(object, "'image':{'old_bytes':%lld,'new_bytes':%lld,'runs':[", was, is);
-    put_runs(&differs, object, a, b, shorter);
-    json(object, "}");
-    if (shorter < longer) put(&differs, "  bytes %s are in the %s image alone\n", span(shorter, longer - 1), is > was ? "new" : "old");
-    if (differs.len > 0) put(t, "image %s%s\n%s", several(was, "byte"), was != is ? shown(" -> %s", several(is, "byte")) : "", differs.at);
+    if (was != is) put(t, "  bytes %s are in the %s image alone\n", span(shorter, longer - 1), is > was ? "new" : "old");
 }
 
 static const char *summary(const long long *counts) {

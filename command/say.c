@@ -100,7 +100,7 @@ long long number_of(struct bytes word, long long most) {
     return word.len == 0 || (is_below && n == 0) ? NONE : is_below ? -n : n;
 }
 
-/* The bytes of a printable character of UTF-8, 0 where none begins: control characters, those of C1 too, are not printable, nor is what UTF-8 does not allow. */
+/* The bytes of a printable character of UTF-8, 0 where none begins. Control characters, those of C1 too, are not printable. */
 static size_t character(const uint8_t *at, size_t n) {
     static const uint32_t least[] = {0, ' ', 0xa0, 0x800, 0x10000};
     size_t size = n == 0 ? 0 : at[0] < 0x80 ? 1 : at[0] < 0xc2 ? 0 : at[0] < 0xe0 ? 2 : at[0] < 0xf0 ? 3 : 4;

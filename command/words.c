@@ -59,7 +59,8 @@ static const char *blank_words(struct bytes blank, const struct said *s) {
     if (begins(blank, "note")) return s->note ? s->note : "";
     long long number = blank.len > 0 ? s->n[blank.at[0] - '0'] : 0;
     if (blank.len < 2) return blank.len ? plain(number) : "";
-    return blank.at[3] == 'X' ? shown("%0*llX", blank.at[2] - '0', (unsigned long long)number) : several(number, shown("%.*s", (int)blank.len - 2, blank.at + 2));
+    if (blank.at[3] == 'X') return shown("%0*llX", blank.at[2] - '0', (unsigned long long)number);
+    return several(number, shown("%.*s", (int)blank.len - 2, blank.at + 2));
 }
 
 const char *words_with(enum cause cause, const struct said *s, const char *between) {
@@ -204,26 +205,22 @@ static enum cause say_room(struct said *s, long long place) {
 
 static int is_power(long long v) { return v > 0 && (v & (v - 1)) == 0; }
 
-/* 19, a node: in some row its alignment, or where it goes. */
-static enum cause say_row_of_rule(struct said *s, int is_alignment) {
-    const struct layout *l = s->layout;
-    long long bank = bank_at(l, s->node), unit = bank < l->banks ? l->bank[bank].unit : 0, number = 0;
-    for (long long r = 0; r < l->rows; r++) {
-        number = number_at(l, s->node, r);
-        if (is_alignment ? number != 0 && !is_power(number) : unit > 0 && number % unit != 0) break;
-    }
-    return say(s, is_alignment ? NODE_ALIGNMENT : PAGE_ADDR, number, bank, unit);
-}
-
-/* 19: rule 2 names a bank while its label alignment is at fault. */
+/* 19: a bank's, or in some row a node's, its alignment or where it goes. Rule 2 names a bank while its label alignment is at fault. */
 static enum cause say_rule(struct said *s, long long rule, long long at) {
-    const struct bank *b = &s->layout->bank[at < s->layout->banks ? at : 0];
+    const struct layout *l = s->layout;
+    const struct bank *b = &l->bank[at < l->banks ? at : 0];
     s->bank = s->node = at;
     if (rule == 1) return PAGE_SIZE;
-    if (rule == 2 && at < s->layout->banks && b->align > 0 && !is_power(b->align)) return say(s, BANK_ALIGNMENT, b->align, 0, 0);
-    if (rule == 2 || rule >= 6) return say_row_of_rule(s, rule == 2);
     if (rule == 3) return say(s, PAGE_OFFSET, b->offset, 0, 0);
-    return rule == 5 ? say(s, PAGE_UNIT, b->unit, 0, 0) : say(s, b->size == NONE ? PAGE_NO_SIZE : PAGE_PARTS, b->size, 0, 0);
+    if (rule == 4) return say(s, b->size == NONE ? PAGE_NO_SIZE : PAGE_PARTS, b->size, 0, 0);
+    if (rule == 5) return say(s, PAGE_UNIT, b->unit, 0, 0);
+    if (rule == 2 && at < l->banks && b->align > 0 && !is_power(b->align)) return say(s, BANK_ALIGNMENT, b->align, 0, 0);
+    long long bank = bank_at(l, at), unit = bank < l->banks ? l->bank[bank].unit : 0, number = 0;
+    for (long long r = 0; r < l->rows; r++) {
+        number = number_at(l, at, r);
+        if (rule == 2 ? number != 0 && !is_power(number) : unit > 0 && number % unit != 0) break;
+    }
+    return say(s, rule == 2 ? NODE_ALIGNMENT : PAGE_ADDR, number, bank, unit);
 }
 
 static enum cause say_cause(struct said *s, const struct refusal *r) {
