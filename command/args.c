@@ -53,9 +53,10 @@ static void take(struct asked *asked, int at, const char *value, const char *nex
 }
 
 static int find_option(const char *word, size_t n, unsigned takes) {
-    for (int i = 0; i < OPTIONS; i++)
-        if (strlen(options[i].name) == n && memcmp(options[i].name, word, n) == 0 && (takes >> i & 1)) return i;
-    fail("there is no option %s (--help lists them)", escaped(word));
+    int i = 0;
+    while (i < OPTIONS && !(strlen(options[i].name) == n && memcmp(options[i].name, word, n) == 0 && (takes >> i & 1))) i++;
+    if (i == OPTIONS) fail("there is no option %s (--help lists them)", escaped(word));
+    return i;
 }
 
 /* An option and its values: the place of the last word that it takes. */

@@ -3,7 +3,6 @@
 #define DENKUMARI_COMMAND_H
 #include "args.h"
 #include "denkumari.h"
-#include <stdarg.h>
 #include <stddef.h>
 #include <string.h>
 
@@ -34,7 +33,7 @@ struct text {
 extern char tool[]; /* the command's name, ahead of every line that it says */
 void *memory(size_t count, size_t size); /* of zeros; where there is none left the command ends */
 void put(struct text *t, const char *form, ...) LIKE_PRINTF(2, 3);
-void put_list(struct text *t, const char *form, va_list words);
+void json(struct text *t, const char *form, ...) LIKE_PRINTF(2, 3); /* ' stands for "; behind a comma where something stands before it */
 void put_bytes(struct text *t, const void *from, size_t n);
 struct bytes bytes_of(const struct text *t);
 struct bytes bytes_in(const char *word);
@@ -154,7 +153,6 @@ struct refusal refusal_of(struct bytes text); /* what its first line says; numbe
 const char *spelled(const struct refusal *r); /* the refusal's line */
 long long number_at(const struct layout *l, long long node, long long row);
 long long row_of(const struct layout *l, long long pass); /* the row that a pass reads */
-long long bank_at(const struct layout *l, long long node); /* the bank that a node stands in */
 long long distance(const struct bank *b, long long position, long long alignment);
 int is_written(const struct layout *l, long long node);
 int is_placed(const struct layout *l, long long node);
@@ -178,7 +176,6 @@ struct word {
     long long address, past, output, bits; /* how many bits past its address, its place in the output and its bits */
 };
 int same_bits(struct bytes a, long long from, struct bytes b, long long other, long long bits);
-int bit_at(struct bytes image, long long at); /* 0 past its end */
 struct word word_at(const struct layout *l, long long node, long long done); /* the one that begins so many bits behind the item's first */
 const char *value(struct bytes image, long long from, long long bits); /* in hex, as one number */
 
@@ -203,8 +200,7 @@ uint8_t kind_of(struct bytes file); /* by its first character */
 const char *ragged(const struct layout *l); /* the first block that is not of whole bytes, and its first item */
 const char *unread(const struct source *s, int number, int has_line); /* a refusal of it in words; with a line where the file is bad there */
 
-/* json.c: the answer as JSON, and how a command ends that has one */
-void json(struct text *t, const char *form, ...) LIKE_PRINTF(2, 3); /* ' stands for "; behind a comma where something stands before it */
+/* json.c: what answers as JSON have in common, and how a command ends that has one */
 const char *quoted(const char *word); /* of printable UTF-8; null for NULL */
 const char *or_null(long long number); /* null for NONE */
 void json_node(struct text *t, const struct layout *l, long long node); /* an object without its end: the keys of a node that has a place */

@@ -220,7 +220,7 @@ static NEVER_RETURNS void fail_refused(const struct asked *asked, int i, const s
 static uint64_t hash_of(const struct layout *l, long long i) {
     const struct node *n = &l->node[i];
     uint64_t h = 14695981039346656037u + (uint64_t)n->kind * 31 + (uint64_t)n->bits * 1009;
-    for (long long k = 0; is_written(l, i) && k < n->bits; k++) h = (h ^ (uint64_t)bit_at(l->built.image, n->output + k)) * 1099511628211u;
+    for (const char *digit = is_written(l, i) ? value(l->built.image, n->output, n->bits) : ""; *digit; digit++) h = (h ^ (uint8_t)*digit) * 1099511628211u;
     return h;
 }
 

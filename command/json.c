@@ -1,17 +1,5 @@
-/* The answer as JSON, written so that nothing has to be remembered: whether a comma is due tells the last character. And how a command ends that has one. */
+/* What answers as JSON have in common, and how a command ends that has one. */
 #include "command.h"
-#include <stdlib.h>
-
-void json(struct text *t, const char *form, ...) {
-    va_list words;
-    char *in_quotes = memory(strlen(form) + 1, 1);
-    for (size_t i = 0; form[i]; i++) in_quotes[i] = form[i] == '\'' ? '"' : form[i];
-    if (t->len > 0 && !strchr("{[:", t->at[t->len - 1]) && !strchr("}]", form[0])) put(t, ",");
-    va_start(words, form);
-    put_list(t, in_quotes, words);
-    va_end(words);
-    free(in_quotes);
-}
 
 const char *quoted(const char *word) {
     struct text t = {0};

@@ -143,13 +143,6 @@ long long number_at(const struct layout *l, long long node, long long row) {
     return l->number[(l->node[node].kind == DATA ? 0 : row) * l->nodes + node];
 }
 
-long long bank_at(const struct layout *l, long long node) {
-    long long bank = 0;
-    for (long long i = 0; i <= node && i < l->nodes; i++)
-        if (l->node[i].kind == SWITCH) bank = l->node[i].operand;
-    return bank;
-}
-
 /* The distance to an alignment. */
 long long distance(const struct bank *b, long long position, long long alignment) {
     if (alignment <= 0) return 0;

@@ -18,7 +18,10 @@ static const struct command commands[] = {
 #include "help.def"
 };
 
-int do_form(struct asked *asked) { fail("%s is shown by a script, which this installation does not have", escaped(asked->file[0])); }
+int do_form(struct asked *asked) {
+    tell_user("%s is shown by a script, which this installation does not have", escaped(asked->file[0]));
+    return FAILED;
+}
 
 static int print_version(void) {
     return answer(bytes_in("denkumari " DENKUMARI_VERSION "\nkit " DENKUMARI_KIT "\ncommit " DENKUMARI_COMMIT "\nsources " DENKUMARI_SOURCES "\n"), NULL);

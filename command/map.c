@@ -135,14 +135,11 @@ static void put_banks(struct text *t, struct text *object, const struct layout *
 
 static int is_listed(const struct layout *l, long long i) { return l->node[i].kind >= LABEL && l->node[i].kind <= ADDR; }
 
-/* Where an addr goes. */
-static long long goes_to(const struct layout *l, long long i) { return l->node[i].kind == ADDR ? number_at(l, i, row_of(l, l->passes)) : NONE; }
-
-static const char *remark(const struct layout *l, const struct figures *f, long long i) {
+static const char *remark(const struct layout *l, const struct figures *f, long long i, long long to) {
     const struct node *n = &l->node[i];
     int is_fault = i == l->fault;
     const char *first = is_fault ? "at fault" : n->kind == ALIGN ? "padding" : is_placed(l, i) && n->bits == 0 ? "a mark" : "";
-    if (!is_fault && n->kind == ADDR) first = shown("to bit %lld of the bank", goes_to(l, i));
+    if (!is_fault && n->kind == ADDR) first = shown("to bit %lld of the bank", to);
     return is_symbol(n) && f->before[i] > 0 ? shown("%s%safter padding of %lld", first, is_fault ? ", " : "", f->before[i]) : first;
 }
 
@@ -156,13 +153,14 @@ static void put_nodes(struct text *t, struct text *object, const struct layout *
         const struct node *n = &l->node[i];
         if (!is_listed(l, i)) continue;
         long long past = n->position % l->bank[n->bank].unit, size = is_placed(l, i) || n->kind == ALIGN ? f->advance[i] : NONE;
+        long long to = n->kind == ADDR ? number_at(l, i, row_of(l, l->passes)) : NONE;
         put(&rows, "%lld\t", i);
         if (has_names) put(&rows, "%s\t%s\t", name_of(l, i), place_of(l, i));
         put(&rows, "%s\t%lld\t%lld\t%lld%s\t", kind_words[n->kind], n->bank, n->position, n->address, past ? shown("+%lld", past) : "");
         put(&rows, "%s\t%s\t", n->address < 0 ? "-" : in_hex(n->address, past), output_cells(n->output, f->advance[i]));
-        put(&rows, "%s\t%s\n", or_dash(size), remark(l, f, i));
+        put(&rows, "%s\t%s\n", or_dash(size), remark(l, f, i, to));
         json_node(object, l, i);
-        json(object, "'size':%s,'padding_before':%lld,'to':%s}", or_null(size), f->before[i], or_null(goes_to(l, i)));
+        json(object, "'size':%s,'padding_before':%lld,'to':%s}", or_null(size), f->before[i], or_null(to));
     }
     json(object, "]");
     if (l->shown > 0) put_columns(t, &rows, has_names ? 0xb0e : 0x2c2);

@@ -1,5 +1,6 @@
 /* Text that grows, parts of a text, and words on standard error. Nothing here asks a locale: none is ever set. */
 #include "command.h"
+#include <stdarg.h>
 #include <stdio.h>
 #include <stdlib.h>
 
@@ -30,7 +31,7 @@ void put_bytes(struct text *t, const void *from, size_t n) {
     t->at[t->len] = 0;
 }
 
-void put_list(struct text *t, const char *form, va_list words) {
+static void put_list(struct text *t, const char *form, va_list words) {
     va_list again;
     va_copy(again, words);
     int n = vsnprintf(NULL, 0, form, again);
@@ -46,6 +47,18 @@ void put(struct text *t, const char *form, ...) {
     va_start(words, form);
     put_list(t, form, words);
     va_end(words);
+}
+
+/* Nothing has to be remembered: whether a comma is due tells the last character. */
+void json(struct text *t, const char *form, ...) {
+    va_list words;
+    char *in_quotes = memory(strlen(form) + 1, 1);
+    for (size_t i = 0; form[i]; i++) in_quotes[i] = form[i] == '\'' ? '"' : form[i];
+    if (t->len > 0 && !strchr("{[:", t->at[t->len - 1]) && !strchr("}]", form[0])) put(t, ",");
+    va_start(words, form);
+    put_list(t, in_quotes, words);
+    va_end(words);
+    free(in_quotes);
 }
 
 const char *shown(const char *form, ...) {

@@ -1,7 +1,8 @@
 /* The words of banks, and what images hold there. */
 #include "command.h"
 
-int bit_at(struct bytes image, long long at) { return (size_t)at < 8 * image.len ? image.at[at / 8] >> (7 - at % 8) & 1 : 0; }
+/* 0 past its end. */
+static int bit_at(struct bytes image, long long at) { return (size_t)at < 8 * image.len ? image.at[at / 8] >> (7 - at % 8) & 1 : 0; }
 
 int same_bits(struct bytes a, long long from, struct bytes b, long long other, long long bits) {
     for (long long i = 0; i < bits; i++)

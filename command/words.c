@@ -10,6 +10,14 @@ static const struct {
 #undef WORDS
 };
 
+/* The bank that a node stands in. */
+static long long bank_at(const struct layout *l, long long node) {
+    long long bank = 0;
+    for (long long i = 0; i <= node && i < l->nodes; i++)
+        if (l->node[i].kind == SWITCH) bank = l->node[i].operand;
+    return bank;
+}
+
 /* The number of a node that no pass has placed, in each row. */
 static void put_numbers(struct text *t, const struct layout *l, long long node) {
     int kind = l->node[node].kind;
