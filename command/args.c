@@ -15,11 +15,10 @@ static uint32_t number(const char *name, const char *word) {
 
 /* Whether it is the second of the two words that an option takes, a bar between them. */
 static int is_second(const struct option *o, const char *word) {
-    const char *bar = strchr(o->values, '|');
-    size_t first = (size_t)(bar - o->values);
-    int is_first = strlen(word) == first && memcmp(word, o->values, first) == 0;
-    if (!is_first && strcmp(word, bar + 1) != 0) fail("%s takes %.*s or %s, not '%s'", o->name, (int)first, o->values, bar + 1, escaped(word));
-    return !is_first;
+    struct bytes second = bytes_in(o->values), first = cut(&second, '|');
+    int is_first = strlen(word) == first.len && begins(first, word), is_other = strcmp(word, (const char *)second.at) == 0;
+    if (!is_first && !is_other) fail("%s takes %.*s or %.*s, not '%s'", o->name, PRINTED(first), PRINTED(second), escaped(word));
+    return is_other;
 }
 
 static const char *file_name(const char *word) {

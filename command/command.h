@@ -74,12 +74,11 @@ const char *why(void); /* the last fault in words */
 #define DUMP_MAX 50331648u
 #define NAMES_MAX 4194304u
 struct bytes read_input(const char *name, size_t limit); /* at most `limit` bytes and one more, of - standard input; fails by itself */
-const char *read_beside(const char *name, size_t limit, struct bytes *found); /* NULL, or what went wrong */
+const char *read_named(const char *name, int is_standard, size_t limit, struct bytes *found); /* NULL, or what went wrong */
 const char *called(const char *name);
 const char *titled(const char *name); /* without its folders */
 int has_mark(struct bytes file); /* whether it begins with a byte order mark, EF BB BF */
 int answer(struct bytes text, const char *out); /* to standard output, or whole into a file of its own: DONE */
-void print_answer(struct bytes text);
 
 /* proved.c: the proved functions, each with the room that its contract asks for */
 #define ROOM_USUAL 16384u /* bytes of an image: what layout lends */

@@ -213,7 +213,7 @@ static NEVER_RETURNS void fail_refused(const struct asked *asked, int i, const s
     json_files(&t, asked);
     json(&t, "'refused_file':'%s'", i ? "new" : "old");
     json_end(&t, &l->built.refusal, words);
-    if (asked->given & JSON) print_answer(bytes_of(&t));
+    if (asked->given & JSON) answer(bytes_of(&t), NULL);
     fail("%s is refused: %s", called(asked->file[i]), words);
 }
 

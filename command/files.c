@@ -11,8 +11,7 @@ const char *titled(const char *name) {
 
 int has_mark(struct bytes file) { return begins(file, "\xef\xbb\xbf"); }
 
-/* Reads a file, or where that is asked for standard input: what went wrong, or NULL. */
-static const char *read_named(const char *name, int is_standard, size_t limit, struct bytes *found) {
+const char *read_named(const char *name, int is_standard, size_t limit, struct bytes *found) {
     int from = is_standard ? 0 : open_input(name);
     if (from < 0) return why();
     if (note_input(from)) return "it is a folder";
@@ -35,17 +34,8 @@ struct bytes read_input(const char *name, size_t limit) {
     return found;
 }
 
-const char *read_beside(const char *name, size_t limit, struct bytes *found) {
-    const char *fault = read_named(name, 0, limit, found);
-    return !fault && found->len > limit ? "it is too long" : fault;
-}
-
-void print_answer(struct bytes text) {
-    if (write_all(1, text.at, text.len) != 0 || close_file(1) != 0) fail("the answer could not be written: %s", why());
-}
-
 int answer(struct bytes text, const char *out) {
     if (out) put_in_place(out, text);
-    else print_answer(text);
+    else if (write_all(1, text.at, text.len) != 0 || close_file(1) != 0) fail("the answer could not be written: %s", why());
     return DONE;
 }

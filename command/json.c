@@ -38,7 +38,7 @@ int refuse(const struct refusal *r, const char *words) {
 int finish(const struct asked *asked, const struct text *text, struct text *object, const struct refusal *r, const char *words, int differs) {
     int is_json = (asked->given & JSON) != 0;
     json_end(object, r, words);
-    if (r->number && is_json) print_answer(bytes_of(object));
+    if (r->number && is_json) answer(bytes_of(object), NULL);
     if (r->number) return refuse(r, words);
     answer(bytes_of(is_json ? object : text), asked->out);
     return differs ? REFUSED : DONE;

@@ -4,7 +4,7 @@
 /* What a layout file is answered with: of a refused one too, and then never into a file of its own. */
 static int print_layout(const struct asked *asked, struct bytes text, const char *refused) {
     if (!refused) return answer(text, asked->out);
-    print_answer(text);
+    answer(text, NULL);
     tell_user("%s", refused);
     return REFUSED;
 }

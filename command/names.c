@@ -64,8 +64,8 @@ const struct names *find_names(const struct asked *asked, int i, struct bytes fi
     struct bytes text = {NULL, 0};
     if (!name || (!given && !is_regular(name))) return NULL;
     struct names *names = memory(1, sizeof *names);
-    const char *fault = read_beside(name, NAMES_MAX, &text), *has = sum_of(file, ' ');
-    if (!fault) fault = read_names(names, text, &belongs);
+    const char *fault = read_named(name, 0, NAMES_MAX, &text), *has = sum_of(file, ' ');
+    if (!fault) fault = text.len > NAMES_MAX ? "it is too long" : read_names(names, text, &belongs);
     if (!fault && (!belongs || strcmp(belongs, has) == 0)) return names;
     name = escaped(name);
     if (given && fault) fail("%s is not a names file: %s", name, fault);
