@@ -1,8 +1,6 @@
 /* The command line: options and files in any order, `--option=value` as `--option value`, and only files behind `--`. */
-#include "args.h"
-#include "proved.h"
-#include "say.h"
-#include <string.h>
+#include "command.h"
+#include "texts.h"
 
 const struct option options[OPTIONS] = {
 #define OPTION(what, name, values, words) {name, values, words},
@@ -10,19 +8,17 @@ const struct option options[OPTIONS] = {
 };
 
 static uint32_t number(const char *name, const char *word) {
-    struct bytes spelled = {(const uint8_t *)word, strlen(word)};
-    uint32_t n = 0;
-    if (!proved_number(spelled, &n)) fail("%s takes a number up to 4294967295, decimal or in hex after 0x, not '%s'", name, escaped(word));
-    return n;
+    refusal__Opt n = prog_args__number((slice_u8){(const uint8_t *)word, strlen(word)});
+    if (n.tag != refusal__Opt_Some) fail("%s takes a number up to 4294967295, decimal or in hex after 0x, not '%s'", name, escaped(word));
+    return n.u.Some.f0;
 }
 
 /* Whether it is the second of the two words that an option takes, a bar between them. */
 static int is_second(const struct option *o, const char *word) {
-    const char *bar = strchr(o->values, '|');
-    size_t first = (size_t)(bar - o->values);
-    int is_first = strlen(word) == first && memcmp(word, o->values, first) == 0;
-    if (!is_first && strcmp(word, bar + 1) != 0) fail("%s takes %.*s or %s, not '%s'", o->name, (int)first, o->values, bar + 1, escaped(word));
-    return !is_first;
+    struct bytes second = bytes_in(o->values), first = cut(&second, '|');
+    int is_first = strlen(word) == first.len && begins(first, word), is_other = strcmp(word, (const char *)second.at) == 0;
+    if (!is_first && !is_other) fail("%s takes %.*s or %.*s, not '%s'", o->name, PRINTED(first), PRINTED(second), escaped(word));
+    return is_other;
 }
 
 static const char *file_name(const char *word) {
@@ -37,16 +33,16 @@ static void take(struct asked *asked, int at, const char *value, const char *nex
     switch (1 << at) {
     case FILL: asked->fill = (uint8_t)is_other; break;
     case PAGE: asked->page = number(o->name, value); break;
+    case ROOM:
+        asked->room = number(o->name, value);
+        if (asked->room > ROOM_MAX) fail("--room takes at most %u bytes", ROOM_MAX);
+        break;
     case LOAD:
     case LOWEST: asked->load = number(o->name, value); break;
     case WIDTH: asked->width = is_other ? 4 : 2; break;
     case TO_FORM:
     case INTO_FORM:
     case TO_KIND: asked->to = value; break;
-    case ROOM:
-        asked->room = number(o->name, value);
-        if (asked->room > ROOM_MAX) fail("--room takes at most %u bytes", ROOM_MAX);
-        break;
     case OUTPUT: asked->out = file_name(value); break;
     case BOTH_NAMES: asked->names[1] = file_name(next); /* falls through */
     case NAMES: asked->names[0] = file_name(value); break;
@@ -56,9 +52,10 @@ static void take(struct asked *asked, int at, const char *value, const char *nex
 }
 
 static int find_option(const char *word, size_t n, unsigned takes) {
-    for (int i = 0; i < OPTIONS; i++)
-        if (strlen(options[i].name) == n && memcmp(options[i].name, word, n) == 0 && (takes >> i & 1)) return i;
-    fail("there is no option %s (--help lists them)", escaped(word));
+    int i = 0;
+    while (i < OPTIONS && !(strlen(options[i].name) == n && memcmp(options[i].name, word, n) == 0 && (takes >> i & 1))) i++;
+    if (i == OPTIONS) fail("there is no option %s (--help lists them)", escaped(word));
+    return i;
 }
 
 /* An option and its values: the place of the last word that it takes. */

@@ -21,12 +21,11 @@ extern const struct option options[OPTIONS];
 
 struct asked {
     unsigned given;
-    uint8_t fill, width;
-    uint32_t page, load, room, range[2];
+    uint8_t fill, width; /* a fill of 0 is inherited, of 1 full */
+    uint32_t page, room, load, range[2];
     const char *to, *out, *names[2], *file[2];
     int files;
 };
-
 struct command {
     const char *name, *files;
     int least, most; /* files, or a file and a refusal */

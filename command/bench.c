@@ -1,71 +1,43 @@
 /* Two files of records on the bench: where an overlay differs from what is released, and of which of them a range is. */
-#include "commands.h"
-#include "files.h"
-#include "json.h"
-#include "records.h"
-#include <string.h>
+#include "command.h"
 
-/* A line's next word, behind one blank. */
-static struct bytes next_word(struct bytes *line) {
-    const uint8_t *blank = line->len > 0 ? memchr(line->at, ' ', line->len) : NULL;
-    struct bytes word = {line->at, blank ? (size_t)(blank - line->at) : line->len};
-    size_t taken = word.len + (blank ? 1 : 0);
-    line->at += taken;
-    line->len -= taken;
-    return word;
-}
+static unsigned long long number_in(struct bytes word) { return (unsigned long long)number_of(word, UINT32_MAX); }
 
-static int is_word(struct bytes word, const char *wanted) { return word.len == strlen(wanted) && memcmp(word.at, wanted, word.len) == 0; }
-
-static unsigned long long number_of(struct bytes word) {
-    unsigned long long n = 0;
-    for (size_t i = 0; i < word.len; i++) n = 10 * n + (unsigned)(word.at[i] - '0');
-    return n;
-}
-
-/* What the proved text has, without the count of runs at its end, with addresses in hex too, and as JSON: whether anything differs. */
-static int put_runs(struct text *t, struct text *json, struct bytes text) {
-    long long alone = NONE;
-    struct bytes line;
-    json_open(json, "runs", "[");
-    while (next_line(&text, &line)) {
-        struct bytes kind = next_word(&line);
-        unsigned long long address = number_of(next_word(&line));
-        if (is_word(kind, "alone")) {
-            put(t, "alone %llu 0x%08llx\n", address, address);
-            alone = (long long)address;
-        }
-        if (!is_word(kind, "run")) continue;
-        put(t, "run %llu 0x%08llx %.*s\n", address, address, (int)line.len, (const char *)line.at);
-        json_numbers(json, "{ address count", (long long)address, (long long)number_of(next_word(&line)));
-        json_text(json, "released", next_word(&line));
-        json_text(json, "overlay", next_word(&line));
-        put(json, "}");
+/* What the proved text has, without the count of runs at its end, with addresses in hex too, and as JSON. */
+static void put_runs(struct text *t, struct text *object, struct bytes text) {
+    const char *alone = "null";
+    json(object, "'runs':[");
+    while (text.len > 0) {
+        struct bytes line = cut(&text, '\n'), kind = cut(&line, ' '), address = cut(&line, ' ');
+        int is_alone = begins(kind, "alone");
+        if (begins(kind, "runs")) continue;
+        put(t, "%.*s %.*s 0x%08llx%s%.*s\n", PRINTED(kind), PRINTED(address), number_in(address), is_alone ? "" : " ", PRINTED(line));
+        if (is_alone) alone = shown("%.*s", PRINTED(address));
+        if (is_alone) continue;
+        struct bytes count = cut(&line, ' '), released = cut(&line, ' ');
+        json(object, "{'address':%.*s,'count':%.*s,'released':'%.*s','overlay':'%.*s'}", PRINTED(address), PRINTED(count), PRINTED(released), PRINTED(line));
     }
-    json_numbers(json, "] alone?", alone);
-    return t->len > 0;
+    json(object, "],'alone':%s", alone);
 }
 
 /* Which of the two files gives a range, and its bytes: the text as it is, and as JSON. */
-static void put_range(struct text *t, struct text *json, const struct asked *asked, struct bytes text) {
-    struct bytes line = {text.at, text.len > 0 ? text.len - 1 : 0};
+static void put_range(struct text *t, struct text *object, const struct asked *asked, struct bytes text) {
     put_bytes(t, text.at, text.len);
-    json_numbers(json, "range{ address count", asked->range[0], asked->range[1]);
-    json_text(json, "from", next_word(&line));
-    json_text(json, "bytes", line);
-    put(json, "}");
+    struct bytes line = cut(&text, '\n'), from = cut(&line, ' ');
+    json(object, "'range':{'address':%lu,'count':%lu,'from':'%.*s','bytes':'%.*s'}", (unsigned long)asked->range[0], (unsigned long)asked->range[1],
+         PRINTED(from), PRINTED(line));
 }
 
 /* A refusal's second line names the file that it is of, behind a blank the address at which a range is not given; its third the line at fault. */
 static const char *refused_words(const struct asked *asked, struct bytes text, const struct refusal *r, const struct bytes *files) {
-    struct bytes address = line_at(text, 1), named = next_word(&address);
-    int is_released = is_word(named, "released"), is_named = is_released || is_word(named, "overlay");
-    struct source f = {files[is_released ? 0 : 1], 0, asked->load, BENCH_MAX, 524288};
+    struct bytes address = line_at(text, 1), named = cut(&address, ' ');
+    int at = !begins(named, "released"), is_named = !at || begins(named, "overlay");
+    struct source f = {files[at], 0, asked->load, BENCH_MAX, 524288};
     struct said s = {0};
-    const char *name = escaped(called(asked->file[is_released ? 0 : 1]));
-    unsigned long long at = number_of(address);
+    const char *name = called(asked->file[at]);
     if (is_named && (r->number == 4 || r->number == 14)) return shown("%s: %s", name, unread(&f, r->number, line_at(text, 2).len > 0));
-    if (is_named && address.len > 0) s.note = shown("%s gives no byte at %llu (0x%08llx)", name, at, at);
+    if (is_named && address.len > 0)
+        s.note = shown("%s gives no byte at %.*s (0x%08llx)", name, PRINTED(address), number_in(address));
     return words_of(r->number == 14 ? BENCH_RUNS : !s.note ? BENCH_EMPTY : r->number == 16 ? BENCH_OUTSIDE : BENCH_PARTLY, &s);
 }
 
@@ -77,18 +49,15 @@ static uint32_t load_of(const struct asked *asked, const struct bytes *files) {
 }
 
 int do_bench(struct asked *asked) {
-    int has_range = (asked->given & RANGE) != 0, differs = 0;
+    int has_range = (asked->given & RANGE) != 0;
     if (has_range && (asked->given & CHECK)) fail("--check is for whole files, and --range asks for a part");
     struct bytes files[2] = {read_input(asked->file[0], BENCH_MAX), read_input(asked->file[1], BENCH_MAX)};
     asked->load = load_of(asked, files);
-    struct bytes text = proved_bench(files[0], files[1], asked->load, has_range ? asked->range : NULL);
+    struct bytes text = proved_bench(files, asked);
     struct refusal r = refusal_of(text);
-    struct text said = {0}, json = {0};
-    json_open(&json, NULL, "{");
-    json_word(&json, "released", escaped(called(asked->file[0])));
-    json_word(&json, "overlay", escaped(called(asked->file[1])));
-    json_numbers(&json, "load", asked->load);
-    if (!r.number && has_range) put_range(&said, &json, asked, text);
-    else if (!r.number) differs = put_runs(&said, &json, text);
-    return finish(asked, &said, &json, &r, r.number ? refused_words(asked, text, &r, files) : NULL, differs && (asked->given & CHECK));
+    struct text said = {0}, object = {0};
+    json(&object, "{'released':%s,'overlay':%s,'load':%lu", quoted(called(asked->file[0])), quoted(called(asked->file[1])), (unsigned long)asked->load);
+    if (!r.number && has_range) put_range(&said, &object, asked, text);
+    else if (!r.number) put_runs(&said, &object, text);
+    return finish(asked, &said, &object, &r, r.number ? refused_words(asked, text, &r, files) : NULL, said.len > 0 && (asked->given & CHECK));
 }

@@ -1,6 +1,5 @@
 /* Reads a layout file of either form as far as it goes, and what the proved functions said of it. For words and tables alone: no answer stands on it. */
-#include "layout.h"
-#include <string.h>
+#include "command.h"
 
 const char *const kind_words[11] = {"nothing",           "bank switch", "label", "constant", "instruction", "data",
                                     "data of open size", "reserve",     "align", "addr",     "assert"};
@@ -17,20 +16,18 @@ static int order_of(const struct layout *l, size_t at) {
     return tag == (l->form == 2 ? 17 : 1) ? 1 : tag >= 2 && tag <= 5 ? tag : 0;
 }
 
-static void take_bank(struct layout *l, size_t at) {
-    struct bank *b = &l->bank[l->banks++];
+static struct bank bank_of(const struct layout *l, size_t at) {
     int flags = l->file.at[at + 22];
-    b->unit = word(l, at, 2);
-    b->start = word(l, at + 2, 8);
-    b->size = flags & 1 ? word(l, at + 10, 4) : NONE;
-    b->offset = flags & 2 ? word(l, at + 14, 4) : NONE;
-    b->align = flags & 4 ? word(l, at + 18, 4) : NONE;
-    b->fill = flags >> 3;
-    b->bit = l->form == 2 ? l->file.at[at + 23] : 0;
+    struct bank b = {.unit = word(l, at, 2), .start = word(l, at + 2, 8), .size = NONE, .offset = NONE, .align = NONE, .fill = flags >> 3};
+    if (flags & 1) b.size = word(l, at + 10, 4);
+    if (flags & 2) b.offset = word(l, at + 14, 4);
+    if (flags & 4) b.align = word(l, at + 18, 4);
+    if (l->form == 2) b.bit = l->file.at[at + 23];
+    return b;
 }
 
 static void take_field(struct layout *l, int order, size_t at, long long size) {
-    if (order == 1) take_bank(l, at);
+    if (order == 1) l->bank[l->banks++] = bank_of(l, at);
     if (order == 2) {
         l->node[l->nodes].kind = l->file.at[at];
         l->node[l->nodes++].operand = word(l, at + 1, 4);
@@ -91,35 +88,22 @@ struct layout *read_layout(struct bytes file) {
     return l;
 }
 
-enum { NUMBERS = 10 };
+enum { IN_A_LINE = 10 };
 
 /* The numbers behind a line's first word, NONE for a lone -: how many there are. */
 static int numbers_of(struct bytes line, long long *n) {
-    const uint8_t *at = memchr(line.at, ' ', line.len), *end = line.at + line.len, *first;
     int count = 0;
-    for (; at && at < end && *at == ' ' && count < NUMBERS; count++) {
-        uint64_t v = 0;
-        int is_below = ++at < end && *at == '-';
-        for (first = at += is_below; at < end && *at >= '0' && *at <= '9'; at++) v = 10 * v + (uint64_t)(*at - '0');
-        n[count] = at == first ? NONE : (long long)(is_below ? 0 - v : v);
-    }
+    for (cut(&line, ' '); line.len > 0 && count < IN_A_LINE; count++) n[count] = number_of(cut(&line, ' '), INT64_MAX / 20);
     return count;
-}
-
-struct bytes last_line(struct bytes text) {
-    size_t from = text.len > 0 ? text.len - 1 : 0;
-    while (from > 0 && text.at[from - 1] != '\n') from--;
-    struct bytes line = {text.at + from, text.len - from};
-    return line;
 }
 
 struct refusal refusal_of(struct bytes text) {
     struct refusal r = {0, 0, {0, 0}};
-    long long n[NUMBERS];
+    long long n[IN_A_LINE] = {0};
     if (!begins(text, "refused ")) return r;
-    r.places = numbers_of(text, n) - 1;
+    r.places = numbers_of(line_at(text, 0), n) - 1;
     r.number = (int)n[0];
-    for (int i = 0; i < r.places && i < 2; i++) r.place[i] = n[i + 1];
+    memcpy(r.place, n + 1, sizeof r.place);
     return r;
 }
 
@@ -128,11 +112,11 @@ const char *spelled(const struct refusal *r) {
 }
 
 static void take_line(struct layout *l, struct bytes line) {
-    long long n[NUMBERS] = {0};
+    long long n[IN_A_LINE] = {0};
     int count = numbers_of(line, n);
     if (begins(line, "file ")) l->passes = (int)n[3], l->has_map = 1;
     if (begins(line, "fault ")) l->fault = n[0];
-    if (begins(line, "refused ")) l->refusal = refusal_of(line);
+    if (begins(line, "refused ")) l->built.refusal = refusal_of(line);
     if (begins(line, "bank ") && count == 10) l->bank[n[0]].padding = n[8], l->bank[n[0]].units = n[9];
     if (!begins(line, "node ") || count != 7) return;
     struct node node = {(int)n[1], l->node[n[0]].operand, n[2], n[3], n[4], n[5], n[6]};
@@ -140,24 +124,14 @@ static void take_line(struct layout *l, struct bytes line) {
     l->shown = n[0] + 1;
 }
 
-struct layout *read_mapped(struct bytes file, struct choices c) {
+struct layout *open_layout(const struct asked *asked, int i, struct bytes file) {
     struct layout *l = read_layout(file);
-    struct bytes map = proved_map(file, c), line;
-    while (next_line(&map, &line)) take_line(l, line);
-    l->is_full = c.fill;
-    l->room = c.room;
+    struct bytes map = proved_map(file, asked);
+    while (map.len > 0) take_line(l, cut(&map, '\n'));
+    l->is_full = asked->fill;
+    l->room = asked->room;
+    l->names = find_names(asked, i, file);
     return l;
-}
-
-void take_built(struct layout *l, const struct built *b) {
-    l->blocks = (long long)b->blocks.count;
-    for (size_t i = 0; i < b->blocks.count; i++) {
-        struct block one = {(long long)b->blocks.starts[i], (long long)b->blocks.sizes[i]};
-        l->block[i] = one;
-    }
-    l->passes_to = (int)b->passes;
-    l->bits = b->bits;
-    l->refusal = b->refusal;
 }
 
 /* "Pass n reads row n, or the last row if there are fewer." */
@@ -167,13 +141,6 @@ long long row_of(const struct layout *l, long long pass) { return (pass < 1 ? 1 
 long long number_at(const struct layout *l, long long node, long long row) {
     if (row < 0 || row >= l->rows) return 0;
     return l->number[(l->node[node].kind == DATA ? 0 : row) * l->nodes + node];
-}
-
-long long bank_at(const struct layout *l, long long node) {
-    long long bank = 0;
-    for (long long i = 0; i <= node && i < l->nodes; i++)
-        if (l->node[i].kind == SWITCH) bank = l->node[i].operand;
-    return bank;
 }
 
 /* The distance to an alignment. */
@@ -186,9 +153,7 @@ long long distance(const struct bank *b, long long position, long long alignment
 }
 
 int is_written(const struct layout *l, long long node) { return l->node[node].kind >= INSTRUCTION && l->node[node].kind <= OPEN; }
-
 int is_placed(const struct layout *l, long long node) { return l->node[node].kind >= INSTRUCTION && l->node[node].kind <= RESERVE; }
-
+int is_symbol(const struct node *n) { return n->kind == LABEL || n->kind == CONSTANT; }
 int is_filled(const struct bank *b) { return b->fill && b->size != NONE && b->offset != NONE; }
-
 int is_beyond(const struct bank *b) { return b->start > 1099511627776 || b->start < -1099511627776; }

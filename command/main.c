@@ -1,11 +1,7 @@
 /* denkumari: the proved functions as one command. Everything in this folder is written by hand and not proved: the command line, files in, answers out,
  * words. */
-#include "commands.h"
-#include "denkumari.h"
-#include "files.h"
-#include "system.h"
+#include "command.h"
 #include <stdio.h>
-#include <string.h>
 
 #ifndef DENKUMARI_KIT
 #define DENKUMARI_KIT "not recorded"
@@ -22,12 +18,13 @@ static const struct command commands[] = {
 #include "help.def"
 };
 
-int do_form(struct asked *asked) { fail("%s is shown by a script, which this installation does not have", escaped(asked->file[0])); }
+int do_form(struct asked *asked) {
+    tell_user("%s is shown by a script, which this installation does not have", escaped(asked->file[0]));
+    return FAILED;
+}
 
 static int print_version(void) {
-    struct text t = {0};
-    put(&t, "denkumari " DENKUMARI_VERSION "\nkit " DENKUMARI_KIT "\ncommit " DENKUMARI_COMMIT "\nsources " DENKUMARI_SOURCES "\n");
-    return answer(bytes_of(&t), NULL);
+    return answer(bytes_in("denkumari " DENKUMARI_VERSION "\nkit " DENKUMARI_KIT "\ncommit " DENKUMARI_COMMIT "\nsources " DENKUMARI_SOURCES "\n"), NULL);
 }
 
 static int print_help(void) {

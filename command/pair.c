@@ -1,21 +1,17 @@
 /* Which nodes of two layouts are the same: by their names, and those without one by what is alike behind the same name. */
-#include "compare.h"
+#include "command.h"
 #include <stdlib.h>
-#include <string.h>
-
-static void pair(struct one *a, struct one *b) {
-    a->other = b;
-    b->other = a;
-}
 
 /* Nodes without names that stand behind the same one, on both sides. */
 struct span {
     struct one *a, *b;
     size_t as, bs;
 };
-struct match {
-    size_t a, b, size;
-};
+
+static void pair(struct one *a, struct one *b) {
+    a->other = b;
+    b->other = a;
+}
 
 static void mark_common(struct span s) {
     for (size_t j = 0, n; s.bs >= 200 && s.as * s.bs > 250000 && j < s.bs; j++) {
@@ -26,46 +22,41 @@ static void mark_common(struct span s) {
 }
 
 /* The longest run that is alike on both sides, the first such; what is too common begins none. */
-static struct match longest(struct span s) {
-    struct match m = {0, 0, 0};
-    size_t *runs = memory(2 * (s.bs + 1), sizeof *runs), *now = runs, *old = runs + s.bs + 1, *swap;
+static struct span longest(struct span s) {
+    struct span m = {s.a, s.b, 0, 0};
+    size_t *runs = memory(2 * (s.bs + 1), sizeof *runs), *now = runs, *old = runs + s.bs + 1, *swap, size = 0;
     for (size_t i = 0; i < s.as; i++, swap = now, now = old, old = swap)
         for (size_t j = 0; j < s.bs; j++) {
             now[j + 1] = !s.b[j].is_common && s.a[i].alike == s.b[j].alike ? old[j] + 1 : 0;
-            if (now[j + 1] <= m.size) continue;
-            m.size = now[j + 1];
-            m.a = i + 1 - m.size;
-            m.b = j + 1 - m.size;
+            if (now[j + 1] <= size) continue;
+            size = now[j + 1];
+            m.a = s.a + (i + 1 - size), m.b = s.b + (j + 1 - size);
         }
     free(runs);
-    for (; m.a > 0 && m.b > 0 && s.a[m.a - 1].alike == s.b[m.b - 1].alike; m.size++) m.a--, m.b--;
-    while (m.a + m.size < s.as && m.b + m.size < s.bs && s.a[m.a + m.size].alike == s.b[m.b + m.size].alike) m.size++;
+    for (; m.a > s.a && m.b > s.b && m.a[-1].alike == m.b[-1].alike; size++) m.a--, m.b--;
+    while (m.a + size < s.a + s.as && m.b + size < s.b + s.bs && m.a[size].alike == m.b[size].alike) size++;
+    m.as = m.bs = size;
     return m;
 }
 
 /* Where nothing is alike: kind by kind in order. */
 static void pair_kinds(struct span s) {
-    for (size_t i = 0, next = 0; i < s.as; i++)
-        for (size_t j = next; j < s.bs; j++) {
-            if (s.a[i].node->kind != s.b[j].node->kind) continue;
-            pair(&s.a[i], &s.b[j]);
-            next = j + 1;
-            break;
-        }
+    for (size_t i = 0, next = 0, j; i < s.as; i++) {
+        for (j = next; j < s.bs && s.a[i].node->kind != s.b[j].node->kind;) j++;
+        if (j >= s.bs) continue;
+        pair(&s.a[i], &s.b[j]);
+        next = j + 1;
+    }
 }
 
 /* The longest run, then what is before it and what is behind it. */
 static void pair_span(struct span s) {
-    struct match m = longest(s);
-    size_t a = m.a + m.size, b = m.b + m.size;
-    struct span before = {s.a, s.b, m.a, m.b}, behind = {s.a + a, s.b + b, s.as - a, s.bs - b};
-    if (m.size == 0) {
-        pair_kinds(s);
-        return;
-    }
-    pair_span(before);
-    for (size_t k = 0; k < m.size; k++) pair(&s.a[m.a + k], &s.b[m.b + k]);
-    pair_span(behind);
+    struct span m = longest(s), before = {s.a, s.b, (size_t)(m.a - s.a), (size_t)(m.b - s.b)};
+    struct span behind = {m.a + m.as, m.b + m.bs, s.as - before.as - m.as, s.bs - before.bs - m.bs};
+    if (m.as > 0) pair_span(before);
+    for (size_t k = 0; k < m.as; k++) pair(&m.a[k], &m.b[k]);
+    if (m.as > 0) pair_span(behind);
+    else pair_kinds(s);
 }
 
 static size_t nameless(const struct side *s, const struct one *from) {

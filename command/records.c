@@ -1,8 +1,5 @@
 /* Files of records: written from a layout, and turned into the other kind. */
-#include "records.h"
-#include "commands.h"
-#include "files.h"
-#include <string.h>
+#include "command.h"
 
 uint8_t kind_of(struct bytes file) { return file.len > 0 && (file.at[0] == 'S' || file.at[0] == 's'); }
 
@@ -25,19 +22,14 @@ static const char *reason_note(uint8_t kind, const struct dk_reason *r) {
 
 /* Why a file of records is bad: its line, one cause, the line's text, and what to do. */
 static const char *reason_words(const struct source *f) {
-    struct dk_reason r = proved_reason(f->file, f->kind, f->load);
+    struct dk_reason r = proved_reason(f);
     struct said s = {.n = {(long long)r.first, (long long)r.second}, .note = reason_note(f->kind, &r)};
-    struct text t = {0};
     const char *line = line_words(line_at(f->file, r.line));
     int is_other = r.reason == 1 && f->kind == 0 && kind_of(f->file);
     enum cause cause = has_mark(f->file) ? RECORDS_MARK : is_other ? RECORDS_SREC : (enum cause)(REASON_1 + r.reason - 1);
     if (r.reason == 2 || r.reason == 11) s.n[0]++; /* characters and lines as people count them */
-    put(&t, "line %llu: ", (unsigned long long)r.line + 1);
-    if (cause == REASON_1 && !*line) put(&t, "a blank line");
-    else put(&t, "%s", words_alone(cause, &s));
-    if (*line && r.reason < 13) put(&t, ": \"%s\"", line);
-    put(&t, "%s", remedy(cause));
-    return t.at;
+    const char *words = words_with(cause, &s, *line && r.reason < 13 ? shown(": \"%s\"", line) : "");
+    return shown("line %llu: %s", (unsigned long long)r.line + 1, cause == REASON_1 && !*line ? "a blank line" : words);
 }
 
 const char *unread(const struct source *f, int number, int has_line) {
@@ -46,51 +38,41 @@ const char *unread(const struct source *f, int number, int has_line) {
     if (number != 14) return words_of(RECORDS_LONG, &s);
     uint32_t load = proved_lowest(f->file, f->kind);
     s.n[2] = load;
-    return words_of(load > f->load && proved_reads(f->file, f->kind, load, f->reach) ? RECORDS_LOW : RECORDS_ROOM, &s);
+    return words_of(load > f->load && proved_reads(f, load) ? RECORDS_LOW : RECORDS_ROOM, &s);
 }
 
-const char *ragged(const struct layout *l, const struct names *names) {
-    long long at = 0, node = 0;
-    while (at < l->blocks && l->block[at].start % 8 == 0 && l->block[at].size % 8 == 0) at++;
-    if (at >= l->blocks) return "";
-    long long first = l->block[at].start, last = first + l->block[at].size - 1;
+const char *ragged(const struct layout *l) {
+    const struct blocks *b = &l->built.blocks;
+    long long node = 0;
+    size_t at = 0;
+    while (at < b->count && b->starts[at] % 8 == 0 && b->sizes[at] % 8 == 0) at++;
+    if (at >= b->count) return "";
+    long long first = (long long)b->starts[at], last = first + (long long)b->sizes[at] - 1;
     while (node < l->shown && !(is_written(l, node) && l->node[node].bits > 0 && l->node[node].output == first)) node++;
-    const char *item = node < l->shown ? shown(", from %s on", called_node(names, node)) : "";
-    return shown("block %lld (output bits %lld..%lld%s)", at, first, last, item);
+    const char *item = node < l->shown ? shown(", from %s on", called_node(l, node)) : "";
+    return shown("block %d (output bits %lld..%lld%s)", (int)at, first, last, item);
 }
 
-/* The records of a layout: by the proved text function, or, where more room is asked for than it lends, by the proved calls one after the other. */
-static struct bytes written(const struct asked *asked, struct bytes file, uint8_t format, struct refusal *r, int *of_records) {
-    int is_whole = (asked->given & WHOLE) != 0;
-    if (!(asked->given & ROOM)) {
-        struct bytes text = proved_records(file, choices_of(asked), format, asked->load, is_whole);
-        *of_records = begins(line_at(text, 1), "records");
-        *r = refusal_of(text);
-        return text;
-    }
-    struct built b = proved_build(file, choices_of(asked));
-    *r = b.refusal;
-    *of_records = r->number == 0;
-    return r->number == 0 ? proved_write(&b, format, asked->load, is_whole, r) : file;
-}
-
+/* The records of a layout: by the proved text function, or, where other room is asked for than it lends, by the proved calls one after the other. */
 static int do_records(struct asked *asked, uint8_t format) {
-    struct bytes file = read_input(asked->file[0], LAYOUT_MAX);
-    struct refusal r;
-    int of_records;
-    struct bytes text = written(asked, file, format, &r, &of_records);
+    struct bytes file = read_input(asked->file[0], LAYOUT_MAX), text = proved_records(file, asked, format);
+    struct refusal r = refusal_of(text);
+    int of_records = begins(line_at(text, 1), "records");
+    if (asked->given & ROOM) {
+        struct built b = proved_build(file, asked);
+        r = b.refusal;
+        of_records = r.number == 0;
+        if (of_records) text = proved_write(&b, asked, format, &r);
+    }
     if (r.number == 0) return answer(text, asked->out);
-    const struct names *names = find_names(asked->file[0], NULL, file);
-    struct layout *l = read_mapped(file, choices_of(asked));
-    if (!of_records) return refuse(&r, refusal_words(l, names, &r, 0));
+    struct layout *l = open_layout(asked, 0, file);
+    if (!of_records) return refuse(&r, refusal_words(l, &r, 0));
     if (r.number != 16) return refuse(&r, words_of(RECORDS_ADDRESS, &(struct said){0}));
-    struct built b = proved_build(file, choices_of(asked));
-    take_built(l, &b);
-    return refuse(&r, words_of(RECORDS_EDGES, &(struct said){.note = ragged(l, names)}));
+    l->built = proved_build(file, asked);
+    return refuse(&r, words_of(RECORDS_EDGES, &(struct said){.note = ragged(l)}));
 }
 
 int do_ihex(struct asked *asked) { return do_records(asked, 0); }
-
 int do_srec(struct asked *asked) { return do_records(asked, asked->width ? asked->width : 4); }
 
 int do_rehex(struct asked *asked) {
@@ -98,9 +80,9 @@ int do_rehex(struct asked *asked) {
     struct source f = {read_input(asked->file[0], RECORDS_MAX), 0, asked->load, RECORDS_MAX, 1048576};
     f.kind = kind_of(f.file);
     int to_srec = asked->to ? asked->to[0] == 's' : !f.kind;
-    if (!to_srec && asked->width) fail("--width is for S-records, and %s has some: Intel HEX comes out", escaped(called(asked->file[0])));
+    if (!to_srec && asked->width) fail("--width is for S-records, and %s has some: Intel HEX comes out", called(asked->file[0]));
     if (!(asked->given & LOWEST)) f.load = f.file.len > RECORDS_MAX ? 0 : proved_lowest(f.file, f.kind);
-    struct bytes text = proved_rehex(f.file, f.kind, !to_srec ? 0 : asked->width ? asked->width : 4, f.load);
+    struct bytes text = proved_rehex(&f, !to_srec ? 0 : asked->width ? asked->width : 4);
     struct refusal r = refusal_of(text);
     int has_line = begins(line_at(text, 1), "line "), is_address = r.number == 4 && !has_line && f.file.len <= f.limit;
     if (r.number == 0) return answer(text, asked->out);

@@ -1,10 +1,8 @@
-/* Text that grows, and words on standard error. Nothing here asks a locale: none is ever set. */
-#include "say.h"
-#include "system.h"
+/* Text that grows, parts of a text, and words on standard error. Nothing here asks a locale: none is ever set. */
+#include "command.h"
 #include <stdarg.h>
 #include <stdio.h>
 #include <stdlib.h>
-#include <string.h>
 
 char tool[40] = "denkumari";
 
@@ -51,6 +49,18 @@ void put(struct text *t, const char *form, ...) {
     va_end(words);
 }
 
+/* Nothing has to be remembered: whether a comma is due tells the last character. */
+void json(struct text *t, const char *form, ...) {
+    va_list words;
+    char *in_quotes = memory(strlen(form) + 1, 1);
+    for (size_t i = 0; form[i]; i++) in_quotes[i] = form[i] == '\'' ? '"' : form[i];
+    if (t->len > 0 && !strchr("{[:", t->at[t->len - 1]) && !strchr("}]", form[0])) put(t, ",");
+    va_start(words, form);
+    put_list(t, in_quotes, words);
+    va_end(words);
+    free(in_quotes);
+}
+
 const char *shown(const char *form, ...) {
     struct text t = {0};
     va_list words;
@@ -61,37 +71,50 @@ const char *shown(const char *form, ...) {
 }
 
 const char *several(long long count, const char *what) { return shown("%lld %s%s", count, what, count == 1 ? "" : "s"); }
+const char *plain(long long number) { return shown("%lld", number); }
+const char *both(long long number) { return number < 10 ? plain(number) : shown("%lld = 0x%llx", number, (unsigned long long)number); }
+const char *or_dash(long long number) { return number == NONE ? "-" : plain(number); }
 
-const char *both(long long number) { return number < 10 ? shown("%lld", number) : shown("%lld = 0x%llx", number, (unsigned long long)number); }
-
-const char *or_dash(long long number) { return number == NONE ? "-" : shown("%lld", number); }
-
-struct bytes bytes_of(const struct text *t) {
-    struct bytes b = {(const uint8_t *)t->at, t->len};
-    return b;
+const char *in_hex(long long address, long long past) {
+    const char *at = address < 0 ? plain(address) : shown("0x%llx", (unsigned long long)address);
+    return past ? shown("%s+%lld", at, past) : at;
 }
 
+struct bytes bytes_of(const struct text *t) { return (struct bytes){(const uint8_t *)t->at, t->len}; }
+struct bytes bytes_in(const char *word) { return (struct bytes){(const uint8_t *)word, strlen(word)}; }
 int begins(struct bytes text, const char *begin) { return text.len >= strlen(begin) && memcmp(text.at, begin, strlen(begin)) == 0; }
 
-int next_line(struct bytes *rest, struct bytes *line) {
-    const uint8_t *end = rest->len > 0 ? memchr(rest->at, '\n', rest->len) : NULL;
-    *line = *rest;
-    if (rest->len == 0) return 0;
-    if (end) line->len = (size_t)(end - rest->at);
-    rest->at += line->len + (end != NULL);
-    rest->len -= line->len + (end != NULL);
-    return 1;
+struct bytes cut(struct bytes *rest, char end) {
+    const uint8_t *found = rest->len > 0 ? memchr(rest->at, end, rest->len) : NULL;
+    struct bytes part = {rest->at, found ? (size_t)(found - rest->at) : rest->len};
+    rest->at += part.len + (found != NULL);
+    rest->len -= part.len + (found != NULL);
+    return part;
 }
 
 struct bytes line_at(struct bytes text, uint64_t number) {
-    struct bytes line = {text.at, 0};
-    for (uint64_t i = 0; i <= number; i++)
-        if (!next_line(&text, &line)) break;
+    for (; number > 0 && text.len > 0; number--) cut(&text, '\n');
+    return cut(&text, '\n');
+}
+
+struct bytes last_line(struct bytes text) {
+    struct bytes line = text;
+    while (text.len > 0) line = cut(&text, '\n');
     return line;
 }
 
-/* Control characters, those of C1 too, are not printable; nor is what UTF-8 does not allow. */
-size_t character(const uint8_t *at, size_t n) {
+long long number_of(struct bytes word, long long most) {
+    int is_below = begins(word, "-");
+    long long n = 0;
+    for (size_t i = (size_t)is_below; i < word.len; i++) {
+        if (word.at[i] < '0' || word.at[i] > '9') return NONE;
+        n = n > most ? n : 10 * n + (word.at[i] - '0');
+    }
+    return word.len == 0 || (is_below && n == 0) ? NONE : is_below ? -n : n;
+}
+
+/* The bytes of a printable character of UTF-8, 0 where none begins. Control characters, those of C1 too, are not printable. */
+static size_t character(const uint8_t *at, size_t n) {
     static const uint32_t least[] = {0, ' ', 0xa0, 0x800, 0x10000};
     size_t size = n == 0 ? 0 : at[0] < 0x80 ? 1 : at[0] < 0xc2 ? 0 : at[0] < 0xe0 ? 2 : at[0] < 0xf0 ? 3 : 4;
     if (size == 0 || n < size) return 0;

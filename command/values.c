@@ -1,14 +1,10 @@
-/* The words of banks and what images hold there. */
-#include "values.h"
+/* The words of banks, and what images hold there. */
+#include "command.h"
 
-struct image image_of(const struct built *b) {
-    struct image image = {b->image, (b->bits + 7) / 8};
-    return image;
-}
+/* 0 past its end. */
+static int bit_at(struct bytes image, long long at) { return (size_t)at < 8 * image.len ? image.at[at / 8] >> (7 - at % 8) & 1 : 0; }
 
-int bit_at(struct image image, long long at) { return at < 8 * image.bytes ? image.at[at / 8] >> (7 - at % 8) & 1 : 0; }
-
-int same_bits(struct image a, long long from, struct image b, long long other, long long bits) {
+int same_bits(struct bytes a, long long from, struct bytes b, long long other, long long bits) {
     for (long long i = 0; i < bits; i++)
         if (bit_at(a, from + i) != bit_at(b, other + i)) return 0;
     return 1;
@@ -22,17 +18,15 @@ struct word word_at(const struct layout *l, long long node, long long done) {
     return w;
 }
 
-const char *in_hex(long long address, long long past) {
-    const char *at = address < 0 ? shown("%lld", address) : shown("0x%llx", (unsigned long long)address);
-    return past ? shown("%s+%lld", at, past) : at;
-}
-
-void put_value(struct text *t, struct image image, long long from, long long bits) {
-    unsigned value = 0;
+const char *value(struct bytes image, long long from, long long bits) {
+    struct text t = {0};
+    int digit = 0;
+    put_bytes(&t, "", 0);
     for (long long left = bits; left > 0; left--) {
-        value = value << 1 | (unsigned)bit_at(image, from + bits - left);
+        digit = digit << 1 | bit_at(image, from + bits - left);
         if (left % 4 != 1) continue;
-        put(t, "%x", value);
-        value = 0;
+        put_bytes(&t, &"0123456789abcdef"[digit], 1);
+        digit = 0;
     }
+    return t.at;
 }

@@ -1,8 +1,6 @@
 /* Refusals in words: which cause it is, and what fills its words. The layout is one that was refused so, and its map, where there is one, of the same
  * choices. */
-#include "words.h"
-#include "files.h"
-#include <string.h>
+#include "command.h"
 
 static const struct {
     const char *words, *remedy;
@@ -12,10 +10,18 @@ static const struct {
 #undef WORDS
 };
 
+/* The bank that a node stands in. */
+static long long bank_at(const struct layout *l, long long node) {
+    long long bank = 0;
+    for (long long i = 0; i <= node && i < l->nodes; i++)
+        if (l->node[i].kind == SWITCH) bank = l->node[i].operand;
+    return bank;
+}
+
 /* The number of a node that no pass has placed, in each row. */
 static void put_numbers(struct text *t, const struct layout *l, long long node) {
     int kind = l->node[node].kind;
-    long long now = l->has_map ? row_of(l, l->passes) : 0, number = number_at(l, node, now);
+    long long number = number_at(l, node, l->has_map ? row_of(l, l->passes) : 0);
     put(t, ", %s%lld", kind >= ALIGN ? "to " : "", number);
     for (long long r = 1; !l->has_map && kind != DATA && r < l->rows; r++)
         if (number_at(l, node, r) != number) put(t, ", then %lld", number_at(l, node, r));
@@ -32,79 +38,66 @@ static void put_place(struct text *t, const struct layout *l, long long i) {
     if (n->output != NONE) put(t, "%s at output bit %lld", is_placed(l, i) ? "" : ",", n->output);
 }
 
-static const char *node_words(const struct layout *l, const struct names *names, long long i) {
-    const struct node *n = &l->node[i];
+static const char *node_words(const struct layout *l, long long i) {
+    int kind = l->node[i].kind, is_known = kind <= ASSERT;
     struct text t = {0};
-    if (i >= l->nodes) return called_node(names, i);
-    put(&t, "%s (%s", called_node(names, i), has_name(names, i) ? shown("node %lld, ", i) : "");
-    if (n->kind > ASSERT) put(&t, "kind %d", n->kind);
-    else put(&t, "%s", kind_words[n->kind]);
-    if (n->kind == SWITCH) put(&t, " to %lld", n->operand);
-    else if (n->kind <= ASSERT && i < l->shown) put_place(&t, l, i);
-    else if (n->kind <= ASSERT) put(&t, ", bank %lld", bank_at(l, i));
-    if (n->kind >= INSTRUCTION && n->kind <= ADDR && i >= l->shown) put_numbers(&t, l, i);
+    if (i >= l->nodes) return called_node(l, i);
+    put(&t, "%s (%s%s", called_node(l, i), has_name(l, i) ? shown("node %lld, ", i) : "", is_known ? kind_words[kind] : shown("kind %d", kind));
+    if (kind == SWITCH) put(&t, " to %lld", l->node[i].operand);
+    else if (is_known && i < l->shown) put_place(&t, l, i);
+    else if (is_known) put(&t, ", bank %lld", bank_at(l, i));
+    if (kind >= INSTRUCTION && kind <= ADDR && i >= l->shown) put_numbers(&t, l, i);
     put(&t, ")");
     return t.at;
 }
 
 static const char *bank_words(const struct layout *l, long long i) {
     const struct bank *b = &l->bank[i];
-    struct text t = {0};
-    put(&t, "bank %lld", i);
-    if (i >= l->banks) return t.at;
-    put(&t, " (unit %lld, start %s, %s", b->unit, is_beyond(b) ? shown("%lld", b->start) : both(b->start), b->size == NONE ? "no size" : "size ");
-    if (b->size != NONE) put(&t, "%lld", b->size);
-    if (b->offset != NONE) put(&t, ", output from bit %lld", b->offset);
-    if (b->offset != NONE && b->size > 0) put(&t, " to %lld", b->offset + b->size - 1);
-    put(&t, "%s)", !b->fill ? "" : b->bit ? ", filled with ones" : ", filled");
-    return t.at;
+    if (i >= l->banks) return shown("bank %lld", i);
+    const char *size = b->size == NONE ? "no size" : shown("size %lld", b->size), *from = b->offset == NONE ? "" : shown(", output from bit %lld", b->offset);
+    const char *to = b->offset != NONE && b->size > 0 ? shown(" to %lld", b->offset + b->size - 1) : "", *fill = b->bit ? ", filled with ones" : ", filled";
+    return shown("bank %lld (unit %lld, start %s, %s%s%s%s)", i, b->unit, is_beyond(b) ? plain(b->start) : both(b->start), size, from, to, b->fill ? fill : "");
 }
 
 /* One place of a cause's words: what stands between its braces. */
-static const char *blank_words(const char *blank, size_t n, const struct said *s) {
-    char what[20] = "";
-    if (n >= sizeof what) return "";
-    memcpy(what, blank, n);
-    if (strcmp(what, "node") == 0) return node_words(s->layout, s->names, s->node);
-    if (strcmp(what, "bank") == 0) return bank_words(s->layout, s->bank);
-    if (strcmp(what, "second") == 0) return bank_words(s->layout, s->second);
-    if (strcmp(what, "note") == 0) return s->note ? s->note : "";
-    long long number = s->n[what[0] - '0'];
-    if (n == 1) return shown("%lld", number);
-    return what[3] == 'X' ? shown("%0*llX", what[2] - '0', (unsigned long long)number) : several(number, what + 2);
+static const char *blank_words(struct bytes blank, const struct said *s) {
+    if (begins(blank, "node")) return node_words(s->layout, s->node);
+    if (begins(blank, "bank")) return bank_words(s->layout, s->bank);
+    if (begins(blank, "second")) return bank_words(s->layout, s->second);
+    if (begins(blank, "note")) return s->note ? s->note : "";
+    long long number = blank.len > 0 ? s->n[blank.at[0] - '0'] : 0;
+    if (blank.len < 2) return blank.len ? plain(number) : "";
+    if (blank.at[3] == 'X') return shown("%0*llX", blank.at[2] - '0', (unsigned long long)number);
+    return several(number, shown("%.*s", (int)blank.len - 2, blank.at + 2));
 }
 
-const char *words_alone(enum cause cause, const struct said *s) {
+const char *words_with(enum cause cause, const struct said *s, const char *between) {
+    struct bytes rest = bytes_in(table[cause].words);
     struct text t = {0};
-    for (const char *w = table[cause].words; *w; w++) {
-        const char *end = *w == '{' ? strchr(w, '}') : NULL;
-        if (end) put(&t, "%s", blank_words(w + 1, (size_t)(end - w) - 1, s));
-        else put(&t, "%c", *w);
-        if (end) w = end;
+    while (rest.len > 0) {
+        struct bytes words = cut(&rest, '{'), blank = cut(&rest, '}');
+        put(&t, "%.*s%s", PRINTED(words), blank_words(blank, s));
     }
+    put(&t, "%s%s%s", between, *table[cause].remedy ? ". " : "", table[cause].remedy);
     return t.at;
 }
 
-const char *remedy(enum cause cause) { return *table[cause].remedy ? shown(". %s", table[cause].remedy) : ""; }
-
-const char *words_of(enum cause cause, const struct said *s) { return shown("%s%s", words_alone(cause, s), remedy(cause)); }
+const char *words_of(enum cause cause, const struct said *s) { return words_with(cause, s, ""); }
 
 /* What a file that is no layout file looks like, by its first line that is neither empty nor a remark. */
 static enum cause looks_like(struct bytes file) {
     static const char *const words[] = {"form ", "bank ", "rows ",   "limit ", "values ", "switch ", "label", "constant", "instruction",
                                         "data",  "open",  "reserve", "mark",   "kind ",   "align:",  "addr:", "assert",   "nothing"};
-    size_t at = has_mark(file) ? 3 : 0;
-    for (; at < file.len; at++) {
-        while (at < file.len && (file.at[at] == ' ' || file.at[at] == '\t')) at++;
-        if (at < file.len && file.at[at] == '#')
-            while (at < file.len && file.at[at] != '\n') at++;
-        else if (at < file.len && file.at[at] != '\n' && file.at[at] != '\r') break;
+    if (has_mark(file)) file.at += 3, file.len -= 3;
+    while (file.len > 0 && *file.at && strchr(" \t\r\n#", *file.at)) {
+        if (*file.at == '#') cut(&file, '\n');
+        else file.at++, file.len--;
     }
-    struct bytes line = {file.at + at, file.len - at};
-    if (line.len > 2 && line.at[0] == ':' && strchr("0123456789abcdefABCDEF", line.at[1] ? line.at[1] : '!')) return BROKEN_HEX;
-    if (line.len > 2 && (line.at[0] == 'S' || line.at[0] == 's') && line.at[1] >= '0' && line.at[1] <= '9') return BROKEN_SREC;
+    int second = file.len > 2 ? file.at[1] : 0;
+    if (begins(file, ":") && second && strchr("0123456789abcdefABCDEF", second)) return BROKEN_HEX;
+    if (kind_of(file) && second >= '0' && second <= '9') return BROKEN_SREC;
     for (size_t i = 0; i < sizeof words / sizeof *words; i++)
-        if (begins(line, words[i])) return BROKEN_WORDS;
+        if (begins(file, words[i])) return BROKEN_WORDS;
     return BROKEN;
 }
 
@@ -119,12 +112,6 @@ static enum cause say_broken(struct said *s) {
     return looks_like(s->layout->file);
 }
 
-static enum cause say_table(const struct bank *b) {
-    if (b->unit == 0) return BANK_UNIT;
-    if (is_beyond(b)) return BANK_START;
-    return b->fill && b->size == 0 ? BANK_EMPTY : BANK_ONES;
-}
-
 /* 4: the file's own fault, else the list's: node count, row count, then the lowest node, its number and state in each row. */
 static enum cause say_list(struct said *s) {
     const struct layout *l = s->layout;
@@ -132,9 +119,10 @@ static enum cause say_list(struct said *s) {
     if (l->why) return say_broken(s);
     if (l->nodes > 4096) return say(s, NODE_COUNT, l->nodes, 0, 0);
     if (l->rows < 1 || l->rows > 16) return say(s, ROW_COUNT, l->rows, 0, 0);
-    if (s->node < l->nodes && n->kind > ASSERT) return say(s, NODE_KIND, n->kind, 0, 0);
-    if (s->node < l->nodes && n->kind == SWITCH && n->operand >= l->banks) return say(s, NODE_BANK, l->banks, 0, 0);
-    for (long long r = 0; s->node < l->nodes && n->kind > LABEL && r < l->rows; r++) { /* kinds 0 to 2 have no state that is read */
+    if (s->node >= l->nodes) return say(s, MALFORMED, s->node, 0, 0);
+    if (n->kind > ASSERT) return say(s, NODE_KIND, n->kind, 0, 0);
+    if (n->kind == SWITCH && n->operand >= l->banks) return say(s, NODE_BANK, l->banks, 0, 0);
+    for (long long r = 0; n->kind > LABEL && r < l->rows; r++) { /* kinds 0 to 2 have no state that is read */
         int state = l->state[r * l->nodes + s->node], is_read = n->kind == INSTRUCTION || n->kind == OPEN || (n->kind == DATA && r == 0);
         long long end = n->operand + l->number[r * l->nodes + s->node];
         if (state > 2) return say(s, NODE_STATE, r, state, 0);
@@ -162,17 +150,16 @@ struct walk {
 };
 
 static void align_symbol(const struct layout *l, struct walk *w, long long bank, long long node) {
-    const struct node *n = &l->node[node];
-    if ((n->kind == LABEL || n->kind == CONSTANT) && n->operand == 0) w->at[bank] += distance(&l->bank[bank], w->at[bank], l->bank[bank].align);
+    if (is_symbol(&l->node[node]) && l->node[node].operand == 0) w->at[bank] += distance(&l->bank[bank], w->at[bank], l->bank[bank].align);
 }
 
 static void advance(const struct layout *l, struct walk *w, long long bank, long long node) {
     int kind = l->node[node].kind, is_open = l->state[w->row * l->nodes + node] != 0;
     long long number = number_at(l, node, w->row);
-    if (kind >= INSTRUCTION && kind <= RESERVE) w->at[bank] += number;
+    if (is_placed(l, node)) w->at[bank] += number;
     if (kind == ALIGN) w->at[bank] += distance(&l->bank[bank], w->at[bank], number);
     if (kind == ADDR) w->at[bank] = number, w->is_unknown[bank] = is_open;
-    else if (kind >= INSTRUCTION && kind <= ALIGN && kind != DATA) w->is_unknown[bank] |= is_open;
+    else if ((is_placed(l, node) || kind == ALIGN) && kind != DATA) w->is_unknown[bank] |= is_open;
 }
 
 /* 8: the first node that the last pass leaves unresolved: by its own state, or a label by where it stands and stood. */
@@ -202,7 +189,7 @@ static enum cause say_clash(struct said *s, long long from, long long size) {
     const struct layout *l = s->layout;
     s->node = l->fault;
     for (long long i = 0; i < l->fault && !s->note; i++)
-        if (is_placed(l, i) && l->node[i].output == from && l->node[i].bits == size) s->note = shown(": %s", node_words(l, s->names, i));
+        if (is_placed(l, i) && l->node[i].output == from && l->node[i].bits == size) s->note = shown(": %s", node_words(l, i));
     int is_mark = l->fault >= 0 && l->node[l->fault].bits == 0;
     return say(s, size == 0 ? AROUND_MARK : is_mark ? MARK_INSIDE : OVERLAPS, from, size, 0);
 }
@@ -215,7 +202,7 @@ static enum cause say_room(struct said *s, long long place) {
     if (place > 0) return OTHER_ROOM;
     for (long long i = 0; i < l->shown && !s->note; i++) {
         long long end = l->node[i].output + l->node[i].bits;
-        if (is_written(l, i) && end > 8 * l->room) s->note = shown(": %s ends at bit %lld", node_words(l, s->names, i), end);
+        if (is_written(l, i) && end > 8 * l->room) s->note = shown(": %s ends at bit %lld", node_words(l, i), end);
     }
     for (long long i = 0; i < l->banks && !s->note; i++) {
         long long end = l->bank[i].offset + l->bank[i].size;
@@ -226,26 +213,22 @@ static enum cause say_room(struct said *s, long long place) {
 
 static int is_power(long long v) { return v > 0 && (v & (v - 1)) == 0; }
 
-/* 19, a node: in some row its alignment, or where it goes. */
-static enum cause say_row_of_rule(struct said *s, int is_alignment) {
-    const struct layout *l = s->layout;
-    long long bank = bank_at(l, s->node), unit = bank < l->banks ? l->bank[bank].unit : 0, number = 0;
-    for (long long r = 0; r < l->rows; r++) {
-        number = number_at(l, s->node, r);
-        if (is_alignment ? number != 0 && !is_power(number) : unit > 0 && number % unit != 0) break;
-    }
-    return say(s, is_alignment ? NODE_ALIGNMENT : PAGE_ADDR, number, bank, unit);
-}
-
-/* 19: rule 2 names a bank while its label alignment is at fault. */
+/* 19: a bank's, or in some row a node's, its alignment or where it goes. Rule 2 names a bank while its label alignment is at fault. */
 static enum cause say_rule(struct said *s, long long rule, long long at) {
-    const struct bank *b = &s->layout->bank[at < s->layout->banks ? at : 0];
+    const struct layout *l = s->layout;
+    const struct bank *b = &l->bank[at < l->banks ? at : 0];
     s->bank = s->node = at;
     if (rule == 1) return PAGE_SIZE;
-    if (rule == 2 && at < s->layout->banks && b->align > 0 && !is_power(b->align)) return say(s, BANK_ALIGNMENT, b->align, 0, 0);
-    if (rule == 2 || rule >= 6) return say_row_of_rule(s, rule == 2);
     if (rule == 3) return say(s, PAGE_OFFSET, b->offset, 0, 0);
-    return rule == 5 ? say(s, PAGE_UNIT, b->unit, 0, 0) : say(s, b->size == NONE ? PAGE_NO_SIZE : PAGE_PARTS, b->size, 0, 0);
+    if (rule == 4) return say(s, b->size == NONE ? PAGE_NO_SIZE : PAGE_PARTS, b->size, 0, 0);
+    if (rule == 5) return say(s, PAGE_UNIT, b->unit, 0, 0);
+    if (rule == 2 && at < l->banks && b->align > 0 && !is_power(b->align)) return say(s, BANK_ALIGNMENT, b->align, 0, 0);
+    long long bank = bank_at(l, at), unit = bank < l->banks ? l->bank[bank].unit : 0, number = 0;
+    for (long long r = 0; r < l->rows; r++) {
+        number = number_at(l, at, r);
+        if (rule == 2 ? number != 0 && !is_power(number) : unit > 0 && number % unit != 0) break;
+    }
+    return say(s, rule == 2 ? NODE_ALIGNMENT : PAGE_ADDR, number, bank, unit);
 }
 
 static enum cause say_cause(struct said *s, const struct refusal *r) {
@@ -257,7 +240,7 @@ static enum cause say_cause(struct said *s, const struct refusal *r) {
     const struct bank *b = &l->bank[s->bank < l->banks ? s->bank : 0];
     switch (r->number) {
     case 1: return say(s, BANK_COUNT, l->banks, 0, 0);
-    case 2: return say_table(b);
+    case 2: return b->unit == 0 ? BANK_UNIT : is_beyond(b) ? BANK_START : b->fill && b->size == 0 ? BANK_EMPTY : BANK_ONES;
     case 3: return BANKS_OVERLAP;
     case 4: return say_list(s);
     case 5: return say_far(s);
@@ -294,8 +277,8 @@ static enum cause say_conversion(struct said *s, const struct refusal *r, int to
     return say(s, CONVERT_LONG, to, to == 2 ? 65536 : 65000, 0);
 }
 
-const char *refusal_words(const struct layout *l, const struct names *names, const struct refusal *r, int to) {
-    struct said s = {.layout = l, .names = names};
+const char *refusal_words(const struct layout *l, const struct refusal *r, int to) {
+    struct said s = {.layout = l};
     enum cause cause = to ? say_conversion(&s, r, to) : say_cause(&s, r);
     return words_of(cause, &s);
 }

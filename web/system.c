@@ -1,9 +1,7 @@
-/* The command in a page: ../command with the page in the place of an operating system (system.h). The page gives the files' bytes by name, and takes what is
+/* The command in a page: ../command with the page in the place of an operating system (system.c). The page gives the files' bytes by name, and takes what is
  * written. Nothing is proved here; what an answer says of a layout comes from the proved functions, as in the command. */
-#include "../command/system.h"
-#include "../command/say.h"
+#include "../command/command.h"
 #include <stdlib.h>
-#include <string.h>
 
 /* The page's own (core.js). */
 #define OF_PAGE(name) __attribute__((import_module("page"), import_name(name)))
@@ -28,30 +26,20 @@ int close_file(int fd) {
     return 0;
 }
 
-struct which which_input(int from, int *is_folder) {
-    struct which w = {0, 0, 0};
+int note_input(int from) {
     (void)from;
-    *is_folder = 0;
-    return w;
+    return 0;
 }
 
 int is_regular(const char *name) { return open_input(name) >= 0; }
-
-int is_same(struct which a, struct which b) {
-    (void)a;
-    (void)b;
-    return 0;
-}
 
 int write_all(int to, const void *from, size_t n) {
     page_write(to, from, n);
     return 0;
 }
 
-void put_in_place(const char *name, const void *from, size_t n, int (*is_input)(struct which)) {
-    (void)from;
-    (void)n;
-    (void)is_input;
+void put_in_place(const char *name, struct bytes text) {
+    (void)text;
     fail("%s could not be written: a page has no files", escaped(name));
 }
 
