@@ -49,6 +49,3 @@ module _ (t : Trial) (fs cs : List ℕ) (r : Listed) (fs′ cs′ : List ℕ) (m
       where
         not-short : Refused (TooShort 2) ≡ Runs (length (runsOf t)) → ⊥
         not-short e = unlike cc
-
-    -- With room, all runs are listed, the i-th at the i-th place of both, and what stands past them stays.
-    module _ (room : Room) where

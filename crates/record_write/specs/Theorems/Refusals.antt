@@ -1,5 +1,4 @@
--- What follows from the promises of `write_ihex` and `write_srec`: one outcome; each answer exactly when, in order; a refusal changes nothing; an accepted
--- call leaves the file at the front and the rest as it was.
+-- What follows from the promises of `write_ihex` and `write_srec`: one outcome.
 use mathlib.Core.Path.{_≡_}
 use mathlib.Core.List.{List}
 use Prim.Native.Nat.{ℕ}
@@ -18,5 +17,3 @@ module _ {image offsets sizes : List ℕ} {load : ℕ} {old : List ℕ} where
       → WritesSrec image offsets sizes load width old s b
       → (r ≡ s) × (a ≡ b)
   srec-one-writing p q = (determined (p .answer) (q .answer), determined (p .lent) (q .lent))
-
-module _ (image offsets sizes : List ℕ) (load : ℕ) (old : List ℕ) (r : Written) (new : List ℕ) where
