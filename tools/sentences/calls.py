@@ -6,7 +6,7 @@ import re
 
 from .clauses import indices_of
 from .running import Runner
-from .values import Rec, Seq, rec, value
+from .values import Rec, Seq, value
 
 TABLES = "(units starts bank_sizes bank_offsets aligns flags fill_bits kinds operands numbers states rows values %s fill %s)"
 LENT = "(image addresses offsets sizes)"
@@ -60,16 +60,16 @@ class Call:
     def given(self, inputs):
         """The sentence's arguments from the call's inputs, by their names."""
         def one(word):
-            return value(inputs[word]) if word in inputs else int(word)
+            return inputs[word] if word in inputs else int(word)
         out = []
         for (bracket, words), kind in zip(self.inputs, self.kinds):
             if bracket:
                 names = words if bracket == "{" else [p[0] for p in kind[1].parts]
                 if len(names) != len(words):
                     raise ValueError("%s: %d fields are named and %d are declared" % (self.name, len(words), len(names)))
-                out.append(rec(dict(zip(names, map(one, words)))))
+                out.append(value(dict(zip(names, map(one, words)))))
             else:
-                out.append((kind[1].parts[int(words[1:])][0],) if words[0] == "#" else one(words))
+                out.append((kind[1].parts[int(words[1:])][0],) if words[0] == "#" else value(one(words)))
         return tuple(out)
 
     def outcomes(self, inputs):

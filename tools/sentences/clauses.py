@@ -3,7 +3,7 @@ records, and ≡ < ≤ between them."""
 import itertools
 
 from .reader import Def, Library
-from .terms import BOUND, NIL, Clause, Goal, Pred, fn, free, nothing, proj, subst, subterms
+from .terms import NIL, Clause, Goal, Pred, fn, free, nothing, proj, subst, subterms
 from .values import Floundered
 
 ARITY = {"suc": 1, "pos": 1, "negsuc": 1, "natAbs": 1, "length": 1, "getD": 3, "replicate": 2, "take": 2, "drop": 2, "map": 2}
@@ -234,7 +234,7 @@ class Program:
         if k == "var":
             found += [label] if label not in found else []
             return "#%d" % found.index(label)
-        bound, label = (bound + [label], "") if k in BOUND and label else (bound, id(label) if isinstance(label, Def) else label)
+        bound, label = (bound + [label], "") if k in ("sig", "pi") and label else (bound, id(label) if isinstance(label, Def) else label)
         return "%s %s(%s)" % (k, label, ",".join(self.canon(y, found, bound) for y in (e[2] if len(e) > 2 else ())))
 
     def pred(self, d, args):
@@ -279,7 +279,7 @@ class Program:
                     new = self.goals(self.inst(raw, env, d.ctx), vars)
                     parts.append((n, comment, len(goals), len(goals) + len(new)))
                     goals += new
-            return [self.paired(Clause("record", vars, goals, head, d.comment, d.line, parts))]
+            return [Clause("record", vars, goals, head, d.comment, d.line, parts)]
         for n, t, comment, line in d.parts:
             own, vars, goals = dict(env), [], []
             before, t = arrows(t)
@@ -290,24 +290,14 @@ class Program:
                 if bound is None:
                     goals += [g if g.kind == "rel" and g.via else g.noted(of, g.via) for g in self.goals(self.inst(of, own, d.ctx), vars)]
             ends = t[2][len(t[2]) - indices:] if indices else ()
-            out.append(self.paired(Clause(n, vars, goals, head + [self.inst(x, own, d.ctx) for x in ends], comment, line)))
+            out.append(Clause(n, vars, goals, head + [self.inst(x, own, d.ctx) for x in ends], comment, line))
         return out
-
-    def paired(self, c):
-        """A variable that is only looked at as a pair becomes two."""
-        for v in [v for v in c.vars if self.type_of.get(v) not in ("nat", "list", "int", "bool")]:
-            if any(t[0] == "proj" and t[2][0] == ("var", v) and t[1] in PAIR for x in c.goals + c.head for t in subterms(x)):
-                pair = tuple(self.var(v.split("~")[0] + i, "nat") for i in PAIR)
-                m = {v: ("rec", PAIR, pair)}
-                c.vars = [x for x in c.vars if x != v] + [x[1] for x in pair]
-                c.goals, c.head = [subst(g, m) for g in c.goals], [subst(h, m) for h in c.head]
-        return c
 
     def anon(self, g):
         """The sentence of a choice or a search, over its free variables."""
         if g.pred is None:
             args = list(free(g))
-            made = [self.paired(Clause(str(i), vs, gs, [("var", v) for v in args], fa=g.fa)) for i, (vs, gs) in enumerate(g.ways)]
+            made = [Clause(str(i), vs, gs, [("var", v) for v in args], fa=g.fa) for i, (vs, gs) in enumerate(g.ways)]
             g.pred = Pred(g.kind, args, 0, lambda: made)
         return g.pred
 

@@ -191,9 +191,10 @@ class Why:
     def part_of(self, goal):
         """The field of a record that says a goal, and the words above it."""
         for p in self.runner.preds.values():
-            for field, comment, a, b in [x for c in p.made or () for x in c.parts or ()]:
-                if any(x.src is goal.src and goal.src for x in p.made[0].goals[a:b]):
-                    return "%s [%s]  " % (field, p.of.file.path.name), comment
+            for c in vars(p).get("clauses", ()):
+                for field, comment, a, b in c.parts:
+                    if any(x.src is goal.src and goal.src for x in c.goals[a:b]):
+                        return "%s [%s]  " % (field, p.of.file.path.name), comment
         return "", ""
 
 

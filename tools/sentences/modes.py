@@ -1,6 +1,7 @@
 """The order in which the premises of a clause are met when some of its arguments are known: tests first, then equations that find something, then other
 sentences, and where nothing goes on, a number of which it is known how large it can be."""
 from .arithmetic import elements, ident, listed
+from .clauses import PAIR
 from .lists import Lists, length
 from .terms import NIL, Clause, equations, false, folded, free, frees, is_fn, rel, subst, subterms
 
@@ -64,9 +65,9 @@ class Modes(Lists):
         return [(st.steps + steps, st.bound | set(st.needed) | set(frees(st.goals)))]
 
     def rules(self):
-        return (self.easy, self.call, self.record_apart, self.structured, self.digits, self.multiple, self.dear_call, self.few, self.least,
-                self.ends_of_range, self.endless_count, self.tails,
-                self.by_length, self.by_pieces, self.by_members, self.build_lists, self.by_elements, self.short_list)
+        return (self.easy, self.call, self.record_apart, self.structured, self.digits, self.dear_call, self.few, self.least,
+                self.ends_of_range, self.endless_count, self.tails, self.by_length,
+                self.by_pieces, self.by_members, self.build_lists, self.by_elements, self.short_list)
 
     def easy(self, st):
         for g in st.goals:
@@ -205,12 +206,17 @@ class Modes(Lists):
 
     # ---- where nothing can be met as it stands
     def record_apart(self, st):
-        """A record becomes its fields."""
-        for v in [v for v in st.unknown() if self.is_record(v) and v not in st.seen]:
-            st.seen.add(v)
-            d = self.type_of[v][1]
-            names, kinds = zip(*sorted((p[0], p[1]) for p in d.parts))
-            return st.put(v, ("rec", names, tuple(self.var(n, self.kind(raw, d.ctx)) for n, raw in zip(names, kinds))))
+        """A record becomes its fields, and what is looked at as a pair a pair."""
+        for v in [v for v in st.unknown() if v not in st.seen]:
+            fields = []
+            if self.is_record(v):
+                d = self.type_of[v][1]
+                fields = sorted((p[0], self.kind(p[1], d.ctx)) for p in d.parts)
+            elif any(t[0] == "proj" and t[1] in PAIR and t[2][0] == ("var", v) for g in st.goals for t in subterms(g)):
+                fields = [(n, "nat") for n in PAIR]
+            if fields:
+                st.seen.add(v)
+                return st.put(v, ("rec", tuple(n for n, _ in fields), tuple(self.var(n, t) for n, t in fields)))
         return False
 
     def structured(self, st):
@@ -235,16 +241,6 @@ class Modes(Lists):
                 least, most = (" + ".join(["0"] + ["%d * (%s)" % (n, tops[v]) for v, n in factors.items() if n * sign > 0]) for sign in (-1, 1))
                 sums = ("-(%s) - (%s)" % (c, s) for s in (most, least)) if k > 0 else ("(%s) + (%s)" % (c, s) for s in (least, most))
                 return st.search(x, "range(max(0, -((%s) // -%d)), (%s) // %d + 1)" % tuple(y for s in sums for y in (s, abs(k))))
-        return False
-
-    def multiple(self, st):
-        """c + x + m z ≡ 0 in two unknowns: each x that makes c + x a multiple of m."""
-        for c, factors in [d for d in self.differences(st) if len(d[1]) == 2]:
-            for x, z in (tuple(factors), tuple(factors)[::-1]):
-                if factors[x] in (1, -1) and self.type_of.get(x) == "nat":
-                    low, high, met = self.bounds(x, st.goals, st.bound)
-                    if high or st.endless:
-                        return st.search(x, "multiples(%s, %s, %s, %d, %s)" % (low, high, c, factors[x], factors[z]), met)
         return False
 
     def few(self, st):

@@ -49,7 +49,7 @@ class Runner(Modes):
         """What a function finds; first comes code for it, and for all that it asks."""
         if name not in self.compiled:
             by_name = {self.function(*k): k for k in self.modes}
-            work = [name] + [n for _, facts, _ in self.builds for f in facts for n in (f.name, f.said[0])]
+            work = [name] + [n for _, facts, _ in self.builds for f in facts for n in (f.name, f.spoken)]
             while work:
                 k = work.pop()
                 if k in by_name and k not in self.compiled:

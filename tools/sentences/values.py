@@ -32,9 +32,6 @@ class Seq:
     def __eq__(self, other):
         return self is other or isinstance(other, Seq) and self.n == other.n and (self.t is other.t or self.items() == other.items())
 
-    def __len__(self):
-        return self.n
-
     def __iter__(self):
         return iter(self.items())
 
@@ -63,16 +60,11 @@ class Rec:
         return "{%s}" % "; ".join("%s = %s" % (k, brief(v)) for k, v in self.d.items())
 
 
-def rec(fields):
-    names = tuple(sorted(fields))
-    return Rec(names, tuple(fields[n] for n in names))
-
-
 def value(x):
     """A Python value as the sentences have it: lists become lists, dictionaries records."""
     if isinstance(x, (list, bytes, bytearray)):
         return Seq(tuple(map(value, x)))
-    return rec({k: value(v) for k, v in x.items()}) if isinstance(x, dict) else x
+    return Rec(*zip(*sorted((k, value(v)) for k, v in x.items()))) if isinstance(x, dict) else x
 
 
 def plain(x):
@@ -137,14 +129,6 @@ def exponent(base, v):
         p *= base
         k += 1
     return k if p == v else None
-
-
-def multiples(low, high, c, sign, m):
-    """Each x from low to high (or on and on) with c + sign * x a multiple of m."""
-    if m == 0:
-        raise Floundered("multiple of 0")
-    start = low + (-c * sign - low) % abs(m)
-    return itertools.count(start, abs(m)) if high is None else range(start, high + 1, abs(m))
 
 
 def first(found):
